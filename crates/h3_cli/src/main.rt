@@ -1,0 +1,6 @@
+//! The command `h3`.
+#![tactic(auto)]
+
+mod command;
+
+fn main() {}

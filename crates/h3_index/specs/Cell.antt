@@ -1,0 +1,45 @@
+-- Cells, and the numbers that stand for them.
+--
+-- H3's index bit layout: from the highest bit, 1 reserved bit (0), 4 bits mode (1 for a cell), 3 bits that depend on
+-- the mode (0 for a cell), 4 bits resolution, 7 bits base cell, and fifteen digits of 3 bits, that of resolution 1
+-- first. A digit above the resolution is 7. The twelve pentagon base cells have a child of digit 1 (K) deleted: in
+-- them the first digit that is not 0 is never 1.
+use Rattle.std.specs.Prelude.{ℕ, ◌≢◌, ◌+◌, ◌-◌, ◌*◌, ◌^◌, ◌<◌, ◌==◌, List, [], ◌∷◌, ◌++◌, length, replicate, Bool, ◌&&◌, ◌||◌, IsTrue, if◌then◌else◌}
+use Rattle.std.specs.Int.Digits.{number_from_digits, AllBelowBase}
+
+-- where a cell lies in the hierarchy: its base cell, and a digit for each resolution from 1 up to its own
+pub record Address : Type 0 where
+  pub base : ℕ
+  pub digits : List ℕ
+
+abbrev pub resolution : Address → ℕ
+resolution c = length c.digits
+
+abbrev pub is_pentagon_base : ℕ → Bool
+is_pentagon_base b =
+    b == 4 || b == 14 || b == 24 || b == 38 || b == 49 || b == 58 || b == 63 || b == 72 || b == 83 || b == 97 || b == 107 || b == 117
+
+-- the first digit that is not 0, or 0 where there is none
+abbrev pub leading : List ℕ → ℕ
+leading [] = 0
+leading (d ∷ ds) = if d == 0 then leading ds else d
+
+-- an address is a cell's
+pub record IsCell (c : Address) : Type 0 where
+  pub base_small : c.base < 122
+  pub coarse : length c.digits < 16
+  pub digits_small : AllBelowBase 7 c.digits
+  pub not_deleted : IsTrue (is_pentagon_base c.base) → leading c.digits ≢ 1
+
+-- a cell of a pentagon base cell whose digits are all 0
+abbrev pub is_pentagon : Address → Bool
+is_pentagon c = is_pentagon_base c.base && leading c.digits == 0
+
+-- the fifteen digits of an index: 7 above the resolution
+abbrev pub padded : List ℕ → List ℕ
+padded ds = ds ++ replicate (15 - length ds) 7
+
+-- the number of a cell
+unfoldable pub number_of : Address → ℕ
+number_of c =
+    2 ^ 59 + length c.digits * 2 ^ 52 + c.base * 2 ^ 45 + number_from_digits 8 (padded c.digits)

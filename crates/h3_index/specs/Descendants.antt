@@ -1,0 +1,20 @@
+-- The hierarchy of cells: ancestors and descendants.
+--
+-- H3's hierarchy: the parent of a cell at a coarser resolution keeps the digits up to that resolution; its children
+-- at a finer resolution are the cells there that have it as their parent.
+use Rattle.std.specs.Prelude.{ℕ, ◌≡◌, length, take}
+use Rattle.h3_index.specs.Cell.{Address, IsCell}
+
+-- a cell cut at a resolution that is not finer than its own
+abbrev pub cut : Address → ℕ → Address
+cut c r = record { base = c.base; digits = take r c.digits }
+
+-- both have the same base cell, and the digits of a begin those of c; a cell is an ancestor of itself
+abbrev pub IsAncestor : Address → Address → Type 0
+IsAncestor a c = cut c (length a.digits) ≡ a
+
+-- x is one of the cells of resolution s that have the ancestor c
+pub record IsDescendant (c : Address) (s : ℕ) (x : Address) : Type 0 where
+  pub valid : IsCell x
+  pub resolution_is : length x.digits ≡ s
+  pub under : IsAncestor c x

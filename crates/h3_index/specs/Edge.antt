@@ -1,0 +1,21 @@
+-- Directed edges, and the numbers that stand for them.
+--
+-- H3's directed edges: the index of the cell that the edge leaves, with mode 2 in place of mode 1, and the direction,
+-- 1 to 6, in the three bits that depend on the mode. A pentagon has no edge of direction 1 (K).
+use Rattle.std.specs.Prelude.{ℕ, ◌≢◌, ◌+◌, ◌*◌, ◌^◌, ◌<◌, IsTrue}
+use Rattle.h3_index.specs.Cell.{Address, IsCell, is_pentagon, number_of}
+
+-- the cell that an edge leaves, and the direction in which it does
+pub record DirectedEdge : Type 0 where
+  pub origin : Address
+  pub direction : ℕ
+
+pub record IsEdge (e : DirectedEdge) : Type 0 where
+  pub origin_cell : IsCell e.origin
+  pub some_direction : 0 < e.direction
+  pub direction_small : e.direction < 7
+  pub not_deleted : IsTrue (is_pentagon e.origin) → e.direction ≢ 1
+
+-- the number of an edge
+unfoldable pub edge_number : DirectedEdge → ℕ
+edge_number e = number_of e.origin + 2 ^ 59 + e.direction * 2 ^ 56

@@ -1,0 +1,11 @@
+pub mod Cell
+pub mod CellNumber
+pub mod Coverage
+pub mod Descendants
+pub mod DigitTest
+pub mod Digits
+pub mod Edge
+pub mod Error
+pub mod Stream
+pub mod Streamed
+pub mod Text

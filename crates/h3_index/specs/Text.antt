@@ -1,0 +1,45 @@
+-- The texts of indexes.
+--
+-- Written: lower-case hexadecimal without leading zeros, `0` for 0. Read: spaces, tabs and carriage returns at both
+-- ends are dropped, then an optional `0x` or `0X`; what is left is 1 to 16 hexadecimal digits of either case.
+use Rattle.std.specs.Prelude.{ℕ, ◌==◌, nat_lt, nat_le, nat_eq, List, [], ◌∷◌, length, drop, map, reverse, Bool, ◌&&◌, ◌||◌, Option, Some, None, codes, if◌then◌else◌}
+use Rattle.std.specs.List.{starts_with, list_all}
+use Rattle.std.specs.Char.{digit_char, is_digit}
+use Rattle.std.specs.Str.Parse.{digits_value}
+use Rattle.h3_index.specs.Digits.{last_digits}
+
+-- at least one digit stays
+abbrev pub without_leading_zeros : List ℕ → List ℕ
+without_leading_zeros [] = 0 ∷ []
+without_leading_zeros (d ∷ ds) = if d == 0 then without_leading_zeros ds else d ∷ ds
+
+-- the text of a number of 64 bits
+unfoldable pub text_of : ℕ → List ℕ
+text_of v = map digit_char (without_leading_zeros (last_digits 16 16 v))
+
+-- a space, a tab or a carriage return
+abbrev pub is_blank : ℕ → Bool
+is_blank b = b == 32 || b == 9 || b == 13
+
+abbrev pub without_leading_blanks : List ℕ → List ℕ
+without_leading_blanks [] = []
+without_leading_blanks (b ∷ bs) = if is_blank b then without_leading_blanks bs else b ∷ bs
+
+-- without the blanks at both ends
+abbrev pub trimmed : List ℕ → List ℕ
+trimmed bs = reverse (without_leading_blanks (reverse (without_leading_blanks bs)))
+
+-- without a `0x` or `0X` in front
+abbrev pub without_prefix : List ℕ → List ℕ
+without_prefix bs = if starts_with nat_eq bs (codes "0x") || starts_with nat_eq bs (codes "0X") then drop 2 bs else bs
+
+-- 1 to 16 hexadecimal digits
+abbrev pub is_hexadecimal : List ℕ → Bool
+is_hexadecimal ds = nat_lt 0 (length ds) && nat_le (length ds) 16 && list_all (λ d. is_digit d 16) ds
+
+abbrev pub number_spelled : List ℕ → Option ℕ
+number_spelled ds = if is_hexadecimal ds then Some (digits_value 16 ds) else None
+
+-- the number that a list of bytes spells, where it spells one
+unfoldable pub spelled_index : List ℕ → Option ℕ
+spelled_index bs = number_spelled (without_prefix (trimmed bs))

@@ -1,0 +1,123 @@
+//! Cells, each a base cell and a digit for each resolution up to its own.
+
+ghost use Rattle.std.specs.Prelude.{◌≡◌, ◌≢◌, ◌-◌, ◌<◌, ◌≤◌, length, IfOk, IfErr, slice_index_or};
+ghost use Rattle.std.specs.Result.{result_ok};
+ghost use Rattle.h3_index.specs.Cell.{Address, IsCell, is_pentagon_base, number_of};
+ghost use Rattle.h3_index.specs.CellNumber.{cell_in, digits_in};
+ghost use Rattle.h3_index.specs.DigitTest.{are_digits};
+
+use crate::error::H3Error;
+use std::marker::Model;
+
+/// Whether a base cell is one of the twelve pentagons.
+pub fn is_pentagon_base(b: u8) -> bool
+    ensures { result ≡ is_pentagon_base b }
+{
+    matches!(
+        b,
+        4 | 14 | 24 | 38 | 49 | 58 | 63 | 72 | 83 | 97 | 107 | 117
+    )
+}
+
+/// Whether the fifteen digits of a number are those of a cell: 0 to 6 up to the resolution, and 7 above. In a
+/// pentagon base cell the first that is not 0 is not 1.
+fn has_valid_digits(raw: u64, resolution: u64, pentagon_base: bool) -> bool
+    requires { resolution < 16 }
+    ensures { result ≡ are_digits pentagon_base resolution (digits_in raw) }
+{
+    let mut in_pentagon = pentagon_base;
+    for r in 1..16u64 {
+        let digit = raw >> (45 - 3 * r) & 7;
+        if r > resolution {
+            if digit != 7 {
+                return false;
+            }
+        } else {
+            if digit == 7 {
+                return false;
+            }
+            if in_pentagon {
+                if digit == 1 {
+                    return false;
+                }
+                in_pentagon = digit == 0;
+            }
+        }
+    }
+    true
+}
+
+/// A valid H3 cell. Cells are ordered by their numbers: by resolution, then base cell, then digits.
+#[derive(Clone, Copy, Debug, PartialEq, Eq, PartialOrd, Ord, Hash)]
+pub struct Cell {
+    raw: u64,
+}
+
+impl Model for Cell {
+    ghost use Rattle.h3_index.specs.Cell.{Address, number_of};
+    ghost use Rattle.h3_index.specs.CellNumber.{address_in, IsCellNumber};
+
+    ghost Value = { Address };
+
+    ghost view = { λ c. address_in c.raw };
+
+    ghost invariant = { λ c. IsCellNumber c.raw };
+
+    ghost inverse = { λ c. record { raw = number_of c } };
+
+    ghost inverse_ok = { λ c h i. record { raw = h.is i } };
+}
+
+impl Cell {
+    /// The cell that a number stands for, as H3's `isValidCell` tells: `CellInvalid` where it is no cell's number.
+    pub fn new(raw: u64) -> Result<Cell, H3Error>
+        ensures read { result_ok result ≡ cell_in raw }
+        ensures accepted { IfOk result (λ cell. IsCell cell × (number_of cell ≡ raw)) }
+        ensures refused { IfErr result (λ e. (e ≡ H3Error.CellInvalid)
+            × ((cell : Address) → IsCell cell → number_of cell ≢ raw)) }
+    {
+        let resolution = raw >> 52 & 15;
+        let base = raw >> 45 & 127;
+        if raw >> 56 == 8
+            && base < 122
+            && has_valid_digits(raw, resolution, is_pentagon_base(base as u8))
+        {
+            Ok(Cell { raw })
+        } else {
+            Err(H3Error::CellInvalid)
+        }
+    }
+
+    /// The number of the cell.
+    pub fn raw(self) -> u64
+        ensures number { result ≡ number_of self }
+        ensures valid { IsCell self }
+    {
+        self.raw
+    }
+
+    /// The resolution, 0 to 15, as H3's `getResolution` gives it.
+    pub fn resolution(self) -> u8
+        ensures number { result ≡ length self.digits }
+        ensures valid { IsCell self }
+    {
+        (self.raw >> 52 & 15) as u8
+    }
+
+    /// The base cell, 0 to 121, as H3's `getBaseCellNumber` gives it.
+    pub fn base_cell(self) -> u8
+        ensures number { result ≡ self.base }
+        ensures valid { IsCell self }
+    {
+        (self.raw >> 45 & 127) as u8
+    }
+
+    /// The digit of a resolution from 1 to 15: 0 to 6, or 7 above the cell's own resolution.
+    pub fn digit(self, r: u8) -> u8
+        requires some { 1 ≤ r }
+        requires at_most { r ≤ 15 }
+        ensures { result ≡ slice_index_or self.digits (r - 1) 7 }
+    {
+        (self.raw >> (45 - 3 * r) & 7) as u8
+    }
+}

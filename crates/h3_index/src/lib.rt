@@ -1,0 +1,13 @@
+//! H3 indexes: cells, the texts of indexes, errors, and the streams that the `h3` command runs over.
+#![tactic(auto)]
+
+mod cell;
+mod error;
+pub mod set;
+mod stream;
+mod text;
+
+pub use cell::{Cell, is_pentagon_base};
+pub use error::H3Error;
+pub use stream::{Sink, Source, StreamFault, Streamed};
+pub use text::read_index;

@@ -1,0 +1,125 @@
+//! Streams of bytes that may fail, so that contracts can say what a stream gave or took.
+
+ghost use Rattle.std.specs.Prelude.{◌≡◌, ◌≤◌, ◌<◌, ℕ, Bool, true, false, List, length, take, Option, IfOk, OnOk, OnErr};
+ghost use Rattle.std.specs.Io.KnownBytes.{Appends, Keeps};
+ghost use Rattle.h3_index.specs.Stream.{Pulls, KeepsOrHides};
+ghost use Rattle.h3_index.specs.Streamed.{streamed_inner, streamed_failed};
+
+use std::io::{Read, Write};
+use thiserror::Error;
+
+/// A stream failed.
+#[derive(Clone, Copy, Debug, PartialEq, Eq, Error)]
+#[error("the stream failed")]
+pub struct StreamFault;
+
+/// What bytes are taken from.
+pub trait Source {
+    /// The bytes left, where they are told.
+    ghost left: { Self → Option (List ℕ) };
+
+    /// It has failed.
+    ghost has_failed: { Self → Bool };
+
+    fn pull(&mut self, buf: &mut [u8]) -> Result<usize, StreamFault>
+        ensures bound { IfOk result (λ n. n ≤ length buf.new) }
+        ensures bytes { IfOk result (λ n. Pulls (left self.old) (left self.new) buf.new n) }
+        ensures ok { OnOk result (has_failed self.new ≡ has_failed self.old) }
+        ensures err { OnErr result (has_failed self.new ≡ true) };
+}
+
+/// What bytes are given to.
+pub trait Sink {
+    /// The bytes taken, where they are told.
+    ghost taken: { Self → Option (List ℕ) };
+
+    /// It has failed.
+    ghost has_failed: { Self → Bool };
+
+    fn push(&mut self, bytes: &[u8]) -> Result<usize, StreamFault>
+        ensures bound { IfOk result (λ n. n ≤ length bytes.now) }
+        ensures some { IfOk result (λ n. 0 < length bytes.now → 0 < n) }
+        ensures bytes { IfOk result (λ n. Appends (taken self.old) (taken self.new) (take n bytes.now)) }
+        ensures ok { OnOk result (has_failed self.new ≡ has_failed self.old) }
+        ensures refused { OnErr result (Keeps (taken self.old) (taken self.new)) }
+        ensures err { OnErr result (has_failed self.new ≡ true) };
+
+    fn flush(&mut self) -> Result<(), StreamFault>
+        ensures bytes { OnOk result (Keeps (taken self.old) (taken self.new)) }
+        ensures ok { OnOk result (has_failed self.new ≡ has_failed self.old) }
+        ensures refused { OnErr result (KeepsOrHides (taken self.old) (taken self.new)) }
+        ensures err { OnErr result (has_failed self.new ≡ true) };
+}
+
+/// A reader or a writer as a stream. It hands each call on once, and keeps whether a call failed.
+#[derive(Drop)]
+pub struct Streamed<T> {
+    inner: T,
+    failed: bool,
+}
+
+impl<T> Streamed<T> {
+    pub fn new(inner: T) -> Self
+        ensures inner { streamed_inner result ≡ inner }
+        ensures failed { streamed_failed result ≡ false }
+    {
+        Streamed {
+            inner,
+            failed: false,
+        }
+    }
+
+    pub fn failed(&self) -> bool
+        ensures { result ≡ streamed_failed self.now }
+    {
+        self.failed
+    }
+
+    pub fn into_inner(self) -> T
+        ensures { result ≡ streamed_inner self }
+    {
+        self.inner
+    }
+}
+
+impl<T: Read> Source for Streamed<T> {
+    ghost left = { λ s. T.remaining (streamed_inner s) };
+
+    ghost has_failed = { streamed_failed };
+
+    fn pull(&mut self, buf: &mut [u8]) -> Result<usize, StreamFault> {
+        match self.inner.read(buf) {
+            Ok(n) => Ok(n),
+            Err(_) => {
+                self.failed = true;
+                Err(StreamFault)
+            }
+        }
+    }
+}
+
+impl<T: Write> Sink for Streamed<T> {
+    ghost taken = { λ s. T.contents (streamed_inner s) };
+
+    ghost has_failed = { streamed_failed };
+
+    fn push(&mut self, bytes: &[u8]) -> Result<usize, StreamFault> {
+        match self.inner.write(bytes) {
+            Ok(n) if n > 0 || bytes.is_empty() => Ok(n),
+            _ => {
+                self.failed = true;
+                Err(StreamFault)
+            }
+        }
+    }
+
+    fn flush(&mut self) -> Result<(), StreamFault> {
+        match self.inner.flush() {
+            Ok(()) => Ok(()),
+            Err(_) => {
+                self.failed = true;
+                Err(StreamFault)
+            }
+        }
+    }
+}
