@@ -25,9 +25,12 @@ abbrev pub without_leading_blanks : List ℕ → List ℕ
 without_leading_blanks [] = []
 without_leading_blanks (b ∷ bs) = if is_blank b then without_leading_blanks bs else b ∷ bs
 
+abbrev pub without_trailing_blanks : List ℕ → List ℕ
+without_trailing_blanks bs = reverse (without_leading_blanks (reverse bs))
+
 -- without the blanks at both ends
 abbrev pub trimmed : List ℕ → List ℕ
-trimmed bs = reverse (without_leading_blanks (reverse (without_leading_blanks bs)))
+trimmed bs = without_trailing_blanks (without_leading_blanks bs)
 
 -- without a `0x` or `0X` in front
 abbrev pub without_prefix : List ℕ → List ℕ

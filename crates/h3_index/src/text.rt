@@ -2,7 +2,7 @@
 
 ghost use Rattle.std.specs.Prelude.{◌≡◌, IfErr};
 ghost use Rattle.std.specs.Result.{result_ok};
-ghost use Rattle.h3_index.specs.Text.{is_blank, trimmed, without_prefix, number_spelled, spelled_index};
+ghost use Rattle.h3_index.specs.Text.{is_blank, without_leading_blanks, without_trailing_blanks, without_prefix, number_spelled, spelled_index};
 
 use crate::error::H3Error;
 
@@ -13,19 +13,32 @@ fn is_blank(byte: u8) -> bool
     byte == b' ' || byte == b'\t' || byte == b'\r'
 }
 
-/// The bytes without the blanks at both ends.
-fn trimmed(bytes: &[u8]) -> &[u8]
-    ensures { result.now ≡ trimmed bytes.now }
+/// The bytes from the first that is no blank on.
+fn without_leading_blanks(bytes: &[u8]) -> &[u8]
+    ensures { result.now ≡ without_leading_blanks bytes.now }
 {
-    let mut start = 0;
-    while start < bytes.len() && is_blank(bytes[start]) {
-        start += 1;
+    let mut rest = bytes;
+    while let [first, after @ ..] = rest {
+        if !is_blank(*first) {
+            break;
+        }
+        rest = after;
     }
-    let mut end = bytes.len();
-    while start < end && is_blank(bytes[end - 1]) {
-        end -= 1;
+    rest
+}
+
+/// The bytes up to the last that is no blank.
+fn without_trailing_blanks(bytes: &[u8]) -> &[u8]
+    ensures { result.now ≡ without_trailing_blanks bytes.now }
+{
+    let mut rest = bytes;
+    while let [before @ .., last] = rest {
+        if !is_blank(*last) {
+            break;
+        }
+        rest = before;
     }
-    &bytes[start..end]
+    rest
 }
 
 /// The bytes without a `0x` or `0X` in front.
@@ -39,16 +52,6 @@ fn without_prefix(bytes: &[u8]) -> &[u8]
     }
 }
 
-/// The value of a hexadecimal digit of either case.
-fn hex_value(byte: u8) -> Option<u8> {
-    match byte {
-        b'0'..=b'9' => Some(byte - b'0'),
-        b'a'..=b'f' => Some(byte - b'a' + 10),
-        b'A'..=b'F' => Some(byte - b'A' + 10),
-        _ => None,
-    }
-}
-
 /// The number that 1 to 16 hexadecimal digits write.
 fn read_digits(digits: &[u8]) -> Option<u64>
     ensures { result ≡ number_spelled digits.now }
@@ -58,7 +61,8 @@ fn read_digits(digits: &[u8]) -> Option<u64>
     }
     let mut number = 0;
     for digit in digits {
-        number = number << 4 | u64::from(hex_value(*digit)?);
+        let value = char::from(*digit).to_digit(16)?;
+        number = number * 16 + u64::from(value);
     }
     Some(number)
 }
@@ -71,5 +75,6 @@ pub fn read_index(bytes: &[u8]) -> Result<u64, H3Error>
     ensures spelled { result_ok result ≡ spelled_index bytes.now }
     ensures refused { IfErr result (λ e. e ≡ H3Error.Failed) }
 {
-    read_digits(without_prefix(trimmed(bytes))).ok_or(H3Error::Failed)
+    let text = without_trailing_blanks(without_leading_blanks(bytes));
+    read_digits(without_prefix(text)).ok_or(H3Error::Failed)
 }

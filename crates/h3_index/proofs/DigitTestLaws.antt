@@ -1,0 +1,178 @@
+-- The test of a number's digits decides whether the number is a cell's.
+use Rattle.std.specs.Int.Digits.{number_from_digits, AllBelowBase}
+use Rattle.std.proofs.Common.{ℕ, zero, suc, ◌≡◌, ◌≢◌, ◌+◌, ◌-◌, ◌*◌, ◌/◌, ◌%◌, ◌^◌, ◌<◌, ◌≤◌, ◌==◌, List, [], ◌∷◌, ◌++◌, length, take, drop, replicate, Bool, true, false, cond, refl, arith, ◌∙◌, sym, ap, get_or}
+use Rattle.std.proofs.Math.Seq.{drop-cons}
+use Rattle.std.proofs.lemmas.Bool.Decides.{nat_tests}
+use Rattle.std.proofs.lemmas.Nat.{mod_below}
+use Rattle.std.proofs.lemmas.List.{length-take-le}
+use Rattle.h3_index.specs.Cell.{Address, is_pentagon_base, number_of, padded, IsCell, leading}
+use Rattle.h3_index.specs.CellNumber.{address_in, base_in, resolution_in, digits_in, IsCellNumber}
+use Rattle.h3_index.specs.Digits.{last_digits}
+use Rattle.h3_index.specs.DigitTest.{are_digits}
+use Rattle.h3_index.proofs.DigitsLaws.{get_or-last_digits, length-last_digits, number-last_digits, below-last_digits, eights}
+use Rattle.h3_index.proofs.CellLaws.{digits-number_of, base-number_of, resolution-number_of, mode-number_of}
+
+abbrev pub digit_read : ℕ → ℕ → ℕ
+digit_read m r = m / 2 ^ (45 - 3 * r) % 8
+
+-- what the shift and the mask read
+pub digit_at : (m r : ℕ) → 1 ≤ r → r < 16 → digit_read m r ≡ get_or (digits_in m) (r - 1) 0
+unfolding digits_in
+digit_at m r low high =
+    let shift : 45 - 3 * r ≡ 3 * (15 - r) = omega arith in
+    rw (shift, eights (15 - r)) (sym (get_or-last_digits 15 m (r - 1) (15 - r) 0 (omega arith)))
+
+length-digits_in : (m : ℕ) → length (digits_in m) ≡ 15
+unfolding digits_in
+length-digits_in m = length-last_digits 15 m
+
+cons : (m r : ℕ) → 1 ≤ r → r < 16 → drop (r - 1) (digits_in m) ≡ digit_read m r ∷ drop (r + 1 - 1) (digits_in m)
+cons m r low high =
+    let next : suc (r - 1) ≡ r = omega arith in
+    let same : r + 1 - 1 ≡ r = omega arith in
+    rw (digit_at m r low high, same) (rw next at (drop-cons (digits_in m) (r - 1) 0 (omega (arith, length-digits_in m))))
+
+no_eq : (d k : ℕ) → d ≢ k → (d == k) ≡ false
+no_eq d k h = grind (arith, nat_tests)
+
+module _ (res m r d : ℕ) (is : d ≡ digit_read m r) (low : 1 ≤ r) (high : r < 16) where
+  past : (p : Bool) → res < r → are_digits p (res + 1 - r) (drop (r - 1) (digits_in m)) ≡ cond (d == 7) (are_digits p (res + 1 - (r + 1)) (drop (r + 1 - 1) (digits_in m))) false
+  past p out =
+      let count : res + 1 - r ≡ 0 = omega arith in
+      let count-2 : res + 1 - (r + 1) ≡ 0 = omega arith in
+      rw (count, count-2, cons m r low high, is) refl
+
+  hex : r ≤ res → are_digits false (res + 1 - r) (drop (r - 1) (digits_in m)) ≡ cond (d == 7) false (are_digits false (res + 1 - (r + 1)) (drop (r + 1 - 1) (digits_in m)))
+  hex out =
+      let count : res + 1 - r ≡ suc (res + 1 - (r + 1)) = omega arith in
+      rw (count, cons m r low high, is) refl
+
+  pent : r ≤ res → are_digits true (res + 1 - r) (drop (r - 1) (digits_in m)) ≡ cond (d == 7) false (cond (d == 1) false (are_digits (d == 0) (res + 1 - (r + 1)) (drop (r + 1 - 1) (digits_in m))))
+  pent out =
+      let count : res + 1 - r ≡ suc (res + 1 - (r + 1)) = omega arith in
+      rw (count, cons m r low high, is) refl
+
+  pub bad_past : (p : Bool) → res < r → d ≢ 7 → are_digits p (res + 1 - r) (drop (r - 1) (digits_in m)) ≡ false
+  bad_past p out h = rw (past p out, no_eq d 7 h) refl
+
+  pub good_past : (p : Bool) → res < r → d ≡ 7 → are_digits p (res + 1 - (r + 1)) (drop (r + 1 - 1) (digits_in m)) ≡ are_digits p (res + 1 - r) (drop (r - 1) (digits_in m))
+  good_past p out h = rw (past p out, h) refl
+
+  pub bad_seven : (p : Bool) → r ≤ res → d ≡ 7 → are_digits p (res + 1 - r) (drop (r - 1) (digits_in m)) ≡ false
+  bad_seven false out h = rw (hex out, h) refl
+  bad_seven true out h = rw (pent out, h) refl
+
+  pub good_hex : r ≤ res → d ≢ 7 → are_digits false (res + 1 - (r + 1)) (drop (r + 1 - 1) (digits_in m)) ≡ are_digits false (res + 1 - r) (drop (r - 1) (digits_in m))
+  good_hex out h = rw (hex out, no_eq d 7 h) refl
+
+  pub bad_one : r ≤ res → d ≡ 1 → are_digits true (res + 1 - r) (drop (r - 1) (digits_in m)) ≡ false
+  bad_one out h = rw (pent out, h) refl
+
+  pub good_pent : r ≤ res → d ≢ 7 → d ≢ 1 → are_digits (d == 0) (res + 1 - (r + 1)) (drop (r + 1 - 1) (digits_in m)) ≡ are_digits true (res + 1 - r) (drop (r - 1) (digits_in m))
+  good_pent out h h' = rw (pent out, no_eq d 7 h, no_eq d 1 h') refl
+
+drop_all : (n : ℕ) (xs : List ℕ) → length xs ≤ n → drop n xs ≡ []
+drop_all zero [] h = refl
+drop_all zero (x ∷ xs) h = absurd (omega (arith, h))
+drop_all (suc n) [] h = refl
+drop_all (suc n) (x ∷ xs) h = drop_all n xs (omega (arith, h))
+
+nothing : (p : Bool) (k : ℕ) → are_digits p k [] ≡ true
+nothing p k = refl
+
+pub no_digits_left : (p : Bool) (k m r : ℕ) → 15 ≤ r - 1 → are_digits p k (drop (r - 1) (digits_in m)) ≡ true
+no_digits_left p k m r h = rw (drop_all (r - 1) (digits_in m) (omega (arith, length-digits_in m))) (nothing p k)
+
+both : (b x : Bool) → cond b x false ≡ true → (b ≡ true) × (x ≡ true)
+both true x h = (refl, h)
+both false x h = cc
+
+neither : (b x : Bool) → cond b false x ≡ true → (b ≡ false) × (x ≡ true)
+neither false x h = (refl, h)
+neither true x h = cc
+
+equal : (d k : ℕ) → (d == k) ≡ true → d ≡ k
+equal d k h = grind (arith, nat_tests)
+
+differ : (d k : ℕ) → (d == k) ≡ false → d ≢ k
+differ d k h e = grind (arith, nat_tests)
+
+-- what the test shows
+pub record Shown (p : Bool) (r : ℕ) (ds : List ℕ) : Type 0 where
+  pub small : AllBelowBase 7 (take r ds)
+  pub rest : ds ≡ take r ds ++ replicate (length ds - r) 7
+  pub not_one : p ≡ true → leading (take r ds) ≢ 1
+
+more : (ds ys : List ℕ) (r d : ℕ) → ds ≡ take r ds ++ replicate (length ds - r) 7 → d ∷ ds ≡ (d ∷ take r ds) ++ replicate (length (d ∷ ds) - suc r) 7
+more ds ys r d h =
+    let same : length (d ∷ ds) - suc r ≡ length ds - r = omega arith in
+    rw same (ap (λ xs. d ∷ xs) h)
+
+leading_zero : (d : ℕ) (ds : List ℕ) → d ≡ 0 → leading (d ∷ ds) ≡ leading ds
+leading_zero d ds h = rw h refl
+
+leading_some : (d : ℕ) (ds : List ℕ) → (d == 0) ≡ false → leading (d ∷ ds) ≡ d
+leading_some d ds h = rw h refl
+
+not_one_more : (b : Bool) (d r : ℕ) (ds : List ℕ) → (d == 0) ≡ b → d ≢ 1 → (b ≡ true → leading (take r ds) ≢ 1) → leading (d ∷ take r ds) ≢ 1
+not_one_more true d r ds e h ih = rw (leading_zero d (take r ds) (equal d 0 e)) (ih refl)
+not_one_more false d r ds e h ih = rw (leading_some d (take r ds) e) h
+
+pub shown : (p : Bool) (r : ℕ) (ds : List ℕ) → r ≤ length ds → AllBelowBase 8 ds → are_digits p r ds ≡ true → Shown p r ds
+shown p zero [] le all h = record { small = tt; rest = refl; not_one = λ _ e. omega (arith, e) }
+shown p (suc r) [] le all h = absurd (omega (arith, le))
+shown p zero (d ∷ ds) le all h =
+    let a = both (d == 7) (are_digits p zero ds) h in
+    let ih = shown p zero ds (omega arith) all.1 a.1 in
+    let none : length ds - 0 ≡ length ds = omega arith in
+    let none-2 : length (d ∷ ds) - 0 ≡ suc (length ds) = omega arith in
+    let tail : ds ≡ replicate (length ds) 7 = rw none at ih.rest in
+    record { small = tt; rest = rw (none-2, equal d 7 a.0) (ap (λ xs. 7 ∷ xs) tail); not_one = λ _ e. omega (arith, e) }
+shown false (suc r) (d ∷ ds) le all h =
+    let a = neither (d == 7) (are_digits false r ds) h in
+    let ih = shown false r ds (omega (arith, le)) all.1 a.1 in
+    let seven = differ d 7 a.0 in
+    record { small = (omega (arith, all.0, seven), ih.small); rest = more ds [] r d ih.rest; not_one = λ e. cc }
+shown true (suc r) (d ∷ ds) le all h =
+    let a = neither (d == 7) (cond (d == 1) false (are_digits (d == 0) r ds)) h in
+    let a' = neither (d == 1) (are_digits (d == 0) r ds) a.1 in
+    let ih = shown (d == 0) r ds (omega (arith, le)) all.1 a'.1 in
+    let seven = differ d 7 a.0 in
+    record { small = (omega (arith, all.0, seven), ih.small); rest = more ds [] r d ih.rest; not_one = λ _. not_one_more (d == 0) d r ds refl (differ d 1 a'.0) ih.not_one }
+
+-- a cell's digits pass the test
+pub sevens : (p : Bool) (k : ℕ) → are_digits p 0 (replicate k 7) ≡ true
+sevens p zero = refl
+sevens p (suc k) = sevens p k
+
+passes_more : (b : Bool) (d : ℕ) (ds : List ℕ) (k : ℕ) → (d == 0) ≡ b → leading (d ∷ ds) ≢ 1 → ((p : Bool) → (p ≡ true → leading ds ≢ 1) → are_digits p (length ds) (ds ++ replicate k 7) ≡ true) → are_digits b (length ds) (ds ++ replicate k 7) ≡ true
+passes_more true d ds k e h ih = ih true (λ _ f. h (leading_zero d ds (equal d 0 e) ∙ f))
+passes_more false d ds k e h ih = ih false (λ f. cc)
+
+pub passes : (p : Bool) (ds : List ℕ) (k : ℕ) → AllBelowBase 7 ds → (p ≡ true → leading ds ≢ 1) → are_digits p (length ds) (ds ++ replicate k 7) ≡ true
+passes p [] k all h = sevens p k
+passes false (d ∷ ds) k all h =
+    rw (no_eq d 7 (omega (arith, all.0)), passes false ds k all.1 (λ e. cc)) refl
+passes true (d ∷ ds) k all h =
+    let one : d ≢ 1 = λ e. h refl (rw e refl) in
+    rw (no_eq d 7 (omega (arith, all.0)), no_eq d 1 one) (passes_more (d == 0) d ds k refl (h refl) (λ q h'. passes q ds k all.1 h'))
+
+-- ---- what `new` decides
+
+pub code_valid : (m : ℕ) → m / 2 ^ 56 ≡ 8 → base_in m < 122 → are_digits (is_pentagon_base (base_in m)) (resolution_in m) (digits_in m) ≡ true → IsCellNumber m
+unfolding digits_in address_in number_of
+code_valid m mode base code =
+    let len = length-last_digits 15 m in
+    let small : resolution_in m < 16 = mod_below (m / 2 ^ 52) 16 (omega arith) in
+    let s = shown (is_pentagon_base (base_in m)) (resolution_in m) (last_digits 8 15 m) (omega arith) (below-last_digits 15 m) code in
+    let size : length (take (resolution_in m) (last_digits 8 15 m)) ≡ resolution_in m = length-take-le (resolution_in m) (last_digits 8 15 m) (omega arith) in
+    let digits : padded (take (resolution_in m) (last_digits 8 15 m)) ≡ last_digits 8 15 m = rw size (sym (rw len at s.rest)) in
+    record {
+      is = rw (digits, size, number-last_digits 15 m) (omega arith);
+      valid = record { base_small = base; coarse = rw size small; digits_small = s.small; not_deleted = λ t. s.not_one t };
+    }
+
+pub code_of : (m : ℕ) → (n : Address) → IsCell n → number_of n ≡ m → (m / 2 ^ 56 ≡ 8) × (base_in m < 122) × (are_digits (is_pentagon_base (base_in m)) (resolution_in m) (digits_in m) ≡ true)
+unfolding digits_in
+code_of m n h e =
+    rw (← e, base-number_of n h, resolution-number_of n h, digits-number_of n h) (mode-number_of n h, h.base_small, passes (is_pentagon_base n.base) n.digits (15 - length n.digits) h.digits_small (λ t. h.not_deleted t))

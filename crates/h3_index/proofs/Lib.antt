@@ -1,0 +1,5 @@
+pub mod CellLaws
+pub mod CellTestLaws
+pub mod DigitsLaws
+pub mod DigitTestLaws
+pub mod TextLaws
