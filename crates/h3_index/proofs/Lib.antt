@@ -3,3 +3,4 @@ pub mod CellTestLaws
 pub mod DigitsLaws
 pub mod DigitTestLaws
 pub mod TextLaws
+pub mod WriteLaws
