@@ -6,6 +6,8 @@ pub mod DigitTest
 pub mod Digits
 pub mod Edge
 pub mod Error
+pub mod Laws
+pub mod Paths
 pub mod Stream
 pub mod Streamed
 pub mod Text
