@@ -1,11 +1,11 @@
 -- The last digits of numbers, octal ones above all.
 use Rattle.std.specs.Int.Digits.{number_from_digits, AllBelowBase, number_from_digits_after}
-use Rattle.std.proofs.Common.{ℕ, zero, suc, ◌≡◌, ◌+◌, ◌-◌, ◌*◌, ◌/◌, ◌%◌, ◌^◌, ◌<◌, ◌≤◌, List, [], ◌∷◌, ◌++◌, length, refl, arith, length-append, ◌∙◌, sym, ap, get_or}
-use Rattle.std.proofs.Math.ListN.{get_or-append}
+use Rattle.std.proofs.Common.{ℕ, zero, suc, ◌≡◌, ◌+◌, ◌*◌, ◌/◌, ◌%◌, ◌^◌, ◌<◌, ◌≤◌, sym, ap, List, [], ◌∷◌, ◌++◌, length, replicate, refl, arith, length-append, ◌∙◌, get_or}
+use Rattle.std.proofs.Math.ListN.{get_or-append, length-replicate}
 use Rattle.std.proofs.Math.Seq.{get_or-append_seam}
 use Rattle.std.proofs.Math.Nat.{pow-suc, pow-zero, one-le-pow, div-add-mod, div-div-eq-div-mul, mul-le-mul_right}
 use Rattle.std.proofs.lemmas.List.{append-nil, append_assoc}
-use Rattle.std.proofs.lemmas.Int.Digits.{number_push}
+use Rattle.std.proofs.lemmas.Int.Digits.{number_push, number_after_append}
 use Rattle.std.proofs.lemmas.Nat.{pow-add, mod_below, div-mul-add, mod-mul-add}
 use Rattle.h3_index.specs.Digits.{last_digits}
 
@@ -91,3 +91,21 @@ pub below-last_digits : (b count m : ℕ) → 0 < b → AllBelowBase b (last_dig
 below-last_digits b zero m some = tt
 below-last_digits b (suc count) m some =
     below_push b (last_digits b count (m / b)) (m % b) (below-last_digits b count (m / b) some) (mod_below m b some)
+
+pub number_append : (xs ys : List ℕ) → number_from_digits 8 (xs ++ ys) ≡ number_from_digits 8 xs * 8 ^ length ys + number_from_digits 8 ys
+number_append xs ys = number_after_append 8 0 xs ys ∙ number_after_is 8 (number_from_digits 8 xs) ys
+
+pub number_first : (d : ℕ) (ds : List ℕ) → number_from_digits 8 (d ∷ ds) ≡ d * 8 ^ length ds + number_from_digits 8 ds
+number_first d ds = number_after_is 8 (0 * 8 + d) ds ∙ (let e : 0 * 8 + d ≡ d = omega arith in rw e refl)
+
+pub number_zeros : (k : ℕ) → number_from_digits 8 (replicate k 0) ≡ 0
+number_zeros zero = refl
+number_zeros (suc k) = number_zeros k
+
+pub number_sevens : (k : ℕ) → number_from_digits 8 (replicate k 7) + 1 ≡ 8 ^ k
+number_sevens zero = rw (pow-zero 8) refl
+number_sevens (suc k) =
+    let e = number_first 7 (replicate k 7) in
+    let l = length-replicate {A = ℕ} k 7 in
+    let f : number_from_digits 8 (7 ∷ replicate k 7) ≡ 7 * 8 ^ k + number_from_digits 8 (replicate k 7) = rw l at e in
+    rw (pow-suc 8 k) (omega (arith, f, number_sevens k))

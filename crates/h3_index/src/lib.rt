@@ -3,6 +3,7 @@
 
 mod cell;
 mod error;
+pub mod laws;
 pub mod set;
 mod stream;
 mod text;
