@@ -1,0 +1,5 @@
+pub mod Call
+pub mod Commands
+pub mod Given
+pub mod Options
+pub mod Spelling
