@@ -3,7 +3,7 @@ use Rattle.std.proofs.Common.{◌≡◌, ◌∙◌, true, false, refl, sym, ap, 
 use Rattle.std.specs.Prelude.{IsNone, Box, find, option_map, option_and_then, slice_get}
 use Rattle.std.specs.Box.{box_value}
 use Rattle.std.specs.Str.{bytes_eq}
-use Rattle.clap.specs.Kinds.{HasKind}
+use Rattle.clap.specs.Kinds.{HasKind, IsAmong}
 use Rattle.clap.specs.Matches.{first_value, subcommand_name_of}
 use Rattle.clap.specs.Simple.{App, HasMatchesOf, is_simple, subcommand_of, subcommand_rows, subcommand_rows_of}
 use Rattle.clap.specs.Faults.{fault_of, is_simple_and_free}
@@ -12,16 +12,19 @@ use Rattle.clap.specs.Walk.{Row, Text, first_of, rows_of}
 use Rattle.clap.proofs.WalkLemmas.{first_value-rows}
 use Rattle.clap.proofs.ValueTestLemmas.{accepts-Accepts}
 use Rattle.clap.specs.declared.error.Error.{Error}
-use Rattle.clap.specs.declared.error.kind.ErrorKind.TheVariants.{OutOfMemory}
+use Rattle.clap.specs.declared.error.kind.ErrorKind.TheVariants.{DisplayHelp, OutOfMemory}
 use Rattle.clap.specs.declared.parser.matches.ArgMatches.{ArgMatches}
 use Rattle.clap.specs.declared.parser.matches.ArgMatches.TheViews.{out-ArgMatches, out-SubCommand}
 use Rattle.clap.specs.declared.parser.matches.Found.{Found}
 use Rattle.clap.specs.declared.parser.matches.SubCommand.{SubCommand}
 use Rattle.h3_cli.specs.Commands.{command_names, app, name_of_command, word_of, options_of}
+use Rattle.h3_cli.specs.Faults.{IsFaultOf, IsToldAs}
 use Rattle.h3_cli.specs.Given.{given}
 use Rattle.h3_cli.specs.Options.{IsIn, id_of, parser_done}
 use Rattle.h3_cli.specs.Spelling.{Answers, HasValues, Spells}
 use Rattle.h3_cli.specs.declared.words.Words.{Words}
+use Rattle.h3_cli.specs.declared.words.WordsFault.{WordsFault}
+use Rattle.h3_cli.specs.declared.words.WordsFault.TheVariants.{Help, Usage, Memory}
 use Rattle.h3_cli.specs.declared.words.CommandOption.{CommandOption}
 use Rattle.h3_cli.specs.declared.words.CommandName.{CommandName}
 use Rattle.h3_cli.specs.declared.words.CommandName.TheVariants.{IsValidCell}
@@ -34,15 +37,26 @@ word_named IsValidCell = refl
 is_simple_app : is_simple app ≡ true
 is_simple_app = refl
 
-pub only_memory : (a : App) (ws given_words : List Text) (e : Error) → a ≡ app → given_words ≡ ws
-    → (is_simple_and_free a ≡ true → HasKind (fault_of a given_words) e) → fault_of app ws ≡ [] → kind_of e ≡ OutOfMemory
-only_memory a ws given_words e is same kinds none =
-    let none2 : fault_of a given_words ≡ [] = ap₂ fault_of is same ∙ none in
-    go (subst (λ k. HasKind k e) none2 (kinds (ap is_simple_and_free is ∙ app_is_simple)))
+-- the fault that is told of an error of the parse
+pub fault_told : (a : App) (ws given_words : List Text) (e : Error) → a ≡ app → given_words ≡ ws → (is_simple_and_free a ≡ true → HasKind (fault_of a given_words) e)
+    → (f : WordsFault) → IsToldAs (kind_of e) f → IsFaultOf (fault_of app ws) f
+fault_told a ws given_words e is same kinds f told = go f told (subst (λ k. HasKind k e) (ap₂ fault_of is same) (kinds (ap is_simple_and_free is ∙ app_is_simple)))
   where
-    go : HasKind [] e → kind_of e ≡ OutOfMemory
-    go (inl memory) = memory
-    go (inr bad) = absurd bad
+    go : (f : WordsFault) → IsToldAs (kind_of e) f → HasKind (fault_of app ws) e → IsFaultOf (fault_of app ws) f
+    go (Help text) told (inl memory) = let bad : OutOfMemory ≡ DisplayHelp = sym memory ∙ told in cc
+    go (Help text) told (inr among) = subst (λ k. IsAmong k (fault_of app ws)) told among
+    go (Usage text) told (inl memory) = absurd (told.1 memory)
+    go (Usage text) told (inr among) = (kind_of e, among, told.0)
+    go Memory told has = tt
+
+-- where no step of the parse fails, memory was wanted
+pub only_memory : (ws : List Text) (f : WordsFault) → IsFaultOf (fault_of app ws) f → fault_of app ws ≡ [] → f ≡ Memory
+only_memory ws f fault none = go f (subst (λ k. IsFaultOf k f) none fault)
+  where
+    go : (f : WordsFault) → IsFaultOf [] f → f ≡ Memory
+    go (Help text) bad = absurd bad
+    go (Usage text) bad = absurd bad.1
+    go Memory fine = refl
 
 -- the command that the parse met, and what it found
 abbrev pub Met : List Text → Text → Found → Type 0

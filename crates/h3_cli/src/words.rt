@@ -7,6 +7,7 @@ ghost use Rattle.clap.specs.declared.builder.command.Command.TheViews.{out-Comma
 ghost use Rattle.h3_index.specs.Text.{spelled_index};
 ghost use Rattle.h3_cli.specs.Call.{IsPlainCall};
 ghost use Rattle.h3_cli.specs.Commands.{app, command_names, name_of_command, options_of, shape_for, word_of};
+ghost use Rattle.h3_cli.specs.Faults.{IsFaultOf, IsToldAs};
 ghost use Rattle.h3_cli.specs.Options.{id_of, rule_for};
 ghost use Rattle.h3_cli.specs.Spelling.{Answers, HasValues, Spells};
 ghost use Rattle.h3_cli.specs.declared.words.CommandOption.{CommandOption};
@@ -162,7 +163,7 @@ impl From<AllocError> for WordsFault {
 impl WordsFault {
     /// The fault that `clap` found, with its text.
     fn told(alloc: Global, error: clap::Error) -> WordsFault
-        ensures memory { kind_of error ≡ ErrorKind.OutOfMemory → result ≡ WordsFault.Memory }
+        ensures { IsToldAs (kind_of error) result }
     {
         if error.kind() == ErrorKind::OutOfMemory {
             return WordsFault::Memory;
@@ -179,8 +180,9 @@ impl WordsFault {
 
 /// Reads the words of a command line, of which the first is the program's name.
 pub fn read_words(alloc: Global, words: Vec<String>) -> Result<Words, WordsFault>
-    ensures read { IfOk result (λ asked. Spells (map string_bytes words.items) asked) }
+    ensures read { IfOk result (Spells (map string_bytes words.items)) }
     ensures taken { IsPlainCall (map string_bytes words.items) → IfErr result (λ fault. fault ≡ WordsFault.Memory) }
+    ensures faults { IfErr result (IsFaultOf (fault_of app (map string_bytes words.items))) }
 {
     let parser = command_line(alloc)?;
     let matches = match parser.try_get_matches_from(words.as_slice()) {

@@ -4,11 +4,16 @@ use Rattle.std.specs.Str.{bytes_eq}
 use Rattle.clap.specs.Words.{found_of}
 use Rattle.h3_cli.specs.Commands.{command_names, word_of}
 use Rattle.h3_cli.proofs.Plain.{call_passes}
-use Rattle.h3_cli.proofs.Reading.{word_named, met, only_memory, some_none, some_same, spells}
+use Rattle.h3_cli.proofs.Reading.{fault_told, word_named, met, only_memory, some_none, some_same, spells}
 use Rattle.h3_cli.proofs.words.read_words.Goals as goal
 
+pub returns-in-Err-clause-faults : goal.returns-in-Err-clause-faults
+returns-in-Err-clause-faults c = fault_told _ _ _ c.in-Err.error c.in_ok-parser.ensures (ap (map string_bytes) c.as_slice.ensures.value) c.in-Err.ensures.kinds c.told.result c.told.ensures
+
 pub returns-in-Err-clause-taken : goal.returns-in-Err-clause-taken
-returns-in-Err-clause-taken c = λ call. c.told.ensures.memory (only_memory _ _ _ c.in-Err.error c.in_ok-parser.ensures (ap (map string_bytes) c.as_slice.ensures.value) c.in-Err.ensures.kinds (call_passes (map string_bytes c.args.words.items) call))
+returns-in-Err-clause-taken c = λ call. only_memory (map string_bytes c.args.words.items) c.told.result
+    (fault_told _ _ _ c.in-Err.error c.in_ok-parser.ensures (ap (map string_bytes) c.as_slice.ensures.value) c.in-Err.ensures.kinds c.told.result c.told.ensures)
+    (call_passes (map string_bytes c.args.words.items) call)
 
 pub unreachable-requires-in_default-named_by : goal.unreachable-requires-in_default-named_by
 unreachable-requires-in_default-named_by c =
