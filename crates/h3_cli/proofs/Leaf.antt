@@ -19,7 +19,8 @@ use Rattle.clap.specs.declared.error.kind.ErrorKind.{ErrorKind}
 use Rattle.clap.specs.declared.error.kind.ErrorKind.TheVariants as kind
 use Rattle.clap.specs.Values.{refused_kind}
 use Rattle.clap.specs.declared.parser.matches.ValueSource.TheVariants.{CommandLine}
-use Rattle.h3_cli.specs.Given.{by_short, given, given_by, is_long, is_short, named, named_by}
+use Rattle.h3_cli.proofs.Lexed.{by_short, given, is_long, is_short, named, named_by}
+use Rattle.h3_cli.specs.Given.{given_by}
 use Rattle.h3_cli.specs.Options.{IsIn, parser_done, id_of, long_name, rule_for, short_name}
 use Rattle.h3_cli.specs.declared.words.CommandOption.{CommandOption}
 use Rattle.h3_cli.specs.declared.words.CommandOption.TheVariants.{Cell}

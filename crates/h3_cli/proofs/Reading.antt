@@ -28,6 +28,7 @@ use Rattle.h3_cli.specs.declared.words.WordsFault.TheVariants.{Help, Usage, Memo
 use Rattle.h3_cli.specs.declared.words.CommandOption.{CommandOption}
 use Rattle.h3_cli.specs.declared.words.CommandName.{CommandName}
 use Rattle.h3_cli.specs.declared.words.CommandName.TheVariants.{IsValidCell}
+use Rattle.h3_cli.proofs.Lexed.{given_same}
 use Rattle.h3_cli.proofs.Leaf.{Reads, leaf_reads}
 use Rattle.h3_cli.proofs.Top.{app_enters, app_is_simple}
 
@@ -79,7 +80,7 @@ reads_answer : (k : CommandName) (rest : List Text) (found : Found) (rows : List
 reads_answer k rest found rows same reads o is =
     let r = reads o is in (
       r.0,
-      r.1,
+      given_same o rest ∙ r.1,
       first_value-rows found (id_of o) ∙ ap (first_of (id_of o)) same ∙ ap (option_and_then (λ (x : Row). slice_get x.values 0)) r.3,
       accepts-Accepts false (parser_done o) r.0 r.2,
     )
