@@ -6,9 +6,11 @@ use Rattle.h3_cli.specs.Commands.{leaf_app}
 use Rattle.h3_cli.specs.Options.{rule_for}
 use Rattle.h3_cli.specs.declared.words.CommandOption.{CommandOption}
 
+-- a command with these rules
 with_rules : Text → List Rule → App
 with_rules name rs = record (leaf_app name []) { top = record (leaf_app name []).top { rules = rs } }
 
+-- one option more
 pub leaf_more : (name : Text) (os : List CommandOption) (i : ℕ) (d : CommandOption) → i < length os
     → with_rule (leaf_app name (take i os)) (rule_for (get_or os i d)) ≡ leaf_app name (take (i + 1) os)
 unfolding with_rules

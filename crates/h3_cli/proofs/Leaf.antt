@@ -2,8 +2,8 @@
 use Rattle.std.proofs.Common.{nat_lt, ◌≡◌, ◌⊎◌, ◌∙◌, ◌&&◌, ◌||◌, ◌==◌, ◌++◌, ℕ, Bool, cond, true, false, not, refl, sym, ap, ap₂, subst, arith, List, [], ◌∷◌, map, length, drop, Option, Some, None, is_some, inl, inr, true≢false, codes}
 use Rattle.std.specs.Char.{encode_utf8}
 use Rattle.std.specs.Prelude.{slice_get, option_map, ⊤, find, fold}
-use Rattle.std.specs.List.{list_any}
-use Rattle.std.specs.Option.{option_map_or}
+use Rattle.std.specs.List.{list_all, list_any}
+use Rattle.std.specs.Option.{option_map_or, option_or}
 use Rattle.std.specs.Str.{bytes_eq, chars}
 use Rattle.std.proofs.lemmas.Slice.Eq.{bytes_eq-Decides}
 use Rattle.clap.specs.Lexer.{long_of, short_of}
@@ -40,22 +40,66 @@ or_false false = refl
 
 -- ---- the options differ
 
+-- both have this long name
 abbrev same_long : Option Text → Option Text → Bool
 same_long (Some a) (Some b) = bytes_eq a b
 same_long _ _ = false
 
+-- both have this short name
 abbrev same_short : Option ℕ → Option ℕ → Bool
 same_short (Some a) (Some b) = a == b
 same_short _ _ = false
 
+-- the options have no id and no name in common
 abbrev pub Differs : CommandOption → CommandOption → Type 0
 Differs q o = (bytes_eq (id_of q) (id_of o) ≡ false) × (same_long (long_name o) (long_name q) ≡ false) × (same_short (short_name o) (short_name q) ≡ false)
 
+-- they are one option, or differ
 abbrev pub Which : CommandOption → CommandOption → Type 0
 Which q o = (q ≡ o) ⊎ Differs q o
 
+-- all options
+abbrev every_option : List CommandOption
+every_option = Cell ∷ []
+
+option_found : (o : CommandOption) → find (λ x. bytes_eq (id_of x) (id_of o)) every_option ≡ Some o
+option_found Cell = refl
+
+-- two options of one id, or of names that differ
+abbrev differ_test : CommandOption → CommandOption → Bool
+differ_test q o = bytes_eq (id_of q) (id_of o) || (not (same_long (long_name o) (long_name q)) && not (same_short (short_name o) (short_name q)))
+
+all_differ : list_all (λ q. list_all (differ_test q) every_option) every_option ≡ true
+all_differ = refl
+
+and_parts : (a b : Bool) → (a && b) ≡ true → (a ≡ true) × (b ≡ true)
+and_parts true b e = (refl, e)
+and_parts false b e = absurd (true≢false (sym e))
+
+not_parts : (a : Bool) → not a ≡ true → a ≡ false
+not_parts true e = absurd (true≢false (sym e))
+not_parts false e = refl
+
+some_same : (q o : CommandOption) → Some q ≡ Some o → q ≡ o
+some_same q o e = cc
+
+found_passes : (f p : CommandOption → Bool) (os : List CommandOption) (o : CommandOption) → list_all f os ≡ true → find p os ≡ Some o → f o ≡ true
+found_passes f p [] o all e = cc
+found_passes f p (x ∷ os) o all e = go (p x) (found_passes f p os o) (and_parts _ _ all) e
+  where
+    go : (t : Bool) → (list_all f os ≡ true → find p os ≡ Some o → f o ≡ true) → (f x ≡ true) × (list_all f os ≡ true) → cond t (Some x) (find p os) ≡ Some o → f o ≡ true
+    go true later two e2 = subst (λ y. f y ≡ true) (some_same x o e2) two.0
+    go false later two e2 = later two.1 e2
+
 pub differ : (q o : CommandOption) → (q ≡ o) ⊎ Differs q o
-differ Cell Cell = inl refl
+differ q o = go (bytes_eq (id_of q) (id_of o)) refl
+    (found_passes (differ_test q) (λ x. bytes_eq (id_of x) (id_of o)) every_option o
+    (found_passes (λ x. list_all (differ_test x) every_option) (λ x. bytes_eq (id_of x) (id_of q)) every_option q all_differ (option_found q)) (option_found o))
+  where
+    go : (t : Bool) → bytes_eq (id_of q) (id_of o) ≡ t → (t || (not (same_long (long_name o) (long_name q)) && not (same_short (short_name o) (short_name q)))) ≡ true → (q ≡ o) ⊎ Differs q o
+    go true e test = inl (some_same q o
+        (sym (option_found q) ∙ ap (λ t. find (λ x. bytes_eq (id_of x) t) every_option) ((bytes_eq-Decides (id_of q) (id_of o)).0 e) ∙ option_found o))
+    go false e test = let two = and_parts _ _ test in inr (e, not_parts _ two.0, not_parts _ two.1)
 
 pub longs_differ : (x y : Option Text) (name : Text) → same_long x y ≡ false → option_map_or (λ s. bytes_eq s name) y false ≡ true
     → option_map_or (λ s. bytes_eq s name) x false ≡ false
@@ -74,6 +118,7 @@ bytes_same t = (bytes_eq-Decides t t).1 refl
 
 -- ---- the rules of a built command
 
+-- the option as `clap` completes it
 abbrev pub done_rule : CommandOption → Rule
 done_rule o = record (rule_for o) {
   action = Some Set;
@@ -81,9 +126,11 @@ done_rule o = record (rule_for o) {
   range = Some (record { start_inclusive = 1; end_inclusive = 1 });
 }
 
+-- `--help` as `clap` completes it
 abbrev pub help_done : Rule
 help_done = with_index 1 (filled help_rule)
 
+-- the options of a command as `clap` completes them
 abbrev pub done_rules : List CommandOption → List Rule
 done_rules os = map done_rule os ++ help_done ∷ []
 
@@ -123,6 +170,7 @@ no_position i (x ∷ os) = no_position i os
 
 -- ---- rows
 
+-- the entry of the option with this value
 abbrev pub row_of_option : CommandOption → Text → Row
 row_of_option o v = record { id = id_of o; values = v ∷ []; count = None; source = Some CommandLine; reading = reading_by (done_rule o) }
 
@@ -144,16 +192,12 @@ used_fresh q v rs e =
     ap (with_values (id_of q) (reading_by (done_rule q)) CommandLine (v ∷ [])) gone
     ∙ added (id_of q) (more_values CommandLine (v ∷ [])) (row_of_option q v ∷ []) rs e
 
-abbrev pub first_some : {X : Type 0} → Option X → Option X → Option X
-first_some (Some x) _ = Some x
-first_some None y = y
-
-pub find_added : {X : Type 0} (p : X → Bool) (xs : List X) (x : X) → find p (xs ++ x ∷ []) ≡ first_some (find p xs) (cond (p x) (Some x) None)
+pub find_added : {X : Type 0} (p : X → Bool) (xs : List X) (x : X) → find p (xs ++ x ∷ []) ≡ option_or (find p xs) (cond (p x) (Some x) None)
 find_added p [] x = refl
 find_added {X = X} p (y ∷ xs) x = go (find p (xs ++ x ∷ [])) (find_added p xs x) (p y)
   where
-    go : (later : Option X) → later ≡ first_some (find p xs) (cond (p x) (Some x) None) → (b : Bool)
-        → cond b (Some y) later ≡ first_some (cond b (Some y) (find p xs)) (cond (p x) (Some x) None)
+    go : (later : Option X) → later ≡ option_or (find p xs) (cond (p x) (Some x) None) → (b : Bool)
+        → cond b (Some y) later ≡ option_or (cond b (Some y) (find p xs)) (cond (p x) (Some x) None)
     go later h true = refl
     go later h false = h
 
@@ -167,10 +211,12 @@ none_found id (r ∷ rs) e = go (find (λ x. bytes_eq x.id id) rs) (none_found i
 
 -- ---- what is known of one option's row
 
+-- the value passes the option's parser
 abbrev pub Passes : CommandOption → Option Text → Type 0
 Passes o None = ⊤
 Passes o (Some v) = accepts false (parser_done o) v ≡ true
 
+-- the entry of the option has this value, which passes its parser
 abbrev pub Holds : CommandOption → List Row → Option Text → Type 0
 Holds o rs s = (find (λ r. bytes_eq r.id (id_of o)) rs ≡ option_map (row_of_option o) s) × Passes o s
 
@@ -190,7 +236,7 @@ use_splits q v rs e = go (has_row (id_of q) rs) (accepts false (parser_done q) v
 
 grown : (o q : CommandOption) (v : Text) (rs : List Row) → use_fault false (done_rule q) (v ∷ []) rs ≡ []
     → find (λ r. bytes_eq r.id (id_of o)) (used (done_rule q) (v ∷ []) rs)
-    ≡ first_some (find (λ r. bytes_eq r.id (id_of o)) rs) (cond (bytes_eq (id_of q) (id_of o)) (Some (row_of_option q v)) None)
+    ≡ option_or (find (λ r. bytes_eq r.id (id_of o)) rs) (cond (bytes_eq (id_of q) (id_of o)) (Some (row_of_option q v)) None)
 grown o q v rs e = ap (find (λ (r : Row). bytes_eq r.id (id_of o))) (used_fresh q v rs (use_splits q v rs e).0)
     ∙ find_added (λ (r : Row). bytes_eq r.id (id_of o)) rs (row_of_option q v)
 
@@ -202,38 +248,40 @@ pub some_none : {X : Type 0} (x : X) → Some x ≡ None → ⊥
 some_none x e = cc
 
 pub use_holds : (o q : CommandOption) (d : Which q o) (v : Text) (rs : List Row) (s : Option Text) → Holds o rs s → use_fault false (done_rule q) (v ∷ []) rs ≡ []
-    → Holds o (used (done_rule q) (v ∷ []) rs) (first_some s (mine d v))
+    → Holds o (used (done_rule q) (v ∷ []) rs) (option_or s (mine d v))
 use_holds o q (inl same) v rs None h e =
-    (grown o q v rs e ∙ ap₂ first_some h.0 (same_row o q v same), subst (λ x. accepts false (parser_done x) v ≡ true) same (use_splits q v rs e).1)
+    (grown o q v rs e ∙ ap₂ option_or h.0 (same_row o q v same), subst (λ x. accepts false (parser_done x) v ≡ true) same (use_splits q v rs e).1)
 use_holds o q (inl same) v rs (Some t) h e =
     absurd (some_none (row_of_option o t) (sym h.0 ∙ none_found (id_of o) rs (subst (λ x. has_row (id_of x) rs ≡ false) same (use_splits q v rs e).0)))
 use_holds o q (inr d) v rs None h e =
-    (grown o q v rs e ∙ ap₂ first_some h.0 (ap (λ b. cond b (Some (row_of_option q v)) None) d.0), tt)
+    (grown o q v rs e ∙ ap₂ option_or h.0 (ap (λ b. cond b (Some (row_of_option q v)) None) d.0), tt)
 use_holds o q (inr d) v rs (Some t) h e =
-    (grown o q v rs e ∙ ap₂ first_some h.0 (ap (λ b. cond b (Some (row_of_option q v)) None) d.0), h.1)
+    (grown o q v rs e ∙ ap₂ option_or h.0 (ap (λ b. cond b (Some (row_of_option q v)) None) d.0), h.1)
 
 -- ---- what one word is
 
 -- what the word is to o, where it names q
-abbrev pub Names_it : CommandOption → CommandOption → Text → Option Text → Type 0
-Names_it o q word x = (d : Which q o) → named o word ≡ mine d x
+abbrev pub NamesIt : CommandOption → CommandOption → Text → Option Text → Type 0
+NamesIt o q word x = (d : Which q o) → named o word ≡ mine d x
 
+-- what is held between two words
 abbrev pub idle_held : List Row → Option (Text × List Text) → Held
 idle_held rows pending = record { rows = rows; pending = pending; skip = 0 }
 
+-- what one word does: it names an option, with a value or alone, or ends the options, or is none
 pub data Turn (os : List CommandOption) (o : CommandOption) (word : Text) (wt : Waiting) (h : Held) : Held × Step → Type 0 where
   attached : (q : CommandOption) (v : Text) → arg_by_id (done_rules os) (id_of q) ≡ Some (done_rule q) → settle_fault (done_rules os) false h ≡ []
-      → use_fault false (done_rule q) (v ∷ []) (settled (done_rules os) h).rows ≡ [] → Names_it o q word (Some v)
+      → use_fault false (done_rule q) (v ∷ []) (settled (done_rules os) h).rows ≡ [] → NamesIt o q word (Some v)
       → Turn os o word wt h (reacted (done_rules os) (done_rule q) (v ∷ []) h, next idle)
   alone : (q : CommandOption) → arg_by_id (done_rules os) (id_of q) ≡ Some (done_rule q) → settle_fault (done_rules os) false h ≡ []
-      → Names_it o q word None
+      → NamesIt o q word None
       → Turn os o word wt h (record (settled (done_rules os) h) { pending = Some (id_of q, []) }, next (option (id_of q)))
   dashes : named o word ≡ None → Turn os o word wt h (h, trailing 1)
   other : named o word ≡ None → Turn os o word wt h (plain_word (done_rules os) wt word h)
 
 -- the option with the value attached, if any
 option_turn : (os : List CommandOption) (o : CommandOption) (word : Text) (wt : Waiting) (rows : List Row) (p : Option (Text × List Text)) (q : CommandOption) (v : Option Text)
-    → arg_by_id (done_rules os) (id_of q) ≡ Some (done_rule q) → Names_it o q word v
+    → arg_by_id (done_rules os) (id_of q) ≡ Some (done_rule q) → NamesIt o q word v
     → option_fault (done_rules os) false (done_rule q) v (idle_held rows p) ≡ []
     → Turn os o word wt (idle_held rows p) (after_flag (done_rules os) wt word
     (option_met (done_rules os) (done_rule q) v (idle_held rows p)).0 (option_met (done_rules os) (done_rule q) v (idle_held rows p)).1)
@@ -330,9 +378,11 @@ dash_turn os o word wt rows p false e f = flag_turn os o word wt rows p (long_of
 
 -- ---- the walk
 
+-- a command as `clap` completes it
 abbrev pub leaf_done : Text → List CommandOption → Shape
 leaf_done name os = record (new_shape name) { rules = done_rules os; disable_help_subcommand = true; is_built = true }
 
+-- the walk at a word
 abbrev pub at_word : Held → Waiting → Walk
 at_word h wt = record { held = h; waiting = wt; position = 1; is_trailing = false; stopped = None }
 
@@ -343,24 +393,28 @@ word_turn name os o word idle rows p f = dash_turn os o word idle rows p (bytes_
 word_turn name os o word (option id) rows p f = dash_turn os o word (option id) rows p (bytes_eq word (45 ∷ 45 ∷ [])) refl f
 word_turn name os o word positional rows p f = dash_turn os o word positional rows p (bytes_eq word (45 ∷ 45 ∷ [])) refl f
 
+-- what is held after the words
 abbrev pub walk_end : List CommandOption → Walk → List Text → Held
 walk_end os w words = (fold (walked (done_rules os) []) w words).held
 
+-- where no step fails from here on, the entry of the option has this value at the end
 abbrev pub Ends : Text → List CommandOption → CommandOption → Walk → List Text → Option Text → Type 0
 Ends name os o w words s = walk_fault (leaf_done name os) [] w words ≡ [] → settle_fault (done_rules os) false (walk_end os w words) ≡ []
     → Holds o (settled (done_rules os) (walk_end os w words)).rows s
 
+-- what the words give where no option waits for its value
 abbrev pub Idle : Text → List CommandOption → CommandOption → List Text → Type 0
 Idle name os o words = (rows : List Row) (p : Option (Text × List Text)) (s : Option Text)
     → (settle_fault (done_rules os) false (idle_held rows p) ≡ [] → Holds o (settled (done_rules os) (idle_held rows p)).rows s)
-    → Ends name os o (at_word (idle_held rows p) idle) words (first_some s (given o words))
+    → Ends name os o (at_word (idle_held rows p) idle) words (option_or s (given o words))
 
+-- what the words give where an option waits for its value
 abbrev pub Waits : Text → List CommandOption → CommandOption → List Text → Type 0
 Waits name os o words = (rows : List Row) (q : CommandOption) (d : Which q o) (s : Option Text)
     → arg_by_id (done_rules os) (id_of q) ≡ Some (done_rule q) → Holds o rows s
-    → Ends name os o (at_word (idle_held rows (Some (id_of q, []))) (option (id_of q))) words (first_some s (given_by (mine d None) words (given o words)))
+    → Ends name os o (at_word (idle_held rows (Some (id_of q, []))) (option (id_of q))) words (option_or s (given_by (mine d None) words (given o words)))
 
-pub some_first : {X : Type 0} (s : Option X) → first_some s None ≡ s
+pub some_first : {X : Type 0} (s : Option X) → option_or s None ≡ s
 some_first None = refl
 some_first (Some x) = refl
 
@@ -380,14 +434,14 @@ unfolding walk_fault
 trailing_ends name os h wt word rest f = stray name os h (or_nil _ _ f).0
 
 attached_same : (s : Option Text) (o q : CommandOption) (d : Which q o) (v : Text) (rest : List Text) (later : Option Text)
-    → first_some (first_some s (mine d v)) later ≡ first_some s (given_by (mine d (Some v)) rest later)
+    → option_or (option_or s (mine d v)) later ≡ option_or s (given_by (mine d (Some v)) rest later)
 attached_same None o q (inl same) v rest later = refl
 attached_same (Some t) o q (inl same) v rest later = refl
 attached_same None o q (inr d) v rest later = refl
 attached_same (Some t) o q (inr d) v rest later = refl
 
 value_same : (s : Option Text) (o q : CommandOption) (d : Which q o) (v : Text) (rest : List Text) (later : Option Text)
-    → first_some (first_some s (mine d v)) later ≡ first_some s (given_by (mine d None) (v ∷ rest) later)
+    → option_or (option_or s (mine d v)) later ≡ option_or s (given_by (mine d None) (v ∷ rest) later)
 value_same None o q (inl same) v rest later = refl
 value_same (Some t) o q (inl same) v rest later = refl
 value_same None o q (inr d) v rest later = refl
@@ -397,28 +451,28 @@ idle_took : (name : Text) (os : List CommandOption) (o : CommandOption) (word : 
     → (rows : List Row) (p : Option (Text × List Text)) (s : Option Text)
     → (settle_fault (done_rules os) false (idle_held rows p) ≡ [] → Holds o (settled (done_rules os) (idle_held rows p)).rows s)
     → (m : Held × Step) → Turn os o word idle (idle_held rows p) m → step_fault (leaf_done name os) 1 m.0 m.1 ≡ []
-    → Ends name os o (after_step (done_rules os) word (at_word (idle_held rows p) idle) m.0 m.1) rest (first_some s (given o (word ∷ rest)))
+    → Ends name os o (after_step (done_rules os) word (at_word (idle_held rows p) idle) m.0 m.1) rest (option_or s (given o (word ∷ rest)))
 idle_took name os o word rest i w rows p s ready _ (attached q v by_id settles uses is) step f e =
     let d = differ q o in
     subst (λ x. Holds o (settled (done_rules os) (walk_end os (at_word (reacted (done_rules os) (done_rule q) (v ∷ []) (idle_held rows p)) idle) rest)).rows x)
-    (attached_same s o q d v rest (given o rest) ∙ ap (λ n. first_some s (given_by n rest (given o rest))) (sym (is d)))
-    (i _ None (first_some s (mine d v)) (λ _. use_holds o q d v _ s (ready settles) uses) f e)
+    (attached_same s o q d v rest (given o rest) ∙ ap (λ n. option_or s (given_by n rest (given o rest))) (sym (is d)))
+    (i _ None (option_or s (mine d v)) (λ _. use_holds o q d v _ s (ready settles) uses) f e)
 idle_took name os o word rest i w rows p s ready _ (alone q by_id settles is) step f e =
     let d = differ q o in
     subst (λ x. Holds o (settled (done_rules os) (walk_end os (at_word (record (settled (done_rules os) (idle_held rows p)) { pending = Some (id_of q, []) }) (option (id_of q))) rest)).rows x)
-    (ap (λ n. first_some s (given_by n rest (given o rest))) (sym (is d)))
+    (ap (λ n. option_or s (given_by n rest (given o rest))) (sym (is d)))
     (w _ q d s by_id (ready settles) f e)
 idle_took name os o word [] i w rows p s ready _ (dashes is) step f e =
     subst (λ x. Holds o (settled (done_rules os) (idle_held rows p)).rows x)
-    (sym (some_first s) ∙ ap (λ n. first_some s (given_by n [] None)) (sym is)) (ready e)
+    (sym (some_first s) ∙ ap (λ n. option_or s (given_by n [] None)) (sym is)) (ready e)
 idle_took name os o word (x ∷ rest) i w rows p s ready _ (dashes is) step f e = absurd (trailing_ends name os (idle_held rows p) idle x rest f)
 idle_took name os o word rest i w rows p s ready _ (other is) step f e = absurd (stray name os (idle_held rows p) step)
 
 wait_ready : (os : List CommandOption) (o q : CommandOption) (d : Which q o) (rows : List Row) (s : Option Text) (word : Text) → arg_by_id (done_rules os) (id_of q) ≡ Some (done_rule q) → Holds o rows s
     → settle_fault (done_rules os) false (idle_held rows (Some (id_of q, word ∷ []))) ≡ []
-    → Holds o (settled (done_rules os) (idle_held rows (Some (id_of q, word ∷ [])))).rows (first_some s (mine d word))
+    → Holds o (settled (done_rules os) (idle_held rows (Some (id_of q, word ∷ [])))).rows (option_or s (mine d word))
 wait_ready os o q d rows s word by_id holds e =
-    subst (λ r. Holds o (used_by_id r (word ∷ []) rows) (first_some s (mine d word))) (sym by_id)
+    subst (λ r. Holds o (used_by_id r (word ∷ []) rows) (option_or s (mine d word))) (sym by_id)
     (use_holds o q d word rows s holds (sym (ap (λ r. option_map_or (λ a. use_fault false a (word ∷ []) rows) r []) by_id) ∙ e))
 
 pub value_state : (os : List CommandOption) (q : CommandOption) (rows : List Row) (word : Text) → arg_by_id (done_rules os) (id_of q) ≡ Some (done_rule q)
@@ -434,16 +488,16 @@ wait_took : (name : Text) (os : List CommandOption) (o : CommandOption) (word : 
     → (m : Held × Step) → Turn os o word (option (id_of q)) (idle_held rows (Some (id_of q, []))) m
     → step_fault (leaf_done name os) 1 m.0 m.1 ≡ []
     → Ends name os o (after_step (done_rules os) word (at_word (idle_held rows (Some (id_of q, []))) (option (id_of q))) m.0 m.1) rest
-    (first_some s (given_by (mine d None) (word ∷ rest) (given o (word ∷ rest))))
+    (option_or s (given_by (mine d None) (word ∷ rest) (given o (word ∷ rest))))
 wait_took name os o word rest i rows q d s by_id holds _ (attached q2 v by2 settles uses is) step f e = absurd (no_value os q rows by_id settles)
 wait_took name os o word rest i rows q d s by_id holds _ (alone q2 by2 settles is) step f e = absurd (no_value os q rows by_id settles)
 wait_took name os o word [] i rows q d s by_id holds _ (dashes is) step f e = absurd (no_value os q rows by_id e)
 wait_took name os o word (x ∷ rest) i rows q d s by_id holds _ (dashes is) step f e = absurd (trailing_ends name os (idle_held rows (Some (id_of q, []))) (option (id_of q)) x rest f)
 wait_took name os o word rest i rows q d s by_id holds _ (other is) step f e =
-    subst (λ w. Ends name os o w rest (first_some s (given_by (mine d None) (word ∷ rest) (given o (word ∷ rest))))) (sym (value_state os q rows word by_id))
+    subst (λ w. Ends name os o w rest (option_or s (given_by (mine d None) (word ∷ rest) (given o (word ∷ rest))))) (sym (value_state os q rows word by_id))
     (λ f2 e2. subst (λ x. Holds o (settled (done_rules os) (walk_end os (at_word (idle_held rows (Some (id_of q, word ∷ []))) idle) rest)).rows x)
-    (value_same s o q d word rest (given o rest) ∙ ap (λ n. first_some s (given_by (mine d None) (word ∷ rest) (given_by n rest (given o rest)))) (sym is))
-    (i rows (Some (id_of q, word ∷ [])) (first_some s (mine d word)) (wait_ready os o q d rows s word by_id holds) f2 e2)) f e
+    (value_same s o q d word rest (given o rest) ∙ ap (λ n. option_or s (given_by (mine d None) (word ∷ rest) (given_by n rest (given o rest)))) (sym is))
+    (i rows (Some (id_of q, word ∷ [])) (option_or s (mine d word)) (wait_ready os o q d rows s word by_id holds) f2 e2)) f e
 
 idle_step : (name : Text) (os : List CommandOption) (o : CommandOption) (word : Text) (rest : List Text) → Idle name os o rest → Waits name os o rest → Idle name os o (word ∷ rest)
 unfolding walk_fault walked
@@ -499,6 +553,7 @@ pub missing_nil : (b : Bool) → cond b (kind.MissingRequiredArgument ∷ []) []
 missing_nil true e = cc
 missing_nil false e = refl
 
+-- the words give the option a value that passes its parser, and its entry has it
 abbrev pub Reads : CommandOption → List Text → List Row → Type 0
 Reads o words rs = (v : Text) × (given o words ≡ Some v) × (accepts false (parser_done o) v ≡ true)
     × (find (λ r. bytes_eq r.id (id_of o)) rs ≡ Some (row_of_option o v))

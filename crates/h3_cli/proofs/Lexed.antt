@@ -1,7 +1,7 @@
 -- What the words give an option, cut as `clap` cuts them.
-use Rattle.std.proofs.Common.{◌≡◌, ◌∙◌, ◌+◌, ◌==◌, ◌&&◌, ◌||◌, ℕ, Bool, cond, true, false, not, suc, refl, sym, ap, ap₂, arith, List, [], ◌∷◌, Option, Some, None, drop, take, true≢false}
+use Rattle.std.proofs.Common.{◌≡◌, ◌∙◌, ◌+◌, ◌==◌, ◌&&◌, ◌||◌, ℕ, Bool, cond, true, false, not, suc, refl, ap, ap₂, arith, List, [], ◌∷◌, Option, Some, None, drop, take, true≢false}
 use Rattle.std.specs.Prelude.{⊤, slice_get, option_and_then}
-use Rattle.std.specs.List.{before_first, after_first, list_any, position_or_len}
+use Rattle.std.specs.List.{list_any, position_or_len}
 use Rattle.std.specs.Option.{option_map_or, option_or}
 use Rattle.std.specs.Str.{bytes_eq, chars}
 use Rattle.std.proofs.lemmas.Bool.{eqb-true}

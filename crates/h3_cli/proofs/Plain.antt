@@ -74,6 +74,7 @@ by_short_of q y os is hit = only_found (λ a. not (is_some a.index) && has_short
 
 -- ---- the word that names an option
 
+-- what is held after an option that waits for its value
 abbrev waiting_held : List CommandOption → CommandOption → List Row → Option (Text × List Text) → Held
 waiting_held os q rows p = record (settled (done_rules os) (idle_held rows p)) { pending = Some (id_of q, []) }
 
@@ -111,10 +112,11 @@ name_met os q word rows p is (short_form y no_long flags first rest hit none no_
 no_dashes : (v : Text) → IsPlainValue v → (long_of v ≡ None) × (short_of v ≡ None) × (bytes_eq v (45 ∷ 45 ∷ []) ≡ false)
 no_dashes [] h = absurd h
 no_dashes (b ∷ bs) h =
-    let f : (b == 45) ≡ false = ne_eqb b 45 h in
-    (ap (λ t. option_and_then long_of_rest (option_and_then (strip_byte 45) (cond t (Some bs) None))) f,
-    ap (λ t. option_and_then short_of_rest (cond t (Some bs) None)) f,
-    go (bytes_eq (b ∷ bs) (45 ∷ 45 ∷ [])) refl)
+    let f : (b == 45) ≡ false = ne_eqb b 45 h in (
+      ap (λ t. option_and_then long_of_rest (option_and_then (strip_byte 45) (cond t (Some bs) None))) f,
+      ap (λ t. option_and_then short_of_rest (cond t (Some bs) None)) f,
+      go (bytes_eq (b ∷ bs) (45 ∷ 45 ∷ [])) refl,
+    )
   where
     go : (t : Bool) → bytes_eq (b ∷ bs) (45 ∷ 45 ∷ []) ≡ t → t ≡ false
     go true e = absurd (h (ap (λ xs. slice_index xs 0) ((bytes_eq-Decides (b ∷ bs) (45 ∷ 45 ∷ [])).0 e)))
@@ -139,6 +141,7 @@ one_word name os h wt word m f e step = (
   ap (λ (x : Held × Step). after_step (done_rules os) word (at_word h wt) x.0 x.1) e,
 )
 
+-- no step fails from here on
 abbrev Passing : Text → List CommandOption → Walk → List Text → Type 0
 Passing name os w words = (walk_fault (leaf_done name os) [] w words ≡ []) × (settle_fault (done_rules os) false (walk_end os w words) ≡ [])
 
@@ -150,6 +153,7 @@ passes_on name os w after word rest turn is passing = (
   ap (λ x. settle_fault (done_rules os) false (walk_end os x rest)) is ∙ passing.1,
 )
 
+-- each option is used at most once, and not again once it has an entry
 abbrev Fresh : List Row → List Use → Type 0
 Fresh rows us = (o : CommandOption) → (has_row (id_of o) rows ≡ true → uses_of o us ≡ 0) × (uses_of o us ≤ 1)
 
@@ -201,9 +205,9 @@ uses_walk name os (u ∷ us) rows p settles fresh fits =
     let h = idle_held now (Some (id_of u.option, [])) in
     let second = one_word name os h (option (id_of u.option)) u.value _ (value_fault name os (id_of u.option) u.value h fits.0.plain) (value_met os (id_of u.option) u.value h fits.0.plain) refl in
     let settles2 : settle_fault (done_rules os) false (idle_held now (Some (id_of u.option, u.value ∷ []))) ≡ [] =
-        ap (λ r. option_map_or (λ a. use_fault false a (u.value ∷ []) now) r []) by_id ∙ fine in
+    ap (λ r. option_map_or (λ a. use_fault false a (u.value ∷ []) now) r []) by_id ∙ fine in
     let rows2 : now ++ row_of_option u.option u.value ∷ [] ≡ used_by_id (arg_by_id (done_rules os) (id_of u.option)) (u.value ∷ []) now =
-        sym (ap (λ r. used_by_id r (u.value ∷ []) now) by_id ∙ used_fresh u.option u.value now new) in
+    sym (ap (λ r. used_by_id r (u.value ∷ []) now) by_id ∙ used_fresh u.option u.value now new) in
     let fresh2 = subst (λ r. Fresh r us) rows2 (fresh_after now u us fresh) in
     passes_on name os _ _ u.name (u.value ∷ words_of us) first.0 first.1
     (passes_on name os _ _ u.value (words_of us) second.0 (second.1 ∙ value_state os u.option now u.value by_id)
@@ -264,7 +268,7 @@ leaf_passes name os us fits once most =
     let holds : (o : CommandOption) → Holds o (settled (done_rules os) end).rows (given o words) = λ o. (walks name os o words).0 [] None None (λ _. (refl, tt)) pass.0 pass.1 in
     let done : (o : CommandOption) → Holds o (finished (done_rules os) end) (given o words) = λ o. subst (λ rs. Holds o rs (given o words)) (sym (no_default os (settled (done_rules os) end).rows)) (holds o) in
     let all_given : list_any (λ a. a.required && not (is_given a.id (finished (done_rules os) end))) (done_rules os) ≡ false =
-        none_missing os (finished (done_rules os) end) (λ o is. some_given o (finished (done_rules os) end) (given o words) (given_once os o us fits (once o is)) (done o)) in
+    none_missing os (finished (done_rules os) end) (λ o is. some_given o (finished (done_rules os) end) (given o words) (given_once os o us fits (once o is)) (done o)) in
     ap₂ or_else pass.0 (ap₂ or_else pass.1 (ap₂ or_else (no_default_fault os (settled (done_rules os) end).rows)
     (ap (λ b. cond b (kind.MissingRequiredArgument ∷ []) []) all_given)))
 
@@ -323,6 +327,7 @@ top_turn k rest = (
   ap (λ r. fold (walked (done_rules []) (names_of (app_done command_names))) (first_state (word_of k) r) rest) (name_first k) ∙ keeps_stop (names_of (app_done command_names)) (word_of k) [] rest,
 )
 
+-- the kinds of the first step that fails after the walk
 abbrev level_of : Walk → Option (Shape) → Kinds → Kinds
 level_of w s inner = or_else (option_map_or (λ _. inner) s [])
     (or_else (settle_fault (done_rules []) false w.held) (or_else (defaults_fault (settled (done_rules []) w.held).rows (done_rules []))

@@ -16,12 +16,15 @@ use Rattle.h3_cli.specs.declared.words.CommandOption.{CommandOption}
 use Rattle.h3_cli.specs.declared.words.CommandOption.TheVariants.{Cell}
 use Rattle.h3_cli.specs.declared.words.CommandName.{CommandName}
 
+-- the command as `clap` completes it
 abbrev pub leaf : CommandName → Shape
 leaf k = leaf_done (word_of k) (options_of k)
 
+-- the command line without its commands, as `clap` completes it
 abbrev pub top_done : Shape
 top_done = record (new_shape (codes "h3")) { rules = done_rules []; subcommand_required = true; disable_help_subcommand = true; is_leaf = false; is_built = true }
 
+-- the command line with these commands, as `clap` completes it
 abbrev pub app_done : List CommandName → App
 app_done ks = record { top = top_done; subs = map leaf ks }
 
@@ -33,6 +36,7 @@ app_is_simple = refl
 
 -- ---- the first word
 
+-- what a search for the word among the commands finds
 data Named (ks : List CommandName) (word : Text) : Option (Text × List Text) → Type 0 where
   is_name : (k : CommandName) → bytes_eq (word_of k) word ≡ true → find (λ s. answers_to (word_of k) (label_of s)) (map leaf ks) ≡ Some (leaf k) → Named ks word (Some (label_of (leaf k)))
   no_name : Named ks word None
@@ -55,6 +59,7 @@ named_in word (x ∷ ks) = named_step word x ks _ (named_in word ks) (answers_to
 
 -- ---- the words after it
 
+-- the walk that met a command, with the words after it
 abbrev pub stopped_at : Text → List Text → Walk
 stopped_at name words = record (at_word (idle_held [] None) idle) { stopped = Some (name, words) }
 
@@ -98,9 +103,11 @@ none_case ks word [] _ (dashes is) step f enters = enters refl
 none_case ks word (x ∷ rest) _ (dashes is) step f enters = trailing_top ks x rest f
 none_case ks word rest _ (other is) step f enters = cons_nil kind.UnknownArgument (kind.InvalidSubcommand ∷ []) step
 
+-- what the first word does
 abbrev pub first_met : Text → Option (Text × List Text) → Held × Step
 first_met word r = subcommand_or_other (done_rules []) (option_map (λ s. s.0) r) idle 1 word (idle_held [] None)
 
+-- the walk after the first word
 abbrev pub first_state : Text → Option (Text × List Text) → Walk
 first_state word r = after_step (done_rules []) word (at_word (idle_held [] None) idle) (first_met word r).0 (first_met word r).1
 
@@ -109,6 +116,7 @@ stop_is : (ks : List CommandName) (word : Text) (rest : List Text) (r : Option (
 unfolding walked
 stop_is ks word rest r e = ap (λ x. (fold (walked (done_rules []) (names_of (app_done ks))) (first_state word x) rest).stopped) e
 
+-- the kinds of the first step that fails at the top
 abbrev level_at : List CommandName → List Text → Option (Text × List Text) → Kinds
 level_at ks words stop = level_fault top_done (names_of (app_done ks)) nothing_held words (is_some (entered (app_done ks) stop)) (entered_fault (app_done ks) stop)
 

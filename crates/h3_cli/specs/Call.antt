@@ -1,5 +1,5 @@
--- A plain call: the program's name, a command's name, and then each option of the command once, its
--- name and its value in two words.
+-- A plain call: the program's name, a command's name, and then each option of the command once, in any order,
+-- its name and its value in two words.
 use Rattle.std.specs.Prelude.{Option, Some, None, pos, ⊤, ◌⊎◌, ◌≡◌, ◌≢◌, ◌∷◌, ◌+◌, ℕ, List, [], codes, if◌then◌else◌}
 use Rattle.std.specs.Str.{bytes_eq}
 use Rattle.clap.specs.Words.{IsSignedIn, Text}

@@ -6,15 +6,15 @@ use Rattle.clap.specs.declared.error.kind.ErrorKind.TheVariants.{DisplayHelp, Ou
 use Rattle.h3_cli.specs.declared.words.WordsFault.{WordsFault}
 use Rattle.h3_cli.specs.declared.words.WordsFault.TheVariants.{Help, Usage, Memory}
 
--- an error of this kind is told as help where it is a question for help, and else as no words of a command, unless
--- memory is wanted
+-- what is told of an error of this kind: help only of a question for help, no words of a command only of another
+-- fault of the words, and want of memory at any time
 abbrev pub IsToldAs : ErrorKind → WordsFault → Type 0
 IsToldAs kind (Help text) = kind ≡ DisplayHelp
 IsToldAs kind (Usage text) = (kind ≢ DisplayHelp) × (kind ≢ OutOfMemory)
 IsToldAs kind Memory = ⊤
 
--- where the first step of a parse that fails gives one of these kinds: help is told only where it is a question for
--- help, and words are told to be none of a command only where it is another fault
+-- what is told where the first step of a parse that fails gives one of these kinds: help only where it may be a
+-- question for help, no words of a command only where it may be another fault, and want of memory at any time
 abbrev pub IsFaultOf : Kinds → WordsFault → Type 0
 IsFaultOf kinds (Help text) = IsAmong DisplayHelp kinds
 IsFaultOf kinds (Usage text) = (kind : ErrorKind) × IsAmong kind kinds × (kind ≢ DisplayHelp)

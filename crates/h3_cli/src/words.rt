@@ -1,6 +1,6 @@
 //! The words of a command line.
 
-ghost use Rattle.std.specs.Prelude.{◌≡◌, List, Option, ℕ, Some, IfOk, IfErr, IsNone, find, map, string_bytes, codes, false};
+ghost use Rattle.std.specs.Prelude.{◌≡◌, Option, Some, IfOk, IfErr, find, map, string_bytes, false};
 ghost use Rattle.std.specs.Str.{bytes_eq};
 ghost use Rattle.clap.specs.Words.{Text, app_of, fault_of, first_value, found_of, kind_of, rule_of, shape_of};
 ghost use Rattle.clap.specs.declared.builder.command.Command.TheViews.{out-Command};
@@ -13,16 +13,16 @@ ghost use Rattle.h3_cli.specs.Spelling.{Answers, HasValues, Spells};
 ghost use Rattle.h3_cli.specs.declared.words.CommandOption.{CommandOption};
 ghost use Rattle.h3_cli.specs.declared.words.WordsFault.TheVariants.{Memory};
 
+use crate::command::Command;
 use clap::error::ErrorKind;
 use clap::{Arg, ArgMatches, Command as Parser};
 use h3_index::read_index;
 use std::alloc::{AllocError, Global};
 
-use crate::command::Command;
-
 /// An option of a command.
 #[derive(Clone, Copy)]
 enum CommandOption {
+    /// `-c` or `--cell`: a cell.
     Cell,
 }
 
@@ -49,7 +49,8 @@ impl CommandOption {
 
     /// The index that the option's text spells.
     fn index(self, matches: &ArgMatches<'_>) -> Option<u64>
-        ensures { (text : List ℕ) → first_value (found_of matches.now) (id_of self) ≡ Some text → result ≡ spelled_index text }
+        ensures { (text : Text) → first_value (found_of matches.now) (id_of self) ≡ Some text
+            → result ≡ spelled_index text }
     {
         read_index(matches.get_str(self.id())?.as_bytes()).ok()
     }
@@ -79,7 +80,10 @@ impl CommandName {
     fn named_by(word: &str) -> Option<CommandName>
         ensures { result ≡ find (λ name. bytes_eq (word_of name) word.now) command_names }
     {
-        COMMAND_NAMES.iter().copied().find(|name| name.word() == word)
+        COMMAND_NAMES
+            .iter()
+            .copied()
+            .find(|name| name.word() == word)
     }
 
     /// The options that the command has.
@@ -106,7 +110,8 @@ impl CommandName {
     /// The command with the values that a parse found.
     fn command(self, matches: &ArgMatches<'_>) -> Command
         ensures named { name_of_command result ≡ self }
-        ensures values { (text : CommandOption → Option Text) → Answers self text (found_of matches.now) → HasValues text result }
+        ensures values { (text : CommandOption → Option Text) → Answers self text (found_of matches.now)
+            → HasValues text result }
     {
         match self {
             CommandName::IsValidCell => Command::IsValidCell {

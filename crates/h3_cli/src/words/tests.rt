@@ -3,15 +3,16 @@ use crate::words::{Words, WordsFault, read_words};
 use std::alloc::{AllocError, Global};
 use std::test::Fail;
 
-fn read(alloc: Global, words: &[&str]) -> Result<Result<Words, WordsFault>, AllocError> {
-    let mut all = Vec::new(alloc);
-    for word in words {
-        all.push(String::from_str(alloc, word)?)?;
+/// What the words of a line ask for.
+fn read(alloc: Global, line: &str) -> Result<Result<Words, WordsFault>, AllocError> {
+    let mut words = Vec::new(alloc);
+    for word in line.split_whitespace() {
+        words.push(String::from_str(alloc, word)?)?;
     }
-    Ok(read_words(alloc, all))
+    Ok(read_words(alloc, words))
 }
 
-fn asks(answer: &Result<Words, WordsFault>, command: Command) -> bool {
+fn asks_for(answer: &Result<Words, WordsFault>, command: Command) -> bool {
     match answer {
         Ok(words) => words.command == command && words.table.is_none(),
         Err(_) => false,
@@ -19,47 +20,54 @@ fn asks(answer: &Result<Words, WordsFault>, command: Command) -> bool {
 }
 
 #[test]
-fn reads(rt: HostRuntime) -> Result<(), Fail> {
+fn reads_commands(rt: HostRuntime) -> Result<(), Fail> {
     let alloc = rt.alloc();
-    let cell = Command::IsValidCell {
-        cell: Some(0x85283473fffffff),
-    };
-    assert!(rt; asks(&read(alloc, &["h3", "isValidCell", "-c", "85283473fffffff"])?, cell));
-    assert!(rt; asks(&read(alloc, &["h3", "isValidCell", "--cell", "85283473fffffff"])?, cell));
-    assert!(rt; asks(&read(alloc, &["h3", "isValidCell", "--cell=85283473fffffff"])?, cell));
-    assert!(rt; asks(&read(alloc, &["h3", "isValidCell", "-c85283473fffffff"])?, cell));
-    let none = Command::IsValidCell { cell: None };
-    assert!(rt; asks(&read(alloc, &["h3", "isValidCell", "-c", "xyz"])?, none));
+    let cell = Some(0x85283473fffffff);
+    let cases = [
+        ("h3 isValidCell -c 85283473fffffff", cell),
+        ("h3 isValidCell --cell 85283473fffffff", cell),
+        ("h3 isValidCell --cell=85283473fffffff", cell),
+        ("h3 isValidCell -c85283473fffffff", cell),
+        ("h3 isValidCell -c=0x85283473FFFFFFF", cell),
+        ("h3 isValidCell -c xyz", None),
+    ];
+    for (line, cell) in cases {
+        let answer = read(alloc, line)?;
+        assert!(rt; asks_for(&answer, Command::IsValidCell { cell }), "{line}");
+    }
     Ok(())
 }
 
 #[test]
-fn refuses(rt: HostRuntime) -> Result<(), Fail> {
+fn refuses_other_words(rt: HostRuntime) -> Result<(), Fail> {
     let alloc = rt.alloc();
-    assert!(rt; matches!(read(alloc, &["h3"])?, Err(WordsFault::Usage(_))));
-    assert!(rt; matches!(read(alloc, &["h3", "nothing"])?, Err(WordsFault::Usage(_))));
-    assert!(rt; matches!(read(alloc, &["h3", "isValidCell"])?, Err(WordsFault::Usage(_))));
-    assert!(rt; matches!(read(alloc, &["h3", "isValidCell", "-c"])?, Err(WordsFault::Usage(_))));
-    assert!(rt;
-        matches!(
-            read(alloc, &["h3", "isValidCell", "-c", "0", "-c", "0"])?,
-            Err(WordsFault::Usage(_))
-        )
-    );
-    assert!(rt;
-        matches!(
-            read(alloc, &["h3", "isValidCell", "-c", "0", "-r", "3"])?,
-            Err(WordsFault::Usage(_))
-        )
-    );
-    assert!(rt; matches!(read(alloc, &["h3", "--version"])?, Err(WordsFault::Usage(_))));
+    let lines = [
+        "h3",
+        "h3 nothing",
+        "h3 isValidCell",
+        "h3 isValidCell -c",
+        "h3 isValidCell -c 0 -c 0",
+        "h3 isValidCell -c 0 -r 3",
+        "h3 isValidCell -c 0 0",
+        "h3 --version",
+    ];
+    for line in lines {
+        assert!(rt;
+            matches!(read(alloc, line)?, Err(WordsFault::Usage(_))),
+            "{line}"
+        );
+    }
     Ok(())
 }
 
 #[test]
 fn helps(rt: HostRuntime) -> Result<(), Fail> {
     let alloc = rt.alloc();
-    assert!(rt; matches!(read(alloc, &["h3", "--help"])?, Err(WordsFault::Help(_))));
-    assert!(rt; matches!(read(alloc, &["h3", "isValidCell", "--help"])?, Err(WordsFault::Help(_))));
+    for line in ["h3 --help", "h3 isValidCell --help"] {
+        assert!(rt;
+            matches!(read(alloc, line)?, Err(WordsFault::Help(_))),
+            "{line}"
+        );
+    }
     Ok(())
 }
