@@ -34,13 +34,8 @@ fn other_numbers_are_no_cells(rt: HostRuntime) {
 
 #[test]
 fn twelve_base_cells_are_pentagons(rt: HostRuntime) {
-    let mut count = 0;
-    for b in 0..122u8 {
-        if is_pentagon_base(b) {
-            count += 1;
-        }
-    }
-    assert_eq!(rt; count, 12u8);
+    let count = (0..122u8).filter(|b| is_pentagon_base(*b)).count();
+    assert_eq!(rt; count, 12);
 }
 
 #[test]
