@@ -50,13 +50,14 @@ from_range a n b (k, lt, e) =
     (omega (arith, is), omega (arith, is, less))
 
 pub each_cell : (r : ℕ) → r < 16 → (c : Address) → Contains (cells_at r) c ↔ (IsCell c × (length c.digits ≡ r))
-each_cell r h c =
-    (λ m. let t = from_flat (λ b. descendants (base_cell b) r) (range_with_len 0 122) c m in
-    let bound = from_range 0 122 t.0 t.1 in
-    let d = from_descendants (base_cell t.0) c r (base_valid t.0 (omega (arith, bound.1))) (omega arith) h t.2 in
-    (d.valid, d.resolution_is),
-    λ p. let below : IsDescendant (base_cell c.base) r c = record { valid = p.0; resolution_is = p.1; under = refl } in
-    in_flat (λ b. descendants (base_cell b) r) (range_with_len 0 122) c.base c (in_range 0 122 c.base (omega arith) (omega (arith, p.0.base_small))) (in_descendants (base_cell c.base) c r below))
+each_cell r h c = (
+  λ m. let t = from_flat (λ b. descendants (base_cell b) r) (range_with_len 0 122) c m in
+      let bound = from_range 0 122 t.0 t.1 in
+      let d = from_descendants (base_cell t.0) c r (base_valid t.0 (omega (arith, bound.1))) (omega arith) h t.2 in
+      (d.valid, d.resolution_is),
+  λ p. let below : IsDescendant (base_cell c.base) r c = record { valid = p.0; resolution_is = p.1; under = refl } in
+      in_flat (λ b. descendants (base_cell b) r) (range_with_len 0 122) c.base c (in_range 0 122 c.base (omega arith) (omega (arith, p.0.base_small))) (in_descendants (base_cell c.base) c r below),
+)
 
 -- ---- in ascending order
 
@@ -180,16 +181,17 @@ center_pentagon b r h = let none : leading (replicate (r - 0) 0) ≡ 0 = leading
 
 pub each_pentagon : (r : ℕ) → r < 16 → (c : Address) → Contains (pentagons r) c ↔ (IsCell c × (length c.digits ≡ r) × (is_pentagon c ≡ true))
 unfolding pentagons
-each_pentagon r h c =
-    (λ m. let t = from_map (λ b. center_at (base_cell b) r) pentagon_bases c m in
-    let d = center (base_cell t.0) r (base_valid t.0 (pentagon_base_small t.0 t.1)) (omega arith) h in
-    subst (λ x. IsCell x × (length x.digits ≡ r) × (is_pentagon x ≡ true)) t.2 (d.valid, d.resolution_is, center_pentagon t.0 r (pentagon_base_is t.0 t.1)),
-    λ p. let parts = and_parts (is_pentagon_base c.base) (leading c.digits == 0) p.2 in
-    let test = parts.1 in
-    let none : leading c.digits ≡ 0 = grind (arith, nat_tests) in
-    let levels : length c.digits ≡ r - 0 = omega (arith, p.1) in
-    let same : center_at (base_cell c.base) r ≡ c = address_same _ c refl (sym (zeros c.digits none ∙ ap (λ n. replicate n 0) levels)) in
-    subst (Contains (map (λ b. center_at (base_cell b) r) pentagon_bases)) same (in_map (λ b. center_at (base_cell b) r) pentagon_bases c.base (any_in c.base pentagon_bases parts.0)))
+each_pentagon r h c = (
+  λ m. let t = from_map (λ b. center_at (base_cell b) r) pentagon_bases c m in
+      let d = center (base_cell t.0) r (base_valid t.0 (pentagon_base_small t.0 t.1)) (omega arith) h in
+      subst (λ x. IsCell x × (length x.digits ≡ r) × (is_pentagon x ≡ true)) t.2 (d.valid, d.resolution_is, center_pentagon t.0 r (pentagon_base_is t.0 t.1)),
+  λ p. let parts = and_parts (is_pentagon_base c.base) (leading c.digits == 0) p.2 in
+      let test = parts.1 in
+      let none : leading c.digits ≡ 0 = grind (arith, nat_tests) in
+      let levels : length c.digits ≡ r - 0 = omega (arith, p.1) in
+      let same : center_at (base_cell c.base) r ≡ c = address_same _ c refl (sym (zeros c.digits none ∙ ap (λ n. replicate n 0) levels)) in
+      subst (Contains (map (λ b. center_at (base_cell b) r) pentagon_bases)) same (in_map (λ b. center_at (base_cell b) r) pentagon_bases c.base (any_in c.base pentagon_bases parts.0)),
+)
 
 -- each number of a list is below those after it
 is_ascending : List ℕ → Bool
@@ -213,9 +215,9 @@ unfolding pentagons is_ascending
 pentagons_listed r h = record {
   each = each_pentagon r h;
   ascending = rising_map (λ b. center_at (base_cell b) r) (λ a b ma mb less.
-    let da = center (base_cell a) r (base_valid a (pentagon_base_small a ma)) (omega arith) h in
-    let db = center (base_cell b) r (base_valid b (pentagon_base_small b mb)) (omega arith) h in
-    base_rises (center_at (base_cell a) r) (center_at (base_cell b) r) da.valid db.valid (da.resolution_is ∙ sym db.resolution_is) less) pentagon_bases (λ b m. m) refl;
+      let da = center (base_cell a) r (base_valid a (pentagon_base_small a ma)) (omega arith) h in
+      let db = center (base_cell b) r (base_valid b (pentagon_base_small b mb)) (omega arith) h in
+      base_rises (center_at (base_cell a) r) (center_at (base_cell b) r) da.valid db.valid (da.resolution_is ∙ sym db.resolution_is) less) pentagon_bases (λ b m. m) refl;
 }
 
 pub each_base : (n : ℕ) → n < 12 → get_or pentagon_bases n 0 < 122
