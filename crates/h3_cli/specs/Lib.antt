@@ -1,0 +1,4 @@
+pub mod Answer
+pub mod PageWriter
+pub mod Refusal
+pub mod Run
