@@ -1,5 +1,11 @@
+pub mod AncestorLaws
 pub mod CellLaws
 pub mod CellTestLaws
+pub mod ChainLaws
+pub mod DescendantLaws
 pub mod DigitsLaws
 pub mod DigitTestLaws
+pub mod MoveLaws
+pub mod PathLaws
 pub mod TextLaws
+pub mod WriteLaws

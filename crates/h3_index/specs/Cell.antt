@@ -4,7 +4,7 @@
 -- the mode (0 for a cell), 4 bits resolution, 7 bits base cell, and fifteen digits of 3 bits, that of resolution 1
 -- first. A digit above the resolution is 7. The twelve pentagon base cells have a child of digit 1 (K) deleted: in
 -- them the first digit that is not 0 is never 1.
-use Rattle.std.specs.Prelude.{ℕ, ◌≢◌, ◌+◌, ◌-◌, ◌*◌, ◌^◌, ◌<◌, ◌==◌, List, [], ◌∷◌, ◌++◌, length, replicate, Bool, ◌&&◌, ◌||◌, IsTrue, if◌then◌else◌}
+use Rattle.std.specs.Prelude.{ℕ, ◌≢◌, ◌+◌, ◌-◌, ◌*◌, ◌%◌, ◌^◌, ◌<◌, ◌==◌, List, [], ◌∷◌, ◌++◌, length, replicate, Bool, ◌&&◌, ◌||◌, IsTrue, if◌then◌else◌}
 use Rattle.std.specs.Int.Digits.{number_from_digits, AllBelowBase}
 
 -- where a cell lies in the hierarchy: its base cell, and a digit for each resolution from 1 up to its own
@@ -34,6 +34,10 @@ pub record IsCell (c : Address) : Type 0 where
 -- a cell of a pentagon base cell whose digits are all 0
 abbrev pub is_pentagon : Address → Bool
 is_pentagon c = is_pentagon_base c.base && leading c.digits == 0
+
+-- cells of odd resolution are Class III, the others Class II
+abbrev pub is_class_iii : Address → Bool
+is_class_iii c = length c.digits % 2 == 1
 
 -- the fifteen digits of an index: 7 above the resolution
 abbrev pub padded : List ℕ → List ℕ

@@ -6,6 +6,9 @@ pub mod DigitTest
 pub mod Digits
 pub mod Edge
 pub mod Error
+pub mod Examples
+pub mod Laws
+pub mod Paths
 pub mod Stream
 pub mod Streamed
 pub mod Text

@@ -2,9 +2,11 @@
 
 ghost use Rattle.std.specs.Prelude.{◌≡◌, ◌≢◌, ◌-◌, ◌<◌, ◌≤◌, length, IfOk, IfErr, slice_index_or};
 ghost use Rattle.std.specs.Result.{result_ok};
-ghost use Rattle.h3_index.specs.Cell.{Address, IsCell, is_pentagon_base, number_of};
+ghost use Rattle.h3_index.specs.Cell.{Address, IsCell, is_class_iii, is_pentagon, is_pentagon_base, number_of};
 ghost use Rattle.h3_index.specs.CellNumber.{cell_in, digits_in};
 ghost use Rattle.h3_index.specs.DigitTest.{are_digits};
+
+mod moves;
 
 use crate::error::H3Error;
 use std::marker::Model;
@@ -119,5 +121,28 @@ impl Cell {
         ensures { result ≡ slice_index_or self.digits (r - 1) 7 }
     {
         (self.raw >> (45 - 3 * r) & 7) as u8
+    }
+
+    /// Whether the cell is one of the twelve pentagons of its resolution, as H3's `isPentagon` tells: its base cell is
+    /// a pentagon, and its digits are all 0.
+    pub fn is_pentagon(self) -> bool
+        ensures { result ≡ is_pentagon self }
+    {
+        self.in_pentagon_base()
+            && (self.raw & 0x1fff_ffff_ffff) >> (3 * (15 - self.resolution())) == 0
+    }
+
+    /// Whether the cell lies in one of the twelve pentagon base cells.
+    pub fn in_pentagon_base(self) -> bool
+        ensures { result ≡ is_pentagon_base self.base }
+    {
+        is_pentagon_base(self.base_cell())
+    }
+
+    /// Whether the cell's resolution is odd, which is Class III, as H3's `isResClassIII` tells.
+    pub fn is_class_iii(self) -> bool
+        ensures { result ≡ is_class_iii self }
+    {
+        self.resolution() % 2 == 1
     }
 }

@@ -1,0 +1,252 @@
+-- The numbers of the cells above and below a cell, as the moves make them.
+use Rattle.std.specs.Int.Digits.{number_from_digits, AllBelowBase}
+use Rattle.std.proofs.Common.{ℕ, zero, suc, ◌≡◌, ◌≢◌, ◌+◌, ◌-◌, ◌*◌, ◌/◌, ◌%◌, ◌^◌, ◌<◌, ◌≤◌, ◌==◌, List, [], ◌∷◌, ◌++◌, length, take, drop, replicate, true, false, refl, arith, length-append, ◌∙◌, sym, ap, subst, lit<, bit_and}
+use Rattle.std.proofs.Math.ListN.{length-replicate}
+use Rattle.std.proofs.Math.Nat.{pow-suc, one-le-pow, pow-le-pow_right}
+use Rattle.std.proofs.lemmas.Bool.Decides.{nat_tests}
+use Rattle.std.proofs.lemmas.Int.Digits.{number_push, number_lt}
+use Rattle.std.proofs.lemmas.List.{length-drop, take-append-drop, append_assoc}
+use Rattle.std.proofs.lemmas.Nat.{pow-add, mul-le, div-mul-add, mod-mul-add, and_mask}
+use Rattle.h3_index.specs.Cell.{Address, IsCell, leading, is_pentagon, number_of, padded}
+use Rattle.h3_index.specs.CellNumber.{address_in, IsCellNumber}
+use Rattle.h3_index.specs.Descendants.{along, center_at, child, cut}
+use Rattle.h3_index.proofs.AncestorLaws.{center, cut_cell, length-cut, not_zero}
+use Rattle.h3_index.proofs.CellLaws.{address_in-number_of, below-padded, head_of, is_number_of, low_small, number_of_is}
+use Rattle.h3_index.proofs.DescendantLaws.{along_descendant, below_drop}
+use Rattle.h3_index.proofs.DigitsLaws.{eights, number_append, number_first, number_sevens, number_zeros}
+use Rattle.h3_index.proofs.PathLaws.{IsPath, rule_up}
+
+spread_one : (v q : ℕ) → (v + 1) * q ≡ v * q + q
+spread_one v q = grind arith
+
+-- the digits and the 7 after them
+pub value_padded : (ds : List ℕ) → number_from_digits 8 (padded ds) + 1 ≡ (number_from_digits 8 ds + 1) * 8 ^ (15 - length ds)
+value_padded ds =
+    let k = 15 - length ds in
+    let e = number_append ds (replicate (15 - length ds) 7) in
+    let f : number_from_digits 8 (padded ds) ≡ number_from_digits 8 ds * 8 ^ (15 - length ds) + number_from_digits 8 (replicate (15 - length ds) 7) = rw (length-replicate {A = ℕ} (15 - length ds) 7) at e in
+    omega (arith, f, number_sevens (15 - length ds), spread_one (number_from_digits 8 ds) (8 ^ (15 - length ds)))
+
+-- one more than a cell's number
+pub next_number : (n : Address) → IsCell n → number_of n + 1 ≡ head_of n * 2 ^ 45 + (number_from_digits 8 n.digits + 1) * 8 ^ (15 - length n.digits)
+next_number n h = omega (arith, number_of_is n h, value_padded n.digits)
+
+-- ---- a child
+
+push : (v d q : ℕ) → d < 7 → ((v + 1) * (q * 8) ≡ (v * 8 + d + 1) * q + (7 - d) * q)
+push v d q h =
+    let seven : 7 - d + d ≡ 7 = omega arith in
+    let a : (7 - d) * q + d * q ≡ 7 * q = mid (7 - d) d q ∙ ap (λ n. n * q) seven in
+    let b : (v * 8 + d + 1) * q ≡ 8 * (v * q) + d * q + q = grind arith in
+    let c : (v + 1) * (q * 8) ≡ 8 * (v * q) + 8 * q = grind arith in
+    omega (arith, a, b, c)
+  where
+    mid : (a b q : ℕ) → a * q + b * q ≡ (a + b) * q
+    mid a b q = grind arith
+
+pub number_child : (c : Address) (d : ℕ) → IsCell c → IsCell (along c (d ∷ [])) → d < 7 → number_of c + 2 ^ 52 ≡ number_of (along c (d ∷ [])) + (7 - d) * 8 ^ (14 - length c.digits)
+number_child c d h h' small =
+    let len : length (c.digits ++ d ∷ []) ≡ length c.digits + 1 = omega (arith, length-append c.digits (d ∷ [])) in
+    let less : 15 - (length c.digits + 1) ≡ 14 - length c.digits = omega arith in
+    let power : 15 - length c.digits ≡ suc (14 - length c.digits) = omega (arith, h'.coarse, len) in
+    let here = rw (power, pow-suc 8 (14 - length c.digits)) at (next_number c h) in
+    let there = rw (len, less, number_push 8 c.digits d) at (next_number (along c (d ∷ [])) h') in
+    omega (arith, here, there, len, push (number_from_digits 8 c.digits) d (8 ^ (14 - length c.digits)) small)
+
+-- ---- the centre
+
+pub number_center : (c : Address) (k : ℕ) → IsCell c → IsCell (along c (replicate k 0)) → number_of c + k * 2 ^ 52 + 8 ^ (15 - length c.digits - k) ≡ number_of (along c (replicate k 0)) + 8 ^ (15 - length c.digits)
+number_center c k h h' =
+    let len : length (c.digits ++ replicate k 0) ≡ length c.digits + k = omega (arith, length-append c.digits (replicate k 0), length-replicate {A = ℕ} k 0) in
+    let less : 15 - (length c.digits + k) ≡ 15 - length c.digits - k = omega arith in
+    let split : k + (15 - length c.digits - k) ≡ 15 - length c.digits = omega (arith, h'.coarse, len) in
+    let power : 8 ^ (15 - length c.digits) ≡ 8 ^ k * 8 ^ (15 - length c.digits - k) = rw split at (pow-add 8 k (15 - length c.digits - k)) in
+    let low : number_from_digits 8 (c.digits ++ replicate k 0) ≡ number_from_digits 8 c.digits * 8 ^ k = number_append c.digits (replicate k 0) ∙ (rw (length-replicate {A = ℕ} k 0, number_zeros k) (omega arith)) in
+    let there = rw (len, less, low) at (next_number (along c (replicate k 0)) h') in
+    let a = spread_one (number_from_digits 8 c.digits * 8 ^ k) (8 ^ (15 - length c.digits - k)) in
+    let b = spread_one (number_from_digits 8 c.digits) (8 ^ (15 - length c.digits)) in
+    let e : number_from_digits 8 c.digits * 8 ^ (15 - length c.digits) ≡ number_from_digits 8 c.digits * 8 ^ k * 8 ^ (15 - length c.digits - k) = turn (number_from_digits 8 c.digits) (8 ^ k) (8 ^ (15 - length c.digits - k)) (8 ^ (15 - length c.digits)) power in
+    omega (arith, next_number c h, there, len, a, b, e)
+  where
+    turn : (v p q r : ℕ) → r ≡ p * q → v * r ≡ v * p * q
+    turn v p q r e = rw e (grind arith)
+
+-- ---- a cell above
+
+next_spread : (h r v p t : ℕ) → t ≡ r * p → (h * r + v + 1) * p ≡ h * t + (v + 1) * p
+next_spread h r v p t e = rw e (grind arith)
+
+shift_in : (h r v p t l : ℕ) → t ≡ r * p → h * t + (v * p + l) ≡ (h * r + v) * p + l
+shift_in h r v p t l e = rw e (grind arith)
+
+-- what the shift leaves of a cell's number
+pub number_cut : (c : Address) (q : ℕ) → IsCell c → q ≤ length c.digits → (number_of c / 8 ^ (15 - q) + 1) * 8 ^ (15 - q) ≡ number_of (cut c q) + 1 + (length c.digits - q) * 2 ^ 52
+number_cut c q h le =
+    let rest = drop q c.digits ++ replicate (15 - length c.digits) 7 in
+    let small : AllBelowBase 8 (drop q c.digits ++ replicate (15 - length c.digits) 7) = below-padded (drop q c.digits) (15 - length c.digits) (below_drop q c.digits h.digits_small) in
+    let size : length (drop q c.digits ++ replicate (15 - length c.digits) 7) ≡ 15 - q = omega (arith, h.coarse, length-append (drop q c.digits) (replicate (15 - length c.digits) 7), length-replicate {A = ℕ} (15 - length c.digits) 7, length-drop q c.digits) in
+    let low : number_from_digits 8 (drop q c.digits ++ replicate (15 - length c.digits) 7) < 8 ^ (15 - q) = rw size at (number_lt 8 (drop q c.digits ++ replicate (15 - length c.digits) 7) small) in
+    let whole : padded c.digits ≡ take q c.digits ++ (drop q c.digits ++ replicate (15 - length c.digits) 7) =
+    ap (λ ds. ds ++ replicate (15 - length c.digits) 7) (sym (take-append-drop q c.digits)) ∙ append_assoc (take q c.digits) (drop q c.digits) (replicate (15 - length c.digits) 7) in
+    let digits : number_from_digits 8 (padded c.digits) ≡ number_from_digits 8 (take q c.digits) * 8 ^ (15 - q) + number_from_digits 8 (drop q c.digits ++ replicate (15 - length c.digits) 7) =
+    ap (λ ds. number_from_digits 8 ds) whole ∙ (rw size at (number_append (take q c.digits) (drop q c.digits ++ replicate (15 - length c.digits) 7))) in
+    let full : q + (15 - q) ≡ 15 = omega (arith, h.coarse, le) in
+    let total : 2 ^ 45 ≡ 8 ^ q * 8 ^ (15 - q) = rw full at (pow-add 8 q (15 - q)) in
+    let number : number_of c ≡ (head_of c * 8 ^ q + number_from_digits 8 (take q c.digits)) * 8 ^ (15 - q) + number_from_digits 8 (drop q c.digits ++ replicate (15 - length c.digits) 7) =
+    number_of_is c h ∙ ap (λ n. head_of c * 2 ^ 45 + n) digits ∙ shift_in (head_of c) (8 ^ q) (number_from_digits 8 (take q c.digits)) (8 ^ (15 - q)) (2 ^ 45) (number_from_digits 8 (drop q c.digits ++ replicate (15 - length c.digits) 7)) total in
+    let shifted : number_of c / 8 ^ (15 - q) ≡ head_of c * 8 ^ q + number_from_digits 8 (take q c.digits) =
+    ap (λ n. n / 8 ^ (15 - q)) number ∙ div-mul-add (head_of c * 8 ^ q + number_from_digits 8 (take q c.digits)) (8 ^ (15 - q)) (number_from_digits 8 (drop q c.digits ++ replicate (15 - length c.digits) 7)) low in
+    let len = length-cut c q le in
+    let there : number_of (cut c q) + 1 ≡ head_of (cut c q) * 2 ^ 45 + (number_from_digits 8 (take q c.digits) + 1) * 8 ^ (15 - q) =
+    next_number (cut c q) (cut_cell c q h le) ∙ ap (λ l. head_of (cut c q) * 2 ^ 45 + (number_from_digits 8 (take q c.digits) + 1) * 8 ^ (15 - l)) len in
+    rw shifted (omega (arith, next_spread (head_of c) (8 ^ q) (number_from_digits 8 (take q c.digits)) (8 ^ (15 - q)) (2 ^ 45) total, there, len))
+
+-- ---- a pentagon
+
+not_none : (d : ℕ) (n v : ℕ) → n ≡ suc d * v → 1 ≤ v → (n == 0) ≡ false
+not_none d n v e h =
+    let more : 1 ≤ suc d * v = grind (arith, mul-le 1 1 (suc d) v) in
+    let some : n ≢ 0 = omega arith in
+    grind (arith, nat_tests)
+
+not_none_sum : (a b : ℕ) → 1 ≤ a → (a + b == 0) ≡ false
+not_none_sum a b h =
+    let some : a + b ≢ 0 = omega arith in
+    grind (arith, nat_tests)
+
+pub value_zero : (ds : List ℕ) → (number_from_digits 8 ds == 0) ≡ (leading ds == 0)
+value_zero [] = refl
+value_zero (zero ∷ ds) = value_zero ds
+value_zero (suc d ∷ ds) =
+    let z = not_zero d in
+    let some : 1 ≤ suc d * 8 ^ length ds = (let p = one-le-pow (length ds) 8 (lit< tt) in mul-le 1 1 (suc d) (8 ^ length ds) (omega arith) p) in
+    rw (z, z, number_first (suc d) ds) (not_none_sum (suc d * 8 ^ length ds) (number_from_digits 8 ds) some)
+
+pub number_digits : (c : Address) → IsCell c → number_of c % 2 ^ 45 / 8 ^ (15 - length c.digits) ≡ number_from_digits 8 c.digits
+number_digits c h =
+    let low : number_of c % 2 ^ 45 ≡ number_from_digits 8 (padded c.digits) = ap (λ n. n % 2 ^ 45) (number_of_is c h) ∙ mod-mul-add (head_of c) (2 ^ 45) (number_from_digits 8 (padded c.digits)) (low_small c h) in
+    let p = one-le-pow (15 - length c.digits) 8 (lit< tt) in
+    let split : number_from_digits 8 (padded c.digits) ≡ number_from_digits 8 c.digits * 8 ^ (15 - length c.digits) + (8 ^ (15 - length c.digits) - 1) =
+    omega (arith, value_padded c.digits, spread_one (number_from_digits 8 c.digits) (8 ^ (15 - length c.digits)), p) in
+    let less : 8 ^ (15 - length c.digits) - 1 < 8 ^ (15 - length c.digits) = omega (arith, p) in
+    ap (λ n. n / 8 ^ (15 - length c.digits)) (low ∙ split) ∙ div-mul-add (number_from_digits 8 c.digits) (8 ^ (15 - length c.digits)) (8 ^ (15 - length c.digits) - 1) less
+
+-- ---- bounds and shifts
+
+pub number_small : (c : Address) → IsCell c → number_of c < 2 ^ 60
+number_small c h = omega (arith, number_of_is c h, low_small c h, h.coarse, h.base_small)
+
+pub power_small : (k : ℕ) → k ≤ 15 → 8 ^ k ≤ 2 ^ 45
+power_small k h = (let p : 8 ^ k ≤ 8 ^ 15 = pow-le-pow_right (omega arith) h in p)
+
+pub shifted : (x k : ℕ) → x < 2 ^ 15 → k ≤ 15 → x * 2 ^ (3 * k) % 2 ^ 64 ≡ x * 8 ^ k
+shifted x k small h =
+    let most : x * 8 ^ k ≤ 2 ^ 15 * 2 ^ 45 = mul-le x (8 ^ k) (2 ^ 15) (2 ^ 45) (omega arith) (power_small k h) in
+    rw (eights k) (omega (arith, most))
+
+-- ---- a cell from its number
+
+pub child_cell : (c : Address) (d : ℕ) → IsCell c → length c.digits < 15 → d < 7 → (is_pentagon c ≡ true → d ≢ 1) → IsCell (child c d)
+child_cell c d h coarse small ok =
+    let one : length c.digits + 1 - length c.digits ≡ 1 = omega arith in
+    let path : IsPath (is_pentagon c) (length c.digits + 1 - length c.digits) (d ∷ []) =
+    record { long = omega (arith, one); small = (small, tt); not_one = rule_up (is_pentagon c) d [] ok (λ _ e. omega (arith, e)) } in
+    (along_descendant c (length c.digits + 1) (d ∷ []) h (omega arith) (omega (arith, coarse)) path).valid
+
+pub made_valid : (m : ℕ) (n : Address) → IsCell n → m ≡ number_of n → IsCellNumber m
+made_valid m n h e = rw e (is_number_of n h)
+
+pub made_is : (m : ℕ) (n : Address) → IsCell n → m ≡ number_of n → address_in m ≡ n
+made_is m n h e = rw e (address_in-number_of n h)
+
+pub inside_is : (m : ℕ) (n : Address) → IsCellNumber m → address_in m ≡ n → m ≡ number_of n
+inside_is m n h e = sym h.is ∙ ap number_of e
+
+pub inside_cell : (m : ℕ) (n : Address) → IsCellNumber m → address_in m ≡ n → IsCell n
+inside_cell m n h e = subst IsCell e h.valid
+
+-- ---- the forms in the code
+
+abbrev pub shifted_back : ℕ → ℕ → ℕ
+shifted_back m q = (m / 2 ^ (3 * (15 - q)) + 1) * 2 ^ (3 * (15 - q)) % 2 ^ 64
+
+pub record IsCutForm (n : Address) (m q f : ℕ) : Type 0 where
+  pub fits : m / 2 ^ (3 * (15 - q)) + 1 < 2 ^ 64
+  pub some : 1 ≤ shifted_back m q
+  pub enough : f * 2 ^ 52 % 2 ^ 64 ≤ shifted_back m q - 1
+  pub is : shifted_back m q - 1 - f * 2 ^ 52 % 2 ^ 64 ≡ number_of (cut n q)
+  pub valid : IsCell (cut n q)
+
+div_le : (m d : ℕ) → m / d ≤ m
+div_le m zero = omega arith
+div_le m (suc d) = omega arith
+
+pub cut_form : (n : Address) (m q f r : ℕ) → IsCell n → m ≡ number_of n → r ≡ length n.digits → f ≡ r - q → q ≤ length n.digits → IsCutForm n m q f
+cut_form n m q f r h e er ef le =
+    let v = cut_cell n q h le in
+    let small = number_small n h in
+    let small-2 = number_small (cut n q) v in
+    let a = number_cut n q h le in
+    let less : number_of n / 8 ^ (15 - q) ≤ number_of n = div_le (number_of n) (8 ^ (15 - q)) in
+    let back : shifted_back m q ≡ number_of (cut n q) + 1 + (length n.digits - q) * 2 ^ 52 =
+    rw (eights (15 - q), e, a) (omega (arith, small-2, h.coarse)) in
+    let high : f * 2 ^ 52 % 2 ^ 64 ≡ (length n.digits - q) * 2 ^ 52 = rw (ef, er) (omega (arith, h.coarse)) in
+    record {
+      fits = rw (eights (15 - q), e) (omega (arith, less, small));
+      some = rw back (omega arith);
+      enough = rw (back, high) (omega arith);
+      is = rw (back, high) (omega arith);
+      valid = v;
+    }
+
+pub record IsChildForm (n : Address) (m d f r : ℕ) : Type 0 where
+  pub fits : m + 2 ^ 52 < 2 ^ 64
+  pub enough : f * 2 ^ (3 * (14 - r)) % 2 ^ 64 ≤ m + 2 ^ 52
+  pub is : m + 2 ^ 52 - f * 2 ^ (3 * (14 - r)) % 2 ^ 64 ≡ number_of (child n d)
+  pub valid : IsCell (child n d)
+
+pub child_form : (n : Address) (m d f r : ℕ) → IsCell n → m ≡ number_of n → r ≡ length n.digits → f ≡ 7 - d → length n.digits < 15 → d < 7 → (is_pentagon n ≡ true → d ≢ 1) → IsChildForm n m d f r
+child_form n m d f r h e er ef coarse small ok =
+    let v = child_cell n d h coarse small ok in
+    let low = number_small n h in
+    let a = number_child n d h v small in
+    let fall : f * 2 ^ (3 * (14 - r)) % 2 ^ 64 ≡ (7 - d) * 8 ^ (14 - length n.digits) = rw (ef, er) (shifted (7 - d) (14 - length n.digits) (omega arith) (omega arith)) in
+    record {
+      fits = rw e (omega (arith, low));
+      enough = rw (fall, e) (omega (arith, a));
+      is = rw (fall, e) (omega (arith, a));
+      valid = v;
+    }
+
+pub record IsCenterForm (n : Address) (m s f r : ℕ) : Type 0 where
+  pub fits : m + f * 2 ^ 52 % 2 ^ 64 < 2 ^ 64
+  pub fits-2 : m + f * 2 ^ 52 % 2 ^ 64 + 1 * 2 ^ (3 * (15 - s)) % 2 ^ 64 < 2 ^ 64
+  pub enough : 1 * 2 ^ (3 * (15 - r)) % 2 ^ 64 ≤ m + f * 2 ^ 52 % 2 ^ 64 + 1 * 2 ^ (3 * (15 - s)) % 2 ^ 64
+  pub is : m + f * 2 ^ 52 % 2 ^ 64 + 1 * 2 ^ (3 * (15 - s)) % 2 ^ 64 - 1 * 2 ^ (3 * (15 - r)) % 2 ^ 64 ≡ number_of (center_at n s)
+  pub valid : IsCell (center_at n s)
+
+pub center_form : (n : Address) (m s f r r' : ℕ) → IsCell n → m ≡ number_of n → r ≡ length n.digits → r' ≡ length n.digits → f ≡ s - r' → length n.digits ≤ s → s ≤ 15 → IsCenterForm n m s f r
+center_form n m s f r r' h e er er' ef low high =
+    let v = (center n s h low (omega (arith, high))).valid in
+    let small = number_small n h in
+    let power = power_small (15 - s) (omega arith) in
+    let left : 15 - length n.digits - (s - length n.digits) ≡ 15 - s = omega (arith, low) in
+    let a = rw left at (number_center n (s - length n.digits) h v) in
+    let risen : f * 2 ^ 52 % 2 ^ 64 ≡ (s - length n.digits) * 2 ^ 52 = rw (ef, er') (omega (arith, high)) in
+    let one : 1 * 2 ^ (3 * (15 - s)) % 2 ^ 64 ≡ 8 ^ (15 - s) = shifted 1 (15 - s) (lit< tt) (omega arith) ∙ one_times (8 ^ (15 - s)) in
+    let two : 1 * 2 ^ (3 * (15 - r)) % 2 ^ 64 ≡ 8 ^ (15 - length n.digits) = rw er (shifted 1 (15 - length n.digits) (lit< tt) (omega arith) ∙ one_times (8 ^ (15 - length n.digits))) in
+    record {
+      fits = rw (risen, e) (omega (arith, small, high));
+      fits-2 = rw (risen, one, e) (omega (arith, small, high, power));
+      enough = rw (risen, one, two, e) (omega (arith, a));
+      is = rw (risen, one, two, e) (omega (arith, a));
+      valid = v;
+    }
+  where
+    one_times : (x : ℕ) → 1 * x ≡ x
+    one_times x = omega arith
+
+pub pentagon_form : (n : Address) (m r : ℕ) → IsCell n → m ≡ number_of n → r ≡ length n.digits → (bit_and m 35184372088831 / 2 ^ (3 * (15 - r)) == 0) ≡ (leading n.digits == 0)
+pentagon_form n m r h e er =
+    let mask : bit_and m 35184372088831 ≡ m % 2 ^ 45 = and_mask m 45 in
+    rw (mask, e, er, eights (15 - length n.digits), number_digits n h) (value_zero n.digits)

@@ -1,0 +1,24 @@
+use Rattle.h3_index.proofs.MoveLaws.{IsCutForm, cut_form, inside_is, made_valid, made_is}
+use Rattle.h3_index.proofs.cell.Cell.cut.Goals as goal
+
+shown : (c : goal.After-struct_known-1) → IsCutForm c.args.self c.self.inside.raw c.args.r c.from-fewer.result
+shown c =
+    cut_form c.args.self c.self.inside.raw c.args.r _ _ c.resolution.ensures.valid (inside_is _ _ c.self.invariant c.self.view_is) c.resolution.ensures.number c.from-fewer.ensures c.requires
+
+pub overflow_add-result : goal.overflow_add-result
+overflow_add-result c = record { fits = (shown c).fits }
+
+pub overflow_sub-result : goal.overflow_sub-result
+overflow_sub-result c = (shown c).some
+
+pub overflow_sub-result-2 : goal.overflow_sub-result-2
+overflow_sub-result-2 c = (shown c).enough
+
+pub invariant_of-result : goal.invariant_of-result
+invariant_of-result c = made_valid _ _ (shown c).valid (shown c).is
+
+pub returns-clause-is : goal.returns-clause-is
+returns-clause-is c = made_is _ _ (shown c).valid (shown c).is
+
+pub returns-clause-valid : goal.returns-clause-valid
+returns-clause-valid c = rw (made_is _ _ (shown c).valid (shown c).is) (shown c).valid

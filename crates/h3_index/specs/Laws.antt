@@ -1,0 +1,38 @@
+-- Laws of cells, of their numbers and of their descendants.
+use Rattle.std.specs.Prelude.{ℕ, ◌≡◌, ◌+◌, ◌-◌, ◌*◌, ◌/◌, ◌^◌, ◌<◌, ◌≤◌, ◌↔◌, List, ◌∷◌, length, replicate, Bool, true, false, None, Contains, AllPairs}
+use Rattle.h3_index.specs.Cell.{Address, IsCell, is_pentagon, number_of}
+use Rattle.h3_index.specs.Descendants.{IsDescendant, descendants}
+use Rattle.h3_index.specs.Paths.{paths, next_path, Links}
+
+-- cells of one number are one
+abbrev pub NumbersTellCells : Type 0
+NumbersTellCells = (a b : Address) → IsCell a → IsCell b → number_of a ≡ number_of b → a ≡ b
+
+-- the list of the descendants holds them and nothing else
+abbrev pub DescendantsAreListed : Type 0
+DescendantsAreListed =
+    (c : Address) (s : ℕ) → IsCell c → length c.digits ≤ s → s ≤ 15 → (x : Address) → Contains (descendants c s) x ↔ IsDescendant c s x
+
+-- it ascends
+abbrev pub DescendantsAscend : Type 0
+DescendantsAscend =
+    (c : Address) (s : ℕ) → AllPairs (λ a b. number_of a < number_of b) (descendants c s)
+
+-- how many descendants a hexagon has
+abbrev pub HexagonsHaveSevens : Type 0
+HexagonsHaveSevens =
+    (c : Address) (s : ℕ) → is_pentagon c ≡ false → length (descendants c s) ≡ 7 ^ (s - length c.digits)
+
+-- how many descendants a pentagon has
+abbrev pub PentagonsHaveFewer : Type 0
+PentagonsHaveFewer =
+    (c : Address) (s : ℕ) → is_pentagon c ≡ true → length (descendants c s) ≡ 1 + 5 * ((7 ^ (s - length c.digits) - 1) / 6)
+
+-- the paths begin with zeros, each but the first is the next of the one before, and the last has none
+pub record IsChain (pentagon : Bool) (n : ℕ) : Type 0 where
+  pub others : List (List ℕ)
+  pub is : paths pentagon n ≡ replicate n 0 ∷ others
+  pub links : Links (next_path pentagon) (replicate n 0) others None
+
+abbrev pub PathsAreChains : Type 0
+PathsAreChains = (pentagon : Bool) (n : ℕ) → IsChain pentagon n

@@ -1,0 +1,51 @@
+//! Moves up and down the hierarchy of cells.
+
+ghost use Rattle.std.specs.Prelude.{◌≡◌, ◌≢◌, ◌<◌, ◌≤◌, length, true};
+ghost use Rattle.h3_index.specs.Cell.{IsCell, is_pentagon};
+ghost use Rattle.h3_index.specs.Descendants.{center_at, child, cut};
+
+use super::Cell;
+
+impl Cell {
+    /// The ancestor at a resolution that is not finer than the cell's: the digits above it are dropped.
+    pub fn cut(self, r: u8) -> Cell
+        requires { r ≤ length self.digits }
+        ensures is { result ≡ cut self r }
+        ensures valid { IsCell result }
+    {
+        let places = 3 * (15 - r);
+        let fewer = u64::from(self.resolution() - r) << 52;
+        Cell {
+            raw: ((self.raw >> places) + 1 << places) - 1 - fewer,
+        }
+    }
+
+    /// The cell of a digit one level below. A pentagon has none of digit 1.
+    pub fn child(self, digit: u8) -> Cell
+        requires coarse { length self.digits < 15 }
+        requires at_most_six { digit < 7 }
+        requires not_deleted { is_pentagon self ≡ true → digit ≢ 1 }
+        ensures is { result ≡ child self digit }
+        ensures valid { IsCell result }
+    {
+        let places = 3 * (14 - self.resolution());
+        Cell {
+            raw: self.raw + (1 << 52) - (u64::from(7 - digit) << places),
+        }
+    }
+
+    /// The descendant at a resolution that is not coarser than the cell's whose further digits are 0.
+    pub fn center_at(self, r: u8) -> Cell
+        requires not_coarser { length self.digits ≤ r }
+        requires at_most_fifteen { r ≤ 15 }
+        ensures is { result ≡ center_at self r }
+        ensures valid { IsCell result }
+    {
+        let places = 3 * (15 - self.resolution());
+        let finer = u64::from(r - self.resolution()) << 52;
+        let ones: u64 = 1 << (3 * (15 - r));
+        Cell {
+            raw: self.raw + finer + ones - (1 << places),
+        }
+    }
+}
