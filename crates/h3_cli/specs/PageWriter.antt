@@ -1,7 +1,11 @@
 -- The bytes of a page writer.
-use Rattle.std.specs.Prelude.{ℕ, List, drop, Option}
+use Rattle.std.specs.Prelude.{ℕ, List, length, drop, Option}
 use Rattle.std.specs.Io.KnownBytes.{append_known}
 use Rattle.h3_cli.specs.declared.page.PageWriter.{PageWriter}
+
+-- how much of the page is taken
+abbrev pub page_len : {W : Type 0} → PageWriter W → ℕ
+page_len w = length w.page.items
 
 -- those of the page that are not handed on yet
 abbrev pub page_rest : {W : Type 0} → PageWriter W → List ℕ

@@ -1,7 +1,8 @@
 //! A writer that hands its bytes on by the page.
 
-ghost use Rattle.std.specs.Prelude.{◌≡◌, ◌≤◌, [], OnOk};
-ghost use Rattle.std.specs.Io.KnownBytes.{Keeps};
+ghost use Rattle.std.specs.Prelude.{◌≡◌, ◌<◌, ◌≤◌, [], length, IfOk, IsOk, OnOk};
+ghost use Rattle.std.specs.Io.{WritesAtMost};
+ghost use Rattle.std.specs.Io.KnownBytes.{Keeps, WriteAppends};
 ghost use Rattle.arrayvec.specs.ArrayVec.{array_vec_len};
 
 use arrayvec::ArrayVec;
@@ -23,7 +24,7 @@ pub struct PageWriter<W> {
 }
 
 impl<W: Write> PageWriter<W> {
-    ghost use Rattle.h3_cli.specs.PageWriter.{page_contents, page_rest};
+    ghost use Rattle.h3_cli.specs.PageWriter.{page_contents, page_len, page_rest};
 
     pub fn new(inner: W) -> Self
         ensures { page_contents W.contents result ≡ W.contents inner }
@@ -39,7 +40,7 @@ impl<W: Write> PageWriter<W> {
     fn send(&mut self) -> io::Result<()>
         ensures kept { Keeps (page_contents W.contents self.old) (page_contents W.contents self.new) }
         ensures all { OnOk result (page_rest self.new ≡ []) }
-        ensures room { OnOk result (array_vec_len self.new.page ≡ 0) }
+        ensures room { OnOk result (page_len self.new ≡ 0) }
     {
         while self.sent < self.page.len() {
             let count = self.inner.write(&self.page.as_slice()[self.sent..])?;
@@ -55,11 +56,17 @@ impl<W: Write> PageWriter<W> {
 }
 
 impl<W: Write> Write for PageWriter<W> {
-    ghost use Rattle.h3_cli.specs.PageWriter.{page_contents, page_rest};
+    ghost use Rattle.h3_cli.specs.PageWriter.{page_contents, page_len, page_rest};
 
     ghost contents = { page_contents W.contents };
 
-    fn write(&mut self, bytes: &[u8]) -> io::Result<usize> {
+    fn write(&mut self, bytes: &[u8]) -> io::Result<usize>
+        ensures bound { WritesAtMost result bytes.now }
+        ensures bytes { WriteAppends (page_contents W.contents self.old)
+            (page_contents W.contents self.new) result bytes.now }
+        ensures some { IfOk result (λ n. 0 < length bytes.now → 0 < n) }
+        ensures room { page_len self.old < 65536 → IsOk result }
+    {
         if self.page.is_full() {
             self.send()?;
         }
