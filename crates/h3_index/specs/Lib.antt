@@ -6,6 +6,7 @@ pub mod DigitTest
 pub mod Digits
 pub mod Edge
 pub mod Error
+pub mod Examples
 pub mod Laws
 pub mod Paths
 pub mod Stream

@@ -12,3 +12,6 @@ pub use cell::{Cell, is_pentagon_base};
 pub use error::H3Error;
 pub use stream::{Sink, Source, StreamFault, Streamed};
 pub use text::read_index;
+
+#[cfg(test)]
+mod tests;

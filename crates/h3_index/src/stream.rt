@@ -13,7 +13,7 @@ use thiserror::Error;
 #[error("the stream failed")]
 pub struct StreamFault;
 
-/// What bytes are taken from.
+/// What bytes are taken from: a file, standard input, or bytes in memory.
 pub trait Source {
     /// The bytes left, where they are told.
     ghost left: { Self → Option (List ℕ) };
@@ -21,6 +21,8 @@ pub trait Source {
     /// It has failed.
     ghost has_failed: { Self → Bool };
 
+    /// Takes bytes to the front of a buffer, and answers how many: none only at the end of the bytes, or where the
+    /// buffer is empty. After a fault nothing is said of the bytes that are left.
     fn pull(&mut self, buf: &mut [u8]) -> Result<usize, StreamFault>
         ensures bound { IfOk result (λ n. n ≤ length buf.new) }
         ensures bytes { IfOk result (λ n. Pulls (left self.old) (left self.new) buf.new n) }
@@ -28,7 +30,7 @@ pub trait Source {
         ensures err { OnErr result (has_failed self.new ≡ true) };
 }
 
-/// What bytes are given to.
+/// What bytes are given to: a file, standard output, or a buffer in memory.
 pub trait Sink {
     /// The bytes taken, where they are told.
     ghost taken: { Self → Option (List ℕ) };
@@ -36,6 +38,7 @@ pub trait Sink {
     /// It has failed.
     ghost has_failed: { Self → Bool };
 
+    /// Gives bytes, and answers how many were taken from their front: some, unless there are none. A fault takes none.
     fn push(&mut self, bytes: &[u8]) -> Result<usize, StreamFault>
         ensures bound { IfOk result (λ n. n ≤ length bytes.now) }
         ensures some { IfOk result (λ n. 0 < length bytes.now → 0 < n) }
@@ -44,6 +47,7 @@ pub trait Sink {
         ensures refused { OnErr result (Keeps (taken self.old) (taken self.new)) }
         ensures err { OnErr result (has_failed self.new ≡ true) };
 
+    /// Hands on what was taken and held back. After a fault it may be lost: then the bytes are told no more.
     fn flush(&mut self) -> Result<(), StreamFault>
         ensures bytes { OnOk result (Keeps (taken self.old) (taken self.new)) }
         ensures ok { OnOk result (has_failed self.new ≡ has_failed self.old) }
@@ -51,7 +55,10 @@ pub trait Sink {
         ensures err { OnErr result (has_failed self.new ≡ true) };
 }
 
-/// A reader or a writer as a stream. It hands each call on once, and keeps whether a call failed.
+/// A reader as a [`Source`], or a writer as a [`Sink`].
+///
+/// It hands each call on once, takes a write of no byte for a failure, and keeps whether a call failed. It takes no
+/// memory of its own.
 #[derive(Drop)]
 pub struct Streamed<T> {
     inner: T,
@@ -59,6 +66,7 @@ pub struct Streamed<T> {
 }
 
 impl<T> Streamed<T> {
+    /// The stream over a reader or a writer. It has not failed.
     pub fn new(inner: T) -> Self
         ensures inner { streamed_inner result ≡ inner }
         ensures failed { streamed_failed result ≡ false }
@@ -69,12 +77,14 @@ impl<T> Streamed<T> {
         }
     }
 
+    /// Whether a call failed.
     pub fn failed(&self) -> bool
         ensures { result ≡ streamed_failed self.now }
     {
         self.failed
     }
 
+    /// The reader or the writer.
     pub fn into_inner(self) -> T
         ensures { result ≡ streamed_inner self }
     {
@@ -82,18 +92,25 @@ impl<T> Streamed<T> {
     }
 }
 
+/// Keeps that a call failed.
+fn fault(failed: &mut bool) -> StreamFault
+    ensures { failed.new ≡ true }
+{
+    *failed = true;
+    StreamFault
+}
+
 impl<T: Read> Source for Streamed<T> {
     ghost left = { λ s. T.remaining (streamed_inner s) };
 
     ghost has_failed = { streamed_failed };
 
+    /// Takes bytes to the front of a buffer, and answers how many: none only at the end of the bytes, or where the
+    /// buffer is empty. After a fault nothing is said of the bytes that are left.
     fn pull(&mut self, buf: &mut [u8]) -> Result<usize, StreamFault> {
         match self.inner.read(buf) {
             Ok(n) => Ok(n),
-            Err(_) => {
-                self.failed = true;
-                Err(StreamFault)
-            }
+            Err(_) => Err(fault(&mut self.failed)),
         }
     }
 }
@@ -106,20 +123,14 @@ impl<T: Write> Sink for Streamed<T> {
     fn push(&mut self, bytes: &[u8]) -> Result<usize, StreamFault> {
         match self.inner.write(bytes) {
             Ok(n) if n > 0 || bytes.is_empty() => Ok(n),
-            _ => {
-                self.failed = true;
-                Err(StreamFault)
-            }
+            _ => Err(fault(&mut self.failed)),
         }
     }
 
     fn flush(&mut self) -> Result<(), StreamFault> {
         match self.inner.flush() {
             Ok(()) => Ok(()),
-            Err(_) => {
-                self.failed = true;
-                Err(StreamFault)
-            }
+            Err(_) => Err(fault(&mut self.failed)),
         }
     }
 }

@@ -1,0 +1,67 @@
+-- The definitions at worked values, by computation.
+use Rattle.std.specs.Prelude.{ℕ, ◌≡◌, List, [], ◌∷◌, map, true, false, Some, None, codes, refl, cond}
+use Rattle.h3_index.specs.Cell.{Address, is_pentagon, is_pentagon_base, leading, number_of}
+use Rattle.h3_index.specs.CellNumber.{address_in, cell_in, is_cell}
+use Rattle.h3_index.specs.Descendants.{cut}
+use Rattle.h3_index.specs.Digits.{last_digits}
+use Rattle.h3_index.specs.Edge.{edge_number}
+use Rattle.h3_index.specs.Text.{spelled_index, text_of}
+
+-- ---- cells
+
+abbrev base_cell : ℕ → Address
+base_cell b = record { base = b; digits = [] }
+
+-- resolution 5, base cell 20, digits 0 6 4 3 4
+abbrev hexagon : Address
+hexagon = record { base = 20; digits = 0 ∷ 6 ∷ 4 ∷ 3 ∷ 4 ∷ [] }
+
+hexagon_number : number_of hexagon ≡ 0x85283473fffffff
+unfolding number_of
+hexagon_number = refl
+
+hexagon_read : cell_in 0x85283473fffffff ≡ Some hexagon
+unfolding cell_in address_in number_of
+hexagon_read = refl
+
+hexagon_cut : number_of (cut hexagon 4) ≡ 0x8428347ffffffff
+unfolding number_of
+hexagon_cut = refl
+
+first_and_last_base_cells : map (λ b. number_of (base_cell b)) (0 ∷ 121 ∷ []) ≡ 0x8001fffffffffff ∷ 0x80f3fffffffffff ∷ []
+unfolding number_of
+first_and_last_base_cells = refl
+
+pentagons : map (λ b. number_of (base_cell b)) (4 ∷ 14 ∷ 24 ∷ 38 ∷ 49 ∷ 58 ∷ 63 ∷ 72 ∷ 83 ∷ 97 ∷ 107 ∷ 117 ∷ [])
+    ≡ 0x8009fffffffffff ∷ 0x801dfffffffffff ∷ 0x8031fffffffffff ∷ 0x804dfffffffffff ∷ 0x8063fffffffffff ∷ 0x8075fffffffffff ∷ 0x807ffffffffffff ∷ 0x8091fffffffffff ∷ 0x80a7fffffffffff ∷ 0x80c3fffffffffff ∷ 0x80d7fffffffffff ∷ 0x80ebfffffffffff ∷ []
+unfolding number_of
+pentagons = refl
+
+pentagon_tests : map (λ c. is_pentagon c) (base_cell 4 ∷ record { base = 4; digits = 0 ∷ 0 ∷ [] } ∷ record { base = 4; digits = 0 ∷ 2 ∷ [] } ∷ base_cell 5 ∷ []) ≡ true ∷ true ∷ false ∷ false ∷ []
+pentagon_tests = refl
+
+-- a deleted subsequence, base cell 122, a 7 within the resolution, the reserved bit, an edge, and 0
+no_cells : map (λ m. cell_in m) (0x81087ffffffffff ∷ 0x80f5fffffffffff ∷ 0x8109fffffffffff ∷ 0x885283473fffffff ∷ 0x115283473fffffff ∷ 0 ∷ []) ≡ None ∷ None ∷ None ∷ None ∷ None ∷ None ∷ []
+unfolding cell_in address_in number_of
+no_cells = refl
+
+-- ---- edges
+
+edge : edge_number (record { origin = hexagon; direction = 1 }) ≡ 0x115283473fffffff
+unfolding edge_number number_of
+edge = refl
+
+-- ---- texts
+
+texts : map text_of (0 ∷ 0x85283473fffffff ∷ 0xffff_ffff_ffff_ffff ∷ []) ≡ codes "0" ∷ codes "85283473fffffff" ∷ codes "ffffffffffffffff" ∷ []
+unfolding text_of
+texts = refl
+
+spelled : map spelled_index (codes "85283473fffffff" ∷ codes "0X85283473FFFFFFF" ∷ codes " 0x0 " ∷ codes "ffffffffffffffff" ∷ []) ≡ Some 0x85283473fffffff ∷ Some 0x85283473fffffff ∷ Some 0 ∷ Some 0xffff_ffff_ffff_ffff ∷ []
+unfolding spelled_index
+spelled = refl
+
+-- no digits, a letter that is no digit, a second prefix, a blank within, 17 and 18 digits
+not_spelled : map spelled_index (codes "" ∷ codes "0x" ∷ codes "xyz" ∷ codes "0x0x1" ∷ codes "1 2" ∷ codes "00000000000000000" ∷ codes "00085283473fffffff" ∷ []) ≡ None ∷ None ∷ None ∷ None ∷ None ∷ None ∷ None ∷ []
+unfolding spelled_index
+not_spelled = refl
