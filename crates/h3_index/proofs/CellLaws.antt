@@ -86,11 +86,11 @@ pub length-address_in : (m : ℕ) → length (address_in m).digits ≡ resolutio
 unfolding address_in
 length-address_in m =
     let small : resolution_in m < 16 = mod_below (m / 2 ^ 52) 16 (omega arith) in
-    length-take-le (resolution_in m) (last_digits 8 15 m) (omega (arith, length-last_digits 15 m))
+    length-take-le (resolution_in m) (last_digits 8 15 m) (omega (arith, length-last_digits 8 15 m))
 
 pub digit-address_in : (m r : ℕ) → IsCellNumber m → 1 ≤ r → r ≤ 15 → m / 2 ^ (45 - 3 * r) % 8 ≡ get_or (address_in m).digits (r - 1) 7
 digit-address_in m r h low high =
     let code : last_digits 8 15 m ≡ padded (address_in m).digits = rw h.is at (digits-number_of (address_in m) h.valid) in
     let shift : 45 - 3 * r ≡ 3 * (15 - r) = omega arith in
-    let read = get_or-last_digits 15 m (r - 1) (15 - r) 7 (omega arith) in
+    let read = get_or-last_digits 8 15 m (r - 1) (15 - r) 7 (omega arith) in
     rw (shift, eights (15 - r), ← read, code) (get_or-padded (address_in m).digits (15 - length (address_in m).digits) (r - 1))

@@ -1,6 +1,6 @@
 -- The test of a number's digits decides whether the number is a cell's.
 use Rattle.std.specs.Int.Digits.{number_from_digits, AllBelowBase}
-use Rattle.std.proofs.Common.{ℕ, zero, suc, ◌≡◌, ◌≢◌, ◌+◌, ◌-◌, ◌*◌, ◌/◌, ◌%◌, ◌^◌, ◌<◌, ◌≤◌, ◌==◌, List, [], ◌∷◌, ◌++◌, length, take, drop, replicate, Bool, true, false, cond, refl, arith, ◌∙◌, sym, ap, get_or}
+use Rattle.std.proofs.Common.{ℕ, zero, suc, ◌≡◌, ◌≢◌, ◌+◌, ◌-◌, ◌*◌, ◌/◌, ◌%◌, ◌^◌, ◌<◌, ◌≤◌, ◌==◌, List, [], ◌∷◌, ◌++◌, length, take, drop, replicate, Bool, true, false, cond, refl, arith, ◌∙◌, sym, ap, lit<, get_or}
 use Rattle.std.proofs.Math.Seq.{drop-cons}
 use Rattle.std.proofs.lemmas.Bool.Decides.{nat_tests}
 use Rattle.std.proofs.lemmas.Nat.{mod_below}
@@ -20,11 +20,11 @@ pub digit_at : (m r : ℕ) → 1 ≤ r → r < 16 → digit_read m r ≡ get_or 
 unfolding digits_in
 digit_at m r low high =
     let shift : 45 - 3 * r ≡ 3 * (15 - r) = omega arith in
-    rw (shift, eights (15 - r)) (sym (get_or-last_digits 15 m (r - 1) (15 - r) 0 (omega arith)))
+    rw (shift, eights (15 - r)) (sym (get_or-last_digits 8 15 m (r - 1) (15 - r) 0 (omega arith)))
 
 length-digits_in : (m : ℕ) → length (digits_in m) ≡ 15
 unfolding digits_in
-length-digits_in m = length-last_digits 15 m
+length-digits_in m = length-last_digits 8 15 m
 
 cons : (m r : ℕ) → 1 ≤ r → r < 16 → drop (r - 1) (digits_in m) ≡ digit_read m r ∷ drop (r + 1 - 1) (digits_in m)
 cons m r low high =
@@ -162,13 +162,13 @@ passes true (d ∷ ds) k all h =
 pub code_valid : (m : ℕ) → m / 2 ^ 56 ≡ 8 → base_in m < 122 → are_digits (is_pentagon_base (base_in m)) (resolution_in m) (digits_in m) ≡ true → IsCellNumber m
 unfolding digits_in address_in number_of
 code_valid m mode base code =
-    let len = length-last_digits 15 m in
+    let len = length-last_digits 8 15 m in
     let small : resolution_in m < 16 = mod_below (m / 2 ^ 52) 16 (omega arith) in
-    let s = shown (is_pentagon_base (base_in m)) (resolution_in m) (last_digits 8 15 m) (omega arith) (below-last_digits 15 m) code in
+    let s = shown (is_pentagon_base (base_in m)) (resolution_in m) (last_digits 8 15 m) (omega arith) (below-last_digits 8 15 m (lit< tt)) code in
     let size : length (take (resolution_in m) (last_digits 8 15 m)) ≡ resolution_in m = length-take-le (resolution_in m) (last_digits 8 15 m) (omega arith) in
     let digits : padded (take (resolution_in m) (last_digits 8 15 m)) ≡ last_digits 8 15 m = rw size (sym (rw len at s.rest)) in
     record {
-      is = rw (digits, size, number-last_digits 15 m) (omega arith);
+      is = rw (digits, size, number-last_digits 8 15 m (lit< tt)) (omega arith);
       valid = record { base_small = base; coarse = rw size small; digits_small = s.small; not_deleted = λ t. s.not_one t };
     }
 

@@ -1,12 +1,12 @@
 -- The last digits of numbers, octal ones above all.
 use Rattle.std.specs.Int.Digits.{number_from_digits, AllBelowBase, number_from_digits_after}
-use Rattle.std.proofs.Common.{ℕ, zero, suc, ◌≡◌, ◌+◌, ◌*◌, ◌/◌, ◌%◌, ◌^◌, ◌<◌, List, [], ◌∷◌, ◌++◌, length, replicate, refl, arith, length-append, ◌∙◌, get_or}
+use Rattle.std.proofs.Common.{ℕ, zero, suc, ◌≡◌, ◌+◌, ◌*◌, ◌/◌, ◌%◌, ◌^◌, ◌<◌, ◌≤◌, sym, ap, List, [], ◌∷◌, ◌++◌, length, replicate, refl, arith, length-append, ◌∙◌, get_or}
 use Rattle.std.proofs.Math.ListN.{get_or-append, length-replicate}
 use Rattle.std.proofs.Math.Seq.{get_or-append_seam}
-use Rattle.std.proofs.Math.Nat.{pow-suc, pow-zero, div-div-eq-div-mul}
+use Rattle.std.proofs.Math.Nat.{pow-suc, pow-zero, one-le-pow, div-add-mod, div-div-eq-div-mul, mul-le-mul_right}
 use Rattle.std.proofs.lemmas.List.{append-nil, append_assoc}
 use Rattle.std.proofs.lemmas.Int.Digits.{number_push, number_after_append}
-use Rattle.std.proofs.lemmas.Nat.{pow-add, mod_below, mod-pow-add, div-mul-add, mod-mul-add}
+use Rattle.std.proofs.lemmas.Nat.{pow-add, mod_below, div-mul-add, mod-mul-add}
 use Rattle.h3_index.specs.Digits.{last_digits}
 
 alone : (n e : ℕ) → e ≡ 1 → n ≡ n * e + 0
@@ -33,23 +33,23 @@ last_digits-more count n (d ∷ ds) small =
     let low : (n * 8 + d) % 8 ≡ d = mod-mul-add n 8 d small.0 in
     rw (same, more, high, low, append_assoc) refl
 
-pub length-last_digits : (count m : ℕ) → length (last_digits 8 count m) ≡ count
-length-last_digits zero m = refl
-length-last_digits (suc count) m =
-    omega (arith, length-append (last_digits 8 count (m / 8)) (m % 8 ∷ []), length-last_digits count (m / 8))
+pub length-last_digits : (b count m : ℕ) → length (last_digits b count m) ≡ count
+length-last_digits b zero m = refl
+length-last_digits b (suc count) m =
+    omega (arith, length-append (last_digits b count (m / b)) (m % b ∷ []), length-last_digits b count (m / b))
 
-shifted : (m j : ℕ) → m / 8 / 8 ^ j ≡ m / 8 ^ suc j
-shifted m j = div-div-eq-div-mul m 8 (8 ^ j) ∙ (let turn : 8 * 8 ^ j ≡ 8 ^ j * 8 = omega arith in rw (turn, pow-suc 8 j) refl)
+shifted : (b m j : ℕ) → m / b / b ^ j ≡ m / b ^ suc j
+shifted b m j = div-div-eq-div-mul m b (b ^ j) ∙ (let turn : b * b ^ j ≡ b ^ j * b = grind arith in rw (turn, pow-suc b j) refl)
 
-pub get_or-last_digits : (count m k j d : ℕ) → k + suc j ≡ count → get_or (last_digits 8 count m) k d ≡ m / 8 ^ j % 8
-get_or-last_digits zero m k j d h = absurd (omega (arith, h))
-get_or-last_digits (suc count) m k zero d h =
-    let at : k ≡ length (last_digits 8 count (m / 8)) = omega (arith, h, length-last_digits count (m / 8)) in
+pub get_or-last_digits : (b count m k j d : ℕ) → k + suc j ≡ count → get_or (last_digits b count m) k d ≡ m / b ^ j % b
+get_or-last_digits b zero m k j d h = absurd (omega (arith, h))
+get_or-last_digits b (suc count) m k zero d h =
+    let at : k ≡ length (last_digits b count (m / b)) = omega (arith, h, length-last_digits b count (m / b)) in
     let one : m / 1 ≡ m = omega arith in
-    rw (at, get_or-append_seam (last_digits 8 count (m / 8)) (m % 8) [] d, one) refl
-get_or-last_digits (suc count) m k (suc j) d h =
-    let within : k < length (last_digits 8 count (m / 8)) = omega (arith, h, length-last_digits count (m / 8)) in
-    rw (get_or-append (last_digits 8 count (m / 8)) (m % 8 ∷ []) d k within, get_or-last_digits count (m / 8) k j d (omega (arith, h)), shifted m j) refl
+    rw (at, get_or-append_seam (last_digits b count (m / b)) (m % b) [] d, pow-zero b, one) refl
+get_or-last_digits b (suc count) m k (suc j) d h =
+    let within : k < length (last_digits b count (m / b)) = omega (arith, h, length-last_digits b count (m / b)) in
+    rw (get_or-append (last_digits b count (m / b)) (m % b ∷ []) d k within, get_or-last_digits b count (m / b) k j d (omega (arith, h)), shifted b m j) refl
 
 pub eights : (k : ℕ) → 2 ^ (3 * k) ≡ 8 ^ k
 eights zero = refl
@@ -57,20 +57,40 @@ eights (suc k) =
     let next : 3 * suc k ≡ 3 * k + 3 = omega arith in
     rw (next, pow-add 2 (3 * k) 3, eights k, pow-suc 8 k) refl
 
-pub number-last_digits : (count m : ℕ) → number_from_digits 8 (last_digits 8 count m) ≡ m % 8 ^ count
-number-last_digits zero m = let one : m % 1 ≡ 0 = omega arith in rw (pow-zero 8, one) refl
-number-last_digits (suc count) m =
-    let split : m % (8 ^ count * 8) ≡ m / 8 % 8 ^ count * 8 + m % 8 =
-    rw (pow-add 2 (3 * count) 3, eights count) at (mod-pow-add m (3 * count) 3) in
-    rw (number_push 8 (last_digits 8 count (m / 8)) (m % 8), number-last_digits count (m / 8), pow-suc 8 count, split) refl
+pub sixteens : (k : ℕ) → 2 ^ (4 * k) ≡ 16 ^ k
+sixteens zero = refl
+sixteens (suc k) =
+    let next : 4 * suc k ≡ 4 * k + 4 = omega arith in
+    rw (next, pow-add 2 (4 * k) 4, sixteens k, pow-suc 16 k) refl
+
+-- the remainder of m by p * b, from the last digit and the digits before it
+mod-split : (m p b : ℕ) → 0 < b → 0 < p → m % (p * b) ≡ m / b % p * b + m % b
+mod-split m p b some some_p =
+    let low = mod_below m b some in
+    let below = mod_below (m / b) p some_p in
+    let whole : m ≡ m / b / p * (p * b) + (m / b % p * b + m % b) = (let spread : (p * (m / b / p) + m / b % p) * b ≡ m / b / p * (p * b) + m / b % p * b = grind arith in
+    let high : p * (m / b / p) + m / b % p ≡ m / b = div-add-mod (m / b) p in
+    let high_times : (p * (m / b / p) + m / b % p) * b ≡ m / b * b = ap (λ n. n * b) high in
+    let all : b * (m / b) + m % b ≡ m = div-add-mod m b in
+    let turn : b * (m / b) ≡ m / b * b = grind arith in
+    omega (arith, spread, high_times, all, turn)) in
+    let room : (m / b % p + 1) * b ≤ p * b = mul-le-mul_right b (omega arith) in
+    let room_spread : (m / b % p + 1) * b ≡ m / b % p * b + b = grind arith in
+    ap (λ n. n % (p * b)) whole ∙ mod-mul-add (m / b / p) (p * b) (m / b % p * b + m % b) (omega (arith, room, room_spread, low))
+
+pub number-last_digits : (b count m : ℕ) → 0 < b → number_from_digits b (last_digits b count m) ≡ m % b ^ count
+number-last_digits b zero m some = let one : m % 1 ≡ 0 = omega arith in rw (pow-zero b, one) refl
+number-last_digits b (suc count) m some =
+    rw (number_push b (last_digits b count (m / b)) (m % b), number-last_digits b count (m / b) some, pow-suc b count) (sym (mod-split m (b ^ count) b some (one-le-pow count b some)))
 
 pub below_push : (b : ℕ) (ds : List ℕ) (d : ℕ) → AllBelowBase b ds → d < b → AllBelowBase b (ds ++ d ∷ [])
 below_push b [] d all small = (small, tt)
 below_push b (x ∷ ds) d all small = (all.0, below_push b ds d all.1 small)
 
-pub below-last_digits : (count m : ℕ) → AllBelowBase 8 (last_digits 8 count m)
-below-last_digits zero m = tt
-below-last_digits (suc count) m = below_push 8 (last_digits 8 count (m / 8)) (m % 8) (below-last_digits count (m / 8)) (mod_below m 8 (omega arith))
+pub below-last_digits : (b count m : ℕ) → 0 < b → AllBelowBase b (last_digits b count m)
+below-last_digits b zero m some = tt
+below-last_digits b (suc count) m some =
+    below_push b (last_digits b count (m / b)) (m % b) (below-last_digits b count (m / b) some) (mod_below m b some)
 
 pub number_append : (xs ys : List ℕ) → number_from_digits 8 (xs ++ ys) ≡ number_from_digits 8 xs * 8 ^ length ys + number_from_digits 8 ys
 number_append xs ys = number_after_append 8 0 xs ys ∙ number_after_is 8 (number_from_digits 8 xs) ys

@@ -8,3 +8,4 @@ pub mod DigitTestLaws
 pub mod MoveLaws
 pub mod PathLaws
 pub mod TextLaws
+pub mod WriteLaws

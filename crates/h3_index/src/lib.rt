@@ -11,7 +11,7 @@ mod text;
 pub use cell::{Cell, is_pentagon_base};
 pub use error::H3Error;
 pub use stream::{Sink, Source, StreamFault, Streamed};
-pub use text::read_index;
+pub use text::{read_index, write_index};
 
 #[cfg(test)]
 mod tests;

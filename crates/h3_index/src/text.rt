@@ -1,10 +1,12 @@
 //! The texts of indexes.
 
-ghost use Rattle.std.specs.Prelude.{◌≡◌, IfErr};
+ghost use Rattle.std.specs.Prelude.{◌≡◌, ◌<◌, ◌++◌, ◌∷◌, [], length, IfErr};
+ghost use Rattle.std.specs.Char.{digit_char};
 ghost use Rattle.std.specs.Result.{result_ok};
-ghost use Rattle.h3_index.specs.Text.{is_blank, without_leading_blanks, without_trailing_blanks, without_prefix, number_spelled, spelled_index};
+ghost use Rattle.h3_index.specs.Text.{is_blank, without_leading_blanks, without_trailing_blanks, without_prefix, number_spelled, spelled_index, text_of};
 
 use crate::error::H3Error;
+use arrayvec::ArrayString;
 
 /// Whether a byte is a space, a tab or a carriage return.
 fn is_blank(byte: u8) -> bool
@@ -77,4 +79,29 @@ pub fn read_index(bytes: &[u8]) -> Result<u64, H3Error>
 {
     let text = without_trailing_blanks(without_leading_blanks(bytes));
     read_digits(without_prefix(text)).ok_or(H3Error::Failed)
+}
+
+/// Appends a hexadecimal digit in lower case.
+fn push_digit(text: &mut ArrayString<16>, digit: u32)
+    requires room { length text.old.bytes < 16 }
+    requires small { digit < 16 }
+    ensures { text.new.bytes ≡ text.old.bytes ++ digit_char digit ∷ [] }
+{
+    text.push(char::from_digit(digit, 16).unwrap());
+}
+
+/// The text of an index, as H3's `h3ToString` writes it: lower-case hexadecimal without leading zeros, `0` for 0.
+pub fn write_index(index: u64) -> ArrayString<16>
+    ensures text { result.bytes ≡ text_of index }
+    ensures spells { spelled_index (text_of index) ≡ Some index }
+{
+    let mut text = ArrayString::new();
+    for place in 0..16u32 {
+        let digit = (index >> (60 - 4 * place) & 15) as u32;
+        if digit == 0 && place < 15 && text.is_empty() {
+            continue;
+        }
+        push_digit(&mut text, digit);
+    }
+    text
 }
