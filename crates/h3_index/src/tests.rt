@@ -43,6 +43,20 @@ fn twelve_base_cells_are_pentagons(rt: HostRuntime) {
 }
 
 #[test]
+fn pentagons_and_classes_are_told(rt: HostRuntime) -> Result<(), Fail> {
+    let pentagon = Cell::new(0x81083ffffffffff)?;
+    assert!(rt; pentagon.is_pentagon());
+    assert!(rt; pentagon.in_pentagon_base());
+    assert!(rt; pentagon.is_class_iii());
+    let beside = Cell::new(0x8108bffffffffff)?;
+    assert!(rt; !beside.is_pentagon());
+    assert!(rt; beside.in_pentagon_base());
+    assert!(rt; Cell::new(0x85283473fffffff)?.is_class_iii());
+    assert!(rt; !Cell::new(0x8009fffffffffff)?.is_class_iii());
+    Ok(())
+}
+
+#[test]
 fn texts_are_read(rt: HostRuntime) {
     let spelled: [&[u8]; 5] = [
         b"85283473fffffff",
