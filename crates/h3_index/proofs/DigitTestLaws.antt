@@ -59,9 +59,11 @@ pass_is true (suc r) (d ∷ ds) h = by_seven (d == 7) refl (λ p. pass_is p r ds
     by_zero : (b : Bool) → (d == 0) ≡ b → (d == 1) ≡ false → digits_pass b r ds ≡ are_digits b r ds → digits_pass (d == 0) r ds ≡ (list_all (λ d. nat_lt d 7) (take r ds) && list_all (λ d. d == 7) (drop r ds)) && not (leading (d ∷ take r ds) == 1)
     by_zero true e f rest = rw e rest
     by_zero false e f rest = rw (e, f) rest
+
     by_one : (b : Bool) → (d == 1) ≡ b → ((p : Bool) → digits_pass p r ds ≡ are_digits p r ds) → (if b then false else digits_pass (d == 0) r ds) ≡ (list_all (λ d. nat_lt d 7) (take r ds) && list_all (λ d. d == 7) (drop r ds)) && not (leading (d ∷ take r ds) == 1)
     by_one true e rest = let other : (d == 0) ≡ false = grind (arith, nat_tests) in rw (other, e) (sym (and-false (list_all (λ d. nat_lt d 7) (take r ds) && list_all (λ d. d == 7) (drop r ds))))
     by_one false e rest = by_zero (d == 0) refl e (rest (d == 0))
+
     by_seven : (b : Bool) → (d == 7) ≡ b → ((p : Bool) → digits_pass p r ds ≡ are_digits p r ds) → digits_pass true (suc r) (d ∷ ds) ≡ are_digits true (suc r) (d ∷ ds)
     by_seven true e rest = rw (e, seven_or_less d true h.0 e) refl
     by_seven false e rest = rw (e, seven_or_less d false h.0 e) (by_one (d == 1) refl rest)
