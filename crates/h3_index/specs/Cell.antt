@@ -13,6 +13,9 @@ pub record Address : Type 0 where
   pub base : ℕ
   pub digits : List ℕ
 
+abbrev pub resolution : Address → ℕ
+resolution c = length c.digits
+
 -- the twelve base cells that are pentagons
 abbrev pub pentagon_bases : List ℕ
 pentagon_bases = 4 ∷ 14 ∷ 24 ∷ 38 ∷ 49 ∷ 58 ∷ 63 ∷ 72 ∷ 83 ∷ 97 ∷ 107 ∷ 117 ∷ []

@@ -21,7 +21,7 @@ fn below(limit: u8, n: i32) -> Option<u8>
 }
 
 /// The resolution that a whole number is: `ResDomain` outside 0 to 15.
-pub fn resolution_from(res: i32) -> Result<u8, H3Error>
+pub(crate) fn resolution_from(res: i32) -> Result<u8, H3Error>
     ensures ok { IfOk result (λ r. (resolution_of res ≡ Some r) × (r < 16)) }
     ensures err { IfErr result (λ e. (resolution_of res ≡ None) × (e ≡ H3Error.ResDomain)) }
 {
