@@ -1,5 +1,4 @@
 -- The next cell: what it is, and that it leads through all descendants.
-use Rattle.std.specs.Int.Digits.{AllBelowBase}
 use Rattle.std.proofs.Common.{ℕ, zero, suc, ◌≡◌, ◌≢◌, ◌+◌, ◌-◌, ◌<◌, ◌≤◌, ◌==◌, List, [], ◌∷◌, ◌++◌, length, map, take, drop, replicate, Bool, true, false, ◌&&◌, Option, Some, None, refl, get_or, length-append, arith, ◌∙◌, sym, ap, subst}
 use Rattle.std.proofs.Math.ListN.{length-replicate}
 use Rattle.std.proofs.Math.Seq.{drop-cons}
@@ -66,11 +65,6 @@ pub cells_from-end : (k : ℕ) (c : Address) → k ≤ 0 → cells_from k c ≡ 
 unfolding cells_from
 cells_from-end k c h = let e : k ≡ 0 = omega arith in rw e refl
 
-pub length-cells_from : (k : ℕ) (c : Address) → length (cells_from k c) ≡ k
-unfolding cells_from
-length-cells_from zero c = refl
-length-cells_from (suc k) c = ap suc (length-cells_from k (following c))
-
 -- ---- the next digits, from the last one that is not 6 on
 
 no_six : (d : ℕ) → d ≢ 6 → (d == 6) ≡ false
@@ -81,8 +75,8 @@ sixes p zero = refl
 sixes true (suc k) = rw (sixes false k) refl
 sixes false (suc k) = rw (sixes false k) refl
 
--- the last digits of all have none following them
-pub following-sixes : (c : Address) → c.digits ≡ replicate (length c.digits) 6 → following c ≡ c
+-- where all digits are 6 there is no next cell
+following-sixes : (c : Address) → c.digits ≡ replicate (length c.digits) 6 → following c ≡ c
 unfolding following
 following-sixes c h =
     let e : next_path (is_pentagon_base c.base) c.digits ≡ None = subst (λ ds. next_path (is_pentagon_base c.base) ds ≡ None) (sym h) (sixes (is_pentagon_base c.base) (length c.digits)) in
@@ -93,22 +87,13 @@ last_steps p d k h =
     let e : (d == 6) ≡ false = no_six d h in
     rw (sixes (p && d == 0) k, e, length-replicate {A = ℕ} k 6) refl
 
-pub following-step : (c : Address) (d k : ℕ) → d ≢ 6 → following (along c (d ∷ replicate k 6)) ≡ along c (next_step (is_pentagon c) d ∷ replicate k 0)
+following-step : (c : Address) (d k : ℕ) → d ≢ 6 → following (along c (d ∷ replicate k 6)) ≡ along c (next_step (is_pentagon c) d ∷ replicate k 0)
 following-step c d k h = following-along c (d ∷ replicate k 6) (next_step (is_pentagon c) d ∷ replicate k 0) (last_steps (is_pentagon c) d k h)
 
 -- the digits from the r-th on are 6
 pub record IsSixesFrom (ds : List ℕ) (r : ℕ) : Type 0 where
   pub within : r ≤ length ds
   pub sixes : drop r ds ≡ replicate (length ds - r) 6
-
-pub no_digits : (ds : List ℕ) → drop (length ds) ds ≡ []
-no_digits [] = refl
-no_digits (d ∷ ds) = no_digits ds
-
-pub sixes_start : (ds : List ℕ) (r : ℕ) → r ≡ length ds → IsSixesFrom ds r
-sixes_start ds r h =
-    let none : length ds - length ds ≡ 0 = omega arith in
-    record { within = omega arith; sixes = rw (h, none) (no_digits ds) }
 
 split_at : (ds : List ℕ) (r d : ℕ) → 0 < r → r ≤ length ds → get_or ds (r - 1) 7 ≡ d → drop (r - 1) ds ≡ d ∷ drop r ds
 split_at ds r d pos le e =
@@ -129,8 +114,6 @@ sixes_end c r le h =
 -- the next cell, from the cell above the last digit that is not 6
 pub moved_is : (c : Address) (r d n : ℕ) → 0 < r → IsSixesFrom c.digits r → get_or c.digits (r - 1) 7 ≡ d → d ≢ 6 → n ≡ next_step (is_pentagon (cut c (r - 1))) d → center_at (child (cut c (r - 1)) n) (length c.digits) ≡ following c
 moved_is c r d n pos h e ne en =
-    let k = length c.digits - r in
-    let a = cut c (r - 1) in
     let size : length (take (r - 1) c.digits ++ n ∷ []) ≡ r = omega (arith, h.within, pos, length-append (take (r - 1) c.digits) (n ∷ []), length-take-le (r - 1) c.digits (omega (arith, h.within))) in
     let digits : take (r - 1) c.digits ++ (d ∷ replicate (length c.digits - r) 6) ≡ c.digits =
     ap (λ xs. take (r - 1) c.digits ++ xs) (sym (split_at c.digits r d pos h.within e ∙ ap (λ xs. d ∷ xs) h.sixes)) ∙ take-append-drop (r - 1) c.digits in
@@ -140,11 +123,6 @@ moved_is c r d n pos h e ne en =
     address_same (center_at (child (cut c (r - 1)) n) (length c.digits)) (along (cut c (r - 1)) (n ∷ replicate (length c.digits - r) 0)) refl front ∙
     ap (λ m. along (cut c (r - 1)) (m ∷ replicate (length c.digits - r) 0)) en ∙
     sym (following-step (cut c (r - 1)) d (length c.digits - r) ne) ∙ ap following back
-
-pub digit_small : (ds : List ℕ) (k : ℕ) → AllBelowBase 7 ds → k < length ds → get_or ds k 7 < 7
-digit_small [] k h lt = absurd (omega (arith, lt))
-digit_small (d ∷ ds) zero h lt = h.0
-digit_small (d ∷ ds) (suc k) h lt = digit_small ds k h.1 (omega (arith, lt))
 
 pub step_pentagon : (p : Bool) (d : ℕ) → d ≡ 0 → p ≡ true → 2 ≡ next_step p d
 step_pentagon p d e h = rw (e, h) refl

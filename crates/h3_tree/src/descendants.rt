@@ -1,8 +1,8 @@
-//! The way down: the descendants of a cell.
+//! The way down: the descendants of a cell. In contracts `unsigned_abs res` is the resolution as a natural number.
 
 ghost use Rattle.std.specs.Prelude.{◌≡◌, ◌+◌, ◌-◌, ◌*◌, ◌/◌, ◌^◌, ◌<◌, ◌≤◌, ◌↔◌, length, false, true, IfOk, unsigned_abs, AllPairs, Contains};
 ghost use Rattle.std.specs.Result.{result_err};
-ghost use Rattle.h3_index.specs.Cell.{Address, is_pentagon, number_of, resolution};
+ghost use Rattle.h3_index.specs.Cell.{Address, is_pentagon, number_of};
 ghost use Rattle.h3_index.specs.Descendants.{center_at, descendants, IsDescendant};
 ghost use Rattle.h3_tree.specs.Children.{children_left};
 ghost use Rattle.h3_tree.specs.Refusals.{descent_refusal};
@@ -17,7 +17,7 @@ use h3_index::{Cell, H3Error};
 ///
 /// `ResDomain` where the resolution is outside the cell's own to 15.
 pub fn center_child(cell: Cell, res: i32) -> Result<Cell, H3Error>
-    ensures refused { result_err result ≡ descent_refusal (resolution cell) res }
+    ensures refused { result_err result ≡ descent_refusal (length cell.digits) res }
     ensures zeros { IfOk result (λ child. child ≡ center_at cell (unsigned_abs res)) }
     ensures descendant { IfOk result (λ child. IsDescendant cell (unsigned_abs res) child) }
 {
@@ -30,8 +30,9 @@ pub(crate) fn size_at(cell: Cell, r: u8) -> u64
     requires not_coarser { length cell.digits ≤ r }
     requires at_most_fifteen { r ≤ 15 }
     ensures count { result ≡ length (descendants cell r) }
-    ensures hexagon { is_pentagon cell ≡ false → result ≡ 7 ^ (r - resolution cell) }
-    ensures pentagon { is_pentagon cell ≡ true → result ≡ 1 + 5 * ((7 ^ (r - resolution cell) - 1) / 6) }
+    ensures hexagon { is_pentagon cell ≡ false → result ≡ 7 ^ (r - length cell.digits) }
+    ensures pentagon { is_pentagon cell ≡ true
+        → result ≡ 1 + 5 * ((7 ^ (r - length cell.digits) - 1) / 6) }
 {
     descendants_are_listed();
     let sevens = 7u64.pow(u32::from(r - cell.resolution()));
@@ -47,10 +48,12 @@ pub(crate) fn size_at(cell: Cell, r: u8) -> u64
 ///
 /// `ResDomain` where the resolution is outside the cell's own to 15.
 pub fn children_size(cell: Cell, res: i32) -> Result<u64, H3Error>
-    ensures refused { result_err result ≡ descent_refusal (resolution cell) res }
+    ensures refused { result_err result ≡ descent_refusal (length cell.digits) res }
     ensures count { IfOk result (λ size. size ≡ length (descendants cell (unsigned_abs res))) }
-    ensures hexagon { is_pentagon cell ≡ false → IfOk result (λ size. size ≡ 7 ^ (unsigned_abs res - resolution cell)) }
-    ensures pentagon { is_pentagon cell ≡ true → IfOk result (λ size. size ≡ 1 + 5 * ((7 ^ (unsigned_abs res - resolution cell) - 1) / 6)) }
+    ensures hexagon { is_pentagon cell ≡ false
+        → IfOk result (λ size. size ≡ 7 ^ (unsigned_abs res - length cell.digits)) }
+    ensures pentagon { is_pentagon cell ≡ true
+        → IfOk result (λ size. size ≡ 1 + 5 * ((7 ^ (unsigned_abs res - length cell.digits) - 1) / 6)) }
 {
     let r = resolution_from(cell.resolution(), res)?;
     Ok(size_at(cell, r))
@@ -61,10 +64,12 @@ pub fn children_size(cell: Cell, res: i32) -> Result<u64, H3Error>
 ///
 /// `ResDomain` where the resolution is outside the cell's own to 15.
 pub fn children(cell: Cell, res: i32) -> Result<Children, H3Error>
-    ensures refused { result_err result ≡ descent_refusal (resolution cell) res }
+    ensures refused { result_err result ≡ descent_refusal (length cell.digits) res }
     ensures list { IfOk result (λ items. children_left items ≡ descendants cell (unsigned_abs res)) }
-    ensures members { IfOk result (λ items. (x : Address) → Contains (children_left items) x ↔ IsDescendant cell (unsigned_abs res) x) }
-    ensures ascending { IfOk result (λ items. AllPairs (λ a b. number_of a < number_of b) (children_left items)) }
+    ensures members { IfOk result (λ items. (x : Address)
+        → Contains (children_left items) x ↔ IsDescendant cell (unsigned_abs res) x) }
+    ensures ascending { IfOk result (λ items.
+        AllPairs (λ a b. number_of a < number_of b) (children_left items)) }
 {
     descendants_are_listed();
     let r = resolution_from(cell.resolution(), res)?;
