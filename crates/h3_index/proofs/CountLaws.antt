@@ -1,6 +1,6 @@
 -- The cells of a resolution, and its pentagons, listed and counted.
 use Rattle.std.specs.List.{flat_map, list_all, list_any, range_with_len}
-use Rattle.std.proofs.Common.{ℕ, zero, suc, ◌≡◌, ◌≢◌, ◌+◌, ◌-◌, ◌*◌, ◌/◌, ◌%◌, ◌^◌, ◌<◌, ◌≤◌, ◌==◌, ◌&&◌, ◌↔◌, nat_lt, List, [], ◌∷◌, ◌++◌, length, map, replicate, get_or, take, Bool, true, false, cond, All, AllPairs, Contains, Option, Some, MatchOption, IfSome, slice_get, refl, arith, sym, ap, ◌∙◌, subst, inl, inr, length-append, lit<, ltb-true}
+use Rattle.std.proofs.Common.{ℕ, zero, suc, ◌≡◌, ◌+◌, ◌-◌, ◌*◌, ◌/◌, ◌%◌, ◌^◌, ◌<◌, ◌≤◌, ◌==◌, ◌&&◌, ◌↔◌, nat_lt, List, [], ◌∷◌, ◌++◌, length, map, replicate, get_or, Bool, true, false, cond, AllPairs, Contains, Option, Some, MatchOption, IfSome, slice_get, refl, arith, sym, ap, ◌∙◌, subst, inl, inr, length-append, lit<, ltb-true}
 use Rattle.std.proofs.Math.Nat.{pow-suc, pow-zero}
 use Rattle.std.proofs.lemmas.Bool.{agree_below_at, and_parts}
 use Rattle.std.proofs.lemmas.Bool.Decides.{nat_tests}
@@ -8,9 +8,9 @@ use Rattle.std.proofs.lemmas.List.Elements.{Contains-append_cases, Contains-get_
 use Rattle.std.proofs.lemmas.List.FromFn.{get_or-range_with_len}
 use Rattle.h3_index.specs.Cell.{Address, IsCell, is_pentagon, is_pentagon_base, leading, number_of, pentagon_bases}
 use Rattle.h3_index.specs.Count.{IsNumberOfCells, ListsPentagons, base_cell, pentagons}
-use Rattle.h3_index.specs.Descendants.{IsDescendant, center_at, cut, descendants}
+use Rattle.h3_index.specs.Descendants.{IsDescendant, center_at, descendants}
 use Rattle.h3_index.proofs.AncestorLaws.{address_same, center, leading-zeros_after}
-use Rattle.h3_index.proofs.CellLaws.{head_of, number_of_is, low_small}
+use Rattle.h3_index.proofs.CellLaws.{number_of_is, low_small}
 use Rattle.h3_index.proofs.DescendantLaws.{from_descendants, in_descendants, rising_descendants, size_hexagon, size_pentagon}
 use Rattle.h3_index.proofs.PathLaws.{from_flat, in_flat, from_map, in_map}
 

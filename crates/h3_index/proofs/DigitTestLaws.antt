@@ -1,5 +1,5 @@
 -- The test of a number's digits decides whether the number is a cell's.
-use Rattle.std.specs.Int.Digits.{number_from_digits, AllBelowBase}
+use Rattle.std.specs.Int.Digits.{AllBelowBase}
 use Rattle.std.proofs.Common.{ℕ, zero, suc, ◌≡◌, ◌≢◌, ◌+◌, ◌-◌, ◌*◌, ◌/◌, ◌%◌, ◌^◌, ◌<◌, ◌≤◌, ◌==◌, List, [], ◌∷◌, ◌++◌, length, take, drop, replicate, Bool, true, false, cond, not, nat_lt, ◌&&◌, if◌then◌else◌, refl, arith, ◌∙◌, sym, ap, lit<, get_or}
 use Rattle.std.proofs.Math.Seq.{drop-cons}
 use Rattle.std.proofs.lemmas.Bool.Decides.{nat_tests}

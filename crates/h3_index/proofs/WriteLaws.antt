@@ -1,16 +1,15 @@
 -- Writing the text of an index, and reading it back.
 use Rattle.std.specs.Char.{digit_char, digit_value, is_digit}
 use Rattle.std.specs.Int.Digits.{number_from_digits, AllBelowBase}
-use Rattle.std.specs.List.{list_all, starts_with}
-use Rattle.std.specs.Str.Parse.{digits_value}
-use Rattle.std.proofs.Common.{ℕ, zero, suc, ◌≡◌, ◌≢◌, ◌+◌, ◌-◌, ◌*◌, ◌/◌, ◌%◌, ◌^◌, ◌<◌, ◌≤◌, ◌==◌, ◌⊎◌, nat_lt, nat_le, nat_eq, List, [], ◌∷◌, ◌++◌, length, take, drop, map, reverse, length-append, get_or, Bool, true, false, ◌&&◌, ◌||◌, Option, Some, None, codes, if◌then◌else◌, refl, arith, sym, ap, ◌∙◌, add-one, lit<, lit≤, inl, inr, eqb-true}
+use Rattle.std.specs.List.{list_all}
+use Rattle.std.proofs.Common.{ℕ, zero, suc, ◌≡◌, ◌≢◌, ◌+◌, ◌-◌, ◌*◌, ◌/◌, ◌%◌, ◌^◌, ◌<◌, ◌≤◌, ◌==◌, ◌⊎◌, nat_lt, nat_le, List, [], ◌∷◌, ◌++◌, length, drop, map, reverse, length-append, get_or, Bool, true, false, ◌&&◌, ◌||◌, Some, if◌then◌else◌, refl, arith, sym, ap, ◌∙◌, add-one, lit<, lit≤, inl, inr, eqb-true}
 use Rattle.std.proofs.Math.Seq.{drop-cons}
 use Rattle.std.proofs.lemmas.Bool.{agree_below_at}
 use Rattle.std.proofs.lemmas.Bool.Decides.{nat_tests}
 use Rattle.std.proofs.lemmas.Int.Digits.{digits_value_is}
 use Rattle.std.proofs.lemmas.List.{append_assoc, append-nil, drop_all, map-append, length-map, reverse-reverse, reverse-append}
 use Rattle.h3_index.specs.Digits.{last_digits}
-use Rattle.h3_index.specs.Text.{is_blank, is_hexadecimal, number_spelled, without_leading_blanks, without_trailing_blanks, trimmed, without_prefix, without_leading_zeros, spelled_index, text_of}
+use Rattle.h3_index.specs.Text.{is_blank, without_leading_blanks, trimmed, without_prefix, without_leading_zeros, spelled_index, text_of}
 use Rattle.h3_index.proofs.DigitsLaws.{number-last_digits, below-last_digits, length-last_digits, get_or-last_digits, sixteens}
 
 -- ---- writing, digit by digit

@@ -1,9 +1,8 @@
 -- The definitions at worked values, by computation.
-use Rattle.std.specs.Prelude.{ℕ, ◌≡◌, List, [], ◌∷◌, map, true, false, Some, None, codes, refl, cond}
-use Rattle.h3_index.specs.Cell.{Address, is_pentagon, is_pentagon_base, leading, number_of}
-use Rattle.h3_index.specs.CellNumber.{address_in, cell_in, is_cell}
+use Rattle.std.specs.Prelude.{ℕ, ◌≡◌, [], ◌∷◌, map, true, false, Some, None, codes, refl}
+use Rattle.h3_index.specs.Cell.{Address, is_pentagon, number_of}
+use Rattle.h3_index.specs.CellNumber.{address_in, cell_in}
 use Rattle.h3_index.specs.Descendants.{cut}
-use Rattle.h3_index.specs.Digits.{last_digits}
 use Rattle.h3_index.specs.Edge.{edge_number}
 use Rattle.h3_index.specs.Text.{spelled_index, text_of}
 

@@ -1,7 +1,6 @@
-use Rattle.std.proofs.Common.{◌≡◌, Some, ap, sym, ◌∙◌, rules, w32, get_or, ℕ, subst}
+use Rattle.std.proofs.Common.{◌≡◌, Some, ap, sym, ◌∙◌, rules, w32}
 use Rattle.std.proofs.lemmas.Int.{to_z-of_z}
-use Rattle.h3_index.specs.Cell.{pentagon_bases}
-use Rattle.h3_index.specs.Count.{base_cell, number_below, resolution_of}
+use Rattle.h3_index.specs.Count.{number_below, resolution_of}
 use Rattle.h3_index.specs.Descendants.{center_at}
 use Rattle.h3_index.proofs.CountLaws.{match_some, nth_pentagon, pentagons_listed}
 use Rattle.h3_index.proofs.count.pentagon.Goals as goal

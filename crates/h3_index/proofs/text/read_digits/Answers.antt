@@ -1,4 +1,4 @@
-use Rattle.std.proofs.Common.{◌≡◌, ◌<◌, ◌≤◌, length, arith, get_or, ◌∙◌}
+use Rattle.std.proofs.Common.{◌≤◌, length, arith, ◌∙◌}
 use Rattle.std.specs.Char.{digit_value}
 use Rattle.h3_index.proofs.TextLaws.{reading_none, reading_more, reading_fits, reading_all, reading_stops, not_empty}
 use Rattle.h3_index.proofs.text.read_digits.Goals as goal

@@ -1,4 +1,4 @@
-use Rattle.std.proofs.Common.{◌≡◌, [], length, reverse, sym, ap, ◌∙◌, refl}
+use Rattle.std.proofs.Common.{reverse, sym, ap, ◌∙◌}
 use Rattle.h3_index.proofs.TextLaws.{blank_last, other_last}
 use Rattle.h3_index.proofs.text.without_trailing_blanks.Goals as goal
 

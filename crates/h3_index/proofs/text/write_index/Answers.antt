@@ -1,4 +1,4 @@
-use Rattle.std.proofs.Common.{◌≡◌, ◌≢◌, ◌⊎◌, ◌-◌, ◌*◌, ◌/◌, ◌^◌, ◌<◌, ◌≤◌, [], arith, sym, ◌∙◌, inl, inr}
+use Rattle.std.proofs.Common.{◌-◌, ◌*◌, ◌/◌, ◌^◌, arith, sym, ◌∙◌, inl, inr}
 use Rattle.std.proofs.lemmas.Nat.{and_mask}
 use Rattle.h3_index.proofs.WriteLaws.{writing_skips, writing_more, writing_all, text_spells, is_nothing, is_something}
 use Rattle.h3_index.proofs.text.write_index.Goals as goal
