@@ -4,7 +4,7 @@ use Rattle.std.proofs.lemmas.List.{take_more, map-append}
 use Rattle.clap.specs.Words.{App, Rule, Text, with_rule}
 use Rattle.h3_cli.specs.Commands.{leaf_app}
 use Rattle.h3_cli.specs.Options.{rule_for}
-use Rattle.h3_cli.specs.declared.words.CommandOption.{CommandOption}
+use Rattle.h3_cli.specs.declared.options.CommandOption.{CommandOption}
 
 -- a command with these rules
 with_rules : Text → List Rule → App

@@ -22,8 +22,8 @@ use Rattle.clap.specs.declared.parser.matches.ValueSource.TheVariants.{CommandLi
 use Rattle.h3_cli.proofs.Lexed.{by_short, given, is_long, is_short, named, named_by}
 use Rattle.h3_cli.specs.Given.{given_by}
 use Rattle.h3_cli.specs.Options.{IsIn, parser_done, id_of, long_name, rule_for, short_name}
-use Rattle.h3_cli.specs.declared.words.CommandOption.{CommandOption}
-use Rattle.h3_cli.specs.declared.words.CommandOption.TheVariants.{Cell}
+use Rattle.h3_cli.specs.declared.options.CommandOption.{CommandOption}
+use Rattle.h3_cli.specs.declared.options.CommandOption.TheVariants.{Cell, Resolution}
 
 -- ---- small facts
 
@@ -60,10 +60,11 @@ Which q o = (q ≡ o) ⊎ Differs q o
 
 -- all options
 abbrev every_option : List CommandOption
-every_option = Cell ∷ []
+every_option = Cell ∷ Resolution ∷ []
 
 option_found : (o : CommandOption) → find (λ x. bytes_eq (id_of x) (id_of o)) every_option ≡ Some o
 option_found Cell = refl
+option_found Resolution = refl
 
 -- two options of one id, or of names that differ
 abbrev differ_test : CommandOption → CommandOption → Bool
@@ -311,6 +312,7 @@ long_turn os o word wt rows p name v _ nowhere e f = absurd (cons_nil kind.Unkno
 pub ascii_short : (q : CommandOption) (y : ℕ) → is_short q y ≡ true → length (encode_utf8 y) ≡ 1
 unfolding encode_utf8
 ascii_short Cell y e = let same : 99 ≡ y = grind arith in ap (λ c. length (encode_utf8 c)) (sym same)
+ascii_short Resolution y e = let same : 114 ≡ y = grind arith in ap (λ c. length (encode_utf8 c)) (sym same)
 
 pub short_is : (o q : CommandOption) (d : Which q o) (word flags : Text) (y : ℕ) → long_of word ≡ None → short_of word ≡ Some flags → slice_get (chars flags) 0 ≡ Some y
     → is_short q y ≡ true → named o word ≡ mine d (attached_value (drop (length (encode_utf8 y)) flags))

@@ -25,15 +25,26 @@ use Rattle.h3_cli.specs.Spelling.{Answers, HasValues, Spells}
 use Rattle.h3_cli.specs.declared.words.Words.{Words}
 use Rattle.h3_cli.specs.declared.words.WordsFault.{WordsFault}
 use Rattle.h3_cli.specs.declared.words.WordsFault.TheVariants.{Help, Usage, Memory}
-use Rattle.h3_cli.specs.declared.words.CommandOption.{CommandOption}
-use Rattle.h3_cli.specs.declared.words.CommandName.{CommandName}
-use Rattle.h3_cli.specs.declared.words.CommandName.TheVariants.{IsValidCell}
+use Rattle.h3_cli.specs.declared.options.CommandOption.{CommandOption}
+use Rattle.h3_cli.specs.declared.commands.CommandName.{CommandName}
+use Rattle.h3_cli.specs.declared.commands.CommandName.TheVariants.{IsValidCell, GetResolution, GetBaseCellNumber, IsPentagon, IsResClassIII, GetNumCells, GetRes0Cells, GetPentagons, CellToParent, CellToCenterChild, CellToChildren, CellToChildrenSize}
 use Rattle.h3_cli.proofs.Lexed.{given_same}
 use Rattle.h3_cli.proofs.Leaf.{Reads, leaf_reads}
 use Rattle.h3_cli.proofs.Top.{app_enters, app_is_simple}
 
 pub word_named : (k : CommandName) → find (λ x. bytes_eq (word_of x) (word_of k)) command_names ≡ Some k
 word_named IsValidCell = refl
+word_named GetResolution = refl
+word_named GetBaseCellNumber = refl
+word_named IsPentagon = refl
+word_named IsResClassIII = refl
+word_named GetNumCells = refl
+word_named GetRes0Cells = refl
+word_named GetPentagons = refl
+word_named CellToParent = refl
+word_named CellToCenterChild = refl
+word_named CellToChildren = refl
+word_named CellToChildrenSize = refl
 
 is_simple_app : is_simple app ≡ true
 is_simple_app = refl

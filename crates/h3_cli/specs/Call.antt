@@ -5,13 +5,14 @@ use Rattle.std.specs.Str.{bytes_eq}
 use Rattle.clap.specs.Words.{IsSignedIn, Text}
 use Rattle.h3_cli.specs.Commands.{options_of, word_of}
 use Rattle.h3_cli.specs.Options.{IsIn, id_of, number_up_to}
-use Rattle.h3_cli.specs.declared.words.CommandOption.{CommandOption}
-use Rattle.h3_cli.specs.declared.words.CommandOption.TheVariants.{Cell}
-use Rattle.h3_cli.specs.declared.words.CommandName.{CommandName}
+use Rattle.h3_cli.specs.declared.options.CommandOption.{CommandOption}
+use Rattle.h3_cli.specs.declared.options.CommandOption.TheVariants.{Cell, Resolution}
+use Rattle.h3_cli.specs.declared.commands.CommandName.{CommandName}
 
 -- the words that name the option
 abbrev pub names_for : CommandOption → List Text
 names_for Cell = codes "-c" ∷ codes "--cell" ∷ []
+names_for Resolution = codes "-r" ∷ codes "--resolution" ∷ []
 
 -- the word is one of these
 abbrev pub IsOneOf : Text → List Text → Type 0

@@ -5,26 +5,60 @@ use Rattle.clap.specs.Simple.{new_shape, on_top}
 use Rattle.h3_cli.specs.Options.{rule_for}
 use Rattle.h3_cli.specs.declared.command.Command.{Command}
 use Rattle.h3_cli.specs.declared.command.Command.TheVariants as command
-use Rattle.h3_cli.specs.declared.words.CommandOption.{CommandOption}
-use Rattle.h3_cli.specs.declared.words.CommandOption.TheVariants.{Cell}
-use Rattle.h3_cli.specs.declared.words.CommandName.{CommandName}
-use Rattle.h3_cli.specs.declared.words.CommandName.TheVariants.{IsValidCell}
+use Rattle.h3_cli.specs.declared.options.CommandOption.{CommandOption}
+use Rattle.h3_cli.specs.declared.options.CommandOption.TheVariants.{Cell, Resolution}
+use Rattle.h3_cli.specs.declared.commands.CommandName.{CommandName}
+use Rattle.h3_cli.specs.declared.commands.CommandName.TheVariants.{IsValidCell, GetResolution, GetBaseCellNumber, IsPentagon, IsResClassIII, GetNumCells, GetRes0Cells, GetPentagons, CellToParent, CellToCenterChild, CellToChildren, CellToChildrenSize}
 
 -- all names of commands
 abbrev pub command_names : List CommandName
-command_names = IsValidCell ∷ []
+command_names =
+    IsValidCell ∷ GetResolution ∷ GetBaseCellNumber ∷ IsPentagon ∷ IsResClassIII ∷ GetNumCells ∷ GetRes0Cells ∷ GetPentagons ∷ CellToParent ∷ CellToCenterChild ∷ CellToChildren ∷ CellToChildrenSize ∷ []
 
 -- the word that names the command
 abbrev pub word_of : CommandName → Text
 word_of IsValidCell = codes "isValidCell"
+word_of GetResolution = codes "getResolution"
+word_of GetBaseCellNumber = codes "getBaseCellNumber"
+word_of IsPentagon = codes "isPentagon"
+word_of IsResClassIII = codes "isResClassIII"
+word_of GetNumCells = codes "getNumCells"
+word_of GetRes0Cells = codes "getRes0Cells"
+word_of GetPentagons = codes "getPentagons"
+word_of CellToParent = codes "cellToParent"
+word_of CellToCenterChild = codes "cellToCenterChild"
+word_of CellToChildren = codes "cellToChildren"
+word_of CellToChildrenSize = codes "cellToChildrenSize"
 
 -- the options that the command has
 abbrev pub options_of : CommandName → List CommandOption
 options_of IsValidCell = Cell ∷ []
+options_of GetResolution = Cell ∷ []
+options_of GetBaseCellNumber = Cell ∷ []
+options_of IsPentagon = Cell ∷ []
+options_of IsResClassIII = Cell ∷ []
+options_of GetNumCells = Resolution ∷ []
+options_of GetRes0Cells = []
+options_of GetPentagons = Resolution ∷ []
+options_of CellToParent = Cell ∷ Resolution ∷ []
+options_of CellToCenterChild = Cell ∷ Resolution ∷ []
+options_of CellToChildren = Cell ∷ Resolution ∷ []
+options_of CellToChildrenSize = Cell ∷ Resolution ∷ []
 
 -- the name of a command with its values
 abbrev pub name_of_command : Command → CommandName
 name_of_command (command.IsValidCell cell) = IsValidCell
+name_of_command (command.GetResolution cell) = GetResolution
+name_of_command (command.GetBaseCellNumber cell) = GetBaseCellNumber
+name_of_command (command.IsPentagon cell) = IsPentagon
+name_of_command (command.IsResClassIII cell) = IsResClassIII
+name_of_command (command.GetNumCells res) = GetNumCells
+name_of_command command.GetRes0Cells = GetRes0Cells
+name_of_command (command.GetPentagons res) = GetPentagons
+name_of_command (command.CellToParent cell res) = CellToParent
+name_of_command (command.CellToCenterChild cell res) = CellToCenterChild
+name_of_command (command.CellToChildren cell res) = CellToChildren
+name_of_command (command.CellToChildrenSize cell res) = CellToChildrenSize
 
 -- a command of this name that takes these options
 abbrev pub leaf_with : Text → List CommandOption → Shape

@@ -4,7 +4,7 @@ use Rattle.std.specs.Option.{option_map_or, option_or}
 use Rattle.std.specs.Str.{chars}
 use Rattle.clap.specs.Words.{Text}
 use Rattle.h3_cli.specs.Options.{long_name, short_name}
-use Rattle.h3_cli.specs.declared.words.CommandOption.{CommandOption}
+use Rattle.h3_cli.specs.declared.options.CommandOption.{CommandOption}
 
 -- what follows a beginning in the word, where the word begins so
 abbrev pub after : Text → Text → Option Text

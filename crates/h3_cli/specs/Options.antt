@@ -3,24 +3,28 @@ use Rattle.std.specs.Prelude.{◌≡◌, ◌⊎◌, ℕ, List, [], ◌∷◌, Op
 use Rattle.clap.specs.Words.{Rule, Text, new_rule}
 use Rattle.clap.specs.declared.builder.value_parser.ValueParser.{ValueParser}
 use Rattle.clap.specs.declared.builder.value_parser.ValueParser.TheVariants.{Signed, String}
-use Rattle.h3_cli.specs.declared.words.CommandOption.{CommandOption}
-use Rattle.h3_cli.specs.declared.words.CommandOption.TheVariants.{Cell}
+use Rattle.h3_cli.specs.declared.options.CommandOption.{CommandOption}
+use Rattle.h3_cli.specs.declared.options.CommandOption.TheVariants.{Cell, Resolution}
 
 -- what `clap` knows the option by
 abbrev pub id_of : CommandOption → Text
 id_of Cell = codes "cell"
+id_of Resolution = codes "resolution"
 
 -- the name after two hyphens
 abbrev pub long_name : CommandOption → Option Text
 long_name Cell = Some (codes "cell")
+long_name Resolution = Some (codes "resolution")
 
 -- the character after one hyphen
 abbrev pub short_name : CommandOption → Option ℕ
 short_name Cell = Some 99
+short_name Resolution = Some 114
 
 -- the most that the option's number may be; none where its value is any text
 abbrev pub number_up_to : CommandOption → Option ℕ
 number_up_to Cell = None
+number_up_to Resolution = Some 2147483647
 
 -- a number is read from 0 to the option's most
 abbrev pub parser_for : CommandOption → Option ValueParser

@@ -1,26 +1,43 @@
 -- What the words of a command line spell.
-use Rattle.std.specs.Prelude.{◌≡◌, ℕ, List, Option, Some, None, IsNone, drop, slice_get, false}
-use Rattle.clap.specs.Words.{Accepts, Text, first_value}
+use Rattle.std.specs.Prelude.{⊤, ◌≡◌, ℕ, ℤ, pos, List, Option, Some, None, IsNone, drop, slice_get, false}
+use Rattle.std.specs.Str.Parse.{signed_digits_value}
+use Rattle.clap.specs.Words.{Accepts, IsSignedIn, Text, first_value}
 use Rattle.clap.specs.declared.parser.matches.Found.{Found}
 use Rattle.h3_index.specs.Text.{spelled_index}
 use Rattle.h3_cli.specs.Options.{IsIn, id_of, parser_done}
 use Rattle.h3_cli.specs.Commands.{name_of_command, options_of, word_of}
 use Rattle.h3_cli.specs.Given.{given}
-use Rattle.h3_cli.specs.declared.words.CommandOption.{CommandOption}
-use Rattle.h3_cli.specs.declared.words.CommandOption.TheVariants.{Cell}
-use Rattle.h3_cli.specs.declared.words.CommandName.{CommandName}
+use Rattle.h3_cli.specs.declared.options.CommandOption.{CommandOption}
+use Rattle.h3_cli.specs.declared.options.CommandOption.TheVariants.{Cell, Resolution}
+use Rattle.h3_cli.specs.declared.commands.CommandName.{CommandName}
 use Rattle.h3_cli.specs.declared.words.Words.{Words}
 use Rattle.h3_cli.specs.declared.command.Command.{Command}
-use Rattle.h3_cli.specs.declared.command.Command.TheVariants.{IsValidCell}
+use Rattle.h3_cli.specs.declared.command.Command.TheVariants.{IsValidCell, GetResolution, GetBaseCellNumber, IsPentagon, IsResClassIII, GetNumCells, GetRes0Cells, GetPentagons, CellToParent, CellToCenterChild, CellToChildren, CellToChildrenSize}
 
 -- there is a text, and this is the index that it spells, or none where it spells none
 abbrev pub IsIndex : Option Text → Option ℕ → Type 0
 IsIndex None index = ⊥
 IsIndex (Some text) index = index ≡ spelled_index text
 
+-- there is a text, it is a whole number from 0 to 2147483647, as an `i64` is read, and this is that number
+abbrev pub IsWhole : Option Text → ℤ → Type 0
+IsWhole None number = ⊥
+IsWhole (Some text) number = IsSignedIn (pos 0) (pos 2147483647) text × (number ≡ signed_digits_value 10 text)
+
 -- the command has for each of its options the value that the option's text spells
 abbrev pub HasValues : (CommandOption → Option Text) → Command → Type 0
 HasValues text (IsValidCell cell) = IsIndex (text Cell) cell
+HasValues text (GetResolution cell) = IsIndex (text Cell) cell
+HasValues text (GetBaseCellNumber cell) = IsIndex (text Cell) cell
+HasValues text (IsPentagon cell) = IsIndex (text Cell) cell
+HasValues text (IsResClassIII cell) = IsIndex (text Cell) cell
+HasValues text (GetNumCells res) = IsWhole (text Resolution) res
+HasValues text GetRes0Cells = ⊤
+HasValues text (GetPentagons res) = IsWhole (text Resolution) res
+HasValues text (CellToParent cell res) = IsIndex (text Cell) cell × IsWhole (text Resolution) res
+HasValues text (CellToCenterChild cell res) = IsIndex (text Cell) cell × IsWhole (text Resolution) res
+HasValues text (CellToChildren cell res) = IsIndex (text Cell) cell × IsWhole (text Resolution) res
+HasValues text (CellToChildrenSize cell res) = IsIndex (text Cell) cell × IsWhole (text Resolution) res
 
 -- each option of the command has its text in what a parse found, and its parser let it through
 abbrev pub Answers : CommandName → (CommandOption → Option Text) → Found → Type 0

@@ -2,10 +2,16 @@
 #![tactic(auto)]
 
 mod command;
+mod commands;
 #[cfg(test)]
 mod fakes;
+mod hierarchy;
+mod inspection;
+mod line;
+mod options;
 mod page;
 mod refusal;
+mod resolutions;
 mod run;
 mod words;
 mod write;

@@ -63,6 +63,17 @@ impl From<StreamFault> for Refusal {
     }
 }
 
+impl From<H3Error> for Refusal {
+    ghost use Rattle.h3_cli.specs.declared.refusal.Refusal.{Refusal};
+
+    /// The error of a call.
+    ghost from_gives = { λ e r. r ≡ Refusal.Error e };
+
+    fn from(error: H3Error) -> Refusal {
+        Refusal::Error(error)
+    }
+}
+
 /// The line of an H3 error.
 fn error_line(error: H3Error) -> ArrayString<LINE>
     ensures { result.bytes ≡ error_line error }

@@ -1,34 +1,22 @@
 //! Running a command.
 
 ghost use Rattle.std.specs.Prelude.{◌≡◌, ◌⊎◌, ℕ, List, false, Result};
-ghost use Rattle.h3_cli.specs.Answer.{answer, is_valid_cell_answer, takes_memory, truth_line, uses_list, uses_table};
+ghost use Rattle.h3_cli.specs.Answer.{answer, takes_memory, uses_list, uses_table};
 ghost use Rattle.h3_cli.specs.Run.{Ends, GivesOrRunsOut, ReadFails, Reports, Tells, WritesAs};
 ghost use Rattle.h3_cli.specs.declared.refusal.Refusal.{Refusal};
 
 use crate::command::Command;
+use crate::hierarchy::{
+    cell_to_center_child, cell_to_children, cell_to_children_size, cell_to_parent,
+};
+use crate::inspection::{
+    get_base_cell_number, get_resolution, is_pentagon, is_res_class_iii, is_valid_cell,
+};
 use crate::refusal::Refusal;
-use crate::write::{write_all, write_answer};
-use h3_index::{Cell, H3Error, Sink, Source};
+use crate::resolutions::{get_num_cells, get_pentagons, get_res0_cells};
+use crate::write::write_all;
+use h3_index::{Sink, Source};
 use std::alloc::Global;
-
-/// The line of a truth value.
-fn truth_line(truth: bool) -> &'static [u8]
-    ensures { result.now ≡ truth_line truth }
-{
-    if truth { b"true\n" } else { b"false\n" }
-}
-
-/// Whether an index is a valid cell.
-fn is_valid_cell<W: Sink>(cell: Option<u64>, out: &mut W) -> Result<(), Refusal>
-    ensures writes { WritesAs (is_valid_cell_answer cell) ⊥ result
-        (W.taken out.old) (W.taken out.new) }
-    ensures ends { Ends false (W.has_failed out.new) result (W.taken out.old) (W.taken out.new) }
-{
-    match cell {
-        None => Err(Refusal::Error(H3Error::Failed)),
-        Some(number) => write_answer(out, truth_line(Cell::new(number).is_ok())),
-    }
-}
 
 /// Does the work of a command, up to the line on standard error.
 fn perform<R: Source, T: Source, W: Sink>(
@@ -51,6 +39,17 @@ fn perform<R: Source, T: Source, W: Sink>(
 {
     match command {
         Command::IsValidCell { cell } => is_valid_cell(*cell, out),
+        Command::GetResolution { cell } => get_resolution(*cell, out),
+        Command::GetBaseCellNumber { cell } => get_base_cell_number(*cell, out),
+        Command::IsPentagon { cell } => is_pentagon(*cell, out),
+        Command::IsResClassIII { cell } => is_res_class_iii(*cell, out),
+        Command::GetNumCells { res } => get_num_cells(*res, out),
+        Command::GetRes0Cells => get_res0_cells(out),
+        Command::GetPentagons { res } => get_pentagons(*res, out),
+        Command::CellToParent { cell, res } => cell_to_parent(*cell, *res, out),
+        Command::CellToCenterChild { cell, res } => cell_to_center_child(*cell, *res, out),
+        Command::CellToChildren { cell, res } => cell_to_children(*cell, *res, out),
+        Command::CellToChildrenSize { cell, res } => cell_to_children_size(*cell, *res, out),
     }
 }
 

@@ -4,8 +4,8 @@ use Rattle.std.proofs.lemmas.List.Sums.{fold_more}
 use Rattle.clap.specs.Words.{with_subcommand}
 use Rattle.clap.specs.Simple.{app_of_fields, on_top}
 use Rattle.h3_cli.specs.Commands.{bare_app, with_command}
-use Rattle.h3_cli.specs.declared.words.CommandName.TheVariants.{IsValidCell}
-use Rattle.h3_cli.proofs.words.command_line.Goals as goal
+use Rattle.h3_cli.specs.declared.commands.CommandName.TheVariants.{IsValidCell}
+use Rattle.h3_cli.proofs.commands.command_line.Goals as goal
 
 pub loop-name-init : goal.loop-name-init
 loop-name-init c = ap app_of_fields c.disable_help_subcommand-parser.ensures

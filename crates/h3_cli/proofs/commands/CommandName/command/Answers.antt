@@ -1,0 +1,72 @@
+use Rattle.std.proofs.lemmas.Int.{to_z-of_z}
+use Rattle.std.proofs.Common.{w32, rules, ◌≡◌, ℕ, ℤ, List, Option, Some, pos, false, refl, sym, subst, inl, inr}
+use Rattle.std.specs.Str.Parse.{signed_digits_value}
+use Rattle.clap.specs.Words.{Accepts, IsSignedIn, Text, first_value, found_of}
+use Rattle.clap.specs.declared.parser.matches.Found.{Found}
+use Rattle.h3_index.specs.Text.{spelled_index}
+use Rattle.h3_cli.specs.Options.{IsIn, id_of, parser_done}
+use Rattle.h3_cli.specs.Commands.{options_of}
+use Rattle.h3_cli.specs.Spelling.{Answers, IsIndex, IsWhole}
+use Rattle.h3_cli.specs.declared.options.CommandOption.{CommandOption}
+use Rattle.h3_cli.specs.declared.options.CommandOption.TheVariants.{Cell, Resolution}
+use Rattle.h3_cli.specs.declared.commands.CommandName.{CommandName}
+use Rattle.h3_cli.proofs.commands.CommandName.command.Goals as goal
+
+index_holds : (self k : CommandName) → self ≡ k → (text : CommandOption → Option Text) (f : Found) → Answers self text f → (o : CommandOption) → IsIn o (options_of k) → (index : Option ℕ)
+    → ((t : List ℕ) → first_value f (id_of o) ≡ Some t → index ≡ spelled_index t) → IsIndex (text o) index
+index_holds self k same text f answers o is index reads =
+    let a = answers o (subst (λ x. IsIn o (options_of x)) (sym same) is) in
+    subst (λ t. IsIndex t index) (sym a.1) (reads a.0 a.2)
+
+-- each option of numbers up to 2147483647 is one of these
+whole_holds : (self k : CommandName) → self ≡ k → (text : CommandOption → Option Text) (f : Found) → Answers self text f → (o : CommandOption)
+    → ((t : Text) → Accepts false (parser_done o) t → IsSignedIn (pos 0) (pos 2147483647) t) → IsIn o (options_of k) → (n : ℤ)
+    → ((t : List ℕ) → first_value f (id_of o) ≡ Some t → IsSignedIn (pos 0) (pos 2147483647) t → n ≡ signed_digits_value 10 t) → IsWhole (text o) n
+whole_holds self k same text f answers o fits is n reads =
+    let a = answers o (subst (λ x. IsIn o (options_of x)) (sym same) is) in
+    subst (λ t. IsWhole t n) (sym a.1) (fits a.0 a.3, reads a.0 a.2 (fits a.0 a.3))
+
+pub returns-in-IsValidCell-clause-values : goal.returns-in-IsValidCell-clause-values
+returns-in-IsValidCell-clause-values c = λ text answers. index_holds c.args.self _ c.in-IsValidCell.is text (found_of c.args.matches.now) answers Cell (inl refl) _ c.index-cell.ensures
+
+pub returns-in-GetResolution-clause-values : goal.returns-in-GetResolution-clause-values
+returns-in-GetResolution-clause-values c = λ text answers. index_holds c.args.self _ c.in-GetResolution.is text (found_of c.args.matches.now) answers Cell (inl refl) _ c.index-cell.ensures
+
+pub returns-in-GetBaseCellNumber-clause-values : goal.returns-in-GetBaseCellNumber-clause-values
+returns-in-GetBaseCellNumber-clause-values c = λ text answers. index_holds c.args.self _ c.in-GetBaseCellNumber.is text (found_of c.args.matches.now) answers Cell (inl refl) _ c.index-cell.ensures
+
+pub returns-in-IsPentagon-clause-values : goal.returns-in-IsPentagon-clause-values
+returns-in-IsPentagon-clause-values c = λ text answers. index_holds c.args.self _ c.in-IsPentagon.is text (found_of c.args.matches.now) answers Cell (inl refl) _ c.index-cell.ensures
+
+pub returns-in-IsResClassIII-clause-values : goal.returns-in-IsResClassIII-clause-values
+returns-in-IsResClassIII-clause-values c = λ text answers. index_holds c.args.self _ c.in-IsResClassIII.is text (found_of c.args.matches.now) answers Cell (inl refl) _ c.index-cell.ensures
+
+pub returns-in-GetNumCells-clause-values : goal.returns-in-GetNumCells-clause-values
+returns-in-GetNumCells-clause-values c = λ text answers. subst (IsWhole (text Resolution)) (sym (to_z-of_z w32 c.whole-res.result (search rules))) (whole_holds c.args.self _ c.in-GetNumCells.is text (found_of c.args.matches.now) answers Resolution (λ t a. a) (inl refl) c.whole-res.result c.whole-res.ensures)
+
+pub returns-in-GetPentagons-clause-values : goal.returns-in-GetPentagons-clause-values
+returns-in-GetPentagons-clause-values c = λ text answers. subst (IsWhole (text Resolution)) (sym (to_z-of_z w32 c.whole-res.result (search rules))) (whole_holds c.args.self _ c.in-GetPentagons.is text (found_of c.args.matches.now) answers Resolution (λ t a. a) (inl refl) c.whole-res.result c.whole-res.ensures)
+
+pub returns-in-CellToParent-clause-values : goal.returns-in-CellToParent-clause-values
+returns-in-CellToParent-clause-values c = λ text answers. (
+  index_holds c.args.self _ c.in-CellToParent.is text (found_of c.args.matches.now) answers Cell (inl refl) _ c.index-cell.ensures,
+  subst (IsWhole (text Resolution)) (sym (to_z-of_z w32 c.whole-res.result (search rules))) (whole_holds c.args.self _ c.in-CellToParent.is text (found_of c.args.matches.now) answers Resolution (λ t a. a) (inr (inl refl)) c.whole-res.result c.whole-res.ensures),
+)
+
+pub returns-in-CellToCenterChild-clause-values : goal.returns-in-CellToCenterChild-clause-values
+returns-in-CellToCenterChild-clause-values c = λ text answers. (
+  index_holds c.args.self _ c.in-CellToCenterChild.is text (found_of c.args.matches.now) answers Cell (inl refl) _ c.index-cell.ensures,
+  subst (IsWhole (text Resolution)) (sym (to_z-of_z w32 c.whole-res.result (search rules))) (whole_holds c.args.self _ c.in-CellToCenterChild.is text (found_of c.args.matches.now) answers Resolution (λ t a. a) (inr (inl refl)) c.whole-res.result c.whole-res.ensures),
+)
+
+pub returns-in-CellToChildren-clause-values : goal.returns-in-CellToChildren-clause-values
+returns-in-CellToChildren-clause-values c = λ text answers. (
+  index_holds c.args.self _ c.in-CellToChildren.is text (found_of c.args.matches.now) answers Cell (inl refl) _ c.index-cell.ensures,
+  subst (IsWhole (text Resolution)) (sym (to_z-of_z w32 c.whole-res.result (search rules))) (whole_holds c.args.self _ c.in-CellToChildren.is text (found_of c.args.matches.now) answers Resolution (λ t a. a) (inr (inl refl)) c.whole-res.result c.whole-res.ensures),
+)
+
+pub returns-in-CellToChildrenSize-clause-values : goal.returns-in-CellToChildrenSize-clause-values
+returns-in-CellToChildrenSize-clause-values c = λ text answers. (
+  index_holds c.args.self _ c.in-CellToChildrenSize.is text (found_of c.args.matches.now) answers Cell (inl refl) _ c.index-cell.ensures,
+  subst (IsWhole (text Resolution)) (sym (to_z-of_z w32 c.whole-res.result (search rules))) (whole_holds c.args.self _ c.in-CellToChildrenSize.is text (found_of c.args.matches.now) answers Resolution (λ t a. a) (inr (inl refl)) c.whole-res.result c.whole-res.ensures),
+)

@@ -1,0 +1,155 @@
+//! The names of the commands, and the command line that `clap` parses.
+
+ghost use Rattle.std.specs.Prelude.{◌≡◌, Option, IfOk, find, false};
+ghost use Rattle.std.specs.Str.{bytes_eq};
+ghost use Rattle.clap.specs.Words.{Text, app_of, found_of, shape_of};
+ghost use Rattle.clap.specs.declared.builder.command.Command.TheViews.{out-Command};
+ghost use Rattle.h3_cli.specs.Commands.{app, command_names, name_of_command, options_of, shape_for, word_of};
+ghost use Rattle.h3_cli.specs.Spelling.{Answers, HasValues};
+ghost use Rattle.h3_cli.specs.declared.options.CommandOption.{CommandOption};
+
+use crate::command::Command;
+use crate::options::CommandOption;
+use clap::{ArgMatches, Command as Parser};
+use std::alloc::{AllocError, Global};
+
+/// The name of a command.
+#[derive(Clone, Copy)]
+pub enum CommandName {
+    IsValidCell,
+    GetResolution,
+    GetBaseCellNumber,
+    IsPentagon,
+    IsResClassIII,
+    GetNumCells,
+    GetRes0Cells,
+    GetPentagons,
+    CellToParent,
+    CellToCenterChild,
+    CellToChildren,
+    CellToChildrenSize,
+}
+
+static COMMAND_NAMES: [CommandName; 12] = [
+    CommandName::IsValidCell,
+    CommandName::GetResolution,
+    CommandName::GetBaseCellNumber,
+    CommandName::IsPentagon,
+    CommandName::IsResClassIII,
+    CommandName::GetNumCells,
+    CommandName::GetRes0Cells,
+    CommandName::GetPentagons,
+    CommandName::CellToParent,
+    CommandName::CellToCenterChild,
+    CommandName::CellToChildren,
+    CommandName::CellToChildrenSize,
+];
+
+static NO_OPTIONS: [CommandOption; 0] = [];
+
+static CELL: [CommandOption; 1] = [CommandOption::Cell];
+
+static RESOLUTION: [CommandOption; 1] = [CommandOption::Resolution];
+
+static CELL_RESOLUTION: [CommandOption; 2] = [CommandOption::Cell, CommandOption::Resolution];
+
+impl CommandName {
+    /// The word that names the command.
+    pub fn word<'a>(self) -> &'a str
+        ensures { result.now ≡ word_of self }
+    {
+        match self {
+            CommandName::IsValidCell => "isValidCell",
+            CommandName::GetResolution => "getResolution",
+            CommandName::GetBaseCellNumber => "getBaseCellNumber",
+            CommandName::IsPentagon => "isPentagon",
+            CommandName::IsResClassIII => "isResClassIII",
+            CommandName::GetNumCells => "getNumCells",
+            CommandName::GetRes0Cells => "getRes0Cells",
+            CommandName::GetPentagons => "getPentagons",
+            CommandName::CellToParent => "cellToParent",
+            CommandName::CellToCenterChild => "cellToCenterChild",
+            CommandName::CellToChildren => "cellToChildren",
+            CommandName::CellToChildrenSize => "cellToChildrenSize",
+        }
+    }
+
+    /// The command that the word names.
+    pub fn named_by(word: &str) -> Option<CommandName>
+        ensures { result ≡ find (λ name. bytes_eq (word_of name) word.now) command_names }
+    {
+        COMMAND_NAMES
+            .iter()
+            .copied()
+            .find(|name| name.word() == word)
+    }
+
+    /// The options that the command has.
+    pub fn options(self) -> &'static [CommandOption]
+        ensures { result.now ≡ options_of self }
+    {
+        match self {
+            CommandName::IsValidCell => CELL.as_slice(),
+            CommandName::GetResolution => CELL.as_slice(),
+            CommandName::GetBaseCellNumber => CELL.as_slice(),
+            CommandName::IsPentagon => CELL.as_slice(),
+            CommandName::IsResClassIII => CELL.as_slice(),
+            CommandName::GetNumCells => RESOLUTION.as_slice(),
+            CommandName::GetRes0Cells => NO_OPTIONS.as_slice(),
+            CommandName::GetPentagons => RESOLUTION.as_slice(),
+            CommandName::CellToParent => CELL_RESOLUTION.as_slice(),
+            CommandName::CellToCenterChild => CELL_RESOLUTION.as_slice(),
+            CommandName::CellToChildren => CELL_RESOLUTION.as_slice(),
+            CommandName::CellToChildrenSize => CELL_RESOLUTION.as_slice(),
+        }
+    }
+
+    /// The command as `clap` takes it.
+    pub fn parser<'a>(self, alloc: Global) -> Result<Parser<'a>, AllocError>
+        ensures shape { IfOk result (λ parser. shape_of parser ≡ shape_for self) }
+        ensures local { IfOk result (λ parser. (out-Command parser).has_globals ≡ false) }
+    {
+        let mut parser = Parser::new(alloc, self.word());
+        for option in self.options() {
+            parser = parser.arg(option.argument(alloc))?;
+        }
+        Ok(parser)
+    }
+
+    /// The command with the values that a parse found.
+    pub fn command(self, matches: &ArgMatches<'_>) -> Command
+        ensures named { name_of_command result ≡ self }
+        ensures values { (text : CommandOption → Option Text) → Answers self text (found_of matches.now)
+            → HasValues text result }
+    {
+        let cell = CommandOption::Cell.index(matches);
+        let res = CommandOption::Resolution.whole(matches);
+        match self {
+            CommandName::IsValidCell => Command::IsValidCell { cell },
+            CommandName::GetResolution => Command::GetResolution { cell },
+            CommandName::GetBaseCellNumber => Command::GetBaseCellNumber { cell },
+            CommandName::IsPentagon => Command::IsPentagon { cell },
+            CommandName::IsResClassIII => Command::IsResClassIII { cell },
+            CommandName::GetNumCells => Command::GetNumCells { res },
+            CommandName::GetRes0Cells => Command::GetRes0Cells,
+            CommandName::GetPentagons => Command::GetPentagons { res },
+            CommandName::CellToParent => Command::CellToParent { cell, res },
+            CommandName::CellToCenterChild => Command::CellToCenterChild { cell, res },
+            CommandName::CellToChildren => Command::CellToChildren { cell, res },
+            CommandName::CellToChildrenSize => Command::CellToChildrenSize { cell, res },
+        }
+    }
+}
+
+/// The whole command line as `clap` takes it.
+pub fn command_line<'a>(alloc: Global) -> Result<Parser<'a>, AllocError>
+    ensures { IfOk result (λ parser. app_of parser ≡ app) }
+{
+    let mut parser = Parser::new(alloc, "h3")
+        .subcommand_required(true)
+        .disable_help_subcommand(true);
+    for name in &COMMAND_NAMES {
+        parser = parser.subcommand(name.parser(alloc)?)?;
+    }
+    Ok(parser)
+}

@@ -1,0 +1,67 @@
+//! The options of the commands.
+
+ghost use Rattle.std.specs.Prelude.{◌≡◌, Some, false, pos};
+ghost use Rattle.std.specs.Str.Parse.{signed_digits_value};
+ghost use Rattle.clap.specs.Words.{IsSignedIn, Text, first_value, found_of, rule_of};
+ghost use Rattle.h3_index.specs.Text.{spelled_index};
+ghost use Rattle.h3_cli.specs.Options.{id_of, rule_for};
+
+use clap::{Arg, ArgMatches, value_parser};
+use h3_index::read_index;
+use std::alloc::Global;
+
+/// An option of a command.
+#[derive(Clone, Copy)]
+pub enum CommandOption {
+    /// `-c` or `--cell`: a cell.
+    Cell,
+
+    /// `-r` or `--resolution`: a resolution.
+    Resolution,
+}
+
+impl CommandOption {
+    /// What `clap` knows the option by.
+    pub fn id<'a>(self) -> &'a str
+        ensures { result.now ≡ id_of self }
+    {
+        match self {
+            CommandOption::Cell => "cell",
+            CommandOption::Resolution => "resolution",
+        }
+    }
+
+    /// The option as `clap` takes it.
+    pub fn argument<'a>(self, alloc: Global) -> Arg<'a>
+        ensures rule { rule_of result ≡ rule_for self }
+        ensures local { result.global ≡ false }
+    {
+        let argument = Arg::new(alloc, self.id()).required(true);
+        match self {
+            CommandOption::Cell => argument.short('c').long("cell"),
+            CommandOption::Resolution => argument
+                .short('r')
+                .long("resolution")
+                .value_parser(value_parser!(i64).range(0..=2147483647)),
+        }
+    }
+
+    /// The index that the option's text spells.
+    pub fn index(self, matches: &ArgMatches<'_>) -> Option<u64>
+        ensures { (text : Text) → first_value (found_of matches.now) (id_of self) ≡ Some text
+            → result ≡ spelled_index text }
+    {
+        read_index(matches.get_str(self.id())?.as_bytes()).ok()
+    }
+
+    /// The whole number from 0 to 2147483647 that the option's text spells.
+    pub fn whole(self, matches: &ArgMatches<'_>) -> i32
+        ensures { (text : Text) → first_value (found_of matches.now) (id_of self) ≡ Some text
+            → IsSignedIn (pos 0) (pos 2147483647) text → result ≡ signed_digits_value 10 text }
+    {
+        match matches.get_str(self.id()) {
+            Some(text) => text.parse().unwrap_or(0),
+            None => 0,
+        }
+    }
+}
