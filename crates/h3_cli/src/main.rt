@@ -2,8 +2,10 @@
 #![tactic(auto)]
 
 mod command;
+mod counted;
 #[cfg(test)]
 mod fakes;
+pub mod list;
 mod page;
 mod refusal;
 mod run;
