@@ -3,6 +3,7 @@ pub mod Call
 pub mod Commands
 pub mod Faults
 pub mod Given
+pub mod List
 pub mod Options
 pub mod PageWriter
 pub mod Refusal

@@ -3,11 +3,13 @@
 
 mod command;
 mod commands;
+mod counted;
 #[cfg(test)]
 mod fakes;
 mod hierarchy;
 mod inspection;
 mod line;
+pub mod list;
 mod options;
 mod page;
 mod refusal;

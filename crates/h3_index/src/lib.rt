@@ -13,7 +13,7 @@ pub use cell::{Cell, is_pentagon_base};
 pub use count::{num_cells, pentagon, res0_cell};
 pub use error::H3Error;
 pub use stream::{Sink, Source, StreamFault, Streamed};
-pub use text::{read_index, write_index};
+pub use text::{is_blank_text, read_index, write_index};
 
 #[cfg(test)]
 mod tests;

@@ -1,9 +1,9 @@
 //! The texts of indexes.
 
-ghost use Rattle.std.specs.Prelude.{◌≡◌, ◌<◌, ◌++◌, ◌∷◌, [], length, IfErr};
+ghost use Rattle.std.specs.Prelude.{◌≡◌, ◌==◌, ◌<◌, ◌++◌, ◌∷◌, [], length, IfErr};
 ghost use Rattle.std.specs.Char.{digit_char};
 ghost use Rattle.std.specs.Result.{result_ok};
-ghost use Rattle.h3_index.specs.Text.{is_blank, without_leading_blanks, without_trailing_blanks, without_prefix, number_spelled, spelled_index, text_of};
+ghost use Rattle.h3_index.specs.Text.{is_blank, without_leading_blanks, without_trailing_blanks, without_prefix, number_spelled, spelled_index, text_of, trimmed};
 
 use crate::error::H3Error;
 use arrayvec::ArrayString;
@@ -41,6 +41,13 @@ fn without_trailing_blanks(bytes: &[u8]) -> &[u8]
         rest = before;
     }
     rest
+}
+
+/// Whether nothing is left of a text without the spaces, tabs and carriage returns at both ends.
+pub fn is_blank_text(bytes: &[u8]) -> bool
+    ensures { result ≡ (length (trimmed bytes.now) == 0) }
+{
+    without_trailing_blanks(without_leading_blanks(bytes)).is_empty()
 }
 
 /// The bytes without a `0x` or `0X` in front.
