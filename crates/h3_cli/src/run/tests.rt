@@ -3,16 +3,55 @@ use crate::command::Command;
 use crate::fakes::{SlowSink, SlowSource};
 use arrayvec::ArrayVec;
 use h3_index::{Sink, Source, Streamed, read_index};
+use std::process::Abort;
 
-/// Runs `isValidCell` on a word, over sources that fail at the first pull.
-fn is_valid_cell<W: Sink, E: Sink>(rt: &HostRuntime, word: &str, out: &mut W, err: &mut E) -> u8 {
-    let command = Command::IsValidCell {
-        cell: read_index(word.as_bytes()).ok(),
-    };
+/// Runs a command, over sources that fail at the first pull.
+fn run_alone<R: AllocGlobal, W: Sink, E: Sink>(
+    rt: &R,
+    command: &Command,
+    out: &mut W,
+    err: &mut E,
+) -> u8 {
     let mut input = SlowSource::new(b"", 1, 0);
     let mut table = SlowSource::new(b"", 1, 0);
-    run(rt.alloc(), &command, &mut input, &mut table, out, err)
+    run(rt.alloc(), command, &mut input, &mut table, out, err)
 }
+
+/// Asserts that a command writes this, and ends well.
+fn assert_written<R: Abort + AllocGlobal>(rt: &R, command: Command, text: &str) {
+    let mut out = Streamed::new(ArrayVec::<u8, 2048>::new());
+    let mut err = Streamed::new(ArrayVec::<u8, 64>::new());
+    let status = run_alone(rt, &command, &mut out, &mut err);
+    assert_eq!(rt; status, 0, "{command:?}");
+    assert!(rt;
+        out.into_inner().as_slice() == text.as_bytes(),
+        "{command:?}"
+    );
+    assert!(rt; err.into_inner().is_empty(), "{command:?}");
+}
+
+/// Asserts that a command writes nothing, and ends with this line on standard error.
+fn assert_refused<R: Abort + AllocGlobal>(rt: &R, command: Command, line: &str) {
+    let mut out = Streamed::new(ArrayVec::<u8, 64>::new());
+    let mut err = Streamed::new(ArrayVec::<u8, 64>::new());
+    let status = run_alone(rt, &command, &mut out, &mut err);
+    assert_eq!(rt; status, 1, "{command:?}");
+    assert!(rt; out.into_inner().is_empty(), "{command:?}");
+    assert!(rt;
+        err.into_inner().as_slice() == line.as_bytes(),
+        "{command:?}"
+    );
+}
+
+fn index_of(word: &str) -> Option<u64> {
+    read_index(word.as_bytes()).ok()
+}
+
+/// The cell of many rows: of resolution 5, in base cell 20.
+const HEXAGON: Option<u64> = Some(0x85283473fffffff);
+
+/// A pentagon of resolution 0.
+const PENTAGON: Option<u64> = Some(0x8009fffffffffff);
 
 #[test]
 fn tells_valid_cells(rt: HostRuntime) {
@@ -27,35 +66,144 @@ fn tells_valid_cells(rt: HostRuntime) {
         ("0", "false\n"),
     ];
     for (word, line) in answers {
-        let mut out = Streamed::new(ArrayVec::<u8, 64>::new());
-        let mut err = Streamed::new(ArrayVec::<u8, 64>::new());
-        let status = is_valid_cell(&rt, word, &mut out, &mut err);
-        assert_eq!(&rt; status, 0, "at {word}");
-        assert!(&rt; out.into_inner().as_slice() == line.as_bytes(), "at {word}");
-        assert!(&rt; err.into_inner().is_empty(), "at {word}");
+        let cell = index_of(word);
+        assert_written(&rt, Command::IsValidCell { cell }, line);
     }
 }
 
 #[test]
 fn refuses_words_that_spell_no_index(rt: HostRuntime) {
     for word in ["xyz", "00085283473fffffff", ""] {
-        let mut out = Streamed::new(ArrayVec::<u8, 64>::new());
-        let mut err = Streamed::new(ArrayVec::<u8, 64>::new());
-        let status = is_valid_cell(&rt, word, &mut out, &mut err);
-        assert_eq!(&rt; status, 1, "at {word}");
-        assert!(&rt; out.into_inner().is_empty(), "at {word}");
-        assert!(&rt;
-            err.into_inner().as_slice() == b"error 1: E_FAILED\n".as_slice(),
-            "at {word}"
+        let cell = index_of(word);
+        assert_refused(&rt, Command::IsValidCell { cell }, "error 1: E_FAILED\n");
+        assert_refused(
+            &rt,
+            Command::GetBaseCellNumber { cell },
+            "error 1: E_FAILED\n",
         );
+        let children = Command::CellToChildren { cell, res: 16 };
+        assert_refused(&rt, children, "error 1: E_FAILED\n");
     }
 }
+
+#[test]
+fn refuses_indexes_that_are_no_cells(rt: HostRuntime) {
+    let cell = index_of("81087ffffffffff");
+    let line = "error 5: E_CELL_INVALID\n";
+    assert_refused(&rt, Command::GetResolution { cell }, line);
+    assert_refused(&rt, Command::IsPentagon { cell }, line);
+    assert_refused(&rt, Command::IsResClassIII { cell }, line);
+    assert_refused(&rt, Command::CellToParent { cell, res: 16 }, line);
+}
+
+#[test]
+fn tells_of_cells(rt: HostRuntime) {
+    let cell = HEXAGON;
+    assert_written(&rt, Command::GetResolution { cell }, "5\n");
+    assert_written(&rt, Command::GetBaseCellNumber { cell }, "20\n");
+    assert_written(&rt, Command::IsPentagon { cell }, "false\n");
+    assert_written(&rt, Command::IsResClassIII { cell }, "true\n");
+    let cell = index_of("81083ffffffffff");
+    assert_written(&rt, Command::IsPentagon { cell }, "true\n");
+    let cell = index_of("8108bffffffffff");
+    assert_written(&rt, Command::IsPentagon { cell }, "false\n");
+    assert_written(&rt, Command::IsResClassIII { cell: PENTAGON }, "false\n");
+}
+
+#[test]
+fn counts_cells(rt: HostRuntime) {
+    assert_written(&rt, Command::GetNumCells { res: 0 }, "122\n");
+    assert_written(&rt, Command::GetNumCells { res: 15 }, "569707381193162\n");
+    assert_refused(
+        &rt,
+        Command::GetNumCells { res: 16 },
+        "error 4: E_RES_DOMAIN\n",
+    );
+}
+
+#[test]
+fn lists_base_cells(rt: HostRuntime) {
+    let mut out = Streamed::new(ArrayVec::<u8, 2048>::new());
+    let mut err = Streamed::new(ArrayVec::<u8, 64>::new());
+    let status = run_alone(&rt, &Command::GetRes0Cells, &mut out, &mut err);
+    assert_eq!(&rt; status, 0);
+    let bytes = out.into_inner();
+    assert_eq!(&rt; bytes.len(), 122 * 16);
+    assert!(&rt;
+        bytes
+            .as_slice()
+            .starts_with(b"8001fffffffffff\n8003fffffffffff\n")
+    );
+    assert!(&rt; bytes.as_slice().ends_with(b"\n80f3fffffffffff\n"));
+}
+
+#[test]
+fn lists_pentagons(rt: HostRuntime) {
+    let coarsest = "8009fffffffffff\n801dfffffffffff\n8031fffffffffff\n804dfffffffffff\n\
+                    8063fffffffffff\n8075fffffffffff\n807ffffffffffff\n8091fffffffffff\n\
+                    80a7fffffffffff\n80c3fffffffffff\n80d7fffffffffff\n80ebfffffffffff\n";
+    assert_written(&rt, Command::GetPentagons { res: 0 }, coarsest);
+    let mut out = Streamed::new(ArrayVec::<u8, 2048>::new());
+    let mut err = Streamed::new(ArrayVec::<u8, 64>::new());
+    let status = run_alone(&rt, &Command::GetPentagons { res: 1 }, &mut out, &mut err);
+    assert_eq!(&rt; status, 0);
+    let bytes = out.into_inner();
+    assert_eq!(&rt; bytes.len(), 12 * 16);
+    assert!(&rt; bytes.as_slice().starts_with(b"81083ffffffffff\n"));
+    assert!(&rt; bytes.as_slice().ends_with(b"\n81ea3ffffffffff\n"));
+    assert_refused(
+        &rt,
+        Command::GetPentagons { res: 16 },
+        "error 4: E_RES_DOMAIN\n",
+    );
+}
+
+#[test]
+fn leads_up_to_ancestors(rt: HostRuntime) {
+    let to = |res: i32| Command::CellToParent { cell: HEXAGON, res };
+    assert_written(&rt, to(4), "8428347ffffffff\n");
+    assert_written(&rt, to(5), "85283473fffffff\n");
+    assert_refused(&rt, to(6), "error 12: E_RES_MISMATCH\n");
+    assert_refused(&rt, to(16), "error 4: E_RES_DOMAIN\n");
+}
+
+#[test]
+fn leads_down_to_descendants(rt: HostRuntime) {
+    let cell = HEXAGON;
+    let center = Command::CellToCenterChild { cell, res: 15 };
+    assert_written(&rt, center, "8f2834700000000\n");
+    let children = "862834707ffffff\n86283470fffffff\n862834717ffffff\n86283471fffffff\n\
+                    862834727ffffff\n86283472fffffff\n862834737ffffff\n";
+    assert_written(&rt, Command::CellToChildren { cell, res: 6 }, children);
+    let coarser = Command::CellToChildren { cell, res: 4 };
+    assert_refused(&rt, coarser, "error 4: E_RES_DOMAIN\n");
+    let below_pentagon = "81083ffffffffff\n8108bffffffffff\n8108fffffffffff\n\
+                          81093ffffffffff\n81097ffffffffff\n8109bffffffffff\n";
+    let children = Command::CellToChildren {
+        cell: PENTAGON,
+        res: 1,
+    };
+    assert_written(&rt, children, below_pentagon);
+}
+
+#[test]
+fn counts_descendants(rt: HostRuntime) {
+    let cell = index_of("8029fffffffffff");
+    let size = Command::CellToChildrenSize { cell, res: 15 };
+    assert_written(&rt, size, "4747561509943\n");
+    let cell = PENTAGON;
+    let size = Command::CellToChildrenSize { cell, res: 15 };
+    assert_written(&rt, size, "3956301258286\n");
+}
+
+/// Whether the cell of many rows is one.
+const IS_CELL: Command = Command::IsValidCell { cell: HEXAGON };
 
 #[test]
 fn writes_in_as_many_pushes_as_it_takes(rt: HostRuntime) {
     let mut out: SlowSink<64> = SlowSink::new(1, 6);
     let mut err: SlowSink<64> = SlowSink::new(64, 0);
-    let status = is_valid_cell(&rt, "85283473fffffff", &mut out, &mut err);
+    let status = run_alone(&rt, &IS_CELL, &mut out, &mut err);
     assert_eq!(&rt; status, 0);
     assert!(&rt; out.bytes() == b"true\n".as_slice());
     assert!(&rt; err.bytes().is_empty());
@@ -65,17 +213,42 @@ fn writes_in_as_many_pushes_as_it_takes(rt: HostRuntime) {
 fn a_write_fault_leaves_a_beginning(rt: HostRuntime) {
     let mut out: SlowSink<3> = SlowSink::new(2, 100);
     let mut err: SlowSink<64> = SlowSink::new(5, 100);
-    let status = is_valid_cell(&rt, "85283473fffffff", &mut out, &mut err);
+    let status = run_alone(&rt, &IS_CELL, &mut out, &mut err);
     assert_eq!(&rt; status, 4);
     assert!(&rt; out.bytes() == b"tru".as_slice());
     assert!(&rt; err.bytes() == b"fault: write\n".as_slice());
 }
 
 #[test]
+fn a_write_fault_between_lines_leaves_a_beginning(rt: HostRuntime) {
+    let command = Command::CellToChildren {
+        cell: HEXAGON,
+        res: 6,
+    };
+    let mut out: SlowSink<20> = SlowSink::new(64, 100);
+    let mut err: SlowSink<64> = SlowSink::new(64, 100);
+    let status = run_alone(&rt, &command, &mut out, &mut err);
+    assert_eq!(&rt; status, 4);
+    assert!(&rt; out.bytes() == b"862834707ffffff\n8628".as_slice());
+    assert!(&rt; err.bytes() == b"fault: write\n".as_slice());
+}
+
+#[test]
+fn a_long_list_is_written_from_the_start(rt: HostRuntime) {
+    let cell = index_of("8001fffffffffff");
+    let mut out: SlowSink<40> = SlowSink::new(64, 100);
+    let mut err: SlowSink<64> = SlowSink::new(64, 100);
+    let command = Command::CellToChildren { cell, res: 15 };
+    let status = run_alone(&rt, &command, &mut out, &mut err);
+    assert_eq!(&rt; status, 4);
+    assert!(&rt; out.bytes() == b"8f0000000000000\n8f0000000000001\n8f000000".as_slice());
+}
+
+#[test]
 fn a_refused_flush_is_a_write_fault(rt: HostRuntime) {
     let mut out: SlowSink<64> = SlowSink::new(64, 1);
     let mut err: SlowSink<64> = SlowSink::new(64, 100);
-    let status = is_valid_cell(&rt, "85283473fffffff", &mut out, &mut err);
+    let status = run_alone(&rt, &IS_CELL, &mut out, &mut err);
     assert_eq!(&rt; status, 4);
     assert!(&rt; out.bytes() == b"true\n".as_slice());
     assert!(&rt; err.bytes() == b"fault: write\n".as_slice());
@@ -85,8 +258,9 @@ fn a_refused_flush_is_a_write_fault(rt: HostRuntime) {
 fn a_standard_error_that_fails_changes_no_status(rt: HostRuntime) {
     let mut err: SlowSink<64> = SlowSink::new(64, 0);
     let mut out: SlowSink<64> = SlowSink::new(64, 100);
-    assert_eq!(&rt; is_valid_cell(&rt, "xyz", &mut out, &mut err), 1);
+    let command = Command::IsValidCell { cell: None };
+    assert_eq!(&rt; run_alone(&rt, &command, &mut out, &mut err), 1);
     let mut out: SlowSink<64> = SlowSink::new(64, 0);
-    assert_eq!(&rt; is_valid_cell(&rt, "0", &mut out, &mut err), 4);
+    assert_eq!(&rt; run_alone(&rt, &IS_CELL, &mut out, &mut err), 4);
     assert!(&rt; err.bytes().is_empty());
 }

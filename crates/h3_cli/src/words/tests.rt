@@ -39,6 +39,57 @@ fn reads_commands(rt: HostRuntime) -> Result<(), Fail> {
 }
 
 #[test]
+fn reads_options(rt: HostRuntime) -> Result<(), Fail> {
+    let alloc = rt.alloc();
+    let cell = Some(0x85283473fffffff);
+    let cases = [
+        ("h3 getRes0Cells", Command::GetRes0Cells),
+        (
+            "h3 getResolution -c 85283473fffffff",
+            Command::GetResolution { cell },
+        ),
+        (
+            "h3 getBaseCellNumber -c 85283473fffffff",
+            Command::GetBaseCellNumber { cell },
+        ),
+        (
+            "h3 isPentagon -c 85283473fffffff",
+            Command::IsPentagon { cell },
+        ),
+        (
+            "h3 isResClassIII -c 85283473fffffff",
+            Command::IsResClassIII { cell },
+        ),
+        ("h3 getNumCells -r 15", Command::GetNumCells { res: 15 }),
+        (
+            "h3 getPentagons --resolution=2147483647",
+            Command::GetPentagons { res: 2147483647 },
+        ),
+        (
+            "h3 cellToParent -r 4 -c 85283473fffffff",
+            Command::CellToParent { cell, res: 4 },
+        ),
+        (
+            "h3 cellToCenterChild -c 85283473fffffff -r +6",
+            Command::CellToCenterChild { cell, res: 6 },
+        ),
+        (
+            "h3 cellToChildren --cell 85283473fffffff -r6",
+            Command::CellToChildren { cell, res: 6 },
+        ),
+        (
+            "h3 cellToChildrenSize -c 85283473fffffff -r=0",
+            Command::CellToChildrenSize { cell, res: 0 },
+        ),
+    ];
+    for (line, command) in cases {
+        let answer = read(alloc, line)?;
+        assert!(rt; asks_for(&answer, command), "{line}");
+    }
+    Ok(())
+}
+
+#[test]
 fn refuses_other_words(rt: HostRuntime) -> Result<(), Fail> {
     let alloc = rt.alloc();
     let lines = [
@@ -48,6 +99,12 @@ fn refuses_other_words(rt: HostRuntime) -> Result<(), Fail> {
         "h3 isValidCell -c",
         "h3 isValidCell -c 0 -c 0",
         "h3 isValidCell -c 0 -r 3",
+        "h3 getResolution",
+        "h3 getRes0Cells -c 0",
+        "h3 cellToParent -c 85283473fffffff",
+        "h3 cellToParent -c 85283473fffffff -r five",
+        "h3 cellToParent -c 85283473fffffff -r -1",
+        "h3 cellToParent -c 85283473fffffff -r 2147483648",
         "h3 isValidCell -c 0 0",
         "h3 --version",
     ];
