@@ -10,13 +10,13 @@ use Rattle.h3_index.specs.Laws.{IsChain}
 use Rattle.h3_index.specs.Paths.{paths, carry, next_path, next_step, Links}
 use Rattle.h3_tree.specs.Following.{following, cells_from}
 
-not_zero : (n : ℕ) → (suc n == 0) ≡ false
+pub not_zero : (n : ℕ) → (suc n == 0) ≡ false
 not_zero n = grind (arith, nat_tests)
 
 same_digits : (b : ℕ) (xs ys : List ℕ) → xs ≡ ys → ◌≡◌ {A = Address} (record { base = b; digits = xs }) (record { base = b; digits = ys })
 same_digits b xs ys e = ap {B = Address} (λ zs. record { base = b; digits = zs }) e
 
-address_same : (a b : Address) → a.base ≡ b.base → a.digits ≡ b.digits → a ≡ b
+pub address_same : (a b : Address) → a.base ≡ b.base → a.digits ≡ b.digits → a ≡ b
 address_same a b e f = same_digits a.base a.digits b.digits f ∙ ap {B = Address} (λ n. record { base = n; digits = b.digits }) e
 
 carry_some : (p : Bool) (d n : ℕ) (r : Option (List ℕ)) (es : List ℕ) → r ≡ Some es → carry p d n r ≡ Some (d ∷ es)

@@ -1,2 +1,5 @@
+pub mod BlockLaws
 pub mod FollowingLaws
+pub mod PositionLaws
 pub mod SizeLaws
+pub mod WalkLaws

@@ -4,11 +4,13 @@
 mod ancestors;
 mod descendants;
 mod iter;
+mod positions;
 mod resolutions;
 
 pub use ancestors::parent;
 pub use descendants::{center_child, children, children_size};
 pub use iter::Children;
+pub use positions::{child_at, child_pos};
 
 #[cfg(test)]
 mod tests;

@@ -1,4 +1,4 @@
-use crate::{center_child, children, children_size, parent};
+use crate::{center_child, child_at, child_pos, children, children_size, parent};
 use h3_index::{Cell, H3Error};
 use std::process::Abort;
 use std::test::Fail;
@@ -73,5 +73,44 @@ fn sizes(rt: HostRuntime) -> Result<(), Fail> {
 fn center_children(rt: HostRuntime) -> Result<(), Fail> {
     let center = center_child(Cell::new(0x85283473fffffff)?, 15)?;
     assert_eq!(rt; center.raw(), 0x8f2834700000000);
+    Ok(())
+}
+
+#[test]
+fn positions(rt: HostRuntime) -> Result<(), Fail> {
+    let cell = Cell::new(0x85283473fffffff)?;
+    assert_eq!(rt; child_pos(cell, 0)?, 2279);
+    assert_eq!(rt; child_pos(cell, 5)?, 0);
+    assert_eq!(rt; child_pos(cell, 6), Err(H3Error::ResMismatch));
+    assert_eq!(rt; child_pos(cell, 16), Err(H3Error::ResDomain));
+    assert_eq!(rt; child_pos(cell, -1), Err(H3Error::ResDomain));
+    for (raw, position) in [
+        (0x8209b7fffffffff, 40),
+        (0x8108bffffffffff, 1),
+        (0x820817fffffffff, 1),
+    ] {
+        assert_eq!(rt; child_pos(Cell::new(raw)?, 0)?, position, "of {raw:x}");
+    }
+    Ok(())
+}
+
+#[test]
+fn members_at_positions(rt: HostRuntime) -> Result<(), Fail> {
+    let pentagon = Cell::new(0x8009fffffffffff)?;
+    for (position, cell, res, member) in [
+        (2279, 0x8029fffffffffff, 5, 0x85283473fffffff),
+        (0, 0x8009fffffffffff, 2, 0x820807fffffffff),
+        (6, 0x8009fffffffffff, 2, 0x820887fffffffff),
+        (40, 0x8009fffffffffff, 2, 0x8209b7fffffffff),
+    ] {
+        let found = child_at(position, Cell::new(cell)?, res)?;
+        assert_eq!(rt; found.raw(), member, "at {position}");
+    }
+    assert_eq!(rt; child_at(41, pentagon, 2), Err(H3Error::Domain));
+    let finer = Cell::new(0x8108bffffffffff)?;
+    assert_eq!(rt; child_at(0, finer, 0), Err(H3Error::ResMismatch));
+    assert_eq!(rt; child_at(0, pentagon, 16), Err(H3Error::ResDomain));
+    assert_eq!(rt; child_at(41, finer, 16), Err(H3Error::ResDomain));
+    assert_eq!(rt; child_at(41, finer, 0), Err(H3Error::ResMismatch));
     Ok(())
 }

@@ -1,0 +1,248 @@
+-- Positions level by level: under a cell and under its child, on the way up and on the way down.
+use Rattle.std.proofs.Common.{ℕ, ◌≡◌, ◌≢◌, ◌+◌, ◌-◌, ◌*◌, ◌/◌, ◌%◌, ◌^◌, ◌<◌, ◌≤◌, ◌==◌, List, [], ◌∷◌, ◌++◌, length, take, Bool, true, false, refl, slice_get, Some, get_or, length-append, arith, ◌∙◌, sym, ap, subst, inl, inr}
+use Rattle.std.proofs.Math.Seq.{take-length}
+use Rattle.std.proofs.lemmas.Bool.{cases_Bool}
+use Rattle.std.proofs.lemmas.Bool.Decides.{nat_tests}
+use Rattle.std.proofs.lemmas.List.{length-take-le, take-take, take_all}
+use Rattle.std.proofs.lemmas.List.Elements.{Contains-get_or}
+use Rattle.std.proofs.lemmas.Nat.{div-add-mod', mod_below, div_below}
+use Rattle.std.proofs.lemmas.Option.{get_or_from_slice_get, slice_get-get_or, slice_get_within}
+use Rattle.h3_index.specs.Cell.{Address, IsCell, is_pentagon}
+use Rattle.h3_index.specs.Descendants.{child, cut, descendants, IsDescendant}
+use Rattle.h3_index.specs.Paths.{next_step}
+use Rattle.h3_tree.specs.Positions.{position_under, HasPosition}
+use Rattle.h3_tree.proofs.BlockLaws.{IsBlock, and_false, block_at, child-cut, get-block, length-blocks, not_deleted, offset, outer_size, pentagon-child}
+use Rattle.h3_tree.proofs.FollowingLaws.{address_same, digit_small}
+use Rattle.h3_tree.proofs.PositionLaws.{AreListed, get-position_under, members_have_positions, position_under-get, size_small, size_some}
+use Rattle.h3_tree.proofs.SizeLaws.{sevens_some}
+
+-- ---- under a cell and under its child
+
+position_under-child : AreListed → (m x : Address) (s d before : ℕ) → IsCell m → IsCell (child m d) → s ≤ 15 → IsBlock m s d before → IsDescendant (child m d) s x → position_under m x ≡ before + position_under (child m d) x
+position_under-child laws m x s d before v w high b h =
+    let low : length (m.digits ++ d ∷ []) ≤ s = omega (arith, length-append m.digits (d ∷ []), b.finer) in
+    let at = get-position_under laws (child m d) x s w low high h in
+    let g = get-block m s d before (position_under (child m d) x) x b at.within in
+    ap (position_under m) (sym (g.1 ∙ at.is)) ∙ position_under-get laws m s (before + position_under (child m d) x) x v (omega (arith, b.finer)) high g.0
+
+child_of : AreListed → (m x : Address) (s d before place : ℕ) → IsCell m → IsCell (child m d) → s ≤ 15 → IsBlock m s d before → before ≤ place → place - before < length (descendants (child m d) s) → HasPosition m s x place → HasPosition (child m d) s x (place - before)
+child_of laws m x s d before place v w high b from to h =
+    let low : length (m.digits ++ d ∷ []) ≤ s = omega (arith, length-append m.digits (d ∷ []), b.finer) in
+    let at = get-position_under laws m x s v (omega (arith, b.finer)) high h.descendant in
+    let g = get-block m s d before (place - before) x b to in
+    let back : before + (place - before) ≡ position_under m x = omega (arith, from, h.is) in
+    let here : get_or (descendants (child m d) s) (place - before) x ≡ x = sym g.1 ∙ ap (λ n. get_or (descendants m s) n x) back ∙ at.is in
+    let under : IsDescendant (child m d) s x = (laws.members (child m d) s w low high x).0 (place - before, to, here) in
+    record { descendant = under; is = ap (position_under (child m d)) (sym here) ∙ position_under-get laws (child m d) s (place - before) x w low high to }
+
+-- ---- how many stand before a cell's own
+
+pub record IsBefore (c : Address) (s before : ℕ) : Type 0 where
+  pub small : before ≤ 4747561509943
+  pub ahead : (x : Address) → IsDescendant c s x → position_under (cut c (length c.digits - 1)) x ≡ before + position_under c x
+
+before_of : AreListed → (m c : Address) (s d before : ℕ) → child m d ≡ c → IsCell m → IsCell c → s ≤ 15 → IsBlock m s d before → (before ≤ 4747561509943) × ((x : Address) → IsDescendant c s x → position_under m x ≡ before + position_under c x)
+before_of laws m c s d before e v w high b =
+    let w' : IsCell (child m d) = subst IsCell (sym e) w in
+    let first = get-block m s d before 0 m b (size_some laws (child m d) s) in (
+      omega (arith, first.0, size_small laws m s high),
+      subst (λ y. (x : Address) → IsDescendant y s x → position_under m x ≡ before + position_under y x) e (λ x h. position_under-child laws m x s d before v w' high b h),
+    )
+
+no_zero : (k : ℕ) → k ≢ 0 → (k == 0) ≡ false
+no_zero k h = grind (arith, nat_tests)
+
+-- d is the last digit of a cell that is not coarser than s
+pub record IsLastDigit (c : Address) (s d : ℕ) : Type 0 where
+  pub valid : IsCell c
+  pub parent_valid : IsCell (cut c (length c.digits - 1))
+  pub some : 0 < length c.digits
+  pub low : length c.digits ≤ s
+  pub high : s ≤ 15
+  pub is : get_or c.digits (length c.digits - 1) 7 ≡ d
+  pub small : d < 7
+
+pub last_digit : (c parent : Address) (s d own : ℕ) → IsCell c → own ≡ length c.digits → 0 < length c.digits → length c.digits ≤ s → s ≤ 15 → d ≡ get_or c.digits (own - 1) 7 → parent ≡ cut c (own - 1) → IsCell parent → IsLastDigit c s d
+last_digit c parent s d own v own_is some low high d_is parent_is w =
+    let is : get_or c.digits (length c.digits - 1) 7 ≡ d = sym (d_is ∙ ap (λ n. get_or c.digits (n - 1) 7) own_is) in
+    record {
+      valid = v;
+      parent_valid = subst IsCell (parent_is ∙ ap (λ n. cut c (n - 1)) own_is) w;
+      some = some;
+      low = low;
+      high = high;
+      is = is;
+      small = rw (← is) (digit_small c.digits (length c.digits - 1) v.digits_small (omega arith));
+    }
+
+step_low : (p : Bool) (d : ℕ) → d ≢ 0 → (p ≡ true → d ≢ 1) → next_step p 0 ≤ d
+step_low true d nz ok = let one = ok refl in omega (arith, nz, one)
+step_low false d nz ok = omega (arith, nz)
+
+module _ (laws : AreListed) (c : Address) (s d : ℕ) (h : IsLastDigit c s d) where
+  parent_level : length (take (length c.digits - 1) c.digits) ≡ length c.digits - 1
+  parent_level = length-take-le (length c.digits - 1) c.digits (omega (arith, h.some))
+
+  whole_cell : child (cut c (length c.digits - 1)) d ≡ c
+  whole_cell = child-cut c d h.some h.is
+
+  before_at : (center outer : ℕ) → center ≡ length (descendants (child (cut c (length c.digits - 1)) 0) s) → outer ≡ 7 ^ (s - length c.digits) → IsBefore c s (offset (is_pentagon (cut c (length c.digits - 1))) center outer d)
+  before_at center outer e o =
+      let more : s - length c.digits ≡ s - length (take (length c.digits - 1) c.digits) - 1 = omega (arith, parent_level, h.some) in
+      let b = block_at laws.hexagons (cut c (length c.digits - 1)) s d center outer (omega (arith, parent_level, h.some, h.low)) e (o ∙ ap (λ n. 7 ^ n) more) h.small (not_deleted (cut c (length c.digits - 1)) d (subst IsCell (sym whole_cell) h.valid)) in
+      let f = before_of laws (cut c (length c.digits - 1)) c s d (offset (is_pentagon (cut c (length c.digits - 1))) center outer d) whole_cell h.parent_valid h.valid h.high b in
+      record { small = f.0; ahead = f.1 }
+
+  pub before_center : d ≡ 0 → IsBefore c s 0
+  before_center z =
+      rw z at (before_at (length (descendants (child (cut c (length c.digits - 1)) 0) s)) (7 ^ (s - length c.digits)) refl refl)
+
+  pub not_pentagon : d ≢ 0 → is_pentagon c ≡ false
+  not_pentagon nz =
+      subst (λ y. is_pentagon y ≡ false) whole_cell (pentagon-child (cut c (length c.digits - 1)) d ∙ (rw (no_zero d nz) (and_false (is_pentagon (cut c (length c.digits - 1))))))
+
+  pub after_center : (step : ℕ) → d ≢ 0 → step ≡ next_step (is_pentagon (cut c (length c.digits - 1))) 0 → step ≤ d
+  after_center step nz e =
+      rw e (step_low (is_pentagon (cut c (length c.digits - 1))) d nz (not_deleted (cut c (length c.digits - 1)) d (subst IsCell (sym whole_cell) h.valid)))
+
+  pub before_outer : (center outer : ℕ) → d ≢ 0 → center ≡ length (descendants (child (cut c (length c.digits - 1)) 0) s) → outer ≡ 7 ^ (s - length c.digits) → IsBefore c s (center + (d - next_step (is_pentagon (cut c (length c.digits - 1))) 0) * outer)
+  before_outer center outer nz e o = rw (no_zero d nz) at (before_at center outer e o)
+
+-- ---- the child that has a descendant
+
+pub record IsChildBelow (m : Address) (s place d rest : ℕ) : Type 0 where
+  pub small : d < 7
+  pub ok : is_pentagon m ≡ true → d ≢ 1
+  pub below : IsCell (child m d) → (x : Address) → HasPosition m s x place → HasPosition (child m d) s x rest
+
+pub level_of_child : (m : Address) (d : ℕ) → length (m.digits ++ d ∷ []) ≡ length m.digits + 1
+level_of_child m d = length-append m.digits (d ∷ [])
+
+module _ (laws : AreListed) (m : Address) (s place center outer : ℕ) (v : IsCell m) (finer : length m.digits < s) (high : s ≤ 15) (c : center ≡ length (descendants (child m 0) s)) (o : outer ≡ 7 ^ (s - length m.digits - 1)) where
+  pub below_center : place < center → IsCell (child m 0) → (x : Address) → HasPosition m s x place → HasPosition (child m 0) s x place
+  below_center lt w x h =
+      let b = block_at laws.hexagons m s 0 center outer finer c o (omega arith) (λ _ e. omega (arith, e)) in
+      let e : place - 0 ≡ place = omega arith in
+      rw e at (child_of laws m x s 0 0 place v w high b (omega arith) (omega (arith, c, lt)) h)
+
+second_some : (p : Bool) → 0 < next_step p 0
+second_some true = omega arith
+second_some false = omega arith
+
+second_below_pentagon : (p : Bool) → p ≡ true → 1 < next_step p 0
+second_below_pentagon true h = omega arith
+second_below_pentagon false h = cc
+
+module _ (laws : AreListed) (m : Address) (s place center outer : ℕ) (v : IsCell m) (finer : length m.digits < s) (high : s ≤ 15) (c : center ≡ length (descendants (child m 0) s)) (o : outer ≡ 7 ^ (s - length m.digits - 1)) (from : center ≤ place) (within : place < length (descendants m s)) where
+  pub outer_some : 0 < outer
+  outer_some = rw o (omega (arith, sevens_some (s - length m.digits - 1)))
+
+  few : (place - center) / outer < 7 - next_step (is_pentagon m) 0
+  few =
+      let all = length-blocks laws.hexagons m s center outer finer c o in
+      let less : place - center < (7 - next_step (is_pentagon m) 0) * outer = omega (arith, all, from, within) in
+      div_below (place - center) outer (7 - next_step (is_pentagon m) 0) outer_some less
+
+  not_center : next_step (is_pentagon m) 0 + (place - center) / outer ≢ 0
+  not_center e = omega (arith, e, second_some (is_pentagon m))
+
+  begins : IsBlock m s (next_step (is_pentagon m) 0 + (place - center) / outer) (center + (place - center) / outer * outer)
+  begins =
+      let small : next_step (is_pentagon m) 0 + (place - center) / outer < 7 = omega (arith, few) in
+      let b = block_at laws.hexagons m s (next_step (is_pentagon m) 0 + (place - center) / outer) center outer finer c o small (λ t e. omega (arith, e, second_below_pentagon (is_pentagon m) t)) in
+      let back : next_step (is_pentagon m) 0 + (place - center) / outer - next_step (is_pentagon m) 0 ≡ (place - center) / outer = omega arith in
+      rw (no_zero (next_step (is_pentagon m) 0 + (place - center) / outer) not_center, back) at b
+
+  pub below_outer : IsChildBelow m s place (next_step (is_pentagon m) 0 + (place - center) / outer) ((place - center) % outer)
+  below_outer =
+      let split = div-add-mod' (place - center) outer in
+      let low = mod_below (place - center) outer outer_some in
+      let rest : place - (center + (place - center) / outer * outer) ≡ (place - center) % outer = omega (arith, split, from) in
+      let size = outer_size laws.hexagons m s (next_step (is_pentagon m) 0 + (place - center) / outer) outer (no_zero (next_step (is_pentagon m) 0 + (place - center) / outer) not_center) o in
+      let start : center + (place - center) / outer * outer ≤ place = omega (arith, split, from) in
+      let inside : place - (center + (place - center) / outer * outer) < length (descendants (child m (next_step (is_pentagon m) 0 + (place - center) / outer)) s) = rw (rest, size) low in
+      record {
+        small = omega (arith, few);
+        ok = λ t e. omega (arith, e, second_below_pentagon (is_pentagon m) t);
+        below = λ w x h. rw rest at (child_of laws m x s (next_step (is_pentagon m) 0 + (place - center) / outer) (center + (place - center) / outer * outer) place v w high begins start inside h);
+      }
+
+-- ---- down to a descendant
+
+pub record IsReached (c : Address) (s place level left : ℕ) (m : Address) : Type 0 where
+  pub valid : IsCell m
+  pub level_is : length m.digits ≡ level
+  pub below : HasPosition m s (get_or (descendants c s) place c) left
+
+pub reached_start : AreListed → (c : Address) (s place level : ℕ) → IsCell c → length c.digits ≤ s → s ≤ 15 → place < length (descendants c s) → level ≡ length c.digits → IsReached c s place level place c
+reached_start laws c s place level v low high within e =
+    record {
+      valid = v;
+      level_is = sym e;
+      below = record { descendant = (laws.members c s v low high (get_or (descendants c s) place c)).0 (Contains-get_or (descendants c s) place c within); is = position_under-get laws c s place c v low high within };
+    }
+
+pub reached_within : AreListed → (c : Address) (s place level left : ℕ) (m : Address) → level < s → s ≤ 15 → IsReached c s place level left m → left < length (descendants m s)
+reached_within laws c s place level left m lt high h =
+    let at = get-position_under laws m (get_or (descendants c s) place c) s h.valid (omega (arith, h.level_is, lt)) high h.below.descendant in
+    omega (arith, at.within, h.below.is)
+
+pub reached_end : (c : Address) (s place level left : ℕ) (m : Address) → s ≤ level → place < length (descendants c s) → IsReached c s place level left m → slice_get (descendants c s) place ≡ Some m
+reached_end c s place level left m le within h =
+    let all : take (length m.digits) (get_or (descendants c s) place c).digits ≡ (get_or (descendants c s) place c).digits =
+    take_all (length m.digits) (get_or (descendants c s) place c).digits (omega (arith, h.level_is, le, h.below.descendant.resolution_is)) in
+    let same : get_or (descendants c s) place c ≡ m = sym (address_same (cut (get_or (descendants c s) place c) (length m.digits)) (get_or (descendants c s) place c) refl all) ∙ h.below.descendant.under in
+    slice_get-get_or (descendants c s) place c within ∙ ap Some same
+
+pub reached_place : AreListed → (c : Address) (s place : ℕ) (m : Address) → IsCell c → length c.digits ≤ s → s ≤ 15 → slice_get (descendants c s) place ≡ Some m → HasPosition c s m place
+reached_place laws c s place m v low high e =
+    let within = slice_get_within (descendants c s) place m e in
+    record {
+      descendant = (laws.members c s v low high m).0 (place, within, get_or_from_slice_get (descendants c s) place m m e);
+      is = members_have_positions laws c m s place v low high e;
+    }
+
+-- ---- the sum of a position
+
+pub record IsCounted (c : Address) (q level so_far : ℕ) : Type 0 where
+  pub is : so_far + position_under (cut c level) c ≡ position_under (cut c q) c
+
+cut_twice : (l : ℕ) (ds : List ℕ) → l < length ds → take (length (take (l + 1) ds) - 1) (take (l + 1) ds) ≡ take l ds
+cut_twice l ds lt =
+    let size : length (take (l + 1) ds) - 1 ≡ l = omega (arith, length-take-le (l + 1) ds (omega arith)) in
+    rw size (take-take l (l + 1) ds (omega arith))
+
+cut_address : (c : Address) (l : ℕ) → l < length c.digits → cut (cut c (l + 1)) (length (cut c (l + 1)).digits - 1) ≡ cut c l
+cut_address c l lt =
+    address_same (cut (cut c (l + 1)) (length (cut c (l + 1)).digits - 1)) (cut c l) refl (cut_twice l c.digits lt)
+
+cut_above : (c : Address) (q : ℕ) → IsCell c → q ≤ length c.digits → IsDescendant (cut c q) (length c.digits) c
+cut_above c q v le =
+    record { valid = v; resolution_is = refl; under = ap (λ n. cut c n) (length-take-le q c.digits le) }
+
+pub counted_small : AreListed → (c : Address) (q : ℕ) → IsCell c → IsCell (cut c q) → q ≤ length c.digits → position_under (cut c q) c < 4747561509943
+counted_small laws c q v w le =
+    let fine : length c.digits ≤ 15 = omega (arith, v.coarse) in
+    let at = get-position_under laws (cut c q) c (length c.digits) w (omega (arith, length-take-le q c.digits le, le)) fine (cut_above c q v le) in
+    omega (arith, at.within, size_small laws (cut c q) (length c.digits) fine)
+
+pub counted_more : (c : Address) (q l so_far more : ℕ) → IsCell c → l < length c.digits → ((x : Address) → IsDescendant (cut c (l + 1)) (length c.digits) x → position_under (cut (cut c (l + 1)) (length (cut c (l + 1)).digits - 1)) x ≡ more + position_under (cut c (l + 1)) x) → IsCounted c q l so_far → IsCounted c q (l + 1) (so_far + more)
+counted_more c q l so_far more v lt ahead h =
+    let here = rw (cut_address c l lt) at (ahead c (cut_above c (l + 1) v (omega arith))) in
+    record { is = omega (arith, here, h.is) }
+
+alone : AreListed → (c : Address) → length (descendants c (length c.digits)) ≡ 1
+alone laws c =
+    let none : length c.digits - length c.digits ≡ 0 = omega arith in
+    elim (cases_Bool (is_pentagon c)) [
+      | inl h ↦ laws.pentagons c (length c.digits) h ∙ rw none refl
+      | inr h ↦ laws.hexagons c (length c.digits) h ∙ rw none refl
+    ]
+
+pub counted_end : AreListed → (c : Address) (q l so_far : ℕ) → IsCell c → length c.digits ≤ l → IsCounted c q l so_far → so_far ≡ position_under (cut c q) c
+counted_end laws c q l so_far v le h =
+    let same : cut c l ≡ c = address_same (cut c l) c refl (take_all l c.digits le) in
+    let self : IsDescendant c (length c.digits) c = record { valid = v; resolution_is = refl; under = address_same (cut c (length c.digits)) c refl (take-length c.digits) } in
+    let at = get-position_under laws c c (length c.digits) v (omega arith) (omega (arith, v.coarse)) self in
+    let none : position_under c c ≡ 0 = omega (arith, at.within, alone laws c) in
+    omega (arith, h.is, ap (λ m. position_under m c) same, none)

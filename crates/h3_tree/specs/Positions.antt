@@ -1,0 +1,24 @@
+-- Where a cell stands among the descendants of a cell above it.
+use Rattle.std.specs.Prelude.{ℕ, ◌≡◌, ◌≤◌, nat_lt, count_by, slice_get, Some}
+use Rattle.h3_index.specs.Cell.{Address, IsCell, number_of, resolution}
+use Rattle.h3_index.specs.Descendants.{descendants, IsDescendant}
+
+-- how many of the descendants of c that have the resolution of x have a smaller number than x
+unfoldable pub position_under : Address → Address → ℕ
+position_under c x =
+    count_by (λ y. nat_lt (number_of y) (number_of x)) (descendants c (resolution x))
+
+-- x is a descendant of c, of resolution s, and has that position under it
+pub record HasPosition (c : Address) (s : ℕ) (x : Address) (place : ℕ) : Type 0 where
+  pub descendant : IsDescendant c s x
+  pub is : position_under c x ≡ place
+
+-- the member at a position has that position
+abbrev pub MembersHavePositions : Type 0
+MembersHavePositions =
+    (c x : Address) (s place : ℕ) → IsCell c → resolution c ≤ s → s ≤ 15 → slice_get (descendants c s) place ≡ Some x → position_under c x ≡ place
+
+-- the member at a descendant's position is that descendant
+abbrev pub PositionsTellMembers : Type 0
+PositionsTellMembers =
+    (c x : Address) (s : ℕ) → IsCell c → resolution c ≤ s → s ≤ 15 → IsDescendant c s x → slice_get (descendants c s) (position_under c x) ≡ Some x

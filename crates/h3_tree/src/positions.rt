@@ -1,0 +1,133 @@
+//! Positions: where a cell stands among the descendants of a cell above it, in ascending order, from 0 on.
+
+ghost use Rattle.std.specs.Prelude.{◌≡◌, ◌+◌, ◌-◌, ◌<◌, ◌≤◌, length, IfOk, Some, slice_get, unsigned_abs};
+ghost use Rattle.std.specs.Result.{result_err};
+ghost use Rattle.h3_index.specs.Cell.{Address, IsCell, is_pentagon, resolution};
+ghost use Rattle.h3_index.specs.Descendants.{cut, descendants, IsDescendant};
+ghost use Rattle.h3_index.specs.Paths.{next_step};
+ghost use Rattle.h3_tree.specs.Positions.{position_under, HasPosition, MembersHavePositions, PositionsTellMembers};
+ghost use Rattle.h3_tree.specs.Refusals.{parent_refusal, position_refusal};
+
+use crate::ancestors::parent;
+use crate::descendants::size_at;
+use crate::resolutions::resolution_from;
+use h3_index::laws::descendants_are_listed;
+use h3_index::{Cell, H3Error};
+
+/// The digit of the child that comes after a cell's center child: 1, but 2 below a pentagon, whose child of digit 1
+/// is deleted.
+fn digit_after_center(cell: Cell) -> u8
+    ensures { result ≡ next_step (is_pentagon cell) 0 }
+{
+    if cell.is_pentagon() { 2 } else { 1 }
+}
+
+/// How many descendants of the parent of a cell stand before the cell's own, at a resolution.
+fn before_own(cell: Cell, r: u8) -> u64
+    requires has_parent { 0 < length cell.digits }
+    requires not_coarser { length cell.digits ≤ r }
+    requires at_most_fifteen { r ≤ 15 }
+    ensures small { result ≤ 4747561509943 }
+    ensures before { (x : Address) → IsDescendant cell r x → position_under (cut cell (length cell.digits - 1)) x ≡ result + position_under cell x }
+{
+    descendants_are_listed();
+    let own = cell.resolution();
+    let digit = cell.digit(own);
+    let parent = cell.cut(own - 1);
+    if digit == 0 {
+        return 0;
+    }
+    let center = size_at(parent.child(0), r);
+    let between = digit - digit_after_center(parent);
+    center + u64::from(between) * size_at(cell, r)
+}
+
+/// The child of a cell that has the descendant at a position, and the descendant's position under that child.
+fn child_below(position: u64, cell: Cell, r: u8) -> (Cell, u64)
+    requires finer { length cell.digits < r }
+    requires at_most_fifteen { r ≤ 15 }
+    requires within { position < length (descendants cell r) }
+    ensures valid { IsCell result.0 }
+    ensures level { length result.0.digits ≡ length cell.digits + 1 }
+    ensures below { (x : Address) → HasPosition cell r x position → HasPosition result.0 r x result.1 }
+{
+    descendants_are_listed();
+    let outer = 7u64.pow(u32::from(r - cell.resolution() - 1));
+    let center = cell.child(0);
+    let size = size_at(center, r);
+    if position < size {
+        return (center, position);
+    }
+    let beyond = position - size;
+    let digit = digit_after_center(cell) + (beyond / outer) as u8;
+    (cell.child(digit), beyond % outer)
+}
+
+/// Laws of positions, proved from those of the list of the descendants; it does nothing.
+fn positions_are_told()
+    ensures members { MembersHavePositions }
+    ensures positions { PositionsTellMembers }
+{
+    descendants_are_listed();
+}
+
+/// The descendant of a cell at a position.
+fn member_at(position: u64, cell: Cell, r: u8) -> Cell
+    requires not_coarser { length cell.digits ≤ r }
+    requires at_most_fifteen { r ≤ 15 }
+    requires within { position < length (descendants cell r) }
+    ensures is { slice_get (descendants cell r) position ≡ Some result }
+    ensures place { HasPosition cell r result position }
+{
+    descendants_are_listed();
+    let mut member = cell;
+    let mut left = position;
+    for _ in cell.resolution()..r {
+        (member, left) = child_below(left, member, r);
+    }
+    member
+}
+
+/// The position of a cell among the descendants of its ancestor at a resolution, as H3's `cellToChildPos` gives it:
+/// how many of those that have the cell's resolution have a smaller number than the cell. At the cell's own
+/// resolution it is 0.
+///
+/// `ResDomain` where the resolution is outside 0 to 15, and then `ResMismatch` where it is finer than the cell's.
+pub fn child_pos(cell: Cell, parent_res: i32) -> Result<u64, H3Error>
+    ensures refused { result_err result ≡ parent_refusal (resolution cell) parent_res }
+    ensures is { IfOk result (λ position. position ≡ position_under (cut cell (unsigned_abs parent_res)) cell) }
+{
+    descendants_are_listed();
+    let ancestor = parent(cell, parent_res)?;
+    let own = cell.resolution();
+    let mut position: u64 = 0;
+    for level in ancestor.resolution()..own {
+        position += before_own(cell.cut(level + 1), own);
+    }
+    Ok(position)
+}
+
+/// The descendant of a cell at a resolution that stands at a position, counted from 0, among all of them in ascending
+/// order, as H3's `childPosToCell` gives it: at the cell's own resolution, at position 0, the cell.
+///
+/// `ResDomain` where the resolution is outside 0 to 15, then `ResMismatch` where it is coarser than the cell's, and
+/// then `Domain` where the position is not below the number of descendants, which `children_size` gives.
+pub fn child_at(position: u64, cell: Cell, res: i32) -> Result<Cell, H3Error>
+    ensures refused { result_err result ≡ position_refusal cell res position }
+    ensures is { IfOk result (λ member. slice_get (descendants cell (unsigned_abs res)) position ≡ Some member) }
+    ensures place { IfOk result (λ member. HasPosition cell (unsigned_abs res) member position) }
+
+    // Laws of positions: the member at one has it, and the member at a descendant's is that descendant.
+    ensures members { MembersHavePositions }
+    ensures positions { PositionsTellMembers }
+{
+    positions_are_told();
+    let r = resolution_from(0, res)?;
+    if r < cell.resolution() {
+        return Err(H3Error::ResMismatch);
+    }
+    if position >= size_at(cell, r) {
+        return Err(H3Error::Domain);
+    }
+    Ok(member_at(position, cell, r))
+}
