@@ -5,7 +5,6 @@ mod cell;
 mod count;
 mod error;
 pub mod laws;
-pub mod set;
 mod stream;
 mod text;
 

@@ -1,4 +1,3 @@
-use crate::set::compact_cells;
 use crate::{
     Cell, H3Error, Sink, Source, StreamFault, Streamed, is_pentagon_base, num_cells, pentagon,
     read_index, res0_cell, write_index,
@@ -102,16 +101,6 @@ fn errors_have_their_numbers_and_names(rt: HostRuntime) {
         assert_eq!(rt; error.number(), number);
         assert_eq!(rt; error.name(), name);
     }
-}
-
-#[test]
-fn the_first_slots_cover_the_cells(rt: HostRuntime) -> Result<(), Fail> {
-    let first = Cell::new(0x8029fffffffffff)?;
-    let second = Cell::new(0x85283473fffffff)?;
-    let mut slots = [first, first, first];
-    assert_eq!(rt; compact_cells(&[second, first], &mut slots), Ok(2));
-    assert_eq!(rt; slots, [second, first, first]);
-    Ok(())
 }
 
 #[test]

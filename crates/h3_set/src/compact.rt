@@ -1,10 +1,9 @@
-//! Sets of cells, given as lists.
+//! Compaction: the fewest cells that cover those of a list.
 
 ghost use Rattle.std.specs.Prelude.{◌≤◌, length, take, IsOkAnd};
-ghost use Rattle.h3_index.specs.Coverage.{CoverSame};
+ghost use Rattle.h3_set.specs.Coverage.{CoverSame};
 
-use crate::cell::Cell;
-use crate::error::H3Error;
+use h3_index::{Cell, H3Error};
 
 /// Copies the cells to the first slots, and answers how many they are.
 ///

@@ -1,0 +1,13 @@
+//! Sets of H3 cells, given as lists: compaction and uncompaction.
+#![tactic(auto)]
+
+mod compact;
+mod iter;
+mod uncompaction;
+
+pub use compact::compact_cells;
+pub use iter::Uncompact;
+pub use uncompaction::uncompact;
+
+#[cfg(test)]
+mod tests;
