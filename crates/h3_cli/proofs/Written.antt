@@ -34,3 +34,11 @@ gives_from_ending (Err Memory) a memory rf wf status old new eo en ef ends r w w
     inr (ends.0, record { output = nothing old new ends.1; report = reports })
 gives_from_ending (Err Read) a memory rf wf status old new eo en ef ends r w writes reports = absurd (r writes)
 gives_from_ending (Err Write) a memory rf wf status old new eo en ef ends r w writes reports = cc (ends, w)
+
+-- a read fault may come in more cases
+pub writes_weaker : (ending : Result (Unit {0}) Refusal) (a : Answer) (P Q : Type 0) (old new : Option (List ℕ)) → (P → Q) → WritesAs a P ending old new → WritesAs a Q ending old new
+writes_weaker (Ok u) a P Q old new f w = w
+writes_weaker (Err (Error e)) a P Q old new f w = w
+writes_weaker (Err Memory) a P Q old new f w = w
+writes_weaker (Err Read) a P Q old new f w = f w
+writes_weaker (Err Write) a P Q old new f w = w

@@ -1,5 +1,5 @@
 -- What a command answers.
-use Rattle.std.specs.Prelude.{ℕ, ℤ, ◌+◌, ◌*◌, ◌^◌, Bool, false, ◌||◌, List, [], ◌∷◌, ◌++◌, length, map, codes, decimal, unsigned_abs, Option, None, Some, is_some, Result, Ok, Err, if◌then◌else◌}
+use Rattle.std.specs.Prelude.{ℕ, ℤ, ◌+◌, ◌*◌, ◌^◌, Bool, true, false, ◌||◌, List, [], ◌∷◌, ◌++◌, length, map, slice_get, codes, decimal, unsigned_abs, Option, None, Some, is_some, Result, Ok, Err, if◌then◌else◌}
 use Rattle.std.specs.List.{flat_map, range_with_len}
 use Rattle.std.specs.Option.{option_map_or}
 use Rattle.h3_index.specs.Cell.{Address, is_class_iii, is_pentagon, number_of, resolution}
@@ -9,9 +9,12 @@ use Rattle.h3_index.specs.Descendants.{center_at, cut, descendants}
 use Rattle.h3_index.specs.Text.{text_of}
 use Rattle.h3_index.specs.declared.error.H3Error.{H3Error}
 use Rattle.h3_index.specs.declared.error.H3Error.TheVariants.{CellInvalid, Failed, ResDomain}
-use Rattle.h3_tree.specs.Refusals.{descent_refusal, parent_refusal}
+use Rattle.h3_set.specs.Uncompaction.{uncompacted, uncompact_refusal}
+use Rattle.h3_tree.specs.Positions.{position_under}
+use Rattle.h3_tree.specs.Refusals.{descent_refusal, parent_refusal, position_refusal}
+use Rattle.h3_cli.specs.List.{listed_cells}
 use Rattle.h3_cli.specs.declared.command.Command.{Command}
-use Rattle.h3_cli.specs.declared.command.Command.TheVariants.{IsValidCell, GetResolution, GetBaseCellNumber, IsPentagon, IsResClassIII, GetNumCells, GetRes0Cells, GetPentagons, CellToParent, CellToCenterChild, CellToChildren, CellToChildrenSize}
+use Rattle.h3_cli.specs.declared.command.Command.TheVariants.{IsValidCell, GetResolution, GetBaseCellNumber, IsPentagon, IsResClassIII, GetNumCells, GetRes0Cells, GetPentagons, CellToParent, CellToCenterChild, CellToChildren, CellToChildrenSize, CellToChildPos, ChildPosToCell, UncompactCells}
 use Rattle.h3_cli.specs.declared.refusal.Refusal.{Refusal}
 use Rattle.h3_cli.specs.declared.refusal.Refusal.TheVariants.{Error, Memory}
 
@@ -116,6 +119,33 @@ abbrev pub cell_to_children_size_answer : Option ℕ → ℤ → Answer
 cell_to_children_size_answer cell res =
     with_cell cell (λ c. written_unless (descent_refusal (resolution c) res) (number_line (length (descendants c (unsigned_abs res)))))
 
+abbrev pub cell_to_child_pos_answer : Option ℕ → ℤ → Answer
+cell_to_child_pos_answer cell res =
+    with_cell cell (λ c. written_unless (parent_refusal (resolution c) res) (number_line (position_under (cut c (unsigned_abs res)) c)))
+
+-- the line of a listed cell
+abbrev pub listed_line : Option Address → List ℕ
+listed_line None = []
+listed_line (Some c) = cell_line c
+
+abbrev pub child_pos_to_cell_answer : ℕ → Option ℕ → ℤ → Answer
+child_pos_to_cell_answer position cell res =
+    with_cell cell (λ c. written_unless (position_refusal c res position) (listed_line (slice_get (descendants c (unsigned_abs res)) position)))
+
+-- ---- lists
+
+-- the answer about a list of cells, or the error of its first faulty line
+abbrev pub with_list : Result (List Address) H3Error → (List Address → Answer) → Answer
+with_list (Ok cells) about = about cells
+with_list (Err e) about = refused e
+
+abbrev pub uncompacted_answer : ℤ → List Address → Answer
+uncompacted_answer res cells =
+    written_unless (uncompact_refusal cells res) (cell_lines (uncompacted cells (unsigned_abs res)))
+
+abbrev pub uncompact_cells_answer : ℤ → List ℕ → Answer
+uncompact_cells_answer res list = with_list (listed_cells list) (uncompacted_answer res)
+
 -- ---- all commands
 
 -- the answer to a command, the bytes of the list that it reads and those of its table
@@ -132,6 +162,9 @@ answer (CellToParent cell res) list rows = cell_to_parent_answer cell res
 answer (CellToCenterChild cell res) list rows = cell_to_center_child_answer cell res
 answer (CellToChildren cell res) list rows = cell_to_children_answer cell res
 answer (CellToChildrenSize cell res) list rows = cell_to_children_size_answer cell res
+answer (CellToChildPos cell res) list rows = cell_to_child_pos_answer cell res
+answer (ChildPosToCell position cell res) list rows = child_pos_to_cell_answer position cell res
+answer (UncompactCells res) list rows = uncompact_cells_answer res list
 
 -- the command reads a list of cells from its input
 abbrev pub uses_list : Command → Bool
@@ -147,6 +180,9 @@ uses_list (CellToParent cell res) = false
 uses_list (CellToCenterChild cell res) = false
 uses_list (CellToChildren cell res) = false
 uses_list (CellToChildrenSize cell res) = false
+uses_list (CellToChildPos cell res) = false
+uses_list (ChildPosToCell position cell res) = false
+uses_list (UncompactCells res) = true
 
 -- the command reads the table of base cells
 abbrev pub uses_table : Command → Bool
@@ -162,6 +198,9 @@ uses_table (CellToParent cell res) = false
 uses_table (CellToCenterChild cell res) = false
 uses_table (CellToChildren cell res) = false
 uses_table (CellToChildrenSize cell res) = false
+uses_table (CellToChildPos cell res) = false
+uses_table (ChildPosToCell position cell res) = false
+uses_table (UncompactCells res) = false
 
 -- the command takes memory: it reads a list or a table
 abbrev pub takes_memory : Command → Bool

@@ -6,14 +6,14 @@ use Rattle.h3_cli.specs.Options.{rule_for}
 use Rattle.h3_cli.specs.declared.command.Command.{Command}
 use Rattle.h3_cli.specs.declared.command.Command.TheVariants as command
 use Rattle.h3_cli.specs.declared.options.CommandOption.{CommandOption}
-use Rattle.h3_cli.specs.declared.options.CommandOption.TheVariants.{Cell, Resolution}
+use Rattle.h3_cli.specs.declared.options.CommandOption.TheVariants.{Cell, Resolution, Position}
 use Rattle.h3_cli.specs.declared.commands.CommandName.{CommandName}
-use Rattle.h3_cli.specs.declared.commands.CommandName.TheVariants.{IsValidCell, GetResolution, GetBaseCellNumber, IsPentagon, IsResClassIII, GetNumCells, GetRes0Cells, GetPentagons, CellToParent, CellToCenterChild, CellToChildren, CellToChildrenSize}
+use Rattle.h3_cli.specs.declared.commands.CommandName.TheVariants.{IsValidCell, GetResolution, GetBaseCellNumber, IsPentagon, IsResClassIII, GetNumCells, GetRes0Cells, GetPentagons, CellToParent, CellToCenterChild, CellToChildren, CellToChildrenSize, CellToChildPos, ChildPosToCell, UncompactCells}
 
 -- all names of commands
 abbrev pub command_names : List CommandName
 command_names =
-    IsValidCell ∷ GetResolution ∷ GetBaseCellNumber ∷ IsPentagon ∷ IsResClassIII ∷ GetNumCells ∷ GetRes0Cells ∷ GetPentagons ∷ CellToParent ∷ CellToCenterChild ∷ CellToChildren ∷ CellToChildrenSize ∷ []
+    IsValidCell ∷ GetResolution ∷ GetBaseCellNumber ∷ IsPentagon ∷ IsResClassIII ∷ GetNumCells ∷ GetRes0Cells ∷ GetPentagons ∷ CellToParent ∷ CellToCenterChild ∷ CellToChildren ∷ CellToChildrenSize ∷ CellToChildPos ∷ ChildPosToCell ∷ UncompactCells ∷ []
 
 -- the word that names the command
 abbrev pub word_of : CommandName → Text
@@ -29,6 +29,9 @@ word_of CellToParent = codes "cellToParent"
 word_of CellToCenterChild = codes "cellToCenterChild"
 word_of CellToChildren = codes "cellToChildren"
 word_of CellToChildrenSize = codes "cellToChildrenSize"
+word_of CellToChildPos = codes "cellToChildPos"
+word_of ChildPosToCell = codes "childPosToCell"
+word_of UncompactCells = codes "uncompactCells"
 
 -- the options that the command has
 abbrev pub options_of : CommandName → List CommandOption
@@ -44,6 +47,9 @@ options_of CellToParent = Cell ∷ Resolution ∷ []
 options_of CellToCenterChild = Cell ∷ Resolution ∷ []
 options_of CellToChildren = Cell ∷ Resolution ∷ []
 options_of CellToChildrenSize = Cell ∷ Resolution ∷ []
+options_of CellToChildPos = Cell ∷ Resolution ∷ []
+options_of ChildPosToCell = Position ∷ Cell ∷ Resolution ∷ []
+options_of UncompactCells = Resolution ∷ []
 
 -- the name of a command with its values
 abbrev pub name_of_command : Command → CommandName
@@ -59,6 +65,9 @@ name_of_command (command.CellToParent cell res) = CellToParent
 name_of_command (command.CellToCenterChild cell res) = CellToCenterChild
 name_of_command (command.CellToChildren cell res) = CellToChildren
 name_of_command (command.CellToChildrenSize cell res) = CellToChildrenSize
+name_of_command (command.CellToChildPos cell res) = CellToChildPos
+name_of_command (command.ChildPosToCell position cell res) = ChildPosToCell
+name_of_command (command.UncompactCells res) = UncompactCells
 
 -- a command of this name that takes these options
 abbrev pub leaf_with : Text → List CommandOption → Shape

@@ -4,27 +4,31 @@ use Rattle.clap.specs.Words.{Rule, Text, new_rule}
 use Rattle.clap.specs.declared.builder.value_parser.ValueParser.{ValueParser}
 use Rattle.clap.specs.declared.builder.value_parser.ValueParser.TheVariants.{Signed, String}
 use Rattle.h3_cli.specs.declared.options.CommandOption.{CommandOption}
-use Rattle.h3_cli.specs.declared.options.CommandOption.TheVariants.{Cell, Resolution}
+use Rattle.h3_cli.specs.declared.options.CommandOption.TheVariants.{Cell, Resolution, Position}
 
 -- what `clap` knows the option by
 abbrev pub id_of : CommandOption → Text
 id_of Cell = codes "cell"
 id_of Resolution = codes "resolution"
+id_of Position = codes "position"
 
 -- the name after two hyphens
 abbrev pub long_name : CommandOption → Option Text
 long_name Cell = Some (codes "cell")
 long_name Resolution = Some (codes "resolution")
+long_name Position = Some (codes "position")
 
--- the character after one hyphen
+-- the character after one hyphen, if the option has such a name
 abbrev pub short_name : CommandOption → Option ℕ
 short_name Cell = Some 99
 short_name Resolution = Some 114
+short_name Position = None
 
 -- the most that the option's number may be; none where its value is any text
 abbrev pub number_up_to : CommandOption → Option ℕ
 number_up_to Cell = None
 number_up_to Resolution = Some 2147483647
+number_up_to Position = Some 9223372036854775807
 
 -- a number is read from 0 to the option's most
 abbrev pub parser_for : CommandOption → Option ValueParser

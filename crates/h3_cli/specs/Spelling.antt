@@ -8,11 +8,11 @@ use Rattle.h3_cli.specs.Options.{IsIn, id_of, parser_done}
 use Rattle.h3_cli.specs.Commands.{name_of_command, options_of, word_of}
 use Rattle.h3_cli.specs.Given.{given}
 use Rattle.h3_cli.specs.declared.options.CommandOption.{CommandOption}
-use Rattle.h3_cli.specs.declared.options.CommandOption.TheVariants.{Cell, Resolution}
+use Rattle.h3_cli.specs.declared.options.CommandOption.TheVariants.{Cell, Resolution, Position}
 use Rattle.h3_cli.specs.declared.commands.CommandName.{CommandName}
 use Rattle.h3_cli.specs.declared.words.Words.{Words}
 use Rattle.h3_cli.specs.declared.command.Command.{Command}
-use Rattle.h3_cli.specs.declared.command.Command.TheVariants.{IsValidCell, GetResolution, GetBaseCellNumber, IsPentagon, IsResClassIII, GetNumCells, GetRes0Cells, GetPentagons, CellToParent, CellToCenterChild, CellToChildren, CellToChildrenSize}
+use Rattle.h3_cli.specs.declared.command.Command.TheVariants.{IsValidCell, GetResolution, GetBaseCellNumber, IsPentagon, IsResClassIII, GetNumCells, GetRes0Cells, GetPentagons, CellToParent, CellToCenterChild, CellToChildren, CellToChildrenSize, CellToChildPos, ChildPosToCell, UncompactCells}
 
 -- there is a text, and this is the index that it spells, or none where it spells none
 abbrev pub IsIndex : Option Text → Option ℕ → Type 0
@@ -23,6 +23,11 @@ IsIndex (Some text) index = index ≡ spelled_index text
 abbrev pub IsWhole : Option Text → ℤ → Type 0
 IsWhole None number = ⊥
 IsWhole (Some text) number = IsSignedIn (pos 0) (pos 2147483647) text × (number ≡ signed_digits_value 10 text)
+
+-- there is a text, it is a whole number from 0 to 9223372036854775807, as an `i64` is read, and this is that number
+abbrev pub IsPosition : Option Text → ℕ → Type 0
+IsPosition None number = ⊥
+IsPosition (Some text) number = IsSignedIn (pos 0) (pos 9223372036854775807) text × (pos number ≡ signed_digits_value 10 text)
 
 -- the command has for each of its options the value that the option's text spells
 abbrev pub HasValues : (CommandOption → Option Text) → Command → Type 0
@@ -38,6 +43,9 @@ HasValues text (CellToParent cell res) = IsIndex (text Cell) cell × IsWhole (te
 HasValues text (CellToCenterChild cell res) = IsIndex (text Cell) cell × IsWhole (text Resolution) res
 HasValues text (CellToChildren cell res) = IsIndex (text Cell) cell × IsWhole (text Resolution) res
 HasValues text (CellToChildrenSize cell res) = IsIndex (text Cell) cell × IsWhole (text Resolution) res
+HasValues text (CellToChildPos cell res) = IsIndex (text Cell) cell × IsWhole (text Resolution) res
+HasValues text (ChildPosToCell position cell res) = IsPosition (text Position) position × IsIndex (text Cell) cell × IsWhole (text Resolution) res
+HasValues text (UncompactCells res) = IsWhole (text Resolution) res
 
 -- each option of the command has its text in what a parse found, and its parser let it through
 abbrev pub Answers : CommandName → (CommandOption → Option Text) → Found → Type 0

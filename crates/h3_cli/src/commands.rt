@@ -28,9 +28,12 @@ pub enum CommandName {
     CellToCenterChild,
     CellToChildren,
     CellToChildrenSize,
+    CellToChildPos,
+    ChildPosToCell,
+    UncompactCells,
 }
 
-static COMMAND_NAMES: [CommandName; 12] = [
+static COMMAND_NAMES: [CommandName; 15] = [
     CommandName::IsValidCell,
     CommandName::GetResolution,
     CommandName::GetBaseCellNumber,
@@ -43,6 +46,9 @@ static COMMAND_NAMES: [CommandName; 12] = [
     CommandName::CellToCenterChild,
     CommandName::CellToChildren,
     CommandName::CellToChildrenSize,
+    CommandName::CellToChildPos,
+    CommandName::ChildPosToCell,
+    CommandName::UncompactCells,
 ];
 
 static NO_OPTIONS: [CommandOption; 0] = [];
@@ -52,6 +58,12 @@ static CELL: [CommandOption; 1] = [CommandOption::Cell];
 static RESOLUTION: [CommandOption; 1] = [CommandOption::Resolution];
 
 static CELL_RESOLUTION: [CommandOption; 2] = [CommandOption::Cell, CommandOption::Resolution];
+
+static POSITION_CELL_RESOLUTION: [CommandOption; 3] = [
+    CommandOption::Position,
+    CommandOption::Cell,
+    CommandOption::Resolution,
+];
 
 impl CommandName {
     /// The word that names the command.
@@ -71,6 +83,9 @@ impl CommandName {
             CommandName::CellToCenterChild => "cellToCenterChild",
             CommandName::CellToChildren => "cellToChildren",
             CommandName::CellToChildrenSize => "cellToChildrenSize",
+            CommandName::CellToChildPos => "cellToChildPos",
+            CommandName::ChildPosToCell => "childPosToCell",
+            CommandName::UncompactCells => "uncompactCells",
         }
     }
 
@@ -101,6 +116,9 @@ impl CommandName {
             CommandName::CellToCenterChild => CELL_RESOLUTION.as_slice(),
             CommandName::CellToChildren => CELL_RESOLUTION.as_slice(),
             CommandName::CellToChildrenSize => CELL_RESOLUTION.as_slice(),
+            CommandName::CellToChildPos => CELL_RESOLUTION.as_slice(),
+            CommandName::ChildPosToCell => POSITION_CELL_RESOLUTION.as_slice(),
+            CommandName::UncompactCells => RESOLUTION.as_slice(),
         }
     }
 
@@ -124,6 +142,7 @@ impl CommandName {
     {
         let cell = CommandOption::Cell.index(matches);
         let res = CommandOption::Resolution.whole(matches);
+        let position = CommandOption::Position.position(matches);
         match self {
             CommandName::IsValidCell => Command::IsValidCell { cell },
             CommandName::GetResolution => Command::GetResolution { cell },
@@ -137,6 +156,13 @@ impl CommandName {
             CommandName::CellToCenterChild => Command::CellToCenterChild { cell, res },
             CommandName::CellToChildren => Command::CellToChildren { cell, res },
             CommandName::CellToChildrenSize => Command::CellToChildrenSize { cell, res },
+            CommandName::CellToChildPos => Command::CellToChildPos { cell, res },
+            CommandName::ChildPosToCell => Command::ChildPosToCell {
+                position,
+                cell,
+                res,
+            },
+            CommandName::UncompactCells => Command::UncompactCells { res },
         }
     }
 }

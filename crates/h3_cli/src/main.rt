@@ -9,12 +9,13 @@ mod fakes;
 mod hierarchy;
 mod inspection;
 mod line;
-pub mod list;
+mod list;
 mod options;
 mod page;
 mod refusal;
 mod resolutions;
 mod run;
+mod sets;
 mod words;
 mod write;
 

@@ -18,6 +18,9 @@ pub enum CommandOption {
 
     /// `-r` or `--resolution`: a resolution.
     Resolution,
+
+    /// `--position`: a position, counted from 0.
+    Position,
 }
 
 impl CommandOption {
@@ -28,6 +31,7 @@ impl CommandOption {
         match self {
             CommandOption::Cell => "cell",
             CommandOption::Resolution => "resolution",
+            CommandOption::Position => "position",
         }
     }
 
@@ -43,6 +47,9 @@ impl CommandOption {
                 .short('r')
                 .long("resolution")
                 .value_parser(value_parser!(i64).range(0..=2147483647)),
+            CommandOption::Position => argument
+                .long("position")
+                .value_parser(value_parser!(i64).range(0..=9223372036854775807)),
         }
     }
 
@@ -61,6 +68,17 @@ impl CommandOption {
     {
         match matches.get_str(self.id()) {
             Some(text) => text.parse().unwrap_or(0),
+            None => 0,
+        }
+    }
+
+    /// The whole number from 0 to 9223372036854775807 that the option's text spells.
+    pub fn position(self, matches: &ArgMatches<'_>) -> u64
+        ensures { (text : Text) → first_value (found_of matches.now) (id_of self) ≡ Some text
+            → IsSignedIn (pos 0) (pos 9223372036854775807) text → pos result ≡ signed_digits_value 10 text }
+    {
+        match matches.get_str(self.id()) {
+            Some(text) => text.parse::<i64>().unwrap_or(0).unsigned_abs(),
             None => 0,
         }
     }

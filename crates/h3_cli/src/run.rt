@@ -7,13 +7,15 @@ ghost use Rattle.h3_cli.specs.declared.refusal.Refusal.{Refusal};
 
 use crate::command::Command;
 use crate::hierarchy::{
-    cell_to_center_child, cell_to_children, cell_to_children_size, cell_to_parent,
+    cell_to_center_child, cell_to_child_pos, cell_to_children, cell_to_children_size,
+    cell_to_parent, child_pos_to_cell,
 };
 use crate::inspection::{
     get_base_cell_number, get_resolution, is_pentagon, is_res_class_iii, is_valid_cell,
 };
 use crate::refusal::Refusal;
 use crate::resolutions::{get_num_cells, get_pentagons, get_res0_cells};
+use crate::sets::uncompact_cells;
 use crate::write::write_all;
 use h3_index::{Sink, Source};
 use std::alloc::Global;
@@ -50,6 +52,13 @@ fn perform<R: Source, T: Source, W: Sink>(
         Command::CellToCenterChild { cell, res } => cell_to_center_child(*cell, *res, out),
         Command::CellToChildren { cell, res } => cell_to_children(*cell, *res, out),
         Command::CellToChildrenSize { cell, res } => cell_to_children_size(*cell, *res, out),
+        Command::CellToChildPos { cell, res } => cell_to_child_pos(*cell, *res, out),
+        Command::ChildPosToCell {
+            position,
+            cell,
+            res,
+        } => child_pos_to_cell(*position, *cell, *res, out),
+        Command::UncompactCells { res } => uncompact_cells(alloc, *res, input, out),
     }
 }
 

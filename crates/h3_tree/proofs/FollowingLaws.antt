@@ -1,4 +1,5 @@
 -- The next cell: what it is, and that it leads through all descendants.
+use Rattle.std.specs.Int.Digits.{AllBelowBase}
 use Rattle.std.proofs.Common.{ℕ, zero, suc, ◌≡◌, ◌≢◌, ◌+◌, ◌-◌, ◌<◌, ◌≤◌, ◌==◌, List, [], ◌∷◌, ◌++◌, length, map, take, drop, replicate, Bool, true, false, ◌&&◌, Option, Some, None, refl, get_or, length-append, arith, ◌∙◌, sym, ap, subst}
 use Rattle.std.proofs.Math.ListN.{length-replicate}
 use Rattle.std.proofs.Math.Seq.{drop-cons}
@@ -123,6 +124,11 @@ moved_is c r d n pos h e ne en =
     address_same (center_at (child (cut c (r - 1)) n) (length c.digits)) (along (cut c (r - 1)) (n ∷ replicate (length c.digits - r) 0)) refl front ∙
     ap (λ m. along (cut c (r - 1)) (m ∷ replicate (length c.digits - r) 0)) en ∙
     sym (following-step (cut c (r - 1)) d (length c.digits - r) ne) ∙ ap following back
+
+pub digit_small : (ds : List ℕ) (k : ℕ) → AllBelowBase 7 ds → k < length ds → get_or ds k 7 < 7
+digit_small [] k h lt = absurd (omega (arith, lt))
+digit_small (d ∷ ds) zero h lt = h.0
+digit_small (d ∷ ds) (suc k) h lt = digit_small ds k h.1 (omega (arith, lt))
 
 pub step_pentagon : (p : Bool) (d : ℕ) → d ≡ 0 → p ≡ true → 2 ≡ next_step p d
 step_pentagon p d e h = rw (e, h) refl

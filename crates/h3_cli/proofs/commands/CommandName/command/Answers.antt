@@ -6,9 +6,9 @@ use Rattle.clap.specs.declared.parser.matches.Found.{Found}
 use Rattle.h3_index.specs.Text.{spelled_index}
 use Rattle.h3_cli.specs.Options.{IsIn, id_of, parser_done}
 use Rattle.h3_cli.specs.Commands.{options_of}
-use Rattle.h3_cli.specs.Spelling.{Answers, IsIndex, IsWhole}
+use Rattle.h3_cli.specs.Spelling.{Answers, IsIndex, IsPosition, IsWhole}
 use Rattle.h3_cli.specs.declared.options.CommandOption.{CommandOption}
-use Rattle.h3_cli.specs.declared.options.CommandOption.TheVariants.{Cell, Resolution}
+use Rattle.h3_cli.specs.declared.options.CommandOption.TheVariants.{Cell, Resolution, Position}
 use Rattle.h3_cli.specs.declared.commands.CommandName.{CommandName}
 use Rattle.h3_cli.proofs.commands.CommandName.command.Goals as goal
 
@@ -25,6 +25,14 @@ whole_holds : (self k : CommandName) → self ≡ k → (text : CommandOption �
 whole_holds self k same text f answers o fits is n reads =
     let a = answers o (subst (λ x. IsIn o (options_of x)) (sym same) is) in
     subst (λ t. IsWhole t n) (sym a.1) (fits a.0 a.3, reads a.0 a.2 (fits a.0 a.3))
+
+-- the same of a position
+position_holds : (self k : CommandName) → self ≡ k → (text : CommandOption → Option Text) (f : Found) → Answers self text f → (o : CommandOption)
+    → ((t : Text) → Accepts false (parser_done o) t → IsSignedIn (pos 0) (pos 9223372036854775807) t) → IsIn o (options_of k) → (n : ℕ)
+    → ((t : List ℕ) → first_value f (id_of o) ≡ Some t → IsSignedIn (pos 0) (pos 9223372036854775807) t → pos n ≡ signed_digits_value 10 t) → IsPosition (text o) n
+position_holds self k same text f answers o fits is n reads =
+    let a = answers o (subst (λ x. IsIn o (options_of x)) (sym same) is) in
+    subst (λ t. IsPosition t n) (sym a.1) (fits a.0 a.3, reads a.0 a.2 (fits a.0 a.3))
 
 pub returns-in-IsValidCell-clause-values : goal.returns-in-IsValidCell-clause-values
 returns-in-IsValidCell-clause-values c = λ text answers. index_holds c.args.self _ c.in-IsValidCell.is text (found_of c.args.matches.now) answers Cell (inl refl) _ c.index-cell.ensures
@@ -70,3 +78,19 @@ returns-in-CellToChildrenSize-clause-values c = λ text answers. (
   index_holds c.args.self _ c.in-CellToChildrenSize.is text (found_of c.args.matches.now) answers Cell (inl refl) _ c.index-cell.ensures,
   subst (IsWhole (text Resolution)) (sym (to_z-of_z w32 c.whole-res.result (search rules))) (whole_holds c.args.self _ c.in-CellToChildrenSize.is text (found_of c.args.matches.now) answers Resolution (λ t a. a) (inr (inl refl)) c.whole-res.result c.whole-res.ensures),
 )
+
+pub returns-in-CellToChildPos-clause-values : goal.returns-in-CellToChildPos-clause-values
+returns-in-CellToChildPos-clause-values c = λ text answers. (
+  index_holds c.args.self _ c.in-CellToChildPos.is text (found_of c.args.matches.now) answers Cell (inl refl) _ c.index-cell.ensures,
+  subst (IsWhole (text Resolution)) (sym (to_z-of_z w32 c.whole-res.result (search rules))) (whole_holds c.args.self _ c.in-CellToChildPos.is text (found_of c.args.matches.now) answers Resolution (λ t a. a) (inr (inl refl)) c.whole-res.result c.whole-res.ensures),
+)
+
+pub returns-in-ChildPosToCell-clause-values : goal.returns-in-ChildPosToCell-clause-values
+returns-in-ChildPosToCell-clause-values c = λ text answers. (
+  position_holds c.args.self _ c.in-ChildPosToCell.is text (found_of c.args.matches.now) answers Position (λ t a. a) (inl refl) c.position-position.result c.position-position.ensures,
+  index_holds c.args.self _ c.in-ChildPosToCell.is text (found_of c.args.matches.now) answers Cell (inr (inl refl)) _ c.index-cell.ensures,
+  subst (IsWhole (text Resolution)) (sym (to_z-of_z w32 c.whole-res.result (search rules))) (whole_holds c.args.self _ c.in-ChildPosToCell.is text (found_of c.args.matches.now) answers Resolution (λ t a. a) (inr (inr (inl refl))) c.whole-res.result c.whole-res.ensures),
+)
+
+pub returns-in-UncompactCells-clause-values : goal.returns-in-UncompactCells-clause-values
+returns-in-UncompactCells-clause-values c = λ text answers. subst (IsWhole (text Resolution)) (sym (to_z-of_z w32 c.whole-res.result (search rules))) (whole_holds c.args.self _ c.in-UncompactCells.is text (found_of c.args.matches.now) answers Resolution (λ t a. a) (inl refl) c.whole-res.result c.whole-res.ensures)

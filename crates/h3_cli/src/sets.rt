@@ -1,0 +1,39 @@
+//! What H3's functions on lists of cells give.
+
+ghost use Rattle.std.specs.Prelude.{◌≡◌, ℕ, List, false, true, Some};
+ghost use Rattle.h3_cli.specs.Answer.{uncompact_cells_answer, uncompacted_answer};
+ghost use Rattle.h3_cli.specs.Run.{Ends, ReadFails, WritesAs};
+
+use crate::list::read_cells;
+use crate::refusal::Refusal;
+use crate::write::write_lines;
+use h3_index::{Cell, Sink, Source};
+use h3_set::uncompact;
+use std::alloc::Global;
+
+/// Writes the cells of a resolution below the cells of a list.
+fn write_uncompacted<W: Sink>(cells: &[Cell], res: i32, out: &mut W) -> Result<(), Refusal>
+    ensures writes { WritesAs (uncompacted_answer res cells.now) ⊥ result (W.taken out.old) (W.taken out.new) }
+    ensures ends { Ends false (W.has_failed out.new) result (W.taken out.old) (W.taken out.new) }
+{
+    match uncompact(cells, res) {
+        Ok(items) => write_lines(out, items),
+        Err(error) => Err(Refusal::Error(error)),
+    }
+}
+
+/// The cells of a resolution below the cells of the list that the input spells.
+pub fn uncompact_cells<R: Source, W: Sink>(
+    alloc: Global,
+    res: i32,
+    input: &mut R,
+    out: &mut W,
+) -> Result<(), Refusal>
+    ensures writes { (list : List ℕ) → R.left input.old ≡ Some list →
+        WritesAs (uncompact_cells_answer res list) (ReadFails true (R.has_failed input.new) list) result
+        (W.taken out.old) (W.taken out.new) }
+    ensures ends { Ends true (W.has_failed out.new) result (W.taken out.old) (W.taken out.new) }
+{
+    let cells = read_cells(alloc, input)?;
+    write_uncompacted(&cells, res, out)
+}
