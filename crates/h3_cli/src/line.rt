@@ -1,6 +1,6 @@
 //! The lines of answers.
 
-ghost use Rattle.std.specs.Prelude.{◌≡◌, ℕ, List};
+ghost use Rattle.std.specs.Prelude.{◌≡◌, ◌<◌, ◌++◌, ◌∷◌, [], ℕ, List, length};
 ghost use Rattle.h3_cli.specs.Answer.{cell_line, number_line, truth_line};
 
 use arrayvec::ArrayVec;
@@ -20,14 +20,23 @@ pub trait Line {
         ensures { result.items ≡ line_of self.now };
 }
 
+/// The text and a line feed.
+#[inline]
+fn ended(text: &str) -> ArrayVec<u8, ROOM>
+    requires { length text.now < 32 }
+    ensures { result.items ≡ text.now ++ 10 ∷ [] }
+{
+    let mut line = ArrayVec::new();
+    line.try_extend_from_slice(text.as_bytes()).unwrap();
+    line.push(b'\n');
+    line
+}
+
 impl Line for bool {
     ghost line_of = { truth_line };
 
     fn line(&self) -> ArrayVec<u8, ROOM> {
-        let mut line = ArrayVec::new();
-        let text: &[u8] = if *self { b"true\n" } else { b"false\n" };
-        line.try_extend_from_slice(text).unwrap();
-        line
+        ended(if *self { "true" } else { "false" })
     }
 }
 
@@ -36,11 +45,7 @@ impl Line for u64 {
 
     fn line(&self) -> ArrayVec<u8, ROOM> {
         let mut buffer = Buffer::new();
-        let mut line = ArrayVec::new();
-        line.try_extend_from_slice(buffer.format(*self).as_bytes())
-            .unwrap();
-        line.push(b'\n');
-        line
+        ended(buffer.format(*self))
     }
 }
 
@@ -48,11 +53,6 @@ impl Line for Cell {
     ghost line_of = { cell_line };
 
     fn line(&self) -> ArrayVec<u8, ROOM> {
-        let text = write_index(self.raw());
-        let mut line = ArrayVec::new();
-        line.try_extend_from_slice(text.as_str().as_bytes())
-            .unwrap();
-        line.push(b'\n');
-        line
+        ended(write_index(self.raw()).as_str())
     }
 }

@@ -1,15 +1,17 @@
 -- Writing the text of an index, and reading it back.
 use Rattle.std.specs.Char.{digit_char, digit_value, is_digit}
 use Rattle.std.specs.Int.Digits.{number_from_digits, AllBelowBase}
-use Rattle.std.specs.List.{list_all}
-use Rattle.std.proofs.Common.{ℕ, zero, suc, ◌≡◌, ◌≢◌, ◌+◌, ◌-◌, ◌*◌, ◌/◌, ◌%◌, ◌^◌, ◌<◌, ◌≤◌, ◌==◌, ◌⊎◌, nat_lt, nat_le, List, [], ◌∷◌, ◌++◌, length, drop, map, reverse, length-append, get_or, Bool, true, false, ◌&&◌, ◌||◌, Some, if◌then◌else◌, refl, arith, sym, ap, ◌∙◌, add-one, lit<, lit≤, inl, inr, eqb-true}
+use Rattle.std.specs.List.{list_all, starts_with}
+use Rattle.std.specs.Str.{IsAscii}
+use Rattle.std.specs.Str.Parse.{digits_value}
+use Rattle.std.proofs.Common.{ℕ, zero, suc, ◌≡◌, ◌≢◌, ◌+◌, ◌-◌, ◌*◌, ◌/◌, ◌%◌, ◌^◌, ◌<◌, ◌≤◌, ◌==◌, ◌⊎◌, nat_lt, nat_le, nat_eq, List, [], ◌∷◌, ◌++◌, length, take, drop, map, reverse, length-append, get_or, Bool, true, false, ◌&&◌, ◌||◌, Option, Some, None, codes, if◌then◌else◌, refl, arith, sym, ap, ◌∙◌, add-one, lit<, lit≤, inl, inr, eqb-true}
 use Rattle.std.proofs.Math.Seq.{drop-cons}
-use Rattle.std.proofs.lemmas.Bool.{agree_below_at}
+use Rattle.std.proofs.lemmas.Bool.{agree_below_at, ltb-true}
 use Rattle.std.proofs.lemmas.Bool.Decides.{nat_tests}
 use Rattle.std.proofs.lemmas.Int.Digits.{digits_value_is}
 use Rattle.std.proofs.lemmas.List.{append_assoc, append-nil, drop_all, map-append, length-map, reverse-reverse, reverse-append}
 use Rattle.h3_index.specs.Digits.{last_digits}
-use Rattle.h3_index.specs.Text.{is_blank, without_leading_blanks, trimmed, without_prefix, without_leading_zeros, spelled_index, text_of}
+use Rattle.h3_index.specs.Text.{is_blank, is_hexadecimal, number_spelled, without_leading_blanks, without_trailing_blanks, trimmed, without_prefix, without_leading_zeros, spelled_index, text_of}
 use Rattle.h3_index.proofs.DigitsLaws.{number-last_digits, below-last_digits, length-last_digits, get_or-last_digits, sixteens}
 
 -- ---- writing, digit by digit
@@ -89,6 +91,16 @@ writing_all v i (b ∷ bs) all w =
     let none : drop i (digits_of v) ≡ [] = drop_all i (digits_of v) (omega (arith, length-last_digits 16 16 v)) in
     let whole : (b ∷ bs) ++ map digit_char [] ≡ b ∷ bs = append-nil (b ∷ bs) in
     sym whole ∙ sym (w.same ∙ (rw none refl))
+
+-- ---- its bytes
+
+ascii_digit : (d : ℕ) → d < 16 → digit_char d < 128
+ascii_digit d h = ltb-true _ _ (agree_below_at (λ d. nat_lt (digit_char d) 128) (λ _. true) 16 d refl h)
+
+ascii_digits : (ds : List ℕ) → AllBelowBase 16 ds → IsAscii (map digit_char ds)
+ascii_digits [] h i = lit< tt
+ascii_digits (d ∷ ds) h zero = ascii_digit d h.0
+ascii_digits (d ∷ ds) h (suc i) = ascii_digits ds h.1 i
 
 -- ---- reading what was written
 
@@ -173,6 +185,10 @@ spelled_back ds h some short =
     let some_test : nat_lt 0 (length (map digit_char ds)) ≡ true = grind (arith, nat_tests) in
     let short_test : nat_le (length (map digit_char ds)) 16 ≡ true = grind (arith, nat_tests) in
     rw (text_trimmed ds, no_prefix ds h, some_test, short_test, digits_back ds h) (ap Some (digits_value_is 16 (map digit_char ds) ∙ ap (number_from_digits 16) (values_back ds h)))
+
+pub text_ascii : (v : ℕ) → IsAscii (text_of v)
+unfolding text_of
+text_ascii v = ascii_digits (without_leading_zeros (digits_of v)) (below_stays (digits_of v) (below-last_digits 16 16 v (lit< tt)))
 
 pub text_spells : (v : ℕ) → v < 2 ^ 64 → spelled_index (text_of v) ≡ Some v
 unfolding text_of

@@ -1,12 +1,13 @@
 //! The texts of indexes.
 
-ghost use Rattle.std.specs.Prelude.{◌≡◌, ◌==◌, ◌<◌, ◌++◌, ◌∷◌, [], length, IfErr};
+ghost use Rattle.std.specs.Prelude.{◌≡◌, ◌==◌, ◌<◌, ◌≤◌, length, IfErr, IsAscii};
 ghost use Rattle.std.specs.Char.{digit_char};
 ghost use Rattle.std.specs.Result.{result_ok};
 ghost use Rattle.h3_index.specs.Text.{is_blank, without_leading_blanks, without_trailing_blanks, without_prefix, number_spelled, spelled_index, text_of, trimmed};
 
 use crate::error::H3Error;
-use arrayvec::ArrayString;
+use arrayvec::{ArrayString, ArrayVec};
+use std::str;
 
 /// Whether a byte is a space, a tab or a carriage return.
 fn is_blank(byte: u8) -> bool
@@ -88,13 +89,26 @@ pub fn read_index(bytes: &[u8]) -> Result<u64, H3Error>
     read_digits(without_prefix(text)).ok_or(H3Error::Failed)
 }
 
-/// Appends a hexadecimal digit in lower case.
-fn push_digit(text: &mut ArrayString<16>, digit: u32)
-    requires room { length text.old.bytes < 16 }
-    requires small { digit < 16 }
-    ensures { text.new.bytes ≡ text.old.bytes ++ digit_char digit ∷ [] }
+/// The byte of a hexadecimal digit, in lower case.
+fn digit_byte(digit: u8) -> u8
+    requires { digit < 16 }
+    ensures byte { result ≡ digit_char digit }
+    ensures ascii { result < 128 }
 {
-    text.push(char::from_digit(digit, 16).unwrap());
+    if digit < 10 {
+        b'0' + digit
+    } else {
+        b'a' - 10 + digit
+    }
+}
+
+/// The bytes as a text.
+fn text_from(bytes: &[u8]) -> ArrayString<16>
+    requires ascii { IsAscii bytes.now }
+    requires room { length bytes.now ≤ 16 }
+    ensures { result.bytes ≡ bytes.now }
+{
+    ArrayString::from(str::from_utf8(bytes).unwrap()).unwrap()
 }
 
 /// The text of an index, as H3's `h3ToString` writes it: lower-case hexadecimal without leading zeros, `0` for 0.
@@ -102,13 +116,13 @@ pub fn write_index(index: u64) -> ArrayString<16>
     ensures text { result.bytes ≡ text_of index }
     ensures spells { spelled_index (text_of index) ≡ Some index }
 {
-    let mut text = ArrayString::new();
+    let mut text: ArrayVec<u8, 16> = ArrayVec::new();
     for place in 0..16u32 {
-        let digit = (index >> (60 - 4 * place) & 15) as u32;
+        let digit = (index >> (60 - 4 * place) & 15) as u8;
         if digit == 0 && place < 15 && text.is_empty() {
             continue;
         }
-        push_digit(&mut text, digit);
+        text.push(digit_byte(digit));
     }
-    text
+    text_from(text.as_slice())
 }
