@@ -6,16 +6,8 @@ use Rattle.std.proofs.lemmas.List.Sums.{sum_by-cons}
 use Rattle.std.proofs.lemmas.Option.{slice_get_within, slice_get-get_or, get_or_from_slice_get}
 use Rattle.h3_index.specs.Cell.{Address, IsCell, is_pentagon, number_of}
 use Rattle.h3_index.specs.Descendants.{descendants, IsDescendant}
-use Rattle.h3_index.specs.Laws.{DescendantsAreListed, DescendantsAscend, HexagonsHaveSevens, PentagonsHaveFewer}
-use Rattle.h3_tree.specs.Positions.{position_under, MembersHavePositions, PositionsTellMembers}
+use Rattle.h3_tree.specs.Positions.{position_under, DescendantsAreKnown, MembersHavePositions, PositionsTellMembers}
 use Rattle.h3_tree.proofs.SizeLaws.{sevens_small, sevens_some}
-
--- what is known of the list
-pub record AreListed : Type 0 where
-  pub members : DescendantsAreListed
-  pub ascending : DescendantsAscend
-  pub hexagons : HexagonsHaveSevens
-  pub pentagons : PentagonsHaveFewer
 
 -- ---- in an ascending list the count of the smaller ones is the index
 
@@ -46,7 +38,7 @@ count_below f (x ∷ xs) (suc k) d h lt =
 -- ---- positions of cells
 
 -- the member at an index has it as its position
-pub position_under-get : AreListed → (c : Address) (s k : ℕ) (d : Address) → IsCell c → length c.digits ≤ s → s ≤ 15 → k < length (descendants c s) → position_under c (get_or (descendants c s) k d) ≡ k
+pub position_under-get : DescendantsAreKnown → (c : Address) (s k : ℕ) (d : Address) → IsCell c → length c.digits ≤ s → s ≤ 15 → k < length (descendants c s) → position_under c (get_or (descendants c s) k d) ≡ k
 unfolding position_under
 position_under-get laws c s k d v low high lt =
     let b = (laws.members c s v low high (get_or (descendants c s) k d)).0 (Contains-get_or (descendants c s) k d lt) in
@@ -58,31 +50,31 @@ pub record IsAt (c : Address) (s place : ℕ) (x : Address) : Type 0 where
   pub is : get_or (descendants c s) place x ≡ x
 
 -- the member at a descendant's position is that descendant
-pub get-position_under : AreListed → (c x : Address) (s : ℕ) → IsCell c → length c.digits ≤ s → s ≤ 15 → IsDescendant c s x → IsAt c s (position_under c x) x
+pub get-position_under : DescendantsAreKnown → (c x : Address) (s : ℕ) → IsCell c → length c.digits ≤ s → s ≤ 15 → IsDescendant c s x → IsAt c s (position_under c x) x
 get-position_under laws c x s v low high h =
     let m = (laws.members c s v low high x).1 h in
     let e : position_under c x ≡ m.0 = ap (position_under c) (sym m.2) ∙ position_under-get laws c s m.0 x v low high m.1 in
     rw e (record { within = m.1; is = m.2 })
 
-pub members_have_positions : AreListed → MembersHavePositions
+pub members_have_positions : DescendantsAreKnown → MembersHavePositions
 members_have_positions laws c x s k v low high e =
     ap (position_under c) (sym (get_or_from_slice_get (descendants c s) k x x e)) ∙ position_under-get laws c s k x v low high (slice_get_within (descendants c s) k x e)
 
-pub positions_tell_members : AreListed → PositionsTellMembers
+pub positions_tell_members : DescendantsAreKnown → PositionsTellMembers
 positions_tell_members laws c x s v low high h =
     let at = get-position_under laws c x s v low high h in
     slice_get-get_or (descendants c s) (position_under c x) x at.within ∙ ap Some at.is
 
 -- ---- how many descendants there are at most
 
-pub size_small : AreListed → (c : Address) (s : ℕ) → s ≤ 15 → length (descendants c s) ≤ 4747561509943
+pub size_small : DescendantsAreKnown → (c : Address) (s : ℕ) → s ≤ 15 → length (descendants c s) ≤ 4747561509943
 size_small laws c s high =
     elim (cases_Bool (is_pentagon c)) [
       | inl h ↦ omega (arith, laws.pentagons c s h, sevens_small (s - length c.digits) (omega arith))
       | inr h ↦ omega (arith, laws.hexagons c s h, sevens_small (s - length c.digits) (omega arith))
     ]
 
-pub size_some : AreListed → (c : Address) (s : ℕ) → 0 < length (descendants c s)
+pub size_some : DescendantsAreKnown → (c : Address) (s : ℕ) → 0 < length (descendants c s)
 size_some laws c s =
     elim (cases_Bool (is_pentagon c)) [
       | inl h ↦ omega (arith, laws.pentagons c s h)

@@ -10,22 +10,22 @@ use Rattle.std.proofs.lemmas.Option.{get_or_from_slice_get, slice_get-get_or, sl
 use Rattle.h3_index.specs.Cell.{Address, IsCell, is_pentagon}
 use Rattle.h3_index.specs.Descendants.{child, cut, descendants, IsDescendant}
 use Rattle.h3_index.specs.Paths.{next_step}
-use Rattle.h3_tree.specs.Positions.{position_under, HasPosition}
+use Rattle.h3_tree.specs.Positions.{position_under, DescendantsAreKnown, HasPosition}
 use Rattle.h3_tree.proofs.BlockLaws.{IsBlock, and_false, block_at, child-cut, get-block, length-blocks, not_deleted, offset, outer_size, pentagon-child}
 use Rattle.h3_tree.proofs.FollowingLaws.{address_same, digit_small}
-use Rattle.h3_tree.proofs.PositionLaws.{AreListed, get-position_under, members_have_positions, position_under-get, size_small, size_some}
+use Rattle.h3_tree.proofs.PositionLaws.{get-position_under, members_have_positions, position_under-get, size_small, size_some}
 use Rattle.h3_tree.proofs.SizeLaws.{sevens_some}
 
 -- ---- under a cell and under its child
 
-position_under-child : AreListed → (m x : Address) (s d before : ℕ) → IsCell m → IsCell (child m d) → s ≤ 15 → IsBlock m s d before → IsDescendant (child m d) s x → position_under m x ≡ before + position_under (child m d) x
+position_under-child : DescendantsAreKnown → (m x : Address) (s d before : ℕ) → IsCell m → IsCell (child m d) → s ≤ 15 → IsBlock m s d before → IsDescendant (child m d) s x → position_under m x ≡ before + position_under (child m d) x
 position_under-child laws m x s d before v w high b h =
     let low : length (m.digits ++ d ∷ []) ≤ s = omega (arith, length-append m.digits (d ∷ []), b.finer) in
     let at = get-position_under laws (child m d) x s w low high h in
     let g = get-block m s d before (position_under (child m d) x) x b at.within in
     ap (position_under m) (sym (g.1 ∙ at.is)) ∙ position_under-get laws m s (before + position_under (child m d) x) x v (omega (arith, b.finer)) high g.0
 
-child_of : AreListed → (m x : Address) (s d before place : ℕ) → IsCell m → IsCell (child m d) → s ≤ 15 → IsBlock m s d before → before ≤ place → place - before < length (descendants (child m d) s) → HasPosition m s x place → HasPosition (child m d) s x (place - before)
+child_of : DescendantsAreKnown → (m x : Address) (s d before place : ℕ) → IsCell m → IsCell (child m d) → s ≤ 15 → IsBlock m s d before → before ≤ place → place - before < length (descendants (child m d) s) → HasPosition m s x place → HasPosition (child m d) s x (place - before)
 child_of laws m x s d before place v w high b from to h =
     let low : length (m.digits ++ d ∷ []) ≤ s = omega (arith, length-append m.digits (d ∷ []), b.finer) in
     let at = get-position_under laws m x s v (omega (arith, b.finer)) high h.descendant in
@@ -41,7 +41,7 @@ pub record IsBefore (c : Address) (s before : ℕ) : Type 0 where
   pub small : before ≤ 4747561509943
   pub ahead : (x : Address) → IsDescendant c s x → position_under (cut c (length c.digits - 1)) x ≡ before + position_under c x
 
-before_of : AreListed → (m c : Address) (s d before : ℕ) → child m d ≡ c → IsCell m → IsCell c → s ≤ 15 → IsBlock m s d before → (before ≤ 4747561509943) × ((x : Address) → IsDescendant c s x → position_under m x ≡ before + position_under c x)
+before_of : DescendantsAreKnown → (m c : Address) (s d before : ℕ) → child m d ≡ c → IsCell m → IsCell c → s ≤ 15 → IsBlock m s d before → (before ≤ 4747561509943) × ((x : Address) → IsDescendant c s x → position_under m x ≡ before + position_under c x)
 before_of laws m c s d before e v w high b =
     let w' : IsCell (child m d) = subst IsCell (sym e) w in
     let first = get-block m s d before 0 m b (size_some laws (child m d) s) in (
@@ -79,7 +79,7 @@ step_low : (p : Bool) (d : ℕ) → d ≢ 0 → (p ≡ true → d ≢ 1) → nex
 step_low true d nz ok = let one = ok refl in omega (arith, nz, one)
 step_low false d nz ok = omega (arith, nz)
 
-module _ (laws : AreListed) (c : Address) (s d : ℕ) (h : IsLastDigit c s d) where
+module _ (laws : DescendantsAreKnown) (c : Address) (s d : ℕ) (h : IsLastDigit c s d) where
   parent_level : length (take (length c.digits - 1) c.digits) ≡ length c.digits - 1
   parent_level = length-take-le (length c.digits - 1) c.digits (omega (arith, h.some))
 
@@ -118,7 +118,7 @@ pub record IsChildBelow (m : Address) (s place d rest : ℕ) : Type 0 where
 pub level_of_child : (m : Address) (d : ℕ) → length (m.digits ++ d ∷ []) ≡ length m.digits + 1
 level_of_child m d = length-append m.digits (d ∷ [])
 
-module _ (laws : AreListed) (m : Address) (s place center outer : ℕ) (v : IsCell m) (finer : length m.digits < s) (high : s ≤ 15) (c : center ≡ length (descendants (child m 0) s)) (o : outer ≡ 7 ^ (s - length m.digits - 1)) where
+module _ (laws : DescendantsAreKnown) (m : Address) (s place center outer : ℕ) (v : IsCell m) (finer : length m.digits < s) (high : s ≤ 15) (c : center ≡ length (descendants (child m 0) s)) (o : outer ≡ 7 ^ (s - length m.digits - 1)) where
   pub below_center : place < center → IsCell (child m 0) → (x : Address) → HasPosition m s x place → HasPosition (child m 0) s x place
   below_center lt w x h =
       let b = block_at laws.hexagons m s 0 center outer finer c o (omega arith) (λ _ e. omega (arith, e)) in
@@ -133,7 +133,7 @@ second_below_pentagon : (p : Bool) → p ≡ true → 1 < next_step p 0
 second_below_pentagon true h = omega arith
 second_below_pentagon false h = cc
 
-module _ (laws : AreListed) (m : Address) (s place center outer : ℕ) (v : IsCell m) (finer : length m.digits < s) (high : s ≤ 15) (c : center ≡ length (descendants (child m 0) s)) (o : outer ≡ 7 ^ (s - length m.digits - 1)) (from : center ≤ place) (within : place < length (descendants m s)) where
+module _ (laws : DescendantsAreKnown) (m : Address) (s place center outer : ℕ) (v : IsCell m) (finer : length m.digits < s) (high : s ≤ 15) (c : center ≡ length (descendants (child m 0) s)) (o : outer ≡ 7 ^ (s - length m.digits - 1)) (from : center ≤ place) (within : place < length (descendants m s)) where
   pub outer_some : 0 < outer
   outer_some = rw o (omega (arith, sevens_some (s - length m.digits - 1)))
 
@@ -174,7 +174,7 @@ pub record IsReached (c : Address) (s place level left : ℕ) (m : Address) : Ty
   pub level_is : length m.digits ≡ level
   pub below : HasPosition m s (get_or (descendants c s) place c) left
 
-pub reached_start : AreListed → (c : Address) (s place level : ℕ) → IsCell c → length c.digits ≤ s → s ≤ 15 → place < length (descendants c s) → level ≡ length c.digits → IsReached c s place level place c
+pub reached_start : DescendantsAreKnown → (c : Address) (s place level : ℕ) → IsCell c → length c.digits ≤ s → s ≤ 15 → place < length (descendants c s) → level ≡ length c.digits → IsReached c s place level place c
 reached_start laws c s place level v low high within e =
     record {
       valid = v;
@@ -182,7 +182,7 @@ reached_start laws c s place level v low high within e =
       below = record { descendant = (laws.members c s v low high (get_or (descendants c s) place c)).0 (Contains-get_or (descendants c s) place c within); is = position_under-get laws c s place c v low high within };
     }
 
-pub reached_within : AreListed → (c : Address) (s place level left : ℕ) (m : Address) → level < s → s ≤ 15 → IsReached c s place level left m → left < length (descendants m s)
+pub reached_within : DescendantsAreKnown → (c : Address) (s place level left : ℕ) (m : Address) → level < s → s ≤ 15 → IsReached c s place level left m → left < length (descendants m s)
 reached_within laws c s place level left m lt high h =
     let at = get-position_under laws m (get_or (descendants c s) place c) s h.valid (omega (arith, h.level_is, lt)) high h.below.descendant in
     omega (arith, at.within, h.below.is)
@@ -194,7 +194,7 @@ reached_end c s place level left m le within h =
     let same : get_or (descendants c s) place c ≡ m = sym (address_same (cut (get_or (descendants c s) place c) (length m.digits)) (get_or (descendants c s) place c) refl all) ∙ h.below.descendant.under in
     slice_get-get_or (descendants c s) place c within ∙ ap Some same
 
-pub reached_place : AreListed → (c : Address) (s place : ℕ) (m : Address) → IsCell c → length c.digits ≤ s → s ≤ 15 → slice_get (descendants c s) place ≡ Some m → HasPosition c s m place
+pub reached_place : DescendantsAreKnown → (c : Address) (s place : ℕ) (m : Address) → IsCell c → length c.digits ≤ s → s ≤ 15 → slice_get (descendants c s) place ≡ Some m → HasPosition c s m place
 reached_place laws c s place m v low high e =
     let within = slice_get_within (descendants c s) place m e in
     record {
@@ -220,7 +220,7 @@ cut_above : (c : Address) (q : ℕ) → IsCell c → q ≤ length c.digits → I
 cut_above c q v le =
     record { valid = v; resolution_is = refl; under = ap (λ n. cut c n) (length-take-le q c.digits le) }
 
-pub counted_small : AreListed → (c : Address) (q : ℕ) → IsCell c → IsCell (cut c q) → q ≤ length c.digits → position_under (cut c q) c < 4747561509943
+pub counted_small : DescendantsAreKnown → (c : Address) (q : ℕ) → IsCell c → IsCell (cut c q) → q ≤ length c.digits → position_under (cut c q) c < 4747561509943
 counted_small laws c q v w le =
     let fine : length c.digits ≤ 15 = omega (arith, v.coarse) in
     let at = get-position_under laws (cut c q) c (length c.digits) w (omega (arith, length-take-le q c.digits le, le)) fine (cut_above c q v le) in
@@ -231,7 +231,7 @@ counted_more c q l so_far more v lt ahead h =
     let here = rw (cut_address c l lt) at (ahead c (cut_above c (l + 1) v (omega arith))) in
     record { is = omega (arith, here, h.is) }
 
-alone : AreListed → (c : Address) → length (descendants c (length c.digits)) ≡ 1
+alone : DescendantsAreKnown → (c : Address) → length (descendants c (length c.digits)) ≡ 1
 alone laws c =
     let none : length c.digits - length c.digits ≡ 0 = omega arith in
     elim (cases_Bool (is_pentagon c)) [
@@ -239,7 +239,7 @@ alone laws c =
       | inr h ↦ laws.hexagons c (length c.digits) h ∙ rw none refl
     ]
 
-pub counted_end : AreListed → (c : Address) (q l so_far : ℕ) → IsCell c → length c.digits ≤ l → IsCounted c q l so_far → so_far ≡ position_under (cut c q) c
+pub counted_end : DescendantsAreKnown → (c : Address) (q l so_far : ℕ) → IsCell c → length c.digits ≤ l → IsCounted c q l so_far → so_far ≡ position_under (cut c q) c
 counted_end laws c q l so_far v le h =
     let same : cut c l ≡ c = address_same (cut c l) c refl (take_all l c.digits le) in
     let self : IsDescendant c (length c.digits) c = record { valid = v; resolution_is = refl; under = address_same (cut c (length c.digits)) c refl (take-length c.digits) } in

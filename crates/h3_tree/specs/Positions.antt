@@ -2,6 +2,14 @@
 use Rattle.std.specs.Prelude.{ℕ, ◌≡◌, ◌≤◌, nat_lt, count_by, slice_get, Some}
 use Rattle.h3_index.specs.Cell.{Address, IsCell, number_of, resolution}
 use Rattle.h3_index.specs.Descendants.{descendants, IsDescendant}
+use Rattle.h3_index.specs.Laws.{DescendantsAreListed, DescendantsAscend, HexagonsHaveSevens, PentagonsHaveFewer}
+
+-- the laws of the list of the descendants, together
+pub record DescendantsAreKnown : Type 0 where
+  pub members : DescendantsAreListed
+  pub ascending : DescendantsAscend
+  pub hexagons : HexagonsHaveSevens
+  pub pentagons : PentagonsHaveFewer
 
 -- how many of the descendants of c that have the resolution of x have a smaller number than x
 unfoldable pub position_under : Address → Address → ℕ

@@ -5,7 +5,7 @@ ghost use Rattle.std.specs.Result.{result_err};
 ghost use Rattle.h3_index.specs.Cell.{Address, IsCell, is_pentagon, resolution};
 ghost use Rattle.h3_index.specs.Descendants.{cut, descendants, IsDescendant};
 ghost use Rattle.h3_index.specs.Paths.{next_step};
-ghost use Rattle.h3_tree.specs.Positions.{position_under, HasPosition, MembersHavePositions, PositionsTellMembers};
+ghost use Rattle.h3_tree.specs.Positions.{position_under, DescendantsAreKnown, HasPosition, MembersHavePositions, PositionsTellMembers};
 ghost use Rattle.h3_tree.specs.Refusals.{parent_refusal, position_refusal};
 
 use crate::ancestors::parent;
@@ -13,6 +13,13 @@ use crate::descendants::size_at;
 use crate::resolutions::resolution_from;
 use h3_index::laws::descendants_are_listed;
 use h3_index::{Cell, H3Error};
+
+/// The laws of the list of the descendants, as one fact; it does nothing.
+fn descendants_are_known()
+    ensures { DescendantsAreKnown }
+{
+    descendants_are_listed();
+}
 
 /// The digit of the child that comes after a cell's center child: 1, but 2 below a pentagon, whose child of digit 1
 /// is deleted.
@@ -30,7 +37,7 @@ fn before_own(cell: Cell, r: u8) -> u64
     ensures small { result ≤ 4747561509943 }
     ensures before { (x : Address) → IsDescendant cell r x → position_under (cut cell (length cell.digits - 1)) x ≡ result + position_under cell x }
 {
-    descendants_are_listed();
+    descendants_are_known();
     let own = cell.resolution();
     let digit = cell.digit(own);
     let parent = cell.cut(own - 1);
@@ -51,7 +58,7 @@ fn child_below(position: u64, cell: Cell, r: u8) -> (Cell, u64)
     ensures level { length result.0.digits ≡ length cell.digits + 1 }
     ensures below { (x : Address) → HasPosition cell r x position → HasPosition result.0 r x result.1 }
 {
-    descendants_are_listed();
+    descendants_are_known();
     let outer = 7u64.pow(u32::from(r - cell.resolution() - 1));
     let center = cell.child(0);
     let size = size_at(center, r);
@@ -68,7 +75,7 @@ fn positions_are_told()
     ensures members { MembersHavePositions }
     ensures positions { PositionsTellMembers }
 {
-    descendants_are_listed();
+    descendants_are_known();
 }
 
 /// The descendant of a cell at a position.
@@ -79,7 +86,7 @@ fn member_at(position: u64, cell: Cell, r: u8) -> Cell
     ensures is { slice_get (descendants cell r) position ≡ Some result }
     ensures place { HasPosition cell r result position }
 {
-    descendants_are_listed();
+    descendants_are_known();
     let mut member = cell;
     let mut left = position;
     for _ in cell.resolution()..r {
@@ -97,7 +104,7 @@ pub fn child_pos(cell: Cell, parent_res: i32) -> Result<u64, H3Error>
     ensures refused { result_err result ≡ parent_refusal (resolution cell) parent_res }
     ensures is { IfOk result (λ position. position ≡ position_under (cut cell (unsigned_abs parent_res)) cell) }
 {
-    descendants_are_listed();
+    descendants_are_known();
     let ancestor = parent(cell, parent_res)?;
     let own = cell.resolution();
     let mut position: u64 = 0;

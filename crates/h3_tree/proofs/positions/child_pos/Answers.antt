@@ -3,7 +3,6 @@ use Rattle.std.proofs.lemmas.Int.{ints}
 use Rattle.h3_index.specs.Cell.{Address, IsCell}
 use Rattle.h3_index.specs.Descendants.{cut, IsDescendant}
 use Rattle.h3_tree.specs.Positions.{position_under}
-use Rattle.h3_tree.proofs.PositionLaws.{AreListed}
 use Rattle.h3_tree.proofs.WalkLaws.{IsCounted, counted_small, counted_more, counted_end}
 use Rattle.h3_tree.proofs.positions.child_pos.Goals as goal
 
@@ -15,10 +14,9 @@ more c =
 
 pub overflow_add-position : goal.overflow_add-position
 overflow_add-position c =
-    let laws : AreListed = record { members = c.descendants_are_listed.ensures.members; ascending = c.descendants_are_listed.ensures.ascending; hexagons = c.descendants_are_listed.ensures.hexagons; pentagons = c.descendants_are_listed.ensures.pentagons } in
     let above : cut c.args.cell c.resolution-level.result ≡ c.in_ok-ancestor.ancestor = ap (λ n. cut c.args.cell n) c.resolution-level.ensures.number ∙ c.in_ok-ancestor.ensures.ancestor.1 in
     let low : c.resolution-level.result ≤ length c.args.cell.digits = omega arith in
-    let small = counted_small laws c.args.cell c.resolution-level.result c.resolution-own.ensures.valid (subst IsCell (sym above) c.in_ok-ancestor.ensures.ancestor.0) low in
+    let small = counted_small c.descendants_are_known.ensures c.args.cell c.resolution-level.result c.resolution-own.ensures.valid (subst IsCell (sym above) c.in_ok-ancestor.ensures.ancestor.0) low in
     record { fits = omega (arith, (more c).is, small) }
 
 pub loop-level-preserved : goal.loop-level-preserved
@@ -26,8 +24,7 @@ loop-level-preserved c = more c
 
 pub returns-clause-is : goal.returns-clause-is
 returns-clause-is c =
-    let laws : AreListed = record { members = c.descendants_are_listed.ensures.members; ascending = c.descendants_are_listed.ensures.ascending; hexagons = c.descendants_are_listed.ensures.hexagons; pentagons = c.descendants_are_listed.ensures.pentagons } in
     let above : cut c.args.cell c.resolution-level.result ≡ c.in_ok-ancestor.ancestor = ap (λ n. cut c.args.cell n) c.resolution-level.ensures.number ∙ c.in_ok-ancestor.ensures.ancestor.1 in
     let same : to_z w32 (of_z w32 c.args.parent_res) ≡ c.args.parent_res = omega (arith, ints) in
-    counted_end laws c.args.cell c.resolution-level.result c.loop-level.level c.loop-level.position c.resolution-own.ensures.valid (omega arith) c.loop-level.invariant ∙
+    counted_end c.descendants_are_known.ensures c.args.cell c.resolution-level.result c.loop-level.level c.loop-level.position c.resolution-own.ensures.valid (omega arith) c.loop-level.invariant ∙
     ap (λ a. position_under a c.args.cell) (above ∙ c.in_ok-ancestor.ensures.is ∙ ap (λ z. cut c.args.cell (unsigned_abs z)) same)

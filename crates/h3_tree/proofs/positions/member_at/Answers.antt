@@ -4,11 +4,11 @@ use Rattle.h3_tree.proofs.positions.member_at.Goals as goal
 
 pub loop-init : goal.loop-init
 loop-init c =
-    reached_start (record { members = c.descendants_are_listed.ensures.members; ascending = c.descendants_are_listed.ensures.ascending; hexagons = c.descendants_are_listed.ensures.hexagons; pentagons = c.descendants_are_listed.ensures.pentagons }) c.args.cell c.args.r c.args.position c.resolution-counter.result c.resolution-counter.ensures.valid c.requires.not_coarser c.requires.at_most_fifteen c.requires.within c.resolution-counter.ensures.number
+    reached_start c.descendants_are_known.ensures c.args.cell c.args.r c.args.position c.resolution-counter.result c.resolution-counter.ensures.valid c.requires.not_coarser c.requires.at_most_fifteen c.requires.within c.resolution-counter.ensures.number
 
 pub child_below-requires-clause-within : goal.child_below-requires-clause-within
 child_below-requires-clause-within c =
-    reached_within (record { members = c.descendants_are_listed.ensures.members; ascending = c.descendants_are_listed.ensures.ascending; hexagons = c.descendants_are_listed.ensures.hexagons; pentagons = c.descendants_are_listed.ensures.pentagons }) c.args.cell c.args.r c.args.position c.loop.counter c.loop.left c.loop.member c.loop-test.true c.requires.at_most_fifteen c.loop.invariant
+    reached_within c.descendants_are_known.ensures c.args.cell c.args.r c.args.position c.loop.counter c.loop.left c.loop.member c.loop-test.true c.requires.at_most_fifteen c.loop.invariant
 
 pub loop-preserved : goal.loop-preserved
 loop-preserved c =
@@ -24,4 +24,4 @@ returns-clause-is c =
 
 pub returns-clause-place : goal.returns-clause-place
 returns-clause-place c =
-    reached_place (record { members = c.descendants_are_listed.ensures.members; ascending = c.descendants_are_listed.ensures.ascending; hexagons = c.descendants_are_listed.ensures.hexagons; pentagons = c.descendants_are_listed.ensures.pentagons }) c.args.cell c.args.r c.args.position c.loop.member c.resolution-counter.ensures.valid c.requires.not_coarser c.requires.at_most_fifteen (returns-clause-is c)
+    reached_place c.descendants_are_known.ensures c.args.cell c.args.r c.args.position c.loop.member c.resolution-counter.ensures.valid c.requires.not_coarser c.requires.at_most_fifteen (returns-clause-is c)

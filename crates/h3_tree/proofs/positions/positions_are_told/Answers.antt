@@ -3,8 +3,8 @@ use Rattle.h3_tree.proofs.positions.positions_are_told.Goals as goal
 
 pub returns-clause-members : goal.returns-clause-members
 returns-clause-members c =
-    members_have_positions (record { members = c.descendants_are_listed.ensures.members; ascending = c.descendants_are_listed.ensures.ascending; hexagons = c.descendants_are_listed.ensures.hexagons; pentagons = c.descendants_are_listed.ensures.pentagons })
+    members_have_positions c.descendants_are_known.ensures
 
 pub returns-clause-positions : goal.returns-clause-positions
 returns-clause-positions c =
-    positions_tell_members (record { members = c.descendants_are_listed.ensures.members; ascending = c.descendants_are_listed.ensures.ascending; hexagons = c.descendants_are_listed.ensures.hexagons; pentagons = c.descendants_are_listed.ensures.pentagons })
+    positions_tell_members c.descendants_are_known.ensures
