@@ -4,36 +4,31 @@ use crate::refusal::Refusal;
 use h3_index::{Cell, H3Error};
 use std::test::Fail;
 
+/// So many bytes are handed out at once.
+const PIECES: [usize; 6] = [1, 2, 63, 64, 65, 100000];
+
 /// Reads a list that a source hands out by so many bytes; it fails at the pull after `calls` pulls.
-fn read(rt: &HostRuntime, bytes: &[u8], most: usize, calls: u64) -> Result<Vec<Cell>, Refusal>
-    requires { 0 < most }
-{
-    let mut source = SlowSource::new(bytes, most, calls);
+fn read(rt: &HostRuntime, bytes: &[u8], most: usize, calls: u64) -> Result<Vec<Cell>, Refusal> {
+    let mut source = SlowSource::new(bytes, most.max(1), calls);
     read_cells(rt.alloc(), &mut source)
 }
 
 /// Whether the list has these cells, however it is handed out.
 fn lists(rt: &HostRuntime, bytes: &[u8], numbers: &[u64]) -> bool {
-    [1, 2, 63, 64, 65, 65535, 1000000].iter().all(|most| {
-        *most > 0
-            && match read(rt, bytes, *most, 1000) {
-                Ok(cells) => {
-                    cells.len() == numbers.len()
-                        && cells.iter().zip(numbers).all(|(cell, n)| cell.raw() == *n)
-                }
-                Err(_) => false,
-            }
+    PIECES.iter().all(|most| match read(rt, bytes, *most, 1000) {
+        Ok(cells) => {
+            cells.len() == numbers.len()
+                && cells.iter().zip(numbers).all(|(cell, n)| cell.raw() == *n)
+        }
+        Err(_) => false,
     })
 }
 
 /// Whether the list is refused by this error, however it is handed out.
 fn refuses(rt: &HostRuntime, bytes: &[u8], error: H3Error) -> bool {
-    [1, 2, 63, 64, 65, 65535, 1000000].iter().all(|most| {
-        *most > 0
-            && match read(rt, bytes, *most, 1000) {
-                Ok(_) => false,
-                Err(refusal) => refusal == Refusal::Error(error),
-            }
+    PIECES.iter().all(|most| match read(rt, bytes, *most, 1000) {
+        Ok(_) => false,
+        Err(refusal) => refusal == Refusal::Error(error),
     })
 }
 

@@ -1,5 +1,6 @@
-use Rattle.std.proofs.Common.{◌≡◌, ◌≤◌, ◌⊎◌, length, true, sym, ◌∙◌}
+use Rattle.std.proofs.Common.{rules, ◌≡◌, ◌≤◌, ◌⊎◌, length, true, sym, ◌∙◌}
 use Rattle.std.proofs.lemmas.Result.{err_from_is_err_and, IfOk-weaker, IfErr-weaker}
+use Rattle.h3_cli.specs.List.{RefusesList, listed_cells}
 use Rattle.h3_cli.proofs.ListLines.{listed_from_start}
 use Rattle.h3_cli.proofs.Pages.{refuses_from_start, refuses_at_end}
 use Rattle.h3_cli.proofs.list.read_list.Goals as goal
@@ -7,8 +8,11 @@ use Rattle.h3_cli.proofs.list.read_list.Goals as goal
 pub returns-in_err-read-clause-refused : goal.returns-in_err-read-clause-refused
 returns-in_err-read-clause-refused g c =
     let p = err_from_is_err_and c.from_residual.result c.from_residual.ensures.1 in
-    let same = c.input-1.given.1 (sym c.read_pages-read.ensures.same) in
-    rw (p.1, p.2, same) (λ bytes told. refuses_from_start ((g.R.Source.has_failed c.read_pages-read.new.reader.source.now ≡ true) ⊎ (c.args.limit ≤ length bytes)) c.new-list.result.cells.items c.new-list.result.line.items bytes c.in_err-read.field-0.0 c.new-list.ensures.cells c.new-list.ensures.line (c.in_err-read.ensures.err bytes told))
+    rw (p.1, p.2) (λ bytes told. (
+    let after_reads = (g.R.Source.has_failed c.read_pages-read.new.reader.source.now ≡ true) ⊎ (c.args.limit ≤ length bytes) in
+    let refused : RefusesList after_reads (listed_cells bytes) c.in_err-read.field-0.0 =
+    refuses_from_start after_reads c.new-list.result.cells.items c.new-list.result.line.items bytes c.in_err-read.field-0.0 c.new-list.ensures.cells c.new-list.ensures.line (c.in_err-read.ensures.err bytes told) in
+    search (rules, c.read_pages-read.ensures.same)))
 
 pub returns-clause-cells : goal.returns-clause-cells
 returns-clause-cells g c = IfOk-weaker c.finish.result _ _
