@@ -1,0 +1,57 @@
+-- Linear equations of Eisenstein integers.
+use Rattle.std.proofs.Common.{◌≡◌, ◌+◌, ℕ, zero, suc, arith, ap, refl, ◌∙◌, ℤ, pos}
+use borrow.Author.Differences.{up, down, same_in, same_out, sum_is_lem, neg_is, product_is}
+use Rattle.h3_lattice.specs.declared.class.Class.{Class}
+use Rattle.h3_lattice.specs.declared.class.Class.TheVariants.{Two, Three}
+use Rattle.h3_lattice.specs.declared.direction.Direction.{Direction}
+use Rattle.h3_lattice.specs.declared.direction.Direction.TheVariants.{K, J, JK, I, IK, IJ}
+use Rattle.h3_lattice.specs.Eisenstein.{Eisenstein, eisenstein, sum_of, product_of}
+use Rattle.h3_lattice.specs.Class.{multiplier}
+use Rattle.h3_lattice.specs.Direction.{turned, turned_once, turns, unit_of}
+
+pub point_in : (x y : Eisenstein) → (up x.a + down y.a ≡ up y.a + down x.a) × (up x.b + down y.b ≡ up y.b + down x.b) → x ≡ y
+point_in x y h =
+    let p : x.a ≡ y.a = same_in _ _ h.0 in
+    let q : x.b ≡ y.b = same_in _ _ h.1 in
+    λ i. record { a = p i; b = q i }
+
+pub point_out : (x y : Eisenstein) → x ≡ y → (up x.a ≡ up y.a) × (down x.a ≡ down y.a) × (up x.b ≡ up y.b) × (down x.b ≡ down y.b)
+point_out x y e =
+    (ap (λ (z : Eisenstein). up z.a) e, ap (λ (z : Eisenstein). down z.a) e, ap (λ (z : Eisenstein). up z.b) e, ap (λ (z : Eisenstein). down z.b) e)
+
+-- with these `omega` proves linear equations of Eisenstein integers from linear ones
+pub ruleset points = (point_in, point_out, same_in, same_out, sum_is_lem, neg_is, product_is)
+
+pub product-sum : (c : Class) (x y : Eisenstein) → product_of (multiplier c) (sum_of x y) ≡ sum_of (product_of (multiplier c) x) (product_of (multiplier c) y)
+product-sum Three x y = omega (arith, points)
+product-sum Two x y = omega (arith, points)
+
+-- one more turn is one more factor 1 + w
+turn_times_unit : (d : Direction) (p : Eisenstein) → product_of (eisenstein (pos 1) (pos 1)) (product_of p (unit_of d)) ≡ product_of (product_of (eisenstein (pos 1) (pos 1)) p) (unit_of d)
+turn_times_unit K p = omega (arith, points)
+turn_times_unit J p = omega (arith, points)
+turn_times_unit JK p = omega (arith, points)
+turn_times_unit I p = omega (arith, points)
+turn_times_unit IK p = omega (arith, points)
+turn_times_unit IJ p = omega (arith, points)
+
+unit_of-turned_once : (d : Direction) → unit_of (turned_once d) ≡ product_of (eisenstein (pos 1) (pos 1)) (unit_of d)
+unit_of-turned_once K = refl
+unit_of-turned_once J = refl
+unit_of-turned_once JK = refl
+unit_of-turned_once I = refl
+unit_of-turned_once IK = refl
+unit_of-turned_once IJ = refl
+
+one_times_unit : (d : Direction) → unit_of d ≡ product_of (eisenstein (pos 1) (pos 0)) (unit_of d)
+one_times_unit K = refl
+one_times_unit J = refl
+one_times_unit JK = refl
+one_times_unit I = refl
+one_times_unit IK = refl
+one_times_unit IJ = refl
+
+pub unit_of-turned : (n : ℕ) (d : Direction) → unit_of (turned n d) ≡ product_of (turns n) (unit_of d)
+unit_of-turned zero d = one_times_unit d
+unit_of-turned (suc n) d =
+    unit_of-turned_once (turned n d) ∙ ap (product_of (eisenstein (pos 1) (pos 1))) (unit_of-turned n d) ∙ turn_times_unit d (turns n)

@@ -1,0 +1,29 @@
+-- The two classes of resolutions, their multipliers, and carries.
+--
+-- H3's odd resolutions are Class III and its even ones Class II. From one resolution to the next finer one the grid is
+-- multiplied by a number of norm 7: by 2 - w to an odd resolution, and by 3 + w to an even one. The seven digits are a
+-- complete set of remainders for each of the two.
+use Rattle.std.specs.Prelude.{◌≡◌, ℕ, ◌%◌, ◌≤◌, ◌==◌, pos, negsuc, if◌then◌else◌}
+use Rattle.h3_lattice.specs.declared.class.Class.{Class}
+use Rattle.h3_lattice.specs.declared.class.Class.TheVariants.{Two, Three}
+use Rattle.h3_lattice.specs.Eisenstein.{Eisenstein, eisenstein, product_of, sum_of}
+use Rattle.h3_lattice.specs.Direction.{digit_value, unit_of}
+use Rattle.h3_lattice.specs.declared.direction.Direction.{Direction}
+
+-- the class of a resolution
+abbrev pub class_at : ℕ → Class
+class_at r = if r % 2 == 1 then Three else Two
+
+abbrev pub multiplier : Class → Eisenstein
+multiplier Three = eisenstein (pos 2) (negsuc 0)
+multiplier Two = eisenstein (pos 3) (pos 1)
+
+-- digit + direction = multiplier * carried + left
+abbrev pub IsCarry : Class → ℕ → Direction → Eisenstein → ℕ → Type 0
+IsCarry class digit direction carried left =
+    sum_of (digit_value digit) (unit_of direction) ≡ sum_of (product_of (multiplier class) carried) (digit_value left)
+
+-- no other digit and carry have this sum
+abbrev pub IsOnlyCarry : Class → ℕ → Direction → Eisenstein → ℕ → Type 0
+IsOnlyCarry class digit direction carried left =
+    (other : Eisenstein) (rest : ℕ) → rest ≤ 6 → IsCarry class digit direction other rest → (other ≡ carried) × (rest ≡ left)

@@ -1,0 +1,5 @@
+pub mod Class
+pub mod Digits
+pub mod Direction
+pub mod Eisenstein
+pub mod Expansion
