@@ -1,1 +1,4 @@
+pub mod CarryLaws
+pub mod DivisionLaws
+pub mod ExpansionLaws
 pub mod LinearLaws

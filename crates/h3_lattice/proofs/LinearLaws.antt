@@ -1,6 +1,6 @@
 -- Linear equations of Eisenstein integers.
 use Rattle.std.proofs.Common.{◌≡◌, ◌+◌, ℕ, zero, suc, arith, ap, refl, ◌∙◌, ℤ, pos}
-use borrow.Author.Differences.{up, down, same_in, same_out, sum_is_lem, neg_is, product_is}
+use borrow.Author.Differences.{up, down, same_in, same_out, sum_is_lem, neg_is, product_is, le_out, at_most_in}
 use Rattle.h3_lattice.specs.declared.class.Class.{Class}
 use Rattle.h3_lattice.specs.declared.class.Class.TheVariants.{Two, Three}
 use Rattle.h3_lattice.specs.declared.direction.Direction.{Direction}
@@ -20,7 +20,7 @@ point_out x y e =
     (ap (λ (z : Eisenstein). up z.a) e, ap (λ (z : Eisenstein). down z.a) e, ap (λ (z : Eisenstein). up z.b) e, ap (λ (z : Eisenstein). down z.b) e)
 
 -- with these `omega` proves linear equations of Eisenstein integers from linear ones
-pub ruleset points = (point_in, point_out, same_in, same_out, sum_is_lem, neg_is, product_is)
+pub ruleset points = (point_in, point_out, same_in, same_out, sum_is_lem, neg_is, product_is, le_out, at_most_in)
 
 pub product-sum : (c : Class) (x y : Eisenstein) → product_of (multiplier c) (sum_of x y) ≡ sum_of (product_of (multiplier c) x) (product_of (multiplier c) y)
 product-sum Three x y = omega (arith, points)

@@ -1,0 +1,162 @@
+-- Expansions: one at each resolution, and the sum of a place and a unit.
+use Rattle.std.proofs.Common.{◌≡◌, ℕ, zero, suc, ◌+◌, ◌<◌, refl, arith, sym, ap, ◌∙◌, Option, Some, None, List, [], ◌∷◌, length}
+use Rattle.std.specs.Int.Digits.{AllBelowBase}
+use Rattle.h3_lattice.specs.declared.direction.Direction.{Direction}
+use Rattle.h3_lattice.specs.declared.class.Class.{Class}
+use Rattle.h3_lattice.specs.declared.class.Class.TheVariants.{Two, Three}
+use Rattle.h3_lattice.specs.Eisenstein.{Eisenstein, product_of, sum_of, zero_point}
+use Rattle.h3_lattice.specs.Direction.{digit_or_zero, digit_value, direction_of, unit_of, value_of}
+use Rattle.h3_lattice.specs.Class.{class_at, multiplier, IsCarried}
+use Rattle.h3_lattice.specs.Expansion.{multiplier_at, place_from, place, scaled, IsExpansion, OneExpansion, ExpansionsAreUnique, sum_from, PlacesAreSums}
+use Rattle.h3_lattice.proofs.LinearLaws.{points}
+use Rattle.h3_lattice.proofs.DivisionLaws.{digit_or_zero-lt, direction_of-digit_or_zero, one_digit, division}
+use Rattle.h3_lattice.proofs.CarryLaws.{carried, carried_is}
+
+-- ---- a part that is added at the coarse end
+
+further : (c : Class) (x y v : Eisenstein) → sum_of (product_of (multiplier c) (sum_of x y)) v ≡ sum_of (product_of (multiplier c) x) (sum_of (product_of (multiplier c) y) v)
+further Three x y v = omega (arith, points)
+further Two x y v = omega (arith, points)
+
+pub place_from-sum : (n : ℕ) (x y : Eisenstein) (ds : List ℕ) → place_from n (sum_of x y) ds ≡ sum_of (scaled n (length ds) x) (place_from n y ds)
+place_from-sum n x y [] = refl
+place_from-sum n x y (d ∷ ds) =
+    let c = class_at (n + 1) in
+    ap (λ z. place_from (n + 1) z ds) (further c x y (digit_value d))
+    ∙ place_from-sum (n + 1) (product_of (multiplier c) x) (sum_of (product_of (multiplier c) y) (digit_value d)) ds
+
+sum-zero : (x : Eisenstein) → x ≡ sum_of x zero_point
+sum-zero x = omega (arith, points)
+
+zero-sum : (x : Eisenstein) → sum_of zero_point x ≡ x
+zero-sum x = omega (arith, points)
+
+-- u * M_1 * .. * M_r + place ds, along the digits
+pub place_from-unit : (u : Eisenstein) (ds : List ℕ) → place_from 0 u ds ≡ sum_of (scaled 0 (length ds) u) (place ds)
+place_from-unit u ds =
+    ap (λ z. place_from 0 z ds) (sum-zero u) ∙ place_from-sum 0 u zero_point ds
+
+-- ---- the place as a sum
+
+only_digit : (c : Class) (v : Eisenstein) → sum_of (product_of (multiplier c) zero_point) v ≡ sum_of v zero_point
+only_digit Three v = omega (arith, points)
+only_digit Two v = omega (arith, points)
+
+place_from-zero : (n : ℕ) (ds : List ℕ) → place_from n zero_point ds ≡ sum_from n ds
+place_from-zero n [] = refl
+place_from-zero n (d ∷ ds) =
+    ap (λ z. place_from (n + 1) z ds) (only_digit (class_at (n + 1)) (digit_value d))
+    ∙ place_from-sum (n + 1) (digit_value d) zero_point ds
+    ∙ ap (sum_of (scaled (n + 1) (length ds) (digit_value d))) (place_from-zero (n + 1) ds)
+
+pub places_are_sums : PlacesAreSums
+places_are_sums ds = place_from-zero 0 ds
+
+-- ---- one expansion
+
+pub record Expanded (n k : ℕ) (z : Eisenstein) : Type 0 where
+  pub unit : Eisenstein
+  pub list : List ℕ
+  pub long : length list ≡ k
+  pub small : AllBelowBase 7 list
+  pub is : place_from n unit list ≡ z
+
+pub expanded : (n k : ℕ) (z : Eisenstein) → Expanded n k z
+expanded n zero z = record { unit = z; list = []; long = refl; small = tt; is = refl }
+expanded n (suc k) z =
+    let e = expanded (n + 1) k z in
+    let d = division (class_at (n + 1)) e.unit in
+    record {
+      unit = d.quotient;
+      list = d.digit ∷ e.list;
+      long = ap suc e.long;
+      small = (d.small, e.small);
+      is = ap (λ v. place_from (n + 1) v e.list) (sym d.is) ∙ e.is;
+    }
+
+pub one_list : (n : ℕ) (u v : Eisenstein) (ds es : List ℕ) → length ds ≡ length es → AllBelowBase 7 ds → AllBelowBase 7 es → place_from n u ds ≡ place_from n v es → (u ≡ v) × (ds ≡ es)
+one_list n u v [] [] l a b e = (e, refl)
+one_list n u v [] (d' ∷ es) l a b e = absurd (omega arith)
+one_list n u v (d ∷ ds) [] l a b e = absurd (omega arith)
+one_list n u v (d ∷ ds) (d' ∷ es) l a b e =
+    let l' : length ds ≡ length es = omega arith in
+    let rest = one_list (n + 1) _ _ ds es l' a.1 b.1 e in
+    let here = one_digit (class_at (n + 1)) u v d d' a.0 b.0 rest.0 in
+    let first = here.1 in
+    let others = rest.1 in
+    (here.0, cc)
+
+-- an expansion, along the digits
+pub expansion_along : (z u : Eisenstein) (r : ℕ) (ds : List ℕ) → IsExpansion z r u ds → place_from 0 u ds ≡ z
+expansion_along z u r ds h =
+    place_from-unit u ds ∙ ap (λ n. sum_of (scaled 0 n u) (place ds)) h.long ∙ sym h.sum
+
+pub along_expansion : (z u : Eisenstein) (r : ℕ) (ds : List ℕ) → length ds ≡ r → AllBelowBase 7 ds → place_from 0 u ds ≡ z → IsExpansion z r u ds
+along_expansion z u r ds l a e = record {
+  long = l;
+  digits = a;
+  sum = sym e ∙ place_from-unit u ds ∙ ap (λ n. sum_of (scaled 0 n u) (place ds)) l;
+}
+
+pub expansions_are_unique : ExpansionsAreUnique
+expansions_are_unique z r =
+    let e = expanded 0 r z in
+    record {
+      unit = e.unit;
+      list = e.list;
+      is = along_expansion z e.unit r e.list e.long e.small e.is;
+      only = λ u ds h. one_list 0 u e.unit ds e.list (h.long ∙ sym e.long) h.digits e.small (expansion_along z u r ds h ∙ sym e.is);
+    }
+
+-- ---- a place and a unit
+
+-- a carry into the digit d of resolution n + 1
+one_step : (c : Class) (z x p k y : Eisenstein) → sum_of x p ≡ sum_of (product_of (multiplier c) k) y → sum_of (sum_of (product_of (multiplier c) z) x) p ≡ sum_of (product_of (multiplier c) (sum_of z k)) y
+one_step Three z x p k y e = omega (arith, points)
+one_step Two z x p k y e = omega (arith, points)
+
+-- a digit, or the centre, and what is carried into it
+record CarriedInto (c : Class) (x p : Option Direction) : Type 0 where
+  digit : Option Direction
+  carry : Option Direction
+  is : sum_of (value_of x) (value_of p) ≡ sum_of (product_of (multiplier c) (value_of carry)) (value_of digit)
+
+nothing_carried : (c : Class) (v : Eisenstein) → sum_of v zero_point ≡ sum_of (product_of (multiplier c) zero_point) v
+nothing_carried Three v = omega (arith, points)
+nothing_carried Two v = omega (arith, points)
+
+carried_into : (c : Class) (x p : Option Direction) → CarriedInto c x p
+carried_into c x None = record { digit = x; carry = None; is = nothing_carried c (value_of x) }
+carried_into c x (Some d) = record { digit = (carried c x d).0; carry = (carried c x d).1; is = carried_is c x d }
+
+pub record IsSumFrom (n : ℕ) (z : Eisenstein) (ds : List ℕ) (p : Option Direction) : Type 0 where
+  pub carry : Option Direction
+  pub list : List ℕ
+  pub long : length list ≡ length ds
+  pub small : AllBelowBase 7 list
+  pub is : sum_of (place_from n z ds) (value_of p) ≡ place_from n (sum_of z (value_of carry)) list
+
+-- what is carried out of the coarse end is 0 or a unit
+pub carried_sum : (n : ℕ) (z : Eisenstein) (ds : List ℕ) (p : Option Direction) → IsSumFrom n z ds p
+carried_sum n z [] p = record { carry = p; list = []; long = refl; small = tt; is = refl }
+carried_sum n z (d ∷ ds) p =
+    let c = class_at (n + 1) in
+    let s = carried_sum (n + 1) (sum_of (product_of (multiplier c) z) (digit_value d)) ds p in
+    let k = carried_into c (direction_of d) s.carry in
+    record {
+      carry = k.carry;
+      list = digit_or_zero k.digit ∷ s.list;
+      long = ap suc s.long;
+      small = (digit_or_zero-lt k.digit, s.small);
+      is =
+        s.is
+        ∙ ap (λ v. place_from (n + 1) v s.list) (one_step c z (digit_value d) (value_of s.carry) (value_of k.carry) (value_of k.digit) k.is)
+        ∙ ap (λ x. place_from (n + 1) (sum_of (product_of (multiplier c) (sum_of z (value_of k.carry))) (value_of x)) s.list) (sym (direction_of-digit_or_zero k.digit));
+    }
+
+-- where a sum of a place and a unit is expanded, the unit of the expansion is 0 or a unit
+pub carried_out : (ds es : List ℕ) (d : Direction) (u : Eisenstein) → length es ≡ length ds → AllBelowBase 7 es → place_from 0 u es ≡ sum_of (place ds) (unit_of d) → IsCarried u
+carried_out ds es d u l a e =
+    let s = carried_sum 0 zero_point ds (Some d) in
+    let one = one_list 0 u (sum_of zero_point (value_of s.carry)) es s.list (l ∙ sym s.long) a s.small (e ∙ s.is) in
+    (s.carry, one.0 ∙ zero-sum (value_of s.carry))
