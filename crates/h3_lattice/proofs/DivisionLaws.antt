@@ -5,7 +5,7 @@ use Rattle.h3_lattice.specs.declared.direction.Direction.{Direction}
 use Rattle.h3_lattice.specs.declared.direction.Direction.TheVariants.{K, J, JK, I, IK, IJ}
 use Rattle.h3_lattice.specs.declared.class.Class.{Class}
 use Rattle.h3_lattice.specs.declared.class.Class.TheVariants.{Two, Three}
-use Rattle.h3_lattice.specs.Eisenstein.{Eisenstein, eisenstein, sum_of, product_of}
+use Rattle.h3_lattice.specs.Eisenstein.{Eisenstein, eisenstein, sum_of, product_of, IsWithin}
 use Rattle.h3_lattice.specs.Direction.{digit_of, digit_or_zero, digit_value, direction_of, unit_of, value_of}
 use Rattle.h3_lattice.specs.Class.{multiplier, Leaves, LeavesDigit}
 use Rattle.h3_lattice.proofs.LinearLaws.{points}
@@ -172,3 +172,26 @@ sevenths_three z q e = (omega (arith, points), omega (arith, points))
 
 pub sevenths_two : (z q : Eisenstein) → z ≡ product_of (multiplier Two) q → (pos 2 *ℤ z.a +ℤ z.b ≡ pos 7 *ℤ q.a) × (pos 3 *ℤ z.b -ℤ z.a ≡ pos 7 *ℤ q.b)
 sevenths_two z q e = (omega (arith, points), omega (arith, points))
+
+-- ---- the code's division
+
+pub taken_off : (c : Class) (z y x : Eisenstein) → z ≡ sum_of y x → (q : Eisenstein) × (z ≡ sum_of (product_of (multiplier c) q) x) → (q : Eisenstein) × (y ≡ product_of (multiplier c) q)
+taken_off c z y x e (q, f) = (q, other_part (product_of (multiplier c) q) (sym e ∙ f))
+  where
+    other_part : (p : Eisenstein) → sum_of y x ≡ sum_of p x → y ≡ p
+    other_part p g = omega (arith, points)
+
+-- a quotient is nearer to 0
+pub quotient_within : (c : Class) (k : ℕ) (z y x q : Eisenstein) → 2 ≤ k → IsWithin k z → IsWithin 1 x → z ≡ sum_of y x → y ≡ product_of (multiplier c) q → IsWithin k q
+quotient_within Three k z y x q h w v e f = record {
+  a_above = omega (arith, points);
+  a_below = omega (arith, points);
+  b_above = omega (arith, points);
+  b_below = omega (arith, points);
+}
+quotient_within Two k z y x q h w v e f = record {
+  a_above = omega (arith, points);
+  a_below = omega (arith, points);
+  b_above = omega (arith, points);
+  b_below = omega (arith, points);
+}

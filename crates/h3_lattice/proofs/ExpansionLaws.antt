@@ -9,7 +9,7 @@ use Rattle.h3_lattice.specs.Direction.{digit_or_zero, digit_value, direction_of,
 use Rattle.h3_lattice.specs.Class.{class_at, multiplier, IsCarried}
 use Rattle.h3_lattice.specs.Expansion.{multiplier_at, place_from, place, scaled, IsExpansion, OneExpansion, ExpansionsAreUnique, sum_from, PlacesAreSums}
 use Rattle.h3_lattice.proofs.LinearLaws.{points}
-use Rattle.h3_lattice.proofs.DivisionLaws.{digit_or_zero-lt, direction_of-digit_or_zero, one_digit, division}
+use Rattle.h3_lattice.proofs.DivisionLaws.{digit_or_zero-lt, direction_of-digit_or_zero, one_digit, one_division, division}
 use Rattle.h3_lattice.proofs.CarryLaws.{carried, carried_is}
 
 -- ---- a part that is added at the coarse end
@@ -160,3 +160,11 @@ carried_out ds es d u l a e =
     let s = carried_sum 0 zero_point ds (Some d) in
     let one = one_list 0 u (sum_of zero_point (value_of s.carry)) es s.list (l ∙ sym s.long) a s.small (e ∙ s.is) in
     (s.carry, one.0 ∙ zero-sum (value_of s.carry))
+
+-- ---- one carry
+
+-- what is carried of a digit and a unit is 0 or a unit
+pub carried_once : (c : Class) (x y : Option Direction) (d : Direction) (q : Eisenstein) → sum_of (value_of x) (unit_of d) ≡ sum_of (product_of (multiplier c) q) (value_of y) → IsCarried q
+carried_once c x y d q e =
+    let one = one_division c q (value_of (carried c x d).1) y (carried c x d).0 (sym e ∙ carried_is c x d) in
+    ((carried c x d).1, one.0)

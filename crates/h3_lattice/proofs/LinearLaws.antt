@@ -1,11 +1,11 @@
 -- Linear equations of Eisenstein integers.
-use Rattle.std.proofs.Common.{◌≡◌, ◌+◌, ℕ, zero, suc, arith, ap, refl, ◌∙◌, ℤ, pos}
+use Rattle.std.proofs.Common.{◌≡◌, ◌+◌, ◌*◌, ◌≤◌, ℕ, zero, suc, arith, ap, refl, ◌∙◌, ℤ, pos}
 use borrow.Author.Differences.{up, down, same_in, same_out, sum_is_lem, neg_is, product_is, le_out, at_most_in}
 use Rattle.h3_lattice.specs.declared.class.Class.{Class}
 use Rattle.h3_lattice.specs.declared.class.Class.TheVariants.{Two, Three}
 use Rattle.h3_lattice.specs.declared.direction.Direction.{Direction}
 use Rattle.h3_lattice.specs.declared.direction.Direction.TheVariants.{K, J, JK, I, IK, IJ}
-use Rattle.h3_lattice.specs.Eisenstein.{Eisenstein, eisenstein, sum_of, product_of}
+use Rattle.h3_lattice.specs.Eisenstein.{Eisenstein, eisenstein, sum_of, product_of, IsWithin}
 use Rattle.h3_lattice.specs.Class.{multiplier}
 use Rattle.h3_lattice.specs.Direction.{turned, turned_once, turns, unit_of}
 
@@ -55,3 +55,28 @@ pub unit_of-turned : (n : ℕ) (d : Direction) → unit_of (turned n d) ≡ prod
 unit_of-turned zero d = one_times_unit d
 unit_of-turned (suc n) d =
     unit_of-turned_once (turned n d) ∙ ap (product_of (eisenstein (pos 1) (pos 1))) (unit_of-turned n d) ∙ turn_times_unit d (turns n)
+
+-- ---- coordinates
+
+pub sum_within : (j k l : ℕ) (x y z : Eisenstein) → j + k ≤ l → IsWithin j x → IsWithin k y → z ≡ sum_of x y → IsWithin l z
+sum_within j k l x y z h v w e = record {
+  a_above = omega (arith, points);
+  a_below = omega (arith, points);
+  b_above = omega (arith, points);
+  b_below = omega (arith, points);
+}
+
+-- one resolution further
+pub product_within : (c : Class) (k : ℕ) (x y z p : Eisenstein) → 1 ≤ k → IsWithin k x → IsWithin 1 y → p ≡ product_of (multiplier c) x → z ≡ sum_of p y → IsWithin (5 * k) z
+product_within Three k x y z p h v w e f = record {
+  a_above = omega (arith, points);
+  a_below = omega (arith, points);
+  b_above = omega (arith, points);
+  b_below = omega (arith, points);
+}
+product_within Two k x y z p h v w e f = record {
+  a_above = omega (arith, points);
+  a_below = omega (arith, points);
+  b_above = omega (arith, points);
+  b_below = omega (arith, points);
+}

@@ -5,5 +5,5 @@ mod class;
 mod direction;
 mod eisenstein;
 
-pub use class::Class;
+pub use class::{Class, carry};
 pub use direction::{Direction, turn};
