@@ -1,4 +1,6 @@
 pub mod CarryLaws
+pub mod DigitsLaws
 pub mod DivisionLaws
 pub mod ExpansionLaws
 pub mod LinearLaws
+pub mod TurnLaws

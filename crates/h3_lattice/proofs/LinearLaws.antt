@@ -1,5 +1,5 @@
 -- Linear equations of Eisenstein integers.
-use Rattle.std.proofs.Common.{◌≡◌, ◌+◌, ◌*◌, ◌≤◌, ℕ, zero, suc, arith, ap, refl, ◌∙◌, ℤ, pos}
+use Rattle.std.proofs.Common.{◌≡◌, ◌+◌, ◌*◌, ◌≤◌, ℕ, zero, suc, arith, ap, refl, sym, ◌∙◌, ℤ, pos, ◌-ℤ◌, ◌*ℤ◌}
 use borrow.Author.Differences.{up, down, same_in, same_out, sum_is_lem, neg_is, product_is, le_out, at_most_in}
 use Rattle.h3_lattice.specs.declared.class.Class.{Class}
 use Rattle.h3_lattice.specs.declared.class.Class.TheVariants.{Two, Three}
@@ -80,3 +80,28 @@ product_within Two k x y z p h v w e f = record {
   b_above = omega (arith, points);
   b_below = omega (arith, points);
 }
+
+-- ---- a product with 1 + w of a product of any two
+
+three_times : (x y z q : ℕ) → (x + y + z) * q ≡ x * q + y * q + z * q
+three_times x y z q = grind arith
+
+minus_times : (a b c : ℤ) → (a -ℤ b) *ℤ c ≡ a *ℤ c -ℤ b *ℤ c
+minus_times a b c =
+    let d = a -ℤ b in
+    let s : up d + down a + up b ≡ down d + up a + down b = omega (arith, points) in
+    let first = sym (three_times (up d) (down a) (up b) (up c)) ∙ ap (λ n. n * up c) s ∙ three_times (down d) (up a) (down b) (up c) in
+    let second = sym (three_times (up d) (down a) (up b) (down c)) ∙ ap (λ n. n * down c) s ∙ three_times (down d) (up a) (down b) (down c) in
+    omega (arith, points, first, second)
+
+once_is : (p : Eisenstein) → product_of (eisenstein (pos 1) (pos 1)) p ≡ eisenstein (p.a -ℤ p.b) p.a
+once_is p = omega (arith, points)
+
+once_times : (p x : Eisenstein) → product_of (eisenstein (pos 1) (pos 1)) (product_of p x) ≡ product_of (eisenstein (p.a -ℤ p.b) p.a) x
+once_times p x =
+    let first = minus_times p.a p.b x.a in
+    let second = minus_times p.a p.b x.b in
+    omega (arith, points, first, second)
+
+pub turn-product : (p x : Eisenstein) → product_of (eisenstein (pos 1) (pos 1)) (product_of p x) ≡ product_of (product_of (eisenstein (pos 1) (pos 1)) p) x
+turn-product p x = once_times p x ∙ ap (λ q. product_of q x) (sym (once_is p))

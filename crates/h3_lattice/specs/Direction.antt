@@ -2,7 +2,7 @@
 --
 -- H3's digits: 0 is the centre, and 1 to 6 are the directions K, J, JK, I, IK and IJ. As Eisenstein integers they are
 -- the six units. One turn, 60 degrees counter-clockwise, is the product with 1 + w. It leaves the digit 0 as it is.
-use Rattle.std.specs.Prelude.{ℕ, zero, suc, pos, negsuc, ◌==◌, Option, Some, None, if◌then◌else◌}
+use Rattle.std.specs.Prelude.{◌≡◌, ℕ, zero, suc, pos, negsuc, ◌==◌, List, map, Option, Some, None, if◌then◌else◌}
 use Rattle.h3_lattice.specs.declared.direction.Direction.{Direction}
 use Rattle.h3_lattice.specs.declared.direction.Direction.TheVariants.{K, J, JK, I, IK, IJ}
 use Rattle.h3_lattice.specs.Eisenstein.{Eisenstein, eisenstein, one, product_of, zero_point}
@@ -85,3 +85,7 @@ opposite JK = I
 opposite I = JK
 opposite IK = J
 opposite IJ = K
+
+-- each digit of a list is multiplied by (1 + w)^n
+abbrev pub AreTurned : ℕ → List ℕ → List ℕ → Type 0
+AreTurned n ds es = map digit_value es ≡ map (λ d. product_of (turns n) (digit_value d)) ds

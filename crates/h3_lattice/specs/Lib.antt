@@ -3,3 +3,4 @@ pub mod Digits
 pub mod Direction
 pub mod Eisenstein
 pub mod Expansion
+pub mod Moved

@@ -2,8 +2,12 @@
 #![tactic(auto)]
 
 mod class;
+mod digits;
 mod direction;
 mod eisenstein;
+mod moved;
 
 pub use class::{Class, carry};
+pub use digits::Digits;
 pub use direction::{Direction, turn};
+pub use moved::{Moved, add};

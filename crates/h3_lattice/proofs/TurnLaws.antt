@@ -1,0 +1,92 @@
+-- Turns of digits, and of the places of digit lists.
+use Rattle.std.proofs.Common.{◌≡◌, ℕ, zero, suc, ◌+◌, ◌<◌, refl, arith, sym, ap, ◌∙◌, Option, Some, None, List, [], ◌∷◌, length, map, pos}
+use Rattle.std.specs.Int.Digits.{AllBelowBase}
+use Rattle.h3_lattice.specs.declared.direction.Direction.{Direction}
+use Rattle.h3_lattice.specs.declared.class.Class.{Class}
+use Rattle.h3_lattice.specs.declared.class.Class.TheVariants.{Two, Three}
+use Rattle.h3_lattice.specs.Eisenstein.{Eisenstein, eisenstein, one, product_of, sum_of, zero_point}
+use Rattle.h3_lattice.specs.Direction.{digit_or_zero, digit_turned, digit_value, direction_of, option_turned, turned, turns, unit_of, value_of, AreTurned}
+use Rattle.h3_lattice.specs.Class.{class_at, multiplier}
+use Rattle.h3_lattice.specs.Expansion.{place_from, place}
+use Rattle.h3_lattice.proofs.LinearLaws.{points, turn-product, unit_of-turned}
+use Rattle.h3_lattice.proofs.DivisionLaws.{digit_or_zero-direction_of, digit_or_zero-lt, direction_of-digit_or_zero}
+
+times_zero : (p : Eisenstein) → zero_point ≡ product_of p zero_point
+times_zero p = omega (arith, points)
+
+value_of-turned : (n : ℕ) (x : Option Direction) → value_of (option_turned n x) ≡ product_of (turns n) (value_of x)
+value_of-turned n None = times_zero (turns n)
+value_of-turned n (Some d) = unit_of-turned n d
+
+pub digit_value-turned : (n d : ℕ) → digit_value (digit_turned n d) ≡ product_of (turns n) (digit_value d)
+digit_value-turned n d =
+    ap value_of (direction_of-digit_or_zero (option_turned n (direction_of d))) ∙ value_of-turned n (direction_of d)
+
+pub are_turned : (n : ℕ) (ds : List ℕ) → AreTurned n ds (map (digit_turned n) ds)
+are_turned n [] = refl
+are_turned n (d ∷ ds) =
+    let first = digit_value-turned n d in
+    let others = are_turned n ds in
+    cc
+
+pub all_small-turned : (n : ℕ) (ds : List ℕ) → AllBelowBase 7 (map (digit_turned n) ds)
+all_small-turned n [] = tt
+all_small-turned n (d ∷ ds) = (digit_or_zero-lt (option_turned n (direction_of d)), all_small-turned n ds)
+
+-- ---- places
+
+abbrev once : Eisenstein → Eisenstein
+once z = product_of (eisenstein (pos 1) (pos 1)) z
+
+once_further : (c : Class) (z v : Eisenstein) → sum_of (product_of (multiplier c) (once z)) (once v) ≡ once (sum_of (product_of (multiplier c) z) v)
+once_further Three z v = omega (arith, points)
+once_further Two z v = omega (arith, points)
+
+place_from-turned_once : (n : ℕ) (z : Eisenstein) (ds : List ℕ) → place_from n (once z) (map (digit_turned 1) ds) ≡ once (place_from n z ds)
+place_from-turned_once n z [] = refl
+place_from-turned_once n z (d ∷ ds) =
+    let c = class_at (n + 1) in
+    ap (λ v. place_from (n + 1) (sum_of (product_of (multiplier c) (once z)) v) (map (digit_turned 1) ds)) (digit_value-turned 1 d)
+    ∙ ap (λ v. place_from (n + 1) v (map (digit_turned 1) ds)) (once_further c z (digit_value d))
+    ∙ place_from-turned_once (n + 1) (sum_of (product_of (multiplier c) z) (digit_value d)) ds
+
+option_turned-suc : (n : ℕ) (x : Option Direction) → option_turned (suc n) x ≡ option_turned 1 (option_turned n x)
+option_turned-suc n None = refl
+option_turned-suc n (Some d) = refl
+
+digit_turned-suc : (n d : ℕ) → digit_turned (suc n) d ≡ digit_turned 1 (digit_turned n d)
+digit_turned-suc n d =
+    ap digit_or_zero (option_turned-suc n (direction_of d) ∙ ap (option_turned 1) (sym (direction_of-digit_or_zero (option_turned n (direction_of d)))))
+
+map-turned-suc : (n : ℕ) (ds : List ℕ) → map (digit_turned (suc n)) ds ≡ map (digit_turned 1) (map (digit_turned n) ds)
+map-turned-suc n [] = refl
+map-turned-suc n (d ∷ ds) =
+    let first = digit_turned-suc n d in
+    let others = map-turned-suc n ds in
+    cc
+
+option_turned-zero : (x : Option Direction) → option_turned 0 x ≡ x
+option_turned-zero None = refl
+option_turned-zero (Some d) = refl
+
+digit_turned-zero : (d : ℕ) → d < 7 → digit_turned 0 d ≡ d
+digit_turned-zero d h = ap digit_or_zero (option_turned-zero (direction_of d)) ∙ digit_or_zero-direction_of d h
+
+map-turned-zero : (ds : List ℕ) → AllBelowBase 7 ds → map (digit_turned 0) ds ≡ ds
+map-turned-zero [] a = refl
+map-turned-zero (d ∷ ds) a =
+    let first = digit_turned-zero d a.0 in
+    let others = map-turned-zero ds a.1 in
+    cc
+
+one_times : (z : Eisenstein) → z ≡ product_of one z
+one_times z = omega (arith, points)
+
+-- the place of the turned digits
+pub place-turned : (n : ℕ) (ds : List ℕ) → AllBelowBase 7 ds → place (map (digit_turned n) ds) ≡ product_of (turns n) (place ds)
+place-turned zero ds a = ap place (map-turned-zero ds a) ∙ one_times (place ds)
+place-turned (suc n) ds a =
+    ap place (map-turned-suc n ds)
+    ∙ place_from-turned_once 0 zero_point (map (digit_turned n) ds)
+    ∙ ap once (place-turned n ds a)
+    ∙ turn-product (turns n) (place ds)
