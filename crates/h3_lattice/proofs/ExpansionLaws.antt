@@ -1,5 +1,6 @@
 -- Expansions: one at each resolution, and the sum of a place and a unit.
-use Rattle.std.proofs.Common.{◌≡◌, ℕ, zero, suc, ◌+◌, ◌<◌, refl, arith, sym, ap, ◌∙◌, Option, Some, None, List, [], ◌∷◌, length}
+use Rattle.std.proofs.Math.Seq.{drop-cons}
+use Rattle.std.proofs.Common.{◌≡◌, ℕ, zero, suc, ◌+◌, ◌<◌, ◌++◌, drop, get_or, add-one, refl, arith, sym, ap, ◌∙◌, Option, Some, None, List, [], ◌∷◌, length}
 use Rattle.std.specs.Int.Digits.{AllBelowBase}
 use Rattle.h3_lattice.specs.declared.direction.Direction.{Direction}
 use Rattle.h3_lattice.specs.declared.class.Class.{Class}
@@ -168,3 +169,28 @@ pub carried_once : (c : Class) (x y : Option Direction) (d : Direction) (q : Eis
 carried_once c x y d q e =
     let one = one_division c q (value_of (carried c x d).1) y (carried c x d).0 (sym e ∙ carried_is c x d) in
     ((carried c x d).1, one.0)
+
+-- ---- along the digits of a list, one by one
+
+pub place_step : (ds : List ℕ) (r : ℕ) (z p v y : Eisenstein) → r < length ds → p ≡ product_of (multiplier_at (r + 1)) z → v ≡ digit_value (get_or ds r 7) → y ≡ sum_of p v → place_from (r + 1) y (drop (r + 1) ds) ≡ place_from r z (drop r ds)
+place_step ds r z p v y h e f g =
+    let all : drop r ds ≡ get_or ds r 7 ∷ drop (r + 1) ds = rw (add-one, drop-cons ds r 7 h) refl in
+    ap (λ x. place_from (r + 1) x (drop (r + 1) ds)) (g ∙ ap (λ x. sum_of x v) e ∙ ap (sum_of (product_of (multiplier_at (r + 1)) z)) f)
+    ∙ sym (ap (place_from r z) all)
+
+pub place_from-append : (n : ℕ) (z : Eisenstein) (ds : List ℕ) (d r : ℕ) → r ≡ n + length ds + 1 → place_from n z (ds ++ d ∷ []) ≡ sum_of (product_of (multiplier_at r) (place_from n z ds)) (digit_value d)
+place_from-append n z [] d r e =
+    let same : n + 1 ≡ r = omega arith in
+    ap (λ k. sum_of (product_of (multiplier_at k) z) (digit_value d)) same
+place_from-append n z (x ∷ ds) d r e =
+    let next : r ≡ n + 1 + length ds + 1 = omega arith in
+    place_from-append (n + 1) (sum_of (product_of (multiplier_at (n + 1)) z) (digit_value x)) ds d r next
+
+-- ---- the sum that is expanded
+
+pub expanded_sum : (ds es : List ℕ) (d : Direction) (p v s q : Eisenstein) → p ≡ place ds → v ≡ unit_of d → s ≡ sum_of p v → place_from 0 q es ≡ s → place_from 0 q es ≡ sum_of (place ds) (unit_of d)
+expanded_sum ds es d p v s q e f g h = h ∙ g ∙ ap (λ x. sum_of x v) e ∙ ap (sum_of (place ds)) f
+
+pub sum_expansion : (ds es : List ℕ) (d : Direction) (p v s q u : Eisenstein) → length es ≡ length ds → AllBelowBase 7 es → p ≡ place ds → v ≡ unit_of d → s ≡ sum_of p v → place_from 0 q es ≡ s → q ≡ u → IsExpansion (sum_of (place ds) (unit_of d)) (length ds) u es
+sum_expansion ds es d p v s q u l a e f g h i =
+    along_expansion (sum_of (place ds) (unit_of d)) u (length ds) es l a (ap (λ x. place_from 0 x es) (sym i) ∙ expanded_sum ds es d p v s q e f g h)

@@ -1,5 +1,7 @@
 -- Linear equations of Eisenstein integers.
-use Rattle.std.proofs.Common.{◌≡◌, ◌+◌, ◌*◌, ◌≤◌, ℕ, zero, suc, arith, ap, refl, sym, ◌∙◌, ℤ, pos, ◌-ℤ◌, ◌*ℤ◌}
+use Rattle.std.proofs.Common.{◌≡◌, ◌+◌, ◌*◌, ◌^◌, ◌≤◌, lit<, ℕ, zero, suc, arith, ap, refl, sym, ◌∙◌, ℤ, pos, ◌-ℤ◌, ◌*ℤ◌}
+use Rattle.std.proofs.Math.Nat.{one-le-pow, pow-le-pow_right}
+use Rattle.std.proofs.lemmas.Nat.{pow-add}
 use borrow.Author.Differences.{up, down, same_in, same_out, sum_is_lem, neg_is, product_is, le_out, at_most_in}
 use Rattle.h3_lattice.specs.declared.class.Class.{Class}
 use Rattle.h3_lattice.specs.declared.class.Class.TheVariants.{Two, Three}
@@ -105,3 +107,36 @@ once_times p x =
 
 pub turn-product : (p x : Eisenstein) → product_of (eisenstein (pos 1) (pos 1)) (product_of p x) ≡ product_of (product_of (eisenstein (pos 1) (pos 1)) p) x
 turn-product p x = once_times p x ∙ ap (λ q. product_of q x) (sym (once_is p))
+
+-- ---- coordinates of places
+
+pub within_more : (j k : ℕ) (z : Eisenstein) → j ≤ k → IsWithin j z → IsWithin k z
+within_more j k z h v = record {
+  a_above = omega (arith, points);
+  a_below = omega (arith, points);
+  b_above = omega (arith, points);
+  b_below = omega (arith, points);
+}
+
+pub multiplied_within : (c : Class) (j k : ℕ) (x p : Eisenstein) → 4 * j ≤ k → IsWithin j x → p ≡ product_of (multiplier c) x → IsWithin k p
+multiplied_within Three j k x p h v e = record {
+  a_above = omega (arith, points);
+  a_below = omega (arith, points);
+  b_above = omega (arith, points);
+  b_below = omega (arith, points);
+}
+multiplied_within Two j k x p h v e = record {
+  a_above = omega (arith, points);
+  a_below = omega (arith, points);
+  b_above = omega (arith, points);
+  b_below = omega (arith, points);
+}
+
+pub power_small : (r : ℕ) → r ≤ 15 → 5 ^ r ≤ 5 ^ 15
+power_small r h = pow-le-pow_right (lit< tt) h
+
+pub power_positive : (r : ℕ) → 1 ≤ 5 ^ r
+power_positive r = one-le-pow r 5 (lit< tt)
+
+pub power_more : (r : ℕ) → 5 ^ (r + 1) ≡ 5 * 5 ^ r
+power_more r = omega (arith, pow-add 5 r 1)
