@@ -1,8 +1,7 @@
 -- Digit lists, in fifteen places and as the digits of cells.
-use Rattle.std.proofs.Common.{◌≡◌, ℕ, zero, suc, ◌+◌, ◌-◌, ◌*◌, ◌%◌, ◌<◌, ◌≤◌, ◌^◌, refl, arith, sym, ap, ◌∙◌, List, [], ◌∷◌, ◌++◌, length, replicate, take, set, get_or, length-append, lit≤, lit<, true, false}
-use Rattle.std.specs.Int.Digits.{AllBelowBase, number_from_digits}
-use Rattle.h3_index.specs.Cell.{Address, IsCell, is_pentagon_base, number_of}
-use Rattle.h3_lattice.specs.Digits.{IsDigits, cell_of, padded, IsPadded}
+use Rattle.std.proofs.Common.{◌≡◌, ℕ, ◌+◌, ◌*◌, ◌%◌, ◌<◌, arith, [], lit<}
+use Rattle.h3_index.specs.Cell.{IsCell, number_of}
+use Rattle.h3_lattice.specs.Digits.{cell_of}
 
 -- ---- base cells
 

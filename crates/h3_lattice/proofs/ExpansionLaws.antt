@@ -8,7 +8,7 @@ use Rattle.h3_lattice.specs.declared.class.Class.TheVariants.{Two, Three}
 use Rattle.h3_lattice.specs.Eisenstein.{Eisenstein, product_of, sum_of, zero_point}
 use Rattle.h3_lattice.specs.Direction.{digit_or_zero, digit_value, direction_of, unit_of, value_of}
 use Rattle.h3_lattice.specs.Class.{class_at, multiplier, IsCarried}
-use Rattle.h3_lattice.specs.Expansion.{multiplier_at, place_from, place, scaled, IsExpansion, OneExpansion, ExpansionsAreUnique, sum_from, PlacesAreSums}
+use Rattle.h3_lattice.specs.Expansion.{multiplier_at, place_from, place, scaled, IsExpansion, ExpansionsAreUnique, sum_from, PlacesAreSums}
 use Rattle.h3_lattice.proofs.LinearLaws.{points}
 use Rattle.h3_lattice.proofs.DivisionLaws.{digit_or_zero-lt, direction_of-digit_or_zero, one_digit, one_division, division}
 use Rattle.h3_lattice.proofs.CarryLaws.{carried, carried_is}
@@ -150,9 +150,9 @@ carried_sum n z (d ∷ ds) p =
       long = ap suc s.long;
       small = (digit_or_zero-lt k.digit, s.small);
       is =
-        s.is
-        ∙ ap (λ v. place_from (n + 1) v s.list) (one_step c z (digit_value d) (value_of s.carry) (value_of k.carry) (value_of k.digit) k.is)
-        ∙ ap (λ x. place_from (n + 1) (sum_of (product_of (multiplier c) (sum_of z (value_of k.carry))) (value_of x)) s.list) (sym (direction_of-digit_or_zero k.digit));
+          s.is
+          ∙ ap (λ v. place_from (n + 1) v s.list) (one_step c z (digit_value d) (value_of s.carry) (value_of k.carry) (value_of k.digit) k.is)
+          ∙ ap (λ x. place_from (n + 1) (sum_of (product_of (multiplier c) (sum_of z (value_of k.carry))) (value_of x)) s.list) (sym (direction_of-digit_or_zero k.digit));
     }
 
 -- where a sum of a place and a unit is expanded, the unit of the expansion is 0 or a unit

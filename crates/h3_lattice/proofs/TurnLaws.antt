@@ -1,11 +1,11 @@
 -- Turns of digits, and of the places of digit lists.
-use Rattle.std.proofs.Common.{◌≡◌, ℕ, zero, suc, ◌+◌, ◌<◌, refl, arith, sym, ap, ◌∙◌, Option, Some, None, List, [], ◌∷◌, length, map, pos}
+use Rattle.std.proofs.Common.{◌≡◌, ℕ, zero, suc, ◌+◌, ◌<◌, refl, arith, sym, ap, ◌∙◌, Option, Some, None, List, [], ◌∷◌, map, pos}
 use Rattle.std.specs.Int.Digits.{AllBelowBase}
 use Rattle.h3_lattice.specs.declared.direction.Direction.{Direction}
 use Rattle.h3_lattice.specs.declared.class.Class.{Class}
 use Rattle.h3_lattice.specs.declared.class.Class.TheVariants.{Two, Three}
 use Rattle.h3_lattice.specs.Eisenstein.{Eisenstein, eisenstein, one, product_of, sum_of, zero_point}
-use Rattle.h3_lattice.specs.Direction.{digit_or_zero, digit_turned, digit_value, direction_of, option_turned, turned, turns, unit_of, value_of, AreTurned}
+use Rattle.h3_lattice.specs.Direction.{digit_or_zero, digit_turned, digit_value, direction_of, option_turned, turns, value_of, AreTurned}
 use Rattle.h3_lattice.specs.Class.{class_at, multiplier}
 use Rattle.h3_lattice.specs.Expansion.{place_from, place}
 use Rattle.h3_lattice.proofs.LinearLaws.{points, turn-product, unit_of-turned}

@@ -2,5 +2,6 @@ pub mod Class
 pub mod Digits
 pub mod Direction
 pub mod Eisenstein
+pub mod Examples
 pub mod Expansion
 pub mod Moved

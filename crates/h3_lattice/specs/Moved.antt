@@ -6,7 +6,7 @@ use Rattle.h3_lattice.specs.declared.moved.Moved.{Moved}
 use Rattle.h3_lattice.specs.declared.moved.Moved.TheVariants.{Inside, Across}
 use Rattle.h3_lattice.specs.Eisenstein.{Eisenstein, sum_of, zero_point}
 use Rattle.h3_lattice.specs.Direction.{unit_of}
-use Rattle.h3_lattice.specs.Digits.{cell_of, IsDigits}
+use Rattle.h3_lattice.specs.Digits.{IsDigits}
 use Rattle.h3_lattice.specs.Expansion.{place, IsExpansion}
 
 -- u and the digits are the expansion, at the cell's resolution, of its place plus the direction

@@ -11,3 +11,6 @@ pub use class::{Class, carry};
 pub use digits::Digits;
 pub use direction::{Direction, turn};
 pub use moved::{Moved, add};
+
+#[cfg(test)]
+mod tests;

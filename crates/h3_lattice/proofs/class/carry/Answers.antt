@@ -1,7 +1,6 @@
-use Rattle.std.proofs.Common.{◌≡◌, ◌^◌, ap, sym, ◌∙◌, arith, lit≤}
-use Rattle.h3_lattice.specs.Eisenstein.{eisenstein, sum_of, product_of}
-use Rattle.h3_lattice.specs.Direction.{digit_value, direction_of, unit_of, value_of}
-use Rattle.h3_lattice.specs.Class.{multiplier}
+use Rattle.std.proofs.Common.{◌^◌, ap, sym, ◌∙◌, arith, lit≤}
+use Rattle.h3_lattice.specs.Eisenstein.{eisenstein, sum_of}
+use Rattle.h3_lattice.specs.Direction.{direction_of, unit_of}
 use Rattle.h3_lattice.proofs.LinearLaws.{sum_within}
 use Rattle.h3_lattice.proofs.DivisionLaws.{one_digit}
 use Rattle.h3_lattice.proofs.ExpansionLaws.{carried_once}
@@ -15,7 +14,7 @@ pub direction-requires : goal.direction-requires
 direction-requires c =
     let x = eisenstein c.digit_value.result.a c.digit_value.result.b in
     carried_once c.args.class (direction_of c.args.digit) (direction_of c.divided-left.result.1) c.args.direction _
-        (sym (ap (sum_of x) c.unit.ensures.is ∙ ap (λ v. sum_of v (unit_of c.args.direction)) c.digit_value.ensures.is) ∙ sym c.plus-sum.ensures ∙ c.divided-left.ensures.is)
+    (sym (ap (sum_of x) c.unit.ensures.is ∙ ap (λ v. sum_of v (unit_of c.args.direction)) c.digit_value.ensures.is) ∙ sym c.plus-sum.ensures ∙ c.divided-left.ensures.is)
 
 pub returns-clause-only : goal.returns-clause-only
 returns-clause-only c = λ other rest h e.

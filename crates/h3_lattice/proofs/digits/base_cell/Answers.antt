@@ -10,4 +10,4 @@ unreachable-requires c =
 pub returns : goal.returns
 returns c =
     c.numbers_tell_cells.ensures c.in-Ok.cell (cell_of c.args.base []) c.in-Ok.ensures.accepted.0 (base_is_cell c.args.base c.requires)
-        (c.in-Ok.ensures.accepted.1 ∙ sym (number_of-base c.args.base c.from.result c.requires c.from.ensures))
+    (c.in-Ok.ensures.accepted.1 ∙ sym (number_of-base c.args.base c.from.result c.requires c.from.ensures))

@@ -9,5 +9,5 @@ pub returns-clause-is : goal.returns-clause-is
 returns-clause-is c =
     let fits : FitsSigned w64 c.rem_euclid.result = omega (arith, ints) in
     let back : to_z w64 (of_z w64 c.rem_euclid.result) ≡ int_rem_euclid c.args.t (pos 7) =
-        to_z-of_z w64 c.rem_euclid.result fits ∙ c.rem_euclid.ensures.value ∙ ap (λ v. int_rem_euclid v (pos 7)) (to_z-of_z w64 c.args.t c.ranges.t) in
+    to_z-of_z w64 c.rem_euclid.result fits ∙ c.rem_euclid.ensures.value ∙ ap (λ v. int_rem_euclid v (pos 7)) (to_z-of_z w64 c.args.t c.ranges.t) in
     subst (λ v. Leaves c.args.t (nat_abs v)) (sym back) (remainder_leaves c.args.t)

@@ -1,4 +1,4 @@
-use Rattle.std.proofs.Common.{◌≡◌, ◌^◌, ◌≤◌, drop, length}
+use Rattle.std.proofs.Common.{◌≡◌, ◌^◌, drop}
 use Rattle.h3_lattice.specs.Eisenstein.{eisenstein, IsWithin}
 use Rattle.h3_lattice.specs.Expansion.{place, place_from}
 use Rattle.h3_lattice.proofs.moved.place.Given as goal

@@ -1,4 +1,4 @@
-use Rattle.std.proofs.Common.{◌≡◌, ◌∙◌, ap, sym, subst, arith, map, take, length}
+use Rattle.std.proofs.Common.{◌≡◌, ◌∙◌, ap, sym, subst, arith, map}
 use Rattle.std.proofs.lemmas.List.{length-map, take_all}
 use Rattle.h3_lattice.specs.Direction.{digit_turned, AreTurned}
 use Rattle.h3_lattice.specs.Digits.{IsDigits}
