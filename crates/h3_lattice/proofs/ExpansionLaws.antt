@@ -1,6 +1,7 @@
 -- Expansions: one at each resolution, and the sum of a place and a unit.
 use Rattle.std.proofs.Math.Seq.{drop-cons}
-use Rattle.std.proofs.Common.{◌≡◌, ℕ, zero, suc, ◌+◌, ◌<◌, ◌++◌, drop, get_or, add-one, refl, arith, sym, ap, ◌∙◌, Option, Some, None, List, [], ◌∷◌, length}
+use Rattle.std.proofs.Common.{◌≡◌, ℕ, zero, suc, ◌+◌, ◌<◌, ◌++◌, drop, get_or, add-one, refl, arith, sym, ap, ◌∙◌, Option, Some, List, [], ◌∷◌, length, map}
+use Rattle.std.proofs.lemmas.List.{length-map}
 use Rattle.std.specs.Int.Digits.{AllBelowBase}
 use Rattle.h3_lattice.specs.declared.direction.Direction.{Direction}
 use Rattle.h3_lattice.specs.declared.class.Class.{Class}
@@ -11,7 +12,7 @@ use Rattle.h3_lattice.specs.Class.{class_at, multiplier, IsCarried}
 use Rattle.h3_lattice.specs.Expansion.{multiplier_at, place_from, place, scaled, IsExpansion, ExpansionsAreUnique, sum_from, PlacesAreSums}
 use Rattle.h3_lattice.proofs.LinearLaws.{points}
 use Rattle.h3_lattice.proofs.DivisionLaws.{digit_or_zero-lt, direction_of-digit_or_zero, one_digit, one_division, division}
-use Rattle.h3_lattice.proofs.CarryLaws.{carried, carried_is}
+use Rattle.h3_lattice.proofs.CarryLaws.{carried, carried_is, carried_into, carried_into_is}
 
 -- ---- a part that is added at the coarse end
 
@@ -29,7 +30,7 @@ place_from-sum n x y (d ∷ ds) =
 sum-zero : (x : Eisenstein) → x ≡ sum_of x zero_point
 sum-zero x = omega (arith, points)
 
-zero-sum : (x : Eisenstein) → sum_of zero_point x ≡ x
+pub zero-sum : (x : Eisenstein) → sum_of zero_point x ≡ x
 zero-sum x = omega (arith, points)
 
 -- u * M_1 * .. * M_r + place ds, along the digits
@@ -116,51 +117,72 @@ one_step : (c : Class) (z x p k y : Eisenstein) → sum_of x p ≡ sum_of (produ
 one_step Three z x p k y e = omega (arith, points)
 one_step Two z x p k y e = omega (arith, points)
 
--- a digit, or the centre, and what is carried into it
-record CarriedInto (c : Class) (x p : Option Direction) : Type 0 where
-  digit : Option Direction
-  carry : Option Direction
-  is : sum_of (value_of x) (value_of p) ≡ sum_of (product_of (multiplier c) (value_of carry)) (value_of digit)
+-- along digits that are directions, or the centre
+abbrev pub place_along : ℕ → Eisenstein → List (Option Direction) → Eisenstein
+place_along n z [] = z
+place_along n z (x ∷ xs) =
+    place_along (n + 1) (sum_of (product_of (multiplier_at (n + 1)) z) (value_of x)) xs
 
-nothing_carried : (c : Class) (v : Eisenstein) → sum_of v zero_point ≡ sum_of (product_of (multiplier c) zero_point) v
-nothing_carried Three v = omega (arith, points)
-nothing_carried Two v = omega (arith, points)
+pub place_from-directions : (n : ℕ) (z : Eisenstein) (ds : List ℕ) → place_from n z ds ≡ place_along n z (map direction_of ds)
+place_from-directions n z [] = refl
+place_from-directions n z (d ∷ ds) =
+    place_from-directions (n + 1) (sum_of (product_of (multiplier_at (n + 1)) z) (digit_value d)) ds
 
-carried_into : (c : Class) (x p : Option Direction) → CarriedInto c x p
-carried_into c x None = record { digit = x; carry = None; is = nothing_carried c (value_of x) }
-carried_into c x (Some d) = record { digit = (carried c x d).0; carry = (carried c x d).1; is = carried_is c x d }
+pub directions-digits : (xs : List (Option Direction)) → map direction_of (map digit_or_zero xs) ≡ xs
+directions-digits [] = refl
+directions-digits (x ∷ xs) =
+    let first = direction_of-digit_or_zero x in
+    let others = directions-digits xs in
+    cc
 
-pub record IsSumFrom (n : ℕ) (z : Eisenstein) (ds : List ℕ) (p : Option Direction) : Type 0 where
-  pub carry : Option Direction
-  pub list : List ℕ
-  pub long : length list ≡ length ds
-  pub small : AllBelowBase 7 list
-  pub is : sum_of (place_from n z ds) (value_of p) ≡ place_from n (sum_of z (value_of carry)) list
+pub place_from-digits : (n : ℕ) (z : Eisenstein) (xs : List (Option Direction)) → place_from n z (map digit_or_zero xs) ≡ place_along n z xs
+place_from-digits n z xs = place_from-directions n z (map digit_or_zero xs) ∙ ap (place_along n z) (directions-digits xs)
 
--- what is carried out of the coarse end is 0 or a unit
-pub carried_sum : (n : ℕ) (z : Eisenstein) (ds : List ℕ) (p : Option Direction) → IsSumFrom n z ds p
-carried_sum n z [] p = record { carry = p; list = []; long = refl; small = tt; is = refl }
-carried_sum n z (d ∷ ds) p =
+pub all_small-digits : (xs : List (Option Direction)) → AllBelowBase 7 (map digit_or_zero xs)
+all_small-digits [] = tt
+all_small-digits (x ∷ xs) = (digit_or_zero-lt x, all_small-digits xs)
+
+-- a direction, or nothing, added at the last of the digits of resolutions n + 1, n + 2, ..: what is carried out of
+-- the first of them, and the digits that are left
+abbrev pub added : ℕ → List (Option Direction) → Option Direction → Option Direction × List (Option Direction)
+added n [] p = (p, [])
+added n (x ∷ xs) p =
+    let s = added (n + 1) xs p in
+    let k = carried_into (class_at (n + 1)) x s.0 in
+    (k.1, k.0 ∷ s.1)
+
+pub length-added : (n : ℕ) (xs : List (Option Direction)) (p : Option Direction) → length (added n xs p).1 ≡ length xs
+length-added n [] p = refl
+length-added n (x ∷ xs) p = ap suc (length-added (n + 1) xs p)
+
+pub added_sum : (n : ℕ) (z : Eisenstein) (xs : List (Option Direction)) (p : Option Direction) → sum_of (place_along n z xs) (value_of p) ≡ place_along n (sum_of z (value_of (added n xs p).0)) (added n xs p).1
+added_sum n z [] p = refl
+added_sum n z (x ∷ xs) p =
     let c = class_at (n + 1) in
-    let s = carried_sum (n + 1) (sum_of (product_of (multiplier c) z) (digit_value d)) ds p in
-    let k = carried_into c (direction_of d) s.carry in
-    record {
-      carry = k.carry;
-      list = digit_or_zero k.digit ∷ s.list;
-      long = ap suc s.long;
-      small = (digit_or_zero-lt k.digit, s.small);
-      is =
-          s.is
-          ∙ ap (λ v. place_from (n + 1) v s.list) (one_step c z (digit_value d) (value_of s.carry) (value_of k.carry) (value_of k.digit) k.is)
-          ∙ ap (λ x. place_from (n + 1) (sum_of (product_of (multiplier c) (sum_of z (value_of k.carry))) (value_of x)) s.list) (sym (direction_of-digit_or_zero k.digit));
-    }
+    let s = added (n + 1) xs p in
+    let k = carried_into c x s.0 in
+    added_sum (n + 1) (sum_of (product_of (multiplier c) z) (value_of x)) xs p
+    ∙ ap (λ v. place_along (n + 1) v s.1) (one_step c z (value_of x) (value_of s.0) (value_of k.1) (value_of k.0) (carried_into_is c x s.0))
+
+-- the sum of a place and a direction
+pub added_place : (ds : List ℕ) (d : Direction) → place_from 0 (value_of (added 0 (map direction_of ds) (Some d)).0) (map digit_or_zero (added 0 (map direction_of ds) (Some d)).1) ≡ sum_of (place ds) (unit_of d)
+added_place ds d =
+    let s = added 0 (map direction_of ds) (Some d) in
+    place_from-digits 0 (value_of s.0) s.1
+    ∙ ap (λ z. place_along 0 z s.1) (sym (zero-sum (value_of s.0)))
+    ∙ sym (added_sum 0 zero_point (map direction_of ds) (Some d))
+    ∙ ap (λ z. sum_of z (unit_of d)) (sym (place_from-directions 0 zero_point ds))
+
+pub length-added_digits : (ds : List ℕ) (d : Direction) → length (map digit_or_zero (added 0 (map direction_of ds) (Some d)).1) ≡ length ds
+length-added_digits ds d =
+    let s = added 0 (map direction_of ds) (Some d) in
+    length-map s.1 digit_or_zero ∙ length-added 0 (map direction_of ds) (Some d) ∙ length-map ds direction_of
 
 -- where a sum of a place and a unit is expanded, the unit of the expansion is 0 or a unit
 pub carried_out : (ds es : List ℕ) (d : Direction) (u : Eisenstein) → length es ≡ length ds → AllBelowBase 7 es → place_from 0 u es ≡ sum_of (place ds) (unit_of d) → IsCarried u
 carried_out ds es d u l a e =
-    let s = carried_sum 0 zero_point ds (Some d) in
-    let one = one_list 0 u (sum_of zero_point (value_of s.carry)) es s.list (l ∙ sym s.long) a s.small (e ∙ s.is) in
-    (s.carry, one.0 ∙ zero-sum (value_of s.carry))
+    let s = added 0 (map direction_of ds) (Some d) in
+    (s.0, (one_list 0 u (value_of s.0) es (map digit_or_zero s.1) (l ∙ sym (length-added_digits ds d)) a (all_small-digits s.1) (e ∙ sym (added_place ds d))).0)
 
 -- ---- one carry
 

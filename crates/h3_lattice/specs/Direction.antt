@@ -1,7 +1,8 @@
 -- The six directions, the digits that stand for them, and turns.
 --
--- H3's digits: 0 is the centre, and 1 to 6 are the directions K, J, JK, I, IK and IJ. As Eisenstein integers they are
--- the six units. One turn, 60 degrees counter-clockwise, is the product with 1 + w. It leaves the digit 0 as it is.
+-- H3's digits, as its enumeration `Direction` names them: 0 is the centre, and 1 to 6 are the axes K, J, JK, I, IK and
+-- IJ. As Eisenstein integers these are the six units. One turn, 60 degrees counter-clockwise as H3's `_rotate60ccw`, is
+-- the product with 1 + w. It leaves the digit 0 as it is.
 use Rattle.std.specs.Prelude.{◌≡◌, ℕ, zero, suc, pos, negsuc, ◌==◌, List, map, Option, Some, None, if◌then◌else◌}
 use Rattle.h3_lattice.specs.declared.direction.Direction.{Direction}
 use Rattle.h3_lattice.specs.declared.direction.Direction.TheVariants.{K, J, JK, I, IK, IJ}

@@ -12,11 +12,11 @@ use Rattle.h3_lattice.specs.Expansion.{place, scaled, sum_from}
 
 -- ---- products and norms
 
-w : Eisenstein
+abbrev w : Eisenstein
 w = eisenstein (pos 0) (pos 1)
 
+-- w*w = -1 - w
 w_squared : product_of w w ≡ eisenstein (negsuc 0) (negsuc 0)
-unfolding w
 w_squared = refl
 
 multipliers : product_of (multiplier Three) (multiplier Two) ≡ eisenstein (pos 7) (pos 0)

@@ -4,4 +4,5 @@ pub mod Direction
 pub mod Eisenstein
 pub mod Examples
 pub mod Expansion
+pub mod Laws
 pub mod Moved

@@ -5,6 +5,7 @@ mod class;
 mod digits;
 mod direction;
 mod eisenstein;
+pub mod laws;
 mod moved;
 
 pub use class::{Class, carry};

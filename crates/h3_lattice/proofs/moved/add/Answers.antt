@@ -1,4 +1,4 @@
-use Rattle.std.proofs.Common.{◌∙◌, ap, sym, subst}
+use Rattle.std.proofs.Common.{None, ◌∙◌, ap, sym, subst}
 use Rattle.h3_index.specs.Cell.{Address}
 use Rattle.h3_lattice.specs.Eisenstein.{eisenstein, zero_point}
 use Rattle.h3_lattice.specs.Direction.{unit_of}
@@ -19,11 +19,11 @@ returns-in-None-clause-is c =
     let ds = c.args.cell.digits in
     let es = c.expansion-digits.result.1 in
     let q = eisenstein c.expansion-digits.result.0.a c.expansion-digits.result.0.b in
-    let sum : IsSum c.args.cell c.args.direction zero_point es =
+    let sum : IsSum c.args.cell.digits c.args.direction None es =
     sum_expansion ds es c.args.direction _ _ _ q zero_point (c.expansion-digits.ensures.long ∙ c.resolution.ensures.number) c.expansion-digits.ensures.digits.small
     c.place.ensures.is c.unit.ensures.is c.plus-sum.ensures c.expansion-digits.ensures.is c.in-None.ensures in (
       ap (λ (a : Address). a.base) c.at.ensures.is ∙ c.base_cell.ensures.number,
-      subst (λ (a : Address). IsSum c.args.cell c.args.direction zero_point a.digits) (sym c.at.ensures.is) sum,
+      subst (λ (a : Address). IsSum c.args.cell.digits c.args.direction None a.digits) (sym c.at.ensures.is) sum,
       c.at.ensures.valid,
     )
 

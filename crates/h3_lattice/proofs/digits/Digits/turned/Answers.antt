@@ -13,7 +13,7 @@ pub returns-clause-products : goal.returns-clause-products
 returns-clause-products c = subst (AreTurned c.args.n c.args.self) (sym (whole c)) (are_turned c.args.n c.args.self)
 
 pub returns-clause-place : goal.returns-clause-place
-returns-clause-place c = ap place (whole c) ∙ place-turned c.args.n c.args.self c.resolution-r-end.ensures.valid.small
+returns-clause-place c = ap place (whole c) ∙ place-turned c.args.n c.args.self
 
 pub returns-clause-valid : goal.returns-clause-valid
 returns-clause-valid c =
