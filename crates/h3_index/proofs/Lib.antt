@@ -2,6 +2,7 @@ pub mod AncestorLaws
 pub mod CellLaws
 pub mod CellTestLaws
 pub mod ChainLaws
+pub mod CountLaws
 pub mod DescendantLaws
 pub mod DigitsLaws
 pub mod DigitTestLaws

@@ -1,6 +1,6 @@
 -- The numbers of the cells above and below a cell, as the moves make them.
 use Rattle.std.specs.Int.Digits.{number_from_digits, AllBelowBase}
-use Rattle.std.proofs.Common.{ℕ, zero, suc, ◌≡◌, ◌≢◌, ◌+◌, ◌-◌, ◌*◌, ◌/◌, ◌%◌, ◌^◌, ◌<◌, ◌≤◌, ◌==◌, List, [], ◌∷◌, ◌++◌, length, take, drop, replicate, true, false, refl, arith, length-append, ◌∙◌, sym, ap, subst, lit<, bit_and}
+use Rattle.std.proofs.Common.{ℕ, zero, suc, ◌≡◌, ◌≢◌, ◌+◌, ◌-◌, ◌*◌, ◌/◌, ◌%◌, ◌^◌, ◌<◌, ◌≤◌, ◌==◌, List, [], ◌∷◌, ◌++◌, length, take, drop, replicate, true, false, refl, arith, length-append, ◌∙◌, sym, ap, lit<, bit_and}
 use Rattle.std.proofs.Math.ListN.{length-replicate}
 use Rattle.std.proofs.Math.Nat.{pow-suc, one-le-pow, pow-le-pow_right}
 use Rattle.std.proofs.lemmas.Bool.Decides.{nat_tests}
@@ -103,12 +103,6 @@ number_cut c q h le =
 
 -- ---- a pentagon
 
-not_none : (d : ℕ) (n v : ℕ) → n ≡ suc d * v → 1 ≤ v → (n == 0) ≡ false
-not_none d n v e h =
-    let more : 1 ≤ suc d * v = grind (arith, mul-le 1 1 (suc d) v) in
-    let some : n ≢ 0 = omega arith in
-    grind (arith, nat_tests)
-
 not_none_sum : (a b : ℕ) → 1 ≤ a → (a + b == 0) ≡ false
 not_none_sum a b h =
     let some : a + b ≢ 0 = omega arith in
@@ -161,9 +155,6 @@ made_is m n h e = rw e (address_in-number_of n h)
 
 pub inside_is : (m : ℕ) (n : Address) → IsCellNumber m → address_in m ≡ n → m ≡ number_of n
 inside_is m n h e = sym h.is ∙ ap number_of e
-
-pub inside_cell : (m : ℕ) (n : Address) → IsCellNumber m → address_in m ≡ n → IsCell n
-inside_cell m n h e = subst IsCell e h.valid
 
 -- ---- the forms in the code
 

@@ -4,7 +4,8 @@
 -- the mode (0 for a cell), 4 bits resolution, 7 bits base cell, and fifteen digits of 3 bits, that of resolution 1
 -- first. A digit above the resolution is 7. The twelve pentagon base cells have a child of digit 1 (K) deleted: in
 -- them the first digit that is not 0 is never 1.
-use Rattle.std.specs.Prelude.{ℕ, ◌≢◌, ◌+◌, ◌-◌, ◌*◌, ◌%◌, ◌^◌, ◌<◌, ◌==◌, List, [], ◌∷◌, ◌++◌, length, replicate, Bool, ◌&&◌, ◌||◌, IsTrue, if◌then◌else◌}
+use Rattle.std.specs.Prelude.{ℕ, ◌≢◌, ◌+◌, ◌-◌, ◌*◌, ◌%◌, ◌^◌, ◌<◌, ◌==◌, List, [], ◌∷◌, ◌++◌, length, replicate, Bool, ◌&&◌, IsTrue, if◌then◌else◌}
+use Rattle.std.specs.List.{list_any}
 use Rattle.std.specs.Int.Digits.{number_from_digits, AllBelowBase}
 
 -- where a cell lies in the hierarchy: its base cell, and a digit for each resolution from 1 up to its own
@@ -15,9 +16,12 @@ pub record Address : Type 0 where
 abbrev pub resolution : Address → ℕ
 resolution c = length c.digits
 
+-- the twelve base cells that are pentagons
+abbrev pub pentagon_bases : List ℕ
+pentagon_bases = 4 ∷ 14 ∷ 24 ∷ 38 ∷ 49 ∷ 58 ∷ 63 ∷ 72 ∷ 83 ∷ 97 ∷ 107 ∷ 117 ∷ []
+
 abbrev pub is_pentagon_base : ℕ → Bool
-is_pentagon_base b =
-    b == 4 || b == 14 || b == 24 || b == 38 || b == 49 || b == 58 || b == 63 || b == 72 || b == 83 || b == 97 || b == 107 || b == 117
+is_pentagon_base b = list_any (λ p. b == p) pentagon_bases
 
 -- the first digit that is not 0, or 0 where there is none
 abbrev pub leading : List ℕ → ℕ

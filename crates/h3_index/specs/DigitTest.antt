@@ -1,10 +1,10 @@
--- The test of the digits of a number, from the first on.
-use Rattle.std.specs.Prelude.{ℕ, zero, suc, ◌==◌, List, [], ◌∷◌, Bool, true, false, if◌then◌else◌}
+-- The digits of a number that is a cell's.
+use Rattle.std.specs.Prelude.{ℕ, ◌==◌, nat_lt, List, take, drop, Bool, ◌&&◌, not}
+use Rattle.std.specs.List.{list_all}
+use Rattle.h3_index.specs.Cell.{leading}
 
--- the first of them, as many as the resolution, are 0 to 6, and the others 7; in_pentagon: the cell above these digits
--- is a pentagon
+-- those up to the resolution are 0 to 6, and the first of them that is not 0 is not 1 where that child is deleted; the
+-- others are 7
 abbrev pub are_digits : Bool → ℕ → List ℕ → Bool
-are_digits in_pentagon resolution [] = true
-are_digits in_pentagon zero (d ∷ ds) = if d == 7 then are_digits in_pentagon zero ds else false
-are_digits false (suc resolution) (d ∷ ds) = if d == 7 then false else are_digits false resolution ds
-are_digits true (suc resolution) (d ∷ ds) = if d == 7 then false else (if d == 1 then false else are_digits (d == 0) resolution ds)
+are_digits deleted resolution ds =
+    list_all (λ d. nat_lt d 7) (take resolution ds) && list_all (λ d. d == 7) (drop resolution ds) && not (deleted && leading (take resolution ds) == 1)

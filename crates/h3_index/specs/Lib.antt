@@ -1,5 +1,6 @@
 pub mod Cell
 pub mod CellNumber
+pub mod Count
 pub mod Coverage
 pub mod Descendants
 pub mod DigitTest

@@ -8,7 +8,7 @@ use Rattle.std.specs.Char.{digit_char, is_digit}
 use Rattle.std.specs.Str.Parse.{digits_value}
 use Rattle.h3_index.specs.Digits.{last_digits}
 
--- at least one digit stays
+-- the digits from the first that is not 0 on, or one 0 where all are 0
 abbrev pub without_leading_zeros : List ℕ → List ℕ
 without_leading_zeros [] = 0 ∷ []
 without_leading_zeros (d ∷ ds) = if d == 0 then without_leading_zeros ds else d ∷ ds

@@ -2,6 +2,7 @@
 #![tactic(auto)]
 
 mod cell;
+mod count;
 mod error;
 pub mod laws;
 pub mod set;
@@ -9,6 +10,7 @@ mod stream;
 mod text;
 
 pub use cell::{Cell, is_pentagon_base};
+pub use count::{num_cells, pentagon, res0_cell};
 pub use error::H3Error;
 pub use stream::{Sink, Source, StreamFault, Streamed};
 pub use text::{read_index, write_index};

@@ -1,5 +1,9 @@
 use crate::set::compact_cells;
-use crate::{Cell, H3Error, Sink, Source, Streamed, is_pentagon_base, read_index};
+use crate::{
+    Cell, H3Error, Sink, Source, StreamFault, Streamed, is_pentagon_base, num_cells, pentagon,
+    read_index, res0_cell, write_index,
+};
+use std::io::{self, Read, Write};
 use std::test::Fail;
 
 #[test]
@@ -34,13 +38,8 @@ fn other_numbers_are_no_cells(rt: HostRuntime) {
 
 #[test]
 fn twelve_base_cells_are_pentagons(rt: HostRuntime) {
-    let mut count = 0;
-    for b in 0..122u8 {
-        if is_pentagon_base(b) {
-            count += 1;
-        }
-    }
-    assert_eq!(rt; count, 12u8);
+    let count = (0..122u8).filter(|b| is_pentagon_base(*b)).count();
+    assert_eq!(rt; count, 12);
 }
 
 #[test]
@@ -136,11 +135,145 @@ fn a_streamed_writer_is_written(rt: HostRuntime) -> Result<(), Fail> {
     Ok(())
 }
 
+/// A reader and writer that counts its calls, and fails, or takes no byte.
+#[derive(Drop)]
+struct Counting {
+    calls: u32,
+    fails: bool,
+}
+
+impl Read for Counting {
+    fn read(&mut self, _buf: &mut [u8]) -> io::Result<usize> {
+        self.calls = self.calls.saturating_add(1);
+        if self.fails {
+            return Err(io::Error::from(io::ErrorKind::Other));
+        }
+        Ok(0)
+    }
+}
+
+impl Write for Counting {
+    fn write(&mut self, _bytes: &[u8]) -> io::Result<usize> {
+        self.calls = self.calls.saturating_add(1);
+        if self.fails {
+            return Err(io::Error::from(io::ErrorKind::Other));
+        }
+        Ok(0)
+    }
+
+    fn flush(&mut self) -> io::Result<()> {
+        self.calls = self.calls.saturating_add(1);
+        if self.fails {
+            return Err(io::Error::from(io::ErrorKind::Other));
+        }
+        Ok(())
+    }
+}
+
+fn stream_that(fails: bool) -> Streamed<Counting> {
+    Streamed::new(Counting { calls: 0, fails })
+}
+
 #[test]
-fn a_write_of_no_byte_is_a_failure(rt: HostRuntime) {
-    let mut room = [0; 1];
-    let mut sink = Streamed::new(room.as_mut_slice());
-    assert_eq!(rt; sink.push(b"abc"), Ok(1));
-    assert!(rt; sink.push(b"bc").is_err());
-    assert!(rt; sink.failed());
+fn each_call_is_handed_on_once(rt: HostRuntime) {
+    let mut pulled = stream_that(false);
+    assert_eq!(rt; pulled.pull(&mut [0; 4]), Ok(0));
+    assert!(rt; !pulled.failed());
+    assert_eq!(rt; pulled.into_inner().calls, 1);
+
+    let mut flushed = stream_that(false);
+    assert_eq!(rt; flushed.flush(), Ok(()));
+    assert!(rt; !flushed.failed());
+    assert_eq!(rt; flushed.into_inner().calls, 1);
+
+    // a write of no byte is a failure
+    let mut pushed = stream_that(false);
+    assert_eq!(rt; pushed.push(b"abc"), Err(StreamFault));
+    assert!(rt; pushed.failed());
+    assert_eq!(rt; pushed.into_inner().calls, 1);
+}
+
+#[test]
+fn a_failure_is_told_and_kept(rt: HostRuntime) {
+    let mut pulled = stream_that(true);
+    assert_eq!(rt; pulled.pull(&mut [0; 4]), Err(StreamFault));
+    assert!(rt; pulled.failed());
+    assert_eq!(rt; pulled.into_inner().calls, 1);
+
+    let mut pushed = stream_that(true);
+    assert_eq!(rt; pushed.push(b"abc"), Err(StreamFault));
+    assert!(rt; pushed.failed());
+    assert_eq!(rt; pushed.into_inner().calls, 1);
+
+    let mut flushed = stream_that(true);
+    assert_eq!(rt; flushed.flush(), Err(StreamFault));
+    assert!(rt; flushed.failed());
+    assert_eq!(rt; flushed.into_inner().calls, 1);
+}
+
+#[test]
+fn indexes_are_written(rt: HostRuntime) {
+    let texts = [
+        (0, "0"),
+        (0x85283473fffffff, "85283473fffffff"),
+        (0x115283473fffffff, "115283473fffffff"),
+        (u64::MAX, "ffffffffffffffff"),
+    ];
+    for (index, text) in texts {
+        assert_eq!(rt; write_index(index).as_str(), text);
+    }
+}
+
+#[test]
+fn cells_are_counted(rt: HostRuntime) {
+    assert_eq!(rt; num_cells(0), Ok(122));
+    assert_eq!(rt; num_cells(15), Ok(569707381193162));
+    for res in [-1, 16] {
+        assert_eq!(rt; num_cells(res), Err(H3Error::ResDomain));
+    }
+}
+
+#[test]
+fn base_cells_and_pentagons_are_made(rt: HostRuntime) -> Result<(), Fail> {
+    assert_eq!(rt; res0_cell(0)?.raw(), 0x8001fffffffffff);
+    assert_eq!(rt; res0_cell(121)?.raw(), 0x80f3fffffffffff);
+    for b in [-1, 122] {
+        assert_eq!(rt; res0_cell(b), Err(H3Error::Domain));
+    }
+    let pentagons = [
+        (0, 0x8009fffffffffff),
+        (1, 0x801dfffffffffff),
+        (2, 0x8031fffffffffff),
+        (3, 0x804dfffffffffff),
+        (4, 0x8063fffffffffff),
+        (5, 0x8075fffffffffff),
+        (6, 0x807ffffffffffff),
+        (7, 0x8091fffffffffff),
+        (8, 0x80a7fffffffffff),
+        (9, 0x80c3fffffffffff),
+        (10, 0x80d7fffffffffff),
+        (11, 0x80ebfffffffffff),
+    ];
+    for (n, raw) in pentagons {
+        assert_eq!(rt; pentagon(0, n)?.raw(), raw);
+    }
+    assert_eq!(rt; pentagon(1, 0)?.raw(), 0x81083ffffffffff);
+    assert_eq!(rt; pentagon(1, 11)?.raw(), 0x81ea3ffffffffff);
+    assert_eq!(rt; pentagon(16, 12), Err(H3Error::ResDomain));
+    assert_eq!(rt; pentagon(15, 12), Err(H3Error::Domain));
+    assert_eq!(rt; pentagon(15, -1), Err(H3Error::Domain));
+    Ok(())
+}
+
+#[test]
+fn cells_have_their_kind(rt: HostRuntime) -> Result<(), Fail> {
+    let pentagon = Cell::new(0x81083ffffffffff)?;
+    let child = Cell::new(0x8108bffffffffff)?;
+    let hexagon = Cell::new(0x85283473fffffff)?;
+    assert!(rt; pentagon.is_pentagon() && !child.is_pentagon() && !hexagon.is_pentagon());
+    assert!(rt;
+        pentagon.in_pentagon_base() && child.in_pentagon_base() && !hexagon.in_pentagon_base()
+    );
+    assert!(rt; hexagon.is_class_iii() && !Cell::new(0x8009fffffffffff)?.is_class_iii());
+    Ok(())
 }

@@ -69,7 +69,7 @@ fn read_digits(digits: &[u8]) -> Option<u64>
     Some(number)
 }
 
-/// The index that a text spells, as H3's `stringToH3` reads it.
+/// The index that a text spells; stricter than H3's `stringToH3`, which lets text after the digits through.
 ///
 /// Spaces, tabs and carriage returns at both ends are dropped, then an optional `0x` or `0X`; what is left must be 1
 /// to 16 hexadecimal digits of either case. Any other text is refused with `Failed`. The index need not be valid.

@@ -2,11 +2,23 @@
 
 ghost use Rattle.std.specs.Prelude.{◌≡◌, ◌≢◌, ◌<◌, ◌≤◌, length, true};
 ghost use Rattle.h3_index.specs.Cell.{IsCell, is_pentagon};
+ghost use Rattle.h3_index.specs.Count.{base_cell};
 ghost use Rattle.h3_index.specs.Descendants.{center_at, child, cut};
 
 use super::Cell;
 
 impl Cell {
+    /// The cell of resolution 0 in a base cell.
+    pub(crate) fn in_base(base: u8) -> Cell
+        requires { base < 122 }
+        ensures is { result ≡ base_cell base }
+        ensures valid { IsCell result }
+    {
+        Cell {
+            raw: 0x0800_1fff_ffff_ffff + (u64::from(base) << 45),
+        }
+    }
+
     /// The ancestor at a resolution that is not finer than the cell's: the digits above it are dropped.
     pub fn cut(self, r: u8) -> Cell
         requires { r ≤ length self.digits }

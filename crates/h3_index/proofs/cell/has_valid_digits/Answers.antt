@@ -1,6 +1,6 @@
-use Rattle.std.proofs.Common.{◌≡◌, ◌-◌, ◌*◌, ◌/◌, ◌^◌, sym, ◌∙◌, arith, bit_and, ℕ}
+use Rattle.std.proofs.Common.{◌≡◌, ◌+◌, ◌-◌, ◌*◌, ◌/◌, ◌^◌, sym, ◌∙◌, arith, bit_and, ℕ}
 use Rattle.std.proofs.lemmas.Nat.{and_mask}
-use Rattle.h3_index.proofs.DigitTestLaws.{digit_read, bad_past, good_past, bad_seven, good_hex, bad_one, good_pent, no_digits_left}
+use Rattle.h3_index.proofs.DigitTestLaws.{digit_read, bad_past, good_past, bad_seven, good_hex, bad_one, good_pent, no_digits_left, number_pass}
 use Rattle.h3_index.proofs.cell.has_valid_digits.Goals as goal
 use Rattle.h3_index.proofs.cell.has_valid_digits.Goals.{then-r-resolution+else-digit-ne7, else-r-resolution+else-digit-eq7+then-in_pentagon+else-digit-eq1, else-r-resolution+else-digit-eq7+else-in_pentagon}
 
@@ -18,6 +18,11 @@ returns-then-digit-eq7 c =
 pub returns-then-digit-eq1 : goal.returns-then-digit-eq1
 returns-then-digit-eq1 c =
     sym (bad_one c.args.resolution c.args.raw c.loop-r.r _ (digit c.args.raw c.loop-r.r) (omega arith) (omega arith) (omega arith) c.if-digit-eq1.true) ∙ (rw c.if-in_pentagon.true at c.loop-r.invariant)
+
+pub loop-r-init : goal.loop-r-init
+loop-r-init c =
+    let all : c.args.resolution + 1 - 1 ≡ c.args.resolution = omega arith in
+    rw all (number_pass c.args.pentagon_base c.args.resolution c.args.raw)
 
 pub loop-r-preserved : goal.loop-r-preserved
 loop-r-preserved c =

@@ -1,11 +1,11 @@
-use Rattle.std.proofs.Common.{◌≡◌, ◌/◌, ◌^◌, ◌<◌, ◌≢◌, arith, refl, ◌∙◌, sym, bit_and, true, Bool, ℕ}
+use Rattle.std.proofs.Common.{◌≡◌, ◌/◌, ◌^◌, ◌<◌, ◌≢◌, arith, refl, ap, ◌∙◌, sym, bit_and, true, Bool, ℕ}
 use Rattle.std.proofs.lemmas.Nat.{and_mask}
 use Rattle.std.proofs.lemmas.Bool.{false≢true}
 use Rattle.h3_index.specs.Cell.{Address, IsCell, is_pentagon_base, number_of}
 use Rattle.h3_index.specs.CellNumber.{IsCellNumber, base_in, resolution_in, digits_in}
 use Rattle.h3_index.specs.DigitTest.{are_digits}
 use Rattle.h3_index.proofs.CellTestLaws.{cell_in-some, cell_in-none}
-use Rattle.h3_index.proofs.DigitTestLaws.{code_valid, code_of}
+use Rattle.h3_index.proofs.DigitTestLaws.{code_valid, code_of, digits_pass, number_pass}
 use Rattle.h3_index.proofs.cell.Cell.new.Goals as goal
 use Rattle.h3_index.proofs.cell.Cell.new.Goals.{else-raw-eq8-via-then-raw-eq8+then-base-lt122+else-has_valid_digits, else-raw-eq8-via-then-raw-eq8+else-base-lt122, else-raw-eq8-via-else-raw-eq8}
 
@@ -15,8 +15,9 @@ base m = and_mask (m / 2 ^ 45) 7
 resolution : (m : ℕ) → bit_and (m / 2 ^ 52) 15 ≡ resolution_in m
 resolution m = and_mask (m / 2 ^ 52) 4
 
-code : (m : ℕ) (r p : Bool) → p ≡ is_pentagon_base (bit_and (m / 2 ^ 45) 127) → r ≡ are_digits p (bit_and (m / 2 ^ 52) 15) (digits_in m) → are_digits (is_pentagon_base (base_in m)) (resolution_in m) (digits_in m) ≡ r
-code m r p e f = rw (base m) at (rw (resolution m, e) at (sym f))
+code : (m : ℕ) (r p : Bool) → p ≡ is_pentagon_base (bit_and (m / 2 ^ 45) 127) → r ≡ are_digits p (bit_and (m / 2 ^ 52) 15) (digits_in m) → digits_pass (is_pentagon_base (base_in m)) (resolution_in m) (digits_in m) ≡ r
+code m r p e f =
+    number_pass (is_pentagon_base (base_in m)) (resolution_in m) m ∙ sym (f ∙ ap (λ b. are_digits b (bit_and (m / 2 ^ 52) 15) (digits_in m)) (e ∙ ap is_pentagon_base (base m)) ∙ ap (λ n. are_digits (is_pentagon_base (base_in m)) n (digits_in m)) (resolution m))
 
 valid : (m : ℕ) (r p : Bool) → m / 2 ^ 56 ≡ 8 → bit_and (m / 2 ^ 45) 127 < 122 → p ≡ is_pentagon_base (bit_and (m / 2 ^ 45) 127) → r ≡ are_digits p (bit_and (m / 2 ^ 52) 15) (digits_in m) → r ≡ true → IsCellNumber m
 valid m r p mode small e f h =

@@ -1,0 +1,215 @@
+//! The plain Rust programs that the command h3 is measured against: the same work over the same kinds of buffers,
+//! with no proof. `plain valid CELL`, `plain children CELL RES`, `plain uncompact RES` (cells on standard input) and
+//! `plain positions` (ten million positions and back).
+
+use std::env;
+use std::io::{self, BufWriter, Read, Write};
+
+const PENTAGONS: [u64; 12] = [4, 14, 24, 38, 49, 58, 63, 72, 83, 97, 107, 117];
+
+fn base(cell: u64) -> u64 {
+    cell >> 45 & 127
+}
+
+fn resolution(cell: u64) -> u64 {
+    cell >> 52 & 15
+}
+
+fn digit(cell: u64, r: u64) -> u64 {
+    cell >> (45 - 3 * r) & 7
+}
+
+fn with_digit(cell: u64, r: u64, digit: u64) -> u64 {
+    cell & !(7 << (45 - 3 * r)) | digit << (45 - 3 * r)
+}
+
+fn is_valid(cell: u64) -> bool {
+    if cell >> 56 != 8 || base(cell) > 121 {
+        return false;
+    }
+    let mut in_pentagon = PENTAGONS.contains(&base(cell));
+    for r in 1..=15 {
+        let d = digit(cell, r);
+        if r > resolution(cell) {
+            if d != 7 {
+                return false;
+            }
+        } else {
+            if d == 7 || in_pentagon && d == 1 {
+                return false;
+            }
+            in_pentagon &= d == 0;
+        }
+    }
+    true
+}
+
+fn is_pentagon(cell: u64) -> bool {
+    PENTAGONS.contains(&base(cell)) && (1..=resolution(cell)).all(|r| digit(cell, r) == 0)
+}
+
+fn center(cell: u64, res: u64) -> u64 {
+    let mut child = cell & !(15 << 52) | res << 52;
+    for r in resolution(cell) + 1..=res {
+        child = with_digit(child, r, 0);
+    }
+    child
+}
+
+fn count(pentagon: bool, levels: u64) -> u64 {
+    let sevens = 7u64.pow(levels as u32);
+    if pentagon { 1 + 5 * (sevens - 1) / 6 } else { sevens }
+}
+
+struct Children {
+    next: u64,
+    left: u64,
+}
+
+impl Children {
+    fn of(cell: u64, res: u64) -> Children {
+        Children {
+            next: center(cell, res),
+            left: count(is_pentagon(cell), res - resolution(cell)),
+        }
+    }
+}
+
+impl Iterator for Children {
+    type Item = u64;
+
+    fn next(&mut self) -> Option<u64> {
+        if self.left == 0 {
+            return None;
+        }
+        self.left -= 1;
+        let cell = self.next;
+        let mut r = resolution(cell);
+        let mut next = cell;
+        while r > 0 && digit(next, r) == 6 {
+            next = with_digit(next, r, 0);
+            r -= 1;
+        }
+        if r > 0 {
+            let d = digit(next, r);
+            // the digit 1 is deleted below a pentagon
+            let skips = d == 0
+                && PENTAGONS.contains(&base(cell))
+                && (1..r).all(|above| digit(cell, above) == 0);
+            next = with_digit(next, r, if skips { 2 } else { d + 1 });
+        }
+        self.next = next;
+        Some(cell)
+    }
+}
+
+fn write_line(out: &mut impl Write, cell: u64) -> io::Result<()> {
+    let mut line = [b'\n'; 17];
+    let digits = 16 - cell.leading_zeros() as usize / 4;
+    for (i, byte) in line[..digits].iter_mut().enumerate() {
+        *byte = b"0123456789abcdef"[(cell >> (4 * (digits - 1 - i)) & 15) as usize];
+    }
+    out.write_all(&line[..=digits])
+}
+
+fn read_cell(line: &[u8]) -> Option<u64> {
+    let text = std::str::from_utf8(line.trim_ascii()).ok()?;
+    let text = text.strip_prefix("0x").unwrap_or(text);
+    let cell = u64::from_str_radix(text, 16).ok()?;
+    is_valid(cell).then_some(cell)
+}
+
+fn read_cells() -> io::Result<Vec<u64>> {
+    let mut input = io::stdin().lock();
+    let mut page = vec![0; 65536];
+    let mut held = 0;
+    let mut cells = Vec::new();
+    loop {
+        let count = input.read(&mut page[held..])?;
+        let end = held + count;
+        let mut start = 0;
+        while let Some(length) = page[start..end].iter().position(|b| *b == b'\n') {
+            let line = &page[start..start + length];
+            if !line.trim_ascii().is_empty() {
+                cells.push(read_cell(line).expect("a cell"));
+            }
+            start += length + 1;
+        }
+        if count == 0 {
+            if !page[start..end].trim_ascii().is_empty() {
+                cells.push(read_cell(&page[start..end]).expect("a cell"));
+            }
+            return Ok(cells);
+        }
+        page.copy_within(start..end, 0);
+        held = end - start;
+    }
+}
+
+fn position(cell: u64, ancestor_res: u64) -> u64 {
+    let res = resolution(cell);
+    let mut pentagon = PENTAGONS.contains(&base(cell)) && (1..=ancestor_res).all(|r| digit(cell, r) == 0);
+    let mut before = 0;
+    for r in ancestor_res + 1..=res {
+        let d = digit(cell, r);
+        if !pentagon {
+            before += d * count(false, res - r);
+        } else if d != 0 {
+            before += count(true, res - r) + (d - 2) * count(false, res - r);
+            pentagon = false;
+        }
+    }
+    before
+}
+
+fn child_at(position: u64, cell: u64, res: u64) -> u64 {
+    let mut pentagon = is_pentagon(cell);
+    let mut left = position;
+    let mut child = center(cell, res);
+    for r in resolution(cell) + 1..=res {
+        let all = count(false, res - r);
+        let first = if pentagon { count(true, res - r) } else { 0 };
+        if pentagon && left < first {
+            continue;
+        }
+        left -= first;
+        child = with_digit(child, r, left / all + if pentagon { 2 } else { 0 });
+        left %= all;
+        pentagon = false;
+    }
+    child
+}
+
+fn main() -> io::Result<()> {
+    let words: Vec<String> = env::args().skip(1).collect();
+    let words: Vec<&str> = words.iter().map(String::as_str).collect();
+    let mut out = BufWriter::with_capacity(65536, io::stdout().lock());
+    match words[..] {
+        ["valid", cell] => writeln!(out, "{}", u64::from_str_radix(cell, 16).is_ok_and(is_valid))?,
+        ["children", cell, res] => {
+            let cell = read_cell(cell.as_bytes()).expect("a cell");
+            for child in Children::of(cell, res.parse().expect("a resolution")) {
+                write_line(&mut out, child)?;
+            }
+        }
+        ["uncompact", res] => {
+            let res = res.parse().expect("a resolution");
+            for cell in read_cells()? {
+                for child in Children::of(cell, res) {
+                    write_line(&mut out, child)?;
+                }
+            }
+        }
+        ["positions"] => {
+            let cell = 0x8009fffffffffff;
+            let mut sum = 0u64;
+            for place in 0..10_000_000 {
+                let child = child_at(place * 395_630, cell, 15);
+                sum = sum.wrapping_add(child ^ position(child, 0));
+            }
+            writeln!(out, "{sum}")?;
+        }
+        _ => panic!("unknown words"),
+    }
+    out.flush()
+}

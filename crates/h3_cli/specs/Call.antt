@@ -1,0 +1,66 @@
+-- A plain call: the program's name, a command's name, and then each option of the command once, in any order,
+-- its name and its value in two words.
+use Rattle.std.specs.Prelude.{Option, Some, None, pos, ⊤, ◌⊎◌, ◌≡◌, ◌≢◌, ◌∷◌, ◌+◌, ℕ, List, [], codes, if◌then◌else◌}
+use Rattle.std.specs.Str.{bytes_eq}
+use Rattle.clap.specs.Words.{IsSignedIn, Text}
+use Rattle.h3_cli.specs.Commands.{options_of, word_of}
+use Rattle.h3_cli.specs.Options.{IsIn, id_of, number_up_to}
+use Rattle.h3_cli.specs.declared.words.CommandOption.{CommandOption}
+use Rattle.h3_cli.specs.declared.words.CommandOption.TheVariants.{Cell}
+use Rattle.h3_cli.specs.declared.words.CommandName.{CommandName}
+
+-- the words that name the option
+abbrev pub names_for : CommandOption → List Text
+names_for Cell = codes "-c" ∷ codes "--cell" ∷ []
+
+-- the word is one of these
+abbrev pub IsOneOf : Text → List Text → Type 0
+IsOneOf word [] = ⊥
+IsOneOf word (x ∷ xs) = (word ≡ x) ⊎ IsOneOf word xs
+
+-- not empty, and not beginning with `-` (45)
+abbrev pub IsPlainValue : Text → Type 0
+IsPlainValue [] = ⊥
+IsPlainValue (b ∷ bs) = b ≢ 45
+
+-- a whole number from 0 to the most, as an `i64` is read; any text where there is no most
+abbrev pub IsUpTo : Option ℕ → Text → Type 0
+IsUpTo None text = ⊤
+IsUpTo (Some most) text = IsSignedIn (pos 0) (pos most) text
+
+-- an option, the word that names it, and its value
+pub record Use : Type 0 where
+  pub option : CommandOption
+  pub name : Text
+  pub value : Text
+
+-- the words of the uses, two for each
+abbrev pub words_of : List Use → List Text
+words_of [] = []
+words_of (u ∷ us) = u.name ∷ u.value ∷ words_of us
+
+-- how often the option is used
+abbrev pub uses_of : CommandOption → List Use → ℕ
+uses_of o [] = 0
+uses_of o (u ∷ us) = (if bytes_eq (id_of u.option) (id_of o) then 1 else 0) + uses_of o us
+
+-- the use is of one of these options, by one of its names, with a plain value in the option's range
+pub record IsUse (os : List CommandOption) (u : Use) : Type 0 where
+  pub listed : IsIn u.option os
+  pub named : IsOneOf u.name (names_for u.option)
+  pub plain : IsPlainValue u.value
+  pub in_range : IsUpTo (number_up_to u.option) u.value
+
+-- each is a use of one of these options
+abbrev pub AreUses : List CommandOption → List Use → Type 0
+AreUses os [] = ⊤
+AreUses os (u ∷ us) = IsUse os u × AreUses os us
+
+-- a program's name, a command's name, and the command's options, each used once, in any order
+pub record IsPlainCall (words : List Text) : Type 0 where
+  pub program : Text
+  pub name : CommandName
+  pub uses : List Use
+  pub spelled : words ≡ program ∷ word_of name ∷ words_of uses
+  pub uses_options : AreUses (options_of name) uses
+  pub once : (o : CommandOption) → IsIn o (options_of name) → uses_of o uses ≡ 1

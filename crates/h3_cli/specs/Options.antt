@@ -1,0 +1,45 @@
+-- The options of the commands, and how `clap` takes each.
+use Rattle.std.specs.Prelude.{◌≡◌, ◌⊎◌, ℕ, List, [], ◌∷◌, Option, Some, None, true, codes, pos, option_map, unwrap_or}
+use Rattle.clap.specs.Words.{Rule, Text, new_rule}
+use Rattle.clap.specs.declared.builder.value_parser.ValueParser.{ValueParser}
+use Rattle.clap.specs.declared.builder.value_parser.ValueParser.TheVariants.{Signed, String}
+use Rattle.h3_cli.specs.declared.words.CommandOption.{CommandOption}
+use Rattle.h3_cli.specs.declared.words.CommandOption.TheVariants.{Cell}
+
+-- what `clap` knows the option by
+abbrev pub id_of : CommandOption → Text
+id_of Cell = codes "cell"
+
+-- the name after two hyphens
+abbrev pub long_name : CommandOption → Option Text
+long_name Cell = Some (codes "cell")
+
+-- the character after one hyphen
+abbrev pub short_name : CommandOption → Option ℕ
+short_name Cell = Some 99
+
+-- the most that the option's number may be; none where its value is any text
+abbrev pub number_up_to : CommandOption → Option ℕ
+number_up_to Cell = None
+
+-- a number is read from 0 to the option's most
+abbrev pub parser_for : CommandOption → Option ValueParser
+parser_for o = option_map (λ most. Signed (pos 0) (pos most)) (number_up_to o)
+
+-- what `clap` holds each value of the option to
+abbrev pub parser_done : CommandOption → ValueParser
+parser_done o = unwrap_or (parser_for o) String
+
+-- each option that a command has is required
+abbrev pub rule_for : CommandOption → Rule
+rule_for o = record (new_rule (id_of o)) {
+  long = long_name o;
+  short = short_name o;
+  parser = parser_for o;
+  required = true;
+}
+
+-- the option is in the list
+abbrev pub IsIn : CommandOption → List CommandOption → Type 0
+IsIn o [] = ⊥
+IsIn o (x ∷ xs) = (x ≡ o) ⊎ IsIn o xs

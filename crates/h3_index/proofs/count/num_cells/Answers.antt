@@ -1,0 +1,24 @@
+use Rattle.std.proofs.Common.{ℕ, ◌≡◌, ◌≤◌, ◌^◌, ◌+◌, ◌*◌, Some, arith, rules, lit<, w32, sym, ap, subst, ◌∙◌}
+use Rattle.std.proofs.lemmas.Int.{to_z-of_z}
+use Rattle.std.proofs.Math.Nat.{pow-le-pow_right}
+use Rattle.h3_index.specs.Count.{IsNumberOfCells, resolution_of}
+use Rattle.h3_index.proofs.CountLaws.{number_of_cells, if_some}
+use Rattle.h3_index.proofs.count.num_cells.Goals as goal
+
+sevens_small : (r : ℕ) → r ≤ 15 → 7 ^ r ≤ 4747561509943
+sevens_small r h = let p : 7 ^ r ≤ 7 ^ 15 = pow-le-pow_right (lit< tt) h in p
+
+pub pow-requires : goal.pow-requires
+pow-requires c = omega (arith, sevens_small c.from.result (omega (arith, c.in_ok-res.ensures.ok.1)))
+
+pub overflow_mul-result : goal.overflow_mul-result
+overflow_mul-result c = record { fits = omega (arith, sevens_small c.from.result (omega (arith, c.in_ok-res.ensures.ok.1))) }
+
+pub overflow_add-result : goal.overflow_add-result
+overflow_add-result c = record { fits = omega (arith, sevens_small c.from.result (omega (arith, c.in_ok-res.ensures.ok.1))) }
+
+pub returns-clause-counted : goal.returns-clause-counted
+returns-clause-counted c =
+    let is : resolution_of c.args.res ≡ Some c.in_ok-res.res = rw (to_z-of_z w32 c.args.res (search rules)) at c.in_ok-res.ensures.ok.0 in
+    let power : c.pow.result ≡ 7 ^ c.in_ok-res.res = c.pow.ensures ∙ ap (λ r. 7 ^ r) c.from.ensures in
+    if_some _ c.in_ok-res.res _ is (subst (λ p. IsNumberOfCells c.in_ok-res.res (2 + 120 * p)) (sym power) (number_of_cells c.in_ok-res.res c.in_ok-res.ensures.ok.1))

@@ -1,0 +1,23 @@
+use Rattle.std.proofs.Common.{◌≡◌, Some, ap, sym, ◌∙◌, rules, w32, get_or, ℕ, subst}
+use Rattle.std.proofs.lemmas.Int.{to_z-of_z}
+use Rattle.h3_index.specs.Cell.{pentagon_bases}
+use Rattle.h3_index.specs.Count.{base_cell, number_below, resolution_of}
+use Rattle.h3_index.specs.Descendants.{center_at}
+use Rattle.h3_index.proofs.CountLaws.{match_some, nth_pentagon, pentagons_listed}
+use Rattle.h3_index.proofs.count.pentagon.Goals as goal
+
+pub returns-in-Some-clause-nth : goal.returns-in-Some-clause-nth
+returns-in-Some-clause-nth c =
+    let is : resolution_of c.args.res ≡ Some c.in_ok-res.res = rw (to_z-of_z w32 c.args.res (search rules)) at c.in_ok-res.ensures.ok.0 in
+    let n_is : number_below 12 c.args.n ≡ Some c.in-Some.n = rw (to_z-of_z w32 c.args.n (search rules)) at (sym c.in-Some.ensures.is) in
+    match_some _ c.in_ok-res.res _ _ is (match_some _ c.in-Some.n _ _ n_is (nth_pentagon c.in_ok-res.res c.in-Some.n c.in-Some.ensures.small
+    ∙ ap Some (sym (c.center_at.ensures.is ∙ ap (λ b. center_at b c.in_ok-res.res) c.in_base.ensures.is))))
+
+pub returns-in-Some-clause-listed : goal.returns-in-Some-clause-listed
+returns-in-Some-clause-listed c = pentagons_listed
+
+pub returns-in-None-clause-listed : goal.returns-in-None-clause-listed
+returns-in-None-clause-listed c = pentagons_listed
+
+pub returns-in_err-res-clause-listed : goal.returns-in_err-res-clause-listed
+returns-in_err-res-clause-listed c = pentagons_listed

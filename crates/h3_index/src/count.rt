@@ -1,0 +1,69 @@
+//! Cells by their numbers: base cells, pentagons, and how many cells a resolution has.
+
+ghost use Rattle.std.specs.Prelude.{◌≡◌, ◌+◌, ◌*◌, ◌^◌, ℕ, Some, None, IfOk, IfErr, MatchOption, IfSome, slice_get, ◌<◌};
+ghost use Rattle.std.specs.Result.{result_ok};
+ghost use Rattle.h3_index.specs.Count.{IsNumberOfCells, PentagonsAreListed, base_cell, number_below, pentagons, resolution_of};
+
+use crate::cell::Cell;
+use crate::error::H3Error;
+
+/// The whole number, where it is from 0 up to below a limit.
+#[tactic(auto, unfolding(crate::specs::Count::number_below))]
+fn below(limit: u8, n: i32) -> Option<u8>
+    ensures is { result ≡ number_below limit n }
+    ensures small { IfSome result (λ k. k < limit) }
+{
+    if n < 0 || n >= i32::from(limit) {
+        None
+    } else {
+        Some(n as u8)
+    }
+}
+
+/// The resolution that a whole number is: `ResDomain` outside 0 to 15.
+pub(crate) fn resolution_from(res: i32) -> Result<u8, H3Error>
+    ensures ok { IfOk result (λ r. (resolution_of res ≡ Some r) × (r < 16)) }
+    ensures err { IfErr result (λ e. (resolution_of res ≡ None) × (e ≡ H3Error.ResDomain)) }
+{
+    match below(16, res) {
+        Some(res) => Ok(res),
+        None => Err(H3Error::ResDomain),
+    }
+}
+
+/// How many cells a resolution has, as H3's `getNumCells` tells: `ResDomain` outside 0 to 15.
+pub fn num_cells(res: i32) -> Result<u64, H3Error>
+    ensures formula { MatchOption (resolution_of res) (result ≡ Err H3Error.ResDomain)
+        (λ r. result ≡ Ok (2 + 120 * 7 ^ r)) }
+    ensures counted { IfOk result (λ count. IfSome (resolution_of res) (λ r. IsNumberOfCells r count)) }
+{
+    let res = resolution_from(res)?;
+    Ok(2 + 120 * 7u64.pow(u32::from(res)))
+}
+
+/// The cell of resolution 0 in a base cell, of which H3's `getRes0Cells` gives all: `Domain` outside 0 to 121.
+pub fn res0_cell(b: i32) -> Result<Cell, H3Error>
+    ensures { MatchOption (number_below 122 b) (result ≡ Err H3Error.Domain) (λ b. result ≡ Ok (base_cell b)) }
+{
+    match below(122, b) {
+        Some(base) => Ok(Cell::in_base(base)),
+        None => Err(H3Error::Domain),
+    }
+}
+
+static PENTAGON_BASES: [u8; 12] = [4, 14, 24, 38, 49, 58, 63, 72, 83, 97, 107, 117];
+
+/// The n-th pentagon of a resolution, from 0, in ascending order; H3's `getPentagons` gives all: `ResDomain` where the
+/// resolution is outside 0 to 15, then `Domain` where n is outside 0 to 11.
+pub fn pentagon(res: i32, n: i32) -> Result<Cell, H3Error>
+    ensures nth { MatchOption (resolution_of res) (result ≡ Err H3Error.ResDomain)
+        (λ r. MatchOption (number_below 12 n) (result ≡ Err H3Error.Domain)
+        (λ k. slice_get (pentagons r) k ≡ result_ok result)) }
+    ensures listed { PentagonsAreListed }
+{
+    let res = resolution_from(res)?;
+    match below(12, n) {
+        Some(n) => Ok(Cell::in_base(PENTAGON_BASES[n as usize]).center_at(res)),
+        None => Err(H3Error::Domain),
+    }
+}

@@ -1,0 +1,2 @@
+pub mod FollowingLaws
+pub mod SizeLaws

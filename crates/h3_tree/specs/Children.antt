@@ -1,0 +1,9 @@
+-- What is known of a `Children`.
+use Rattle.std.specs.Prelude.{List}
+use Rattle.h3_index.specs.Cell.{Address}
+use Rattle.h3_tree.specs.Following.{cells_from}
+use Rattle.h3_tree.specs.declared.iter.Children.{Children}
+
+-- the cells that are still to come
+unfoldable pub children_left : Children → List Address
+children_left s = cells_from s.left s.next
