@@ -1,5 +1,4 @@
 pub mod CarryLaws
-pub mod DigitsLaws
 pub mod DivisionLaws
 pub mod ExpansionLaws
 pub mod LinearLaws

@@ -8,8 +8,7 @@ ghost use Rattle.h3_lattice.specs.Digits.{cell_of, IsDigits};
 ghost use Rattle.h3_lattice.specs.Expansion.{place};
 
 use crate::direction::{Direction, turn};
-use h3_index::Cell;
-use h3_index::laws::numbers_tell_cells;
+use h3_index::{Cell, res0_cell};
 use std::marker::Model;
 
 /// The digits of a cell without its base cell: a digit of 0 to 6 for each resolution from 1 up to its own.
@@ -39,8 +38,7 @@ fn base_cell(base: u8) -> Cell
     requires { base < 122 }
     ensures { result ≡ cell_of base [] }
 {
-    numbers_tell_cells();
-    match Cell::new(0x8001fffffffffff + (u64::from(base) << 45)) {
+    match res0_cell(i32::from(base)) {
         Ok(cell) => cell,
         Err(_) => unreachable!(),
     }
