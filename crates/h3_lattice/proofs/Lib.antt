@@ -1,0 +1,6 @@
+pub mod CarryLaws
+pub mod DivisionLaws
+pub mod ExpansionLaws
+pub mod LinearLaws
+pub mod SumLaws
+pub mod TurnLaws

@@ -1,0 +1,8 @@
+pub mod Class
+pub mod Digits
+pub mod Direction
+pub mod Eisenstein
+pub mod Examples
+pub mod Expansion
+pub mod Laws
+pub mod Moved

@@ -1,0 +1,22 @@
+-- Sums of a cell and a direction.
+use Rattle.std.specs.Prelude.{◌≡◌, ℕ, List, length, Option, Some, None}
+use Rattle.h3_index.specs.Cell.{Address, IsCell}
+use Rattle.h3_lattice.specs.declared.direction.Direction.{Direction}
+use Rattle.h3_lattice.specs.declared.moved.Moved.{Moved}
+use Rattle.h3_lattice.specs.declared.moved.Moved.TheVariants.{Inside, Across}
+use Rattle.h3_lattice.specs.Eisenstein.{sum_of}
+use Rattle.h3_lattice.specs.Direction.{unit_of, value_of}
+use Rattle.h3_lattice.specs.Digits.{IsDigits}
+use Rattle.h3_lattice.specs.Expansion.{place, IsExpansion}
+
+-- the place of the digits ds plus a direction has, at their resolution, an expansion by the digits es, and by the unit
+-- of the direction `out`, or by 0 where there is none
+abbrev pub IsSum : List ℕ → Direction → Option Direction → List ℕ → Type 0
+IsSum ds direction out es =
+    IsExpansion (sum_of (place ds) (unit_of direction)) (length ds) (value_of out) es
+
+-- by 0: the sum is a cell of the same base cell. By a unit: it lies across the side of the base cell in that direction
+abbrev pub IsMoved : Address → Direction → Moved → Type 0
+IsMoved cell direction (Inside moved) =
+    (moved.base ≡ cell.base) × IsSum cell.digits direction None moved.digits × IsCell moved
+IsMoved cell direction (Across side ds) = IsSum cell.digits direction (Some side) ds × IsDigits ds

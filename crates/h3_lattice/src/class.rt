@@ -1,0 +1,45 @@
+//! The classes of resolutions, and carries.
+
+ghost use Rattle.std.specs.Prelude.{◌≡◌, ◌≤◌};
+ghost use Rattle.h3_lattice.specs.Direction.{value_of};
+ghost use Rattle.h3_lattice.specs.Class.{class_at, IsCarry, IsOnlyCarry};
+
+use crate::direction::Direction;
+use crate::eisenstein::{digit_value, unit};
+
+/// The class of a resolution. It tells the multiplier by which the grid of that resolution is finer than the one
+/// before.
+#[derive(Clone, Copy, Debug, PartialEq, Eq)]
+pub enum Class {
+    /// Class II, the even resolutions. Their multiplier is 3 + w.
+    Two,
+
+    /// Class III, the odd resolutions, those of which H3's `isResClassIII` is true. Their multiplier is 2 - w.
+    Three,
+}
+
+impl Class {
+    /// The class of a resolution.
+    pub fn at(res: u8) -> Class
+        ensures { result ≡ class_at res }
+    {
+        if res % 2 == 1 {
+            Class::Three
+        } else {
+            Class::Two
+        }
+    }
+}
+
+/// What a digit and a direction add up to at a resolution of a class: the digit that is left, and the direction that
+/// is carried to the next coarser resolution, where there is one. Digits are 0 to 6.
+pub fn carry(class: Class, digit: u8, direction: Direction) -> (u8, Option<Direction>)
+    requires { digit ≤ 6 }
+    ensures digit { result.0 ≤ 6 }
+    ensures sum { IsCarry class digit direction (value_of result.1) result.0 }
+    ensures only { IsOnlyCarry class digit direction (value_of result.1) result.0 }
+{
+    let sum = digit_value(digit).plus(unit(direction));
+    let (carried, left) = sum.divided(class);
+    (left, carried.direction())
+}

@@ -1,0 +1,128 @@
+//! Digit lists.
+
+ghost use Rattle.std.specs.Prelude.{◌≡◌, ◌-◌, ◌<◌, ◌≤◌, [], ◌∷◌, ◌++◌, length, map, slice_index_or, false};
+ghost use Rattle.h3_index.specs.Cell.{is_pentagon_base, IsCell};
+ghost use Rattle.h3_lattice.specs.Eisenstein.{product_of};
+ghost use Rattle.h3_lattice.specs.Direction.{digit_turned, turns, AreTurned};
+ghost use Rattle.h3_lattice.specs.Digits.{cell_of, IsDigits};
+ghost use Rattle.h3_lattice.specs.Expansion.{place};
+
+use crate::direction::{Direction, turn};
+use h3_index::{Cell, res0_cell};
+use std::marker::Model;
+
+/// The digits of a cell without its base cell: a digit of 0 to 6 for each resolution from 1 up to its own.
+#[derive(Clone, Copy, Debug, PartialEq, Eq)]
+pub struct Digits {
+    resolution: u8,
+    fifteen: [u8; 15],
+}
+
+impl Model for Digits {
+    ghost use Rattle.std.specs.Prelude.{ℕ, List, length, take};
+    ghost use Rattle.h3_lattice.specs.Digits.{padded, IsPadded};
+
+    ghost Value = { List ℕ };
+
+    ghost view = { λ d. take d.resolution d.fifteen };
+
+    ghost invariant = { λ d. IsPadded d.resolution d.fifteen };
+
+    ghost inverse = { λ ds. record { resolution = length ds; fifteen = padded ds } };
+
+    ghost inverse_ok = { λ d h i. record { resolution = h.long i; fifteen = h.is i } };
+}
+
+/// The cell of a base cell at resolution 0.
+fn base_cell(base: u8) -> Cell
+    requires { base < 122 }
+    ensures { result ≡ cell_of base [] }
+{
+    match res0_cell(i32::from(base)) {
+        Ok(cell) => cell,
+        Err(_) => unreachable!(),
+    }
+}
+
+/// A digit turned n times.
+fn turned_digit(digit: u8, n: u8) -> u8
+    ensures { result ≡ digit_turned n digit }
+{
+    match Direction::from_digit(digit) {
+        None => 0,
+        Some(direction) => turn(direction, n).digit(),
+    }
+}
+
+impl Digits {
+    /// The list of no digits, that of resolution 0.
+    pub(crate) fn empty() -> Digits
+        ensures { result ≡ [] }
+    {
+        Digits {
+            resolution: 0,
+            fifteen: [7; 15],
+        }
+    }
+
+    /// The list with one more digit, that of the next finer resolution.
+    pub(crate) fn push(self, digit: u8) -> Digits
+        requires room { length self < 15 }
+        requires small { digit < 7 }
+        ensures { result ≡ self ++ digit ∷ [] }
+    {
+        let mut fifteen = self.fifteen;
+        fifteen[self.resolution as usize] = digit;
+        Digits {
+            resolution: self.resolution + 1,
+            fifteen,
+        }
+    }
+
+    /// How many digits there are, 0 to 15.
+    pub fn resolution(self) -> u8
+        ensures number { result ≡ length self }
+        ensures valid { IsDigits self }
+    {
+        self.resolution
+    }
+
+    /// The digit of a resolution from 1 to 15: 0 to 6, or 7 above the list's own resolution.
+    pub fn digit(self, r: u8) -> u8
+        requires some { 1 ≤ r }
+        requires at_most { r ≤ 15 }
+        ensures { result ≡ slice_index_or self (r - 1) 7 }
+    {
+        self.fifteen[r as usize - 1]
+    }
+
+    /// Each digit turned n times, each turn 60 degrees counter-clockwise. The digit 0 stays. So the place is multiplied
+    /// by the n-th power of 1 + w.
+    pub fn turned(self, n: u8) -> Digits
+        ensures digits { result ≡ map (digit_turned n) self }
+        ensures products { AreTurned n self result }
+        ensures place { place result ≡ product_of (turns n) (place self) }
+        ensures valid { IsDigits result }
+    {
+        let mut turned = Digits::empty();
+        for r in 0..self.resolution() {
+            turned = turned.push(turned_digit(self.digit(r + 1), n));
+        }
+        turned
+    }
+
+    /// The cell of a base cell that has these digits. The base cell is 0 to 121 and no pentagon, so that no digits are
+    /// deleted there.
+    pub fn at(self, base: u8) -> Cell
+        requires some { base < 122 }
+        requires hexagon { is_pentagon_base base ≡ false }
+        ensures is { result ≡ cell_of base self }
+        ensures valid { IsCell result }
+    {
+        let mut cell = base_cell(base);
+        for r in 0..self.resolution() {
+            cell = cell.child(self.digit(r + 1));
+        }
+        cell
+    }
+}

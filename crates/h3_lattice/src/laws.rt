@@ -1,0 +1,24 @@
+//! Laws of the definitions that contracts here cite. Each function does nothing; what it ensures is a law that holds
+//! always, for the proofs of crates that call it.
+
+ghost use Rattle.h3_lattice.specs.Laws.{TurnsAdd, SixTurnsAreNone, OppositesAreThreeTurns, DigitTurnsAdd, SixDigitTurnsAreNone, NoTurnsKeepDigits, SumsExist, SumsAreUnique, SumsReverse, SumsTurn, SumsCloseTriangles};
+
+/// Turns of a direction and of a digit list add up, and six of them are none.
+pub fn turns_add_up()
+    ensures directions { TurnsAdd }
+    ensures six { SixTurnsAreNone }
+    ensures opposite { OppositesAreThreeTurns }
+    ensures digits { DigitTurnsAdd }
+    ensures six_of_digits { SixDigitTurnsAreNone }
+    ensures none_of_digits { NoTurnsKeepDigits }
+{}
+
+/// A digit list and a direction have one sum. The opposite direction leads back, the sum of turned ones is the turned
+/// sum, and the sums with a direction and with the next one are a step apart.
+pub fn sums_are_lawful()
+    ensures exist { SumsExist }
+    ensures unique { SumsAreUnique }
+    ensures reverse { SumsReverse }
+    ensures turn { SumsTurn }
+    ensures triangles { SumsCloseTriangles }
+{}

@@ -1,0 +1,206 @@
+use crate::{Class, Direction, Moved, add, carry, turn};
+use h3_index::Cell;
+use std::test::Fail;
+
+const DIRECTIONS: [Direction; 6] = [
+    Direction::K,
+    Direction::J,
+    Direction::JK,
+    Direction::I,
+    Direction::IK,
+    Direction::IJ,
+];
+
+/// A row for each digit, a column for each direction in the order of the digits.
+const CARRIES_THREE: [[(u8, Option<Direction>); 6]; 7] = [
+    [
+        (1, None),
+        (2, None),
+        (3, None),
+        (4, None),
+        (5, None),
+        (6, None),
+    ],
+    [
+        (4, Some(Direction::K)),
+        (3, None),
+        (6, Some(Direction::K)),
+        (5, None),
+        (2, Some(Direction::IK)),
+        (0, None),
+    ],
+    [
+        (3, None),
+        (1, Some(Direction::J)),
+        (4, Some(Direction::JK)),
+        (6, None),
+        (0, None),
+        (5, Some(Direction::J)),
+    ],
+    [
+        (6, Some(Direction::K)),
+        (4, Some(Direction::JK)),
+        (5, Some(Direction::JK)),
+        (0, None),
+        (1, None),
+        (2, None),
+    ],
+    [
+        (5, None),
+        (6, None),
+        (0, None),
+        (2, Some(Direction::I)),
+        (3, Some(Direction::I)),
+        (1, Some(Direction::IJ)),
+    ],
+    [
+        (2, Some(Direction::IK)),
+        (0, None),
+        (1, None),
+        (3, Some(Direction::I)),
+        (6, Some(Direction::IK)),
+        (4, None),
+    ],
+    [
+        (0, None),
+        (5, Some(Direction::J)),
+        (2, None),
+        (1, Some(Direction::IJ)),
+        (4, None),
+        (3, Some(Direction::IJ)),
+    ],
+];
+
+const CARRIES_TWO: [[(u8, Option<Direction>); 6]; 7] = [
+    [
+        (1, None),
+        (2, None),
+        (3, None),
+        (4, None),
+        (5, None),
+        (6, None),
+    ],
+    [
+        (2, Some(Direction::K)),
+        (3, None),
+        (4, Some(Direction::JK)),
+        (5, None),
+        (6, Some(Direction::K)),
+        (0, None),
+    ],
+    [
+        (3, None),
+        (4, Some(Direction::J)),
+        (5, Some(Direction::J)),
+        (6, None),
+        (0, None),
+        (1, Some(Direction::IJ)),
+    ],
+    [
+        (4, Some(Direction::JK)),
+        (5, Some(Direction::J)),
+        (6, Some(Direction::JK)),
+        (0, None),
+        (1, None),
+        (2, None),
+    ],
+    [
+        (5, None),
+        (6, None),
+        (0, None),
+        (1, Some(Direction::I)),
+        (2, Some(Direction::IK)),
+        (3, Some(Direction::I)),
+    ],
+    [
+        (6, Some(Direction::K)),
+        (0, None),
+        (1, None),
+        (2, Some(Direction::IK)),
+        (3, Some(Direction::IK)),
+        (4, None),
+    ],
+    [
+        (0, None),
+        (1, Some(Direction::IJ)),
+        (2, None),
+        (3, Some(Direction::I)),
+        (4, None),
+        (5, Some(Direction::IJ)),
+    ],
+];
+
+#[test]
+fn directions_have_opposites_and_turns(rt: HostRuntime) {
+    let table = [
+        (1, Direction::K, Direction::IJ, Direction::IK),
+        (2, Direction::J, Direction::IK, Direction::JK),
+        (3, Direction::JK, Direction::I, Direction::K),
+        (4, Direction::I, Direction::JK, Direction::IJ),
+        (5, Direction::IK, Direction::J, Direction::I),
+        (6, Direction::IJ, Direction::K, Direction::J),
+    ];
+    for (digit, direction, opposite, turned) in table {
+        assert_eq!(rt; direction.digit(), digit);
+        assert_eq!(rt; Direction::from_digit(digit), Some(direction));
+        assert_eq!(rt; direction.opposite(), opposite, "opposite of {digit}");
+        assert_eq!(rt; turn(direction, 1), turned, "{digit} turned");
+        assert_eq!(rt; turn(direction, 0), direction);
+        assert_eq!(rt; turn(direction, 3), opposite);
+        assert_eq!(rt; turn(direction, 255), opposite);
+    }
+    for digit in [0, 7, 255] {
+        assert_eq!(rt; Direction::from_digit(digit), None);
+    }
+}
+
+#[test]
+fn carries_are_those_of_the_tables(rt: HostRuntime) {
+    for (class, table) in [(Class::Three, CARRIES_THREE), (Class::Two, CARRIES_TWO)] {
+        for digit in 0..7u8 {
+            for (direction, entry) in DIRECTIONS.iter().zip(table[digit as usize].iter()) {
+                assert_eq!(rt;
+                    carry(class, digit, *direction),
+                    *entry,
+                    "{digit} and {}",
+                    direction.digit()
+                );
+            }
+        }
+    }
+}
+
+#[test]
+fn a_sum_lies_inside(rt: HostRuntime) -> Result<(), Fail> {
+    let cell = Cell::new(0x85283473fffffff)?;
+    assert!(rt; !cell.in_pentagon_base());
+    assert_eq!(rt;
+        add(cell, Direction::IJ),
+        Moved::Inside(Cell::new(0x85283447fffffff)?)
+    );
+    Ok(())
+}
+
+#[test]
+fn a_sum_lies_across(rt: HostRuntime) -> Result<(), Fail> {
+    let cell = Cell::new(0x813d3ffffffffff)?;
+    assert!(rt; !cell.in_pentagon_base());
+    match add(cell, Direction::I) {
+        Moved::Inside(_) => assert!(rt; false),
+        Moved::Across(side, digits) => {
+            assert_eq!(rt; side, Direction::I);
+            assert_eq!(rt; digits.resolution(), 1);
+            assert_eq!(rt; digits.digit(1), 2);
+            assert_eq!(rt; digits.digit(2), 7);
+            assert_eq!(rt; digits.turned(1).digit(1), 3);
+            assert_eq!(rt; digits.at(30), Cell::new(0x813cbffffffffff)?);
+        }
+    }
+    Ok(())
+}
+
+#[test]
+fn classes_alternate(rt: HostRuntime) {
+    assert_eq!(rt; Class::at(0), Class::Two);
+    assert_eq!(rt; Class::at(15), Class::Three);
+}
