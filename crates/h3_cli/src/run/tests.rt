@@ -196,6 +196,127 @@ fn counts_descendants(rt: HostRuntime) {
     assert_written(&rt, size, "3956301258286\n");
 }
 
+#[test]
+fn tells_positions(rt: HostRuntime) {
+    let answers = [
+        ("85283473fffffff", 0, "2279\n"),
+        ("85283473fffffff", 5, "0\n"),
+        ("8209b7fffffffff", 0, "40\n"),
+        ("8108bffffffffff", 0, "1\n"),
+        ("820817fffffffff", 0, "1\n"),
+    ];
+    for (word, res, line) in answers {
+        let cell = index_of(word);
+        assert_written(&rt, Command::CellToChildPos { cell, res }, line);
+    }
+    let cell = HEXAGON;
+    let finer = Command::CellToChildPos { cell, res: 6 };
+    assert_refused(&rt, finer, "error 12: E_RES_MISMATCH\n");
+    let outside = Command::CellToChildPos { cell, res: 16 };
+    assert_refused(&rt, outside, "error 4: E_RES_DOMAIN\n");
+}
+
+/// The command for the descendant of a cell at a position.
+fn at_position(position: u64, word: &str, res: i32) -> Command {
+    Command::ChildPosToCell {
+        position,
+        cell: index_of(word),
+        res,
+    }
+}
+
+#[test]
+fn finds_descendants_by_position(rt: HostRuntime) {
+    let hexagon = "8029fffffffffff";
+    let pentagon = "8009fffffffffff";
+    assert_written(&rt, at_position(2279, hexagon, 5), "85283473fffffff\n");
+    assert_written(&rt, at_position(0, pentagon, 2), "820807fffffffff\n");
+    assert_written(&rt, at_position(6, pentagon, 2), "820887fffffffff\n");
+    let refused = [
+        (at_position(41, pentagon, 2), "error 2: E_DOMAIN\n"),
+        (
+            at_position(0, "8108bffffffffff", 0),
+            "error 12: E_RES_MISMATCH\n",
+        ),
+        (at_position(0, pentagon, 16), "error 4: E_RES_DOMAIN\n"),
+        (at_position(0, "xyz", 2), "error 1: E_FAILED\n"),
+        (
+            at_position(0, "81087ffffffffff", 2),
+            "error 5: E_CELL_INVALID\n",
+        ),
+    ];
+    for (command, line) in refused {
+        assert_refused(&rt, command, line);
+    }
+}
+
+/// Asserts what uncompaction of a list writes and how it ends, in pieces of any size.
+fn assert_uncompacted<R: Abort + AllocGlobal>(
+    rt: &R,
+    list: &str,
+    res: i32,
+    answer: (&str, &str, u8),
+) {
+    let (text, line, expected) = answer;
+    for most in [1, 2, 63, 64, 65, 65536] {
+        let mut input = SlowSource::new(list.as_bytes(), most, 1000);
+        let mut table = SlowSource::new(b"", 1, 0);
+        let mut out = Streamed::new(ArrayVec::<u8, 256>::new());
+        let mut err = Streamed::new(ArrayVec::<u8, 64>::new());
+        let command = Command::UncompactCells { res };
+        let alloc = rt.alloc();
+        let status = run(alloc, &command, &mut input, &mut table, &mut out, &mut err);
+        assert_eq!(rt; status, expected, "{list} at {res}, {most}");
+        assert!(rt;
+            out.into_inner().as_slice() == text.as_bytes(),
+            "{list} at {res}, {most}"
+        );
+        assert!(rt;
+            err.into_inner().as_slice() == line.as_bytes(),
+            "{list} at {res}, {most}"
+        );
+    }
+}
+
+#[test]
+fn uncompacts_lists(rt: HostRuntime) {
+    let children = "862834707ffffff\n86283470fffffff\n862834717ffffff\n86283471fffffff\n\
+                    862834727ffffff\n86283472fffffff\n862834737ffffff\n";
+    assert_uncompacted(&rt, "85283473fffffff\n", 6, (children, "", 0));
+    let below_two = "81083ffffffffff\n8108bffffffffff\n8108fffffffffff\n81093ffffffffff\n\
+                     81097ffffffffff\n8109bffffffffff\n81283ffffffffff\n";
+    let two = "8009fffffffffff\n\n 81283ffffffffff";
+    assert_uncompacted(&rt, two, 1, (below_two, "", 0));
+    let twice = "85283473fffffff\n85283473fffffff\n";
+    assert_uncompacted(&rt, twice, 5, (twice, "", 0));
+    assert_uncompacted(&rt, "", 5, ("", "", 0));
+}
+
+#[test]
+fn refuses_lists(rt: HostRuntime) {
+    let finer = "error 12: E_RES_MISMATCH\n";
+    assert_uncompacted(&rt, "85283473fffffff\n", 4, ("", finer, 1));
+    assert_uncompacted(&rt, "", 16, ("", "error 4: E_RES_DOMAIN\n", 1));
+    let faulty = "85283473fffffff\nxyz\n81087ffffffffff\n";
+    assert_uncompacted(&rt, faulty, 6, ("", "error 1: E_FAILED\n", 1));
+    let invalid = "81087ffffffffff\nxyz\n";
+    assert_uncompacted(&rt, invalid, 6, ("", "error 5: E_CELL_INVALID\n", 1));
+}
+
+#[test]
+fn a_read_fault_is_told(rt: HostRuntime) {
+    let mut input = SlowSource::new(b"85283473fffffff\n", 4, 3);
+    let mut table = SlowSource::new(b"", 1, 0);
+    let mut out: SlowSink<64> = SlowSink::new(64, 100);
+    let mut err: SlowSink<64> = SlowSink::new(64, 100);
+    let command = Command::UncompactCells { res: 6 };
+    let alloc = rt.alloc();
+    let status = run(alloc, &command, &mut input, &mut table, &mut out, &mut err);
+    assert_eq!(&rt; status, 4);
+    assert!(&rt; out.bytes().is_empty());
+    assert!(&rt; err.bytes() == b"fault: read\n".as_slice());
+}
+
 /// Whether the cell of many rows is one.
 const IS_CELL: Command = Command::IsValidCell { cell: HEXAGON };
 

@@ -81,6 +81,19 @@ fn reads_options(rt: HostRuntime) -> Result<(), Fail> {
             "h3 cellToChildrenSize -c 85283473fffffff -r=0",
             Command::CellToChildrenSize { cell, res: 0 },
         ),
+        (
+            "h3 cellToChildPos -c 85283473fffffff -r 0",
+            Command::CellToChildPos { cell, res: 0 },
+        ),
+        (
+            "h3 childPosToCell --position 9223372036854775807 -c 85283473fffffff -r 5",
+            Command::ChildPosToCell {
+                position: 9223372036854775807,
+                cell,
+                res: 5,
+            },
+        ),
+        ("h3 uncompactCells -r 6", Command::UncompactCells { res: 6 }),
     ];
     for (line, command) in cases {
         let answer = read(alloc, line)?;
@@ -105,6 +118,9 @@ fn refuses_other_words(rt: HostRuntime) -> Result<(), Fail> {
         "h3 cellToParent -c 85283473fffffff -r five",
         "h3 cellToParent -c 85283473fffffff -r -1",
         "h3 cellToParent -c 85283473fffffff -r 2147483648",
+        "h3 childPosToCell --position 9223372036854775808 -c 85283473fffffff -r 5",
+        "h3 childPosToCell -c 85283473fffffff -r 5",
+        "h3 uncompactCells",
         "h3 isValidCell -c 0 0",
         "h3 --version",
     ];
