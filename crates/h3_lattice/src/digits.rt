@@ -20,7 +20,8 @@ pub struct Digits {
 
 impl Model for Digits {
     ghost use Rattle.std.specs.Prelude.{ℕ, List, length, take};
-    ghost use Rattle.h3_lattice.specs.Digits.{padded, IsPadded};
+    ghost use Rattle.h3_lattice.specs.Digits.{IsPadded};
+    ghost use Rattle.h3_index.specs.Cell.{padded};
 
     ghost Value = { List ℕ };
 
