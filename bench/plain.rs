@@ -1,6 +1,6 @@
 //! The plain Rust programs that the command h3 is measured against: the same work over the same kinds of buffers,
 //! with no proof. `plain valid CELL`, `plain children CELL RES`, `plain uncompact RES` (cells on standard input) and
-//! `plain positions` (ten million positions and back).
+//! `plain positions COUNT` (so many positions and back).
 
 use std::env;
 use std::io::{self, BufWriter, Read, Write};
@@ -200,10 +200,10 @@ fn main() -> io::Result<()> {
                 }
             }
         }
-        ["positions"] => {
+        ["positions", places] => {
             let cell = 0x8009fffffffffff;
             let mut sum = 0u64;
-            for place in 0..10_000_000 {
+            for place in 0..places.parse().expect("a number") {
                 let child = child_at(place * 395_630, cell, 15);
                 sum = sum.wrapping_add(child ^ position(child, 0));
             }
