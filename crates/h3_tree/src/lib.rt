@@ -1,4 +1,4 @@
-//! The hierarchy of H3 cells: parents and children.
+//! The hierarchy of H3 cells: parents, children and positions among them.
 #![tactic(auto)]
 
 mod ancestors;
