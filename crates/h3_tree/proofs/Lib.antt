@@ -1,2 +1,3 @@
+pub mod AncestorLaws
 pub mod FollowingLaws
 pub mod SizeLaws

@@ -1,3 +1,4 @@
 pub mod Children
 pub mod Following
 pub mod Refusals
+pub mod Laws
