@@ -1,1 +1,6 @@
+pub mod ApartLaws
+pub mod RoundLaws
+pub mod SetLaws
+pub mod TopLaws
+pub mod TreeLaws
 pub mod UncompactLaws

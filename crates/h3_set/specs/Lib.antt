@@ -1,3 +1,5 @@
+pub mod Compacted
 pub mod Coverage
+pub mod Rounds
 pub mod Uncompact
 pub mod Uncompaction
