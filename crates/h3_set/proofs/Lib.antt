@@ -1,6 +1,10 @@
 pub mod ApartLaws
 pub mod RoundLaws
+pub mod SearchLaws
+pub mod Seen
+pub mod SeenLaws
 pub mod SetLaws
 pub mod TopLaws
 pub mod TreeLaws
+pub mod TurnLaws
 pub mod UncompactLaws

@@ -56,6 +56,11 @@ at_any [] k x d lt e = absurd (omega (arith, lt))
 at_any (y ∷ cells) zero x d lt e = e
 at_any (y ∷ cells) (suc k) x d lt e = at_any cells k x d (omega (arith, lt)) e
 
+pub any_default : (cells : List Address) (k : ℕ) (d e : Address) → k < length cells → get_or cells k d ≡ get_or cells k e
+any_default [] k d e lt = absurd (omega (arith, lt))
+any_default (y ∷ cells) zero d e lt = refl
+any_default (y ∷ cells) (suc k) d e lt = any_default cells k d e (omega (arith, lt))
+
 -- all members, or one that fails
 all_or : (P : Address → Type 0) (xs : List Address) → ((x : Address) → Contains xs x → Decided (P x)) → ((x : Address) → Contains xs x → P x) ⊎ ((x : Address) × Contains xs x × (¬ P x))
 all_or P [] dec = inl (λ x m. absurd (omega (arith, m.1)))

@@ -3,6 +3,8 @@
 
 mod compact;
 mod iter;
+mod merge;
+mod search;
 mod uncompaction;
 
 pub use compact::compact_cells;
