@@ -1,4 +1,6 @@
 pub mod ApartLaws
+pub mod FrontLaws
+pub mod PartLaws
 pub mod RoundLaws
 pub mod SearchLaws
 pub mod Seen

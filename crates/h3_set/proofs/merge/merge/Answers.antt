@@ -5,9 +5,10 @@ use Rattle.std.proofs.lemmas.List.Elements.{Contains-get_or}
 use Rattle.h3_index.specs.Cell.{Address}
 use Rattle.h3_index.specs.Descendants.{cut}
 use Rattle.h3_set.specs.Compacted.{parent_of, HasChildren}
+use Rattle.h3_set.proofs.FrontLaws.{take_all}
 use Rattle.h3_set.proofs.Seen.{IsRoundSoFar}
 use Rattle.h3_set.proofs.SeenLaws.{round_from, round_to}
-use Rattle.h3_set.proofs.TurnLaws.{turn_other, turn_merge, turn_keep, turn_skip, take_all}
+use Rattle.h3_set.proofs.TurnLaws.{turn_other, turn_merge, turn_keep, turn_skip}
 use Rattle.h3_set.proofs.merge.merge.Goals as goal
 use Rattle.h3_set.proofs.merge.merge.Goals.{then-resolution-level, else-resolution-level+then-not-contains, then-has_children, else-has_children, else-resolution-level+else-not-contains}
 
