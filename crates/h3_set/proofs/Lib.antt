@@ -1,4 +1,5 @@
 pub mod ApartLaws
+pub mod CompactLaws
 pub mod FrontLaws
 pub mod PartLaws
 pub mod RoundLaws
@@ -6,6 +7,7 @@ pub mod SearchLaws
 pub mod Seen
 pub mod SeenLaws
 pub mod SetLaws
+pub mod StreamLaws
 pub mod TopLaws
 pub mod TreeLaws
 pub mod TurnLaws

@@ -4,7 +4,7 @@
 -- descendants at r are in S; the top cells are the full ones whose parent is not full. In ascending order they are the
 -- compacted list: the one ascending list of cells of which no two overlap that covers exactly S and holds no complete
 -- set of siblings.
-use Rattle.std.specs.Prelude.{ℕ, ◌≡◌, ◌+◌, ◌-◌, ◌<◌, ◌≤◌, ◌↔◌, List, All, AllPairs, Contains}
+use Rattle.std.specs.Prelude.{ℕ, ◌≢◌, ◌+◌, ◌-◌, ◌<◌, ◌≤◌, ◌↔◌, List, All, AllPairs, Contains}
 use Rattle.h3_index.specs.Cell.{Address, IsCell, number_of, resolution}
 use Rattle.h3_index.specs.Descendants.{cut, IsDescendant}
 use Rattle.h3_set.specs.Coverage.{IsApart, IsCovered}
@@ -40,3 +40,8 @@ pub record IsCompacted (S : Address → Type 0) (r : ℕ) (cells : List Address)
   pub apart : IsApart cells
   pub covers : (x : Address) → S x ↔ IsCovered cells r x
   pub no_siblings : (p : Address) → ¬ HasChildren (Contains cells) p
+
+-- the list has what is in S, each once, and nothing else
+pub record HoldsOnce (S : Address → Type 0) (cells : List Address) : Type 0 where
+  pub each : (x : Address) → Contains cells x ↔ S x
+  pub once : AllPairs (λ a b. a ≢ b) cells
