@@ -105,7 +105,8 @@ impl Compaction {
         ensures ascending { AllPairs (λ a b. number_of a ≤ number_of b) (take (slots_in_use self) slots.new) }
         ensures others { drop (slots_in_use self) slots.new ≡ drop (slots_in_use self) slots.old }
     {
-        slots[..self.len].sort_unstable();
-        self.len
+        let count = self.len;
+        slots[..count].sort_unstable();
+        count
     }
 }
