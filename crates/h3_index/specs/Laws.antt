@@ -1,12 +1,16 @@
 -- Laws of cells, of their numbers and of their descendants.
 use Rattle.std.specs.Prelude.{ℕ, ◌≡◌, ◌+◌, ◌-◌, ◌*◌, ◌/◌, ◌^◌, ◌<◌, ◌≤◌, ◌↔◌, List, ◌∷◌, length, replicate, Bool, true, false, None, Contains, AllPairs}
 use Rattle.h3_index.specs.Cell.{Address, IsCell, is_pentagon, number_of}
-use Rattle.h3_index.specs.Descendants.{IsDescendant, descendants}
+use Rattle.h3_index.specs.Descendants.{cut, IsDescendant, descendants}
 use Rattle.h3_index.specs.Paths.{paths, next_path, Links}
 
 -- cells of one number are one
 abbrev pub NumbersTellCells : Type 0
 NumbersTellCells = (a b : Address) → IsCell a → IsCell b → number_of a ≡ number_of b → a ≡ b
+
+-- a cell cut at a resolution that is not finer than its own is a cell
+abbrev pub CutsAreCells : Type 0
+CutsAreCells = (c : Address) (r : ℕ) → IsCell c → r ≤ length c.digits → IsCell (cut c r)
 
 -- the list of the descendants holds them and nothing else
 abbrev pub DescendantsAreListed : Type 0

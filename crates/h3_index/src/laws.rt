@@ -1,11 +1,16 @@
 //! Laws of the definitions that contracts here cite. Each function does nothing; what it ensures is a law that holds
 //! always, for the proofs of crates that call it.
 
-ghost use Rattle.h3_index.specs.Laws.{NumbersTellCells, DescendantsAreListed, DescendantsAscend, HexagonsHaveSevens, PentagonsHaveFewer, PathsAreChains};
+ghost use Rattle.h3_index.specs.Laws.{NumbersTellCells, CutsAreCells, DescendantsAreListed, DescendantsAscend, HexagonsHaveSevens, PentagonsHaveFewer, PathsAreChains};
 
 /// Cells of one number are one.
 pub fn numbers_tell_cells()
     ensures { NumbersTellCells }
+{}
+
+/// A cell cut at a resolution that is not finer than its own is a cell.
+pub fn cuts_are_cells()
+    ensures { CutsAreCells }
 {}
 
 /// The list of a cell's descendants holds them and nothing else, ascends, and is as long as said: of length 7^n below

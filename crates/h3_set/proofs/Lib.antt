@@ -1,1 +1,14 @@
+pub mod ApartLaws
+pub mod CompactLaws
+pub mod FrontLaws
+pub mod PartLaws
+pub mod RoundLaws
+pub mod SearchLaws
+pub mod Seen
+pub mod SeenLaws
+pub mod SetLaws
+pub mod StreamLaws
+pub mod TopLaws
+pub mod TreeLaws
+pub mod TurnLaws
 pub mod UncompactLaws

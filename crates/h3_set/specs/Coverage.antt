@@ -1,7 +1,7 @@
 -- The cells that a list of cells covers: at a resolution that is not coarser than any of them, their descendants.
-use Rattle.std.specs.Prelude.{ℕ, ◌↔◌, List, Contains}
-use Rattle.h3_index.specs.Cell.{Address}
-use Rattle.h3_index.specs.Descendants.{IsDescendant}
+use Rattle.std.specs.Prelude.{ℕ, ◌≤◌, ◌⊎◌, List, [], ◌∷◌, All, AllPairs, Contains, max}
+use Rattle.h3_index.specs.Cell.{Address, IsCell, resolution}
+use Rattle.h3_index.specs.Descendants.{IsAncestor, IsDescendant}
 
 -- x, of resolution r, is covered by a cell of the list
 pub record IsCovered (cells : List Address) (r : ℕ) (x : Address) : Type 0 where
@@ -9,6 +9,21 @@ pub record IsCovered (cells : List Address) (r : ℕ) (x : Address) : Type 0 whe
   pub member : Contains cells by
   pub below : IsDescendant by r x
 
--- two lists cover the same cells of resolution r
-abbrev pub CoverSame : ℕ → List Address → List Address → Type 0
-CoverSame r cells others = (x : Address) → IsCovered cells r x ↔ IsCovered others r x
+-- one cell is the other, or stands above it
+abbrev pub Overlap : Address → Address → Type 0
+Overlap a b = IsAncestor a b ⊎ IsAncestor b a
+
+-- no cells at two places overlap, so each stands once
+abbrev pub IsApart : List Address → Type 0
+IsApart cells = AllPairs (λ a b. ¬ Overlap a b) cells
+
+-- the finest resolution of the cells of a list, 0 where there are none
+abbrev pub finest : List Address → ℕ
+finest [] = 0
+finest (c ∷ cells) = max (resolution c) (finest cells)
+
+-- a list that can be compacted: cells of resolution at most r, of which no two overlap
+pub record IsCompactable (r : ℕ) (cells : List Address) : Type 0 where
+  pub cells_valid : All IsCell cells
+  pub coarse : All (λ c. resolution c ≤ r) cells
+  pub apart : IsApart cells

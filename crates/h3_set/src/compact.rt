@@ -1,18 +1,44 @@
 //! Compaction: the fewest cells that cover those of a list.
 
-ghost use Rattle.std.specs.Prelude.{◌≤◌, length, take, IsOkAnd};
-ghost use Rattle.h3_set.specs.Coverage.{CoverSame};
+ghost use Rattle.std.specs.Prelude.{◌≡◌, ◌≤◌, ◌↔◌, length, take, drop, Contains, IfOk, IsPermutation, List};
+ghost use Rattle.std.specs.Result.{result_err};
+ghost use Rattle.h3_index.specs.Cell.{Address};
+ghost use Rattle.h3_set.specs.Compacted.{HoldsOnce, IsCompacted};
+ghost use Rattle.h3_set.specs.Coverage.{finest, IsCovered};
+ghost use Rattle.h3_set.specs.Refusals.{compaction_refusal};
+ghost use Rattle.h3_set.specs.Uncompaction.{uncompacted};
 
+use crate::rounds::Compaction;
+use h3_index::laws::numbers_tell_cells;
 use h3_index::{Cell, H3Error};
+use h3_tree::laws::cells_form_trees;
 
-/// Copies the cells to the first slots, and answers how many they are.
+/// Puts into the first slots the one ascending list of cells, of which no two overlap, that covers exactly the cells
+/// given and holds no complete set of siblings, as H3's `compactCells` does; answers how many they are. There must be
+/// as many slots as cells; what stands in a slot after the list and before that number of cells is not said.
 ///
-/// It stands in for H3's `compactCells`: all that is promised is that the slots cover the same cells as the input.
+/// `ResMismatch` where the cells have two resolutions: no slot is written. Else `DuplicateInput` where a cell is listed
+/// twice: the first slots hold the cells, in some order.
 pub fn compact_cells(cells: &[Cell], slots: &mut [Cell]) -> Result<usize, H3Error>
     requires { length cells.now ≤ length slots.old }
-    ensures { IsOkAnd result (λ count. (count ≤ length slots.new) × CoverSame 15 (take count slots.new) cells.now) }
+    ensures refused { result_err result ≡ compaction_refusal cells.now }
+    ensures mismatch { result ≡ Err H3Error.ResMismatch → slots.new ≡ slots.old }
+    ensures repeated { result ≡ Err H3Error.DuplicateInput → IsPermutation cells.now (take (length cells.now) slots.new) }
+    ensures others { drop (length cells.now) slots.new ≡ drop (length cells.now) slots.old }
+    ensures fewer { IfOk result (λ m. m ≤ length cells.now) }
+    ensures compacted { IfOk result (λ m. IsCompacted (IsCovered cells.now (finest cells.now)) (finest cells.now) (take m slots.new)) }
+
+    // There is no other such list; cells of one resolution cover themselves; below the list each of them stands once.
+    ensures only { IfOk result (λ m. (others : List Address)
+        → IsCompacted (IsCovered cells.now (finest cells.now)) (finest cells.now) others → others ≡ take m slots.new) }
+    ensures covered { IfOk result (λ _. (x : Address) → IsCovered cells.now (finest cells.now) x ↔ Contains cells.now x) }
+    ensures stream { IfOk result (λ m. HoldsOnce (IsCovered cells.now (finest cells.now)) (uncompacted (take m slots.new) (finest cells.now))) }
 {
-    let count = cells.len();
-    slots[..count].copy_from_slice(cells);
-    Ok(count)
+    cells_form_trees();
+    numbers_tell_cells();
+    let mut compaction = Compaction::start(cells, slots)?;
+    while compaction.level() > 0 {
+        compaction = compaction.round(slots);
+    }
+    Ok(compaction.finish(slots))
 }

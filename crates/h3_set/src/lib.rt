@@ -3,10 +3,14 @@
 
 mod compact;
 mod iter;
+mod merge;
+mod rounds;
+mod search;
 mod uncompaction;
 
 pub use compact::compact_cells;
 pub use iter::Uncompact;
+pub use rounds::Compaction;
 pub use uncompaction::uncompact;
 
 #[cfg(test)]

@@ -1,5 +1,7 @@
-use crate::{compact_cells, uncompact};
+use crate::{Compaction, compact_cells, uncompact};
 use h3_index::{Cell, H3Error};
+use h3_tree::children;
+use std::alloc::Global;
 use std::process::Abort;
 use std::test::Fail;
 
@@ -22,22 +24,56 @@ fn assert_uncompacted(
     Ok(())
 }
 
+/// The descendants of a cell at a resolution.
+fn descendants(alloc: Global, cell: u64, res: i32) -> Result<Vec<Cell>, Fail> {
+    let mut cells = Vec::new(alloc);
+    for cell in children(Cell::new(cell)?, res)? {
+        cells.push(cell)?;
+    }
+    Ok(cells)
+}
+
+/// Asserts that the compacted list of the cells is the list expected, and that the slots after those lent stay.
+fn assert_compacted(rt: &impl Abort, cells: &[Cell], expected: &[u64]) -> Result<(), Fail> {
+    let other = Cell::new(0x80f3fffffffffff)?;
+    let mut slots = [other; 64];
+    assert!(rt; cells.len() <= 64);
+    let count = compact_cells(cells, &mut slots)?;
+    assert_eq!(rt; count, expected.len());
+    for i in 0..count {
+        assert_eq!(rt; slots[i].raw(), expected[i]);
+    }
+    for i in cells.len()..64 {
+        assert_eq!(rt; slots[i].raw(), other.raw());
+    }
+    Ok(())
+}
+
+/// Asserts that a compaction of cells of resolution 2 in its two rounds leaves in all slots what `compact_cells` does.
+fn assert_same_in_rounds(rt: &impl Abort, cells: &[Cell]) -> Result<(), Fail> {
+    let other = Cell::new(0x80f3fffffffffff)?;
+    let mut slots = [other; 64];
+    let mut others = [other; 64];
+    assert!(rt; cells.len() <= 64);
+    let count = compact_cells(cells, &mut slots)?;
+    let first = Compaction::start(cells, &mut others)?;
+    assert_eq!(rt; first.level(), 2);
+    assert_eq!(rt; first.len(), cells.len());
+    let second = first.round(&mut others);
+    assert_eq!(rt; second.level(), 1);
+    let last = second.round(&mut others);
+    assert_eq!(rt; last.level(), 0);
+    assert_eq!(rt; last.finish(&mut others), count);
+    assert_eq!(rt; slots, others);
+    Ok(())
+}
+
 /// The error by which the cells of a resolution below a list of cells are refused.
 fn refusal(cells: &[Cell], res: i32) -> Option<H3Error> {
     match uncompact(cells, res) {
         Ok(_) => None,
         Err(e) => Some(e),
     }
-}
-
-#[test]
-fn the_first_slots_cover_the_cells(rt: HostRuntime) -> Result<(), Fail> {
-    let first = Cell::new(0x8029fffffffffff)?;
-    let second = Cell::new(0x85283473fffffff)?;
-    let mut slots = [first, first, first];
-    assert_eq!(rt; compact_cells(&[second, first], &mut slots), Ok(2));
-    assert_eq!(rt; slots, [second, first, first]);
-    Ok(())
 }
 
 #[test]
@@ -84,4 +120,79 @@ fn no_cells_are_uncompacted(rt: HostRuntime) -> Result<(), Fail> {
 fn repeats_are_uncompacted(rt: HostRuntime) -> Result<(), Fail> {
     let cell = Cell::new(0x85283473fffffff)?;
     assert_uncompacted(&rt, &[cell, cell], 5, &[cell.raw(), cell.raw()])
+}
+
+#[test]
+fn seven_siblings_are_compacted(rt: HostRuntime) -> Result<(), Fail> {
+    let mut cells = descendants(rt.alloc(), 0x85283473fffffff, 6)?;
+    cells.reverse();
+    assert_compacted(&rt, &cells, &[0x85283473fffffff])
+}
+
+#[test]
+fn the_six_siblings_of_a_pentagon_are_compacted(rt: HostRuntime) -> Result<(), Fail> {
+    let mut cells = descendants(rt.alloc(), 0x8009fffffffffff, 1)?;
+    assert_compacted(&rt, &cells, &[0x8009fffffffffff])?;
+    let _ = cells.pop();
+    let expected = [
+        0x81083ffffffffff,
+        0x8108bffffffffff,
+        0x8108fffffffffff,
+        0x81093ffffffffff,
+        0x81097ffffffffff,
+    ];
+    assert_compacted(&rt, &cells, &expected)
+}
+
+#[test]
+fn two_levels_are_compacted(rt: HostRuntime) -> Result<(), Fail> {
+    let mut cells = descendants(rt.alloc(), 0x8029fffffffffff, 2)?;
+    assert_eq!(rt; cells.len(), 49);
+    assert_compacted(&rt, &cells, &[0x8029fffffffffff])?;
+    assert_same_in_rounds(&rt, &cells)?;
+    assert_eq!(rt; cells.pop(), Some(Cell::new(0x8229b7fffffffff)?));
+    let expected = [
+        0x81283ffffffffff,
+        0x81287ffffffffff,
+        0x8128bffffffffff,
+        0x8128fffffffffff,
+        0x81293ffffffffff,
+        0x81297ffffffffff,
+        0x822987fffffffff,
+        0x82298ffffffffff,
+        0x822997fffffffff,
+        0x82299ffffffffff,
+        0x8229a7fffffffff,
+        0x8229affffffffff,
+    ];
+    assert_compacted(&rt, &cells, &expected)?;
+    assert_same_in_rounds(&rt, &cells)
+}
+
+#[test]
+fn no_cells_are_compacted(rt: HostRuntime) -> Result<(), Fail> {
+    assert_compacted(&rt, &[], &[])?;
+    let first = Compaction::start(&[], &mut [])?;
+    assert_eq!(rt; first.level(), 0);
+    assert_eq!(rt; first.len(), 0);
+    Ok(())
+}
+
+#[test]
+fn compactions_are_refused(rt: HostRuntime) -> Result<(), Fail> {
+    let other = Cell::new(0x80f3fffffffffff)?;
+    let fine = Cell::new(0x85283473fffffff)?;
+    let coarse = Cell::new(0x8428347ffffffff)?;
+    let mut slots = [other; 4];
+    assert_eq!(rt;
+        compact_cells(&[fine, coarse, fine], &mut slots),
+        Err(H3Error::ResMismatch)
+    );
+    assert_eq!(rt; slots, [other; 4]);
+    assert_eq!(rt;
+        compact_cells(&[fine, fine], &mut slots),
+        Err(H3Error::DuplicateInput)
+    );
+    assert_eq!(rt; slots, [fine, fine, other, other]);
+    Ok(())
 }

@@ -1,4 +1,5 @@
 pub mod BlockLaws
+pub mod AncestorLaws
 pub mod FollowingLaws
 pub mod PositionLaws
 pub mod SizeLaws

@@ -2,3 +2,4 @@ pub mod Children
 pub mod Following
 pub mod Positions
 pub mod Refusals
+pub mod Laws

@@ -4,6 +4,7 @@
 mod ancestors;
 mod descendants;
 mod iter;
+pub mod laws;
 mod positions;
 mod resolutions;
 

@@ -1,0 +1,175 @@
+-- From the first part of a list to its compacted list.
+use Rattle.std.proofs.Common.{ℕ, zero, suc, ◌≡◌, ◌≢◌, ◌+◌, ◌-◌, ◌<◌, ◌≤◌, ◌↔◌, ◌⊎◌, ◌==◌, List, [], ◌∷◌, length, take, drop, All, AllPairs, Contains, Bool, true, false, not, None, IsPermutation, refl, arith, ◌∙◌, sym, ap, subst, inl, inr, get_or}
+use Rattle.std.proofs.lemmas.Bool.Decides.{nat_tests}
+use Rattle.std.proofs.lemmas.List.{drop-drop}
+use Rattle.std.proofs.lemmas.List.Elements.{All-contains, Contains-get_or}
+use Rattle.std.proofs.lemmas.List.Folds.{list_any_at}
+use Rattle.std.proofs.lemmas.List.Sorted.{Contains-permutation, IsPermutation-sym}
+use Rattle.std.proofs.lemmas.Map.Keys.{IsDistinct-IsPermutation}
+use Rattle.std.specs.List.{AllByRecursion, IsDistinct, list_any}
+use Rattle.h3_index.specs.Cell.{Address, IsCell, number_of, resolution}
+use Rattle.h3_index.specs.Descendants.{cut, IsAncestor, IsDescendant}
+use Rattle.h3_index.specs.Laws.{NumbersTellCells}
+use Rattle.h3_tree.specs.Laws.{CellsFormTrees}
+use Rattle.h3_set.specs.Compacted.{IsCompacted, IsTop}
+use Rattle.h3_set.specs.Compaction.{level_of, slots_in_use}
+use Rattle.h3_set.specs.Coverage.{finest, IsApart, IsCompactable, IsCovered}
+use Rattle.h3_set.specs.Refusals.{compaction_refusal, has_two_resolutions}
+use Rattle.h3_set.specs.Rounds.{InPart}
+use Rattle.h3_set.specs.declared.rounds.Compaction.{Compaction}
+use Rattle.h3_set.proofs.SearchLaws.{finest-one}
+use Rattle.h3_set.proofs.TopLaws.{compacted_from_tops}
+use Rattle.h3_set.proofs.PartLaws.{reached}
+use Rattle.h3_set.proofs.TreeLaws.{contains_cases, contains_head, contains_tail, dec_address, dec_number, Decided}
+
+-- ---- the loop over the rounds
+
+-- the rounds above the level are done, in the first slots; the others, from as many as there are cells on, are as before
+pub record IsUnderWay (cells before slots : List Address) (c : Compaction) : Type 0 where
+  pub room : length cells ≤ length slots
+  pub in_use : slots_in_use c ≤ length cells
+  pub small : finest cells ≤ 15
+  pub level : level_of c ≤ finest cells
+  pub compactable : IsCompactable (finest cells) cells
+  pub apart : IsApart (take (slots_in_use c) slots)
+  pub part : (x : Address) → Contains (take (slots_in_use c) slots) x ↔ InPart cells (finest cells) (level_of c) x
+  pub others : drop (length cells) slots ≡ drop (length cells) before
+
+pub drop_later : (m n : ℕ) (xs ys : List Address) → m ≤ n → drop m xs ≡ drop m ys → drop n xs ≡ drop n ys
+drop_later m n xs ys le e =
+    let more : m + (n - m) ≡ n = omega (arith, le) in
+    rw (← more) (sym (drop-drop (n - m) m xs) ∙ ap (drop (n - m)) e ∙ drop-drop (n - m) m ys)
+
+-- ---- the order of the slots at the end
+
+same_number : (m n : ℕ) → m ≡ n → (m == n) ≡ true
+same_number m n e = grind (arith, nat_tests)
+
+other_number : (m n : ℕ) → m ≢ n → (m == n) ≡ false
+other_number m n e = grind (arith, nat_tests)
+
+flips : (a b : ℕ) → (a == b) ≡ (b == a)
+flips a b = grind (arith, nat_tests)
+
+abbrev same_cell : Address → Address → Bool
+same_cell a b = number_of a == number_of b
+
+each : (P : Address → Type 0) (xs : List Address) → ((x : Address) → Contains xs x → P x) → AllByRecursion P xs
+each P [] h = tt
+each P (x ∷ xs) h = (h x (contains_head x xs), each P xs (λ y m. h y (contains_tail x y xs m)))
+
+of_each : (P : Address → Type 0) (xs : List Address) (x : Address) → AllByRecursion P xs → Contains xs x → P x
+of_each P [] x h m = absurd (omega (arith, m.1))
+of_each P (y ∷ xs) x h m = elim (contains_cases y x xs m) [ inl e ↦ subst P e h.0 | inr n ↦ of_each P xs x h.1 n ]
+
+distinct : (xs : List Address) → AllPairs (λ a b. number_of a ≢ number_of b) xs → IsDistinct same_cell xs
+unfolding IsDistinct
+distinct [] h = tt
+distinct (x ∷ xs) h = (
+  each (λ y. same_cell x y ≡ false) xs (λ y m. other_number _ _ (rw m.2 at (h 0 (suc m.0) y (omega arith) (omega (arith, m.1))))),
+  distinct xs (λ i j d lt lj. h (suc i) (suc j) d (omega (arith, lt)) (omega (arith, lj))),
+)
+
+rises : (xs : List Address) → IsDistinct same_cell xs → AllPairs (λ a b. number_of a ≤ number_of b) xs → AllPairs (λ a b. number_of a < number_of b) xs
+unfolding IsDistinct
+rises [] p h i j d lt lj = absurd (omega (arith, lj))
+rises (x ∷ xs) p h i zero d lt lj = absurd (omega (arith, lt))
+rises (x ∷ xs) p h zero (suc j) d lt lj =
+    let b = get_or xs j d in
+    let other = of_each (λ y. same_cell x y ≡ false) xs b p.0 (Contains-get_or xs j d (omega (arith, lj))) in
+    let le = h 0 (suc j) d lt lj in
+    let differ : number_of x ≢ number_of b = λ e. (let same = same_number _ _ e in cc) in
+    omega (arith, le, differ)
+rises (x ∷ xs) p h (suc i) (suc j) d lt lj =
+    rises xs p.1 (λ k l e lt' ll. h (suc k) (suc l) e (omega (arith, lt')) (omega (arith, ll))) i j d (omega (arith, lt)) (omega (arith, lj))
+
+-- ---- what is covered can be decided
+
+dec_above : (cells : List Address) (x : Address) → Decided ((a : Address) × Contains cells a × IsAncestor a x)
+dec_above [] x = inr (λ w. absurd (omega (arith, w.1.1)))
+dec_above (c ∷ cells) x =
+    elim (dec_address (cut x (length c.digits)) c) [
+      | inl e ↦ inl (c, contains_head c cells, e)
+      | inr e ↦ elim (dec_above cells x) [
+        | inl w ↦ inl (w.0, contains_tail c w.0 cells w.1, w.2)
+        | inr none ↦ inr (λ w. elim (contains_cases c w.0 cells w.1) [ inl f ↦ e (rw (← f) at w.2) | inr m ↦ none (w.0, m, w.2) ])
+      ]
+    ]
+
+dec_covered : (cells : List Address) (r : ℕ) (x : Address) → IsCell x → Decided (IsCovered cells r x)
+dec_covered cells r x v =
+    elim (dec_number (length x.digits) r) [
+      | inr e ↦ inr (λ c. e c.below.resolution_is)
+      | inl e ↦ elim (dec_above cells x) [
+        | inl w ↦ inl (record { by = w.0; member = w.1; below = record { valid = v; resolution_is = e; under = w.2 } })
+        | inr none ↦ inr (λ c. none (c.by, c.member, c.below.under))
+      ]
+    ]
+
+-- ---- cells of one resolution
+
+one_level : (cells : List Address) (r : ℕ) → list_any (λ d. not (resolution d == r)) cells ≡ false → All (λ c. resolution c ≡ r) cells
+one_level cells r h k d lt =
+    elim (dec_number (resolution (get_or cells k d)) r) [
+      | inl e ↦ e
+      | inr e ↦ let found = list_any_at (λ a. not (resolution a == r)) cells k d lt (ap not (other_number _ _ e)) in cc
+    ]
+
+-- cells that have not two resolutions have all the finest
+pub all_finest : (cells : List Address) → has_two_resolutions cells ≡ false → All (λ c. resolution c ≡ finest cells) cells
+all_finest [] h k d lt = absurd (omega (arith, lt))
+all_finest (c ∷ cells) h k d lt =
+    let others = one_level cells (resolution c) h in
+    let all : All (λ a. resolution a ≡ resolution c) (c ∷ cells) = all_cons c cells others in
+    let is = finest-one (c ∷ cells) (resolution c) all (omega arith) in
+    all k d lt ∙ sym is
+  where
+    all_cons : (c : Address) (cells : List Address) → All (λ a. resolution a ≡ resolution c) cells → All (λ a. resolution a ≡ resolution c) (c ∷ cells)
+    all_cons c cells h zero d lt = refl
+    all_cons c cells h (suc k) d lt = h k d (omega (arith, lt))
+
+two_refused : (cells : List Address) (b : Bool) → has_two_resolutions cells ≡ b → compaction_refusal cells ≡ None → b ≡ false
+two_refused cells false e h = refl
+two_refused cells true e h = let some = rw e at h in cc
+
+pub not_two : (cells : List Address) → compaction_refusal cells ≡ None → has_two_resolutions cells ≡ false
+not_two cells h = two_refused cells _ refl h
+
+module _ (tree : CellsFormTrees) where
+  -- cells of one resolution cover themselves
+  pub cover_themselves : (cells : List Address) (r : ℕ) → All IsCell cells → All (λ c. resolution c ≡ r) cells → (x : Address) → IsCovered cells r x ↔ Contains cells x
+  cover_themselves cells r valid level x = (
+    (λ c.
+        let at : length c.by.digits ≡ r = All-contains (λ a. resolution a ≡ r) cells c.by level c.member in
+        subst (Contains cells) (sym (tree.same c.by x c.below.under (omega (arith, at, c.below.resolution_is)))) c.member),
+    (λ m. record {
+      by = x;
+      member = m;
+      below = record { valid = All-contains IsCell cells x valid m; resolution_is = All-contains (λ a. resolution a ≡ r) cells x level m; under = tree.own x };
+    }),
+  )
+
+  module _ (tell : NumbersTellCells) (cells : List Address) (r : ℕ) (fine : r ≤ 15) (slots sorted : List Address) (same : IsPermutation slots sorted) (apart : IsApart slots) (part : (x : Address) → Contains slots x ↔ InPart cells r 0 x) (ascends : AllPairs (λ a b. number_of a ≤ number_of b) sorted) where
+    tops : (c : Address) → Contains slots c → IsTop (IsCovered cells r) r c
+    tops c m = (reached tree cells r c).0 ((part c).0 m)
+
+    differ : AllPairs (λ a b. number_of a ≢ number_of b) slots
+    differ i j d lt lj e =
+        let a = get_or slots i d in
+        let b = get_or slots j d in
+        let v = (tops a (Contains-get_or slots i d (omega (arith, lt, lj)))).full.valid in
+        let w = (tops b (Contains-get_or slots j d lj)).full.valid in
+        let one : a ≡ b = tell a b v w e in
+        apart i j d lt lj (inl (subst (λ z. IsAncestor a z) one (tree.own a)))
+
+    ascending : AllPairs (λ a b. number_of a < number_of b) sorted
+    ascending =
+        rises sorted (IsDistinct-IsPermutation same_cell (λ a b. flips (number_of a) (number_of b)) slots sorted same (distinct slots differ)) ascends
+
+    -- the sorted slots are the compacted list
+    pub compacts : IsCompacted (IsCovered cells r) r sorted
+    compacts =
+        compacted_from_tops tree (IsCovered cells r) r (omega (arith, fine)) (dec_covered cells r) sorted ascending
+        (λ x s. (s.below.valid, s.below.resolution_is))
+        (λ c m. tops c (Contains-permutation sorted slots c (IsPermutation-sym slots sorted same) m))
+        (λ c t. Contains-permutation slots sorted c same ((part c).1 ((reached tree cells r c).1 t)))

@@ -1,0 +1,59 @@
+-- What linear searches find.
+use Rattle.std.proofs.Common.{ℕ, zero, suc, ◌≡◌, ◌≢◌, ◌+◌, ◌<◌, ◌≤◌, ◌==◌, List, [], ◌∷◌, length, All, Contains, Bool, true, false, not, ◌||◌, refl, arith, sym, ap, get_or, ◌∙◌, max}
+use Rattle.std.proofs.lemmas.Bool.Decides.{nat_tests}
+use Rattle.std.proofs.lemmas.List.Folds.{list_any_at, list_any_none}
+use Rattle.std.specs.List.{list_any, AllWithin}
+use Rattle.h3_index.specs.Cell.{Address, number_of, resolution}
+use Rattle.h3_set.specs.Coverage.{finest}
+use Rattle.h3_set.specs.Refusals.{has_repeat, has_two_resolutions, is_listed}
+
+same_number : (m n : ℕ) → m ≡ n → (m == n) ≡ true
+same_number m n e = grind (arith, nat_tests)
+
+other_number : (m n : ℕ) → m ≢ n → (m == n) ≡ false
+other_number m n e = grind (arith, nat_tests)
+
+pub listed_at : (cells : List Address) (c : Address) (i : ℕ) (d : Address) → i < length cells → number_of (get_or cells i d) ≡ number_of c → true ≡ is_listed c cells
+listed_at cells c i d lt e = sym (list_any_at (λ a. number_of a == number_of c) cells i d lt (same_number _ _ e))
+
+pub not_listed : (cells : List Address) (c : Address) → AllWithin (λ a. number_of a ≢ number_of c) cells 0 (length cells) → false ≡ is_listed c cells
+not_listed cells c h =
+    sym (list_any_none (λ a. number_of a == number_of c) cells (λ k d lt. other_number _ _ (h k d (omega arith) lt)))
+
+pub not_member : (cells : List Address) (c : Address) → AllWithin (λ a. number_of a ≢ number_of c) cells 0 (length cells) → ¬ Contains cells c
+not_member cells c h m = h m.0 c (omega arith) m.1 (ap number_of m.2)
+
+pub two_resolutions_at : (cells : List Address) (i r : ℕ) (c d : Address) → i < length cells → 0 < length cells → resolution (get_or cells 0 c) ≡ r → resolution (get_or cells i d) ≢ r → has_two_resolutions cells ≡ true
+two_resolutions_at [] i r c d lt pos e n = absurd (omega (arith, lt))
+two_resolutions_at (x ∷ cells) zero r c d lt pos e n = absurd (n e)
+two_resolutions_at (x ∷ cells) (suc i) r c d lt pos e n =
+    list_any_at (λ a. not (resolution a == resolution x)) cells i d (omega (arith, lt)) (ap not (other_number _ _ (λ f. n (f ∙ e))))
+
+pub repeat_here : (rest others : List Address) (c : Address) → rest ≡ c ∷ others → is_listed c others ≡ true → has_repeat rest ≡ true
+repeat_here rest others c e h = rw (e, h) refl
+
+pub repeat_later : (rest others : List Address) (c : Address) → rest ≡ c ∷ others → is_listed c others ≡ false → has_repeat others ≡ has_repeat rest
+repeat_later rest others c e h = rw (e, h) refl
+
+pub no_repeat : (rest : List Address) → length rest ≡ 0 → has_repeat rest ≡ false
+no_repeat [] e = refl
+no_repeat (c ∷ rest) e = absurd (omega (arith, e))
+
+-- all cells have one resolution
+
+pub one_resolution : (cells : List Address) (r : ℕ) → All (λ c. resolution c ≡ r) cells → has_two_resolutions cells ≡ false
+one_resolution [] r h = refl
+one_resolution (x ∷ cells) r h =
+    let first : resolution x ≡ r = h 0 x (omega arith) in
+    list_any_none (λ a. not (resolution a == resolution x)) cells (λ k d lt. ap not (same_number _ _ (h (suc k) d (omega (arith, lt)) ∙ sym first)))
+
+pub finest-one : (cells : List Address) (r : ℕ) → All (λ c. resolution c ≡ r) cells → 0 < length cells → finest cells ≡ r
+finest-one [] r h pos = absurd (omega (arith, pos))
+finest-one (x ∷ []) r h pos = let first : resolution x ≡ r = h 0 x (omega arith) in omega (arith, first)
+finest-one (x ∷ y ∷ cells) r h pos =
+    let first : resolution x ≡ r = h 0 x (omega arith) in
+    let others : finest (y ∷ cells) ≡ r = finest-one (y ∷ cells) r (λ k d lt. h (suc k) d (omega (arith, lt))) (omega arith) in
+    rw (others, first) (omega arith)
+
+pub same_within : (cells : List Address) (r i : ℕ) → length cells ≤ i → AllWithin (λ c. resolution c ≡ r) cells 0 i → All (λ c. resolution c ≡ r) cells
+same_within cells r i le h k d lt = h k d (omega arith) (omega (arith, lt, le))

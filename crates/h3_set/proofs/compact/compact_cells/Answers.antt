@@ -1,0 +1,51 @@
+use Rattle.std.proofs.Common.{◌≡◌, ◌≤◌, ◌<◌, ◌+◌, ◌↔◌, List, length, take, drop, Contains, Bool, true, false, None, Some, arith, sym, ap, subst, ◌∙◌}
+use Rattle.h3_index.specs.Cell.{Address, resolution}
+use Rattle.h3_set.specs.Compacted.{IsCompacted}
+use Rattle.h3_set.specs.Compaction.{level_of, slots_in_use}
+use Rattle.h3_set.specs.Coverage.{finest, IsCovered}
+use Rattle.h3_set.specs.Refusals.{compaction_refusal, has_two_resolutions}
+use Rattle.h3_set.specs.Rounds.{InPart}
+use Rattle.h3_set.proofs.CompactLaws.{all_finest, compacts, cover_themselves, drop_later, not_two}
+use Rattle.h3_set.proofs.SetLaws.{one_compacted}
+use Rattle.h3_set.proofs.StreamLaws.{streams_once}
+use Rattle.h3_set.proofs.compact.compact_cells.Goals as goal
+
+pub loop-slots-preserved : goal.loop-slots-preserved
+loop-slots-preserved c =
+    let i = c.loop-slots.invariant in
+    let after = c.round-compaction.ensures in
+    record {
+      room = omega (arith, i.room, c.round-compaction.auto.slots);
+      in_use = omega (arith, i.in_use, after.fewer);
+      small = i.small;
+      level = omega (arith, i.level, after.level);
+      compactable = i.compactable;
+      apart = after.apart;
+      part = after.part c.args.cells.now (finest c.args.cells.now) i.compactable i.small i.level i.part;
+      others = drop_later _ _ _ _ i.in_use after.others ∙ i.others;
+    }
+
+pub returns-clause-others : goal.returns-clause-others
+returns-clause-others c =
+    let i = c.loop-slots.invariant in
+    drop_later _ _ _ _ i.in_use c.finish.ensures.others ∙ i.others
+
+pub returns-clause-compacted : goal.returns-clause-compacted
+returns-clause-compacted c =
+    let i = c.loop-slots.invariant in
+    let bottom : level_of c.loop-slots.compaction ≡ 0 = omega arith in
+    let part : (x : Address) → Contains (take (slots_in_use c.loop-slots.compaction) c.loop-slots.slots) x ↔ InPart c.args.cells.now (finest c.args.cells.now) 0 x = rw bottom at i.part in
+    rw c.finish.ensures.count (compacts c.cells_form_trees.ensures c.numbers_tell_cells.ensures c.args.cells.now (finest c.args.cells.now) i.small (take (slots_in_use c.loop-slots.compaction) c.loop-slots.slots) (take (slots_in_use c.loop-slots.compaction) c.finish.new.slots) c.finish.ensures.same i.apart part c.finish.ensures.ascending)
+
+pub returns-clause-only : goal.returns-clause-only
+returns-clause-only c = λ others h.
+    one_compacted c.cells_form_trees.ensures (IsCovered c.args.cells.now (finest c.args.cells.now)) (finest c.args.cells.now) others _ (omega (arith, c.loop-slots.invariant.small)) h (returns-clause-compacted c)
+
+pub returns-clause-covered : goal.returns-clause-covered
+returns-clause-covered c =
+    let two : has_two_resolutions c.args.cells.now ≡ false = not_two c.args.cells.now (sym c.in_ok-compaction.ensures.refused) in
+    cover_themselves c.cells_form_trees.ensures c.args.cells.now (finest c.args.cells.now) c.loop-slots.invariant.compactable.cells_valid (all_finest c.args.cells.now two)
+
+pub returns-clause-stream : goal.returns-clause-stream
+returns-clause-stream c =
+    streams_once c.cells_form_trees.ensures (finest c.args.cells.now) c.loop-slots.invariant.small (IsCovered c.args.cells.now (finest c.args.cells.now)) _ (returns-clause-compacted c)

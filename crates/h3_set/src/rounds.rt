@@ -1,0 +1,112 @@
+//! Compaction in rounds, in slots that are lent at each call.
+
+ghost use Rattle.std.specs.Prelude.{◌≡◌, ◌≢◌, ◌+◌, ◌<◌, ◌≤◌, ◌↔◌, length, take, drop, AllPairs, Contains, IfOk, List, ℕ, IsPermutation};
+ghost use Rattle.std.specs.Result.{result_err};
+ghost use Rattle.h3_index.specs.Cell.{Address, number_of};
+ghost use Rattle.h3_set.specs.Compaction.{level_of, slots_in_use};
+ghost use Rattle.h3_set.specs.Coverage.{finest, IsApart, IsCompactable};
+ghost use Rattle.h3_set.specs.Laws.{RoundsReachTheTop};
+ghost use Rattle.h3_set.specs.Refusals.{compaction_refusal};
+ghost use Rattle.h3_set.specs.Rounds.{InPart, InRound};
+
+use crate::merge::merge;
+use crate::search::{common_resolution, has_repeat};
+use h3_index::{Cell, H3Error};
+use h3_tree::laws::cells_form_trees;
+
+/// H3's `compactCells` in rounds, each of which takes the complete sets of siblings of one resolution together, from
+/// the finest resolution up. It holds how many of the slots are in use, which are the first ones, and the resolution
+/// of the next round; the slots are handed in at each call.
+#[derive(Clone, Copy, Debug)]
+pub struct Compaction {
+    len: usize,
+    level: u8,
+}
+
+impl Compaction {
+    /// Puts the cells into the first slots. There must be as many slots as cells.
+    ///
+    /// `ResMismatch` where the cells have two resolutions: no slot is written. Else `DuplicateInput` where a cell is
+    /// listed twice: the first slots hold the cells, in some order.
+    pub fn start(cells: &[Cell], slots: &mut [Cell]) -> Result<Compaction, H3Error>
+        requires { length cells.now ≤ length slots.old }
+        ensures refused { result_err result ≡ compaction_refusal cells.now }
+        ensures mismatch { result ≡ Err H3Error.ResMismatch → slots.new ≡ slots.old }
+        ensures input { result ≢ Err H3Error.ResMismatch → IsPermutation cells.now (take (length cells.now) slots.new) }
+        ensures others { drop (length cells.now) slots.new ≡ drop (length cells.now) slots.old }
+
+        // The rounds begin at the cells' resolution, with the cells, of which no two overlap.
+        ensures in_use { IfOk result (λ c. slots_in_use c ≡ length cells.now) }
+        ensures level { IfOk result (λ c. level_of c ≡ finest cells.now) }
+        ensures at_most_fifteen { IfOk result (λ c. level_of c ≤ 15) }
+        ensures compactable { IfOk result (λ c. IsCompactable (level_of c) cells.now) }
+        ensures apart { IfOk result (λ c. IsApart (take (slots_in_use c) slots.new)) }
+        ensures part { IfOk result (λ c. (x : Address) → Contains (take (slots_in_use c) slots.new) x ↔ InPart cells.now (level_of c) (level_of c) x) }
+    {
+        let level = common_resolution(cells)?;
+        slots[..cells.len()].copy_from_slice(cells);
+        if has_repeat(cells) {
+            return Err(H3Error::DuplicateInput);
+        }
+        cells_form_trees();
+        Ok(Compaction {
+            len: cells.len(),
+            level,
+        })
+    }
+
+    /// The resolution of the next round, or 0 where there is none.
+    pub fn level(self) -> u8
+        ensures { result ≡ level_of self }
+    {
+        self.level
+    }
+
+    /// How many slots are in use: the first ones.
+    pub fn len(self) -> usize
+        ensures { result ≡ slots_in_use self }
+    {
+        self.len
+    }
+
+    /// Replaces each complete set of siblings of this round's resolution by the parent; all other cells stay, in some
+    /// order. The level must not be 0, and no cells at two of the slots in use may overlap, as `start` and `round`
+    /// leave them.
+    pub fn round(self, slots: &mut [Cell]) -> Compaction
+        requires some_level { 0 < level_of self }
+        requires room { slots_in_use self ≤ length slots.old }
+        requires apart { IsApart (take (slots_in_use self) slots.old) }
+        ensures level { level_of result + 1 ≡ level_of self }
+        ensures fewer { slots_in_use result ≤ slots_in_use self }
+        ensures members { (x : Address) → Contains (take (slots_in_use result) slots.new) x ↔ InRound (Contains (take (slots_in_use self) slots.old)) (level_of self) x }
+        ensures once { AllPairs (λ a b. a ≢ b) (take (slots_in_use result) slots.new) }
+        ensures apart { IsApart (take (slots_in_use result) slots.new) }
+        ensures others { drop (slots_in_use self) slots.new ≡ drop (slots_in_use self) slots.old }
+
+        // So what the rounds above this level make of a list becomes what they and this one make of it.
+        ensures part { (cells : List Address) (r : ℕ) → IsCompactable r cells → r ≤ 15 → level_of self ≤ r
+            → ((x : Address) → Contains (take (slots_in_use self) slots.old) x ↔ InPart cells r (level_of self) x)
+            → (x : Address) → Contains (take (slots_in_use result) slots.new) x ↔ InPart cells r (level_of result) x }
+        ensures last { RoundsReachTheTop }
+    {
+        cells_form_trees();
+        let len = merge(&mut slots[..self.len], self.level);
+        Compaction {
+            len,
+            level: self.level - 1,
+        }
+    }
+
+    /// Puts the slots in use into ascending order, and answers how many they are.
+    pub fn finish(self, slots: &mut [Cell]) -> usize
+        requires { slots_in_use self ≤ length slots.old }
+        ensures count { result ≡ slots_in_use self }
+        ensures same { IsPermutation (take (slots_in_use self) slots.old) (take (slots_in_use self) slots.new) }
+        ensures ascending { AllPairs (λ a b. number_of a ≤ number_of b) (take (slots_in_use self) slots.new) }
+        ensures others { drop (slots_in_use self) slots.new ≡ drop (slots_in_use self) slots.old }
+    {
+        let count = self.len;
+        slots[..count].sort_unstable();
+        count
+    }
+}

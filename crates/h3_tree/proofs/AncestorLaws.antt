@@ -1,0 +1,56 @@
+-- How cells stand above one another.
+use Rattle.std.proofs.Common.{ℕ, zero, suc, ◌≡◌, ◌-◌, ◌≤◌, List, [], ◌∷◌, length, map, take, replicate, Contains, refl, arith, ◌∙◌, sym, ap, subst}
+use Rattle.std.proofs.Math.Seq.{take-length}
+use Rattle.std.proofs.lemmas.List.{length-take, length-take-le}
+use Rattle.h3_index.specs.Cell.{Address, IsCell, is_pentagon}
+use Rattle.h3_index.specs.Descendants.{along, center_at, cut, descendants, IsAncestor, IsDescendant}
+use Rattle.h3_index.specs.Laws.{CutsAreCells, DescendantsAreListed, DescendantsAscend, IsChain, PathsAreChains}
+use Rattle.h3_tree.specs.Laws.{CellsFormTrees}
+
+take-take : (p q : ℕ) (xs : List ℕ) → p ≤ q → take p (take q xs) ≡ take p xs
+take-take zero q xs h = refl
+take-take (suc p) zero xs h = absurd (omega (arith, h))
+take-take (suc p) (suc q) [] h = refl
+take-take (suc p) (suc q) (x ∷ xs) h = ap (λ ys. x ∷ ys) (take-take p q xs (omega (arith, h)))
+
+take_whole : (q : ℕ) (xs : List ℕ) → length xs ≤ q → take q xs ≡ xs
+take_whole zero [] h = refl
+take_whole zero (x ∷ xs) h = absurd (omega (arith, h))
+take_whole (suc q) [] h = refl
+take_whole (suc q) (x ∷ xs) h = ap (λ ys. x ∷ ys) (take_whole q xs (omega (arith, h)))
+
+same : (b : ℕ) (xs ys : List ℕ) → xs ≡ ys → ◌≡◌ {A = Address} (record { base = b; digits = xs }) (record { base = b; digits = ys })
+same b xs ys e = ap {B = Address} (λ zs. record { base = b; digits = zs }) e
+
+cut-cut : (c : Address) (p q : ℕ) → p ≤ q → cut (cut c q) p ≡ cut c p
+cut-cut c p q h = same c.base _ _ (take-take p q c.digits h)
+
+length-cut : (c : Address) (r : ℕ) → r ≤ length c.digits → length (cut c r).digits ≡ r
+length-cut c r h = length-take-le r c.digits h
+
+no_finer : (a c : Address) → IsAncestor a c → length a.digits ≤ length c.digits
+no_finer a c h =
+    let shown : length (take (length a.digits) c.digits) ≡ length a.digits = ap (λ x. length x.digits) h in
+    omega (arith, shown, length-take (length a.digits) c.digits)
+
+center_listed : (c : Address) (s : ℕ) → IsChain (is_pentagon c) (s - length c.digits) → Contains (descendants c s) (center_at c s)
+unfolding descendants
+center_listed c s h = rw h.is (0, omega arith, refl)
+
+pub trees : CutsAreCells → DescendantsAreListed → DescendantsAscend → PathsAreChains → CellsFormTrees
+trees cells listed ascending chains =
+    record {
+      own = λ c. same c.base _ _ (take-length c.digits);
+      through = λ a b c p q.
+          sym (cut-cut c (length a.digits) (length b.digits) (no_finer a b p)) ∙ ap (λ x. cut x (length a.digits)) q ∙ p;
+      ordered = λ a b c p q le.
+          ap (λ y. cut y (length a.digits)) (sym q) ∙ cut-cut c (length a.digits) (length b.digits) le ∙ p;
+      no_finer = no_finer;
+      same = λ a c p le. sym (same c.base _ _ (take_whole (length a.digits) c.digits le)) ∙ p;
+      cut_ancestor = λ c r le. rw (length-cut c r le) refl;
+      resolution-cut = length-cut;
+      cut_cell = cells;
+      center_descendant = λ c s v le fine. (listed c s v le fine (center_at c s)).0 (center_listed c s (chains (is_pentagon c) (s - length c.digits)));
+      listed = listed;
+      ascending = ascending;
+    }
