@@ -15,44 +15,43 @@ pub trait Line {
     /// The line, ended by a line feed.
     ghost line_of: { Self → List ℕ };
 
-    /// The line, ended by a line feed.
-    fn line(&self) -> ArrayVec<u8, ROOM>
-        ensures { result.items ≡ line_of self.now };
+    /// Puts the line in place of the bytes of a buffer.
+    fn put(&self, line: &mut ArrayVec<u8, ROOM>)
+        ensures { line.new.items ≡ line_of self.now };
 }
 
-/// The text and a line feed.
+/// Puts the text and a line feed in place of the bytes of a buffer.
 #[inline]
-fn ended(text: &str) -> ArrayVec<u8, ROOM>
+fn put_text(line: &mut ArrayVec<u8, ROOM>, text: &str)
     requires { length text.now < 32 }
-    ensures { result.items ≡ text.now ++ 10 ∷ [] }
+    ensures { line.new.items ≡ text.now ++ 10 ∷ [] }
 {
-    let mut line = ArrayVec::new();
+    line.clear();
     line.try_extend_from_slice(text.as_bytes()).unwrap();
     line.push(b'\n');
-    line
 }
 
 impl Line for bool {
     ghost line_of = { truth_line };
 
-    fn line(&self) -> ArrayVec<u8, ROOM> {
-        ended(if *self { "true" } else { "false" })
+    fn put(&self, line: &mut ArrayVec<u8, ROOM>) {
+        put_text(line, if *self { "true" } else { "false" });
     }
 }
 
 impl Line for u64 {
     ghost line_of = { number_line };
 
-    fn line(&self) -> ArrayVec<u8, ROOM> {
+    fn put(&self, line: &mut ArrayVec<u8, ROOM>) {
         let mut buffer = Buffer::new();
-        ended(buffer.format(*self))
+        put_text(line, buffer.format(*self));
     }
 }
 
 impl Line for Cell {
     ghost line_of = { cell_line };
 
-    fn line(&self) -> ArrayVec<u8, ROOM> {
-        ended(write_index(self.raw()).as_str())
+    fn put(&self, line: &mut ArrayVec<u8, ROOM>) {
+        put_text(line, write_index(self.raw()).as_str());
     }
 }

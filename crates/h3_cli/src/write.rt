@@ -10,6 +10,7 @@ ghost use Rattle.h3_cli.specs.Run.{AppendsPart, WritesAs, Ends};
 
 use crate::line::Line;
 use crate::refusal::Refusal;
+use arrayvec::ArrayVec;
 use h3_index::{Sink, StreamFault};
 
 /// Writes all of the bytes, in as many pushes as it takes.
@@ -42,7 +43,9 @@ pub fn write_line<W: Sink, L: Line>(out: &mut W, value: &L) -> Result<(), Refusa
     ensures writes { WritesAs (written (L.line_of value.now)) ⊥ result (W.taken out.old) (W.taken out.new) }
     ensures ends { Ends false (W.has_failed out.new) result (W.taken out.old) (W.taken out.new) }
 {
-    write_answer(out, value.line().as_slice())
+    let mut line = ArrayVec::new();
+    value.put(&mut line);
+    write_answer(out, line.as_slice())
 }
 
 /// Writes a line for each item.
@@ -59,8 +62,9 @@ fn write_items<W: Sink, L: Line + Drop, I: Iterator<Item = L> + Drop>(
     ensures ok { OnOk result (W.has_failed out.new ≡ W.has_failed out.old) }
     ensures err { OnErr result (W.has_failed out.new ≡ true) }
 {
+    let mut line = ArrayVec::new();
     for item in items {
-        let line = item.line();
+        item.put(&mut line);
         write_all(out, line.as_slice())?;
     }
     Ok(())

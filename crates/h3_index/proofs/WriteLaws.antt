@@ -1,96 +1,100 @@
 -- Writing the text of an index, and reading it back.
 use Rattle.std.specs.Char.{digit_char, digit_value, is_digit}
 use Rattle.std.specs.Int.Digits.{number_from_digits, AllBelowBase}
-use Rattle.std.specs.List.{list_all, starts_with}
+use Rattle.std.specs.List.{list_all, slice_index}
 use Rattle.std.specs.Str.{IsAscii}
-use Rattle.std.specs.Str.Parse.{digits_value}
-use Rattle.std.proofs.Common.{ℕ, zero, suc, ◌≡◌, ◌≢◌, ◌+◌, ◌-◌, ◌*◌, ◌/◌, ◌%◌, ◌^◌, ◌<◌, ◌≤◌, ◌==◌, ◌⊎◌, nat_lt, nat_le, nat_eq, List, [], ◌∷◌, ◌++◌, length, take, drop, map, reverse, length-append, get_or, Bool, true, false, ◌&&◌, ◌||◌, Option, Some, None, codes, if◌then◌else◌, refl, arith, sym, ap, ◌∙◌, add-one, lit<, lit≤, inl, inr, eqb-true}
-use Rattle.std.proofs.Math.Seq.{drop-cons}
+use Rattle.std.proofs.Common.{ℕ, zero, suc, ◌≡◌, ◌≢◌, ◌+◌, ◌-◌, ◌*◌, ◌/◌, ◌%◌, ◌^◌, ◌<◌, ◌≤◌, ◌==◌, ◌⊎◌, nat_lt, nat_le, List, [], ◌∷◌, ◌++◌, length, take, drop, map, reverse, get_or, set, Bool, true, false, ◌&&◌, ◌||◌, Some, if◌then◌else◌, refl, arith, sym, ap, ◌∙◌, lit<, lit≤, inl, inr, eqb-true}
 use Rattle.std.proofs.lemmas.Bool.{agree_below_at, ltb-true}
 use Rattle.std.proofs.lemmas.Bool.Decides.{nat_tests}
 use Rattle.std.proofs.lemmas.Int.Digits.{digits_value_is}
-use Rattle.std.proofs.lemmas.List.{append_assoc, append-nil, drop_all, map-append, length-map, reverse-reverse, reverse-append}
+use Rattle.std.proofs.lemmas.List.{drop-map, drop_all, drop_more, get_or-map, length-set, map-append, length-map, take_all, take_more, take_more_set, reverse-reverse, reverse-append}
 use Rattle.h3_index.specs.Digits.{last_digits}
-use Rattle.h3_index.specs.Text.{is_blank, is_hexadecimal, number_spelled, without_leading_blanks, without_trailing_blanks, trimmed, without_prefix, without_leading_zeros, spelled_index, text_of}
+use Rattle.h3_index.specs.Text.{is_blank, without_leading_blanks, trimmed, without_prefix, without_leading_zeros, spelled_index, text_of}
 use Rattle.h3_index.proofs.DigitsLaws.{number-last_digits, below-last_digits, length-last_digits, get_or-last_digits, sixteens}
 
--- ---- writing, digit by digit
+-- ---- the digits
 
 abbrev pub digits_of : ℕ → List ℕ
 digits_of v = last_digits 16 16 v
-
--- the text, where some bytes of it stand and these digits are to come
-abbrev pub text_after : List ℕ → List ℕ → List ℕ
-text_after [] ds = map digit_char (without_leading_zeros ds)
-text_after (b ∷ bs) ds = (b ∷ bs) ++ map digit_char ds
-
--- the first i digits of v were written, as these bytes
-pub record IsWriting (v i : ℕ) (bytes : List ℕ) : Type 0 where
-  pub same : map digit_char (without_leading_zeros (digits_of v)) ≡ text_after bytes (drop i (digits_of v))
-  pub short : length bytes ≤ i
-  pub some : 15 < i → 0 < length bytes
-
-pub writing_none : (v : ℕ) → IsWriting v 0 []
-writing_none v = record { same = refl; short = omega arith; some = λ h. omega (arith, h) }
 
 digit_at : (v i : ℕ) → i < 16 → get_or (digits_of v) i 0 ≡ v / 2 ^ (60 - 4 * i) % 16
 digit_at v i h =
     let shift : 60 - 4 * i ≡ 4 * (15 - i) = omega arith in
     rw (shift, sixteens (15 - i)) (get_or-last_digits 16 16 v i (15 - i) 0 (omega arith))
 
-cut : (v i d : ℕ) → i < 16 → d ≡ v / 2 ^ (60 - 4 * i) % 16 → drop i (digits_of v) ≡ d ∷ drop (i + 1) (digits_of v)
-cut v i d h is =
-    let len = length-last_digits 16 16 v in
-    rw (is, ← digit_at v i h) (rw add-one (drop-cons (digits_of v) i 0 (omega (arith, len))))
+-- the first i digits of v stand at the front
+pub record HasDigits (v i : ℕ) (bytes : List ℕ) : Type 0 where
+  pub room : length bytes ≡ 16
+  pub front : take i bytes ≡ map digit_char (take i (digits_of v))
 
-zero_skipped : (ds : List ℕ) (d : ℕ) → d ≡ 0 → text_after [] (d ∷ ds) ≡ text_after [] ds
-zero_skipped ds d h = rw h refl
-
-pub is_nothing : (bytes : List ℕ) → (length bytes == 0) ≡ true → bytes ≡ []
-is_nothing [] h = refl
-is_nothing (b ∷ bs) h = let other : (length (b ∷ bs) == 0) ≡ false = grind (arith, nat_tests) in cc
-
-pub is_something : (bytes : List ℕ) → (length bytes == 0) ≡ false → bytes ≢ []
-is_something bytes h e = let none : (length bytes == 0) ≡ true = rw e refl in cc
-
--- a zero before the first other digit is not written
-pub writing_skips : (v i d : ℕ) (bytes : List ℕ) → i < 15 → d ≡ v / 2 ^ (60 - 4 * i) % 16 → d ≡ 0 → bytes ≡ [] → IsWriting v i bytes → IsWriting v (i + 1) bytes
-writing_skips v i d bytes less is none empty w = record {
-  same = w.same ∙ (rw (empty, cut v i d (omega arith) is) (zero_skipped (drop (i + 1) (digits_of v)) d none));
-  short = omega (arith, w.short);
-  some = λ h. omega (arith, h, less);
-}
-
-first_written : (ds : List ℕ) (d : ℕ) → (d ≢ 0) ⊎ (ds ≡ []) → text_after [] (d ∷ ds) ≡ digit_char d ∷ map digit_char ds
-first_written ds d (inl h) = let other : (d == 0) ≡ false = grind (arith, nat_tests) in rw other refl
-first_written ds zero (inr h) = rw h refl
-first_written ds (suc d) (inr h) = let other : (suc d == 0) ≡ false = grind (arith, nat_tests) in rw other refl
-
-later_written : (bs ds : List ℕ) (b d : ℕ) → text_after (b ∷ bs) (d ∷ ds) ≡ text_after ((b ∷ bs) ++ digit_char d ∷ []) ds
-later_written bs ds b d = ap (λ l. b ∷ l) (sym (append_assoc bs (digit_char d ∷ []) (map digit_char ds)))
-
-pub writing_more : (v i d : ℕ) (bytes : List ℕ) → i < 16 → d ≡ v / 2 ^ (60 - 4 * i) % 16 → (d ≢ 0) ⊎ ((bytes ≢ []) ⊎ (i ≡ 15)) → IsWriting v i bytes → IsWriting v (i + 1) (bytes ++ digit_char d ∷ [])
-writing_more v i d [] less is why w =
-    let last : i ≡ 15 → drop (i + 1) (digits_of v) ≡ [] = λ e. drop_all (i + 1) (digits_of v) (omega (arith, length-last_digits 16 16 v)) in
-    let here : (d ≢ 0) ⊎ (drop (i + 1) (digits_of v) ≡ []) = elim why [ inl h ↦ inl h | inr h ↦ elim h [ inl f ↦ absurd (f refl) | inr e ↦ inr (last e) ] ] in
-    record {
-      same = w.same ∙ (rw (cut v i d less is) (first_written (drop (i + 1) (digits_of v)) d here));
-      short = omega arith;
-      some = λ h. omega arith;
+-- one digit more
+pub digit_put : (v i d : ℕ) (bytes : List ℕ) → i < 16 → d ≡ v / 2 ^ (60 - 4 * i) % 16 → HasDigits v i bytes → HasDigits v (i + 1) (set bytes i (digit_char d))
+digit_put v i d bytes less is has =
+    let len : length (digits_of v) ≡ 16 = length-last_digits 16 16 v in
+    let digit : d ≡ get_or (digits_of v) i 0 = is ∙ sym (digit_at v i less) in
+    let room : length bytes ≡ 16 = has.room in record {
+      room = length-set bytes i (digit_char d) ∙ room;
+      front = take_more_set bytes i (digit_char d) (omega arith) ∙ ap (λ l. l ++ digit_char d ∷ []) has.front
+          ∙ ap (λ x. map digit_char (take i (digits_of v)) ++ digit_char x ∷ []) digit
+          ∙ sym (map-append digit_char (take i (digits_of v)) (get_or (digits_of v) i 0 ∷ []))
+          ∙ ap (map digit_char) (sym (take_more (digits_of v) i 0 (omega arith)));
     }
-writing_more v i d (b ∷ bs) less is why w = record {
-  same = w.same ∙ (rw (cut v i d less is) (later_written bs (drop (i + 1) (digits_of v)) b d));
-  short = omega (arith, w.short, length-append (b ∷ bs) (digit_char d ∷ []));
-  some = λ h. omega (arith, length-append (b ∷ bs) (digit_char d ∷ []));
+
+pub all_digits : (v i : ℕ) (bytes : List ℕ) → 16 ≤ i → HasDigits v i bytes → bytes ≡ map digit_char (digits_of v)
+all_digits v i bytes all has =
+    sym (take_all i bytes (omega (arith, has.room))) ∙ has.front ∙ ap (map digit_char) (take_all i (digits_of v) (omega (arith, length-last_digits 16 16 v)))
+
+-- ---- the zeros in front
+
+zero_of : (d : ℕ) → digit_char d ≡ 48 → d ≡ 0
+zero_of d e = go (nat_lt d 10) refl e
+  where
+    go : (b : Bool) → nat_lt d 10 ≡ b → (if b then 48 + d else 87 + d) ≡ 48 → d ≡ 0
+    go true t f = omega arith
+    go false t f = omega arith
+
+-- these are digits, of which the first z, but not all, are zeros
+pub record Skips (digits : List ℕ) (z : ℕ) : Type 0 where
+  pub less : z < length digits
+  pub same : (values : List ℕ) → digits ≡ map digit_char values → without_leading_zeros (drop z values) ≡ without_leading_zeros values
+
+value_at : (digits values : List ℕ) (z : ℕ) → z < length digits → digits ≡ map digit_char values
+    → (slice_index digits z ≡ digit_char (get_or values z 0)) × (drop z values ≡ get_or values z 0 ∷ drop (z + 1) values) × (length digits ≡ length values)
+value_at digits values z less is =
+    let long : length digits ≡ length values = ap length is ∙ length-map values digit_char in
+    let in_values : z < length values = omega arith in
+    (ap (λ l. get_or l z 0) is ∙ get_or-map digit_char values z 0 0 in_values, drop_more values z 0 in_values, long)
+
+pub skip_more : (digits : List ℕ) (z : ℕ) → Skips digits z → z + 1 < length digits → slice_index digits z ≡ 48 → Skips digits (z + 1)
+skip_more digits z skips more zero_there = record {
+  less = more;
+  same = λ values is.
+      let at = value_at digits values z skips.less is in
+      let first : get_or values z 0 ≡ 0 = zero_of (get_or values z 0) (sym at.0 ∙ zero_there) in
+      sym (ap without_leading_zeros (at.1 ∙ ap (λ d. d ∷ drop (z + 1) values) first)) ∙ skips.same values is;
 }
 
-pub writing_all : (v i : ℕ) (bytes : List ℕ) → 15 < i → IsWriting v i bytes → bytes ≡ text_of v
-unfolding text_of
-writing_all v i [] all w = absurd (omega (arith, w.some all))
-writing_all v i (b ∷ bs) all w =
-    let none : drop i (digits_of v) ≡ [] = drop_all i (digits_of v) (omega (arith, length-last_digits 16 16 v)) in
-    let whole : (b ∷ bs) ++ map digit_char [] ≡ b ∷ bs = append-nil (b ∷ bs) in
-    sym whole ∙ sym (w.same ∙ (rw none refl))
+one_kept : (d : ℕ) → without_leading_zeros (d ∷ []) ≡ d ∷ []
+one_kept zero = refl
+one_kept (suc d) = let not_zero : (suc d == 0) ≡ false = grind (arith, nat_tests) in rw not_zero refl
+
+other_kept : (d : ℕ) (ds : List ℕ) → digit_char d ≢ 48 → without_leading_zeros (d ∷ ds) ≡ d ∷ ds
+other_kept zero ds other = absurd (other refl)
+other_kept (suc d) ds other = let not_zero : (suc d == 0) ≡ false = grind (arith, nat_tests) in rw not_zero refl
+
+-- at the last digit, or at one that is not 0
+pub skip_end : (digits : List ℕ) (z : ℕ) → Skips digits z → (length digits ≤ z + 1) ⊎ (slice_index digits z ≢ 48) → (values : List ℕ) → digits ≡ map digit_char values
+    → drop z digits ≡ map digit_char (without_leading_zeros values)
+skip_end digits z skips why values is =
+    let at = value_at digits values z skips.less is in
+    let kept : without_leading_zeros (drop z values) ≡ drop z values = elim why [
+      | inl last ↦
+          let none : drop (z + 1) values ≡ [] = drop_all (z + 1) values (omega (arith, at.2)) in
+          let one : drop z values ≡ get_or values z 0 ∷ [] = at.1 ∙ ap (λ l. get_or values z 0 ∷ l) none in
+          ap without_leading_zeros one ∙ one_kept (get_or values z 0) ∙ sym one
+      | inr other ↦ ap without_leading_zeros at.1 ∙ other_kept (get_or values z 0) (drop (z + 1) values) (λ e. other (at.0 ∙ e)) ∙ sym at.1
+    ] in
+    ap (drop z) is ∙ drop-map digit_char z values ∙ ap (map digit_char) (sym kept ∙ skips.same values is)
 
 -- ---- its bytes
 
@@ -186,9 +190,20 @@ spelled_back ds h some short =
     let short_test : nat_le (length (map digit_char ds)) 16 ≡ true = grind (arith, nat_tests) in
     rw (text_trimmed ds, no_prefix ds h, some_test, short_test, digits_back ds h) (ap Some (digits_value_is 16 (map digit_char ds) ∙ ap (number_from_digits 16) (values_back ds h)))
 
+pub text_is : (v : ℕ) → map digit_char (without_leading_zeros (digits_of v)) ≡ text_of v
+unfolding text_of
+text_is v = refl
+
 pub text_ascii : (v : ℕ) → IsAscii (text_of v)
 unfolding text_of
 text_ascii v = ascii_digits (without_leading_zeros (digits_of v)) (below_stays (digits_of v) (below-last_digits 16 16 v (lit< tt)))
+
+pub text_short : (v : ℕ) → length (text_of v) ≤ 16
+unfolding text_of
+text_short v =
+    let size : length (digits_of v) ≡ 16 = length-last_digits 16 16 v in
+    let short = length_stays (digits_of v) (omega (arith, size)) in
+    omega (arith, short.1, size, length-map (without_leading_zeros (digits_of v)) digit_char)
 
 pub text_spells : (v : ℕ) → v < 2 ^ 64 → spelled_index (text_of v) ≡ Some v
 unfolding text_of

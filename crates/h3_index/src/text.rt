@@ -1,12 +1,13 @@
 //! The texts of indexes.
 
-ghost use Rattle.std.specs.Prelude.{◌≡◌, ◌==◌, ◌<◌, ◌≤◌, length, IfErr, IsAscii};
+ghost use Rattle.std.specs.Prelude.{◌≡◌, ◌==◌, ◌<◌, ◌≤◌, ℕ, List, length, map, IfErr, IsAscii};
 ghost use Rattle.std.specs.Char.{digit_char};
 ghost use Rattle.std.specs.Result.{result_ok};
-ghost use Rattle.h3_index.specs.Text.{is_blank, without_leading_blanks, without_trailing_blanks, without_prefix, number_spelled, spelled_index, text_of, trimmed};
+ghost use Rattle.h3_index.specs.Digits.{last_digits};
+ghost use Rattle.h3_index.specs.Text.{without_leading_zeros, is_blank, without_leading_blanks, without_trailing_blanks, without_prefix, number_spelled, spelled_index, text_of, trimmed};
 
 use crate::error::H3Error;
-use arrayvec::{ArrayString, ArrayVec};
+use arrayvec::ArrayString;
 use std::str;
 
 /// Whether a byte is a space, a tab or a carriage return.
@@ -92,8 +93,7 @@ pub fn read_index(bytes: &[u8]) -> Result<u64, H3Error>
 /// The byte of a hexadecimal digit, in lower case.
 fn digit_byte(digit: u8) -> u8
     requires { digit < 16 }
-    ensures byte { result ≡ digit_char digit }
-    ensures ascii { result < 128 }
+    ensures { result ≡ digit_char digit }
 {
     if digit < 10 {
         b'0' + digit
@@ -102,13 +102,39 @@ fn digit_byte(digit: u8) -> u8
     }
 }
 
+/// The sixteen hexadecimal digits of an index, in lower case.
+fn digits_of(index: u64) -> [u8; 16]
+    ensures { result ≡ map digit_char (last_digits 16 16 index) }
+{
+    let mut digits = [b'0'; 16];
+    for place in 0..16 {
+        digits[place] = digit_byte((index >> (60 - 4 * place) & 15) as u8);
+    }
+    digits
+}
+
+/// The digits from the first that is not 0 on, or the last alone.
+fn without_leading_zeros(digits: &[u8]) -> &[u8]
+    requires { 0 < length digits.now }
+    ensures { (values : List ℕ) → digits.now ≡ map digit_char values → result.now ≡ map digit_char (without_leading_zeros values) }
+{
+    let mut zeros = 0;
+    while zeros + 1 < digits.len() && digits[zeros] == b'0' {
+        zeros += 1;
+    }
+    &digits[zeros..]
+}
+
 /// The bytes as a text.
 fn text_from(bytes: &[u8]) -> ArrayString<16>
     requires ascii { IsAscii bytes.now }
     requires room { length bytes.now ≤ 16 }
     ensures { result.bytes ≡ bytes.now }
 {
-    ArrayString::from(str::from_utf8(bytes).unwrap()).unwrap()
+    let mut text = ArrayString::new();
+    // A test of the bytes would take longer than all else that `write_index` does.
+    text.push_str(unsafe { str::from_utf8_unchecked(bytes) });
+    text
 }
 
 /// The text of an index, as H3's `h3ToString` writes it: lower-case hexadecimal without leading zeros, `0` for 0.
@@ -116,13 +142,5 @@ pub fn write_index(index: u64) -> ArrayString<16>
     ensures text { result.bytes ≡ text_of index }
     ensures spells { spelled_index (text_of index) ≡ Some index }
 {
-    let mut text: ArrayVec<u8, 16> = ArrayVec::new();
-    for place in 0..16u32 {
-        let digit = (index >> (60 - 4 * place) & 15) as u8;
-        if digit == 0 && place < 15 && text.is_empty() {
-            continue;
-        }
-        text.push(digit_byte(digit));
-    }
-    text_from(text.as_slice())
+    text_from(without_leading_zeros(&digits_of(index)))
 }
