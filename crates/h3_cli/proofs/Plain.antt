@@ -20,7 +20,7 @@ use Rattle.clap.specs.declared.builder.value_parser.ValueParser.TheVariants.{Sig
 use Rattle.clap.specs.declared.error.kind.ErrorKind.TheVariants as kind
 use Rattle.h3_cli.specs.Commands.{command_names, app, word_of, options_of}
 use Rattle.h3_cli.specs.declared.commands.CommandName.{CommandName}
-use Rattle.h3_cli.specs.declared.commands.CommandName.TheVariants.{IsValidCell, GetResolution, GetBaseCellNumber, IsPentagon, IsResClassIII, GetNumCells, GetRes0Cells, GetPentagons, CellToParent, CellToCenterChild, CellToChildren, CellToChildrenSize, CellToChildPos, ChildPosToCell, UncompactCells}
+use Rattle.h3_cli.specs.declared.commands.CommandName.TheVariants.{IsValidCell, GetResolution, GetBaseCellNumber, IsPentagon, IsResClassIII, GetNumCells, GetRes0Cells, GetPentagons, CellToParent, CellToCenterChild, CellToChildren, CellToChildrenSize, CellToChildPos, ChildPosToCell, CompactCells, UncompactCells}
 use Rattle.h3_cli.proofs.Top.{app_done, first_met, first_state, keeps_stop, leaf, stopped_at, top_done}
 use Rattle.clap.specs.Faults.{check_fault, defaults_fault, entered_fault, fault_of, given_default_fault, level_fault, other_fault, bundle_fault, bundle_step_fault, flag_word_fault, long_fault, option_fault, short_fault, flags_fault, settle_fault, step_fault, turn_fault, use_fault, walk_fault, word_fault}
 use Rattle.h3_cli.specs.Call.{IsUpTo, IsPlainCall, AreUses, IsOneOf, IsPlainValue, Use, names_for, uses_of, words_of}
@@ -325,6 +325,7 @@ name_first CellToChildren = refl
 name_first CellToChildrenSize = refl
 name_first CellToChildPos = refl
 name_first ChildPosToCell = refl
+name_first CompactCells = refl
 name_first UncompactCells = refl
 
 name_found : (k : CommandName) → find (λ s. answers_to (word_of k) (label_of s)) (map leaf command_names) ≡ Some (leaf k)
@@ -342,6 +343,7 @@ name_found CellToChildren = refl
 name_found CellToChildrenSize = refl
 name_found CellToChildPos = refl
 name_found ChildPosToCell = refl
+name_found CompactCells = refl
 name_found UncompactCells = refl
 
 stopped_passes : (names : Names) (name : Text) (before words : List Text) → walk_fault top_done names (stopped_at name before) words ≡ []

@@ -27,7 +27,7 @@ use Rattle.h3_cli.specs.declared.words.WordsFault.{WordsFault}
 use Rattle.h3_cli.specs.declared.words.WordsFault.TheVariants.{Help, Usage, Memory}
 use Rattle.h3_cli.specs.declared.options.CommandOption.{CommandOption}
 use Rattle.h3_cli.specs.declared.commands.CommandName.{CommandName}
-use Rattle.h3_cli.specs.declared.commands.CommandName.TheVariants.{IsValidCell, GetResolution, GetBaseCellNumber, IsPentagon, IsResClassIII, GetNumCells, GetRes0Cells, GetPentagons, CellToParent, CellToCenterChild, CellToChildren, CellToChildrenSize, CellToChildPos, ChildPosToCell, UncompactCells}
+use Rattle.h3_cli.specs.declared.commands.CommandName.TheVariants.{IsValidCell, GetResolution, GetBaseCellNumber, IsPentagon, IsResClassIII, GetNumCells, GetRes0Cells, GetPentagons, CellToParent, CellToCenterChild, CellToChildren, CellToChildrenSize, CellToChildPos, ChildPosToCell, CompactCells, UncompactCells}
 use Rattle.h3_cli.proofs.Lexed.{given_same}
 use Rattle.h3_cli.proofs.Leaf.{Reads, leaf_reads}
 use Rattle.h3_cli.proofs.Top.{app_enters, app_is_simple}
@@ -47,6 +47,7 @@ word_named CellToChildren = refl
 word_named CellToChildrenSize = refl
 word_named CellToChildPos = refl
 word_named ChildPosToCell = refl
+word_named CompactCells = refl
 word_named UncompactCells = refl
 
 is_simple_app : is_simple app ≡ true

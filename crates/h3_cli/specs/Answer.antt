@@ -9,12 +9,14 @@ use Rattle.h3_index.specs.Descendants.{center_at, cut, descendants}
 use Rattle.h3_index.specs.Text.{text_of}
 use Rattle.h3_index.specs.declared.error.H3Error.{H3Error}
 use Rattle.h3_index.specs.declared.error.H3Error.TheVariants.{CellInvalid, Failed, ResDomain}
+use Rattle.h3_set.specs.Compacted.{compacted}
+use Rattle.h3_set.specs.Refusals.{compaction_refusal}
 use Rattle.h3_set.specs.Uncompaction.{uncompacted, uncompact_refusal}
 use Rattle.h3_tree.specs.Positions.{position_under}
 use Rattle.h3_tree.specs.Refusals.{descent_refusal, parent_refusal, position_refusal}
 use Rattle.h3_cli.specs.List.{listed_cells}
 use Rattle.h3_cli.specs.declared.command.Command.{Command}
-use Rattle.h3_cli.specs.declared.command.Command.TheVariants.{IsValidCell, GetResolution, GetBaseCellNumber, IsPentagon, IsResClassIII, GetNumCells, GetRes0Cells, GetPentagons, CellToParent, CellToCenterChild, CellToChildren, CellToChildrenSize, CellToChildPos, ChildPosToCell, UncompactCells}
+use Rattle.h3_cli.specs.declared.command.Command.TheVariants.{IsValidCell, GetResolution, GetBaseCellNumber, IsPentagon, IsResClassIII, GetNumCells, GetRes0Cells, GetPentagons, CellToParent, CellToCenterChild, CellToChildren, CellToChildrenSize, CellToChildPos, ChildPosToCell, CompactCells, UncompactCells}
 use Rattle.h3_cli.specs.declared.refusal.Refusal.{Refusal}
 use Rattle.h3_cli.specs.declared.refusal.Refusal.TheVariants.{Error, Memory}
 
@@ -139,6 +141,12 @@ abbrev pub with_list : Result (List Address) H3Error → (List Address → Answe
 with_list (Ok cells) about = about cells
 with_list (Err e) about = refused e
 
+abbrev pub compacted_answer : List Address → Answer
+compacted_answer cells = written_unless (compaction_refusal cells) (cell_lines (compacted cells))
+
+abbrev pub compact_cells_answer : List ℕ → Answer
+compact_cells_answer list = with_list (listed_cells list) compacted_answer
+
 abbrev pub uncompacted_answer : ℤ → List Address → Answer
 uncompacted_answer res cells =
     written_unless (uncompact_refusal cells res) (cell_lines (uncompacted cells (unsigned_abs res)))
@@ -164,6 +172,7 @@ answer (CellToChildren cell res) list rows = cell_to_children_answer cell res
 answer (CellToChildrenSize cell res) list rows = cell_to_children_size_answer cell res
 answer (CellToChildPos cell res) list rows = cell_to_child_pos_answer cell res
 answer (ChildPosToCell position cell res) list rows = child_pos_to_cell_answer position cell res
+answer CompactCells list rows = compact_cells_answer list
 answer (UncompactCells res) list rows = uncompact_cells_answer res list
 
 -- the command reads a list of cells from its input
@@ -182,6 +191,7 @@ uses_list (CellToChildren cell res) = false
 uses_list (CellToChildrenSize cell res) = false
 uses_list (CellToChildPos cell res) = false
 uses_list (ChildPosToCell position cell res) = false
+uses_list CompactCells = true
 uses_list (UncompactCells res) = true
 
 -- the command reads the table of base cells
@@ -200,6 +210,7 @@ uses_table (CellToChildren cell res) = false
 uses_table (CellToChildrenSize cell res) = false
 uses_table (CellToChildPos cell res) = false
 uses_table (ChildPosToCell position cell res) = false
+uses_table CompactCells = false
 uses_table (UncompactCells res) = false
 
 -- the command takes memory: it reads a list or a table

@@ -8,12 +8,12 @@ use Rattle.h3_cli.specs.declared.command.Command.TheVariants as command
 use Rattle.h3_cli.specs.declared.options.CommandOption.{CommandOption}
 use Rattle.h3_cli.specs.declared.options.CommandOption.TheVariants.{Cell, Resolution, Position}
 use Rattle.h3_cli.specs.declared.commands.CommandName.{CommandName}
-use Rattle.h3_cli.specs.declared.commands.CommandName.TheVariants.{IsValidCell, GetResolution, GetBaseCellNumber, IsPentagon, IsResClassIII, GetNumCells, GetRes0Cells, GetPentagons, CellToParent, CellToCenterChild, CellToChildren, CellToChildrenSize, CellToChildPos, ChildPosToCell, UncompactCells}
+use Rattle.h3_cli.specs.declared.commands.CommandName.TheVariants.{IsValidCell, GetResolution, GetBaseCellNumber, IsPentagon, IsResClassIII, GetNumCells, GetRes0Cells, GetPentagons, CellToParent, CellToCenterChild, CellToChildren, CellToChildrenSize, CellToChildPos, ChildPosToCell, CompactCells, UncompactCells}
 
 -- all names of commands
 abbrev pub command_names : List CommandName
 command_names =
-    IsValidCell ∷ GetResolution ∷ GetBaseCellNumber ∷ IsPentagon ∷ IsResClassIII ∷ GetNumCells ∷ GetRes0Cells ∷ GetPentagons ∷ CellToParent ∷ CellToCenterChild ∷ CellToChildren ∷ CellToChildrenSize ∷ CellToChildPos ∷ ChildPosToCell ∷ UncompactCells ∷ []
+    IsValidCell ∷ GetResolution ∷ GetBaseCellNumber ∷ IsPentagon ∷ IsResClassIII ∷ GetNumCells ∷ GetRes0Cells ∷ GetPentagons ∷ CellToParent ∷ CellToCenterChild ∷ CellToChildren ∷ CellToChildrenSize ∷ CellToChildPos ∷ ChildPosToCell ∷ CompactCells ∷ UncompactCells ∷ []
 
 -- the word that names the command
 abbrev pub word_of : CommandName → Text
@@ -31,6 +31,7 @@ word_of CellToChildren = codes "cellToChildren"
 word_of CellToChildrenSize = codes "cellToChildrenSize"
 word_of CellToChildPos = codes "cellToChildPos"
 word_of ChildPosToCell = codes "childPosToCell"
+word_of CompactCells = codes "compactCells"
 word_of UncompactCells = codes "uncompactCells"
 
 -- the options that the command has
@@ -49,6 +50,7 @@ options_of CellToChildren = Cell ∷ Resolution ∷ []
 options_of CellToChildrenSize = Cell ∷ Resolution ∷ []
 options_of CellToChildPos = Cell ∷ Resolution ∷ []
 options_of ChildPosToCell = Position ∷ Cell ∷ Resolution ∷ []
+options_of CompactCells = []
 options_of UncompactCells = Resolution ∷ []
 
 -- the name of a command with its values
@@ -67,6 +69,7 @@ name_of_command (command.CellToChildren cell res) = CellToChildren
 name_of_command (command.CellToChildrenSize cell res) = CellToChildrenSize
 name_of_command (command.CellToChildPos cell res) = CellToChildPos
 name_of_command (command.ChildPosToCell position cell res) = ChildPosToCell
+name_of_command command.CompactCells = CompactCells
 name_of_command (command.UncompactCells res) = UncompactCells
 
 -- a command of this name that takes these options

@@ -12,7 +12,7 @@ use Rattle.h3_cli.specs.declared.options.CommandOption.TheVariants.{Cell, Resolu
 use Rattle.h3_cli.specs.declared.commands.CommandName.{CommandName}
 use Rattle.h3_cli.specs.declared.words.Words.{Words}
 use Rattle.h3_cli.specs.declared.command.Command.{Command}
-use Rattle.h3_cli.specs.declared.command.Command.TheVariants.{IsValidCell, GetResolution, GetBaseCellNumber, IsPentagon, IsResClassIII, GetNumCells, GetRes0Cells, GetPentagons, CellToParent, CellToCenterChild, CellToChildren, CellToChildrenSize, CellToChildPos, ChildPosToCell, UncompactCells}
+use Rattle.h3_cli.specs.declared.command.Command.TheVariants.{IsValidCell, GetResolution, GetBaseCellNumber, IsPentagon, IsResClassIII, GetNumCells, GetRes0Cells, GetPentagons, CellToParent, CellToCenterChild, CellToChildren, CellToChildrenSize, CellToChildPos, ChildPosToCell, CompactCells, UncompactCells}
 
 -- there is a text, and this is the index that it spells, or none where it spells none
 abbrev pub IsIndex : Option Text → Option ℕ → Type 0
@@ -45,6 +45,7 @@ HasValues text (CellToChildren cell res) = IsIndex (text Cell) cell × IsWhole (
 HasValues text (CellToChildrenSize cell res) = IsIndex (text Cell) cell × IsWhole (text Resolution) res
 HasValues text (CellToChildPos cell res) = IsIndex (text Cell) cell × IsWhole (text Resolution) res
 HasValues text (ChildPosToCell position cell res) = IsPosition (text Position) position × IsIndex (text Cell) cell × IsWhole (text Resolution) res
+HasValues text CompactCells = ⊤
 HasValues text (UncompactCells res) = IsWhole (text Resolution) res
 
 -- each option of the command has its text in what a parse found, and its parser let it through

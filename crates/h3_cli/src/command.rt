@@ -80,6 +80,9 @@ pub enum Command {
         res: i32,
     },
 
+    /// The fewest cells that cover those of a list.
+    CompactCells,
+
     /// The cells of a resolution below the cells of a list.
     UncompactCells {
         res: i32,

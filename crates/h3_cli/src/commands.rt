@@ -30,10 +30,11 @@ pub enum CommandName {
     CellToChildrenSize,
     CellToChildPos,
     ChildPosToCell,
+    CompactCells,
     UncompactCells,
 }
 
-static COMMAND_NAMES: [CommandName; 15] = [
+static COMMAND_NAMES: [CommandName; 16] = [
     CommandName::IsValidCell,
     CommandName::GetResolution,
     CommandName::GetBaseCellNumber,
@@ -48,6 +49,7 @@ static COMMAND_NAMES: [CommandName; 15] = [
     CommandName::CellToChildrenSize,
     CommandName::CellToChildPos,
     CommandName::ChildPosToCell,
+    CommandName::CompactCells,
     CommandName::UncompactCells,
 ];
 
@@ -85,6 +87,7 @@ impl CommandName {
             CommandName::CellToChildrenSize => "cellToChildrenSize",
             CommandName::CellToChildPos => "cellToChildPos",
             CommandName::ChildPosToCell => "childPosToCell",
+            CommandName::CompactCells => "compactCells",
             CommandName::UncompactCells => "uncompactCells",
         }
     }
@@ -118,7 +121,38 @@ impl CommandName {
             CommandName::CellToChildrenSize => CELL_RESOLUTION.as_slice(),
             CommandName::CellToChildPos => CELL_RESOLUTION.as_slice(),
             CommandName::ChildPosToCell => POSITION_CELL_RESOLUTION.as_slice(),
+            CommandName::CompactCells => NO_OPTIONS.as_slice(),
             CommandName::UncompactCells => RESOLUTION.as_slice(),
+        }
+    }
+
+    /// What help says of the command.
+    fn about<'a>(self) -> &'a str {
+        match self {
+            CommandName::IsValidCell => "Whether an index is a valid cell",
+            CommandName::GetResolution => "The resolution of a cell",
+            CommandName::GetBaseCellNumber => "The base cell of a cell",
+            CommandName::IsPentagon => "Whether a cell is a pentagon",
+            CommandName::IsResClassIII => "Whether the resolution of a cell is Class III",
+            CommandName::GetNumCells => "How many cells a resolution has",
+            CommandName::GetRes0Cells => "The 122 cells of resolution 0",
+            CommandName::GetPentagons => "The twelve pentagons of a resolution",
+            CommandName::CellToParent => "The ancestor of a cell at a resolution",
+            CommandName::CellToCenterChild => "The center descendant of a cell at a resolution",
+            CommandName::CellToChildren => "The descendants of a cell at a resolution, ascending",
+            CommandName::CellToChildrenSize => "How many descendants a cell has at a resolution",
+            CommandName::CellToChildPos => {
+                "The position of a cell among the descendants of its ancestor at a resolution"
+            }
+            CommandName::ChildPosToCell => {
+                "The descendant of a cell that stands at a position among those of a resolution"
+            }
+            CommandName::CompactCells => {
+                "The fewest cells that cover those listed on standard input, ascending"
+            }
+            CommandName::UncompactCells => {
+                "The descendants at a resolution of each cell listed on standard input"
+            }
         }
     }
 
@@ -127,7 +161,7 @@ impl CommandName {
         ensures shape { IfOk result (λ parser. shape_of parser ≡ shape_for self) }
         ensures local { IfOk result (λ parser. (out-Command parser).has_globals ≡ false) }
     {
-        let mut parser = Parser::new(alloc, self.word());
+        let mut parser = Parser::new(alloc, self.word()).about(self.about());
         for option in self.options() {
             parser = parser.arg(option.argument(alloc))?;
         }
@@ -162,6 +196,7 @@ impl CommandName {
                 cell,
                 res,
             },
+            CommandName::CompactCells => Command::CompactCells,
             CommandName::UncompactCells => Command::UncompactCells { res },
         }
     }
@@ -172,6 +207,7 @@ pub fn command_line<'a>(alloc: Global) -> Result<Parser<'a>, AllocError>
     ensures { IfOk result (λ parser. app_of parser ≡ app) }
 {
     let mut parser = Parser::new(alloc, "h3")
+        .about("Cells of the H3 grid, by whole numbers")
         .subcommand_required(true)
         .disable_help_subcommand(true);
     for name in &COMMAND_NAMES {

@@ -42,13 +42,21 @@ impl CommandOption {
     {
         let argument = Arg::new(alloc, self.id()).required(true);
         match self {
-            CommandOption::Cell => argument.short('c').long("cell"),
+            CommandOption::Cell => argument
+                .short('c')
+                .long("cell")
+                .value_name("CELL")
+                .help("A cell's index in hexadecimal"),
             CommandOption::Resolution => argument
                 .short('r')
                 .long("resolution")
+                .value_name("RESOLUTION")
+                .help("A resolution, 0 to 15")
                 .value_parser(value_parser!(i64).range(0..=2147483647)),
             CommandOption::Position => argument
                 .long("position")
+                .value_name("POSITION")
+                .help("A position, from 0")
                 .value_parser(value_parser!(i64).range(0..=9223372036854775807)),
         }
     }

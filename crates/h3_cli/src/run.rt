@@ -15,7 +15,7 @@ use crate::inspection::{
 };
 use crate::refusal::Refusal;
 use crate::resolutions::{get_num_cells, get_pentagons, get_res0_cells};
-use crate::sets::uncompact_cells;
+use crate::sets::{compact_cells, uncompact_cells};
 use crate::write::write_all;
 use h3_index::{Sink, Source};
 use std::alloc::Global;
@@ -58,6 +58,7 @@ fn perform<R: Source, T: Source, W: Sink>(
             cell,
             res,
         } => child_pos_to_cell(*position, *cell, *res, out),
+        Command::CompactCells => compact_cells(alloc, input, out),
         Command::UncompactCells { res } => uncompact_cells(alloc, *res, input, out),
     }
 }

@@ -250,11 +250,11 @@ fn finds_descendants_by_position(rt: HostRuntime) {
     }
 }
 
-/// Asserts what uncompaction of a list writes and how it ends, in pieces of any size.
-fn assert_uncompacted<R: Abort + AllocGlobal>(
+/// Asserts what a command on a list writes and how it ends, in pieces of any size.
+fn assert_listed<R: Abort + AllocGlobal>(
     rt: &R,
+    command: Command,
     list: &str,
-    res: i32,
     answer: (&str, &str, u8),
 ) {
     let (text, line, expected) = answer;
@@ -263,19 +263,28 @@ fn assert_uncompacted<R: Abort + AllocGlobal>(
         let mut table = SlowSource::new(b"", 1, 0);
         let mut out = Streamed::new(ArrayVec::<u8, 256>::new());
         let mut err = Streamed::new(ArrayVec::<u8, 64>::new());
-        let command = Command::UncompactCells { res };
         let alloc = rt.alloc();
         let status = run(alloc, &command, &mut input, &mut table, &mut out, &mut err);
-        assert_eq!(rt; status, expected, "{list} at {res}, {most}");
+        assert_eq!(rt; status, expected, "{command:?}, {list}, {most}");
         assert!(rt;
             out.into_inner().as_slice() == text.as_bytes(),
-            "{list} at {res}, {most}"
+            "{command:?}, {list}, {most}"
         );
         assert!(rt;
             err.into_inner().as_slice() == line.as_bytes(),
-            "{list} at {res}, {most}"
+            "{command:?}, {list}, {most}"
         );
     }
+}
+
+/// Asserts what uncompaction of a list writes and how it ends.
+fn assert_uncompacted<R: Abort + AllocGlobal>(
+    rt: &R,
+    list: &str,
+    res: i32,
+    answer: (&str, &str, u8),
+) {
+    assert_listed(rt, Command::UncompactCells { res }, list, answer);
 }
 
 #[test]
@@ -301,6 +310,63 @@ fn refuses_lists(rt: HostRuntime) {
     assert_uncompacted(&rt, faulty, 6, ("", "error 1: E_FAILED\n", 1));
     let invalid = "81087ffffffffff\nxyz\n";
     assert_uncompacted(&rt, invalid, 6, ("", "error 5: E_CELL_INVALID\n", 1));
+}
+
+/// The 49 cells of resolution 2 below 8029fffffffffff, the last of which is 8229b7fffffffff.
+const BELOW_BASE_20: &str = "822807fffffffff\n82280ffffffffff\n822817fffffffff\n82281ffffffffff\n\
+     822827fffffffff\n82282ffffffffff\n822837fffffffff\n822847fffffffff\n\
+     82284ffffffffff\n822857fffffffff\n82285ffffffffff\n822867fffffffff\n\
+     82286ffffffffff\n822877fffffffff\n822887fffffffff\n82288ffffffffff\n\
+     822897fffffffff\n82289ffffffffff\n8228a7fffffffff\n8228affffffffff\n\
+     8228b7fffffffff\n8228c7fffffffff\n8228cffffffffff\n8228d7fffffffff\n\
+     8228dffffffffff\n8228e7fffffffff\n8228effffffffff\n8228f7fffffffff\n\
+     822907fffffffff\n82290ffffffffff\n822917fffffffff\n82291ffffffffff\n\
+     822927fffffffff\n82292ffffffffff\n822937fffffffff\n822947fffffffff\n\
+     82294ffffffffff\n822957fffffffff\n82295ffffffffff\n822967fffffffff\n\
+     82296ffffffffff\n822977fffffffff\n822987fffffffff\n82298ffffffffff\n\
+     822997fffffffff\n82299ffffffffff\n8229a7fffffffff\n8229affffffffff\n\
+     8229b7fffffffff\n";
+
+#[test]
+fn compacts_lists(rt: HostRuntime) {
+    let compact = Command::CompactCells;
+    let seven = "862834737ffffff\n86283472fffffff\n862834727ffffff\n86283471fffffff\n\
+                 862834717ffffff\n86283470fffffff\n862834707ffffff\n";
+    assert_listed(&rt, compact, seven, ("85283473fffffff\n", "", 0));
+    let five = "81083ffffffffff\n8108bffffffffff\n8108fffffffffff\n81093ffffffffff\n\
+                81097ffffffffff\n";
+    assert_listed(&rt, compact, five, (five, "", 0));
+    let six = "81083ffffffffff\n8108bffffffffff\n8108fffffffffff\n81093ffffffffff\n\
+               81097ffffffffff\n8109bffffffffff\n";
+    assert_listed(&rt, compact, six, ("8009fffffffffff\n", "", 0));
+    let one = "8029fffffffffff\n";
+    assert_listed(&rt, compact, BELOW_BASE_20, (one, "", 0));
+    let all_but_one = "81283ffffffffff\n81287ffffffffff\n8128bffffffffff\n8128fffffffffff\n\
+                       81293ffffffffff\n81297ffffffffff\n822987fffffffff\n82298ffffffffff\n\
+                       822997fffffffff\n82299ffffffffff\n8229a7fffffffff\n8229affffffffff\n";
+    let (most, _) = BELOW_BASE_20.split_at(48 * 16);
+    assert_listed(&rt, compact, most, (all_but_one, "", 0));
+    assert_listed(&rt, compact, "", ("", "", 0));
+    assert_listed(&rt, compact, "\n\n\n", ("", "", 0));
+}
+
+#[test]
+fn refuses_lists_to_compact(rt: HostRuntime) {
+    let refused = [
+        (
+            "85283473fffffff\n85283473fffffff\n",
+            "error 10: E_DUPLICATE_INPUT\n",
+        ),
+        (
+            "85283473fffffff\n8428347ffffffff\n",
+            "error 12: E_RES_MISMATCH\n",
+        ),
+        ("85283473fffffff\nxyz\n", "error 1: E_FAILED\n"),
+        ("81087ffffffffff\n", "error 5: E_CELL_INVALID\n"),
+    ];
+    for (list, line) in refused {
+        assert_listed(&rt, Command::CompactCells, list, ("", line, 1));
+    }
 }
 
 #[test]

@@ -93,6 +93,7 @@ fn reads_options(rt: HostRuntime) -> Result<(), Fail> {
                 res: 5,
             },
         ),
+        ("h3 compactCells", Command::CompactCells),
         ("h3 uncompactCells -r 6", Command::UncompactCells { res: 6 }),
     ];
     for (line, command) in cases {
