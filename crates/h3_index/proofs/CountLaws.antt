@@ -5,9 +5,9 @@ use Rattle.std.proofs.Math.Nat.{pow-suc, pow-zero}
 use Rattle.std.proofs.lemmas.Bool.{agree_below_at, and_parts}
 use Rattle.std.proofs.lemmas.Bool.Decides.{nat_tests}
 use Rattle.std.proofs.lemmas.List.Elements.{Contains-append_cases, Contains-get_or}
-use Rattle.std.proofs.lemmas.List.FromFn.{get_or-range_with_len}
+use Rattle.std.proofs.lemmas.List.FromFn.{get_or-range_with_len, length-range_with_len}
 use Rattle.h3_index.specs.Cell.{Address, IsCell, is_pentagon, is_pentagon_base, leading, number_of, pentagon_bases}
-use Rattle.h3_index.specs.Count.{IsNumberOfCells, ListsPentagons, base_cell, pentagons}
+use Rattle.h3_index.specs.Count.{CellsAreListed, CellsUpToAreListed, PentagonsAreListed, base_cell, cells_of, cells_up_to, pentagons}
 use Rattle.h3_index.specs.Descendants.{IsDescendant, center_at, descendants}
 use Rattle.h3_index.proofs.AncestorLaws.{address_same, center, leading-zeros_after}
 use Rattle.h3_index.proofs.CellLaws.{number_of_is, low_small}
@@ -22,9 +22,6 @@ if_some o n Q e q = rw e q
 
 -- ---- the cells of a resolution
 
-abbrev pub cells_at : ℕ → List Address
-cells_at r = flat_map (λ b. descendants (base_cell b) r) (range_with_len 0 122)
-
 pub base_valid : (b : ℕ) → b < 122 → IsCell (base_cell b)
 base_valid b h = record { base_small = h; coarse = lit< tt; digits_small = tt; not_deleted = λ t e. omega (arith, e) }
 
@@ -33,23 +30,20 @@ pub number_base : (b f : ℕ) → f ≡ b → b < 122 → 576495936675512319 + f
 unfolding number_of
 number_base b f e h = rw e (omega (arith, h))
 
-length-range : (a n : ℕ) → length (range_with_len a n) ≡ n
-length-range a zero = refl
-length-range a (suc n) = omega (arith, length-range (a + 1) n)
-
 in_range : (a n b : ℕ) → a ≤ b → b < a + n → Contains (range_with_len a n) b
 in_range a n b low high =
     let there : b - a < n = omega arith in
     let is : a + (b - a) ≡ b = omega arith in
-    (b - a, omega (arith, length-range a n), get_or-range_with_len a n (b - a) b there ∙ is)
+    (b - a, omega (arith, length-range_with_len a n), get_or-range_with_len a n (b - a) b there ∙ is)
 
 from_range : (a n b : ℕ) → Contains (range_with_len a n) b → (a ≤ b) × (b < a + n)
 from_range a n b (k, lt, e) =
-    let less : k < n = omega (arith, lt, length-range a n) in
+    let less : k < n = omega (arith, lt, length-range_with_len a n) in
     let is = sym (get_or-range_with_len a n k b less) ∙ e in
     (omega (arith, is), omega (arith, is, less))
 
-pub each_cell : (r : ℕ) → r < 16 → (c : Address) → Contains (cells_at r) c ↔ (IsCell c × (length c.digits ≡ r))
+each_cell : (r : ℕ) → r < 16 → (c : Address) → Contains (cells_of r) c ↔ (IsCell c × (length c.digits ≡ r))
+unfolding cells_of
 each_cell r h c = (
   λ m. let t = from_flat (λ b. descendants (base_cell b) r) (range_with_len 0 122) c m in
       let bound = from_range 0 122 t.0 t.1 in
@@ -86,17 +80,50 @@ base_rises : (a b : Address) → IsCell a → IsCell b → length a.digits ≡ l
 base_rises a b h k same less =
     omega (arith, number_of_is a h, number_of_is b k, low_small a h, low_small b k, same, less)
 
-rising_from : (r : ℕ) → r < 16 → (a n : ℕ) → a + n ≤ 122 → AllPairs (λ x y. number_of x < number_of y) (flat_map (λ b. descendants (base_cell b) r) (range_with_len a n))
-rising_from r h a zero room = λ i j d lt lj. absurd (omega (arith, lj))
-rising_from r h a (suc n) room =
-    pairs_append (λ x y. number_of x < number_of y) (descendants (base_cell a) r) (flat_map (λ b. descendants (base_cell b) r) (range_with_len (a + 1) n)) (rising_descendants (base_cell a) r) (rising_from r h (a + 1) n (omega (arith, room))) (λ x y mx my.
-    let t = from_flat (λ b. descendants (base_cell b) r) (range_with_len (a + 1) n) y my in
+-- of two cells, the coarser has the smaller number
+coarser_first : (a b : Address) → IsCell a → IsCell b → length a.digits < length b.digits → number_of a < number_of b
+coarser_first a b h k less =
+    omega (arith, number_of_is a h, number_of_is b k, low_small a h, low_small b k, h.base_small, less)
+
+-- lists that ascend, one after another, where each number of one is below those of the later ones
+rising_flat : (f : ℕ → List Address) (a n : ℕ) → ((b : ℕ) → a ≤ b → b < a + n → AllPairs (λ x y. number_of x < number_of y) (f b)) → ((b d : ℕ) (x y : Address) → a ≤ b → b < d → d < a + n → Contains (f b) x → Contains (f d) y → number_of x < number_of y) → AllPairs (λ x y. number_of x < number_of y) (flat_map f (range_with_len a n))
+rising_flat f a zero each far = λ i j d lt lj. absurd (omega (arith, lj))
+rising_flat f a (suc n) each far =
+    pairs_append (λ x y. number_of x < number_of y) (f a) (flat_map f (range_with_len (a + 1) n)) (each a (omega arith) (omega arith))
+    (rising_flat f (a + 1) n (λ b low high. each b (omega (arith, low)) (omega (arith, high))) (λ b d x y low less high mx my. far b d x y (omega (arith, low)) less (omega (arith, high)) mx my))
+    (λ x y mx my.
+    let t = from_flat f (range_with_len (a + 1) n) y my in
     let bound = from_range (a + 1) n t.0 t.1 in
-    let dx = from_descendants (base_cell a) x r (base_valid a (omega (arith, room))) (omega arith) h mx in
-    let dy = from_descendants (base_cell t.0) y r (base_valid t.0 (omega (arith, bound.1, room))) (omega arith) h t.2 in
-    let bx : x.base ≡ a = ap (λ c. c.base) dx.under in
-    let by : y.base ≡ t.0 = ap (λ c. c.base) dy.under in
-    base_rises x y dx.valid dy.valid (dx.resolution_is ∙ sym dy.resolution_is) (omega (arith, bx, by, bound.0)))
+    far a t.0 x y (omega arith) (omega (arith, bound.0)) (omega (arith, bound.1)) mx t.2)
+
+pub cells_listed : CellsAreListed
+unfolding cells_of
+cells_listed r h = record {
+  each = each_cell r h;
+  ascending = rising_flat (λ b. descendants (base_cell b) r) 0 122 (λ b low high. rising_descendants (base_cell b) r) (λ b d x y low less high mx my.
+      let dx = from_descendants (base_cell b) x r (base_valid b (omega (arith, less, high))) (omega arith) h mx in
+      let dy = from_descendants (base_cell d) y r (base_valid d (omega (arith, high))) (omega arith) h my in
+      let bx : x.base ≡ b = ap (λ c. c.base) dx.under in
+      let by : y.base ≡ d = ap (λ c. c.base) dy.under in
+      base_rises x y dx.valid dy.valid (dx.resolution_is ∙ sym dy.resolution_is) (omega (arith, bx, by, less)));
+}
+
+pub cells_up_to_listed : CellsUpToAreListed
+unfolding cells_up_to
+cells_up_to_listed r h = record {
+  each = λ c. (
+    λ m. let t = from_flat cells_of (range_with_len 0 (r + 1)) c m in
+        let bound = from_range 0 (r + 1) t.0 t.1 in
+        let is = ((cells_listed t.0 (omega (arith, bound.1, h))).each c).0 t.2 in
+        (is.0, omega (arith, is.1, bound.1)),
+    λ p. in_flat cells_of (range_with_len 0 (r + 1)) (length c.digits) c (in_range 0 (r + 1) (length c.digits) (omega arith) (omega (arith, p.1)))
+        (((cells_listed (length c.digits) p.0.coarse).each c).1 (p.0, refl)),
+  );
+  ascending = rising_flat cells_of 0 (r + 1) (λ b low high. (cells_listed b (omega (arith, high, h))).ascending) (λ b d x y low less high mx my.
+      let ix = ((cells_listed b (omega (arith, less, high, h))).each x).0 mx in
+      let iy = ((cells_listed d (omega (arith, high, h))).each y).0 my in
+      coarser_first x y ix.0 iy.0 (omega (arith, ix.1, iy.1, less)));
+}
 
 -- ---- how many they are
 
@@ -131,23 +158,15 @@ base_kind : (b : ℕ) (k : Bool) → is_pentagon_base b ≡ k → is_pentagon (b
 base_kind b true e = rw e refl
 base_kind b false e = rw e refl
 
-pub length-cells_at : (r : ℕ) → length (cells_at r) ≡ 2 + 120 * 7 ^ r
-unfolding pentagons_among hexagons_among
-length-cells_at r =
+pub length-cells_of : (r : ℕ) → length (cells_of r) ≡ 2 + 120 * 7 ^ r
+unfolding cells_of pentagons_among hexagons_among
+length-cells_of r =
     let levels : r - 0 ≡ r = omega arith in
     let all = length_cells (λ b. descendants (base_cell b) r) (7 ^ r) (1 + 5 * ((7 ^ r - 1) / 6)) (λ b e. rw levels at (size_hexagon (base_cell b) r (base_kind b false e))) (λ b e. rw levels at (size_pentagon (base_cell b) r (base_kind b true e))) (range_with_len 0 122) in
     let pents : pentagons_among (range_with_len 0 122) ≡ 12 = refl in
     let hexes : hexagons_among (range_with_len 0 122) ≡ 110 = refl in
     let t = sixth r in
     omega (arith, rw (pents, hexes) at all, t.1)
-
-pub number_of_cells : (r : ℕ) → r < 16 → IsNumberOfCells r (2 + 120 * 7 ^ r)
-number_of_cells r h = record {
-  cells = cells_at r;
-  each = each_cell r h;
-  ascending = rising_from r h 0 122 (omega arith);
-  length_is = length-cells_at r;
-}
 
 -- ---- pentagons
 
@@ -179,16 +198,16 @@ pentagon_base_is b m = each_passes is_pentagon_base pentagon_bases refl b m
 center_pentagon : (b r : ℕ) → is_pentagon_base b ≡ true → is_pentagon (center_at (base_cell b) r) ≡ true
 center_pentagon b r h = let none : leading (replicate (r - 0) 0) ≡ 0 = leading-zeros_after [] (r - 0) in rw (h, none) refl
 
-pub each_pentagon : (r : ℕ) → r < 16 → (c : Address) → Contains (pentagons r) c ↔ (IsCell c × (length c.digits ≡ r) × (is_pentagon c ≡ true))
+each_pentagon : (r : ℕ) → r < 16 → (c : Address) → Contains (pentagons r) c ↔ (IsCell c × ((length c.digits ≡ r) × (is_pentagon c ≡ true)))
 unfolding pentagons
 each_pentagon r h c = (
   λ m. let t = from_map (λ b. center_at (base_cell b) r) pentagon_bases c m in
       let d = center (base_cell t.0) r (base_valid t.0 (pentagon_base_small t.0 t.1)) (omega arith) h in
-      subst (λ x. IsCell x × (length x.digits ≡ r) × (is_pentagon x ≡ true)) t.2 (d.valid, d.resolution_is, center_pentagon t.0 r (pentagon_base_is t.0 t.1)),
-  λ p. let parts = and_parts (is_pentagon_base c.base) (leading c.digits == 0) p.2 in
+      subst (λ x. IsCell x × ((length x.digits ≡ r) × (is_pentagon x ≡ true))) t.2 (d.valid, (d.resolution_is, center_pentagon t.0 r (pentagon_base_is t.0 t.1))),
+  λ p. let parts = and_parts (is_pentagon_base c.base) (leading c.digits == 0) p.1.1 in
       let test = parts.1 in
       let none : leading c.digits ≡ 0 = grind (arith, nat_tests) in
-      let levels : length c.digits ≡ r - 0 = omega (arith, p.1) in
+      let levels : length c.digits ≡ r - 0 = omega (arith, p.1.0) in
       let same : center_at (base_cell c.base) r ≡ c = address_same _ c refl (sym (zeros c.digits none ∙ ap (λ n. replicate n 0) levels)) in
       subst (Contains (map (λ b. center_at (base_cell b) r) pentagon_bases)) same (in_map (λ b. center_at (base_cell b) r) pentagon_bases c.base (any_in c.base pentagon_bases parts.0)),
 )
@@ -210,7 +229,7 @@ rising_map f rises (b ∷ bs) inside h =
     subst (λ y. number_of (f b) < number_of y) t.2 (rises b t.0 (inside b (0, omega arith, refl)) (inside t.0 (suc t.1.0, omega (arith, t.1.1), t.1.2)) less))
     (rising_map f rises bs (λ c m. inside c (suc m.0, omega (arith, m.1), m.2)) parts.1)
 
-pub pentagons_listed : (r : ℕ) → r < 16 → ListsPentagons r (pentagons r)
+pub pentagons_listed : PentagonsAreListed
 unfolding pentagons is_ascending
 pentagons_listed r h = record {
   each = each_pentagon r h;

@@ -1,7 +1,8 @@
 -- Cells by their numbers: base cells, pentagons, and how many cells a resolution has.
-use Rattle.std.specs.Prelude.{ℕ, ℤ, pos, negsuc, ◌≡◌, ◌<◌, ◌↔◌, nat_lt, List, length, map, AllPairs, Contains, Option, Some, None, true, if◌then◌else◌, []}
-use Rattle.h3_index.specs.Cell.{Address, IsCell, is_pentagon, number_of, pentagon_bases}
-use Rattle.h3_index.specs.Descendants.{center_at}
+use Rattle.std.specs.Prelude.{ℕ, ℤ, pos, negsuc, ◌≡◌, ◌+◌, ◌<◌, ◌≤◌, ◌↔◌, nat_lt, List, map, AllPairs, Contains, Option, Some, None, true, if◌then◌else◌, []}
+use Rattle.std.specs.List.{flat_map, range_with_len}
+use Rattle.h3_index.specs.Cell.{Address, IsCell, is_pentagon, number_of, pentagon_bases, resolution}
+use Rattle.h3_index.specs.Descendants.{center_at, descendants}
 
 -- a whole number from 0 up to below a limit
 unfoldable pub number_below : ℕ → ℤ → Option ℕ
@@ -16,21 +17,29 @@ resolution_of res = number_below 16 res
 abbrev pub base_cell : ℕ → Address
 base_cell b = record { base = b; digits = [] }
 
+-- the cells of a resolution, in ascending order: of each base cell its descendants
+unfoldable pub cells_of : ℕ → List Address
+cells_of r = flat_map (λ b. descendants (base_cell b) r) (range_with_len 0 122)
+
+-- the cells of resolution 0 to r, in ascending order: the coarser first
+unfoldable pub cells_up_to : ℕ → List Address
+cells_up_to r = flat_map cells_of (range_with_len 0 (r + 1))
+
 -- the pentagons of a resolution, in ascending order
 unfoldable pub pentagons : ℕ → List Address
 pentagons r = map (λ b. center_at (base_cell b) r) pentagon_bases
 
--- the list holds the pentagons of the resolution and nothing else, and ascends
-pub record ListsPentagons (r : ℕ) (cells : List Address) : Type 0 where
-  pub each : (c : Address) → Contains cells c ↔ (IsCell c × (length c.digits ≡ r) × (is_pentagon c ≡ true))
+-- the list holds the valid addresses that have the property and nothing else, and ascends
+pub record ListsCells (P : Address → Type 0) (cells : List Address) : Type 0 where
+  pub each : (c : Address) → Contains cells c ↔ (IsCell c × P c)
   pub ascending : AllPairs (λ a b. number_of a < number_of b) cells
+
+abbrev pub CellsAreListed : Type 0
+CellsAreListed = (r : ℕ) → r < 16 → ListsCells (λ c. resolution c ≡ r) (cells_of r)
+
+abbrev pub CellsUpToAreListed : Type 0
+CellsUpToAreListed = (r : ℕ) → r < 16 → ListsCells (λ c. resolution c ≤ r) (cells_up_to r)
 
 abbrev pub PentagonsAreListed : Type 0
-PentagonsAreListed = (r : ℕ) → r < 16 → ListsPentagons r (pentagons r)
-
--- there are so many cells of the resolution: a list that holds them and nothing else, and ascends, is as long
-pub record IsNumberOfCells (r count : ℕ) : Type 0 where
-  pub cells : List Address
-  pub each : (c : Address) → Contains cells c ↔ (IsCell c × (length c.digits ≡ r))
-  pub ascending : AllPairs (λ a b. number_of a < number_of b) cells
-  pub length_is : length cells ≡ count
+PentagonsAreListed =
+    (r : ℕ) → r < 16 → ListsCells (λ c. (resolution c ≡ r) × (is_pentagon c ≡ true)) (pentagons r)

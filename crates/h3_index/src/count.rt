@@ -1,8 +1,8 @@
 //! Cells by their numbers: base cells, pentagons, and how many cells a resolution has.
 
-ghost use Rattle.std.specs.Prelude.{◌≡◌, ◌+◌, ◌*◌, ◌^◌, ℕ, Some, None, IfOk, IfErr, MatchOption, IfSome, slice_get, ◌<◌};
+ghost use Rattle.std.specs.Prelude.{◌≡◌, ◌+◌, ◌*◌, ◌^◌, ℕ, length, Some, None, IfOk, IfErr, MatchOption, IfSome, slice_get, ◌<◌};
 ghost use Rattle.std.specs.Result.{result_ok};
-ghost use Rattle.h3_index.specs.Count.{IsNumberOfCells, PentagonsAreListed, base_cell, number_below, pentagons, resolution_of};
+ghost use Rattle.h3_index.specs.Count.{CellsAreListed, PentagonsAreListed, base_cell, cells_of, number_below, pentagons, resolution_of};
 
 use crate::cell::Cell;
 use crate::error::H3Error;
@@ -35,7 +35,8 @@ pub(crate) fn resolution_from(res: i32) -> Result<u8, H3Error>
 pub fn num_cells(res: i32) -> Result<u64, H3Error>
     ensures formula { MatchOption (resolution_of res) (result ≡ Err H3Error.ResDomain)
         (λ r. result ≡ Ok (2 + 120 * 7 ^ r)) }
-    ensures counted { IfOk result (λ count. IfSome (resolution_of res) (λ r. IsNumberOfCells r count)) }
+    ensures counted { IfOk result (λ count. IfSome (resolution_of res) (λ r. length (cells_of r) ≡ count)) }
+    ensures listed { CellsAreListed }
 {
     let res = resolution_from(res)?;
     Ok(2 + 120 * 7u64.pow(u32::from(res)))

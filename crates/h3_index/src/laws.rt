@@ -1,6 +1,7 @@
 //! Laws of the definitions that contracts here cite. Each function does nothing; what it ensures is a law that holds
 //! always, for the proofs of crates that call it.
 
+ghost use Rattle.h3_index.specs.Count.{CellsUpToAreListed};
 ghost use Rattle.h3_index.specs.Laws.{NumbersTellCells, CutsAreCells, DescendantsAreListed, DescendantsAscend, HexagonsHaveSevens, PentagonsHaveFewer, PathsAreChains};
 
 /// Cells of one number are one.
@@ -25,4 +26,9 @@ pub fn descendants_are_listed()
 /// The digits that lead down from a cell stand one after another, from zeros on.
 pub fn paths_are_chains()
     ensures { PathsAreChains }
+{}
+
+/// The list of the cells up to a resolution holds them and nothing else, and ascends.
+pub fn cells_are_listed()
+    ensures { CellsUpToAreListed }
 {}

@@ -1,5 +1,5 @@
 -- From the first part of a list to its compacted list.
-use Rattle.std.proofs.Common.{ℕ, zero, suc, ◌≡◌, ◌≢◌, ◌+◌, ◌-◌, ◌<◌, ◌≤◌, ◌↔◌, ◌⊎◌, ◌==◌, List, [], ◌∷◌, length, take, drop, All, AllPairs, Contains, Bool, true, false, not, None, IsPermutation, refl, arith, ◌∙◌, sym, ap, subst, inl, inr, get_or}
+use Rattle.std.proofs.Common.{ℕ, zero, suc, ◌≡◌, ◌≢◌, ◌+◌, ◌-◌, ◌<◌, ◌≤◌, ◌↔◌, ◌==◌, List, [], ◌∷◌, length, take, drop, All, AllPairs, Contains, Bool, true, false, not, None, IsPermutation, refl, arith, ◌∙◌, sym, ap, subst, inl, inr, get_or}
 use Rattle.std.proofs.lemmas.Bool.Decides.{nat_tests}
 use Rattle.std.proofs.lemmas.List.{drop-drop}
 use Rattle.std.proofs.lemmas.List.Elements.{All-contains, Contains-get_or}
@@ -8,7 +8,7 @@ use Rattle.std.proofs.lemmas.List.Sorted.{Contains-permutation, IsPermutation-sy
 use Rattle.std.proofs.lemmas.Map.Keys.{IsDistinct-IsPermutation}
 use Rattle.std.specs.List.{AllByRecursion, IsDistinct, list_any}
 use Rattle.h3_index.specs.Cell.{Address, IsCell, number_of, resolution}
-use Rattle.h3_index.specs.Descendants.{cut, IsAncestor, IsDescendant}
+use Rattle.h3_index.specs.Descendants.{IsAncestor}
 use Rattle.h3_index.specs.Laws.{NumbersTellCells}
 use Rattle.h3_tree.specs.Laws.{CellsFormTrees}
 use Rattle.h3_set.specs.Compacted.{IsCompacted, IsTop}
@@ -18,9 +18,10 @@ use Rattle.h3_set.specs.Refusals.{compaction_refusal, has_two_resolutions}
 use Rattle.h3_set.specs.Rounds.{InPart}
 use Rattle.h3_set.specs.declared.rounds.Compaction.{Compaction}
 use Rattle.h3_set.proofs.SearchLaws.{finest-one}
+use Rattle.h3_set.proofs.TestLaws.{dec_covered}
 use Rattle.h3_set.proofs.TopLaws.{compacted_from_tops}
 use Rattle.h3_set.proofs.PartLaws.{reached}
-use Rattle.h3_set.proofs.TreeLaws.{contains_cases, contains_head, contains_tail, dec_address, dec_number, Decided}
+use Rattle.h3_set.proofs.TreeLaws.{contains_cases, contains_head, contains_tail, dec_number}
 
 -- ---- the loop over the rounds
 
@@ -82,29 +83,6 @@ rises (x ∷ xs) p h zero (suc j) d lt lj =
     omega (arith, le, differ)
 rises (x ∷ xs) p h (suc i) (suc j) d lt lj =
     rises xs p.1 (λ k l e lt' ll. h (suc k) (suc l) e (omega (arith, lt')) (omega (arith, ll))) i j d (omega (arith, lt)) (omega (arith, lj))
-
--- ---- what is covered can be decided
-
-dec_above : (cells : List Address) (x : Address) → Decided ((a : Address) × Contains cells a × IsAncestor a x)
-dec_above [] x = inr (λ w. absurd (omega (arith, w.1.1)))
-dec_above (c ∷ cells) x =
-    elim (dec_address (cut x (length c.digits)) c) [
-      | inl e ↦ inl (c, contains_head c cells, e)
-      | inr e ↦ elim (dec_above cells x) [
-        | inl w ↦ inl (w.0, contains_tail c w.0 cells w.1, w.2)
-        | inr none ↦ inr (λ w. elim (contains_cases c w.0 cells w.1) [ inl f ↦ e (rw (← f) at w.2) | inr m ↦ none (w.0, m, w.2) ])
-      ]
-    ]
-
-dec_covered : (cells : List Address) (r : ℕ) (x : Address) → IsCell x → Decided (IsCovered cells r x)
-dec_covered cells r x v =
-    elim (dec_number (length x.digits) r) [
-      | inr e ↦ inr (λ c. e c.below.resolution_is)
-      | inl e ↦ elim (dec_above cells x) [
-        | inl w ↦ inl (record { by = w.0; member = w.1; below = record { valid = v; resolution_is = e; under = w.2 } })
-        | inr none ↦ inr (λ c. none (c.by, c.member, c.below.under))
-      ]
-    ]
 
 -- ---- cells of one resolution
 

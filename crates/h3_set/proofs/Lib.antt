@@ -8,6 +8,7 @@ pub mod Seen
 pub mod SeenLaws
 pub mod SetLaws
 pub mod StreamLaws
+pub mod TestLaws
 pub mod TopLaws
 pub mod TreeLaws
 pub mod TurnLaws

@@ -1,13 +1,12 @@
 -- Where the rounds begin, and how one leads to the next.
-use Rattle.std.proofs.Common.{ℕ, zero, suc, ◌≡◌, ◌≢◌, ◌+◌, ◌-◌, ◌<◌, ◌≤◌, ◌↔◌, ◌==◌, List, [], ◌∷◌, length, All, AllPairs, Contains, Bool, true, false, ◌||◌, refl, arith, ◌∙◌, sym, ap, subst, inl, inr, get_or}
+use Rattle.std.proofs.Common.{ℕ, zero, suc, ◌≡◌, ◌≢◌, ◌+◌, ◌<◌, ◌≤◌, ◌↔◌, ◌==◌, List, [], ◌∷◌, length, All, AllPairs, Contains, Bool, true, false, ◌||◌, refl, arith, sym, ap, inl, inr, get_or}
 use Rattle.std.proofs.lemmas.Bool.Decides.{nat_tests}
 use Rattle.std.proofs.lemmas.List.Elements.{All-contains, Contains-get_or}
 use Rattle.std.proofs.lemmas.List.Folds.{list_any_at}
 use Rattle.h3_index.specs.Cell.{Address, IsCell, number_of, resolution}
 use Rattle.h3_index.specs.Descendants.{IsAncestor}
 use Rattle.h3_tree.specs.Laws.{CellsFormTrees}
-use Rattle.h3_set.specs.Compacted.{parent_of, HasChildren}
-use Rattle.h3_set.specs.Coverage.{IsApart, IsCompactable, Overlap}
+use Rattle.h3_set.specs.Coverage.{IsApart, IsCompactable}
 use Rattle.h3_set.specs.Laws.{RoundsReachTheTop}
 use Rattle.h3_set.specs.Refusals.{has_repeat, is_listed}
 use Rattle.h3_set.specs.Rounds.{InPart, InRound}

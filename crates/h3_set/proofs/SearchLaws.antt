@@ -1,8 +1,8 @@
 -- What linear searches find.
-use Rattle.std.proofs.Common.{ℕ, zero, suc, ◌≡◌, ◌≢◌, ◌+◌, ◌<◌, ◌≤◌, ◌==◌, List, [], ◌∷◌, length, All, Contains, Bool, true, false, not, ◌||◌, refl, arith, sym, ap, get_or, ◌∙◌, max}
+use Rattle.std.proofs.Common.{ℕ, zero, suc, ◌≡◌, ◌≢◌, ◌<◌, ◌≤◌, ◌==◌, List, [], ◌∷◌, length, All, Contains, true, false, not, refl, arith, sym, ap, get_or, ◌∙◌}
 use Rattle.std.proofs.lemmas.Bool.Decides.{nat_tests}
 use Rattle.std.proofs.lemmas.List.Folds.{list_any_at, list_any_none}
-use Rattle.std.specs.List.{list_any, AllWithin}
+use Rattle.std.specs.List.{AllWithin}
 use Rattle.h3_index.specs.Cell.{Address, number_of, resolution}
 use Rattle.h3_set.specs.Coverage.{finest}
 use Rattle.h3_set.specs.Refusals.{has_repeat, has_two_resolutions, is_listed}

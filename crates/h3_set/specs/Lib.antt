@@ -1,6 +1,7 @@
 pub mod Compacted
 pub mod Compaction
 pub mod Coverage
+pub mod Examples
 pub mod Laws
 pub mod Refusals
 pub mod Rounds

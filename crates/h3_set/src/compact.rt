@@ -3,13 +3,13 @@
 ghost use Rattle.std.specs.Prelude.{◌≡◌, ◌≤◌, ◌↔◌, length, take, drop, Contains, IfOk, IsPermutation, List};
 ghost use Rattle.std.specs.Result.{result_err};
 ghost use Rattle.h3_index.specs.Cell.{Address};
-ghost use Rattle.h3_set.specs.Compacted.{HoldsOnce, IsCompacted};
+ghost use Rattle.h3_set.specs.Compacted.{compacted, HoldsOnce, IsCompacted, IsTop};
 ghost use Rattle.h3_set.specs.Coverage.{finest, IsCovered};
 ghost use Rattle.h3_set.specs.Refusals.{compaction_refusal};
 ghost use Rattle.h3_set.specs.Uncompaction.{uncompacted};
 
 use crate::rounds::Compaction;
-use h3_index::laws::numbers_tell_cells;
+use h3_index::laws::{cells_are_listed, numbers_tell_cells};
 use h3_index::{Cell, H3Error};
 use h3_tree::laws::cells_form_trees;
 
@@ -28,6 +28,11 @@ pub fn compact_cells(cells: &[Cell], slots: &mut [Cell]) -> Result<usize, H3Erro
     ensures fewer { IfOk result (λ m. m ≤ length cells.now) }
     ensures compacted { IfOk result (λ m. IsCompacted (IsCovered cells.now (finest cells.now)) (finest cells.now) (take m slots.new)) }
 
+    // It has the top cells of what is covered, and is the list that `compacted` computes.
+    ensures tops { IfOk result (λ m. (x : Address)
+        → Contains (take m slots.new) x ↔ IsTop (IsCovered cells.now (finest cells.now)) (finest cells.now) x) }
+    ensures is { IfOk result (λ m. take m slots.new ≡ compacted cells.now) }
+
     // There is no other such list; cells of one resolution cover themselves; below the list each of them stands once.
     ensures only { IfOk result (λ m. (others : List Address)
         → IsCompacted (IsCovered cells.now (finest cells.now)) (finest cells.now) others → others ≡ take m slots.new) }
@@ -36,6 +41,7 @@ pub fn compact_cells(cells: &[Cell], slots: &mut [Cell]) -> Result<usize, H3Erro
 {
     cells_form_trees();
     numbers_tell_cells();
+    cells_are_listed();
     let mut compaction = Compaction::start(cells, slots)?;
     while compaction.level() > 0 {
         compaction = compaction.round(slots);

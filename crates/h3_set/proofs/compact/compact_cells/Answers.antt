@@ -1,13 +1,13 @@
-use Rattle.std.proofs.Common.{◌≡◌, ◌≤◌, ◌<◌, ◌+◌, ◌↔◌, List, length, take, drop, Contains, Bool, true, false, None, Some, arith, sym, ap, subst, ◌∙◌}
-use Rattle.h3_index.specs.Cell.{Address, resolution}
-use Rattle.h3_set.specs.Compacted.{IsCompacted}
+use Rattle.std.proofs.Common.{◌≡◌, ◌↔◌, take, Contains, false, arith, sym, ◌∙◌}
+use Rattle.h3_index.specs.Cell.{Address}
 use Rattle.h3_set.specs.Compaction.{level_of, slots_in_use}
 use Rattle.h3_set.specs.Coverage.{finest, IsCovered}
-use Rattle.h3_set.specs.Refusals.{compaction_refusal, has_two_resolutions}
+use Rattle.h3_set.specs.Refusals.{has_two_resolutions}
 use Rattle.h3_set.specs.Rounds.{InPart}
 use Rattle.h3_set.proofs.CompactLaws.{all_finest, compacts, cover_themselves, drop_later, not_two}
-use Rattle.h3_set.proofs.SetLaws.{one_compacted}
+use Rattle.h3_set.proofs.SetLaws.{member_top, one_compacted, top_member}
 use Rattle.h3_set.proofs.StreamLaws.{streams_once}
+use Rattle.h3_set.proofs.TestLaws.{computes}
 use Rattle.h3_set.proofs.compact.compact_cells.Goals as goal
 
 pub loop-slots-preserved : goal.loop-slots-preserved
@@ -36,6 +36,17 @@ returns-clause-compacted c =
     let bottom : level_of c.loop-slots.compaction ≡ 0 = omega arith in
     let part : (x : Address) → Contains (take (slots_in_use c.loop-slots.compaction) c.loop-slots.slots) x ↔ InPart c.args.cells.now (finest c.args.cells.now) 0 x = rw bottom at i.part in
     rw c.finish.ensures.count (compacts c.cells_form_trees.ensures c.numbers_tell_cells.ensures c.args.cells.now (finest c.args.cells.now) i.small (take (slots_in_use c.loop-slots.compaction) c.loop-slots.slots) (take (slots_in_use c.loop-slots.compaction) c.finish.new.slots) c.finish.ensures.same i.apart part c.finish.ensures.ascending)
+
+pub returns-clause-tops : goal.returns-clause-tops
+returns-clause-tops c =
+    λ x. (
+      (λ m. member_top c.cells_form_trees.ensures (IsCovered c.args.cells.now (finest c.args.cells.now)) (finest c.args.cells.now) _ (omega (arith, c.loop-slots.invariant.small)) (returns-clause-compacted c) x m),
+      (λ t. top_member c.cells_form_trees.ensures (IsCovered c.args.cells.now (finest c.args.cells.now)) (finest c.args.cells.now) _ (omega (arith, c.loop-slots.invariant.small)) (returns-clause-compacted c) x t),
+    )
+
+pub returns-clause-is : goal.returns-clause-is
+returns-clause-is c =
+    one_compacted c.cells_form_trees.ensures (IsCovered c.args.cells.now (finest c.args.cells.now)) (finest c.args.cells.now) _ _ (omega (arith, c.loop-slots.invariant.small)) (returns-clause-compacted c) (computes c.cells_form_trees.ensures c.cells_are_listed.ensures c.args.cells.now c.loop-slots.invariant.small)
 
 pub returns-clause-only : goal.returns-clause-only
 returns-clause-only c = λ others h.

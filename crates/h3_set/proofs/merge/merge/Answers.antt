@@ -1,10 +1,9 @@
-use Rattle.std.proofs.Common.{◌≡◌, ◌-◌, ◌<◌, ◌≤◌, arith, sym, ◌∙◌, ap, take, drop, Contains, true, false, Bool, IsTrue, length, ◌↔◌, subst}
+use Rattle.std.proofs.Common.{◌≡◌, ◌-◌, ◌<◌, ◌≤◌, arith, sym, ◌∙◌, ap, take, drop, true, false, Bool, IsTrue, length, ◌↔◌}
 use Rattle.std.proofs.lemmas.Bool.{false≢true}
 use Rattle.std.proofs.lemmas.List.{length-drop}
 use Rattle.std.proofs.lemmas.List.Elements.{Contains-get_or}
-use Rattle.h3_index.specs.Cell.{Address}
 use Rattle.h3_index.specs.Descendants.{cut}
-use Rattle.h3_set.specs.Compacted.{parent_of, HasChildren}
+use Rattle.h3_set.specs.Compacted.{parent_of}
 use Rattle.h3_set.proofs.FrontLaws.{take_all}
 use Rattle.h3_set.proofs.Seen.{IsRoundSoFar}
 use Rattle.h3_set.proofs.SeenLaws.{round_from, round_to}

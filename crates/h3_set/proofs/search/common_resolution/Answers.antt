@@ -1,5 +1,4 @@
-use Rattle.std.proofs.Common.{◌≡◌, ◌+◌, length, arith, sym, ◌∙◌, ap, rules, All, refl, true, false}
-use Rattle.h3_index.specs.Cell.{resolution}
+use Rattle.std.proofs.Common.{◌≡◌, arith, sym, ◌∙◌, refl, true, false}
 use Rattle.h3_set.specs.Refusals.{has_two_resolutions}
 use Rattle.h3_set.proofs.SearchLaws.{two_resolutions_at, one_resolution, finest-one, same_within}
 use Rattle.h3_set.proofs.search.common_resolution.Goals as goal

@@ -1,5 +1,5 @@
-use Rattle.std.proofs.Common.{◌≡◌, ◌≤◌, ◌++◌, ◌↔◌, List, length, take, drop, Contains, arith, sym, ap, subst, ◌∙◌}
-use Rattle.h3_index.specs.Cell.{Address, resolution}
+use Rattle.std.proofs.Common.{◌≡◌, ◌++◌, ◌↔◌, List, length, take, drop, Contains, arith, sym, ap, subst, ◌∙◌}
+use Rattle.h3_index.specs.Cell.{Address}
 use Rattle.h3_set.specs.Coverage.{IsApart}
 use Rattle.h3_set.specs.Rounds.{InPart}
 use Rattle.h3_set.proofs.FrontLaws.{front_is}
