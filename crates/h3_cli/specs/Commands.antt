@@ -1,10 +1,10 @@
 -- The commands, and the command line that `clap` is told of.
 use Rattle.std.specs.Prelude.{List, [], ◌∷◌, map, true, false, codes}
-use Rattle.clap.specs.Words.{App, Shape, Text, new_app, with_subcommand}
-use Rattle.clap.specs.Simple.{new_shape, on_top}
+use Rattle.clap.specs.Words.{App, Shape, Text}
+use Rattle.clap.specs.Simple.{new_shape}
 use Rattle.h3_cli.specs.Options.{rule_for}
-use Rattle.h3_cli.specs.declared.command.Command.{Command}
-use Rattle.h3_cli.specs.declared.command.Command.TheVariants as command
+use Rattle.h3_command.specs.declared.command.Command.{Command}
+use Rattle.h3_command.specs.declared.command.Command.TheVariants as command
 use Rattle.h3_cli.specs.declared.options.CommandOption.{CommandOption}
 use Rattle.h3_cli.specs.declared.options.CommandOption.TheVariants.{Cell, Resolution, Position}
 use Rattle.h3_cli.specs.declared.commands.CommandName.{CommandName}
@@ -90,15 +90,3 @@ app = record {
   };
   subs = map shape_for command_names;
 }
-
--- a command that stands alone
-abbrev pub leaf_app : Text → List CommandOption → App
-leaf_app name os = record { top = leaf_with name os; subs = [] }
-
--- the command line before its first command
-abbrev pub bare_app : App
-bare_app = on_top (λ s. record s { subcommand_required = true; disable_help_subcommand = true }) (new_app (codes "h3"))
-
--- the command line with one command more
-abbrev pub with_command : App → CommandName → App
-with_command a k = with_subcommand a (shape_for k)

@@ -1,11 +1,7 @@
-pub mod Answer
 pub mod Call
 pub mod Commands
 pub mod Faults
 pub mod Given
-pub mod List
 pub mod Options
 pub mod PageWriter
-pub mod Refusal
-pub mod Run
 pub mod Spelling

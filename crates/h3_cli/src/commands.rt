@@ -8,9 +8,9 @@ ghost use Rattle.h3_cli.specs.Commands.{app, command_names, name_of_command, opt
 ghost use Rattle.h3_cli.specs.Spelling.{Answers, HasValues};
 ghost use Rattle.h3_cli.specs.declared.options.CommandOption.{CommandOption};
 
-use crate::command::Command;
 use crate::options::CommandOption;
 use clap::{ArgMatches, Command as Parser};
+use h3_command::Command;
 use std::alloc::{AllocError, Global};
 
 /// The name of a command.
@@ -148,7 +148,7 @@ impl CommandName {
                 "The descendant of a cell that stands at a position among those of a resolution"
             }
             CommandName::CompactCells => {
-                "The fewest cells that cover those listed on standard input, ascending"
+                "The compacted list of the cells listed on standard input, ascending"
             }
             CommandName::UncompactCells => {
                 "The descendants at a resolution of each cell listed on standard input"

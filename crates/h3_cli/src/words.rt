@@ -8,9 +8,9 @@ ghost use Rattle.h3_cli.specs.Faults.{IsFaultOf, IsToldAs};
 ghost use Rattle.h3_cli.specs.Spelling.{Spells};
 ghost use Rattle.h3_cli.specs.declared.words.WordsFault.TheVariants.{Memory};
 
-use crate::command::Command;
 use crate::commands::{CommandName, command_line};
 use clap::error::ErrorKind;
+use h3_command::Command;
 use std::alloc::{AllocError, Global};
 
 /// What the words of a command line ask for.

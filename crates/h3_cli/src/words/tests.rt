@@ -1,5 +1,5 @@
-use crate::command::Command;
 use crate::words::{Words, WordsFault, read_words};
+use h3_command::Command;
 use std::alloc::{AllocError, Global};
 use std::test::Fail;
 

@@ -3,14 +3,14 @@ use Rattle.std.specs.Prelude.{fold}
 use Rattle.std.proofs.lemmas.List.Sums.{fold_more}
 use Rattle.clap.specs.Words.{with_subcommand}
 use Rattle.clap.specs.Simple.{app_of_fields, on_top}
-use Rattle.h3_cli.specs.Commands.{bare_app, with_command}
+use Rattle.h3_cli.proofs.Building.{bare_app, with_command}
 use Rattle.h3_cli.specs.declared.commands.CommandName.TheVariants.{IsValidCell}
 use Rattle.h3_cli.proofs.commands.command_line.Goals as goal
 
 pub loop-name-init : goal.loop-name-init
 loop-name-init c = ap app_of_fields c.disable_help_subcommand-parser.ensures
     ∙ ap (on_top (λ s. record s { disable_help_subcommand = true })) (ap app_of_fields c.subcommand_required.ensures
-    ∙ ap (on_top (λ s. record s { subcommand_required = true })) c.new.ensures.app)
+    ∙ ap (on_top (λ s. record s { subcommand_required = true })) (ap app_of_fields c.about.ensures ∙ c.new.ensures.app))
 
 pub loop-name-preserved : goal.loop-name-preserved
 loop-name-preserved c = let made = c.in_ok-parser-2.ensures in let inner = c.in_ok-parser.ensures in

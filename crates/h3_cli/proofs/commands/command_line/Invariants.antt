@@ -1,7 +1,7 @@
 use Rattle.std.proofs.Common.{◌≡◌, take}
 use Rattle.std.specs.Prelude.{fold}
 use Rattle.clap.specs.Words.{app_of}
-use Rattle.h3_cli.specs.Commands.{bare_app, with_command}
+use Rattle.h3_cli.proofs.Building.{bare_app, with_command}
 use Rattle.h3_cli.proofs.commands.command_line.Given as goal
 
 abbrev pub invariant-loop-name : goal.invariant-loop-name

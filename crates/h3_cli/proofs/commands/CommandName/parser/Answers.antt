@@ -1,12 +1,16 @@
 use Rattle.std.proofs.Common.{ap, ap₂, ◌∙◌, ◌||◌, Bool, take_all}
 use Rattle.clap.specs.Words.{App, new_app, with_rule}
+use Rattle.clap.specs.Simple.{app_of_fields}
 use Rattle.h3_cli.specs.Commands.{leaf_with, word_of}
 use Rattle.h3_cli.specs.declared.options.CommandOption.TheVariants.{Cell}
 use Rattle.h3_cli.proofs.Building.{leaf_more}
 use Rattle.h3_cli.proofs.commands.CommandName.parser.Goals as goal
 
 pub loop-option-init : goal.loop-option-init
-loop-option-init c = (c.new-parser.ensures.app ∙ ap new_app c.word.ensures, c.new-parser.ensures.local)
+loop-option-init c = (
+  ap app_of_fields c.about-parser.ensures ∙ c.new.ensures.app ∙ ap new_app c.word.ensures,
+  ap (λ f. f.has_globals) c.about-parser.ensures ∙ c.new.ensures.local,
+)
 
 pub loop-option-preserved : goal.loop-option-preserved
 loop-option-preserved c =

@@ -1,0 +1,4 @@
+pub mod Lines
+pub mod ListLines
+pub mod Pages
+pub mod Written

@@ -1,0 +1,12 @@
+use Rattle.std.proofs.Common.{w32, rules, ◌≡◌, ℤ, inl, subst}
+use Rattle.std.proofs.lemmas.Int.{to_z-of_z}
+use Rattle.h3_command.specs.Answer.{uncompact_cells_answer}
+use Rattle.h3_command.specs.Run.{WritesAs}
+use Rattle.h3_command.proofs.Written.{writes_weaker}
+use Rattle.h3_command.proofs.run.perform.Goals as goal
+
+pub returns-in-UncompactCells-clause-writes : goal.returns-in-UncompactCells-clause-writes
+returns-in-UncompactCells-clause-writes g c list rows told table =
+    let res = c.in-UncompactCells.res in
+    let writes = c.uncompact_cells.ensures.writes list (rw c.in-UncompactCells.is at told) in
+    rw c.in-UncompactCells.is (writes_weaker c.uncompact_cells.result _ _ _ _ _ inl (rw (to_z-of_z w32 res (search rules)) at writes))

@@ -1,0 +1,4 @@
+pub mod Answer
+pub mod List
+pub mod Refusal
+pub mod Run

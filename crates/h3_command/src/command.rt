@@ -1,0 +1,90 @@
+//! The commands.
+
+/// A command with what its words spell: one variant a command, named as H3's functions are.
+///
+/// An index is `None` where its word spells none.
+#[derive(Clone, Copy, Debug, PartialEq, Eq)]
+pub enum Command {
+    /// Whether an index is a valid cell.
+    IsValidCell {
+        cell: Option<u64>,
+    },
+
+    /// The resolution of a cell.
+    GetResolution {
+        cell: Option<u64>,
+    },
+
+    /// The base cell of a cell.
+    GetBaseCellNumber {
+        cell: Option<u64>,
+    },
+
+    /// Whether a cell is a pentagon.
+    IsPentagon {
+        cell: Option<u64>,
+    },
+
+    /// Whether the resolution of a cell is Class III.
+    IsResClassIII {
+        cell: Option<u64>,
+    },
+
+    /// How many cells a resolution has.
+    GetNumCells {
+        res: i32,
+    },
+
+    /// The cells of resolution 0.
+    GetRes0Cells,
+
+    /// The pentagons of a resolution.
+    GetPentagons {
+        res: i32,
+    },
+
+    /// The ancestor of a cell at a resolution.
+    CellToParent {
+        cell: Option<u64>,
+        res: i32,
+    },
+
+    /// The descendant of a cell at a resolution whose further digits are 0.
+    CellToCenterChild {
+        cell: Option<u64>,
+        res: i32,
+    },
+
+    /// The descendants of a cell at a resolution.
+    CellToChildren {
+        cell: Option<u64>,
+        res: i32,
+    },
+
+    /// How many descendants a cell has at a resolution.
+    CellToChildrenSize {
+        cell: Option<u64>,
+        res: i32,
+    },
+
+    /// The position of a cell among the descendants of its ancestor at a resolution.
+    CellToChildPos {
+        cell: Option<u64>,
+        res: i32,
+    },
+
+    /// The descendant of a cell at a resolution that stands at a position.
+    ChildPosToCell {
+        position: u64,
+        cell: Option<u64>,
+        res: i32,
+    },
+
+    /// The cells that cover those of a list with no overlap and no complete set of siblings.
+    CompactCells,
+
+    /// The cells of a resolution below the cells of a list.
+    UncompactCells {
+        res: i32,
+    },
+}
