@@ -3,7 +3,7 @@
 ghost use Rattle.std.specs.Prelude.{◌≡◌, ◌<◌, ◌++◌, ◌∷◌, [], ℕ, List, length};
 ghost use Rattle.h3_command.specs.Answer.{cell_line, number_line, truth_line};
 
-use arrayvec::ArrayVec;
+use arrayvec::ArrayString;
 use h3_index::{Cell, write_index};
 use itoa::Buffer;
 
@@ -15,26 +15,26 @@ pub trait Line {
     /// The line, ended by a line feed.
     ghost line_of: { Self → List ℕ };
 
-    /// Puts the line in place of the bytes of a buffer.
-    fn put(&self, line: &mut ArrayVec<u8, ROOM>)
-        ensures { line.new.items ≡ line_of self.now };
+    /// Puts the line in place of the text of a buffer.
+    fn put(&self, line: &mut ArrayString<ROOM>)
+        ensures { line.new.bytes ≡ line_of self.now };
 }
 
-/// Puts the text and a line feed in place of the bytes of a buffer.
+/// Puts the text and a line feed in place of the text of a buffer.
 #[inline]
-fn put_text(line: &mut ArrayVec<u8, ROOM>, text: &str)
+fn put_text(line: &mut ArrayString<ROOM>, text: &str)
     requires { length text.now < 32 }
-    ensures { line.new.items ≡ text.now ++ 10 ∷ [] }
+    ensures { line.new.bytes ≡ text.now ++ 10 ∷ [] }
 {
     line.clear();
-    line.try_extend_from_slice(text.as_bytes()).unwrap();
-    line.push(b'\n');
+    line.push_str(text);
+    line.push_str("\n");
 }
 
 impl Line for bool {
     ghost line_of = { truth_line };
 
-    fn put(&self, line: &mut ArrayVec<u8, ROOM>) {
+    fn put(&self, line: &mut ArrayString<ROOM>) {
         put_text(line, if *self { "true" } else { "false" });
     }
 }
@@ -42,7 +42,7 @@ impl Line for bool {
 impl Line for u64 {
     ghost line_of = { number_line };
 
-    fn put(&self, line: &mut ArrayVec<u8, ROOM>) {
+    fn put(&self, line: &mut ArrayString<ROOM>) {
         let mut buffer = Buffer::new();
         put_text(line, buffer.format(*self));
     }
@@ -51,7 +51,8 @@ impl Line for u64 {
 impl Line for Cell {
     ghost line_of = { cell_line };
 
-    fn put(&self, line: &mut ArrayVec<u8, ROOM>) {
+    #[inline]
+    fn put(&self, line: &mut ArrayString<ROOM>) {
         put_text(line, write_index(self.raw()).as_str());
     }
 }

@@ -10,10 +10,11 @@ ghost use Rattle.h3_command.specs.Run.{AppendsPart, WritesAs, Ends};
 
 use crate::line::Line;
 use crate::refusal::Refusal;
-use arrayvec::ArrayVec;
+use arrayvec::ArrayString;
 use h3_index::{Sink, StreamFault};
 
 /// Writes all of the bytes, in as many pushes as it takes.
+#[inline]
 pub fn write_all<W: Sink>(out: &mut W, bytes: &[u8]) -> Result<(), StreamFault>
     ensures written { OnOk result (Appends (W.taken out.old) (W.taken out.new) bytes.now) }
     ensures ok { OnOk result (W.has_failed out.new ≡ W.has_failed out.old) }
@@ -43,9 +44,9 @@ pub fn write_line<W: Sink, L: Line>(out: &mut W, value: &L) -> Result<(), Refusa
     ensures writes { WritesAs (written (L.line_of value.now)) ⊥ result (W.taken out.old) (W.taken out.new) }
     ensures ends { Ends false (W.has_failed out.new) result (W.taken out.old) (W.taken out.new) }
 {
-    let mut line = ArrayVec::new();
+    let mut line = ArrayString::new();
     value.put(&mut line);
-    write_answer(out, line.as_slice())
+    write_answer(out, line.as_str().as_bytes())
 }
 
 /// Writes a line for each item.
@@ -62,10 +63,10 @@ fn write_items<W: Sink, L: Line + Drop, I: Iterator<Item = L> + Drop>(
     ensures ok { OnOk result (W.has_failed out.new ≡ W.has_failed out.old) }
     ensures err { OnErr result (W.has_failed out.new ≡ true) }
 {
-    let mut line = ArrayVec::new();
+    let mut line = ArrayString::new();
     for item in items {
         item.put(&mut line);
-        write_all(out, line.as_slice())?;
+        write_all(out, line.as_str().as_bytes())?;
     }
     Ok(())
 }

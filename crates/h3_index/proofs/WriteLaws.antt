@@ -1,14 +1,21 @@
 -- Writing the text of an index, and reading it back.
 use Rattle.std.specs.Char.{digit_char, digit_value, is_digit}
 use Rattle.std.specs.Int.Digits.{number_from_digits, AllBelowBase}
+use Rattle.std.specs.Int.Count.{count_leading_zeros}
 use Rattle.std.specs.List.{list_all, slice_index}
 use Rattle.std.specs.Str.{IsAscii}
-use Rattle.std.proofs.Common.{ℕ, zero, suc, ◌≡◌, ◌≢◌, ◌+◌, ◌-◌, ◌*◌, ◌/◌, ◌%◌, ◌^◌, ◌<◌, ◌≤◌, ◌==◌, ◌⊎◌, nat_lt, nat_le, List, [], ◌∷◌, ◌++◌, length, take, drop, map, reverse, get_or, set, Bool, true, false, ◌&&◌, ◌||◌, Some, if◌then◌else◌, refl, arith, sym, ap, ◌∙◌, lit<, lit≤, inl, inr, eqb-true}
+use Rattle.std.specs.String.Boundary.{IsSplitPoint}
+use Rattle.std.proofs.Common.{ℕ, zero, suc, ◌≡◌, ◌≢◌, ◌+◌, ◌-◌, ◌*◌, ◌/◌, ◌%◌, ◌^◌, ◌<◌, ◌≤◌, ◌==◌, ◌⊎◌, nat_lt, nat_le, List, [], ◌∷◌, ◌++◌, length, take, drop, map, reverse, replicate, get_or, set, Bool, true, false, ◌&&◌, ◌||◌, Some, if◌then◌else◌, refl, arith, sym, ap, ◌∙◌, le-div_iff_mul-le, div-lt_iff_lt-mul, lit<, lit≤, inl, inr, eqb-true}
+use Rattle.std.proofs.Math.Nat.{div-div-eq-div-mul, one-le-pow, pow-suc, pow-zero}
+use Rattle.std.proofs.Math.Pow.{pow_mono}
+use Rattle.std.proofs.Math.Seq.{take-append_seam}
 use Rattle.std.proofs.lemmas.Bool.{agree_below_at, ltb-true}
 use Rattle.std.proofs.lemmas.Bool.Decides.{nat_tests}
 use Rattle.std.proofs.lemmas.Int.Digits.{digits_value_is}
-use Rattle.std.proofs.lemmas.List.{drop-map, drop_all, drop_more, get_or-map, length-set, map-append, length-map, take_all, take_more, take_more_set, reverse-reverse, reverse-append}
+use Rattle.std.proofs.lemmas.List.{append-nil, append_assoc, length-set, map-append, length-map, replicate-append-replicate, take-map, take_all, take_more, take_more_set, reverse-reverse, reverse-append}
+use Rattle.std.proofs.lemmas.Nat.{leading_top, mod_below, pow-add, shl_whole}
 use Rattle.h3_index.specs.Digits.{last_digits}
+use Rattle.h3_index.specs.declared.text.TheConstants.{PAIRS}
 use Rattle.h3_index.specs.Text.{is_blank, without_leading_blanks, trimmed, without_prefix, without_leading_zeros, spelled_index, text_of}
 use Rattle.h3_index.proofs.DigitsLaws.{number-last_digits, below-last_digits, length-last_digits, get_or-last_digits, sixteens}
 
@@ -44,57 +51,100 @@ pub all_digits : (v i : ℕ) (bytes : List ℕ) → 16 ≤ i → HasDigits v i b
 all_digits v i bytes all has =
     sym (take_all i bytes (omega (arith, has.room))) ∙ has.front ∙ ap (map digit_char) (take_all i (digits_of v) (omega (arith, length-last_digits 16 16 v)))
 
+-- ---- two digits at once
+
+pub pair_at : (b : ℕ) → b < 256 → (get_or PAIRS (2 * b) 0 ≡ digit_char (b / 16)) × (get_or PAIRS (2 * b + 1) 0 ≡ digit_char (b % 16))
+pair_at b h = (
+  eqb-true _ _ (agree_below_at (λ b. get_or PAIRS (2 * b) 0 == digit_char (b / 16)) (λ _. true) 256 b refl h),
+  eqb-true _ _ (agree_below_at (λ b. get_or PAIRS (2 * b + 1) 0 == digit_char (b % 16)) (λ _. true) 256 b refl h),
+)
+
+-- the digits of one byte more
+pub pair_put : (v p b : ℕ) (bytes : List ℕ) → p < 8 → b ≡ v / 2 ^ (56 - 8 * p) % 256 → HasDigits v (2 * p) bytes
+    → HasDigits v (2 * (p + 1)) (set (set bytes (2 * p) (get_or PAIRS (2 * b) 0)) (2 * p + 1) (get_or PAIRS (2 * b + 1) 0))
+pair_put v p b bytes less is has =
+    let x = v / 2 ^ (56 - 8 * p) in
+    let pair = pair_at b (omega (arith, is, mod_below (v / 2 ^ (56 - 8 * p)) 256 (lit< tt))) in
+    let shift : 56 - 8 * p + 4 ≡ 60 - 4 * (2 * p) = omega arith in
+    let power : 2 ^ (60 - 4 * (2 * p)) ≡ 2 ^ (56 - 8 * p) * 16 = rw shift at (pow-add 2 (56 - 8 * p) 4) in
+    let first : b / 16 ≡ v / 2 ^ (60 - 4 * (2 * p)) % 16 = rw (is, power, ← div-div-eq-div-mul v (2 ^ (56 - 8 * p)) 16) (omega arith) in
+    let same : 60 - 4 * (2 * p + 1) ≡ 56 - 8 * p = omega arith in
+    let second : b % 16 ≡ v / 2 ^ (60 - 4 * (2 * p + 1)) % 16 = rw (is, same) (omega arith) in
+    let next : 2 * p + 1 + 1 ≡ 2 * (p + 1) = omega arith in
+    rw (pair.0, pair.1, ← next) (digit_put v (2 * p + 1) (b % 16) _ (omega arith) second (digit_put v (2 * p) (b / 16) bytes (omega arith) first has))
+
 -- ---- the zeros in front
 
-zero_of : (d : ℕ) → digit_char d ≡ 48 → d ≡ 0
-zero_of d e = go (nat_lt d 10) refl e
-  where
-    go : (b : Bool) → nat_lt d 10 ≡ b → (if b then 48 + d else 87 + d) ≡ 48 → d ≡ 0
-    go true t f = omega arith
-    go false t f = omega arith
+one_zero : (z : ℕ) → ◌++◌ {A = ℕ} (replicate z 0) (0 ∷ []) ≡ replicate (suc z) 0
+one_zero z = replicate-append-replicate {A = ℕ} z 1 0 ∙ (let e : z + 1 ≡ suc z = omega arith in ap (λ n. replicate {A = ℕ} n 0) e)
 
--- these are digits, of which the first z, but not all, are zeros
-pub record Skips (digits : List ℕ) (z : ℕ) : Type 0 where
-  pub less : z < length digits
-  pub same : (values : List ℕ) → digits ≡ map digit_char values → without_leading_zeros (drop z values) ≡ without_leading_zeros values
+zero_digits : (z : ℕ) → last_digits 16 z 0 ≡ replicate z 0
+zero_digits zero = refl
+zero_digits (suc z) = ap (λ l. l ++ 0 ∷ []) (zero_digits z) ∙ one_zero z
 
-value_at : (digits values : List ℕ) (z : ℕ) → z < length digits → digits ≡ map digit_char values
-    → (slice_index digits z ≡ digit_char (get_or values z 0)) × (drop z values ≡ get_or values z 0 ∷ drop (z + 1) values) × (length digits ≡ length values)
-value_at digits values z less is =
-    let long : length digits ≡ length values = ap length is ∙ length-map values digit_char in
-    let in_values : z < length values = omega arith in
-    (ap (λ l. get_or l z 0) is ∙ get_or-map digit_char values z 0 0 in_values, drop_more values z 0 in_values, long)
+-- a number of k digits has zeros in front of them
+front_zeros : (z k v : ℕ) → v < 16 ^ k → last_digits 16 (z + k) v ≡ replicate z 0 ++ last_digits 16 k v
+front_zeros z zero v small =
+    let none : v ≡ 0 = omega (arith, rw pow-zero at small) in
+    let same : z + 0 ≡ z = omega arith in
+    rw (none, same, append-nil) (zero_digits z)
+front_zeros z (suc k) v small =
+    let next : z + suc k ≡ suc (z + k) = omega arith in
+    let less : v / 16 < 16 ^ k = omega (arith, rw (pow-suc 16 k) at small) in
+    rw (next, front_zeros z k (v / 16) less, append_assoc) refl
 
-pub skip_more : (digits : List ℕ) (z : ℕ) → Skips digits z → z + 1 < length digits → slice_index digits z ≡ 48 → Skips digits (z + 1)
-skip_more digits z skips more zero_there = record {
-  less = more;
-  same = λ values is.
-      let at = value_at digits values z skips.less is in
-      let first : get_or values z 0 ≡ 0 = zero_of (get_or values z 0) (sym at.0 ∙ zero_there) in
-      sym (ap without_leading_zeros (at.1 ∙ ap (λ d. d ∷ drop (z + 1) values) first)) ∙ skips.same values is;
-}
+-- z zeros come after the digits of v
+pub back_zeros : (k z v : ℕ) → last_digits 16 (k + z) (v * 16 ^ z) ≡ last_digits 16 k v ++ replicate z 0
+back_zeros k zero v =
+    let same : k + 0 ≡ k = omega arith in
+    let one : v * 1 ≡ v = omega arith in
+    rw (same, pow-zero 16, one, append-nil) refl
+back_zeros k (suc z) v =
+    let next : k + suc z ≡ suc (k + z) = omega arith in
+    let shifted : v * (16 ^ z * 16) ≡ v * 16 ^ z * 16 = grind arith in
+    let front : v * 16 ^ z * 16 / 16 ≡ v * 16 ^ z = omega arith in
+    let last : v * 16 ^ z * 16 % 16 ≡ 0 = omega arith in
+    rw (next, pow-suc 16 z, shifted, front, last, back_zeros k z v, append_assoc) (ap (λ l. last_digits 16 k v ++ l) (one_zero z))
+
+skip_zeros : (z : ℕ) (ds : List ℕ) → without_leading_zeros (replicate z 0 ++ ds) ≡ without_leading_zeros ds
+skip_zeros zero ds = refl
+skip_zeros (suc z) ds = skip_zeros z ds
 
 one_kept : (d : ℕ) → without_leading_zeros (d ∷ []) ≡ d ∷ []
 one_kept zero = refl
 one_kept (suc d) = let not_zero : (suc d == 0) ≡ false = grind (arith, nat_tests) in rw not_zero refl
 
-other_kept : (d : ℕ) (ds : List ℕ) → digit_char d ≢ 48 → without_leading_zeros (d ∷ ds) ≡ d ∷ ds
-other_kept zero ds other = absurd (other refl)
-other_kept (suc d) ds other = let not_zero : (suc d == 0) ≡ false = grind (arith, nat_tests) in rw not_zero refl
+other_kept : (ds : List ℕ) → 0 < get_or ds 0 0 → without_leading_zeros ds ≡ ds
+other_kept [] some = absurd (omega (arith, some))
+other_kept (zero ∷ ds) some = absurd (omega (arith, some))
+other_kept (suc d ∷ ds) some = let not_zero : (suc d == 0) ≡ false = grind (arith, nat_tests) in rw not_zero refl
 
--- at the last digit, or at one that is not 0
-pub skip_end : (digits : List ℕ) (z : ℕ) → Skips digits z → (length digits ≤ z + 1) ⊎ (slice_index digits z ≢ 48) → (values : List ℕ) → digits ≡ map digit_char values
-    → drop z digits ≡ map digit_char (without_leading_zeros values)
-skip_end digits z skips why values is =
-    let at = value_at digits values z skips.less is in
-    let kept : without_leading_zeros (drop z values) ≡ drop z values = elim why [
-      | inl last ↦
-          let none : drop (z + 1) values ≡ [] = drop_all (z + 1) values (omega (arith, at.2)) in
-          let one : drop z values ≡ get_or values z 0 ∷ [] = at.1 ∙ ap (λ l. get_or values z 0 ∷ l) none in
-          ap without_leading_zeros one ∙ one_kept (get_or values z 0) ∙ sym one
-      | inr other ↦ ap without_leading_zeros at.1 ∙ other_kept (get_or values z 0) (drop (z + 1) values) (λ e. other (at.0 ∙ e)) ∙ sym at.1
+-- the digits from the first that is not 0 on, or the last alone
+pub rest_is : (v z : ℕ) → z ≤ 15 → v < 16 ^ (16 - z) → (z ≡ 15) ⊎ (16 ^ (15 - z) ≤ v) → without_leading_zeros (digits_of v) ≡ last_digits 16 (16 - z) v
+rest_is v z few small why =
+    let all : z + (16 - z) ≡ 16 = omega arith in
+    let digits : digits_of v ≡ replicate z 0 ++ last_digits 16 (16 - z) v = rw all at (front_zeros z (16 - z) v small) in
+    let kept : without_leading_zeros (last_digits 16 (16 - z) v) ≡ last_digits 16 (16 - z) v = elim why [
+      | inl last ↦ let one : 16 - z ≡ 1 = omega (arith, last) in rw one (one_kept (v % 16))
+      | inr some ↦
+          let count : suc (15 - z) ≡ 16 - z = omega arith in
+          let below : v < 16 ^ (15 - z) * 16 = rw (← count, pow-suc 16 (15 - z)) at small in
+          let first : get_or (last_digits 16 (16 - z) v) 0 0 ≡ v / 16 ^ (15 - z) % 16 = get_or-last_digits 16 (16 - z) v 0 (15 - z) 0 (omega arith) in
+          let power : 0 < 16 ^ (15 - z) = one-le-pow (15 - z) 16 (lit< tt) in
+          let least : 1 ≤ v / 16 ^ (15 - z) = (le-div_iff_mul-le power).1 (omega (arith, some)) in
+          let most : v / 16 ^ (15 - z) < 16 = (div-lt_iff_lt-mul power).1 (omega (arith, below)) in
+          other_kept (last_digits 16 (16 - z) v) (omega (arith, first, least, most))
     ] in
-    ap (drop z) is ∙ drop-map digit_char z values ∙ ap (map digit_char) (sym kept ∙ skips.same values is)
+    ap without_leading_zeros digits ∙ skip_zeros z (last_digits 16 (16 - z) v) ∙ kept
+
+-- what the zeros in front of a number's bits tell
+pub zeros_counted : (v : ℕ) → 16 ≤ v → v < 2 ^ 64
+    → (count_leading_zeros 64 v / 4 ≤ 15) × (v < 16 ^ (16 - count_leading_zeros 64 v / 4)) × (16 ^ (15 - count_leading_zeros 64 v / 4) ≤ v)
+zeros_counted v some small =
+    let (j, count, least, most) = leading_top 64 v (omega arith) small in
+    let above : 2 ^ suc j ≤ 2 ^ (4 * (16 - count_leading_zeros 64 v / 4)) = pow_mono (omega arith) in
+    let below : 2 ^ (4 * (15 - count_leading_zeros 64 v / 4)) ≤ 2 ^ j = pow_mono (omega arith) in
+    (omega (arith, count), rw (← sixteens (16 - count_leading_zeros 64 v / 4)) (omega (arith, most, above)), rw (← sixteens (15 - count_leading_zeros 64 v / 4)) (omega (arith, least, below)))
 
 -- ---- its bytes
 
@@ -190,20 +240,23 @@ spelled_back ds h some short =
     let short_test : nat_le (length (map digit_char ds)) 16 ≡ true = grind (arith, nat_tests) in
     rw (text_trimmed ds, no_prefix ds h, some_test, short_test, digits_back ds h) (ap Some (digits_value_is 16 (map digit_char ds) ∙ ap (number_from_digits 16) (values_back ds h)))
 
-pub text_is : (v : ℕ) → map digit_char (without_leading_zeros (digits_of v)) ≡ text_of v
+-- moved up to the front, the digits that count are the text
+pub text_moved : (v z : ℕ) → z ≤ 15 → v < 16 ^ (16 - z) → without_leading_zeros (digits_of v) ≡ last_digits 16 (16 - z) v
+    → take (16 - z) (map digit_char (digits_of (v * 2 ^ (4 * z) % 2 ^ 64))) ≡ text_of v
 unfolding text_of
-text_is v = refl
+text_moved v z few small rest =
+    let fits : v < 2 ^ (4 * (16 - z)) = rw (sixteens (16 - z)) small in
+    let moved : v * 2 ^ (4 * z) % 2 ^ 64 ≡ v * 16 ^ z = shl_whole v (4 * (16 - z)) (4 * z) 64 fits (omega arith) ∙ ap (λ n. v * n) (sixteens z) in
+    let all : 16 - z + z ≡ 16 = omega arith in
+    let digits : digits_of (v * 16 ^ z) ≡ last_digits 16 (16 - z) v ++ replicate z 0 = rw all at (back_zeros (16 - z) z v) in
+    let seam : take (16 - z) (last_digits 16 (16 - z) v ++ replicate z 0) ≡ last_digits 16 (16 - z) v = rw (length-last_digits 16 (16 - z) v) at (take-append_seam (last_digits 16 (16 - z) v) (replicate z 0)) in
+    take-map digit_char (16 - z) (digits_of (v * 2 ^ (4 * z) % 2 ^ 64)) ∙ ap (map digit_char) (ap (λ n. take (16 - z) (digits_of n)) moved ∙ ap (take (16 - z)) digits ∙ seam ∙ sym rest)
 
-pub text_ascii : (v : ℕ) → IsAscii (text_of v)
-unfolding text_of
-text_ascii v = ascii_digits (without_leading_zeros (digits_of v)) (below_stays (digits_of v) (below-last_digits 16 16 v (lit< tt)))
+pub digits_ascii : (v : ℕ) → IsAscii (map digit_char (digits_of v))
+digits_ascii v = ascii_digits (digits_of v) (below-last_digits 16 16 v (lit< tt))
 
-pub text_short : (v : ℕ) → length (text_of v) ≤ 16
-unfolding text_of
-text_short v =
-    let size : length (digits_of v) ≡ 16 = length-last_digits 16 16 v in
-    let short = length_stays (digits_of v) (omega (arith, size)) in
-    omega (arith, short.1, size, length-map (without_leading_zeros (digits_of v)) digit_char)
+pub ascii_split : (bytes : List ℕ) (n : ℕ) → IsAscii bytes → n ≤ length bytes → IsSplitPoint bytes n
+ascii_split bytes n ascii within = (within, λ some less high. absurd (omega (arith, ascii n, high)))
 
 pub text_spells : (v : ℕ) → v < 2 ^ 64 → spelled_index (text_of v) ≡ Some v
 unfolding text_of

@@ -1,6 +1,6 @@
 //! The texts of indexes.
 
-ghost use Rattle.std.specs.Prelude.{◌≡◌, ◌==◌, ◌<◌, ◌≤◌, ℕ, List, length, map, IfErr, IsAscii};
+ghost use Rattle.std.specs.Prelude.{◌≡◌, ◌==◌, ◌-◌, ◌^◌, ◌<◌, ◌≤◌, ℕ, List, length, map, IfErr, IsAscii};
 ghost use Rattle.std.specs.Char.{digit_char};
 ghost use Rattle.std.specs.Result.{result_ok};
 ghost use Rattle.h3_index.specs.Digits.{last_digits};
@@ -90,45 +90,46 @@ pub fn read_index(bytes: &[u8]) -> Result<u64, H3Error>
     read_digits(without_prefix(text)).ok_or(H3Error::Failed)
 }
 
-/// The byte of a hexadecimal digit, in lower case.
-fn digit_byte(digit: u8) -> u8
-    requires { digit < 16 }
-    ensures { result ≡ digit_char digit }
-{
-    if digit < 10 {
-        b'0' + digit
-    } else {
-        b'a' - 10 + digit
-    }
-}
+/// The two hexadecimal digits of each byte, in lower case.
+const PAIRS: [u8; 512] = *b"\
+    000102030405060708090a0b0c0d0e0f101112131415161718191a1b1c1d1e1f\
+    202122232425262728292a2b2c2d2e2f303132333435363738393a3b3c3d3e3f\
+    404142434445464748494a4b4c4d4e4f505152535455565758595a5b5c5d5e5f\
+    606162636465666768696a6b6c6d6e6f707172737475767778797a7b7c7d7e7f\
+    808182838485868788898a8b8c8d8e8f909192939495969798999a9b9c9d9e9f\
+    a0a1a2a3a4a5a6a7a8a9aaabacadaeafb0b1b2b3b4b5b6b7b8b9babbbcbdbebf\
+    c0c1c2c3c4c5c6c7c8c9cacbcccdcecfd0d1d2d3d4d5d6d7d8d9dadbdcdddedf\
+    e0e1e2e3e4e5e6e7e8e9eaebecedeeeff0f1f2f3f4f5f6f7f8f9fafbfcfdfeff";
 
 /// The sixteen hexadecimal digits of an index, in lower case.
 fn digits_of(index: u64) -> [u8; 16]
     ensures { result ≡ map digit_char (last_digits 16 16 index) }
 {
     let mut digits = [b'0'; 16];
-    for place in 0..16 {
-        digits[place] = digit_byte((index >> (60 - 4 * place) & 15) as u8);
+    for pair in 0..8 {
+        let byte = (index >> (56 - 8 * pair) & 255) as usize;
+        digits[2 * pair] = PAIRS[2 * byte];
+        digits[2 * pair + 1] = PAIRS[2 * byte + 1];
     }
     digits
 }
 
-/// The digits from the first that is not 0 on, or the last alone.
-fn without_leading_zeros(digits: &[u8]) -> &[u8]
-    requires { 0 < length digits.now }
-    ensures { (values : List ℕ) → digits.now ≡ map digit_char values → result.now ≡ map digit_char (without_leading_zeros values) }
+/// How many of the sixteen digits of an index are zeros in front of another digit.
+fn zeros_in_front(index: u64) -> u32
+    ensures few { result ≤ 15 }
+    ensures small { index < 16 ^ (16 - result) }
+    ensures rest { without_leading_zeros (last_digits 16 16 index) ≡ last_digits 16 (16 - result) index }
 {
-    let mut zeros = 0;
-    while zeros + 1 < digits.len() && digits[zeros] == b'0' {
-        zeros += 1;
+    if index < 16 {
+        15
+    } else {
+        index.leading_zeros() / 4
     }
-    &digits[zeros..]
 }
 
 /// The bytes as a text.
-fn text_from(bytes: &[u8]) -> ArrayString<16>
-    requires ascii { IsAscii bytes.now }
-    requires room { length bytes.now ≤ 16 }
+fn text_from(bytes: &[u8; 16]) -> ArrayString<16>
+    requires { IsAscii bytes.now }
     ensures { result.bytes ≡ bytes.now }
 {
     let mut text = ArrayString::new();
@@ -142,5 +143,9 @@ pub fn write_index(index: u64) -> ArrayString<16>
     ensures text { result.bytes ≡ text_of index }
     ensures spells { spelled_index (text_of index) ≡ Some index }
 {
-    text_from(without_leading_zeros(&digits_of(index)))
+    let zeros = zeros_in_front(index);
+    // The digits from the first that counts on stand in front, so that all sixteen are put at once.
+    let mut text = text_from(&digits_of(index << (4 * zeros)));
+    text.truncate(16 - zeros as usize);
+    text
 }

@@ -2,4 +2,4 @@ use Rattle.std.proofs.lemmas.Str.{IsUtf8-from_ascii}
 use Rattle.h3_index.proofs.text.text_from.Goals as goal
 
 pub from_utf8_unchecked-requires : goal.from_utf8_unchecked-requires
-from_utf8_unchecked-requires c = IsUtf8-from_ascii c.args.bytes.now c.requires.ascii
+from_utf8_unchecked-requires c = IsUtf8-from_ascii c.args.bytes.now c.requires
