@@ -50,7 +50,9 @@ fn pentagons_and_classes_are_told(rt: HostRuntime) -> Result<(), Fail> {
     let beside = Cell::new(0x8108bffffffffff)?;
     assert!(rt; !beside.is_pentagon());
     assert!(rt; beside.in_pentagon_base());
-    assert!(rt; Cell::new(0x85283473fffffff)?.is_class_iii());
+    let hexagon = Cell::new(0x85283473fffffff)?;
+    assert!(rt; !hexagon.is_pentagon() && !hexagon.in_pentagon_base());
+    assert!(rt; hexagon.is_class_iii());
     assert!(rt; !Cell::new(0x8009fffffffffff)?.is_class_iii());
     Ok(())
 }
@@ -255,14 +257,11 @@ fn base_cells_and_pentagons_are_made(rt: HostRuntime) -> Result<(), Fail> {
 }
 
 #[test]
-fn cells_have_their_kind(rt: HostRuntime) -> Result<(), Fail> {
-    let pentagon = Cell::new(0x81083ffffffffff)?;
-    let child = Cell::new(0x8108bffffffffff)?;
-    let hexagon = Cell::new(0x85283473fffffff)?;
-    assert!(rt; pentagon.is_pentagon() && !child.is_pentagon() && !hexagon.is_pentagon());
-    assert!(rt;
-        pentagon.in_pentagon_base() && child.in_pentagon_base() && !hexagon.in_pentagon_base()
-    );
-    assert!(rt; hexagon.is_class_iii() && !Cell::new(0x8009fffffffffff)?.is_class_iii());
+fn cells_are_ordered_by_number(rt: HostRuntime) -> Result<(), Fail> {
+    let first = Cell::new(0x8001fffffffffff)?;
+    let last = Cell::new(0x80f3fffffffffff)?;
+    let finer = Cell::new(0x81083ffffffffff)?;
+    assert!(rt; first < last && last < finer);
+    assert!(rt; first == Cell::new(0x8001fffffffffff)? && first != last);
     Ok(())
 }

@@ -56,7 +56,7 @@ fn expansion(z: Eisenstein, resolution: u8) -> (Eisenstein, Digits)
 }
 
 /// The sum of a cell and a direction, for a cell that is in no pentagon base cell: the direction's unit is added to
-/// the cell's place. As H3's neighbour of a cell across one of its sides, before the crossing into another base cell.
+/// the cell's place. It is the part of H3's `h3NeighborRotations` before the crossing into another base cell.
 pub fn add(cell: Cell, direction: Direction) -> Moved
     requires { is_pentagon_base cell.base ≡ false }
     ensures is { IsMoved cell direction result }

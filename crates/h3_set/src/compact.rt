@@ -1,4 +1,4 @@
-//! Compaction: the fewest cells that cover those of a list.
+//! Compaction: the one list of cells that covers those of a list, with no overlap and no complete set of siblings.
 
 ghost use Rattle.std.specs.Prelude.{◌≡◌, ◌≤◌, ◌↔◌, length, take, drop, Contains, IfOk, IsPermutation, List};
 ghost use Rattle.std.specs.Result.{result_err};
@@ -14,11 +14,14 @@ use h3_index::{Cell, H3Error};
 use h3_tree::laws::cells_form_trees;
 
 /// Puts into the first slots the one ascending list of cells, of which no two overlap, that covers exactly the cells
-/// given and holds no complete set of siblings, as H3's `compactCells` does; answers how many they are. There must be
-/// as many slots as cells; what stands in a slot after the list and before that number of cells is not said.
+/// given and holds no complete set of siblings, as H3's `compactCells` does; answers how many they are. It takes no
+/// memory.
+///
+/// There must be at least as many slots as cells. Slots after that number stay as they are; what stands between the
+/// list and that number is not said.
 ///
 /// `ResMismatch` where the cells have two resolutions: no slot is written. Else `DuplicateInput` where a cell is listed
-/// twice: the first slots hold the cells, in some order.
+/// twice: the first slots, as many as cells, hold the cells in some order.
 pub fn compact_cells(cells: &[Cell], slots: &mut [Cell]) -> Result<usize, H3Error>
     requires { length cells.now ≤ length slots.old }
     ensures refused { result_err result ≡ compaction_refusal cells.now }

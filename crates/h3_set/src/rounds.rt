@@ -24,10 +24,10 @@ pub struct Compaction {
 }
 
 impl Compaction {
-    /// Puts the cells into the first slots. There must be as many slots as cells.
+    /// Puts the cells into the first slots. There must be at least as many slots as cells; the others stay as they are.
     ///
     /// `ResMismatch` where the cells have two resolutions: no slot is written. Else `DuplicateInput` where a cell is
-    /// listed twice: the first slots hold the cells, in some order.
+    /// listed twice: the first slots, as many as cells, hold the cells in some order.
     pub fn start(cells: &[Cell], slots: &mut [Cell]) -> Result<Compaction, H3Error>
         requires { length cells.now ≤ length slots.old }
         ensures refused { result_err result ≡ compaction_refusal cells.now }
@@ -70,8 +70,11 @@ impl Compaction {
     }
 
     /// Replaces each complete set of siblings of this round's resolution by the parent; all other cells stay, in some
-    /// order. The level must not be 0, and no cells at two of the slots in use may overlap, as `start` and `round`
-    /// leave them.
+    /// order. The level falls by one, and no more slots are in use than before; those that were not in use stay as they
+    /// are.
+    ///
+    /// The level must not be 0, there must be at least as many slots as are in use, and no cells at two of these may
+    /// overlap, as `start` and `round` leave them.
     pub fn round(self, slots: &mut [Cell]) -> Compaction
         requires some_level { 0 < level_of self }
         requires room { slots_in_use self ≤ length slots.old }
@@ -97,7 +100,8 @@ impl Compaction {
         }
     }
 
-    /// Puts the slots in use into ascending order, and answers how many they are.
+    /// Puts the slots in use into ascending order, whatever the level, and answers how many they are. There must be at
+    /// least as many slots; the others stay as they are.
     pub fn finish(self, slots: &mut [Cell]) -> usize
         requires { slots_in_use self ≤ length slots.old }
         ensures count { result ≡ slots_in_use self }

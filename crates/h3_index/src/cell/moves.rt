@@ -32,7 +32,7 @@ impl Cell {
         }
     }
 
-    /// The cell of a digit one level below. A pentagon has none of digit 1.
+    /// The cell of a digit, 0 to 6, one level below a cell coarser than resolution 15. A pentagon has none of digit 1.
     pub fn child(self, digit: u8) -> Cell
         requires coarse { length self.digits < 15 }
         requires at_most_six { digit < 7 }
