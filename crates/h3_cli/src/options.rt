@@ -35,30 +35,39 @@ impl CommandOption {
         }
     }
 
-    /// The option as `clap` takes it.
-    pub fn argument<'a>(self, alloc: Global) -> Arg<'a>
+    /// What help says of the option.
+    fn about<'a>(self) -> &'a str {
+        match self {
+            CommandOption::Cell => "A cell's index in hexadecimal",
+            CommandOption::Resolution => "A resolution, 0 to 15",
+            CommandOption::Position => "A position, from 0",
+        }
+    }
+
+    /// The option as `clap` takes it, but for what help says.
+    fn bare_argument<'a>(self, alloc: Global) -> Arg<'a>
         ensures rule { rule_of result ≡ rule_for self }
         ensures local { result.global ≡ false }
     {
         let argument = Arg::new(alloc, self.id()).required(true);
         match self {
-            CommandOption::Cell => argument
-                .short('c')
-                .long("cell")
-                .value_name("CELL")
-                .help("A cell's index in hexadecimal"),
+            CommandOption::Cell => argument.short('c').long("cell"),
             CommandOption::Resolution => argument
                 .short('r')
                 .long("resolution")
-                .value_name("RESOLUTION")
-                .help("A resolution, 0 to 15")
                 .value_parser(value_parser!(i64).range(0..=2147483647)),
             CommandOption::Position => argument
                 .long("position")
-                .value_name("POSITION")
-                .help("A position, from 0")
                 .value_parser(value_parser!(i64).range(0..=9223372036854775807)),
         }
+    }
+
+    /// The option as `clap` takes it.
+    pub fn argument<'a>(self, alloc: Global) -> Arg<'a>
+        ensures rule { rule_of result ≡ rule_for self }
+        ensures local { result.global ≡ false }
+    {
+        self.bare_argument(alloc).help(self.about())
     }
 
     /// The index that the option's text spells.
