@@ -125,11 +125,13 @@ impl Cell {
 
     /// Whether the cell is one of the twelve pentagons of its resolution, as H3's `isPentagon` tells: its base cell is
     /// a pentagon, and its digits are all 0.
+    #[inline(always)]
     pub fn is_pentagon(self) -> bool
         ensures { result ≡ is_pentagon self }
     {
-        self.in_pentagon_base()
-            && (self.raw & 0x1fff_ffff_ffff) >> (3 * (15 - self.resolution())) == 0
+        // The digits alone tell most cells.
+        (self.raw & 0x1fff_ffff_ffff) >> (3 * (15 - self.resolution())) == 0
+            && self.in_pentagon_base()
     }
 
     /// Whether the cell lies in one of the twelve pentagon base cells.

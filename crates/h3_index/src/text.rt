@@ -144,7 +144,7 @@ pub fn write_index(index: u64) -> ArrayString<16>
     ensures spells { spelled_index (text_of index) ≡ Some index }
 {
     let zeros = zeros_in_front(index);
-    // The digits from the first that counts on stand in front, so that all sixteen are put at once.
+    // The zeros are shifted out and all sixteen digits put at once: a copy of so many as count would take longer.
     let mut text = text_from(&digits_of(index << (4 * zeros)));
     text.truncate(16 - zeros as usize);
     text

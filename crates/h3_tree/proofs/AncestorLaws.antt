@@ -1,9 +1,9 @@
 -- How cells stand above one another.
-use Rattle.std.proofs.Common.{ℕ, zero, suc, ◌≡◌, ◌-◌, ◌≤◌, List, [], ◌∷◌, length, map, take, replicate, Contains, refl, arith, ◌∙◌, sym, ap, subst}
+use Rattle.std.proofs.Common.{ℕ, zero, suc, ◌≡◌, ◌-◌, ◌≤◌, List, [], ◌∷◌, length, take, Contains, refl, arith, ◌∙◌, sym, ap}
 use Rattle.std.proofs.Math.Seq.{take-length}
 use Rattle.std.proofs.lemmas.List.{length-take, length-take-le}
-use Rattle.h3_index.specs.Cell.{Address, IsCell, is_pentagon}
-use Rattle.h3_index.specs.Descendants.{along, center_at, cut, descendants, IsAncestor, IsDescendant}
+use Rattle.h3_index.specs.Cell.{Address, is_pentagon}
+use Rattle.h3_index.specs.Descendants.{center_at, cut, descendants, IsAncestor}
 use Rattle.h3_index.specs.Laws.{CutsAreCells, DescendantsAreListed, DescendantsAscend, IsChain, PathsAreChains}
 use Rattle.h3_tree.specs.Laws.{CellsFormTrees}
 

@@ -1,5 +1,6 @@
 -- Positions level by level: under a cell and under its child, on the way up and on the way down.
-use Rattle.std.proofs.Common.{ℕ, ◌≡◌, ◌≢◌, ◌+◌, ◌-◌, ◌*◌, ◌/◌, ◌%◌, ◌^◌, ◌<◌, ◌≤◌, ◌==◌, List, [], ◌∷◌, ◌++◌, length, take, Bool, true, false, refl, slice_get, Some, get_or, length-append, arith, ◌∙◌, sym, ap, subst, inl, inr}
+use Rattle.std.proofs.Common.{ℕ, ◌≡◌, ◌≢◌, ◌+◌, ◌-◌, ◌*◌, ◌/◌, ◌%◌, ◌^◌, ◌<◌, ◌≤◌, ◌==◌, zero, suc, List, [], ◌∷◌, ◌++◌, length, take, Bool, true, false, refl, slice_get, Some, get_or, length-append, arith, ◌∙◌, sym, ap, subst, inl, inr}
+use Rattle.std.proofs.Math.Nat.{pow-suc}
 use Rattle.std.proofs.Math.Seq.{take-length}
 use Rattle.std.proofs.lemmas.Bool.{cases_Bool}
 use Rattle.std.proofs.lemmas.Bool.Decides.{nat_tests}
@@ -11,7 +12,7 @@ use Rattle.h3_index.specs.Cell.{Address, IsCell, is_pentagon}
 use Rattle.h3_index.specs.Descendants.{child, cut, descendants, IsDescendant}
 use Rattle.h3_index.specs.Paths.{next_step}
 use Rattle.h3_tree.specs.Positions.{position_under, DescendantsAreKnown, HasPosition}
-use Rattle.h3_tree.proofs.BlockLaws.{IsBlock, and_false, block_at, child-cut, get-block, length-blocks, not_deleted, offset, outer_size, pentagon-child}
+use Rattle.h3_tree.proofs.BlockLaws.{IsBlock, block_at, child-cut, get-block, length-blocks, not_deleted, offset, outer_size, pentagon-child}
 use Rattle.h3_tree.proofs.FollowingLaws.{address_same, digit_small}
 use Rattle.h3_tree.proofs.PositionLaws.{get-position_under, members_have_positions, position_under-get, size_small, size_some}
 use Rattle.h3_tree.proofs.SizeLaws.{sevens_some}
@@ -35,6 +36,23 @@ child_of laws m x s d before place v w high b from to h =
     let under : IsDescendant (child m d) s x = (laws.members (child m d) s w low high x).0 (place - before, to, here) in
     record { descendant = under; is = ap (position_under (child m d)) (sym here) ∙ position_under-get laws (child m d) s (place - before) x w low high to }
 
+-- ---- below a hexagon
+
+no_zero : (k : ℕ) → k ≢ 0 → (k == 0) ≡ false
+no_zero k h = grind (arith, nat_tests)
+
+hexagon_size : DescendantsAreKnown → (m : Address) (s d outer : ℕ) → is_pentagon m ≡ false → outer ≡ 7 ^ (s - length m.digits - 1) → length (descendants (child m d) s) ≡ outer
+hexagon_size laws m s d outer h o =
+    let less : s - length (m.digits ++ d ∷ []) ≡ s - length m.digits - 1 = omega (arith, length-append m.digits (d ∷ [])) in
+    laws.hexagons (child m d) s (pentagon-child m d ∙ (rw h refl)) ∙ ap (λ n. 7 ^ n) less ∙ sym o
+
+offset_hexagon : (p : Bool) (outer d : ℕ) → p ≡ false → offset p outer outer d ≡ d * outer
+offset_hexagon true outer d h = cc
+offset_hexagon false outer zero h = omega arith
+offset_hexagon false outer (suc d) h =
+    let back : suc d - 1 ≡ d = omega arith in
+    rw (no_zero (suc d) (λ e. omega (arith, e)), back) (grind arith)
+
 -- ---- how many stand before a cell's own
 
 pub record IsBefore (c : Address) (s before : ℕ) : Type 0 where
@@ -48,9 +66,6 @@ before_of laws m c s d before e v w high b =
       omega (arith, first.0, size_small laws m s high),
       subst (λ y. (x : Address) → IsDescendant y s x → position_under m x ≡ before + position_under y x) e (λ x h. position_under-child laws m x s d before v w' high b h),
     )
-
-no_zero : (k : ℕ) → k ≢ 0 → (k == 0) ≡ false
-no_zero k h = grind (arith, nat_tests)
 
 -- d is the last digit of a cell that is not coarser than s
 pub record IsLastDigit (c : Address) (s d : ℕ) : Type 0 where
@@ -75,21 +90,19 @@ last_digit c parent s d own v own_is some low high d_is parent_is w =
       small = rw (← is) (digit_small c.digits (length c.digits - 1) v.digits_small (omega arith));
     }
 
-step_low : (p : Bool) (d : ℕ) → d ≢ 0 → (p ≡ true → d ≢ 1) → next_step p 0 ≤ d
-step_low true d nz ok = let one = ok refl in omega (arith, nz, one)
-step_low false d nz ok = omega (arith, nz)
-
 module _ (laws : DescendantsAreKnown) (c : Address) (s d : ℕ) (h : IsLastDigit c s d) where
   parent_level : length (take (length c.digits - 1) c.digits) ≡ length c.digits - 1
   parent_level = length-take-le (length c.digits - 1) c.digits (omega (arith, h.some))
+
+  parent_power : s - length c.digits ≡ s - length (take (length c.digits - 1) c.digits) - 1
+  parent_power = omega (arith, parent_level, h.some)
 
   whole_cell : child (cut c (length c.digits - 1)) d ≡ c
   whole_cell = child-cut c d h.some h.is
 
   before_at : (center outer : ℕ) → center ≡ length (descendants (child (cut c (length c.digits - 1)) 0) s) → outer ≡ 7 ^ (s - length c.digits) → IsBefore c s (offset (is_pentagon (cut c (length c.digits - 1))) center outer d)
   before_at center outer e o =
-      let more : s - length c.digits ≡ s - length (take (length c.digits - 1) c.digits) - 1 = omega (arith, parent_level, h.some) in
-      let b = block_at laws.hexagons (cut c (length c.digits - 1)) s d center outer (omega (arith, parent_level, h.some, h.low)) e (o ∙ ap (λ n. 7 ^ n) more) h.small (not_deleted (cut c (length c.digits - 1)) d (subst IsCell (sym whole_cell) h.valid)) in
+      let b = block_at laws.hexagons (cut c (length c.digits - 1)) s d center outer (omega (arith, parent_level, h.some, h.low)) e (o ∙ ap (λ n. 7 ^ n) parent_power) h.small (not_deleted (cut c (length c.digits - 1)) d (subst IsCell (sym whole_cell) h.valid)) in
       let f = before_of laws (cut c (length c.digits - 1)) c s d (offset (is_pentagon (cut c (length c.digits - 1))) center outer d) whole_cell h.parent_valid h.valid h.high b in
       record { small = f.0; ahead = f.1 }
 
@@ -97,16 +110,19 @@ module _ (laws : DescendantsAreKnown) (c : Address) (s d : ℕ) (h : IsLastDigit
   before_center z =
       rw z at (before_at (length (descendants (child (cut c (length c.digits - 1)) 0) s)) (7 ^ (s - length c.digits)) refl refl)
 
-  pub not_pentagon : d ≢ 0 → is_pentagon c ≡ false
-  not_pentagon nz =
-      subst (λ y. is_pentagon y ≡ false) whole_cell (pentagon-child (cut c (length c.digits - 1)) d ∙ (rw (no_zero d nz) (and_false (is_pentagon (cut c (length c.digits - 1))))))
+  pub before_hexagon : (outer : ℕ) → is_pentagon (cut c (length c.digits - 1)) ≡ false → outer ≡ 7 ^ (s - length c.digits) → IsBefore c s (d * outer)
+  before_hexagon outer hexagon o =
+      let center = hexagon_size laws (cut c (length c.digits - 1)) s 0 outer hexagon (o ∙ ap (λ n. 7 ^ n) parent_power) in
+      subst (IsBefore c s) (offset_hexagon (is_pentagon (cut c (length c.digits - 1))) outer d hexagon) (before_at outer outer (sym center) o)
 
-  pub after_center : (step : ℕ) → d ≢ 0 → step ≡ next_step (is_pentagon (cut c (length c.digits - 1))) 0 → step ≤ d
-  after_center step nz e =
-      rw e (step_low (is_pentagon (cut c (length c.digits - 1))) d nz (not_deleted (cut c (length c.digits - 1)) d (subst IsCell (sym whole_cell) h.valid)))
+  pub after_deleted : is_pentagon (cut c (length c.digits - 1)) ≡ true → d ≢ 0 → 2 ≤ d
+  after_deleted pentagon nz =
+      let one : d ≢ 1 = not_deleted (cut c (length c.digits - 1)) d (subst IsCell (sym whole_cell) h.valid) pentagon in
+      omega (arith, nz, one)
 
-  pub before_outer : (center outer : ℕ) → d ≢ 0 → center ≡ length (descendants (child (cut c (length c.digits - 1)) 0) s) → outer ≡ 7 ^ (s - length c.digits) → IsBefore c s (center + (d - next_step (is_pentagon (cut c (length c.digits - 1))) 0) * outer)
-  before_outer center outer nz e o = rw (no_zero d nz) at (before_at center outer e o)
+  pub before_pentagon : (center outer : ℕ) → is_pentagon (cut c (length c.digits - 1)) ≡ true → d ≢ 0 → center ≡ length (descendants (child (cut c (length c.digits - 1)) 0) s) → outer ≡ 7 ^ (s - length c.digits) → IsBefore c s (center + (d - 2) * outer)
+  before_pentagon center outer pentagon nz e o =
+      subst (λ p. IsBefore c s (center + (d - next_step p 0) * outer)) pentagon (rw (no_zero d nz) at (before_at center outer e o))
 
 -- ---- the child that has a descendant
 
@@ -153,7 +169,7 @@ module _ (laws : DescendantsAreKnown) (m : Address) (s place center outer : ℕ)
       let back : next_step (is_pentagon m) 0 + (place - center) / outer - next_step (is_pentagon m) 0 ≡ (place - center) / outer = omega arith in
       rw (no_zero (next_step (is_pentagon m) 0 + (place - center) / outer) not_center, back) at b
 
-  pub below_outer : IsChildBelow m s place (next_step (is_pentagon m) 0 + (place - center) / outer) ((place - center) % outer)
+  below_outer : IsChildBelow m s place (next_step (is_pentagon m) 0 + (place - center) / outer) ((place - center) % outer)
   below_outer =
       let split = div-add-mod' (place - center) outer in
       let low = mod_below (place - center) outer outer_some in
@@ -166,6 +182,33 @@ module _ (laws : DescendantsAreKnown) (m : Address) (s place center outer : ℕ)
         ok = λ t e. omega (arith, e, second_below_pentagon (is_pentagon m) t);
         below = λ w x h. rw rest at (child_of laws m x s (next_step (is_pentagon m) 0 + (place - center) / outer) (center + (place - center) / outer * outer) place v w high begins start inside h);
       }
+
+  pub below_pentagon : is_pentagon m ≡ true → IsChildBelow m s place (2 + (place - center) / outer) ((place - center) % outer)
+  below_pentagon pentagon =
+      subst (λ p. IsChildBelow m s place (next_step p 0 + (place - center) / outer) ((place - center) % outer)) pentagon below_outer
+
+pub below_hexagon : DescendantsAreKnown → (m : Address) (s place outer : ℕ) → IsCell m → length m.digits < s → s ≤ 15 → is_pentagon m ≡ false → outer ≡ 7 ^ (s - length m.digits - 1) → place < length (descendants m s)
+    → IsChildBelow m s place (place / outer) (place % outer)
+below_hexagon laws m s place outer v finer high hexagon o within =
+    let some : 0 < outer = rw o (omega (arith, sevens_some (s - length m.digits - 1))) in
+    let next : suc (s - length m.digits - 1) ≡ s - length m.digits = omega arith in
+    let all : length (descendants m s) ≡ 7 * outer = laws.hexagons m s hexagon ∙ ap (λ n. 7 ^ n) (sym next) ∙ pow-suc 7 (s - length m.digits - 1) ∙ (rw o (grind arith)) in
+    let few : place / outer < 7 = div_below place outer 7 some (omega (arith, all, within)) in
+    let split = div-add-mod' place outer in
+    let rest : place - place / outer * outer ≡ place % outer = omega (arith, split) in
+    let start : place / outer * outer ≤ place = omega (arith, split) in
+    let inside : place - place / outer * outer < length (descendants (child m (place / outer)) s) =
+    rw (rest, hexagon_size laws m s (place / outer) outer hexagon o) (mod_below place outer some) in
+    let b = block_at laws.hexagons m s (place / outer) outer outer finer (sym (hexagon_size laws m s 0 outer hexagon o)) o few (λ t. absurd (differs t)) in
+    let begins : IsBlock m s (place / outer) (place / outer * outer) = subst (IsBlock m s (place / outer)) (offset_hexagon (is_pentagon m) outer (place / outer) hexagon) b in
+    record {
+      small = few;
+      ok = λ t. absurd (differs t);
+      below = λ w x h. rw rest at (child_of laws m x s (place / outer) (place / outer * outer) place v w high begins start inside h);
+    }
+  where
+    differs : is_pentagon m ≡ true → ⊥
+    differs t = let e : true ≡ false = sym t ∙ hexagon in cc
 
 -- ---- down to a descendant
 

@@ -8,6 +8,7 @@ ghost use Rattle.h3_tree.specs.Children.{children_left};
 ghost use Rattle.h3_tree.specs.Refusals.{descent_refusal};
 
 use crate::iter::Children;
+use crate::powers::power_of_seven;
 use crate::resolutions::resolution_from;
 use h3_index::laws::descendants_are_listed;
 use h3_index::{Cell, H3Error};
@@ -35,7 +36,7 @@ pub(crate) fn size_at(cell: Cell, r: u8) -> u64
         → result ≡ 1 + 5 * ((7 ^ (r - length cell.digits) - 1) / 6) }
 {
     descendants_are_listed();
-    let sevens = 7u64.pow(u32::from(r - cell.resolution()));
+    let sevens = power_of_seven(r - cell.resolution());
     if cell.is_pentagon() {
         1 + 5 * ((sevens - 1) / 6)
     } else {

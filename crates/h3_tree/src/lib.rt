@@ -6,6 +6,7 @@ mod descendants;
 mod iter;
 pub mod laws;
 mod positions;
+mod powers;
 mod resolutions;
 
 pub use ancestors::parent;

@@ -2,14 +2,14 @@
 
 ghost use Rattle.std.specs.Prelude.{◌≡◌, ◌+◌, ◌-◌, ◌<◌, ◌≤◌, length, IfOk, Some, slice_get, unsigned_abs};
 ghost use Rattle.std.specs.Result.{result_err};
-ghost use Rattle.h3_index.specs.Cell.{Address, IsCell, is_pentagon, resolution};
+ghost use Rattle.h3_index.specs.Cell.{Address, IsCell, resolution};
 ghost use Rattle.h3_index.specs.Descendants.{cut, descendants, IsDescendant};
-ghost use Rattle.h3_index.specs.Paths.{next_step};
 ghost use Rattle.h3_tree.specs.Positions.{position_under, DescendantsAreKnown, HasPosition, MembersHavePositions, PositionsTellMembers};
 ghost use Rattle.h3_tree.specs.Refusals.{parent_refusal, position_refusal};
 
 use crate::ancestors::parent;
 use crate::descendants::size_at;
+use crate::powers::power_of_seven;
 use crate::resolutions::resolution_from;
 use h3_index::laws::descendants_are_listed;
 use h3_index::{Cell, H3Error};
@@ -19,14 +19,6 @@ fn descendants_are_known()
     ensures { DescendantsAreKnown }
 {
     descendants_are_listed();
-}
-
-/// The digit of the child that comes after a cell's center child: 1, but 2 below a pentagon, whose child of digit 1
-/// is deleted.
-fn digit_after_center(cell: Cell) -> u8
-    ensures { result ≡ next_step (is_pentagon cell) 0 }
-{
-    if cell.is_pentagon() { 2 } else { 1 }
 }
 
 /// How many descendants of the parent of a cell stand before the cell's own, at a resolution.
@@ -41,17 +33,24 @@ fn before_own(cell: Cell, r: u8) -> u64
     let own = cell.resolution();
     let digit = cell.digit(own);
     let parent = cell.cut(own - 1);
+    let outer = power_of_seven(r - own);
+    if !parent.is_pentagon() {
+        return u64::from(digit) * outer;
+    }
     if digit == 0 {
         return 0;
     }
+    // A pentagon's center child has fewer descendants, and its child of digit 1 is deleted.
     let center = size_at(parent.child(0), r);
-    let between = digit - digit_after_center(parent);
-    center + u64::from(between) * size_at(cell, r)
+    center + u64::from(digit - 2) * outer
 }
 
-/// The child of a cell that has the descendant at a position, and the descendant's position under that child.
-fn child_below(position: u64, cell: Cell, r: u8) -> (Cell, u64)
-    requires finer { length cell.digits < r }
+/// The child of a cell, whose resolution is given, that has the descendant at a position, and the descendant's
+/// position under that child.
+fn child_below(position: u64, cell: Cell, level: u8, r: u8) -> (Cell, u64)
+    requires valid { IsCell cell }
+    requires own { level ≡ length cell.digits }
+    requires finer { level < r }
     requires at_most_fifteen { r ≤ 15 }
     requires within { position < length (descendants cell r) }
     ensures valid { IsCell result.0 }
@@ -59,15 +58,17 @@ fn child_below(position: u64, cell: Cell, r: u8) -> (Cell, u64)
     ensures below { (x : Address) → HasPosition cell r x position → HasPosition result.0 r x result.1 }
 {
     descendants_are_known();
-    let outer = 7u64.pow(u32::from(r - cell.resolution() - 1));
+    let outer = power_of_seven(r - level - 1);
+    if !cell.is_pentagon() {
+        return (cell.child((position / outer) as u8), position % outer);
+    }
     let center = cell.child(0);
     let size = size_at(center, r);
     if position < size {
         return (center, position);
     }
     let beyond = position - size;
-    let digit = digit_after_center(cell) + (beyond / outer) as u8;
-    (cell.child(digit), beyond % outer)
+    (cell.child(2 + (beyond / outer) as u8), beyond % outer)
 }
 
 /// Laws of positions, proved from those of the list of the descendants; it does nothing.
@@ -89,8 +90,8 @@ fn member_at(position: u64, cell: Cell, r: u8) -> Cell
     descendants_are_known();
     let mut member = cell;
     let mut left = position;
-    for _ in cell.resolution()..r {
-        (member, left) = child_below(left, member, r);
+    for level in cell.resolution()..r {
+        (member, left) = child_below(left, member, level, r);
     }
     member
 }

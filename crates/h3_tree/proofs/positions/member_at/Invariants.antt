@@ -1,5 +1,5 @@
 use Rattle.h3_tree.proofs.WalkLaws.{IsReached}
 use Rattle.h3_tree.proofs.positions.member_at.Given as goal
 
-abbrev pub invariant-loop : goal.invariant-loop
-invariant-loop l = IsReached l.fn.cell l.r l.position l.counter l.left l.member
+abbrev pub invariant-loop-level : goal.invariant-loop-level
+invariant-loop-level l = IsReached l.fn.cell l.r l.position l.level l.left l.member

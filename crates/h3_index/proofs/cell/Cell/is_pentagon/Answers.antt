@@ -1,10 +1,27 @@
-use Rattle.std.proofs.Common.{◌≡◌, ◌&&◌, sym, ◌∙◌, refl, true, Bool}
+use Rattle.std.proofs.Common.{ℕ, ◌≡◌, ◌≢◌, ◌==◌, ◌&&◌, sym, ◌∙◌, arith, refl, false, true, Bool}
+use Rattle.std.proofs.lemmas.Bool.Decides.{nat_tests}
 use Rattle.h3_index.proofs.MoveLaws.{pentagon_form, inside_is}
 use Rattle.h3_index.proofs.cell.Cell.is_pentagon.Goals as goal
 
-and_true : (a b : Bool) → a ≡ true → a && b ≡ b
-and_true a b h = rw h refl
+zero_test : (n : ℕ) → n ≡ 0 → (n == 0) ≡ true
+zero_test n h = grind (arith, nat_tests)
 
-pub returns-then-in_pentagon_base : goal.returns-then-in_pentagon_base
-returns-then-in_pentagon_base c =
-    pentagon_form c.args.self c.self.inside.raw _ c.resolution.ensures.valid (inside_is _ _ c.self.invariant c.self.view_is) c.resolution.ensures.number ∙ sym (and_true _ _ (sym c.in_pentagon_base.ensures ∙ c.if-in_pentagon_base.true))
+some_test : (n : ℕ) → n ≢ 0 → (n == 0) ≡ false
+some_test n h = grind (arith, nat_tests)
+
+and_true : (a b : Bool) → b ≡ true → a ≡ a && b
+and_true false b h = refl
+and_true true b h = sym h
+
+and_false : (a b : Bool) → b ≡ false → b ≡ a && b
+and_false false b h = h
+and_false true b h = refl
+
+pub returns-then-self-resolution-eq0 : goal.returns-then-self-resolution-eq0
+returns-then-self-resolution-eq0 c =
+    c.in_pentagon_base.ensures ∙ and_true _ _ (sym (pentagon_form c.args.self c.self.inside.raw _ c.resolution.ensures.valid (inside_is _ _ c.self.invariant c.self.view_is) c.resolution.ensures.number) ∙ zero_test _ c.if-self-resolution-eq0.true)
+
+pub returns-else-self-resolution-eq0 : goal.returns-else-self-resolution-eq0
+returns-else-self-resolution-eq0 c =
+    let none = pentagon_form c.args.self c.self.inside.raw _ c.resolution.ensures.valid (inside_is _ _ c.self.invariant c.self.view_is) c.resolution.ensures.number in
+    none ∙ and_false _ _ (sym none ∙ some_test _ c.if-self-resolution-eq0.false)
