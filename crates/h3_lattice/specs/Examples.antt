@@ -6,7 +6,7 @@ use Rattle.h3_lattice.specs.declared.direction.Direction.TheVariants.{K, J, JK, 
 use Rattle.h3_lattice.specs.declared.class.Class.{Class}
 use Rattle.h3_lattice.specs.declared.class.Class.TheVariants.{Two, Three}
 use Rattle.h3_lattice.specs.Eisenstein.{Eisenstein, eisenstein, minus_one, norm, one, product_of, sum_of, zero_point}
-use Rattle.h3_lattice.specs.Direction.{digit_of, digit_turned, digit_value, direction_of, opposite, turned, turns, unit_of, value_of}
+use Rattle.h3_lattice.specs.Direction.{digit_of, digit_turned, digit_value, direction_of, directions, opposite, turned, turns, unit_of, value_of}
 use Rattle.h3_lattice.specs.Class.{class_at, multiplier}
 use Rattle.h3_lattice.specs.Expansion.{place, scaled, sum_from}
 
@@ -29,9 +29,6 @@ classes : map class_at (0 ∷ 1 ∷ 2 ∷ 15 ∷ []) ≡ Two ∷ Three ∷ Two �
 classes = refl
 
 -- ---- the directions, in the order of their digits
-
-abbrev directions : List Direction
-directions = K ∷ J ∷ JK ∷ I ∷ IK ∷ IJ ∷ []
 
 digits : map digit_of directions ≡ 1 ∷ 2 ∷ 3 ∷ 4 ∷ 5 ∷ 6 ∷ []
 digits = refl
