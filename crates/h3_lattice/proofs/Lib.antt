@@ -4,6 +4,7 @@ pub mod DivisionLaws
 pub mod ExpansionLaws
 pub mod FieldLaws
 pub mod FirstLaws
+pub mod FormLaws
 pub mod LinearLaws
 pub mod ReadingLaws
 pub mod RecordLaws

@@ -9,7 +9,8 @@ use Rattle.h3_lattice.specs.declared.error.TableError.TheVariants as fault
 use Rattle.h3_lattice.specs.Fields.{Record, header, numbers_in, records_of, same_fields}
 use Rattle.h3_lattice.specs.Links.{place_of}
 use Rattle.h3_lattice.specs.Checks.{or_next}
-use Rattle.h3_lattice.specs.Records.{Holds, body_of, fault_in, fault_of, fault_of_records, first_fault, spelled_link}
+use Rattle.h3_lattice.specs.Records.{body_of, fault_in, fault_of, fault_of_records, first_fault, spelled_link}
+use Rattle.h3_lattice.specs.Slots.{Holds}
 use Rattle.h3_lattice.proofs.RecordLaws.{all-front, none-after}
 
 -- a front of the file was read: its header and these records, none faulty, and the slots hold what they spell

@@ -7,7 +7,8 @@ use Rattle.h3_lattice.specs.declared.error.TableError.{TableError}
 use Rattle.h3_lattice.specs.declared.error.TableError.TheVariants as fault
 use Rattle.h3_lattice.specs.Fields.{Record, numbers_in}
 use Rattle.h3_lattice.specs.Links.{is_hexagon_base, place_of}
-use Rattle.h3_lattice.specs.Records.{Holds, IsInRange, fault_in, in_range, link_in, or_link, spelled_link}
+use Rattle.h3_lattice.specs.Records.{fault_in, in_range, link_in, or_link, spelled_link}
+use Rattle.h3_lattice.specs.Slots.{Holds, IsInRange}
 
 or_none : (o : Option (ℕ × ℕ)) → or_link o None ≡ o
 or_none None = refl
@@ -36,9 +37,9 @@ none_of : (o : Option (ℕ × ℕ)) → is_some o ≡ false → o ≡ None
 none_of None e = refl
 none_of (Some p) e = cc e
 
-both_true : (a b : Bool) → a && b ≡ true → (a ≡ true) × (b ≡ true)
-both_true true b e = (refl, e)
-both_true false b e = cc e
+pub and_true : (a b : Bool) → a && b ≡ true → (a ≡ true) × (b ≡ true)
+and_true true b e = (refl, e)
+and_true false b e = cc e
 
 -- what the slots know is what the records spell
 same_if : (known other : ℕ → ℕ → Option (ℕ × ℕ)) (row : ℕ) (ns : List ℕ) (b : Bool) → (b ≡ true → known (slice_index ns 0) (slice_index ns 1) ≡ other (slice_index ns 0) (slice_index ns 1))

@@ -15,12 +15,13 @@ use Rattle.h3_index.specs.Cell.{is_pentagon_base}
 use Rattle.h3_lattice.specs.Direction.{digit_of, directions, opposite, turned, turned_once}
 use Rattle.h3_lattice.specs.Links.{IsHexagonBase, IsLink, IsSound, Links, is_hexagon_base, links_in, place_of}
 use Rattle.h3_lattice.specs.Checks.{at_places, closes, each_of, fault_at, fault_of_links, from_base, in_directions, is_apart, or_next, parts, reverses, same_link, unless}
+use Rattle.h3_lattice.specs.Table.{ChecksMeanSound}
 
-both : (a b : Option TableError) → or_next a b ≡ None → (a ≡ None) × (b ≡ None)
+pub both : (a b : Option TableError) → or_next a b ≡ None → (a ≡ None) × (b ≡ None)
 both None b e = (refl, e)
 both (Some x) b e = cc e
 
-no_fault : (b : Bool) (e : TableError) → unless b e ≡ None → b ≡ true
+pub no_fault : (b : Bool) (e : TableError) → unless b e ≡ None → b ≡ true
 no_fault true e h = refl
 no_fault false e h = cc h
 
@@ -95,7 +96,7 @@ digit_of-lt I = omega arith
 digit_of-lt IK = omega arith
 digit_of-lt IJ = omega arith
 
-nth_direction : ℕ → Direction
+pub nth_direction : ℕ → Direction
 nth_direction n = if n == 1 then K else if n == 2 then J else if n == 3 then JK else if n == 4 then I else if n == 5 then IK else IJ
 
 named : (d : Direction) → nth_direction (digit_of d) ≡ d
@@ -106,6 +107,18 @@ named JK = refl
 named I = refl
 named IK = refl
 named IJ = refl
+
+-- a digit of 1 to 6 is that of a direction
+pub direction_below : (d : ℕ) → 0 < d → d < 7 → digit_of (nth_direction d) ≡ d
+unfolding nth_direction
+direction_below zero low high = absurd (omega arith)
+direction_below (suc zero) low high = refl
+direction_below (suc (suc zero)) low high = refl
+direction_below (suc (suc (suc zero))) low high = refl
+direction_below (suc (suc (suc (suc zero)))) low high = refl
+direction_below (suc (suc (suc (suc (suc zero))))) low high = refl
+direction_below (suc (suc (suc (suc (suc (suc zero)))))) low high = refl
+direction_below (suc (suc (suc (suc (suc (suc (suc d))))))) low high = absurd (omega arith)
 
 same_numbers : (d e : Direction) → digit_of d ≡ digit_of e → d ≡ e
 same_numbers d e h = sym (named d) ∙ ap nth_direction h ∙ named e
@@ -172,3 +185,81 @@ sound_of link within none =
         reversal = λ b d h k. links_same _ _ (or_true (is_hexagon_base (link b d).0) _ (reversal b d h) (is_hexagon_of (link b d).0 k));
         corner = λ b d h k l. links_same _ _ (or_true (is_hexagon_base (link b (turned_once d)).0) _ (or_true (is_hexagon_base (link b d).0) _ (or_assoc (not (is_hexagon_base (link b d).0)) _ _ ∙ corner b d h) (is_hexagon_of (link b d).0 k)) (is_hexagon_of (link b (turned_once d)).0 l));
     }
+
+-- ---- a sound table has no fault
+
+each_of-true : (p : Direction → Bool) (ds : List Direction) → ((d : Direction) → p d ≡ true) → each_of p ds ≡ true
+unfolding each_of
+each_of-true p [] h = refl
+each_of-true p (d ∷ ds) h = let first = h d in let rest = each_of-true p ds h in rw (first, rest) refl
+
+in_directions-none : (f : Direction → Option TableError) (ds : List Direction) → ((d : Direction) → f d ≡ None) → in_directions f ds ≡ None
+unfolding in_directions
+in_directions-none f [] h = refl
+in_directions-none f (d ∷ ds) h = let first = h d in let rest = in_directions-none f ds h in rw (first, rest) refl
+
+if_none : (c : Bool) (o : Option TableError) → (c ≡ true → o ≡ None) → (if c then o else None) ≡ None
+if_none true o h = h refl
+if_none false o h = refl
+
+pub nones : (a b : Option TableError) → a ≡ None → b ≡ None → or_next a b ≡ None
+nones a b h k = rw (h, k) refl
+
+pub from_base-none : (f : ℕ → Direction → Option TableError) (b n : ℕ) → ((b : ℕ) (d : Direction) → IsHexagonBase b → f b d ≡ None) → from_base f b n ≡ None
+unfolding from_base
+from_base-none f b zero h = refl
+from_base-none f b (suc n) h =
+    nones (if is_hexagon_base b then in_directions (f b) directions else None) (from_base f (b + 1) n)
+        (if_none (is_hexagon_base b) (in_directions (f b) directions) (λ k. in_directions-none (f b) directions (λ d. h b d (hexagon_of b k))))
+        (from_base-none f (b + 1) n h)
+
+pub unless-none : (b : Bool) (e : TableError) → b ≡ true → unless b e ≡ None
+unless-none b e h = rw h refl
+
+eqb-self : (n : ℕ) → (n == n) ≡ true
+eqb-self n = grind (arith, nat_tests)
+
+not_eqb : (m n : ℕ) → m ≢ n → not (m == n) ≡ true
+not_eqb m n h = grind (arith, nat_tests)
+
+or_right : (a b : Bool) → b ≡ true → a || b ≡ true
+or_right true b e = refl
+or_right false b e = e
+
+parts_true : (m n p q : ℕ) → (p ≡ q → m ≡ n) → (m == n) || not (p == q) ≡ true
+parts_true m n p q h =
+    elim (cases_eq p q) [
+        inl same ↦ (let e : (m == n) ≡ true = rw (h same) (eqb-self n) in rw e refl)
+        | inr other ↦ or_right (m == n) (not (p == q)) (not_eqb p q other) ]
+
+same_link-self : (p : ℕ × ℕ) → same_link p p ≡ true
+same_link-self p = let first = eqb-self p.0 in let second = eqb-self p.1 in rw (first, second) refl
+
+same_or : (h : Bool) (p q : ℕ × ℕ) → (h ≡ true → p ≡ q) → not h || same_link p q ≡ true
+same_or true p q e = rw (e refl) (same_link-self q)
+same_or false p q e = refl
+
+same_or_or : (h k : Bool) (p q : ℕ × ℕ) → (h ≡ true → k ≡ true → p ≡ q) → not h || not k || same_link p q ≡ true
+same_or_or true true p q e = rw (e refl refl) (same_link-self q)
+same_or_or true false p q e = refl
+same_or_or false k p q e = refl
+
+sound_none : (link : Links) → IsSound link → fault_of_links link ≡ None
+sound_none link s =
+    let neighbours = from_base-none (fault_at check.Neighbours link) 0 122 (λ b d h. unless-none (is_apart link b d) (fault.Neighbours b) (apart_of b d h)) in
+    let reversal = from_base-none (fault_at check.Reversal link) 0 122 (λ b d h. unless-none (reverses link b d) (fault.Reversal b d)
+        (same_or (is_hexagon_base (link b d).0) _ _ (λ k. s.reversal b d h (hexagon_of (link b d).0 k)))) in
+    let corner = from_base-none (fault_at check.Corner link) 0 122 (λ b d h. unless-none (closes link b d) (fault.Corner b d)
+        (same_or_or (is_hexagon_base (link b d).0) (is_hexagon_base (link b (turned_once d)).0) _ _ (λ k l. s.corner b d h (hexagon_of (link b d).0 k) (hexagon_of (link b (turned_once d)).0 l)))) in
+    nones _ _ neighbours (nones _ _ reversal corner)
+  where
+    parts_of : (b : ℕ) (d e : Direction) → IsHexagonBase b → parts link b d e ≡ true
+    parts_of b d e h = parts_true (digit_of e) (digit_of d) (link b e).0 (link b d).0 (λ k. ap digit_of (s.apart b e d h k))
+    apart_of : (b : ℕ) (d : Direction) → IsHexagonBase b → is_apart link b d ≡ true
+    apart_of b d h =
+        let away : not ((link b d).0 == b) ≡ true = not_eqb (link b d).0 b (s.away b d h) in
+        let each : each_of (parts link b d) directions ≡ true = each_of-true (parts link b d) directions (λ e. parts_of b d e h) in
+        rw (away, each) refl
+
+pub checks_mean_sound : ChecksMeanSound
+checks_mean_sound link within = (sound_of link within, sound_none link)

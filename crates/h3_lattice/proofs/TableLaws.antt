@@ -11,8 +11,9 @@ use Rattle.h3_lattice.specs.Direction.{digit_of, directions, opposite, turned, t
 use Rattle.h3_lattice.specs.Fields.{Record, header, numbers_in, records_of, same_fields}
 use Rattle.h3_lattice.specs.Links.{IsHexagonBase, Links, is_hexagon_base, links_in, place_of}
 use Rattle.h3_lattice.specs.Checks.{at_places, closes, each_of, fault_at, fault_of_links, from_base, in_directions, is_apart, or_next, parts, reverses, same_link, unless}
-use Rattle.h3_lattice.specs.Records.{Holds, IsFaultOrMemory, body_of, fault_in, fault_of, fault_of_records, first_fault, in_range, spelled_link}
-use Rattle.h3_lattice.specs.Table.{RefusesTable, SameLinks, StopsReading, links_of, missing_at, missing_of, table_fault}
+use Rattle.h3_lattice.specs.Records.{body_of, fault_in, fault_of, fault_of_records, first_fault, in_range, spelled_link}
+use Rattle.h3_lattice.specs.Slots.{Holds, IsFaultOrMemory, StopsReading, missing_at}
+use Rattle.h3_lattice.specs.Table.{RefusesTable, SameLinks, links_of, missing_of, table_fault}
 use Rattle.h3_lattice.proofs.SoundLaws.{digit_of-gt, digit_of-lt, hexagon_of}
 
 -- ---- a file's fault is of the file: neither of the reader nor of memory

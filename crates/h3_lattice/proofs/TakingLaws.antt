@@ -7,7 +7,8 @@ use Rattle.csv.specs.declared.parser.State.TheVariants as st
 use Rattle.h3_lattice.specs.declared.error.TableError.{TableError}
 use Rattle.h3_lattice.specs.Fields.{Record, numbers_in, records_of}
 use Rattle.h3_lattice.specs.Links.{place_of}
-use Rattle.h3_lattice.specs.Records.{Holds, fault_in, fault_of, fault_of_records, spelled_link}
+use Rattle.h3_lattice.specs.Records.{fault_in, fault_of, fault_of_records, spelled_link}
+use Rattle.h3_lattice.specs.Slots.{Holds}
 use Rattle.h3_lattice.proofs.RecordLaws.{reached-few}
 use Rattle.h3_lattice.proofs.ReadingLaws.{IsRead, read-faulty, read-more}
 use Rattle.h3_lattice.proofs.SlotLaws.{holds-more, fault-held}

@@ -11,5 +11,6 @@ pub mod Laws
 pub mod Links
 pub mod Moved
 pub mod Records
+pub mod Slots
 pub mod Table
 pub mod Vectors

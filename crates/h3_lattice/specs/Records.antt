@@ -33,10 +33,6 @@ spelled_link b d (r ∷ rest) = or_link (link_in b d (numbers_in 4 r)) (spelled_
 abbrev pub in_range : List ℕ → Bool
 in_range ns = is_hexagon_base (slice_index ns 0) && nat_lt 0 (slice_index ns 1) && nat_lt (slice_index ns 1) 7 && nat_lt (slice_index ns 2) 122 && nat_lt (slice_index ns 3) 6
 
--- the bounds of such numbers
-abbrev pub IsInRange : List ℕ → Type 0
-IsInRange ns = (slice_index ns 0 < 122) × (0 < slice_index ns 1) × (slice_index ns 1 < 7) × (slice_index ns 2 < 122) × (slice_index ns 3 < 6)
-
 -- the fault of a record with these numbers, where some links are known: its form, its range, or a repetition
 abbrev pub fault_in : ℕ → (ℕ → ℕ → Option (ℕ × ℕ)) → Option (List ℕ) → Option TableError
 fault_in row known None = Some (fault.Form row)
@@ -59,14 +55,3 @@ first_fault before (r ∷ rest) = or_next (fault_of before r) (first_fault (befo
 abbrev pub fault_of_records : List Record → Option TableError
 fault_of_records [] = Some (fault.Form 1)
 fault_of_records (front ∷ body) = first_fault [] (front ∷ body)
-
--- ---- reading
-
--- the slots hold what these records spell
-pub record Holds (slots : List (Option (ℕ × ℕ))) (body : List Record) : Type 0 where
-  pub long : length slots ≡ 732
-  pub same : (b d : ℕ) → b < 122 → 0 < d → d < 7 → slice_index_or slots (place_of b d) None ≡ spelled_link b d body
-
--- a refusal is this fault, or want of memory
-abbrev pub IsFaultOrMemory : Option TableError → TableError → Type 0
-IsFaultOrMemory first e = (e ≡ fault.Memory) ⊎ (first ≡ Some e)

@@ -1,13 +1,14 @@
 -- What the records of a file say as a whole: the table that they spell, or why they are refused.
-use Rattle.std.specs.Prelude.{◌≡◌, ◌⊎◌, ℕ, Bool, is_some, List, ⊤, Option, Some, None, slice_index_or, unwrap_or}
+use Rattle.std.specs.Prelude.{◌≡◌, ◌↔◌, ℕ, Bool, true, is_some, List, ◌∷◌, All, ⊤, Option, Some, None, unwrap_or}
+use Rattle.std.specs.List.{count_by}
 use Rattle.h3_lattice.specs.declared.direction.Direction.{Direction}
 use Rattle.h3_lattice.specs.declared.error.TableError.{TableError}
 use Rattle.h3_lattice.specs.declared.error.TableError.TheVariants as fault
 use Rattle.h3_lattice.specs.Direction.{digit_of}
-use Rattle.h3_lattice.specs.Fields.{Record}
-use Rattle.h3_lattice.specs.Links.{IsHexagonBase, Links, place_of}
+use Rattle.h3_lattice.specs.Fields.{Record, header, numbers_in}
+use Rattle.h3_lattice.specs.Links.{IsHexagonBase, IsLink, IsSound, Links}
 use Rattle.h3_lattice.specs.Checks.{at_places, fault_of_links, or_next, unless}
-use Rattle.h3_lattice.specs.Records.{body_of, fault_of_records, spelled_link}
+use Rattle.h3_lattice.specs.Records.{body_of, fault_of_records, in_range, link_in, spelled_link}
 
 -- the table that these records spell
 abbrev pub links_of : List Record → Links
@@ -32,12 +33,29 @@ RefusesTable read_fails first fault.Read = read_fails
 RefusesTable read_fails first fault.Memory = ⊤
 RefusesTable read_fails first e = first ≡ Some e
 
--- want of memory, or a read fault, which comes only where reads fail
-abbrev pub StopsReading : Type 0 → TableError → Type 0
-StopsReading read_fails e = (e ≡ fault.Memory) ⊎ ((e ≡ fault.Read) × read_fails)
+-- ---- the tables that are accepted
 
--- ---- slots of links
+-- of links that lead to base cells by 0 to 5 turns, none of the checks tells a fault exactly where they are sound
+abbrev pub ChecksMeanSound : Type 0
+ChecksMeanSound =
+    (link : Links) → ((b : ℕ) (d : Direction) → IsHexagonBase b → IsLink (link b d)) → (fault_of_links link ≡ None) ↔ IsSound link
 
--- no link stands in the slot of this base cell and direction
-abbrev pub missing_at : List (Option (ℕ × ℕ)) → ℕ → Direction → Option TableError
-missing_at slots b d = unless (is_some (slice_index_or slots (place_of b (digit_of d)) None)) fault.Missing
+-- a record names this base cell and direction
+abbrev pub names : ℕ → ℕ → Record → Bool
+names b d r = is_some (link_in b d (numbers_in 4 r))
+
+-- the numbers of a record's fields are in their ranges
+pub record IsLinkRecord (r : Record) : Type 0 where
+  pub numbers : List ℕ
+  pub spelled : numbers_in 4 r ≡ Some numbers
+  pub ranges : in_range numbers ≡ true
+
+-- the form of a table file: the header, and then, in any order, one record for each hexagon base cell and direction
+pub record IsOfForm (records : List Record) : Type 0 where
+  pub front : records ≡ header ∷ body_of records
+  pub each : All IsLinkRecord (body_of records)
+  pub once : (b : ℕ) (d : Direction) → IsHexagonBase b → count_by (names b (digit_of d)) (body_of records) ≡ 1
+
+-- no fault is told of a file exactly where it is of the form and the links that it spells are sound
+abbrev pub SoundFilesAreAccepted : Type 0
+SoundFilesAreAccepted = (records : List Record) → (table_fault records ≡ None) ↔ (IsOfForm records × IsSound (links_of records))

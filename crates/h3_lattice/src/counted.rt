@@ -3,7 +3,7 @@
 ghost use Rattle.std.specs.Prelude.{◌≡◌, ◌<◌, ◌≤◌, ◌+◌, ◌++◌, ◌⊎◌, ℕ, true, List, length, Some, IfOk, IfErr, OnOk, OnErr};
 ghost use Rattle.h3_index.specs.Stream.{Pulls};
 ghost use Rattle.h3_lattice.specs.declared.error.TableError.{TableError};
-ghost use Rattle.h3_lattice.specs.Table.{StopsReading};
+ghost use Rattle.h3_lattice.specs.Slots.{StopsReading};
 
 use crate::error::TableError;
 use h3_index::Source;
@@ -79,4 +79,59 @@ pub fn read_bytes<R: Source>(
     let _ = &*source;
     read?;
     Ok(text)
+}
+
+#[cfg(test)]
+mod tests {
+    use super::read_bytes;
+    use crate::error::TableError;
+    use h3_index::{Source, StreamFault, Streamed};
+    use std::test::Fail;
+
+    /// A source whose first pull fails.
+    #[derive(Drop)]
+    struct TornSource {
+        failed: bool,
+    }
+
+    impl Source for TornSource {
+        ghost use Rattle.std.specs.Prelude.{None};
+
+        ghost left = { λ _. None };
+
+        ghost has_failed = { λ s. s.failed };
+
+        fn pull(&mut self, _buf: &mut [u8]) -> Result<usize, StreamFault> {
+            self.failed = true;
+            Err(StreamFault)
+        }
+    }
+
+    #[test]
+    fn bytes_are_read_to_their_end(rt: HostRuntime) -> Result<(), Fail> {
+        let mut page = [0; 2];
+        let mut source = Streamed::new("abcde".as_bytes());
+        let text = read_bytes(rt.alloc(), &mut source, 4, &mut page)?;
+        assert_eq!(rt; text.as_slice(), "abcde".as_bytes());
+        Ok(())
+    }
+
+    #[test]
+    fn a_read_past_the_limit_is_not_made(rt: HostRuntime) -> Result<(), Fail> {
+        let mut page = [0; 1];
+        let mut source = Streamed::new("abcd".as_bytes());
+        let read = read_bytes(rt.alloc(), &mut source, 3, &mut page);
+        assert!(rt; matches!(read, Err(TableError::Read)));
+        assert_eq!(rt; source.pull(&mut page), Ok(1));
+        assert_eq!(rt; page[0], b'd');
+        Ok(())
+    }
+
+    #[test]
+    fn a_reader_that_fails_is_a_read_fault(rt: HostRuntime) {
+        let mut page = [0; 1];
+        let mut source = TornSource { failed: false };
+        let read = read_bytes(rt.alloc(), &mut source, 3, &mut page);
+        assert!(rt; matches!(read, Err(TableError::Read)));
+    }
 }

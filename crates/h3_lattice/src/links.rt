@@ -4,7 +4,7 @@ ghost use Rattle.std.specs.Prelude.{◌≡◌, ◌+◌, ◌*◌, ◌<◌, ◌≤
 ghost use Rattle.h3_lattice.specs.Direction.{directions};
 ghost use Rattle.h3_lattice.specs.Links.{IsHexagonBase, IsLink, is_hexagon_base, links_in};
 ghost use Rattle.h3_lattice.specs.Checks.{at_places, in_directions};
-ghost use Rattle.h3_lattice.specs.Table.{missing_at};
+ghost use Rattle.h3_lattice.specs.Slots.{missing_at};
 
 use crate::direction::{DIRECTIONS, Direction};
 use crate::error::TableError;

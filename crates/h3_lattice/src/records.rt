@@ -3,7 +3,8 @@
 ghost use Rattle.std.specs.Prelude.{◌≡◌, ◌+◌, ◌^◌, ◌<◌, true, None, Some, length, slice_index_or, slice_index, slice_set, IfOk, IfErr, IfSome, All};
 ghost use Rattle.h3_lattice.specs.Fields.{records_of};
 ghost use Rattle.h3_lattice.specs.Links.{IsLink, place_of};
-ghost use Rattle.h3_lattice.specs.Records.{Holds, IsFaultOrMemory, IsInRange, body_of, fault_in, fault_of_records, in_range};
+ghost use Rattle.h3_lattice.specs.Records.{body_of, fault_in, fault_of_records, in_range};
+ghost use Rattle.h3_lattice.specs.Slots.{Holds, IsFaultOrMemory, IsInRange};
 
 use crate::error::TableError;
 use crate::fields::{has_fields, numbers_in};

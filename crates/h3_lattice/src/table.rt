@@ -5,7 +5,7 @@ ghost use Rattle.h3_index.specs.Cell.{is_pentagon_base};
 ghost use Rattle.h3_lattice.specs.Fields.{records_of};
 ghost use Rattle.h3_lattice.specs.Links.{IsLink, IsSound, links_in};
 ghost use Rattle.h3_lattice.specs.Checks.{fault_of_links};
-ghost use Rattle.h3_lattice.specs.Table.{RefusesTable, SameLinks, links_of, table_fault};
+ghost use Rattle.h3_lattice.specs.Table.{RefusesTable, SameLinks, SoundFilesAreAccepted, links_of, table_fault};
 
 use crate::checks::fault_of_links;
 use crate::counted::read_bytes;
@@ -25,6 +25,7 @@ const READS: u64 = 1 << 40;
 /// How the 110 hexagon base cells lie beside each other: in each of six directions the neighbour, and how often each
 /// digit is turned on crossing. Its links fit together, as [`TableError`]'s last three kinds say. It is of fixed size,
 /// and takes no memory.
+#[derive(Drop)]
 pub struct BaseTable {
     links: Links,
     ghost within: { All IsLink links },
@@ -61,6 +62,7 @@ impl BaseTable {
         ensures refused { IfErr result (λ e. (bytes : List ℕ) → R.left source.old ≡ Some bytes →
             RefusesTable ((R.has_failed source.new ≡ true) ⊎ (2 ^ 40 ≤ length bytes)) (table_fault (records_of bytes)) e) }
         ensures sound { IfOk result (λ table. IsSound (link_of table)) }
+        ensures exact { SoundFilesAreAccepted }
     {
         let mut page = [0; PAGE];
         let text = read_bytes(alloc, source, READS, &mut page)?;
@@ -83,3 +85,6 @@ impl BaseTable {
         link_at(&self.links, base, direction)
     }
 }
+
+#[cfg(test)]
+mod tests;

@@ -1,6 +1,6 @@
 use Rattle.std.proofs.Common.{◌≡◌, ◌<◌, ◌∙◌, sym, refl, arith, rules}
 use Rattle.h3_lattice.specs.Checks.{from_base}
-use Rattle.h3_lattice.specs.Table.{missing_at}
+use Rattle.h3_lattice.specs.Slots.{missing_at}
 use Rattle.h3_lattice.proofs.FirstLaws.{from-none, base-some, base-none, base-pentagon}
 use Rattle.h3_lattice.proofs.links.first_missing.Goals as goal
 use Rattle.h3_lattice.proofs.links.first_missing.Goals.{then-is_hexagon_base+else-is_some, else-is_hexagon_base}

@@ -1,6 +1,6 @@
 use Rattle.std.proofs.Common.{◌≡◌, ◌-◌}
 use Rattle.h3_lattice.specs.Checks.{from_base}
-use Rattle.h3_lattice.specs.Table.{missing_at}
+use Rattle.h3_lattice.specs.Slots.{missing_at}
 use Rattle.h3_lattice.proofs.links.first_missing.Given as goal
 
 abbrev pub invariant-loop-base : goal.invariant-loop-base

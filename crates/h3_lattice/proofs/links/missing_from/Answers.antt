@@ -1,7 +1,7 @@
 use Rattle.std.proofs.Common.{◌≡◌, ◌<◌, ◌∙◌, sym, refl, arith, rules, List, ap, drop, []}
 use Rattle.h3_lattice.specs.Direction.{directions}
 use Rattle.h3_lattice.specs.Checks.{in_directions}
-use Rattle.h3_lattice.specs.Table.{missing_at}
+use Rattle.h3_lattice.specs.Slots.{missing_at}
 use Rattle.h3_lattice.specs.declared.direction.Direction.{Direction}
 use Rattle.h3_lattice.specs.declared.direction.Direction.TheVariants.{K, J, JK, I, IK, IJ}
 use Rattle.h3_lattice.proofs.FirstLaws.{directions-some, directions-none}

@@ -1,7 +1,7 @@
 use Rattle.std.proofs.Common.{◌≡◌, drop}
 use Rattle.h3_lattice.specs.Direction.{directions}
 use Rattle.h3_lattice.specs.Checks.{in_directions}
-use Rattle.h3_lattice.specs.Table.{missing_at}
+use Rattle.h3_lattice.specs.Slots.{missing_at}
 use Rattle.h3_lattice.proofs.links.missing_from.Given as goal
 
 abbrev pub invariant-loop-direction : goal.invariant-loop-direction

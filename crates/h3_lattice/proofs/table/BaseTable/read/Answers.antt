@@ -2,6 +2,7 @@ use Rattle.std.proofs.Common.{◌≡◌, ◌∙◌, ◌≤◌, ◌⊎◌, true, 
 use Rattle.std.proofs.lemmas.Result.{err_from_is_err_and, IfOk-weaker, IfErr-weaker}
 use Rattle.h3_lattice.specs.Links.{links_in}
 use Rattle.h3_lattice.specs.BaseTable.{link_of}
+use Rattle.h3_lattice.proofs.FormLaws.{sound_files_are_accepted}
 use Rattle.h3_lattice.proofs.TableLaws.{accepts, refuses_links, refuses_missing, refuses_records, stops}
 use Rattle.h3_lattice.proofs.table.BaseTable.read.Goals as goal
 
@@ -29,3 +30,15 @@ pub returns-clause-refused : goal.returns-clause-refused
 returns-clause-refused g c = IfErr-weaker c.new.result _ _
     (λ e done bytes told. refuses_links _ c.in_ok-slots.slots c.filled.result c.as_slice.result.now bytes c.first_missing.result e (c.as_slice.ensures.value ∙ c.in_ok-text.ensures.bytes bytes told)
         c.in_ok-slots.ensures.read c.first_missing.ensures c.in-None.is c.filled.ensures.same done) c.new.ensures.refused
+
+pub returns-in_err-text-clause-exact : goal.returns-in_err-text-clause-exact
+returns-in_err-text-clause-exact g c = sound_files_are_accepted
+
+pub returns-in_err-slots-clause-exact : goal.returns-in_err-slots-clause-exact
+returns-in_err-slots-clause-exact g c = sound_files_are_accepted
+
+pub returns-in-Some-clause-exact : goal.returns-in-Some-clause-exact
+returns-in-Some-clause-exact g c = sound_files_are_accepted
+
+pub returns-clause-exact : goal.returns-clause-exact
+returns-clause-exact g c = sound_files_are_accepted
