@@ -1,5 +1,5 @@
 -- Numbers of fields, record by record
-use Rattle.std.proofs.Common.{◌≡◌, ◌<◌, ◌≤◌, ◌+◌, ◌-◌, ◌*◌, ℕ, suc, zero, Bool, true, false, not, ◌&&◌, Option, Some, None, List, [], ◌∷◌, ◌++◌, length, take, drop, set, get_or, map, refl, arith, add-one, ap, sym, ◌∙◌, append_assoc, append-nil, Bor}
+use Rattle.std.proofs.Common.{◌≡◌, ◌<◌, ◌≤◌, ◌+◌, ◌-◌, ◌*◌, ℕ, suc, zero, Bool, true, false, not, ◌&&◌, Option, Some, None, List, [], ◌∷◌, ◌++◌, length, take, drop, set, get_or, map, refl, arith, add-one, ap, ◌∙◌, append_assoc, append-nil, Bor}
 use Rattle.std.specs.Prelude.{if◌then◌else◌, bytes_eq, option_map, nat_lt, nat_le, ◌==◌}
 use Rattle.std.proofs.lemmas.Bool.Decides.{nat_tests}
 use Rattle.std.proofs.Math.Seq.{drop-cons, take-suc-set}
@@ -100,6 +100,7 @@ numbers-all r ns i h k = rw (past r i h) (ap (λ (x : List ℕ). Some x) (rw (ap
     past [] (suc i) h = refl
     past (x ∷ f) zero h = absurd (omega arith)
     past (x ∷ f) (suc i) h = past f i (omega arith)
+
     take_all : (ns : List ℕ) (i : ℕ) → length ns ≤ i → take i ns ≡ ns
     take_all [] zero k = refl
     take_all [] (suc i) k = refl

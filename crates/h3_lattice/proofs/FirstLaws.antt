@@ -1,5 +1,5 @@
 -- The first fault of many
-use Rattle.std.proofs.Common.{◌≡◌, ◌≢◌, ◌<◌, ◌≤◌, ◌+◌, ◌-◌, ℕ, zero, suc, Bool, true, false, if◌then◌else◌, Option, Some, None, List, [], ◌∷◌, refl, arith, ◌&&◌, drop, get_or, length, add-one}
+use Rattle.std.proofs.Common.{◌≡◌, ◌<◌, ◌≤◌, ◌+◌, ◌-◌, ℕ, suc, Bool, true, false, if◌then◌else◌, Option, Some, None, List, [], refl, arith, ◌&&◌, drop, get_or, length, add-one}
 use Rattle.std.specs.Prelude.{is_some}
 use Rattle.std.proofs.Math.Seq.{drop-cons}
 use Rattle.h3_lattice.specs.declared.direction.Direction.{Direction}

@@ -1,22 +1,20 @@
 -- The files of the form, and those of which no fault is told.
-use Rattle.std.proofs.Common.{◌≡◌, ◌<◌, ◌≤◌, ◌+◌, ℕ, zero, suc, Bool, true, false, not, Option, Some, None, List, [], ◌∷◌, ◌++◌, length, refl, arith, sym, ◌∙◌, ap, subst, ◌&&◌, slice_index}
-use Rattle.std.specs.Prelude.{if◌then◌else◌, ◌==◌, is_some, unwrap_or, All, bytes_eq, nat_lt, IfSome}
+use Rattle.std.proofs.Common.{◌≡◌, ◌<◌, ◌≤◌, ◌+◌, ℕ, Bool, true, false, Option, Some, None, List, [], ◌∷◌, ◌++◌, length, refl, arith, sym, ◌∙◌, subst, ◌&&◌, slice_index}
+use Rattle.std.specs.Prelude.{if◌then◌else◌, ◌==◌, is_some, unwrap_or, All, bytes_eq, nat_lt}
 use Rattle.std.specs.List.{count_by}
 use Rattle.std.proofs.lemmas.List.Elements.{All-cons, All-head, All-nil, All-tail}
 use Rattle.std.proofs.lemmas.List.Sums.{sum_by-cons}
 use Rattle.std.proofs.lemmas.Slice.Eq.{bytes_eq-Decides}
 use Rattle.std.proofs.lemmas.Bool.Decides.{nat_tests}
 use Rattle.h3_lattice.specs.declared.direction.Direction.{Direction}
-use Rattle.h3_lattice.specs.declared.direction.Direction.TheVariants.{K, J, JK, I, IK, IJ}
-use Rattle.h3_lattice.specs.declared.error.TableError.{TableError}
 use Rattle.h3_lattice.specs.declared.error.TableError.TheVariants as fault
 use Rattle.h3_lattice.specs.Direction.{digit_of}
 use Rattle.h3_lattice.specs.Fields.{Record, header, numbers_in, same_fields}
 use Rattle.h3_lattice.specs.Links.{IsHexagonBase, IsLink, IsSound, is_hexagon_base}
-use Rattle.h3_lattice.specs.Checks.{at_places, fault_of_links, or_next, unless}
+use Rattle.h3_lattice.specs.Checks.{at_places, fault_of_links, or_next}
 use Rattle.h3_lattice.specs.Records.{body_of, fault_in, fault_of, fault_of_records, first_fault, in_range, link_in, or_link, spelled_link}
 use Rattle.h3_lattice.specs.Table.{IsLinkRecord, IsOfForm, SoundFilesAreAccepted, links_of, missing_of, names, table_fault}
-use Rattle.h3_lattice.proofs.SlotLaws.{and_true, free-slot, in_range-true, spelled_link-append, spelled_link-none}
+use Rattle.h3_lattice.proofs.SlotLaws.{and_true, free-slot, in_range-true, spelled_link-append}
 use Rattle.h3_lattice.proofs.SoundLaws.{both, checks_mean_sound, direction_below, from_base-none, hexagon_of, is_hexagon_of, no_fault, no_fault_at, nones, nth_direction, unless-none}
 
 -- ---- fields
@@ -176,7 +174,7 @@ first_of false b c d e h = cc h
 in_range-hexagon : (ns : List ℕ) → in_range ns ≡ true → IsHexagonBase (slice_index ns 0)
 in_range-hexagon ns h =
     hexagon_of (slice_index ns 0)
-        (first_of (is_hexagon_base (slice_index ns 0)) (nat_lt 0 (slice_index ns 1)) (nat_lt (slice_index ns 1) 7) (nat_lt (slice_index ns 2) 122) (nat_lt (slice_index ns 3) 6) h)
+    (first_of (is_hexagon_base (slice_index ns 0)) (nat_lt 0 (slice_index ns 1)) (nat_lt (slice_index ns 1) 7) (nat_lt (slice_index ns 2) 122) (nat_lt (slice_index ns 3) 6) h)
 
 AtMostOnce : List Record → List Record → Type 0
 AtMostOnce before rest = (b d : ℕ) → IsHexagonBase b → 0 < d → d < 7 → count b d rest + one_if (is_some (spelled_link b d before)) ≤ 1
@@ -190,11 +188,11 @@ first_fault-none front before (r ∷ rest) each most =
     let hexagon : IsHexagonBase (slice_index k.numbers 0) = in_range-hexagon k.numbers k.ranges in
     let room = rw (count-cons (slice_index k.numbers 0) (slice_index k.numbers 1) r rest) at (most (slice_index k.numbers 0) (slice_index k.numbers 1) hexagon range.1 range.2) in
     let none = none_before (is_some (spelled_link (slice_index k.numbers 0) (slice_index k.numbers 1) before)) _ (count (slice_index k.numbers 0) (slice_index k.numbers 1) rest)
-        (one_if-true (names (slice_index k.numbers 0) (slice_index k.numbers 1) r) (names-own r k)) room in
+    (one_if-true (names (slice_index k.numbers 0) (slice_index k.numbers 1) r) (names-own r k)) room in
     nones (fault_of (front ∷ before) r) (first_fault (front ∷ (before ++ r ∷ [])) rest) (fault_in-none (length before + 2) before r k none)
-        (first_fault-none front (before ++ r ∷ []) rest (All-tail IsLinkRecord r rest each)
-            (λ b d h low high. rw (spelled_link-append b d before r)
-                (less-room (spelled_link b d before) (link_in b d (numbers_in 4 r)) (count b d rest) (rw (count-cons b d r rest) at (most b d h low high)))))
+    (first_fault-none front (before ++ r ∷ []) rest (All-tail IsLinkRecord r rest each)
+    (λ b d h low high. rw (spelled_link-append b d before r)
+    (less-room (spelled_link b d before) (link_in b d (numbers_in 4 r)) (count b d rest) (rw (count-cons b d r rest) at (most b d h low high)))))
 
 -- ---- links that good records spell
 
@@ -260,7 +258,7 @@ begin_with_header body e = nones (fault_of [] header) (first_fault (header ∷ [
 no_fault_of : (records : List Record) → IsOfForm records → fault_of_records records ≡ None
 no_fault_of records f =
     subst (λ records. fault_of_records records ≡ None) (sym f.front)
-        (begin_with_header (body_of records) (first_fault-none header [] (body_of records) f.each (at_most_once records f)))
+    (begin_with_header (body_of records) (first_fault-none header [] (body_of records) f.each (at_most_once records f)))
 
 some_of : (records : List Record) → IsOfForm records → (b : ℕ) (d : Direction) → IsHexagonBase b → is_some (spelled_link b (digit_of d) (body_of records)) ≡ true
 unfolding count
@@ -269,20 +267,22 @@ some_of records f b d h = let one = f.once b d h in counts-spelled b (digit_of d
 none_missing : (records : List Record) → IsOfForm records → at_places (missing_of records) ≡ None
 none_missing records f =
     from_base-none (missing_of records) 0 122
-        (λ b d h. unless-none (is_some (spelled_link b (digit_of d) (body_of records))) fault.Missing (some_of records f b d h))
+    (λ b d h. unless-none (is_some (spelled_link b (digit_of d) (body_of records))) fault.Missing (some_of records f b d h))
 
 pub sound_files_are_accepted : SoundFilesAreAccepted
 sound_files_are_accepted records = (accepted, refused_not)
   where
     within : All IsLinkRecord (body_of records) → (b : ℕ) (d : Direction) → IsHexagonBase b → IsLink (links_of records b d)
     within each b d h = spelled_link-within b (digit_of d) (body_of records) each
+
     accepted : table_fault records ≡ None → IsOfForm records × IsSound (links_of records)
     accepted e =
         let one = both (fault_of_records records) (or_next (at_places (missing_of records)) (fault_of_links (links_of records))) e in
         let two = both (at_places (missing_of records)) (fault_of_links (links_of records)) one.1 in
         let form = form_of records one.0 two.0 in
         (form, (checks_mean_sound (links_of records) (within form.each)).0 two.1)
+
     refused_not : IsOfForm records × IsSound (links_of records) → table_fault records ≡ None
     refused_not h =
         nones (fault_of_records records) (or_next (at_places (missing_of records)) (fault_of_links (links_of records))) (no_fault_of records h.0)
-            (nones (at_places (missing_of records)) (fault_of_links (links_of records)) (none_missing records h.0) ((checks_mean_sound (links_of records) (within h.0.each)).1 h.1))
+        (nones (at_places (missing_of records)) (fault_of_links (links_of records)) (none_missing records h.0) ((checks_mean_sound (links_of records) (within h.0.each)).1 h.1))

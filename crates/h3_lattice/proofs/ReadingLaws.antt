@@ -1,15 +1,13 @@
 -- The reading so far
-use Rattle.std.proofs.Common.{◌≡◌, ◌<◌, ◌≤◌, ◌+◌, ◌-◌, ℕ, zero, suc, Bool, true, false, if◌then◌else◌, Option, Some, None, List, [], ◌∷◌, ◌++◌, length, refl, arith, sym, ◌∙◌, ap, append_assoc, append-nil, length-append, slice_index, slice_index_or, slice_set}
+use Rattle.std.proofs.Common.{◌≡◌, ◌+◌, ◌-◌, ℕ, true, false, Option, Some, None, List, [], ◌∷◌, ◌++◌, length, refl, arith, ◌∙◌, ap, append_assoc, append-nil, length-append}
 use Rattle.csv.specs.Machine.{next_record}
 use Rattle.csv.specs.Reading.{Reached, records_from, default_config, strip_bom}
 use Rattle.csv.specs.declared.parser.State.{State}
 use Rattle.csv.specs.declared.parser.State.TheVariants as st
 use Rattle.h3_lattice.specs.declared.error.TableError.{TableError}
 use Rattle.h3_lattice.specs.declared.error.TableError.TheVariants as fault
-use Rattle.h3_lattice.specs.Fields.{Record, header, numbers_in, records_of, same_fields}
-use Rattle.h3_lattice.specs.Links.{place_of}
-use Rattle.h3_lattice.specs.Checks.{or_next}
-use Rattle.h3_lattice.specs.Records.{body_of, fault_in, fault_of, fault_of_records, first_fault, spelled_link}
+use Rattle.h3_lattice.specs.Fields.{Record, header, records_of, same_fields}
+use Rattle.h3_lattice.specs.Records.{body_of, fault_of, fault_of_records, first_fault}
 use Rattle.h3_lattice.specs.Slots.{Holds}
 use Rattle.h3_lattice.proofs.RecordLaws.{all-front, none-after}
 
@@ -50,7 +48,11 @@ no-header text e =
 pub read-start : (text : List ℕ) (front : Record) (slots : List (Option (ℕ × ℕ))) (s : State) (y : List ℕ)
     → Reached default_config st.StartRecord (strip_bom text) (front ∷ []) s y → same_fields front header ≡ true → Holds slots [] → IsRead text 1 slots s y
 read-start text front slots s y h e k = record {
-  front = front; body = []; reached = h; counted = omega arith; holds = k;
+  front = front;
+  body = [];
+  reached = h;
+  counted = omega arith;
+  holds = k;
   good = λ rest. fault-passed [] rest front (rw e refl);
 }
 
@@ -67,7 +69,11 @@ pub read-more : (text : List ℕ) (number : ℕ) (slots slots2 : List (Option (�
     → Reached default_config st.StartRecord (strip_bom text) ((w.front ∷ w.body) ++ (r ∷ [])) s2 z
     → fault_of (w.front ∷ w.body) r ≡ None → Holds slots2 (w.body ++ (r ∷ [])) → IsRead text (number + 1) slots2 s2 z
 read-more text number slots slots2 s s2 y z w r h f k = record {
-  front = w.front; body = w.body ++ (r ∷ []); reached = h; counted = let e : length (w.body ++ (r ∷ [])) ≡ length w.body + 1 = length-append w.body (r ∷ []) in let k : length w.body + 1 ≡ number = w.counted in omega arith; holds = k;
+  front = w.front;
+  body = w.body ++ (r ∷ []);
+  reached = h;
+  counted = let e : length (w.body ++ (r ∷ [])) ≡ length w.body + 1 = length-append w.body (r ∷ []) in let k : length w.body + 1 ≡ number = w.counted in omega arith;
+  holds = k;
   good = λ rest. rw (append_assoc w.body (r ∷ []) rest) (w.good (r ∷ rest) ∙ fault-passed (w.front ∷ w.body) rest r f);
 }
 

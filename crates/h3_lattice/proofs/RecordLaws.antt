@@ -1,7 +1,7 @@
 -- What was reached of a file's records are the first of all its records
-use Rattle.std.proofs.Common.{◌≡◌, ◌<◌, ◌≤◌, ◌+◌, ◌-◌, ℕ, zero, suc, Bool, true, false, if◌then◌else◌, Option, Some, None, List, [], ◌∷◌, ◌++◌, length, refl, arith, sym, ◌∙◌, ap, add-one}
+use Rattle.std.proofs.Common.{◌≡◌, ◌≤◌, ◌+◌, ◌-◌, ℕ, zero, suc, Bool, true, false, if◌then◌else◌, Option, Some, None, List, [], ◌∷◌, ◌++◌, length, refl, arith, ◌∙◌, ap}
 use Rattle.csv.specs.Machine.{Read, next_record, step, is_end, fields_after, field_after, ends_at_end}
-use Rattle.csv.specs.Reading.{Reached, records_from, records, default_config, strip_bom}
+use Rattle.csv.specs.Reading.{Reached, records_from, default_config, strip_bom}
 use Rattle.csv.specs.declared.parser.Config.{Config}
 use Rattle.csv.specs.declared.parser.State.{State}
 use Rattle.csv.specs.declared.parser.State.TheVariants as st
@@ -23,8 +23,8 @@ next-shorter cfg [] s fields field c q e =
     shorter_if (is_end (step cfg s c).1) _ _ q 0 (omega arith) (at_end (ends_at_end (step cfg s c).0) _ q refl) e
 next-shorter cfg (d ∷ rest) s fields field c q e =
     shorter_if (is_end (step cfg s c).1) _ _ q (length (d ∷ rest)) (omega arith)
-        (λ (k : next_record cfg (step cfg s c).0 (fields_after (step cfg s c).1 fields field) (field_after (step cfg s c).1 c field) (d ∷ rest) ≡ Some q).
-            let h = next-shorter cfg rest (step cfg s c).0 (fields_after (step cfg s c).1 fields field) (field_after (step cfg s c).1 c field) d q k in omega arith) e
+    (λ (k : next_record cfg (step cfg s c).0 (fields_after (step cfg s c).1 fields field) (field_after (step cfg s c).1 c field) (d ∷ rest) ≡ Some q).
+    let h = next-shorter cfg rest (step cfg s c).0 (fields_after (step cfg s c).1 fields field) (field_after (step cfg s c).1 c field) d q k in omega arith) e
 
 none_is : (o : Option Read) (q : Read) → o ≡ None → o ≡ Some q → ⊥
 none_is o q a b = cc
@@ -69,7 +69,7 @@ all-front text rows s2 ys h =
     let few = reached-few default_config rows st.StartRecord s2 (strip_bom text) ys h in
     let e : length (strip_bom text) + 1 ≡ (length (strip_bom text) + 1 - length rows) + length rows = omega arith in
     ap (λ (n : ℕ). records_from default_config n st.StartRecord (strip_bom text)) e
-        ∙ reached-front default_config rows (length (strip_bom text) + 1 - length rows) st.StartRecord s2 (strip_bom text) ys h
+    ∙ reached-front default_config rows (length (strip_bom text) + 1 - length rows) st.StartRecord s2 (strip_bom text) ys h
 
 pub none-after : (cfg : Config) (n : ℕ) (s : State) (ys : List ℕ) → next_record cfg s [] [] ys ≡ None → records_from cfg n s ys ≡ []
 unfolding records_from

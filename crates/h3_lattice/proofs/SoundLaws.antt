@@ -1,6 +1,6 @@
 -- A table without a fault is sound
-use Rattle.std.proofs.Common.{◌≡◌, ◌≢◌, ◌<◌, ◌≤◌, ◌+◌, ◌-◌, ◌%◌, ℕ, zero, suc, ◌*◌, Bool, true, false, not, Option, Some, None, List, [], ◌∷◌, length, refl, arith, sym, ◌∙◌, ap, rules, ◌&&◌, ◌||◌}
-use Rattle.std.specs.Prelude.{if◌then◌else◌, ◌==◌, nat_lt, nat_eq, ◌⊎◌}
+use Rattle.std.proofs.Common.{◌≡◌, ◌≢◌, ◌<◌, ◌≤◌, ◌+◌, ℕ, zero, suc, Bool, true, false, not, Option, Some, None, List, [], ◌∷◌, length, refl, arith, sym, ◌∙◌, ap, ◌&&◌, ◌||◌}
+use Rattle.std.specs.Prelude.{if◌then◌else◌, ◌==◌, nat_lt}
 use Rattle.std.proofs.Common.{inl, inr}
 use Rattle.std.specs.Prelude.{All}
 use Rattle.std.proofs.lemmas.List.Elements.{All-get_or}
@@ -12,7 +12,7 @@ use Rattle.h3_lattice.specs.declared.error.TableError.{TableError}
 use Rattle.h3_lattice.specs.declared.error.TableError.TheVariants as fault
 use Rattle.h3_lattice.specs.declared.checks.Check.TheVariants as check
 use Rattle.h3_index.specs.Cell.{is_pentagon_base}
-use Rattle.h3_lattice.specs.Direction.{digit_of, directions, opposite, turned, turned_once}
+use Rattle.h3_lattice.specs.Direction.{digit_of, directions, turned_once}
 use Rattle.h3_lattice.specs.Links.{IsHexagonBase, IsLink, IsSound, Links, is_hexagon_base, links_in, place_of}
 use Rattle.h3_lattice.specs.Checks.{at_places, closes, each_of, fault_at, fault_of_links, from_base, in_directions, is_apart, or_next, parts, reverses, same_link, unless}
 use Rattle.h3_lattice.specs.Table.{ChecksMeanSound}
@@ -47,8 +47,9 @@ at_each f zero b k d e h l x = absurd (omega arith)
 at_each f (suc n) b k d e h l x =
     let two = both (if is_hexagon_base b then in_directions (f b) directions else None) (from_base f (b + 1) n) e in
     elim (cases_eq b k) [
-        inl same ↦ in_each (f k) d (here (is_hexagon_base k) (in_directions (f k) directions) (rw same at two.0) x)
-        | inr other ↦ at_each f n (b + 1) k d two.1 (omega arith) (omega arith) x ]
+      | inl same ↦ in_each (f k) d (here (is_hexagon_base k) (in_directions (f k) directions) (rw same at two.0) x)
+      | inr other ↦ at_each f n (b + 1) k d two.1 (omega arith) (omega arith) x
+    ]
 
 and_both : (a b : Bool) → a && b ≡ true → (a ≡ true) × (b ≡ true)
 and_both true b e = (refl, e)
@@ -179,11 +180,11 @@ sound_of link within none =
     let reversal : (b : ℕ) (d : Direction) → IsHexagonBase b → reverses link b d ≡ true = λ b d h. no_fault (reverses link b d) (fault.Reversal b d) (no_fault_at (fault_at check.Reversal link) b d two.0 (is_hexagon_of b h)) in
     let corner : (b : ℕ) (d : Direction) → IsHexagonBase b → closes link b d ≡ true = λ b d h. no_fault (closes link b d) (fault.Corner b d) (no_fault_at (fault_at check.Corner link) b d two.1 (is_hexagon_of b h)) in
     record {
-        within = within;
-        apart = λ b d e h same. one_direction link b d e (each_at (parts link b d) e (and_both (not ((link b d).0 == b)) (each_of (parts link b d) directions) (neighbours b d h)).1) same;
-        away = λ b d h same. not_self (link b d).0 b (and_both (not ((link b d).0 == b)) (each_of (parts link b d) directions) (neighbours b d h)).0 same;
-        reversal = λ b d h k. links_same _ _ (or_true (is_hexagon_base (link b d).0) _ (reversal b d h) (is_hexagon_of (link b d).0 k));
-        corner = λ b d h k l. links_same _ _ (or_true (is_hexagon_base (link b (turned_once d)).0) _ (or_true (is_hexagon_base (link b d).0) _ (or_assoc (not (is_hexagon_base (link b d).0)) _ _ ∙ corner b d h) (is_hexagon_of (link b d).0 k)) (is_hexagon_of (link b (turned_once d)).0 l));
+      within = within;
+      apart = λ b d e h same. one_direction link b d e (each_at (parts link b d) e (and_both (not ((link b d).0 == b)) (each_of (parts link b d) directions) (neighbours b d h)).1) same;
+      away = λ b d h same. not_self (link b d).0 b (and_both (not ((link b d).0 == b)) (each_of (parts link b d) directions) (neighbours b d h)).0 same;
+      reversal = λ b d h k. links_same _ _ (or_true (is_hexagon_base (link b d).0) _ (reversal b d h) (is_hexagon_of (link b d).0 k));
+      corner = λ b d h k l. links_same _ _ (or_true (is_hexagon_base (link b (turned_once d)).0) _ (or_true (is_hexagon_base (link b d).0) _ (or_assoc (not (is_hexagon_base (link b d).0)) _ _ ∙ corner b d h) (is_hexagon_of (link b d).0 k)) (is_hexagon_of (link b (turned_once d)).0 l));
     }
 
 -- ---- a sound table has no fault
@@ -210,8 +211,8 @@ unfolding from_base
 from_base-none f b zero h = refl
 from_base-none f b (suc n) h =
     nones (if is_hexagon_base b then in_directions (f b) directions else None) (from_base f (b + 1) n)
-        (if_none (is_hexagon_base b) (in_directions (f b) directions) (λ k. in_directions-none (f b) directions (λ d. h b d (hexagon_of b k))))
-        (from_base-none f (b + 1) n h)
+    (if_none (is_hexagon_base b) (in_directions (f b) directions) (λ k. in_directions-none (f b) directions (λ d. h b d (hexagon_of b k))))
+    (from_base-none f (b + 1) n h)
 
 pub unless-none : (b : Bool) (e : TableError) → b ≡ true → unless b e ≡ None
 unless-none b e h = rw h refl
@@ -229,8 +230,9 @@ or_right false b e = e
 parts_true : (m n p q : ℕ) → (p ≡ q → m ≡ n) → (m == n) || not (p == q) ≡ true
 parts_true m n p q h =
     elim (cases_eq p q) [
-        inl same ↦ (let e : (m == n) ≡ true = rw (h same) (eqb-self n) in rw e refl)
-        | inr other ↦ or_right (m == n) (not (p == q)) (not_eqb p q other) ]
+      | inl same ↦ (let e : (m == n) ≡ true = rw (h same) (eqb-self n) in rw e refl)
+      | inr other ↦ or_right (m == n) (not (p == q)) (not_eqb p q other)
+    ]
 
 same_link-self : (p : ℕ × ℕ) → same_link p p ≡ true
 same_link-self p = let first = eqb-self p.0 in let second = eqb-self p.1 in rw (first, second) refl
@@ -248,13 +250,14 @@ sound_none : (link : Links) → IsSound link → fault_of_links link ≡ None
 sound_none link s =
     let neighbours = from_base-none (fault_at check.Neighbours link) 0 122 (λ b d h. unless-none (is_apart link b d) (fault.Neighbours b) (apart_of b d h)) in
     let reversal = from_base-none (fault_at check.Reversal link) 0 122 (λ b d h. unless-none (reverses link b d) (fault.Reversal b d)
-        (same_or (is_hexagon_base (link b d).0) _ _ (λ k. s.reversal b d h (hexagon_of (link b d).0 k)))) in
+    (same_or (is_hexagon_base (link b d).0) _ _ (λ k. s.reversal b d h (hexagon_of (link b d).0 k)))) in
     let corner = from_base-none (fault_at check.Corner link) 0 122 (λ b d h. unless-none (closes link b d) (fault.Corner b d)
-        (same_or_or (is_hexagon_base (link b d).0) (is_hexagon_base (link b (turned_once d)).0) _ _ (λ k l. s.corner b d h (hexagon_of (link b d).0 k) (hexagon_of (link b (turned_once d)).0 l)))) in
+    (same_or_or (is_hexagon_base (link b d).0) (is_hexagon_base (link b (turned_once d)).0) _ _ (λ k l. s.corner b d h (hexagon_of (link b d).0 k) (hexagon_of (link b (turned_once d)).0 l)))) in
     nones _ _ neighbours (nones _ _ reversal corner)
   where
     parts_of : (b : ℕ) (d e : Direction) → IsHexagonBase b → parts link b d e ≡ true
     parts_of b d e h = parts_true (digit_of e) (digit_of d) (link b e).0 (link b d).0 (λ k. ap digit_of (s.apart b e d h k))
+
     apart_of : (b : ℕ) (d : Direction) → IsHexagonBase b → is_apart link b d ≡ true
     apart_of b d h =
         let away : not ((link b d).0 == b) ≡ true = not_eqb (link b d).0 b (s.away b d h) in

@@ -1,8 +1,7 @@
 -- A file's first fault, and the table that it spells.
-use Rattle.std.proofs.Common.{◌≡◌, ◌<◌, ◌≤◌, ◌+◌, ◌-◌, ◌*◌, ◌%◌, ℕ, zero, suc, Bool, true, false, not, Option, Some, None, List, [], ◌∷◌, ◌++◌, length, refl, arith, sym, ◌∙◌, ap, subst, ◌||◌, ◌&&◌, slice_index, slice_index_or, inl, inr}
-use Rattle.std.specs.Prelude.{if◌then◌else◌, ◌⊎◌, ⊤, is_some, unwrap_or, ◌==◌}
+use Rattle.std.proofs.Common.{◌≡◌, ◌<◌, ◌+◌, ◌-◌, ◌%◌, ℕ, zero, suc, Bool, true, false, not, Option, Some, None, List, [], ◌∷◌, ◌++◌, length, refl, arith, sym, ◌∙◌, ap, subst, ◌||◌, slice_index, slice_index_or, inl, inr}
+use Rattle.std.specs.Prelude.{if◌then◌else◌, ⊤, is_some, unwrap_or}
 use Rattle.h3_lattice.specs.declared.direction.Direction.{Direction}
-use Rattle.h3_lattice.specs.declared.direction.Direction.TheVariants.{K, J, JK, I, IK, IJ}
 use Rattle.h3_lattice.specs.declared.error.TableError.{TableError}
 use Rattle.h3_lattice.specs.declared.error.TableError.TheVariants as fault
 use Rattle.h3_lattice.specs.declared.checks.Check.{Check}
@@ -41,7 +40,7 @@ unfolding from_base
 from_base-told f b zero h = tt
 from_base-told f b (suc n) h =
     next_told (if is_hexagon_base b then in_directions (f b) directions else None) (from_base f (b + 1) n)
-        (if_told (is_hexagon_base b) (in_directions (f b) directions) None (in_directions-told (f b) directions (h b)) tt) (from_base-told f (b + 1) n h)
+    (if_told (is_hexagon_base b) (in_directions (f b) directions) None (in_directions-told (f b) directions (h b)) tt) (from_base-told f (b + 1) n h)
 
 fault_at-told : (check : Check) (link : Links) (b : ℕ) (d : Direction) → IsTold (fault_at check link b d)
 fault_at-told check.Neighbours link b d = if_told (is_apart link b d) None (Some (fault.Neighbours b)) tt tt
@@ -52,7 +51,7 @@ fault_in-told : (row : ℕ) (known : ℕ → ℕ → Option (ℕ × ℕ)) (o : O
 fault_in-told row known None = tt
 fault_in-told row known (Some ns) =
     if_told (not (in_range ns)) (Some (fault.Range row)) (if is_some (known (slice_index ns 0) (slice_index ns 1)) then Some (fault.Repeated row) else None) tt
-        (if_told (is_some (known (slice_index ns 0) (slice_index ns 1))) (Some (fault.Repeated row)) None tt tt)
+    (if_told (is_some (known (slice_index ns 0) (slice_index ns 1))) (Some (fault.Repeated row)) None tt tt)
 
 fault_of-told : (before : List Record) (r : Record) → IsTold (fault_of before r)
 fault_of-told [] r = if_told (same_fields r header) None (Some (fault.Form 1)) tt tt
@@ -75,9 +74,9 @@ table_fault-told : (records : List Record) → IsTold (table_fault records)
 table_fault-told records =
     let checks = λ (c : Check). from_base-told (fault_at c (links_of records)) 0 122 (fault_at-told c (links_of records)) in
     next_told (fault_of_records records) _ (fault_of_records-told records)
-        (next_told (at_places (missing_of records)) _ (from_base-told (missing_of records) 0 122 (missing_of-told records))
-            (next_told (at_places (fault_at check.Neighbours (links_of records))) _ (checks check.Neighbours)
-                (next_told (at_places (fault_at check.Reversal (links_of records))) (at_places (fault_at check.Corner (links_of records))) (checks check.Reversal) (checks check.Corner))))
+    (next_told (at_places (missing_of records)) _ (from_base-told (missing_of records) 0 122 (missing_of-told records))
+    (next_told (at_places (fault_at check.Neighbours (links_of records))) _ (checks check.Neighbours)
+    (next_told (at_places (fault_at check.Reversal (links_of records))) (at_places (fault_at check.Corner (links_of records))) (checks check.Reversal) (checks check.Corner))))
 
 refuses_told : (fails : Type 0) (first : Option TableError) (e : TableError) → IsTold (Some e) → first ≡ Some e → RefusesTable fails first e
 refuses_told fails first fault.Read t is = absurd t
@@ -112,8 +111,8 @@ unfolding from_base
 from_base-same f g b zero h = refl
 from_base-same f g b (suc n) h =
     next_same (if is_hexagon_base b then in_directions (f b) directions else None) (if is_hexagon_base b then in_directions (g b) directions else None) (from_base f (b + 1) n) (from_base g (b + 1) n)
-        (if_same (is_hexagon_base b) (in_directions (f b) directions) (in_directions (g b) directions) (λ k. in_directions-same (f b) (g b) directions (λ d. h b d (hexagon_of b k))))
-        (from_base-same f g (b + 1) n h)
+    (if_same (is_hexagon_base b) (in_directions (f b) directions) (in_directions (g b) directions) (λ k. in_directions-same (f b) (g b) directions (λ d. h b d (hexagon_of b k))))
+    (from_base-same f g (b + 1) n h)
 
 each_of-same : (p q : Direction → Bool) (ds : List Direction) → ((d : Direction) → p d ≡ q d) → each_of p ds ≡ each_of q ds
 unfolding each_of
@@ -140,13 +139,13 @@ is_apart-same link other b d s h =
 reverses-same : (link other : Links) (b : ℕ) (d : Direction) → SameLinks link other → IsHexagonBase b → reverses link b d ≡ reverses other b d
 reverses-same link other b d s h =
     rw (s b d h) (one_or (is_hexagon_base (other b d).0) _ _
-        (λ k. ap (λ (p : ℕ × ℕ). same_link p (b, (6 - (other b d).1) % 6)) (s (other b d).0 (turned (other b d).1 (opposite d)) (hexagon_of (other b d).0 k))))
+    (λ k. ap (λ (p : ℕ × ℕ). same_link p (b, (6 - (other b d).1) % 6)) (s (other b d).0 (turned (other b d).1 (opposite d)) (hexagon_of (other b d).0 k))))
 
 closes-same : (link other : Links) (b : ℕ) (d : Direction) → SameLinks link other → IsHexagonBase b → closes link b d ≡ closes other b d
 closes-same link other b d s h =
     rw (s b d h, s b (turned_once d) h) (two_or (is_hexagon_base (other b d).0) (is_hexagon_base (other b (turned_once d)).0) _ _
-        (λ k l. ap (λ (p : ℕ × ℕ). same_link p ((other b (turned_once d)).0, ((other b (turned_once d)).1 + 6 - (other b d).1) % 6))
-            (s (other b d).0 (turned (other b d).1 (turned 2 d)) (hexagon_of (other b d).0 k))))
+    (λ k l. ap (λ (p : ℕ × ℕ). same_link p ((other b (turned_once d)).0, ((other b (turned_once d)).1 + 6 - (other b d).1) % 6))
+    (s (other b d).0 (turned (other b d).1 (turned 2 d)) (hexagon_of (other b d).0 k))))
 
 fault_at-same : (c : Check) (link other : Links) → SameLinks link other → (b : ℕ) (d : Direction) → IsHexagonBase b → fault_at c link b d ≡ fault_at c other b d
 fault_at-same check.Neighbours link other s b d h = ap (λ t. unless t (fault.Neighbours b)) (is_apart-same link other b d s h)
@@ -163,7 +162,7 @@ fault_of_links-same link other s =
 missing-same : (slots : List (Option (ℕ × ℕ))) (records : List Record) → Holds slots (body_of records) → at_places (missing_at slots) ≡ at_places (missing_of records)
 missing-same slots records h =
     from_base-same (missing_at slots) (missing_of records) 0 122
-        (λ b d k. ap (λ (o : Option (ℕ × ℕ)). unless (is_some o) fault.Missing) (h.same b (digit_of d) k.0 (digit_of-gt d) (digit_of-lt d)))
+    (λ b d k. ap (λ (o : Option (ℕ × ℕ)). unless (is_some o) fault.Missing) (h.same b (digit_of d) k.0 (digit_of-gt d) (digit_of-lt d)))
 
 pub links-same : (slots : List (Option (ℕ × ℕ))) (links : List (ℕ × ℕ)) (records : List Record) → Holds slots (body_of records)
     → ((i : ℕ) → i < 732 → slice_index_or links i (0, 0) ≡ unwrap_or (slice_index_or slots i None) (0, 0)) → SameLinks (links_in links) (links_of records)
@@ -207,7 +206,7 @@ pub refuses_missing : (fails : Type 0) (slots : List (Option (ℕ × ℕ))) (tex
 refuses_missing fails slots text bytes o e same good first is =
     let good' : IsGood slots bytes = subst (IsGood slots) same good in
     refuses_file fails (records_of bytes) e
-        (table_fault-missing (records_of bytes) (Some e) good'.0 (sym (missing-same slots (records_of bytes) good'.1) ∙ sym first ∙ is))
+    (table_fault-missing (records_of bytes) (Some e) good'.0 (sym (missing-same slots (records_of bytes) good'.1) ∙ sym first ∙ is))
 
 -- what the checks tell of the filled slots is what is told of the file
 table_fault-links : (slots : List (Option (ℕ × ℕ))) (links : List (ℕ × ℕ)) (records : List Record) (o p : Option TableError) → fault_of_records records ≡ None → Holds slots (body_of records)
@@ -231,6 +230,7 @@ pub accepts : (slots : List (Option (ℕ × ℕ))) (links : List (ℕ × ℕ)) (
     → ((i : ℕ) → i < 732 → slice_index_or links i (0, 0) ≡ unwrap_or (slice_index_or slots i None) (0, 0))
     → fault_of_links (links_in links) ≡ None → link ≡ links_in links → (table_fault (records_of bytes) ≡ None) × SameLinks link (links_of (records_of bytes))
 accepts slots links text bytes o link same good first full filled none is =
-    let good' : IsGood slots bytes = subst (IsGood slots) same good in
-    (table_fault-links slots links (records_of bytes) o None good'.0 good'.1 first full filled none,
-        subst (λ (l : Links). SameLinks l (links_of (records_of bytes))) (sym is) (links-same slots links (records_of bytes) good'.1 filled))
+    let good' : IsGood slots bytes = subst (IsGood slots) same good in (
+      table_fault-links slots links (records_of bytes) o None good'.0 good'.1 first full filled none,
+      subst (λ (l : Links). SameLinks l (links_of (records_of bytes))) (sym is) (links-same slots links (records_of bytes) good'.1 filled),
+    )

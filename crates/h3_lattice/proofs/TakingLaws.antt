@@ -1,5 +1,5 @@
 -- One more record of the reading
-use Rattle.std.proofs.Common.{◌≡◌, ◌<◌, ◌≤◌, ◌+◌, ◌-◌, ℕ, zero, suc, Bool, true, false, Option, Some, None, List, [], ◌∷◌, ◌++◌, length, refl, arith, sym, ◌∙◌, ap, length-append, slice_index, slice_index_or, slice_set}
+use Rattle.std.proofs.Common.{◌≡◌, ◌≤◌, ◌+◌, ℕ, Bool, true, false, Option, Some, None, List, [], ◌∷◌, ◌++◌, length, arith, sym, ◌∙◌, length-append, slice_index, slice_index_or, slice_set}
 use Rattle.std.specs.Prelude.{IfSome, if◌then◌else◌}
 use Rattle.csv.specs.Reading.{Reached, default_config, strip_bom, is_bom}
 use Rattle.csv.specs.declared.parser.State.{State}
@@ -7,7 +7,7 @@ use Rattle.csv.specs.declared.parser.State.TheVariants as st
 use Rattle.h3_lattice.specs.declared.error.TableError.{TableError}
 use Rattle.h3_lattice.specs.Fields.{Record, numbers_in, records_of}
 use Rattle.h3_lattice.specs.Links.{place_of}
-use Rattle.h3_lattice.specs.Records.{fault_in, fault_of, fault_of_records, spelled_link}
+use Rattle.h3_lattice.specs.Records.{fault_in, fault_of, fault_of_records}
 use Rattle.h3_lattice.specs.Slots.{Holds}
 use Rattle.h3_lattice.proofs.RecordLaws.{reached-few}
 use Rattle.h3_lattice.proofs.ReadingLaws.{IsRead, read-faulty, read-more}

@@ -34,7 +34,7 @@ reverses link b d = not (is_hexagon_base (link b d).0)
 abbrev pub closes : Links → ℕ → Direction → Bool
 closes link b d = not (is_hexagon_base (link b d).0) || not (is_hexagon_base (link b (turned_once d)).0)
     || same_link (link (link b d).0 (turned (link b d).1 (turned 2 d)))
-        ((link b (turned_once d)).0, ((link b (turned_once d)).1 + 6 - (link b d).1) % 6)
+    ((link b (turned_once d)).0, ((link b (turned_once d)).1 + 6 - (link b d).1) % 6)
 
 -- ---- the first fault
 

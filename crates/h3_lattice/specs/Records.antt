@@ -1,9 +1,9 @@
 -- What a list of records says of a table, and the first faulty record.
-use Rattle.std.specs.Prelude.{◌≡◌, ◌⊎◌, ℕ, ◌+◌, ◌<◌, Bool, not, is_some, ◌==◌, ◌&&◌, nat_lt, if◌then◌else◌, List, [], ◌∷◌, ◌++◌, length, Option, Some, None, slice_index, slice_index_or}
+use Rattle.std.specs.Prelude.{ℕ, ◌+◌, Bool, not, is_some, ◌==◌, ◌&&◌, nat_lt, if◌then◌else◌, List, [], ◌∷◌, ◌++◌, length, Option, Some, None, slice_index}
 use Rattle.h3_lattice.specs.declared.error.TableError.{TableError}
 use Rattle.h3_lattice.specs.declared.error.TableError.TheVariants as fault
 use Rattle.h3_lattice.specs.Fields.{Record, header, numbers_in, same_fields}
-use Rattle.h3_lattice.specs.Links.{is_hexagon_base, place_of}
+use Rattle.h3_lattice.specs.Links.{is_hexagon_base}
 use Rattle.h3_lattice.specs.Checks.{or_next}
 
 -- the records under the header

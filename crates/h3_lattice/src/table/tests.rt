@@ -183,7 +183,10 @@ fn a_missing_or_repeated_record_is_refused(rt: HostRuntime) -> Result<(), Fail> 
 #[test]
 fn the_first_check_that_fails_decides(rt: HostRuntime) -> Result<(), Fail> {
     let skew = text(&rt, &records(&rt, TestTable::Skew)?, "\n")?;
-    assert_eq!(&rt; refusal(&rt, &skew), Some(TableError::Corner(0, Direction::K)));
+    assert_eq!(&rt;
+        refusal(&rt, &skew),
+        Some(TableError::Corner(0, Direction::K))
+    );
     let table = [
         ([0, 1, 110, 1], TableError::Reversal(0, Direction::K)),
         ([0, 2, 110, 0], TableError::Neighbours(0)),

@@ -1,4 +1,4 @@
-use Rattle.std.proofs.Common.{◌≡◌, ◌<◌, ◌&&◌, ◌∙◌, sym, refl, arith, rules, ap, drop, Bool, not, true, false}
+use Rattle.std.proofs.Common.{◌≡◌, ◌∙◌, sym, refl, arith, rules, not, true, false}
 use Rattle.std.specs.Prelude.{◌==◌}
 use Rattle.h3_lattice.specs.Direction.{directions}
 use Rattle.h3_lattice.specs.Links.{links_in}
@@ -8,7 +8,7 @@ use Rattle.h3_lattice.proofs.FirstLaws.{each-next, each-end, both_false}
 use Rattle.h3_lattice.proofs.checks.is_apart.Goals as goal
 
 pub returns-then-not-parts : goal.returns-then-not-parts
-returns-then-not-parts c = 
+returns-then-not-parts c =
     let next = each-next (parts (links_in c.args.links.now) c.args.base c.args.direction) directions c.loop-other.other-index K false c.loop-other-test.true (sym c.if-not-parts.true ∙ c.parts.ensures) in
     let none : each_of (parts (links_in c.args.links.now) c.args.base c.args.direction) directions ≡ false = c.loop-other.invariant ∙ next in
     sym (both_false _ _ none)

@@ -1,4 +1,4 @@
-use Rattle.std.proofs.Common.{◌≡◌, ◌++◌, ℕ, List, ap, ◌∙◌}
+use Rattle.std.proofs.Common.{◌++◌, ℕ, List, ap, ◌∙◌}
 use Rattle.h3_lattice.proofs.counted.read_bytes.Goals as goal
 
 pub returns-clause-bytes : goal.returns-clause-bytes

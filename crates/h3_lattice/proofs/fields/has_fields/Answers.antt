@@ -1,9 +1,7 @@
-use Rattle.std.proofs.Common.{◌≡◌, ◌≢◌, ◌<◌, ◌≤◌, ◌+◌, ◌∙◌, ℕ, List, Bor, Option, Some, None, true, false, length, sym, refl, arith, rules, drop, get_or, map}
-use Rattle.std.specs.Prelude.{bytes_eq}
+use Rattle.std.proofs.Common.{◌≡◌, ◌∙◌, ℕ, List, Bor, length, sym, arith, map}
 use Rattle.std.proofs.lemmas.List.{length-map}
-use Rattle.csv.specs.Records.{fields_of, field_at}
-use Rattle.h3_lattice.specs.Fields.{Record, same_fields}
-use Rattle.h3_lattice.proofs.FieldLaws.{fields-length, fields-next, fields-end, fields-same, fields-differ, field-none}
+use Rattle.csv.specs.Records.{fields_of}
+use Rattle.h3_lattice.proofs.FieldLaws.{fields-length, fields-end, fields-same, fields-differ, field-none}
 use Rattle.h3_lattice.proofs.fields.has_fields.Goals as goal
 
 now_of : List (Bor (List ℕ)) → List (List ℕ)

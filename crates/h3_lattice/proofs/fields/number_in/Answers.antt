@@ -1,7 +1,6 @@
-use Rattle.std.proofs.Common.{◌≡◌, ◌<◌, ◌≤◌, ◌+◌, ◌*◌, ◌-◌, ◌∙◌, Option, Some, None, true, false, length, sym, refl, arith, rules, drop, get_or}
-use Rattle.std.specs.Prelude.{if◌then◌else◌, nat_lt, nat_le, ◌&&◌}
+use Rattle.std.proofs.Common.{◌≡◌, ◌<◌, ◌≤◌, ◌∙◌, true, false, length, sym, refl, arith, rules, get_or}
 use Rattle.std.proofs.lemmas.Bool.Decides.{nat_tests}
-use Rattle.h3_lattice.specs.Fields.{is_digit, number_from, number_in}
+use Rattle.h3_lattice.specs.Fields.{is_digit}
 use Rattle.h3_lattice.proofs.FieldLaws.{number-next, number-end, number_of_short}
 use Rattle.h3_lattice.proofs.fields.number_in.Goals as goal
 

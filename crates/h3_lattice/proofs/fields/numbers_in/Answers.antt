@@ -1,7 +1,6 @@
-use Rattle.std.proofs.Common.{◌≡◌, ◌≢◌, ◌<◌, ◌≤◌, ◌+◌, ◌∙◌, ℕ, List, Bor, Option, Some, None, true, false, length, sym, refl, arith, rules, drop, get_or, map}
+use Rattle.std.proofs.Common.{◌∙◌, sym, arith}
 use Rattle.std.proofs.lemmas.List.{length-set}
-use Rattle.csv.specs.Records.{fields_of, field_at}
-use Rattle.h3_lattice.specs.Fields.{Record, all_numbers, number_in}
+use Rattle.csv.specs.Records.{fields_of}
 use Rattle.h3_lattice.proofs.FieldLaws.{field-none, numbers-more, numbers-refused, numbers-done}
 use Rattle.h3_lattice.proofs.fields.numbers_in.Goals as goal
 

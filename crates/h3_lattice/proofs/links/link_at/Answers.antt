@@ -1,4 +1,4 @@
-use Rattle.std.proofs.Common.{ℕ, ◌≡◌, ◌<◌, ◌*◌, ◌+◌, ◌-◌, arith, rules, refl, length}
+use Rattle.std.proofs.Common.{◌<◌, ◌*◌, ◌+◌, ◌-◌, arith, refl}
 use Rattle.std.proofs.lemmas.List.Elements.{All-get_or}
 use Rattle.h3_lattice.specs.Direction.{digit_of}
 use Rattle.h3_lattice.specs.Links.{IsLink, links_in}

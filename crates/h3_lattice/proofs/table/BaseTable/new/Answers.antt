@@ -1,4 +1,4 @@
-use Rattle.std.proofs.Common.{◌≡◌, ◌∙◌, arith, sym, None}
+use Rattle.std.proofs.Common.{◌∙◌, arith, sym}
 use Rattle.h3_lattice.specs.Links.{links_in}
 use Rattle.h3_lattice.proofs.SoundLaws.{links_within, sound_of}
 use Rattle.h3_lattice.proofs.table.BaseTable.new.Goals as goal

@@ -1,6 +1,5 @@
-use Rattle.std.proofs.Common.{◌≡◌, ◌∙◌, ◌≤◌, ◌⊎◌, true, length, sym}
+use Rattle.std.proofs.Common.{◌∙◌}
 use Rattle.std.proofs.lemmas.Result.{err_from_is_err_and, IfOk-weaker, IfErr-weaker}
-use Rattle.h3_lattice.specs.Links.{links_in}
 use Rattle.h3_lattice.specs.BaseTable.{link_of}
 use Rattle.h3_lattice.proofs.FormLaws.{sound_files_are_accepted}
 use Rattle.h3_lattice.proofs.TableLaws.{accepts, refuses_links, refuses_missing, refuses_records, stops}
@@ -19,17 +18,17 @@ returns-in_err-slots-clause-refused g c =
 pub returns-in-Some-clause-refused : goal.returns-in-Some-clause-refused
 returns-in-Some-clause-refused g c = λ bytes told.
     refuses_missing _ c.in_ok-slots.slots c.as_slice.result.now bytes c.first_missing.result c.in-Some.fault (c.as_slice.ensures.value ∙ c.in_ok-text.ensures.bytes bytes told) c.in_ok-slots.ensures.read
-        c.first_missing.ensures c.in-Some.is
+    c.first_missing.ensures c.in-Some.is
 
 pub returns-clause-accepted : goal.returns-clause-accepted
 returns-clause-accepted g c = IfOk-weaker c.new.result _ _
     (λ table done bytes told. accepts c.in_ok-slots.slots c.filled.result c.as_slice.result.now bytes c.first_missing.result (link_of table) (c.as_slice.ensures.value ∙ c.in_ok-text.ensures.bytes bytes told)
-        c.in_ok-slots.ensures.read c.first_missing.ensures c.in-None.is c.filled.ensures.same done.0 done.1) c.new.ensures.accepted
+    c.in_ok-slots.ensures.read c.first_missing.ensures c.in-None.is c.filled.ensures.same done.0 done.1) c.new.ensures.accepted
 
 pub returns-clause-refused : goal.returns-clause-refused
 returns-clause-refused g c = IfErr-weaker c.new.result _ _
     (λ e done bytes told. refuses_links _ c.in_ok-slots.slots c.filled.result c.as_slice.result.now bytes c.first_missing.result e (c.as_slice.ensures.value ∙ c.in_ok-text.ensures.bytes bytes told)
-        c.in_ok-slots.ensures.read c.first_missing.ensures c.in-None.is c.filled.ensures.same done) c.new.ensures.refused
+    c.in_ok-slots.ensures.read c.first_missing.ensures c.in-None.is c.filled.ensures.same done) c.new.ensures.refused
 
 pub returns-in_err-text-clause-exact : goal.returns-in_err-text-clause-exact
 returns-in_err-text-clause-exact g c = sound_files_are_accepted
