@@ -2,15 +2,11 @@
 use Rattle.std.proofs.Common.{◌≡◌, ◌<◌, ◌≤◌, ◌+◌, ◌-◌, ◌*◌, ℕ, suc, zero, Bool, true, false, not, ◌&&◌, Option, Some, None, List, [], ◌∷◌, ◌++◌, length, take, drop, set, get_or, map, refl, arith, add-one, ap, ◌∙◌, append_assoc, append-nil, Bor}
 use Rattle.std.specs.Prelude.{if◌then◌else◌, bytes_eq, option_map, nat_lt, nat_le, ◌==◌}
 use Rattle.std.proofs.lemmas.Bool.Decides.{nat_tests}
+use Rattle.std.proofs.Math.ListN.{drop_of_length-le}
+use Rattle.std.proofs.lemmas.List.{take_all}
 use Rattle.std.proofs.Math.Seq.{drop-cons, take-suc-set}
 use Rattle.csv.specs.Records.{field_at}
 use Rattle.h3_lattice.specs.Fields.{Record, all_numbers, is_digit, number_from, number_in, numbers_in, same_fields, with_number}
-
-drop-past : (f : List ℕ) (i : ℕ) → length f ≤ i → drop i f ≡ []
-drop-past [] zero h = refl
-drop-past [] (suc i) h = refl
-drop-past (x ∷ f) zero h = absurd (omega arith)
-drop-past (x ∷ f) (suc i) h = drop-past f i (omega arith)
 
 -- one more digit
 pub number-next : (f : List ℕ) (n i : ℕ) → i < length f → number_from n (drop i f) ≡ (if is_digit (get_or f i 0) then number_from (n * 10 + (get_or f i 0 - 48)) (drop (i + 1) f) else None)
@@ -19,7 +15,7 @@ number-next f n i h = rw (drop-cons f i 0 h, add-one) refl
 
 pub number-end : (f : List ℕ) (n i : ℕ) → length f ≤ i → number_from n (drop i f) ≡ Some n
 unfolding number_from
-number-end f n i h = rw (drop-past f i h) refl
+number-end f n i h = rw (drop_of_length-le f h) refl
 
 -- the field at a place is the first of what comes from there on
 pub field-drop : (r : Record) (i : ℕ) (f : List ℕ) → field_at r i ≡ Some f → drop i r ≡ f ∷ drop (i + 1) r
@@ -68,13 +64,7 @@ field-map (x ∷ xs) (suc i) d h = field-map xs i d (omega arith)
 
 pub fields-end : (r t : Record) (i : ℕ) → length r ≤ i → length t ≤ i → same_fields (drop i r) (drop i t) ≡ true
 unfolding same_fields
-fields-end r t i h k = rw (past r i h, past t i k) refl
-  where
-    past : (f : Record) (i : ℕ) → length f ≤ i → drop i f ≡ []
-    past [] zero h = refl
-    past [] (suc i) h = refl
-    past (x ∷ f) zero h = absurd (omega arith)
-    past (x ∷ f) (suc i) h = past f i (omega arith)
+fields-end r t i h k = rw (drop_of_length-le r h, drop_of_length-le t k) refl
 
 more_of : (o : Option (List ℕ)) (a : List ℕ) (x : ℕ) (b : List ℕ) → b ≡ a ++ (x ∷ []) → option_map (λ rest. a ++ rest) (option_map (λ ns. x ∷ ns) o) ≡ option_map (λ rest. b ++ rest) o
 more_of None a x b h = refl
@@ -93,19 +83,7 @@ numbers-none r i f e k = rw (numbers-next r i f e, k) refl
 
 pub numbers-all : (r : Record) (ns : List ℕ) (i : ℕ) → length r ≤ i → length ns ≤ i → option_map (λ rest. take i ns ++ rest) (all_numbers (drop i r)) ≡ Some ns
 unfolding all_numbers
-numbers-all r ns i h k = rw (past r i h) (ap (λ (x : List ℕ). Some x) (rw (append-nil) (take_all ns i k)))
-  where
-    past : (f : Record) (i : ℕ) → length f ≤ i → drop i f ≡ []
-    past [] zero h = refl
-    past [] (suc i) h = refl
-    past (x ∷ f) zero h = absurd (omega arith)
-    past (x ∷ f) (suc i) h = past f i (omega arith)
-
-    take_all : (ns : List ℕ) (i : ℕ) → length ns ≤ i → take i ns ≡ ns
-    take_all [] zero k = refl
-    take_all [] (suc i) k = refl
-    take_all (x ∷ ns) zero k = absurd (omega arith)
-    take_all (x ∷ ns) (suc i) k = ap (λ (t : List ℕ). x ∷ t) (take_all ns i (omega arith))
+numbers-all r ns i h k = rw (drop_of_length-le r h) (ap (λ (x : List ℕ). Some x) (rw (append-nil) (take_all i ns k)))
 
 -- a record of the right width
 pub numbers-of : (r : Record) (n : ℕ) → length r ≡ n → numbers_in n r ≡ all_numbers r

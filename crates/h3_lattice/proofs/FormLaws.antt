@@ -14,8 +14,8 @@ use Rattle.h3_lattice.specs.Links.{IsHexagonBase, IsLink, IsSound, is_hexagon_ba
 use Rattle.h3_lattice.specs.Checks.{at_places, fault_of_links, or_next}
 use Rattle.h3_lattice.specs.Records.{body_of, fault_in, fault_of, fault_of_records, first_fault, in_range, link_in, or_link, spelled_link}
 use Rattle.h3_lattice.specs.Table.{IsLinkRecord, IsOfForm, SoundFilesAreAccepted, links_of, missing_of, names, table_fault}
-use Rattle.h3_lattice.proofs.SlotLaws.{and_true, free-slot, in_range-true, spelled_link-append}
-use Rattle.h3_lattice.proofs.SoundLaws.{both, checks_mean_sound, direction_below, from_base-none, hexagon_of, is_hexagon_of, no_fault, no_fault_at, nones, nth_direction, unless-none}
+use Rattle.h3_lattice.proofs.SlotLaws.{free-slot, in_range-true, spelled_link-append}
+use Rattle.h3_lattice.proofs.SoundLaws.{and_both, both, checks_mean_sound, direction_below, from_base-none, hexagon_of, is_hexagon_of, no_fault, no_fault_at, nones, nth_direction, unless-none}
 
 -- ---- fields
 
@@ -25,7 +25,7 @@ same_fields-true [] [] e = refl
 same_fields-true [] (g ∷ gs) e = cc e
 same_fields-true (f ∷ fs) [] e = cc e
 same_fields-true (f ∷ fs) (g ∷ gs) e =
-    let two = and_true (bytes_eq f g) (same_fields fs gs) e in
+    let two = and_both (bytes_eq f g) (same_fields fs gs) e in
     let first : f ≡ g = (bytes_eq-Decides f g).0 two.0 in
     let rest : fs ≡ gs = same_fields-true fs gs two.1 in
     cc

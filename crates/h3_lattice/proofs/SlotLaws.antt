@@ -8,13 +8,11 @@ use Rattle.h3_lattice.specs.Fields.{Record, numbers_in}
 use Rattle.h3_lattice.specs.Links.{is_hexagon_base, place_of}
 use Rattle.h3_lattice.specs.Records.{fault_in, in_range, link_in, or_link, spelled_link}
 use Rattle.h3_lattice.specs.Slots.{Holds, IsInRange}
+use Rattle.h3_lattice.proofs.SoundLaws.{eqb-eq}
 
 or_none : (o : Option (ℕ × ℕ)) → or_link o None ≡ o
 or_none None = refl
 or_none (Some p) = refl
-
-eqb-eq : (m n : ℕ) → (m == n) ≡ true → m ≡ n
-eqb-eq m n e = grind (arith, nat_tests)
 
 eqb-ne : (m n : ℕ) → (m == n) ≡ false → m ≢ n
 eqb-ne m n e = grind (arith, nat_tests)
@@ -35,10 +33,6 @@ spelled_link-none b d = refl
 none_of : (o : Option (ℕ × ℕ)) → is_some o ≡ false → o ≡ None
 none_of None e = refl
 none_of (Some p) e = cc e
-
-pub and_true : (a b : Bool) → a && b ≡ true → (a ≡ true) × (b ≡ true)
-and_true true b e = (refl, e)
-and_true false b e = cc e
 
 -- what the slots know is what the records spell
 same_if : (known other : ℕ → ℕ → Option (ℕ × ℕ)) (row : ℕ) (ns : List ℕ) (b : Bool) → (b ≡ true → known (slice_index ns 0) (slice_index ns 1) ≡ other (slice_index ns 0) (slice_index ns 1))

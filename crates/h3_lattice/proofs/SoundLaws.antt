@@ -1,10 +1,10 @@
 -- A table without a fault is sound
-use Rattle.std.proofs.Common.{◌≡◌, ◌≢◌, ◌<◌, ◌≤◌, ◌+◌, ℕ, zero, suc, Bool, true, false, not, Option, Some, None, List, [], ◌∷◌, length, refl, arith, sym, ◌∙◌, ap, ◌&&◌, ◌||◌}
+use Rattle.std.proofs.Common.{◌≡◌, ◌≢◌, ◌<◌, ◌≤◌, ◌+◌, ◌-◌, ℕ, zero, suc, Bool, true, false, not, Option, Some, None, List, [], ◌∷◌, length, get_or, subst, refl, arith, sym, ◌∙◌, ap, ◌&&◌, ◌||◌}
 use Rattle.std.specs.Prelude.{if◌then◌else◌, ◌==◌, nat_lt}
 use Rattle.std.proofs.Common.{inl, inr}
 use Rattle.std.specs.Prelude.{All}
 use Rattle.std.proofs.lemmas.List.Elements.{All-get_or}
-use Rattle.std.proofs.lemmas.Bool.{cases_eq}
+use Rattle.std.proofs.lemmas.Bool.{cases_eq, not-true}
 use Rattle.std.proofs.lemmas.Bool.Decides.{nat_tests}
 use Rattle.h3_lattice.specs.declared.direction.Direction.{Direction}
 use Rattle.h3_lattice.specs.declared.direction.Direction.TheVariants.{K, J, JK, I, IK, IJ}
@@ -17,69 +17,7 @@ use Rattle.h3_lattice.specs.Links.{IsHexagonBase, IsLink, IsSound, Links, is_hex
 use Rattle.h3_lattice.specs.Checks.{at_places, closes, each_of, fault_at, fault_of_links, from_base, in_directions, is_apart, or_next, parts, reverses, same_link, unless}
 use Rattle.h3_lattice.specs.Table.{ChecksMeanSound}
 
-pub both : (a b : Option TableError) → or_next a b ≡ None → (a ≡ None) × (b ≡ None)
-both None b e = (refl, e)
-both (Some x) b e = cc e
-
-pub no_fault : (b : Bool) (e : TableError) → unless b e ≡ None → b ≡ true
-no_fault true e h = refl
-no_fault false e h = cc h
-
-in_one : (f : Direction → Option TableError) (d : Direction) (rest : List Direction) → in_directions f (d ∷ rest) ≡ None → (f d ≡ None) × (in_directions f rest ≡ None)
-unfolding in_directions
-in_one f d rest e = both (f d) (in_directions f rest) e
-
-in_each : (f : Direction → Option TableError) (d : Direction) → in_directions f directions ≡ None → f d ≡ None
-in_each f K e = let a0 = in_one f K (J ∷ JK ∷ I ∷ IK ∷ IJ ∷ []) e in let a1 = in_one f J (JK ∷ I ∷ IK ∷ IJ ∷ []) a0.1 in let a2 = in_one f JK (I ∷ IK ∷ IJ ∷ []) a1.1 in let a3 = in_one f I (IK ∷ IJ ∷ []) a2.1 in let a4 = in_one f IK (IJ ∷ []) a3.1 in let a5 = in_one f IJ [] a4.1 in a0.0
-in_each f J e = let a0 = in_one f K (J ∷ JK ∷ I ∷ IK ∷ IJ ∷ []) e in let a1 = in_one f J (JK ∷ I ∷ IK ∷ IJ ∷ []) a0.1 in let a2 = in_one f JK (I ∷ IK ∷ IJ ∷ []) a1.1 in let a3 = in_one f I (IK ∷ IJ ∷ []) a2.1 in let a4 = in_one f IK (IJ ∷ []) a3.1 in let a5 = in_one f IJ [] a4.1 in a1.0
-in_each f JK e = let a0 = in_one f K (J ∷ JK ∷ I ∷ IK ∷ IJ ∷ []) e in let a1 = in_one f J (JK ∷ I ∷ IK ∷ IJ ∷ []) a0.1 in let a2 = in_one f JK (I ∷ IK ∷ IJ ∷ []) a1.1 in let a3 = in_one f I (IK ∷ IJ ∷ []) a2.1 in let a4 = in_one f IK (IJ ∷ []) a3.1 in let a5 = in_one f IJ [] a4.1 in a2.0
-in_each f I e = let a0 = in_one f K (J ∷ JK ∷ I ∷ IK ∷ IJ ∷ []) e in let a1 = in_one f J (JK ∷ I ∷ IK ∷ IJ ∷ []) a0.1 in let a2 = in_one f JK (I ∷ IK ∷ IJ ∷ []) a1.1 in let a3 = in_one f I (IK ∷ IJ ∷ []) a2.1 in let a4 = in_one f IK (IJ ∷ []) a3.1 in let a5 = in_one f IJ [] a4.1 in a3.0
-in_each f IK e = let a0 = in_one f K (J ∷ JK ∷ I ∷ IK ∷ IJ ∷ []) e in let a1 = in_one f J (JK ∷ I ∷ IK ∷ IJ ∷ []) a0.1 in let a2 = in_one f JK (I ∷ IK ∷ IJ ∷ []) a1.1 in let a3 = in_one f I (IK ∷ IJ ∷ []) a2.1 in let a4 = in_one f IK (IJ ∷ []) a3.1 in let a5 = in_one f IJ [] a4.1 in a4.0
-in_each f IJ e = let a0 = in_one f K (J ∷ JK ∷ I ∷ IK ∷ IJ ∷ []) e in let a1 = in_one f J (JK ∷ I ∷ IK ∷ IJ ∷ []) a0.1 in let a2 = in_one f JK (I ∷ IK ∷ IJ ∷ []) a1.1 in let a3 = in_one f I (IK ∷ IJ ∷ []) a2.1 in let a4 = in_one f IK (IJ ∷ []) a3.1 in let a5 = in_one f IJ [] a4.1 in a5.0
-
-here : (h : Bool) (o : Option TableError) → (if h then o else None) ≡ None → h ≡ true → o ≡ None
-here true o e k = e
-here false o e k = cc k
-
-at_each : (f : ℕ → Direction → Option TableError) (n b k : ℕ) (d : Direction) → from_base f b n ≡ None → b ≤ k → k < b + n → is_hexagon_base k ≡ true → f k d ≡ None
-unfolding from_base
-at_each f zero b k d e h l x = absurd (omega arith)
-at_each f (suc n) b k d e h l x =
-    let two = both (if is_hexagon_base b then in_directions (f b) directions else None) (from_base f (b + 1) n) e in
-    elim (cases_eq b k) [
-      | inl same ↦ in_each (f k) d (here (is_hexagon_base k) (in_directions (f k) directions) (rw same at two.0) x)
-      | inr other ↦ at_each f n (b + 1) k d two.1 (omega arith) (omega arith) x
-    ]
-
-and_both : (a b : Bool) → a && b ≡ true → (a ≡ true) × (b ≡ true)
-and_both true b e = (refl, e)
-and_both false b e = cc e
-
-not_true : (a : Bool) → not a ≡ true → a ≡ false
-not_true true e = cc e
-not_true false e = refl
-
-nat_lt-true : (m n : ℕ) → m < n → nat_lt m n ≡ true
-nat_lt-true m n h = grind (arith, nat_tests)
-
-true-nat_lt : (m n : ℕ) → nat_lt m n ≡ true → m < n
-true-nat_lt m n h = grind (arith, nat_tests)
-
--- the test of hexagon base cells says what it should
-pub hexagon_of : (b : ℕ) → is_hexagon_base b ≡ true → IsHexagonBase b
-unfolding is_hexagon_base
-hexagon_of b e = let two = and_both (nat_lt b 122) (not (is_pentagon_base b)) e in (true-nat_lt b 122 two.0, not_true (is_pentagon_base b) two.1)
-
-pub is_hexagon_of : (b : ℕ) → IsHexagonBase b → is_hexagon_base b ≡ true
-unfolding is_hexagon_base
-is_hexagon_of b h = let small : nat_lt b 122 ≡ true = nat_lt-true b 122 h.0 in rw (small, h.1) refl
-
-pub no_fault_at : (f : ℕ → Direction → Option TableError) (b : ℕ) (d : Direction) → at_places f ≡ None → is_hexagon_base b ≡ true → f b d ≡ None
-no_fault_at f b d e h = let k = hexagon_of b h in at_each f 122 0 b d e (omega arith) (omega arith) h
-
-or_true : (a b : Bool) → not a || b ≡ true → a ≡ true → b ≡ true
-or_true true b e h = e
-or_true false b e h = cc h
+-- ---- the digits of directions
 
 pub digit_of-gt : (d : Direction) → 0 < digit_of d
 digit_of-gt K = omega arith
@@ -96,6 +34,75 @@ digit_of-lt JK = omega arith
 digit_of-lt I = omega arith
 digit_of-lt IK = omega arith
 digit_of-lt IJ = omega arith
+
+direction-at : (d : Direction) → get_or directions (digit_of d - 1) K ≡ d
+direction-at K = refl
+direction-at J = refl
+direction-at JK = refl
+direction-at I = refl
+direction-at IK = refl
+direction-at IJ = refl
+
+-- ---- where no fault is told
+
+pub both : (a b : Option TableError) → or_next a b ≡ None → (a ≡ None) × (b ≡ None)
+both None b e = (refl, e)
+both (Some x) b e = cc e
+
+pub no_fault : (b : Bool) (e : TableError) → unless b e ≡ None → b ≡ true
+no_fault true e h = refl
+no_fault false e h = cc h
+
+in_directions-at : (f : Direction → Option TableError) (ds : List Direction) (i : ℕ) → in_directions f ds ≡ None → i < length ds → f (get_or ds i K) ≡ None
+unfolding in_directions
+in_directions-at f [] i e h = absurd (omega arith)
+in_directions-at f (d ∷ ds) zero e h = (both (f d) (in_directions f ds) e).0
+in_directions-at f (d ∷ ds) (suc i) e h = in_directions-at f ds i (both (f d) (in_directions f ds) e).1 (omega arith)
+
+in_each : (f : Direction → Option TableError) (d : Direction) → in_directions f directions ≡ None → f d ≡ None
+in_each f d e =
+    let small = digit_of-lt d in
+    subst (λ d. f d ≡ None) (direction-at d) (in_directions-at f directions (digit_of d - 1) e (omega arith))
+
+here : (h : Bool) (o : Option TableError) → (if h then o else None) ≡ None → h ≡ true → o ≡ None
+here true o e k = e
+here false o e k = cc k
+
+at_each : (f : ℕ → Direction → Option TableError) (n b k : ℕ) (d : Direction) → from_base f b n ≡ None → b ≤ k → k < b + n → is_hexagon_base k ≡ true → f k d ≡ None
+unfolding from_base
+at_each f zero b k d e h l x = absurd (omega arith)
+at_each f (suc n) b k d e h l x =
+    let two = both (if is_hexagon_base b then in_directions (f b) directions else None) (from_base f (b + 1) n) e in
+    elim (cases_eq b k) [
+      | inl same ↦ in_each (f k) d (here (is_hexagon_base k) (in_directions (f k) directions) (rw same at two.0) x)
+      | inr other ↦ at_each f n (b + 1) k d two.1 (omega arith) (omega arith) x
+    ]
+
+pub and_both : (a b : Bool) → a && b ≡ true → (a ≡ true) × (b ≡ true)
+and_both true b e = (refl, e)
+and_both false b e = cc e
+
+nat_lt-true : (m n : ℕ) → m < n → nat_lt m n ≡ true
+nat_lt-true m n h = grind (arith, nat_tests)
+
+true-nat_lt : (m n : ℕ) → nat_lt m n ≡ true → m < n
+true-nat_lt m n h = grind (arith, nat_tests)
+
+-- the test of hexagon base cells says what it should
+pub hexagon_of : (b : ℕ) → is_hexagon_base b ≡ true → IsHexagonBase b
+unfolding is_hexagon_base
+hexagon_of b e = let two = and_both (nat_lt b 122) (not (is_pentagon_base b)) e in (true-nat_lt b 122 two.0, not-true (is_pentagon_base b) two.1)
+
+pub is_hexagon_of : (b : ℕ) → IsHexagonBase b → is_hexagon_base b ≡ true
+unfolding is_hexagon_base
+is_hexagon_of b h = let small : nat_lt b 122 ≡ true = nat_lt-true b 122 h.0 in rw (small, h.1) refl
+
+pub no_fault_at : (f : ℕ → Direction → Option TableError) (b : ℕ) (d : Direction) → at_places f ≡ None → is_hexagon_base b ≡ true → f b d ≡ None
+no_fault_at f b d e h = let k = hexagon_of b h in at_each f 122 0 b d e (omega arith) (omega arith) h
+
+or_true : (a b : Bool) → not a || b ≡ true → a ≡ true → b ≡ true
+or_true true b e h = e
+or_true false b e h = cc h
 
 pub nth_direction : ℕ → Direction
 nth_direction n = if n == 1 then K else if n == 2 then J else if n == 3 then JK else if n == 4 then I else if n == 5 then IK else IJ
@@ -127,23 +134,22 @@ same_numbers d e h = sym (named d) ∙ ap nth_direction h ∙ named e
 pair_same : (p q : ℕ × ℕ) → p.0 ≡ q.0 → p.1 ≡ q.1 → p ≡ q
 pair_same p q a b = λ i. (a i, b i)
 
-eqb-eq : (m n : ℕ) → (m == n) ≡ true → m ≡ n
+pub eqb-eq : (m n : ℕ) → (m == n) ≡ true → m ≡ n
 eqb-eq m n e = grind (arith, nat_tests)
 
 links_same : (p q : ℕ × ℕ) → same_link p q ≡ true → p ≡ q
 links_same p q e = let two = and_both (p.0 == q.0) (p.1 == q.1) e in pair_same p q (eqb-eq p.0 q.0 two.0) (eqb-eq p.1 q.1 two.1)
 
-each_one : (p : Direction → Bool) (d : Direction) (rest : List Direction) → each_of p (d ∷ rest) ≡ true → (p d ≡ true) × (each_of p rest ≡ true)
+each_of-at : (p : Direction → Bool) (ds : List Direction) (i : ℕ) → each_of p ds ≡ true → i < length ds → p (get_or ds i K) ≡ true
 unfolding each_of
-each_one p d rest e = and_both (p d) (each_of p rest) e
+each_of-at p [] i e h = absurd (omega arith)
+each_of-at p (d ∷ ds) zero e h = (and_both (p d) (each_of p ds) e).0
+each_of-at p (d ∷ ds) (suc i) e h = each_of-at p ds i (and_both (p d) (each_of p ds) e).1 (omega arith)
 
 each_at : (p : Direction → Bool) (d : Direction) → each_of p directions ≡ true → p d ≡ true
-each_at f K e = let a0 = each_one f K (J ∷ JK ∷ I ∷ IK ∷ IJ ∷ []) e in let a1 = each_one f J (JK ∷ I ∷ IK ∷ IJ ∷ []) a0.1 in let a2 = each_one f JK (I ∷ IK ∷ IJ ∷ []) a1.1 in let a3 = each_one f I (IK ∷ IJ ∷ []) a2.1 in let a4 = each_one f IK (IJ ∷ []) a3.1 in let a5 = each_one f IJ [] a4.1 in a0.0
-each_at f J e = let a0 = each_one f K (J ∷ JK ∷ I ∷ IK ∷ IJ ∷ []) e in let a1 = each_one f J (JK ∷ I ∷ IK ∷ IJ ∷ []) a0.1 in let a2 = each_one f JK (I ∷ IK ∷ IJ ∷ []) a1.1 in let a3 = each_one f I (IK ∷ IJ ∷ []) a2.1 in let a4 = each_one f IK (IJ ∷ []) a3.1 in let a5 = each_one f IJ [] a4.1 in a1.0
-each_at f JK e = let a0 = each_one f K (J ∷ JK ∷ I ∷ IK ∷ IJ ∷ []) e in let a1 = each_one f J (JK ∷ I ∷ IK ∷ IJ ∷ []) a0.1 in let a2 = each_one f JK (I ∷ IK ∷ IJ ∷ []) a1.1 in let a3 = each_one f I (IK ∷ IJ ∷ []) a2.1 in let a4 = each_one f IK (IJ ∷ []) a3.1 in let a5 = each_one f IJ [] a4.1 in a2.0
-each_at f I e = let a0 = each_one f K (J ∷ JK ∷ I ∷ IK ∷ IJ ∷ []) e in let a1 = each_one f J (JK ∷ I ∷ IK ∷ IJ ∷ []) a0.1 in let a2 = each_one f JK (I ∷ IK ∷ IJ ∷ []) a1.1 in let a3 = each_one f I (IK ∷ IJ ∷ []) a2.1 in let a4 = each_one f IK (IJ ∷ []) a3.1 in let a5 = each_one f IJ [] a4.1 in a3.0
-each_at f IK e = let a0 = each_one f K (J ∷ JK ∷ I ∷ IK ∷ IJ ∷ []) e in let a1 = each_one f J (JK ∷ I ∷ IK ∷ IJ ∷ []) a0.1 in let a2 = each_one f JK (I ∷ IK ∷ IJ ∷ []) a1.1 in let a3 = each_one f I (IK ∷ IJ ∷ []) a2.1 in let a4 = each_one f IK (IJ ∷ []) a3.1 in let a5 = each_one f IJ [] a4.1 in a4.0
-each_at f IJ e = let a0 = each_one f K (J ∷ JK ∷ I ∷ IK ∷ IJ ∷ []) e in let a1 = each_one f J (JK ∷ I ∷ IK ∷ IJ ∷ []) a0.1 in let a2 = each_one f JK (I ∷ IK ∷ IJ ∷ []) a1.1 in let a3 = each_one f I (IK ∷ IJ ∷ []) a2.1 in let a4 = each_one f IK (IJ ∷ []) a3.1 in let a5 = each_one f IJ [] a4.1 in a5.0
+each_at p d e =
+    let small = digit_of-lt d in
+    subst (λ d. p d ≡ true) (direction-at d) (each_of-at p directions (digit_of d - 1) e (omega arith))
 
 or_left : (a b : Bool) → a || b ≡ true → b ≡ false → a ≡ true
 or_left true b e h = refl

@@ -5,7 +5,7 @@ ghost use Rattle.h3_index.specs.Cell.{is_pentagon_base};
 ghost use Rattle.h3_lattice.specs.Fields.{records_of};
 ghost use Rattle.h3_lattice.specs.Links.{IsLink, IsSound, links_in};
 ghost use Rattle.h3_lattice.specs.Checks.{fault_of_links};
-ghost use Rattle.h3_lattice.specs.Table.{RefusesTable, SameLinks, SoundFilesAreAccepted, links_of, table_fault};
+ghost use Rattle.h3_lattice.specs.Table.{ChecksMeanSound, RefusesTable, SameLinks, SoundFilesAreAccepted, links_of, table_fault};
 
 use crate::checks::fault_of_links;
 use crate::counted::read_bytes;
@@ -63,6 +63,7 @@ impl BaseTable {
             RefusesTable ((R.has_failed source.new ≡ true) ⊎ (2 ^ 40 ≤ length bytes)) (table_fault (records_of bytes)) e) }
         ensures sound { IfOk result (λ table. IsSound (link_of table)) }
         ensures exact { SoundFilesAreAccepted }
+        ensures checks { ChecksMeanSound }
     {
         let mut page = [0; PAGE];
         let text = read_bytes(alloc, source, READS, &mut page)?;

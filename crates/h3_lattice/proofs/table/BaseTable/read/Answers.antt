@@ -2,6 +2,7 @@ use Rattle.std.proofs.Common.{◌∙◌}
 use Rattle.std.proofs.lemmas.Result.{err_from_is_err_and, IfOk-weaker, IfErr-weaker}
 use Rattle.h3_lattice.specs.BaseTable.{link_of}
 use Rattle.h3_lattice.proofs.FormLaws.{sound_files_are_accepted}
+use Rattle.h3_lattice.proofs.SoundLaws.{checks_mean_sound}
 use Rattle.h3_lattice.proofs.TableLaws.{accepts, refuses_links, refuses_missing, refuses_records, stops}
 use Rattle.h3_lattice.proofs.table.BaseTable.read.Goals as goal
 
@@ -41,3 +42,15 @@ returns-in-Some-clause-exact g c = sound_files_are_accepted
 
 pub returns-clause-exact : goal.returns-clause-exact
 returns-clause-exact g c = sound_files_are_accepted
+
+pub returns-in_err-text-clause-checks : goal.returns-in_err-text-clause-checks
+returns-in_err-text-clause-checks g c = checks_mean_sound
+
+pub returns-in_err-slots-clause-checks : goal.returns-in_err-slots-clause-checks
+returns-in_err-slots-clause-checks g c = checks_mean_sound
+
+pub returns-in-Some-clause-checks : goal.returns-in-Some-clause-checks
+returns-in-Some-clause-checks g c = checks_mean_sound
+
+pub returns-clause-checks : goal.returns-clause-checks
+returns-clause-checks g c = checks_mean_sound
