@@ -1,6 +1,16 @@
+pub mod ByteLaws
 pub mod CarryLaws
 pub mod DivisionLaws
 pub mod ExpansionLaws
+pub mod FieldLaws
+pub mod FirstLaws
+pub mod FormLaws
 pub mod LinearLaws
+pub mod ReadingLaws
+pub mod RecordLaws
+pub mod SlotLaws
+pub mod SoundLaws
 pub mod SumLaws
+pub mod TableLaws
+pub mod TakingLaws
 pub mod TurnLaws

@@ -3,7 +3,7 @@
 -- H3's digits, as its enumeration `Direction` names them: 0 is the centre, and 1 to 6 are the axes K, J, JK, I, IK and
 -- IJ. As Eisenstein integers these are the six units. One turn, 60 degrees counter-clockwise as H3's `_rotate60ccw`, is
 -- the product with 1 + w. It leaves the digit 0 as it is.
-use Rattle.std.specs.Prelude.{◌≡◌, ℕ, zero, suc, pos, negsuc, ◌==◌, List, map, Option, Some, None, if◌then◌else◌}
+use Rattle.std.specs.Prelude.{◌≡◌, ℕ, zero, suc, pos, negsuc, ◌==◌, List, [], ◌∷◌, map, Option, Some, None, if◌then◌else◌}
 use Rattle.h3_lattice.specs.declared.direction.Direction.{Direction}
 use Rattle.h3_lattice.specs.declared.direction.Direction.TheVariants.{K, J, JK, I, IK, IJ}
 use Rattle.h3_lattice.specs.Eisenstein.{Eisenstein, eisenstein, one, product_of, zero_point}
@@ -16,6 +16,10 @@ digit_of JK = 3
 digit_of I = 4
 digit_of IK = 5
 digit_of IJ = 6
+
+-- all of them, in the order of their digits
+abbrev pub directions : List Direction
+directions = K ∷ J ∷ JK ∷ I ∷ IK ∷ IJ ∷ []
 
 -- the direction that a digit stands for: none for 0, nor above 6
 abbrev pub direction_of : ℕ → Option Direction

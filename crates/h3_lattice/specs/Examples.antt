@@ -1,14 +1,22 @@
 -- The definitions at worked values, by computation.
-use Rattle.std.specs.Prelude.{◌≡◌, ℕ, List, [], ◌∷◌, map, pos, negsuc, Option, Some, None, refl}
+use Rattle.std.specs.Prelude.{◌≡◌, ℕ, List, [], ◌∷◌, map, pos, negsuc, Option, Some, None, codes, refl}
 use Rattle.std.specs.List.{flat_map}
 use Rattle.h3_lattice.specs.declared.direction.Direction.{Direction}
 use Rattle.h3_lattice.specs.declared.direction.Direction.TheVariants.{K, J, JK, I, IK, IJ}
 use Rattle.h3_lattice.specs.declared.class.Class.{Class}
 use Rattle.h3_lattice.specs.declared.class.Class.TheVariants.{Two, Three}
+use Rattle.h3_lattice.specs.declared.error.TableError.{TableError}
+use Rattle.h3_lattice.specs.declared.error.TableError.TheVariants.{Corner, Form, Missing, Range, Repeated}
+use Rattle.h3_lattice.specs.declared.vectors.TestTable.TheVariants.{Plain, Skew, Twisted}
 use Rattle.h3_lattice.specs.Eisenstein.{Eisenstein, eisenstein, minus_one, norm, one, product_of, sum_of, zero_point}
-use Rattle.h3_lattice.specs.Direction.{digit_of, digit_turned, digit_value, direction_of, opposite, turned, turns, unit_of, value_of}
+use Rattle.h3_lattice.specs.Direction.{digit_of, digit_turned, digit_value, direction_of, directions, opposite, turned, turns, unit_of, value_of}
 use Rattle.h3_lattice.specs.Class.{class_at, multiplier}
 use Rattle.h3_lattice.specs.Expansion.{place, scaled, sum_from}
+use Rattle.h3_lattice.specs.Fields.{Record, all_numbers, header, number_from, number_in, same_fields}
+use Rattle.h3_lattice.specs.Links.{is_hexagon_base}
+use Rattle.h3_lattice.specs.Checks.{each_of, fault_of_links, from_base, in_directions}
+use Rattle.h3_lattice.specs.Records.{fault_of_records, first_fault, spelled_link}
+use Rattle.h3_lattice.specs.Vectors.{test_link}
 
 -- ---- products and norms
 
@@ -29,9 +37,6 @@ classes : map class_at (0 ∷ 1 ∷ 2 ∷ 15 ∷ []) ≡ Two ∷ Three ∷ Two �
 classes = refl
 
 -- ---- the directions, in the order of their digits
-
-abbrev directions : List Direction
-directions = K ∷ J ∷ JK ∷ I ∷ IK ∷ IJ ∷ []
 
 digits : map digit_of directions ≡ 1 ∷ 2 ∷ 3 ∷ 4 ∷ 5 ∷ 6 ∷ []
 digits = refl
@@ -115,3 +120,48 @@ sum_inside = refl
 -- 813d3ffffffffff by I lies across the side I of its base cell, at the digit 2
 sum_across : sum_of (place (4 ∷ [])) (unit_of I) ≡ sum_of (scaled 0 1 (unit_of I)) (place (2 ∷ []))
 sum_across = refl
+
+-- ---- table files
+
+numbers : map number_in (codes "0" ∷ codes "007" ∷ codes "121" ∷ codes "" ∷ codes "0121" ∷ codes "+1" ∷ []) ≡ Some 0 ∷ Some 7 ∷ Some 121 ∷ None ∷ None ∷ None ∷ []
+unfolding number_from
+numbers = refl
+
+abbrev fields : List ℕ → List ℕ → List ℕ → List ℕ → Record
+fields base dir to rot = base ∷ dir ∷ to ∷ rot ∷ []
+
+faults : map (λ body. fault_of_records (header ∷ body))
+    (
+    []
+    ∷ (fields (codes "4") (codes "1") (codes "0") (codes "0") ∷ [])
+    ∷ (fields (codes "0001") (codes "1") (codes "110") (codes "0") ∷ [])
+    ∷ (fields (codes "0") (codes "1") (codes "110") (codes "6") ∷ [])
+    ∷ (fields (codes "0") (codes "1") (codes "110") (codes "0") ∷ fields (codes "0") (codes "1") (codes "111") (codes "0") ∷ [])
+    ∷ []
+    )
+    ≡ None ∷ Some (Range 2) ∷ Some (Form 2) ∷ Some (Range 2) ∷ Some (Repeated 3) ∷ []
+unfolding number_from all_numbers same_fields first_fault spelled_link is_hexagon_base
+faults = refl
+
+no_header : fault_of_records [] ≡ Some (Form 1)
+no_header = refl
+
+-- ---- tables for tests
+
+plain_links : map (test_link Plain 0) directions ≡ (110, 0) ∷ (11, 0) ∷ (121, 0) ∷ (1, 0) ∷ (111, 0) ∷ (12, 0) ∷ []
+plain_links = refl
+
+twisted_links : test_link Twisted 30 I ∷ test_link Twisted 31 K ∷ [] ≡ (31, 1) ∷ (30, 5) ∷ []
+twisted_links = refl
+
+plain_is_sound : fault_of_links (test_link Plain) ≡ None
+unfolding each_of from_base in_directions is_hexagon_base
+plain_is_sound = refl
+
+twisted_is_sound : fault_of_links (test_link Twisted) ≡ None
+unfolding each_of from_base in_directions is_hexagon_base
+twisted_is_sound = refl
+
+skew_is_not : fault_of_links (test_link Skew) ≡ Some (Corner 0 K)
+unfolding each_of from_base in_directions is_hexagon_base
+skew_is_not = refl

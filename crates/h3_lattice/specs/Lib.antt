@@ -1,8 +1,16 @@
+pub mod BaseTable
+pub mod Checks
 pub mod Class
 pub mod Digits
 pub mod Direction
 pub mod Eisenstein
 pub mod Examples
 pub mod Expansion
+pub mod Fields
 pub mod Laws
+pub mod Links
 pub mod Moved
+pub mod Records
+pub mod Slots
+pub mod Table
+pub mod Vectors

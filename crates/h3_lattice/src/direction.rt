@@ -26,6 +26,16 @@ pub enum Direction {
     IJ,
 }
 
+/// All directions, in the order of their digits.
+pub const DIRECTIONS: [Direction; 6] = [
+    Direction::K,
+    Direction::J,
+    Direction::JK,
+    Direction::I,
+    Direction::IK,
+    Direction::IJ,
+];
+
 impl Direction {
     /// The digit of the direction, 1 to 6.
     pub fn digit(self) -> u8

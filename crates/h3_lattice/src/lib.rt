@@ -1,17 +1,27 @@
 //! The hexagonal grid of H3: directions, digit lists, and the sums of a cell and a direction.
 #![tactic(auto)]
 
+mod checks;
 mod class;
+mod counted;
 mod digits;
 mod direction;
 mod eisenstein;
+mod error;
+mod fields;
 pub mod laws;
+mod links;
 mod moved;
+mod records;
+mod table;
+pub mod vectors;
 
 pub use class::{Class, carry};
 pub use digits::Digits;
 pub use direction::{Direction, turn};
+pub use error::TableError;
 pub use moved::{Moved, add};
+pub use table::BaseTable;
 
 #[cfg(test)]
 mod tests;

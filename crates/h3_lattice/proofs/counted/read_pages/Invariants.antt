@@ -1,0 +1,13 @@
+use Rattle.std.proofs.Common.{◌≡◌, ◌++◌, ℕ, List, Some}
+use Rattle.h3_lattice.proofs.ByteLaws.{Reads}
+use Rattle.h3_lattice.proofs.counted.read_pages.Given as goal
+
+abbrev pub invariant-loop-count : goal.invariant-loop-count
+invariant-loop-count g l = record {
+  reads : (bytes : List ℕ) → g.R.Source.left l.initial.reader.source.now ≡ Some bytes →
+      Reads (l.initial.text.items ++ bytes) bytes l.initial.reader.reads_left (g.R.Source.left l.reader.source.now) l.reader.reads_left l.text.items;
+  same : l.reader.source.ghost_name ≡ l.initial.reader.source.ghost_name;
+}
+
+abbrev pub decreases-loop-count : goal.decreases-loop-count
+decreases-loop-count g l = l.reader.reads_left

@@ -1,0 +1,72 @@
+-- The checks of a full table, and the first that fails.
+use Rattle.std.specs.Prelude.{ℕ, zero, suc, ◌+◌, ◌-◌, ◌%◌, Bool, true, not, ◌==◌, ◌&&◌, ◌||◌, if◌then◌else◌, List, [], ◌∷◌, Option, Some, None}
+use Rattle.h3_lattice.specs.declared.direction.Direction.{Direction}
+use Rattle.h3_lattice.specs.declared.error.TableError.{TableError}
+use Rattle.h3_lattice.specs.declared.error.TableError.TheVariants as fault
+use Rattle.h3_lattice.specs.declared.checks.Check.{Check}
+use Rattle.h3_lattice.specs.declared.checks.Check.TheVariants as check
+use Rattle.h3_lattice.specs.Direction.{digit_of, directions, opposite, turned, turned_once}
+use Rattle.h3_lattice.specs.Links.{Links, is_hexagon_base}
+
+-- ---- the checks at one base cell and direction
+
+abbrev pub same_link : ℕ × ℕ → ℕ × ℕ → Bool
+same_link p q = (p.0 == q.0) && (p.1 == q.1)
+
+unfoldable pub each_of : (Direction → Bool) → List Direction → Bool
+each_of test [] = true
+each_of test (d ∷ rest) = test d && each_of test rest
+
+-- two directions are one, or lead to different base cells
+abbrev pub parts : Links → ℕ → Direction → Direction → Bool
+parts link b d e = (digit_of e == digit_of d) || not ((link b e).0 == (link b d).0)
+
+-- the neighbour in this direction is not b, and in no other direction
+abbrev pub is_apart : Links → ℕ → Direction → Bool
+is_apart link b d = not ((link b d).0 == b) && each_of (parts link b d) directions
+
+-- the link back leads to b and undoes the turns
+abbrev pub reverses : Links → ℕ → Direction → Bool
+reverses link b d = not (is_hexagon_base (link b d).0)
+    || same_link (link (link b d).0 (turned (link b d).1 (opposite d))) (b, (6 - (link b d).1) % 6)
+
+-- round the corner of b, this neighbour and the next one, the links agree
+abbrev pub closes : Links → ℕ → Direction → Bool
+closes link b d = not (is_hexagon_base (link b d).0) || not (is_hexagon_base (link b (turned_once d)).0)
+    || same_link (link (link b d).0 (turned (link b d).1 (turned 2 d)))
+    ((link b (turned_once d)).0, ((link b (turned_once d)).1 + 6 - (link b d).1) % 6)
+
+-- ---- the first fault
+
+-- this fault, or else the next
+abbrev pub or_next : Option TableError → Option TableError → Option TableError
+or_next None next = next
+or_next (Some e) next = Some e
+
+abbrev pub unless : Bool → TableError → Option TableError
+unless holds e = if holds then None else Some e
+
+-- the first fault in one of these directions
+unfoldable pub in_directions : (Direction → Option TableError) → List Direction → Option TableError
+in_directions f [] = None
+in_directions f (d ∷ rest) = or_next (f d) (in_directions f rest)
+
+-- the first fault at a hexagon base cell, of n base cells from b on
+unfoldable pub from_base : (ℕ → Direction → Option TableError) → ℕ → ℕ → Option TableError
+from_base f b zero = None
+from_base f b (suc n) = or_next (if is_hexagon_base b then in_directions (f b) directions else None) (from_base f (b + 1) n)
+
+-- the first fault of all, by ascending base cell and then direction
+abbrev pub at_places : (ℕ → Direction → Option TableError) → Option TableError
+at_places f = from_base f 0 122
+
+-- what a check tells of a base cell and a direction
+abbrev pub fault_at : Check → Links → ℕ → Direction → Option TableError
+fault_at check.Neighbours link b d = unless (is_apart link b d) (fault.Neighbours b)
+fault_at check.Reversal link b d = unless (reverses link b d) (fault.Reversal b d)
+fault_at check.Corner link b d = unless (closes link b d) (fault.Corner b d)
+
+-- what the three checks tell of a full table: one after the other, each at all places
+abbrev pub fault_of_links : Links → Option TableError
+fault_of_links link =
+    or_next (at_places (fault_at check.Neighbours link)) (or_next (at_places (fault_at check.Reversal link)) (at_places (fault_at check.Corner link)))

@@ -1,0 +1,51 @@
+-- The records of a table file, and what their fields spell.
+use Rattle.std.specs.Prelude.{ℕ, ◌+◌, ◌-◌, ◌*◌, Bool, true, false, ◌==◌, ◌&&◌, nat_lt, nat_le, if◌then◌else◌, List, [], ◌∷◌, length, Option, Some, None, option_map, codes, bytes_eq}
+use Rattle.csv.specs.Reading.{default_config, records, strip_bom}
+
+-- a record is a list of fields, and a field a list of bytes
+abbrev pub Record : Type 0
+Record = List (List ℕ)
+
+-- the records of a file's bytes: what the crate `csv`'s rule for the next record gives, taken again and again, after
+-- one byte order mark in front
+abbrev pub records_of : List ℕ → List Record
+records_of bytes = records default_config (strip_bom bytes)
+
+-- the header
+abbrev pub header : Record
+header = codes "base" ∷ codes "dir" ∷ codes "to" ∷ codes "rot" ∷ []
+
+-- two records have the same fields
+unfoldable pub same_fields : Record → Record → Bool
+same_fields [] [] = true
+same_fields [] (g ∷ gs) = false
+same_fields (f ∷ fs) [] = false
+same_fields (f ∷ fs) (g ∷ gs) = bytes_eq f g && same_fields fs gs
+
+-- ---- numbers
+
+-- an ASCII digit
+abbrev pub is_digit : ℕ → Bool
+is_digit c = nat_le 48 c && nat_le c 57
+
+-- the number that decimal digits spell, after those that spelt n
+unfoldable pub number_from : ℕ → List ℕ → Option ℕ
+number_from n [] = Some n
+number_from n (c ∷ rest) = if is_digit c then number_from (n * 10 + (c - 48)) rest else None
+
+-- the number that a field of 1 to 3 digits spells
+abbrev pub number_in : List ℕ → Option ℕ
+number_in field = if nat_lt 0 (length field) && nat_le (length field) 3 then number_from 0 field else None
+
+abbrev pub with_number : Option ℕ → Option (List ℕ) → Option (List ℕ)
+with_number None numbers = None
+with_number (Some n) numbers = option_map (λ ns. n ∷ ns) numbers
+
+-- the numbers of all fields, where each spells one
+unfoldable pub all_numbers : Record → Option (List ℕ)
+all_numbers [] = Some []
+all_numbers (field ∷ rest) = with_number (number_in field) (all_numbers rest)
+
+-- the numbers of a record of so many fields
+abbrev pub numbers_in : ℕ → Record → Option (List ℕ)
+numbers_in width r = if length r == width then all_numbers r else None

@@ -1,0 +1,48 @@
+-- Links between base cells, and when they fit together.
+--
+-- A hexagon base cell has a link for each direction in its own frame: the base cell that lies there, and how often each
+-- digit is turned on crossing into it.
+use Rattle.std.specs.Prelude.{◌≡◌, ◌≢◌, ℕ, ◌+◌, ◌-◌, ◌*◌, ◌%◌, ◌<◌, Bool, false, not, ◌&&◌, nat_lt, List, slice_index_or}
+use Rattle.h3_index.specs.Cell.{is_pentagon_base}
+use Rattle.h3_lattice.specs.declared.direction.Direction.{Direction}
+use Rattle.h3_lattice.specs.Direction.{digit_of, opposite, turned, turned_once}
+
+-- the base cells that are hexagons
+abbrev pub IsHexagonBase : ℕ → Type 0
+IsHexagonBase b = (b < 122) × (is_pentagon_base b ≡ false)
+
+-- the same as a test
+unfoldable pub is_hexagon_base : ℕ → Bool
+is_hexagon_base b = nat_lt b 122 && not (is_pentagon_base b)
+
+-- a base cell, and a number of turns
+abbrev pub IsLink : ℕ × ℕ → Type 0
+IsLink link = (link.0 < 122) × (link.1 < 6)
+
+-- the link of each base cell and direction
+abbrev pub Links : Type 0
+Links = ℕ → Direction → ℕ × ℕ
+
+-- where a list, base cell by base cell, has what belongs to a base cell and the direction of a digit
+abbrev pub place_of : ℕ → ℕ → ℕ
+place_of b d = b * 6 + (d - 1)
+
+-- the links of such a list
+unfoldable pub links_in : List (ℕ × ℕ) → Links
+links_in links b d = slice_index_or links (place_of b (digit_of d)) (0, 0)
+
+-- ---- links that fit together
+
+-- For each hexagon base cell b and direction d: b's six neighbours differ from each other and from b (apart, away).
+-- From a neighbour that is a hexagon base cell, the link in the opposite direction, turned as on crossing, leads back and
+-- undoes the turns (reversal). Where the neighbours in d and in d turned once are both hexagon base cells, the link of
+-- the first in d turned twice, and as on crossing, leads to the second, and its turns make up the difference (corner).
+pub record IsSound (link : Links) : Type 0 where
+  pub within : (b : ℕ) (d : Direction) → IsHexagonBase b → IsLink (link b d)
+  pub apart : (b : ℕ) (d e : Direction) → IsHexagonBase b → (link b d).0 ≡ (link b e).0 → d ≡ e
+  pub away : (b : ℕ) (d : Direction) → IsHexagonBase b → (link b d).0 ≢ b
+  pub reversal : (b : ℕ) (d : Direction) → IsHexagonBase b → IsHexagonBase (link b d).0
+      → link (link b d).0 (turned (link b d).1 (opposite d)) ≡ (b, (6 - (link b d).1) % 6)
+  pub corner : (b : ℕ) (d : Direction) → IsHexagonBase b → IsHexagonBase (link b d).0 → IsHexagonBase (link b (turned_once d)).0
+      → link (link b d).0 (turned (link b d).1 (turned 2 d))
+      ≡ ((link b (turned_once d)).0, ((link b (turned_once d)).1 + 6 - (link b d).1) % 6)

@@ -1,0 +1,156 @@
+//! The checks of a full table.
+
+ghost use Rattle.std.specs.Prelude.{◌≡◌, ◌<◌, All};
+ghost use Rattle.h3_lattice.specs.Direction.{directions};
+ghost use Rattle.h3_lattice.specs.Links.{IsLink, links_in};
+ghost use Rattle.h3_lattice.specs.Checks.{at_places, closes, fault_at, fault_of_links, in_directions, is_apart, parts, reverses};
+
+use crate::direction::{DIRECTIONS, Direction, turn};
+use crate::error::TableError;
+use crate::links::{Links, is_hexagon_base, link_at};
+
+/// A check of a full table.
+#[derive(Clone, Copy, Debug, PartialEq, Eq)]
+enum Check {
+    /// The neighbours of a base cell differ from each other and from it.
+    Neighbours,
+
+    /// The link back undoes a link.
+    Reversal,
+
+    /// The links round a corner agree.
+    Corner,
+}
+
+/// Whether two directions lead to different base cells, or are one.
+fn parts(links: &Links, base: u8, direction: Direction, other: Direction) -> bool
+    requires { base < 122 }
+    ensures { result ≡ parts (links_in links.now) base direction other }
+{
+    other.digit() == direction.digit()
+        || link_at(links, base, other).0 != link_at(links, base, direction).0
+}
+
+/// Whether the neighbour in a direction is another base cell, and that of no other direction.
+fn is_apart(links: &Links, base: u8, direction: Direction) -> bool
+    requires { base < 122 }
+    ensures { result ≡ is_apart (links_in links.now) base direction }
+{
+    if link_at(links, base, direction).0 == base {
+        return false;
+    }
+    for other in DIRECTIONS {
+        if !parts(links, base, direction, other) {
+            return false;
+        }
+    }
+    true
+}
+
+/// Whether the link back from a neighbour undoes the link, if the neighbour is a hexagon base cell.
+fn reverses(links: &Links, base: u8, direction: Direction) -> bool
+    requires base { base < 122 }
+    requires within { All IsLink links.now }
+    ensures { result ≡ reverses (links_in links.now) base direction }
+{
+    let (to, turns) = link_at(links, base, direction);
+    if !is_hexagon_base(to) {
+        return true;
+    }
+    let back = link_at(links, to, turn(direction.opposite(), turns));
+    back.0 == base && back.1 == (6 - turns) % 6
+}
+
+/// Whether the links agree round the corner of a base cell, its neighbour in a direction and its neighbour in the
+/// direction turned once, if both are hexagon base cells.
+fn closes(links: &Links, base: u8, direction: Direction) -> bool
+    requires base { base < 122 }
+    requires within { All IsLink links.now }
+    ensures { result ≡ closes (links_in links.now) base direction }
+{
+    let (to, turns) = link_at(links, base, direction);
+    let (next, next_turns) = link_at(links, base, turn(direction, 1));
+    if !is_hexagon_base(to) || !is_hexagon_base(next) {
+        return true;
+    }
+    let across = link_at(links, to, turn(turn(direction, 2), turns));
+    across.0 == next && across.1 == (next_turns + 6 - turns) % 6
+}
+
+/// The fault that a check tells of a base cell and a direction.
+fn fault_at(check: Check, links: &Links, base: u8, direction: Direction) -> Option<TableError>
+    requires base { base < 122 }
+    requires within { All IsLink links.now }
+    ensures { result ≡ fault_at check (links_in links.now) base direction }
+{
+    match check {
+        Check::Neighbours => {
+            if is_apart(links, base, direction) {
+                None
+            } else {
+                Some(TableError::Neighbours(base))
+            }
+        }
+        Check::Reversal => {
+            if reverses(links, base, direction) {
+                None
+            } else {
+                Some(TableError::Reversal(base, direction))
+            }
+        }
+        Check::Corner => {
+            if closes(links, base, direction) {
+                None
+            } else {
+                Some(TableError::Corner(base, direction))
+            }
+        }
+    }
+}
+
+/// The first fault that a check tells of a base cell.
+fn fault_from(check: Check, links: &Links, base: u8) -> Option<TableError>
+    requires base { base < 122 }
+    requires within { All IsLink links.now }
+    ensures { result ≡ in_directions (fault_at check (links_in links.now) base) directions }
+{
+    for direction in DIRECTIONS {
+        let fault = fault_at(check, links, base, direction);
+        if fault.is_some() {
+            return fault;
+        }
+    }
+    None
+}
+
+/// The first fault that a check tells.
+fn first_fault(check: Check, links: &Links) -> Option<TableError>
+    requires within { All IsLink links.now }
+    ensures { result ≡ at_places (fault_at check (links_in links.now)) }
+{
+    for base in 0..122u8 {
+        if is_hexagon_base(base) {
+            let fault = fault_from(check, links, base);
+            if fault.is_some() {
+                return fault;
+            }
+        }
+    }
+    None
+}
+
+/// The first fault that the checks tell, one after the other.
+pub fn fault_of_links(links: &Links) -> Option<TableError>
+    requires within { All IsLink links.now }
+    ensures { result ≡ fault_of_links (links_in links.now) }
+{
+    let neighbours = first_fault(Check::Neighbours, links);
+    if neighbours.is_some() {
+        return neighbours;
+    }
+    let reversal = first_fault(Check::Reversal, links);
+    if reversal.is_some() {
+        return reversal;
+    }
+    first_fault(Check::Corner, links)
+}

@@ -1,0 +1,137 @@
+//! The bytes of a source, in as many reads as are allowed.
+
+ghost use Rattle.std.specs.Prelude.{◌≡◌, ◌<◌, ◌≤◌, ◌+◌, ◌++◌, ◌⊎◌, ℕ, true, List, length, Some, IfOk, IfErr, OnOk, OnErr};
+ghost use Rattle.h3_index.specs.Stream.{Pulls};
+ghost use Rattle.h3_lattice.specs.declared.error.TableError.{TableError};
+ghost use Rattle.h3_lattice.specs.Slots.{StopsReading};
+
+use crate::error::TableError;
+use h3_index::Source;
+use std::alloc::Global;
+
+/// A source that may be read so many times.
+#[derive(Drop)]
+struct CountedReader<'a, R> {
+    source: &'a mut R,
+    reads_left: u64,
+}
+
+impl<'a, R: Source> CountedReader<'a, R> {
+    /// Reads once, to the front of a page. A read after the last one that is allowed is a read fault, and never made.
+    fn read(&mut self, page: &mut [u8]) -> Result<usize, TableError>
+        ensures bound { IfOk result (λ n. n ≤ length page.new) }
+        ensures bytes { IfOk result (λ n. Pulls (R.left self.old.source.now) (R.left self.new.source.now) page.new n) }
+        ensures counted { OnOk result (self.new.reads_left + 1 ≡ self.old.reads_left) }
+        ensures err { OnErr result ((self.old.reads_left ≡ 0) ⊎ (R.has_failed self.new.source.now ≡ true)) }
+        ensures read { IfErr result (λ e. e ≡ TableError.Read) }
+        ensures same { self.new.source.ghost_name ≡ self.old.source.ghost_name }
+    {
+        if self.reads_left == 0 {
+            return Err(TableError::Read);
+        }
+        self.reads_left -= 1;
+        self.source.pull(page).map_err(|_| TableError::Read)
+    }
+}
+
+/// Takes all bytes of a source, after those that a text has.
+fn read_pages<'a, R: Source>(
+    text: &mut Vec<u8>,
+    reader: &mut CountedReader<'a, R>,
+    page: &mut [u8],
+) -> Result<(), TableError>
+    requires room { 0 < length page.old }
+    ensures bytes { OnOk result ((bytes : List ℕ) → R.left reader.old.source.now ≡ Some bytes →
+        text.new.items ≡ text.old.items ++ bytes) }
+    ensures refused { IfErr result (λ e. (bytes : List ℕ) → R.left reader.old.source.now ≡ Some bytes →
+        StopsReading ((R.has_failed reader.new.source.now ≡ true) ⊎ (reader.old.reads_left ≤ length bytes)) e) }
+    ensures same { reader.new.source.ghost_name ≡ reader.old.source.ghost_name }
+{
+    loop {
+        let count = reader.read(page)?;
+        if count == 0 {
+            return Ok(());
+        }
+        text.extend_from_slice(&page[..count])
+            .map_err(|_| TableError::Memory)?;
+    }
+}
+
+/// All bytes of a source, in at most so many reads, each to a page.
+pub fn read_bytes<R: Source>(
+    alloc: Global,
+    source: &mut R,
+    limit: u64,
+    page: &mut [u8],
+) -> Result<Vec<u8>, TableError>
+    requires room { 0 < length page.old }
+    ensures bytes { IfOk result (λ text. (bytes : List ℕ) → R.left source.old ≡ Some bytes → text.items ≡ bytes) }
+    ensures refused { IfErr result (λ e. (bytes : List ℕ) → R.left source.old ≡ Some bytes →
+        StopsReading ((R.has_failed source.new ≡ true) ⊎ (limit ≤ length bytes)) e) }
+{
+    let mut text = Vec::new(alloc);
+    let mut reader = CountedReader {
+        source: &mut *source,
+        reads_left: limit,
+    };
+    let read = read_pages(&mut text, &mut reader, page);
+    // The proof reads what the source is after the reads from this use of it.
+    let _ = &*source;
+    read?;
+    Ok(text)
+}
+
+#[cfg(test)]
+mod tests {
+    use super::read_bytes;
+    use crate::error::TableError;
+    use h3_index::{Source, StreamFault, Streamed};
+    use std::test::Fail;
+
+    /// A source whose first pull fails.
+    #[derive(Drop)]
+    struct TornSource {
+        failed: bool,
+    }
+
+    impl Source for TornSource {
+        ghost use Rattle.std.specs.Prelude.{None};
+
+        ghost left = { λ _. None };
+
+        ghost has_failed = { λ s. s.failed };
+
+        fn pull(&mut self, _buf: &mut [u8]) -> Result<usize, StreamFault> {
+            self.failed = true;
+            Err(StreamFault)
+        }
+    }
+
+    #[test]
+    fn bytes_are_read_to_their_end(rt: HostRuntime) -> Result<(), Fail> {
+        let mut page = [0; 2];
+        let mut source = Streamed::new("abcde".as_bytes());
+        let text = read_bytes(rt.alloc(), &mut source, 4, &mut page)?;
+        assert_eq!(rt; text.as_slice(), "abcde".as_bytes());
+        Ok(())
+    }
+
+    #[test]
+    fn a_read_past_the_limit_is_not_made(rt: HostRuntime) -> Result<(), Fail> {
+        let mut page = [0; 1];
+        let mut source = Streamed::new("abcd".as_bytes());
+        let read = read_bytes(rt.alloc(), &mut source, 3, &mut page);
+        assert!(rt; matches!(read, Err(TableError::Read)));
+        assert_eq!(rt; source.pull(&mut page), Ok(1));
+        assert_eq!(rt; page[0], b'd');
+        Ok(())
+    }
+
+    #[test]
+    fn a_reader_that_fails_is_a_read_fault(rt: HostRuntime) {
+        let mut page = [0; 1];
+        let mut source = TornSource { failed: false };
+        let read = read_bytes(rt.alloc(), &mut source, 3, &mut page);
+        assert!(rt; matches!(read, Err(TableError::Read)));
+    }
+}

@@ -1,0 +1,62 @@
+//! The fields of a table's records.
+
+ghost use Rattle.std.specs.Prelude.{◌≡◌, map};
+ghost use Rattle.csv.specs.Records.{fields_of};
+ghost use Rattle.h3_lattice.specs.Fields.{number_in, numbers_in, same_fields};
+
+use csv::ByteRecord;
+
+/// The number that a field of 1 to 3 decimal digits spells.
+fn number_in(field: &[u8]) -> Option<u16>
+    ensures { result ≡ number_in field.now }
+{
+    if field.is_empty() || field.len() > 3 {
+        return None;
+    }
+    let mut number = 0u16;
+    for byte in field {
+        if !byte.is_ascii_digit() {
+            return None;
+        }
+        number = number * 10 + (*byte - b'0') as u16;
+    }
+    Some(number)
+}
+
+/// The numbers of a record of N fields.
+pub fn numbers_in<const N: usize>(row: &ByteRecord) -> Option<[u16; N]>
+    ensures { result ≡ numbers_in N (fields_of row.now) }
+{
+    if row.len() != N {
+        return None;
+    }
+    let mut numbers = [0u16; N];
+    for i in 0..N {
+        let Some(field) = row.get(i) else {
+            return None;
+        };
+        let Some(number) = number_in(field) else {
+            return None;
+        };
+        numbers[i] = number;
+    }
+    Some(numbers)
+}
+
+/// Whether a record has these fields.
+pub fn has_fields(row: &ByteRecord, fields: &[&[u8]]) -> bool
+    ensures { result ≡ same_fields (fields_of row.now) (map (λ f. f.now) fields.now) }
+{
+    if row.len() != fields.len() {
+        return false;
+    }
+    for i in 0..fields.len() {
+        let Some(field) = row.get(i) else {
+            return false;
+        };
+        if field != fields[i] {
+            return false;
+        }
+    }
+    true
+}

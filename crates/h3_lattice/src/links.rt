@@ -1,0 +1,100 @@
+//! Links between base cells, and slots for them.
+
+ghost use Rattle.std.specs.Prelude.{◌≡◌, ◌+◌, ◌*◌, ◌<◌, ◌≤◌, ℕ, true, None, Some, IfSome, unwrap_or, slice_index_or, All};
+ghost use Rattle.h3_lattice.specs.Direction.{directions};
+ghost use Rattle.h3_lattice.specs.Links.{IsHexagonBase, IsLink, is_hexagon_base, links_in};
+ghost use Rattle.h3_lattice.specs.Checks.{at_places, in_directions};
+ghost use Rattle.h3_lattice.specs.Slots.{missing_at};
+
+use crate::direction::{DIRECTIONS, Direction};
+use crate::error::TableError;
+use h3_index::is_pentagon_base;
+
+/// The neighbour and the turns of each base cell and direction, base cell by base cell.
+pub type Links = [(u8, u8); 732];
+
+/// The same where some are not known.
+pub type Slots = [Option<(u8, u8)>; 732];
+
+/// Whether a base cell is a hexagon.
+#[tactic(auto, unfolding(crate::specs::Links::is_hexagon_base))]
+pub fn is_hexagon_base(base: u8) -> bool
+    ensures is { result ≡ is_hexagon_base base }
+    ensures below { result ≡ true → base < 122 }
+{
+    base < 122 && !is_pentagon_base(base)
+}
+
+/// The link of a base cell in a direction.
+pub fn link_at(links: &Links, base: u8, direction: Direction) -> (u8, u8)
+    requires { base < 122 }
+    ensures is { result ≡ links_in links.now base direction }
+    ensures within { All IsLink links.now → IsLink result }
+{
+    links[base as usize * 6 + (direction.digit() as usize - 1)]
+}
+
+/// The fault that no link is known for a base cell in a direction.
+fn missing_at(slots: &Slots, base: u8, direction: Direction) -> Option<TableError>
+    requires { base < 122 }
+    ensures { result ≡ missing_at slots.now base direction }
+{
+    if slots[base as usize * 6 + (direction.digit() as usize - 1)].is_some() {
+        None
+    } else {
+        Some(TableError::Missing)
+    }
+}
+
+/// The same for a base cell in any direction.
+fn missing_from(slots: &Slots, base: u8) -> Option<TableError>
+    requires { base < 122 }
+    ensures { result ≡ in_directions (missing_at slots.now base) directions }
+{
+    for direction in DIRECTIONS {
+        let fault = missing_at(slots, base, direction);
+        if fault.is_some() {
+            return fault;
+        }
+    }
+    None
+}
+
+/// The same for any hexagon base cell.
+pub fn first_missing(slots: &Slots) -> Option<TableError>
+    ensures { result ≡ at_places (missing_at slots.now) }
+{
+    for base in 0..122u8 {
+        if is_hexagon_base(base) {
+            let fault = missing_from(slots, base);
+            if fault.is_some() {
+                return fault;
+            }
+        }
+    }
+    None
+}
+
+/// A link, or one to base cell 0 where it is not known.
+fn link_or_zero(slot: Option<(u8, u8)>) -> (u8, u8)
+    ensures is { result ≡ unwrap_or slot (0, 0) }
+    ensures within { IfSome slot IsLink → IsLink result }
+{
+    match slot {
+        Some(link) => link,
+        None => (0, 0),
+    }
+}
+
+/// The links of slots.
+pub fn filled(slots: &Slots) -> Links
+    requires { All (λ slot. IfSome slot IsLink) slots.now }
+    ensures same { (i : ℕ) → i < 732 → slice_index_or result i (0, 0) ≡ unwrap_or (slice_index_or slots.now i None) (0, 0) }
+    ensures within { All IsLink result }
+{
+    let mut links = [(0, 0); 732];
+    for i in 0..732 {
+        links[i] = link_or_zero(slots[i]);
+    }
+    links
+}

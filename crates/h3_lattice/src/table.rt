@@ -1,0 +1,91 @@
+//! The base cell table.
+
+ghost use Rattle.std.specs.Prelude.{◌≡◌, ◌≤◌, ◌<◌, ◌^◌, ◌⊎◌, ℕ, true, false, List, length, None, Some, IfOk, IfErr, All};
+ghost use Rattle.h3_index.specs.Cell.{is_pentagon_base};
+ghost use Rattle.h3_lattice.specs.Fields.{records_of};
+ghost use Rattle.h3_lattice.specs.Links.{IsLink, IsSound, links_in};
+ghost use Rattle.h3_lattice.specs.Checks.{fault_of_links};
+ghost use Rattle.h3_lattice.specs.Table.{ChecksMeanSound, RefusesTable, SameLinks, SoundFilesAreAccepted, links_of, table_fault};
+
+use crate::checks::fault_of_links;
+use crate::counted::read_bytes;
+use crate::direction::Direction;
+use crate::error::TableError;
+use crate::links::{Links, filled, first_missing, link_at};
+use crate::records::read_records;
+use h3_index::Source;
+use std::alloc::Global;
+
+/// The bytes that are read at once.
+const PAGE: usize = 4096;
+
+/// The reads that a table may take.
+const READS: u64 = 1 << 40;
+
+/// How the 110 hexagon base cells lie beside each other: in each of six directions the neighbour, and how often each
+/// digit is turned on crossing. Its links fit together, as [`TableError`]'s last three kinds say. It is of fixed size,
+/// and takes no memory.
+#[derive(Drop)]
+pub struct BaseTable {
+    links: Links,
+    ghost within: { All IsLink links },
+    ghost sound: { IsSound (links_in links) },
+}
+
+impl BaseTable {
+    ghost use Rattle.h3_lattice.specs.BaseTable.{link_of};
+
+    /// The table of these links, or the first check that fails.
+    fn new(links: Links) -> Result<BaseTable, TableError>
+        requires { All IsLink links }
+        ensures refused { IfErr result (λ e. fault_of_links (links_in links) ≡ Some e) }
+        ensures accepted { IfOk result (λ table. (fault_of_links (links_in links) ≡ None) × (link_of table ≡ links_in links)) }
+    {
+        match fault_of_links(&links) {
+            Some(fault) => Err(fault),
+            None => Ok(BaseTable { links }),
+        }
+    }
+
+    /// Reads a table file to its end and checks it.
+    ///
+    /// The file is CSV: a header `base,dir,to,rot`, and then a record for each hexagon base cell and direction, in any
+    /// order. In the frame of the base cell `base`, the base cell `to` lies in the direction of the digit `dir`, and each
+    /// digit is turned `rot` times on crossing. Numbers have 1 to 3 digits.
+    ///
+    /// Refused is, in this order: a reader that fails or more than 2^40 reads, the first faulty record, a missing record,
+    /// and the first check that fails, by ascending base cell and direction. [`TableError::Memory`] comes where memory
+    /// is refused.
+    pub fn read<R: Source>(alloc: Global, source: &mut R) -> Result<BaseTable, TableError>
+        ensures accepted { IfOk result (λ table. (bytes : List ℕ) → R.left source.old ≡ Some bytes →
+            (table_fault (records_of bytes) ≡ None) × SameLinks (link_of table) (links_of (records_of bytes))) }
+        ensures refused { IfErr result (λ e. (bytes : List ℕ) → R.left source.old ≡ Some bytes →
+            RefusesTable ((R.has_failed source.new ≡ true) ⊎ (2 ^ 40 ≤ length bytes)) (table_fault (records_of bytes)) e) }
+        ensures sound { IfOk result (λ table. IsSound (link_of table)) }
+        ensures exact { SoundFilesAreAccepted }
+        ensures checks { ChecksMeanSound }
+    {
+        let mut page = [0; PAGE];
+        let text = read_bytes(alloc, source, READS, &mut page)?;
+        let slots = read_records(alloc, text.as_slice())?;
+        match first_missing(&slots) {
+            Some(fault) => Err(fault),
+            None => BaseTable::new(filled(&slots)),
+        }
+    }
+
+    /// The neighbour of a hexagon base cell in a direction, 0 to 121, and how often each digit is turned on crossing
+    /// into it, 0 to 5.
+    pub fn link(&self, base: u8, direction: Direction) -> (u8, u8)
+        requires some { base < 122 }
+        requires hexagon { is_pentagon_base base ≡ false }
+        ensures is { result ≡ link_of self.now base direction }
+        ensures within { IsLink result }
+        ensures sound { IsSound (link_of self.now) }
+    {
+        link_at(&self.links, base, direction)
+    }
+}
+
+#[cfg(test)]
+mod tests;

@@ -1,0 +1,208 @@
+use super::BaseTable;
+use crate::direction::{DIRECTIONS, Direction};
+use crate::error::TableError;
+use crate::vectors::{TestTable, link};
+use h3_index::{Streamed, is_pentagon_base};
+use std::test::Fail;
+
+const HEADER: &str = "base,dir,to,rot\n";
+
+/// The records of a table: a base cell, the digit of a direction, the neighbour and the turns.
+fn records(rt: &HostRuntime, table: TestTable) -> Result<Vec<[u8; 4]>, Fail> {
+    let mut records = Vec::new(rt.alloc());
+    for base in 0..122u8 {
+        if !is_pentagon_base(base) {
+            for direction in DIRECTIONS {
+                let (to, turns) = link(table, base, direction);
+                records.push([base, direction.digit(), to, turns])?;
+            }
+        }
+    }
+    Ok(records)
+}
+
+/// The text of a table file, each record ended in the same way.
+fn text(rt: &HostRuntime, records: &[[u8; 4]], end: &str) -> Result<String, Fail> {
+    let mut text = String::new(rt.alloc());
+    text.push_str("base,dir,to,rot")?;
+    text.push_str(end)?;
+    for [base, digit, to, turns] in records {
+        let line = format!(in rt.alloc(); "{base},{digit},{to},{turns}{end}")?;
+        text.push_str(&line)?;
+    }
+    Ok(text)
+}
+
+/// Reads a table file.
+fn read(rt: &HostRuntime, text: &str) -> Result<BaseTable, TableError> {
+    let mut source = Streamed::new(text.as_bytes());
+    BaseTable::read(rt.alloc(), &mut source)
+}
+
+/// Why a table file is refused.
+fn refusal(rt: &HostRuntime, text: &str) -> Option<TableError> {
+    match read(rt, text) {
+        Ok(_) => None,
+        Err(error) => Some(error),
+    }
+}
+
+/// Whether a table file spells the links of a table.
+fn spells(rt: &HostRuntime, text: &str, table: TestTable) -> bool {
+    let Ok(read) = read(rt, text) else {
+        return false;
+    };
+    for base in 0..122u8 {
+        if !is_pentagon_base(base) {
+            for direction in DIRECTIONS {
+                if read.link(base, direction) != link(table, base, direction) {
+                    return false;
+                }
+            }
+        }
+    }
+    true
+}
+
+#[test]
+fn sound_tables_are_accepted(rt: HostRuntime) -> Result<(), Fail> {
+    for table in [TestTable::Plain, TestTable::Twisted] {
+        let records = records(&rt, table)?;
+        assert_eq!(&rt; records.len(), 660);
+        for end in ["\n", "\r\n", "\r", "\n\n"] {
+            assert!(&rt; spells(&rt, &text(&rt, &records, end)?, table));
+        }
+    }
+    Ok(())
+}
+
+#[test]
+fn links_are_those_of_worked_records(rt: HostRuntime) -> Result<(), Fail> {
+    let plain = text(&rt, &records(&rt, TestTable::Plain)?, "\n")?;
+    assert!(&rt; plain.starts_with("base,dir,to,rot\n0,1,110,0\n0,2,11,0\n"));
+    let twisted = text(&rt, &records(&rt, TestTable::Twisted)?, "\n")?;
+    assert!(&rt; twisted.starts_with("base,dir,to,rot\n0,1,110,2\n0,2,11,5\n"));
+    let table = read(&rt, &twisted)?;
+    assert_eq!(&rt; table.link(30, Direction::I), (31, 1));
+    assert_eq!(&rt; table.link(31, Direction::K), (30, 5));
+    Ok(())
+}
+
+#[test]
+fn records_come_in_any_order(rt: HostRuntime) -> Result<(), Fail> {
+    let mut records = records(&rt, TestTable::Plain)?;
+    records.as_mut_slice().reverse();
+    assert!(&rt; spells(&rt, &text(&rt, &records, "\n")?, TestTable::Plain));
+    Ok(())
+}
+
+#[test]
+fn a_byte_order_mark_and_quotes_are_let_through(rt: HostRuntime) -> Result<(), Fail> {
+    let records = records(&rt, TestTable::Plain)?;
+    let plain = text(&rt, &records, "\n")?;
+    let marked = format!(in rt.alloc(); "\u{feff}{plain}")?;
+    assert!(&rt; spells(&rt, &marked, TestTable::Plain));
+    let mut quoted = String::new(rt.alloc());
+    quoted.push_str(HEADER)?;
+    for [base, digit, to, turns] in &records {
+        let line = format!(in rt.alloc(); "\"{base}\",\"{digit}\",\"{to}\",\"{turns}\"\n")?;
+        quoted.push_str(&line)?;
+    }
+    assert!(&rt; spells(&rt, &quoted, TestTable::Plain));
+    Ok(())
+}
+
+#[test]
+fn numbers_have_one_to_three_digits(rt: HostRuntime) -> Result<(), Fail> {
+    let mut padded = String::new(rt.alloc());
+    padded.push_str(HEADER)?;
+    for [base, digit, to, turns] in &records(&rt, TestTable::Plain)? {
+        let line = format!(in rt.alloc(); "{base:03},{digit:02},{to:03},{turns:03}\n")?;
+        padded.push_str(&line)?;
+    }
+    assert!(&rt; spells(&rt, &padded, TestTable::Plain));
+    Ok(())
+}
+
+#[test]
+fn the_first_faulty_record_decides(rt: HostRuntime) -> Result<(), Fail> {
+    let headers = [
+        "",
+        "\n",
+        "base,dir,to\n",
+        "base,dir,to,rot,\n",
+        "Base,dir,to,rot\n",
+        " base,dir,to,rot\n",
+        "0,1,110,0\n",
+    ];
+    for text in headers {
+        assert_eq!(&rt; refusal(&rt, text), Some(TableError::Form(1)), "at {text}");
+    }
+    let table = [
+        ("4,1,0,0", TableError::Range(2)),
+        ("0001,1,110,0", TableError::Form(2)),
+        ("0,1,110", TableError::Form(2)),
+        ("0,1,110,0,0", TableError::Form(2)),
+        ("0,1,,0", TableError::Form(2)),
+        ("0,1, 110,0", TableError::Form(2)),
+        ("0,1,+10,0", TableError::Form(2)),
+        ("0,1,110,6", TableError::Range(2)),
+        ("0,0,110,0", TableError::Range(2)),
+        ("0,7,110,0", TableError::Range(2)),
+        ("0,1,122,0", TableError::Range(2)),
+        ("122,1,110,0", TableError::Range(2)),
+        ("260,1,110,0", TableError::Range(2)),
+        ("4,1,0,0\n0,1,x,0", TableError::Range(2)),
+        ("0,1,x,0\n4,1,0,0", TableError::Form(2)),
+        ("0,1,110,0\n\n0,1,111,0\n", TableError::Repeated(3)),
+        ("0,1,110,0\n0,1,111,6\n", TableError::Range(3)),
+        ("0,1,110,0\n0,2,11,0\n", TableError::Missing),
+        ("", TableError::Missing),
+    ];
+    for (rest, error) in table {
+        let text = format!(in rt.alloc(); "{HEADER}{rest}")?;
+        assert_eq!(&rt; refusal(&rt, &text), Some(error), "at {rest}");
+    }
+    Ok(())
+}
+
+#[test]
+fn a_missing_or_repeated_record_is_refused(rt: HostRuntime) -> Result<(), Fail> {
+    let records = records(&rt, TestTable::Plain)?;
+    let Some((_, but_one)) = records.as_slice().split_last() else {
+        return Ok(());
+    };
+    let short = text(&rt, but_one, "\n")?;
+    assert_eq!(&rt; refusal(&rt, &short), Some(TableError::Missing));
+    let plain = text(&rt, &records, "\n")?;
+    let long = format!(in rt.alloc(); "{plain}0,1,110,0\n")?;
+    assert_eq!(&rt; refusal(&rt, &long), Some(TableError::Repeated(662)));
+    Ok(())
+}
+
+#[test]
+fn the_first_check_that_fails_decides(rt: HostRuntime) -> Result<(), Fail> {
+    let skew = text(&rt, &records(&rt, TestTable::Skew)?, "\n")?;
+    assert_eq!(&rt;
+        refusal(&rt, &skew),
+        Some(TableError::Corner(0, Direction::K))
+    );
+    let table = [
+        ([0, 1, 110, 1], TableError::Reversal(0, Direction::K)),
+        ([0, 2, 110, 0], TableError::Neighbours(0)),
+        ([0, 3, 0, 0], TableError::Neighbours(0)),
+        ([121, 6, 13, 0], TableError::Reversal(11, Direction::K)),
+        ([121, 6, 10, 0], TableError::Neighbours(121)),
+    ];
+    for (changed, error) in table {
+        let mut records = records(&rt, TestTable::Plain)?;
+        for record in records.as_mut_slice() {
+            if record[0] == changed[0] && record[1] == changed[1] {
+                *record = changed;
+            }
+        }
+        let text = text(&rt, &records, "\n")?;
+        assert_eq!(&rt; refusal(&rt, &text), Some(error));
+    }
+    Ok(())
+}
