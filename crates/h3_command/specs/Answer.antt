@@ -1,10 +1,10 @@
 -- What a command answers.
-use Rattle.std.specs.Prelude.{ℕ, ℤ, ◌+◌, ◌*◌, ◌^◌, Bool, true, false, ◌||◌, List, [], ◌∷◌, ◌++◌, length, map, slice_get, codes, decimal, unsigned_abs, Option, None, Some, is_some, Result, Ok, Err, if◌then◌else◌}
-use Rattle.std.specs.List.{flat_map, range_with_len}
+use Rattle.std.specs.Prelude.{ℕ, ℤ, ◌+◌, ◌*◌, ◌^◌, Bool, true, false, ◌||◌, List, [], ◌∷◌, ◌++◌, length, slice_get, codes, decimal, unsigned_abs, Option, None, Some, is_some, Result, Ok, Err, if◌then◌else◌}
+use Rattle.std.specs.List.{flat_map}
 use Rattle.std.specs.Option.{option_map_or}
 use Rattle.h3_index.specs.Cell.{Address, is_class_iii, is_pentagon, number_of, resolution}
 use Rattle.h3_index.specs.CellNumber.{cell_in}
-use Rattle.h3_index.specs.Count.{base_cell, pentagons, resolution_of}
+use Rattle.h3_index.specs.Count.{cells_of, pentagons, resolution_of}
 use Rattle.h3_index.specs.Descendants.{center_at, cut, descendants}
 use Rattle.h3_index.specs.Text.{text_of}
 use Rattle.h3_index.specs.declared.error.H3Error.{H3Error}
@@ -93,12 +93,8 @@ with_resolution res about = option_map_or about (resolution_of res) (refused Res
 abbrev pub get_num_cells_answer : ℤ → Answer
 get_num_cells_answer res = with_resolution res (λ r. written (number_line (2 + 120 * 7 ^ r)))
 
--- the cells of resolution 0, in ascending order
-unfoldable pub base_cells : List Address
-base_cells = map base_cell (range_with_len 0 122)
-
 abbrev pub get_res0_cells_answer : Answer
-get_res0_cells_answer = written (cell_lines base_cells)
+get_res0_cells_answer = written (cell_lines (cells_of 0))
 
 abbrev pub get_pentagons_answer : ℤ → Answer
 get_pentagons_answer res = with_resolution res (λ r. written (cell_lines (pentagons r)))

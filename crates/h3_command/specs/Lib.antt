@@ -1,4 +1,5 @@
 pub mod Answer
+pub mod Examples
 pub mod List
 pub mod Refusal
 pub mod Run

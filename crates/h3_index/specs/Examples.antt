@@ -2,14 +2,12 @@
 use Rattle.std.specs.Prelude.{ℕ, ◌≡◌, [], ◌∷◌, map, true, false, Some, None, codes, refl}
 use Rattle.h3_index.specs.Cell.{Address, is_pentagon, number_of}
 use Rattle.h3_index.specs.CellNumber.{address_in, cell_in}
+use Rattle.h3_index.specs.Count.{base_cell, pentagons}
 use Rattle.h3_index.specs.Descendants.{cut}
 use Rattle.h3_index.specs.Edge.{edge_number}
 use Rattle.h3_index.specs.Text.{spelled_index, text_of}
 
 -- ---- cells
-
-abbrev base_cell : ℕ → Address
-base_cell b = record { base = b; digits = [] }
 
 -- resolution 5, base cell 20, digits 0 6 4 3 4
 abbrev hexagon : Address
@@ -31,10 +29,10 @@ first_and_last_base_cells : map (λ b. number_of (base_cell b)) (0 ∷ 121 ∷ [
 unfolding number_of
 first_and_last_base_cells = refl
 
-pentagons : map (λ b. number_of (base_cell b)) (4 ∷ 14 ∷ 24 ∷ 38 ∷ 49 ∷ 58 ∷ 63 ∷ 72 ∷ 83 ∷ 97 ∷ 107 ∷ 117 ∷ [])
+pentagons_of_resolution_0 : map (λ c. number_of c) (pentagons 0)
     ≡ 0x8009fffffffffff ∷ 0x801dfffffffffff ∷ 0x8031fffffffffff ∷ 0x804dfffffffffff ∷ 0x8063fffffffffff ∷ 0x8075fffffffffff ∷ 0x807ffffffffffff ∷ 0x8091fffffffffff ∷ 0x80a7fffffffffff ∷ 0x80c3fffffffffff ∷ 0x80d7fffffffffff ∷ 0x80ebfffffffffff ∷ []
-unfolding number_of
-pentagons = refl
+unfolding number_of pentagons
+pentagons_of_resolution_0 = refl
 
 pentagon_tests : map (λ c. is_pentagon c) (base_cell 4 ∷ record { base = 4; digits = 0 ∷ 0 ∷ [] } ∷ record { base = 4; digits = 0 ∷ 2 ∷ [] } ∷ base_cell 5 ∷ []) ≡ true ∷ true ∷ false ∷ false ∷ []
 pentagon_tests = refl

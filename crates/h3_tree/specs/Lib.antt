@@ -1,4 +1,5 @@
 pub mod Children
+pub mod Examples
 pub mod Following
 pub mod Positions
 pub mod Refusals

@@ -5,10 +5,12 @@ use Rattle.std.specs.Result.{result_ok}
 use Rattle.std.proofs.lemmas.Iterator.{YieldsList-from_range}
 use Rattle.std.proofs.lemmas.Iterator.Consumers.{YieldsList-from_filter_map}
 use Rattle.h3_index.specs.Cell.{Address}
-use Rattle.h3_index.specs.Count.{base_cell, number_below}
+use Rattle.h3_index.specs.Count.{base_cell, cells_of, number_below}
+use Rattle.h3_index.specs.Descendants.{descendants}
+use Rattle.h3_index.specs.Paths.{paths}
 use Rattle.h3_index.specs.declared.error.H3Error.{H3Error}
 use Rattle.h3_index.specs.declared.error.H3Error.TheVariants.{Domain}
-use Rattle.h3_command.specs.Answer.{base_cells, cell_lines, written}
+use Rattle.h3_command.specs.Answer.{cell_lines, written}
 use Rattle.h3_command.specs.Run.{WritesAs}
 use Rattle.h3_command.proofs.resolutions.get_res0_cells.Goals as goal
 
@@ -16,8 +18,8 @@ use Rattle.h3_command.proofs.resolutions.get_res0_cells.Goals as goal
 abbrev cell_at : ℕ → Option Address
 cell_at b = option_map base_cell (number_below 122 (pos b))
 
-all_cells : filter_map cell_at (range_with_len 0 122) ≡ base_cells
-unfolding number_below base_cells
+all_cells : filter_map cell_at (range_with_len 0 122) ≡ cells_of 0
+unfolding number_below cells_of descendants paths
 all_cells = refl
 
 read_at : (b : ℕ) (r : Result Address H3Error) → MatchOption (number_below 122 (pos b)) (r ≡ Err Domain) (λ k. r ≡ Ok (base_cell k)) → result_ok r ≡ cell_at b
