@@ -11,7 +11,7 @@ use h3_index::Cell;
 use h3_index::laws::{descendants_are_listed, paths_are_chains};
 
 /// The next cell of the same base cell and resolution. The last is its own.
-#[inline]
+#[inline(always)]
 fn following(cell: Cell) -> Cell
     ensures { result ≡ following cell }
 {
@@ -62,7 +62,7 @@ impl Iterator for Children {
 
     ghost remaining = { item_count children_left };
 
-    #[inline]
+    #[inline(always)]
     fn next(&mut self) -> Option<Cell> {
         if self.left == 0 {
             return None;
