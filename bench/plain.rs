@@ -1,6 +1,7 @@
 //! The plain Rust programs that the command h3 is measured against: the same work over the same kinds of buffers,
-//! with no proof. `plain valid CELL`, `plain children CELL RES`, `plain uncompact RES` (cells on standard input) and
-//! `plain positions COUNT` (so many positions and back).
+//! with no proof. `plain valid CELL`, `plain children CELL RES`, `plain uncompact RES` (cells on standard input),
+//! `plain positions COUNT` (so many positions and back), `plain table` (a table file) and `plain tables COUNT` (so many
+//! readings of the table file on standard input).
 
 use std::env;
 use std::io::{self, BufWriter, Read, Write};
@@ -180,6 +181,69 @@ fn child_at(position: u64, cell: u64, res: u64) -> u64 {
     child
 }
 
+const STEPS: [u8; 6] = [110, 11, 121, 1, 111, 12];
+
+/// The directions K, J, JK, I, IK and IJ turned once.
+const TURNED: [usize; 6] = [4, 2, 0, 5, 3, 1];
+
+type Links = [[Option<(u8, u8)>; 6]; 122];
+
+fn is_hexagon(base: u8) -> bool {
+    base < 122 && !PENTAGONS.contains(&u64::from(base))
+}
+
+fn turned(direction: usize, n: u8) -> usize {
+    (0..n).fold(direction, |d, _| TURNED[d])
+}
+
+fn number(field: &[u8]) -> Option<u16> {
+    if field.is_empty() || field.len() > 3 {
+        return None;
+    }
+    field.iter().try_fold(0, |n, b| b.is_ascii_digit().then(|| n * 10 + u16::from(b - b'0')))
+}
+
+fn read_records(text: &[u8]) -> Option<Links> {
+    let mut lines = text.split(|b| *b == b'\n').filter(|line| !line.is_empty());
+    if lines.next()? != b"base,dir,to,rot" {
+        return None;
+    }
+    let mut links = [[None; 6]; 122];
+    for line in lines {
+        let mut fields = line.split(|b| *b == b',').map(number);
+        let (base, direction) = (fields.next()??, fields.next()??);
+        let (to, turns) = (fields.next()??, fields.next()??);
+        let is_good = base < 122 && is_hexagon(base as u8) && (1..7).contains(&direction) && to < 122 && turns < 6;
+        if fields.next().is_some() || !is_good {
+            return None;
+        }
+        let slot = &mut links[base as usize][direction as usize - 1];
+        if slot.replace((to as u8, turns as u8)).is_some() {
+            return None;
+        }
+    }
+    Some(links)
+}
+
+fn fits(links: &Links, base: u8, d: usize) -> Option<bool> {
+    let own = &links[base as usize];
+    let (to, turns) = own[d]?;
+    let (next, next_turns) = own[TURNED[d]]?;
+    let is_apart = to != base && (0..6).all(|e| e == d || own[e].is_some_and(|link| link.0 != to));
+    if !is_apart || !is_hexagon(to) {
+        return Some(is_apart);
+    }
+    let reverses = links[to as usize][turned(d, turns + 3)]? == (base, (6 - turns) % 6);
+    let closes = !is_hexagon(next) || links[to as usize][turned(d, turns + 2)]? == (next, (next_turns + 6 - turns) % 6);
+    Some(reverses && closes)
+}
+
+fn read_table(text: &[u8]) -> Option<Links> {
+    let links = read_records(text)?;
+    let are_good = (0..122).filter(|b| is_hexagon(*b)).all(|b| (0..6).all(|d| fits(&links, b, d) == Some(true)));
+    are_good.then_some(links)
+}
+
 fn main() -> io::Result<()> {
     let words: Vec<String> = env::args().skip(1).collect();
     let words: Vec<&str> = words.iter().map(String::as_str).collect();
@@ -206,6 +270,25 @@ fn main() -> io::Result<()> {
             for place in 0..places.parse().expect("a number") {
                 let child = child_at(place * 395_630, cell, 15);
                 sum = sum.wrapping_add(child ^ position(child, 0));
+            }
+            writeln!(out, "{sum}")?;
+        }
+        ["table"] => {
+            writeln!(out, "base,dir,to,rot")?;
+            for base in (0..122).filter(|b| is_hexagon(*b)) {
+                for (d, step) in STEPS.iter().enumerate() {
+                    writeln!(out, "{base},{},{},0", d + 1, (base + step) % 122)?;
+                }
+            }
+        }
+        ["tables", count] => {
+            let mut text = Vec::new();
+            io::stdin().lock().read_to_end(&mut text)?;
+            let mut sum = 0;
+            for _ in 0..count.parse().expect("a number") {
+                let links = read_table(std::hint::black_box(&text)).expect("a table");
+                let (to, turns) = links[121][5].expect("a link");
+                sum += u64::from(to) + u64::from(turns);
             }
             writeln!(out, "{sum}")?;
         }

@@ -1,9 +1,13 @@
-//! Loops over the library for `bench/run`, which measures them against plain Rust: `h3_bench COUNT` goes from so many
-//! positions to their cells and back, and prints a sum of what it found.
+//! Loops over the library for `bench/run`, which measures them against plain Rust. `h3_bench COUNT` goes from so many
+//! positions to their cells and back; `h3_bench COUNT tables` reads the table on standard input so many times. Each
+//! prints a sum of what it found.
 #![tactic(auto)]
 
-use h3_index::{Cell, H3Error};
+use h3_index::{Cell, H3Error, Streamed};
+use h3_lattice::{BaseTable, Direction, TableError};
 use h3_tree::{child_at, child_pos};
+use std::alloc::Global;
+use std::io::Read;
 use std::{env, io};
 
 /// How far apart the positions are: so ten million of them reach through all descendants of a pentagon of resolution 0
@@ -21,13 +25,44 @@ fn positions_and_back(count: u64) -> Result<u64, H3Error> {
     Ok(sum)
 }
 
-fn main(rt: HostRuntime) -> io::Result<()> {
-    let count = match env::args(&rt)?.nth(1) {
-        Some(word) => word.as_str().parse().unwrap_or(0),
-        None => 0,
-    };
+/// Reads a table so many times from its bytes, and sums a link of each.
+fn read_tables(alloc: Global, bytes: &[u8], count: u64) -> Result<u64, TableError> {
+    let mut sum: u64 = 0;
+    for _ in 0..count {
+        let mut source = Streamed::new(bytes);
+        let table = BaseTable::read(alloc, &mut source)?;
+        let (to, turns) = table.link(121, Direction::IJ);
+        sum = sum.wrapping_add(u64::from(to) + u64::from(turns));
+    }
+    Ok(sum)
+}
+
+/// Reads the table on standard input so many times.
+fn tables(rt: &HostRuntime, count: u64) -> io::Result<()> {
+    let mut bytes = Vec::new(rt.alloc());
+    rt.stdin().read_to_end(&mut bytes)?;
+    match read_tables(rt.alloc(), &bytes, count) {
+        Ok(sum) => println!(rt; "{sum}"),
+        Err(error) => println!(rt; "{error}"),
+    }
+}
+
+/// Goes from so many positions to their cells and back.
+fn positions(rt: &HostRuntime, count: u64) -> io::Result<()> {
     match positions_and_back(count) {
         Ok(sum) => println!(rt; "{sum}"),
         Err(error) => println!(rt; "{error}"),
+    }
+}
+
+fn main(rt: HostRuntime) -> io::Result<()> {
+    let mut words = env::args(&rt)?;
+    let count = match words.nth(1) {
+        Some(word) => word.as_str().parse().unwrap_or(0),
+        None => 0,
+    };
+    match words.next() {
+        Some(_) => tables(&rt, count),
+        None => positions(&rt, count),
     }
 }
