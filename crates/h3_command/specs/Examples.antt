@@ -1,6 +1,6 @@
 -- The definitions at worked values, by computation.
-use Rattle.std.specs.Prelude.{ℕ, ◌≡◌, List, [], ◌∷◌, ◌++◌, map, replicate, codes, pos, None, Some, Ok, Err, refl}
-use Rattle.h3_index.specs.Cell.{Address, number_of}
+use Rattle.std.specs.Prelude.{◌≡◌, [], ◌∷◌, ◌++◌, map, replicate, codes, pos, None, Some, Ok, Err, refl}
+use Rattle.h3_index.specs.Cell.{number_of}
 use Rattle.h3_index.specs.CellNumber.{address_in, cell_in}
 use Rattle.h3_index.specs.Count.{base_cell}
 use Rattle.h3_index.specs.Text.{spelled_index, text_of}

@@ -2,10 +2,10 @@
 use Rattle.std.specs.Char.{digit_char, digit_value, is_digit}
 use Rattle.std.specs.Int.Digits.{number_from_digits, AllBelowBase}
 use Rattle.std.specs.Int.Count.{count_leading_zeros}
-use Rattle.std.specs.List.{list_all, slice_index}
+use Rattle.std.specs.List.{list_all}
 use Rattle.std.specs.Str.{IsAscii}
 use Rattle.std.specs.String.Boundary.{IsSplitPoint}
-use Rattle.std.proofs.Common.{ℕ, zero, suc, ◌≡◌, ◌≢◌, ◌+◌, ◌-◌, ◌*◌, ◌/◌, ◌%◌, ◌^◌, ◌<◌, ◌≤◌, ◌==◌, ◌⊎◌, nat_lt, nat_le, List, [], ◌∷◌, ◌++◌, length, take, drop, map, reverse, replicate, get_or, set, Bool, true, false, ◌&&◌, ◌||◌, Some, if◌then◌else◌, refl, arith, sym, ap, ◌∙◌, le-div_iff_mul-le, div-lt_iff_lt-mul, lit<, lit≤, inl, inr, eqb-true}
+use Rattle.std.proofs.Common.{ℕ, zero, suc, ◌≡◌, ◌+◌, ◌-◌, ◌*◌, ◌/◌, ◌%◌, ◌^◌, ◌<◌, ◌≤◌, ◌==◌, ◌⊎◌, nat_lt, nat_le, List, [], ◌∷◌, ◌++◌, length, take, map, reverse, replicate, get_or, set, Bool, true, false, ◌&&◌, ◌||◌, Some, if◌then◌else◌, refl, arith, sym, ap, ◌∙◌, le-div_iff_mul-le, div-lt_iff_lt-mul, lit<, lit≤, inl, inr, eqb-true}
 use Rattle.std.proofs.Math.Nat.{div-div-eq-div-mul, one-le-pow, pow-suc, pow-zero}
 use Rattle.std.proofs.Math.Pow.{pow_mono}
 use Rattle.std.proofs.Math.Seq.{take-append_seam}

@@ -1,5 +1,5 @@
 -- The definitions at worked values, by computation.
-use Rattle.std.specs.Prelude.{ℕ, ◌≡◌, [], ◌∷◌, map, true, false, Some, None, codes, refl}
+use Rattle.std.specs.Prelude.{◌≡◌, [], ◌∷◌, map, true, false, Some, None, codes, refl}
 use Rattle.h3_index.specs.Cell.{Address, is_pentagon, number_of}
 use Rattle.h3_index.specs.CellNumber.{address_in, cell_in}
 use Rattle.h3_index.specs.Count.{base_cell, pentagons}

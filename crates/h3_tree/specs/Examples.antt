@@ -1,6 +1,6 @@
 -- The definitions at worked values, by computation.
-use Rattle.std.specs.Prelude.{ℕ, ◌≡◌, [], ◌∷◌, map, refl}
-use Rattle.h3_index.specs.Cell.{Address, number_of}
+use Rattle.std.specs.Prelude.{◌≡◌, [], ◌∷◌, map, refl}
+use Rattle.h3_index.specs.Cell.{number_of}
 use Rattle.h3_index.specs.Count.{base_cell}
 use Rattle.h3_index.specs.Descendants.{descendants}
 use Rattle.h3_index.specs.Paths.{paths}

@@ -1,7 +1,5 @@
-use Rattle.std.proofs.Common.{w32, rules, ◌≡◌, ℤ, inl, subst}
+use Rattle.std.proofs.Common.{w32, rules, inl}
 use Rattle.std.proofs.lemmas.Int.{to_z-of_z}
-use Rattle.h3_command.specs.Answer.{uncompact_cells_answer}
-use Rattle.h3_command.specs.Run.{WritesAs}
 use Rattle.h3_command.proofs.Written.{writes_weaker}
 use Rattle.h3_command.proofs.run.perform.Goals as goal
 

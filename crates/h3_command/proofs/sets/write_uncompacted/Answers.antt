@@ -1,4 +1,4 @@
-use Rattle.std.proofs.Common.{w32, rules, of_z, to_z, ◌≡◌, ◌∙◌, ℤ, List, Option, None, ap, sym, subst}
+use Rattle.std.proofs.Common.{w32, rules, of_z, to_z, ◌≡◌, ◌∙◌, ℤ, List, Option, None, ap, subst}
 use Rattle.std.specs.Prelude.{unsigned_abs}
 use Rattle.std.proofs.lemmas.Int.{to_z-of_z}
 use Rattle.std.proofs.lemmas.Iterator.Consumers.{YieldsList-from_first}

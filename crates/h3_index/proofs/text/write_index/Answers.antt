@@ -1,4 +1,4 @@
-use Rattle.std.proofs.Common.{◌∙◌, ◌-◌, ◌*◌, ◌^◌, ◌%◌, ap, lit<, length, subst, sym, take}
+use Rattle.std.proofs.Common.{◌∙◌, ◌-◌, ap, lit<, subst, sym, take}
 use Rattle.std.specs.Str.{IsAscii}
 use Rattle.h3_index.proofs.WriteLaws.{ascii_split, digits_ascii, text_moved, text_spells}
 use Rattle.h3_index.proofs.text.write_index.Goals as goal
