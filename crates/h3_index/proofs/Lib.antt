@@ -7,6 +7,7 @@ pub mod DescendantLaws
 pub mod DigitsLaws
 pub mod DigitTestLaws
 pub mod MoveLaws
+pub mod OrderLaws
 pub mod PathLaws
 pub mod TextLaws
 pub mod WriteLaws

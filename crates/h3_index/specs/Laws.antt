@@ -1,12 +1,19 @@
 -- Laws of cells, of their numbers and of their descendants.
 use Rattle.std.specs.Prelude.{ℕ, ◌≡◌, ◌+◌, ◌-◌, ◌*◌, ◌/◌, ◌^◌, ◌<◌, ◌≤◌, ◌↔◌, List, ◌∷◌, length, replicate, Bool, true, false, None, Contains, AllPairs}
-use Rattle.h3_index.specs.Cell.{Address, IsCell, is_pentagon, number_of}
+use Rattle.std.specs.Cmp.Lexicographic.{slice_cmp}
+use Rattle.std.specs.Ordering.{nat_cmp, ordering_then}
+use Rattle.h3_index.specs.Cell.{Address, IsCell, is_pentagon, number_of, resolution}
 use Rattle.h3_index.specs.Descendants.{cut, IsDescendant, descendants}
 use Rattle.h3_index.specs.Paths.{paths, next_path, Links}
 
 -- cells of one number are one
 abbrev pub NumbersTellCells : Type 0
 NumbersTellCells = (a b : Address) → IsCell a → IsCell b → number_of a ≡ number_of b → a ≡ b
+
+-- cells are ordered by resolution, then base cell, then digits, the coarsest digit first
+abbrev pub NumbersFollowFields : Type 0
+NumbersFollowFields =
+    (a b : Address) → IsCell a → IsCell b → nat_cmp (number_of a) (number_of b) ≡ ordering_then (nat_cmp (resolution a) (resolution b)) (ordering_then (nat_cmp a.base b.base) (slice_cmp nat_cmp a.digits b.digits))
 
 -- a cell cut at a resolution that is not finer than its own is a cell
 abbrev pub CutsAreCells : Type 0

@@ -1,8 +1,25 @@
 //! Laws of the definitions that contracts here cite. Each function does nothing; what it ensures is a law that holds
 //! always, for the proofs of crates that call it.
 
+ghost use Rattle.std.specs.Prelude.{◌≡◌, ◌==◌};
+ghost use Rattle.std.specs.Ordering.{nat_cmp};
+ghost use Rattle.std.specs.Hash as fed;
+ghost use Rattle.h3_index.specs.Cell.{Address, number_of};
 ghost use Rattle.h3_index.specs.Count.{CellsUpToAreListed};
-ghost use Rattle.h3_index.specs.Laws.{NumbersTellCells, CutsAreCells, DescendantsAreListed, DescendantsAscend, HexagonsHaveSevens, PentagonsHaveFewer, PathsAreChains};
+ghost use Rattle.h3_index.specs.Laws.{NumbersFollowFields, NumbersTellCells, CutsAreCells, DescendantsAreListed, DescendantsAscend, HexagonsHaveSevens, PentagonsHaveFewer, PathsAreChains};
+
+use crate::cell::Cell;
+use std::hash::Hash;
+
+/// Cells are equal, ordered and hashed as their numbers are, and numbers are ordered by resolution,
+/// then base cell, then digits.
+pub fn cells_compare_by_number()
+    ensures equal { (a b : Address) →
+        ⟦<Cell as PartialEq>⟧.eq a b ≡ (number_of a == number_of b) }
+    ensures order { (a b : Address) → ⟦<Cell as Ord>⟧.cmp a b ≡ nat_cmp (number_of a) (number_of b) }
+    ensures hash { (c : Address) → ⟦<Cell as Hash>⟧.hash_input c ≡ fed.u64 (number_of c) }
+    ensures fields { NumbersFollowFields }
+{}
 
 /// Cells of one number are one.
 pub fn numbers_tell_cells()

@@ -2,6 +2,7 @@ use crate::{
     Cell, H3Error, Sink, Source, StreamFault, Streamed, is_pentagon_base, num_cells, pentagon,
     read_index, res0_cell, write_index,
 };
+use std::cmp::Ordering;
 use std::io::{self, Read, Write};
 use std::test::Fail;
 
@@ -126,80 +127,116 @@ fn a_streamed_writer_is_written(rt: HostRuntime) -> Result<(), Fail> {
     Ok(())
 }
 
-/// A reader and writer that counts its calls, and fails, or takes no byte.
+/// A reader and writer that counts its calls, and what they were handed.
+///
+/// It fails, or takes or gives as many bytes as it was made for at most.
 #[derive(Drop)]
 struct Counting {
     calls: u32,
+    handed: usize,
     fails: bool,
+    at_most: usize,
 }
 
-impl Read for Counting {
-    fn read(&mut self, _buf: &mut [u8]) -> io::Result<usize> {
+impl Counting {
+    /// Counts a call that was handed a buffer of this length.
+    fn call(&mut self, length: usize) -> io::Result<usize> {
         self.calls = self.calls.saturating_add(1);
+        self.handed = length;
         if self.fails {
             return Err(io::Error::from(io::ErrorKind::Other));
         }
-        Ok(0)
+        Ok(length.min(self.at_most))
+    }
+}
+
+impl Read for Counting {
+    fn read(&mut self, buf: &mut [u8]) -> io::Result<usize> {
+        self.call(buf.len())
     }
 }
 
 impl Write for Counting {
-    fn write(&mut self, _bytes: &[u8]) -> io::Result<usize> {
-        self.calls = self.calls.saturating_add(1);
-        if self.fails {
-            return Err(io::Error::from(io::ErrorKind::Other));
-        }
-        Ok(0)
+    fn write(&mut self, bytes: &[u8]) -> io::Result<usize> {
+        self.call(bytes.len())
     }
 
     fn flush(&mut self) -> io::Result<()> {
-        self.calls = self.calls.saturating_add(1);
-        if self.fails {
-            return Err(io::Error::from(io::ErrorKind::Other));
-        }
+        self.call(0)?;
         Ok(())
     }
 }
 
-fn stream_that(fails: bool) -> Streamed<Counting> {
-    Streamed::new(Counting { calls: 0, fails })
+fn stream_that(fails: bool, at_most: usize) -> Streamed<Counting> {
+    Streamed::new(Counting {
+        calls: 0,
+        handed: 0,
+        fails,
+        at_most,
+    })
 }
+
+/// The lengths of an empty, a short and a long buffer.
+static LENGTHS: [usize; 3] = [0, 3, 5000];
 
 #[test]
 fn each_call_is_handed_on_once(rt: HostRuntime) {
-    let mut pulled = stream_that(false);
-    assert_eq!(rt; pulled.pull(&mut [0; 4]), Ok(0));
-    assert!(rt; !pulled.failed());
-    assert_eq!(rt; pulled.into_inner().calls, 1);
+    let mut page = [7; 5000];
+    for length in LENGTHS {
+        let mut pulled = stream_that(false, 5000);
+        assert_eq!(rt; pulled.pull(&mut page[..length]), Ok(length));
+        assert!(rt; !pulled.failed());
+        let inner = pulled.into_inner();
+        assert_eq!(rt; (inner.calls, inner.handed), (1, length));
 
-    let mut flushed = stream_that(false);
+        let mut pushed = stream_that(false, 5000);
+        assert_eq!(rt; pushed.push(&page[..length]), Ok(length));
+        assert!(rt; !pushed.failed());
+        let inner = pushed.into_inner();
+        assert_eq!(rt; (inner.calls, inner.handed), (1, length));
+    }
+    let mut flushed = stream_that(false, 5000);
     assert_eq!(rt; flushed.flush(), Ok(()));
     assert!(rt; !flushed.failed());
     assert_eq!(rt; flushed.into_inner().calls, 1);
-
-    // a write of no byte is a failure
-    let mut pushed = stream_that(false);
-    assert_eq!(rt; pushed.push(b"abc"), Err(StreamFault));
-    assert!(rt; pushed.failed());
-    assert_eq!(rt; pushed.into_inner().calls, 1);
 }
 
 #[test]
 fn a_failure_is_told_and_kept(rt: HostRuntime) {
-    let mut pulled = stream_that(true);
-    assert_eq!(rt; pulled.pull(&mut [0; 4]), Err(StreamFault));
-    assert!(rt; pulled.failed());
-    assert_eq!(rt; pulled.into_inner().calls, 1);
+    let mut page = [7; 5000];
+    for length in LENGTHS {
+        let mut pulled = stream_that(true, 5000);
+        assert_eq!(rt; pulled.pull(&mut page[..length]), Err(StreamFault));
+        assert!(rt; pulled.failed());
+        assert_eq!(rt; pulled.into_inner().calls, 1);
 
-    let mut pushed = stream_that(true);
-    assert_eq!(rt; pushed.push(b"abc"), Err(StreamFault));
-    assert!(rt; pushed.failed());
-    assert_eq!(rt; pushed.into_inner().calls, 1);
-
-    let mut flushed = stream_that(true);
+        let mut pushed = stream_that(true, 5000);
+        assert_eq!(rt; pushed.push(&page[..length]), Err(StreamFault));
+        assert!(rt; pushed.failed());
+        assert_eq!(rt; pushed.into_inner().calls, 1);
+    }
+    let mut flushed = stream_that(true, 5000);
     assert_eq!(rt; flushed.flush(), Err(StreamFault));
     assert!(rt; flushed.failed());
     assert_eq!(rt; flushed.into_inner().calls, 1);
+}
+
+#[test]
+fn a_call_that_moves_no_byte(rt: HostRuntime) {
+    let mut page = [7; 5000];
+    // for a reader it is the end
+    let mut pulled = stream_that(false, 0);
+    assert_eq!(rt; pulled.pull(&mut page), Ok(0));
+    assert!(rt; !pulled.failed());
+    assert_eq!(rt; pulled.into_inner().calls, 1);
+
+    // for a writer it is a failure, unless there was none to write
+    let mut pushed = stream_that(false, 0);
+    assert_eq!(rt; pushed.push(b""), Ok(0));
+    assert!(rt; !pushed.failed());
+    assert_eq!(rt; pushed.push(b"abc"), Err(StreamFault));
+    assert!(rt; pushed.failed());
+    assert_eq!(rt; pushed.into_inner().calls, 2);
 }
 
 #[test]
@@ -263,5 +300,7 @@ fn cells_are_ordered_by_number(rt: HostRuntime) -> Result<(), Fail> {
     let finer = Cell::new(0x81083ffffffffff)?;
     assert!(rt; first < last && last < finer);
     assert!(rt; first == Cell::new(0x8001fffffffffff)? && first != last);
+    assert_eq!(rt; first.cmp(&last), Ordering::Less);
+    assert_eq!(rt; finer.cmp(&last), Ordering::Greater);
     Ok(())
 }

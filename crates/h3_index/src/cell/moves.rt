@@ -8,8 +8,8 @@ ghost use Rattle.h3_index.specs.Descendants.{center_at, child, cut};
 use super::Cell;
 
 impl Cell {
-    /// The cell of resolution 0 in a base cell.
-    pub(crate) fn in_base(base: u8) -> Cell
+    /// The cell of resolution 0 in a base cell, 0 to 121.
+    pub fn in_base(base: u8) -> Cell
         requires { base < 122 }
         ensures is { result ≡ base_cell base }
         ensures valid { IsCell result }
