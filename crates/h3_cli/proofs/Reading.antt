@@ -74,6 +74,11 @@ only_memory ws f fault none = go f (subst (λ k. IsFaultOf k f) none fault)
     go (Usage text) bad = absurd bad.1
     go Memory fine = refl
 
+-- where the parse has no fault, the words have none
+pub passed : (a : App) (ws given_words : List Text) → a ≡ app → given_words ≡ ws → (is_simple_and_free a ≡ true → fault_of a given_words ≡ []) → fault_of app ws ≡ []
+passed a ws given_words is same none =
+    sym (ap₂ fault_of is same) ∙ none (ap is_simple_and_free is ∙ app_is_simple)
+
 -- the command that the parse met, and what it found
 abbrev pub Met : List Text → Text → Found → Type 0
 Met ws name found = (k : CommandName) × (rest : List Text) × (drop 1 ws ≡ word_of k ∷ rest) × (name ≡ word_of k) × Answers k (λ o. given o rest) found
@@ -104,7 +109,7 @@ pub met : (a : App) (ws given_words : List Text) (m : ArgMatches) (name : Text) 
     → (is_simple_and_free a ≡ true → fault_of a given_words ≡ []) → HasMatchesOf a given_words m
     → Some name ≡ subcommand_name_of m → Some (rows_of found) ≡ option_map (λ p. p.1) (subcommand_rows_of m) → Met ws name found
 met a ws given_words m name found is same none matches named rows =
-    let e = app_enters ws (sym (ap₂ fault_of is same) ∙ none (ap is_simple_and_free is ∙ app_is_simple)) in
+    let e = app_enters ws (passed a ws given_words is same none) in
     let sub = (matches (ap is_simple is ∙ is_simple_app)).1 ∙ ap₂ subcommand_of is same ∙ e.4 in (
       e.0,
       e.1,

@@ -1,6 +1,6 @@
 //! The words of a command line.
 
-ghost use Rattle.std.specs.Prelude.{◌≡◌, IfOk, IfErr, map, string_bytes};
+ghost use Rattle.std.specs.Prelude.{◌≡◌, [], IfOk, IfErr, OnOk, map, string_bytes};
 ghost use Rattle.clap.specs.Words.{fault_of, kind_of};
 ghost use Rattle.h3_cli.specs.Call.{IsPlainCall};
 ghost use Rattle.h3_cli.specs.Commands.{app};
@@ -65,6 +65,7 @@ impl WordsFault {
 /// Reads the words of a command line, of which the first is the program's name.
 pub fn read_words(alloc: Global, words: Vec<String>) -> Result<Words, WordsFault>
     ensures read { IfOk result (Spells (map string_bytes words.items)) }
+    ensures accepted { OnOk result (fault_of app (map string_bytes words.items) ≡ []) }
     ensures taken { IsPlainCall (map string_bytes words.items) → IfErr result (λ fault. fault ≡ WordsFault.Memory) }
     ensures faults { IfErr result (IsFaultOf (fault_of app (map string_bytes words.items))) }
 {

@@ -123,6 +123,14 @@ fn refuses_other_words(rt: HostRuntime) -> Result<(), Fail> {
         "h3 childPosToCell -c 85283473fffffff -r 5",
         "h3 uncompactCells",
         "h3 isValidCell -c 0 0",
+        "h3 getRes0Cells -r 0",
+        "h3 getNumCells -r 0 -r 0",
+        "h3 getNumCells -r 0 -c 0",
+        "h3 cellToParent -c 0 -r 0 --position 0",
+        "h3 childPosToCell --position 0 -c 0 -r 0 junk",
+        "h3 compactCells -r 6",
+        "h3 compactCells junk",
+        "h3 uncompactCells -r 6 junk",
         "h3 --version",
     ];
     for line in lines {
@@ -137,7 +145,19 @@ fn refuses_other_words(rt: HostRuntime) -> Result<(), Fail> {
 #[test]
 fn helps(rt: HostRuntime) -> Result<(), Fail> {
     let alloc = rt.alloc();
-    for line in ["h3 --help", "h3 isValidCell --help"] {
+    let lines = [
+        "h3 --help",
+        "h3 -h",
+        "h3 isValidCell --help",
+        "h3 isValidCell -c 0 -h",
+        "h3 getNumCells --help",
+        "h3 getRes0Cells --help",
+        "h3 cellToParent --help",
+        "h3 childPosToCell --help",
+        "h3 compactCells --help",
+        "h3 uncompactCells -r 6 --help",
+    ];
+    for line in lines {
         assert!(rt;
             matches!(read(alloc, line)?, Err(WordsFault::Help(_))),
             "{line}"
