@@ -1,12 +1,11 @@
 -- From the first part of a list to its compacted list.
-use Rattle.std.proofs.Common.{ℕ, zero, suc, ◌≡◌, ◌≢◌, ◌+◌, ◌-◌, ◌<◌, ◌≤◌, ◌↔◌, ◌==◌, List, [], ◌∷◌, length, take, drop, All, AllPairs, Contains, Bool, true, false, not, None, IsPermutation, refl, arith, ◌∙◌, sym, ap, subst, inl, inr, get_or}
+use Rattle.std.proofs.Common.{ℕ, zero, suc, ◌≡◌, ◌≢◌, ◌+◌, ◌-◌, ◌<◌, ◌≤◌, ◌↔◌, ◌==◌, List, [], ◌∷◌, length, take, drop, All, AllPairs, Contains, Bool, false, IsPermutation, arith, ◌∙◌, sym, ap, subst, inl, inr, get_or}
 use Rattle.std.proofs.lemmas.Bool.Decides.{nat_tests}
 use Rattle.std.proofs.lemmas.List.{drop-drop}
 use Rattle.std.proofs.lemmas.List.Elements.{All-contains, Contains-get_or}
-use Rattle.std.proofs.lemmas.List.Folds.{list_any_at}
 use Rattle.std.proofs.lemmas.List.Sorted.{Contains-permutation, IsPermutation-sym}
 use Rattle.std.proofs.lemmas.Map.Keys.{IsDistinct-IsPermutation}
-use Rattle.std.specs.List.{AllByRecursion, IsDistinct, list_any}
+use Rattle.std.specs.List.{AllByRecursion, IsDistinct}
 use Rattle.h3_index.specs.Cell.{Address, IsCell, number_of, resolution}
 use Rattle.h3_index.specs.Descendants.{IsAncestor}
 use Rattle.h3_index.specs.Laws.{NumbersTellCells}
@@ -14,14 +13,12 @@ use Rattle.h3_tree.specs.Laws.{CellsFormTrees}
 use Rattle.h3_set.specs.Compacted.{IsCompacted, IsTop}
 use Rattle.h3_set.specs.Compaction.{level_of, slots_in_use}
 use Rattle.h3_set.specs.Coverage.{finest, IsApart, IsCompactable, IsCovered}
-use Rattle.h3_set.specs.Refusals.{compaction_refusal, has_two_resolutions}
 use Rattle.h3_set.specs.Rounds.{InPart}
 use Rattle.h3_set.specs.declared.rounds.Compaction.{Compaction}
-use Rattle.h3_set.proofs.SearchLaws.{finest-one}
 use Rattle.h3_set.proofs.TestLaws.{dec_covered}
 use Rattle.h3_set.proofs.TopLaws.{compacted_from_tops}
 use Rattle.h3_set.proofs.PartLaws.{reached}
-use Rattle.h3_set.proofs.TreeLaws.{contains_cases, contains_head, contains_tail, dec_number}
+use Rattle.h3_set.proofs.TreeLaws.{contains_cases, contains_head, contains_tail, other_number, same_number}
 
 -- ---- the loop over the rounds
 
@@ -42,12 +39,6 @@ drop_later m n xs ys le e =
     rw (← more) (sym (drop-drop (n - m) m xs) ∙ ap (drop (n - m)) e ∙ drop-drop (n - m) m ys)
 
 -- ---- the order of the slots at the end
-
-same_number : (m n : ℕ) → m ≡ n → (m == n) ≡ true
-same_number m n e = grind (arith, nat_tests)
-
-other_number : (m n : ℕ) → m ≢ n → (m == n) ≡ false
-other_number m n e = grind (arith, nat_tests)
 
 flips : (a b : ℕ) → (a == b) ≡ (b == a)
 flips a b = grind (arith, nat_tests)
@@ -85,33 +76,6 @@ rises (x ∷ xs) p h (suc i) (suc j) d lt lj =
     rises xs p.1 (λ k l e lt' ll. h (suc k) (suc l) e (omega (arith, lt')) (omega (arith, ll))) i j d (omega (arith, lt)) (omega (arith, lj))
 
 -- ---- cells of one resolution
-
-one_level : (cells : List Address) (r : ℕ) → list_any (λ d. not (resolution d == r)) cells ≡ false → All (λ c. resolution c ≡ r) cells
-one_level cells r h k d lt =
-    elim (dec_number (resolution (get_or cells k d)) r) [
-      | inl e ↦ e
-      | inr e ↦ let found = list_any_at (λ a. not (resolution a == r)) cells k d lt (ap not (other_number _ _ e)) in cc
-    ]
-
--- cells that have not two resolutions have all the finest
-pub all_finest : (cells : List Address) → has_two_resolutions cells ≡ false → All (λ c. resolution c ≡ finest cells) cells
-all_finest [] h k d lt = absurd (omega (arith, lt))
-all_finest (c ∷ cells) h k d lt =
-    let others = one_level cells (resolution c) h in
-    let all : All (λ a. resolution a ≡ resolution c) (c ∷ cells) = all_cons c cells others in
-    let is = finest-one (c ∷ cells) (resolution c) all (omega arith) in
-    all k d lt ∙ sym is
-  where
-    all_cons : (c : Address) (cells : List Address) → All (λ a. resolution a ≡ resolution c) cells → All (λ a. resolution a ≡ resolution c) (c ∷ cells)
-    all_cons c cells h zero d lt = refl
-    all_cons c cells h (suc k) d lt = h k d (omega (arith, lt))
-
-two_refused : (cells : List Address) (b : Bool) → has_two_resolutions cells ≡ b → compaction_refusal cells ≡ None → b ≡ false
-two_refused cells false e h = refl
-two_refused cells true e h = let some = rw e at h in cc
-
-pub not_two : (cells : List Address) → compaction_refusal cells ≡ None → has_two_resolutions cells ≡ false
-not_two cells h = two_refused cells _ refl h
 
 module _ (tree : CellsFormTrees) where
   -- cells of one resolution cover themselves

@@ -1,7 +1,7 @@
 pub mod ApartLaws
 pub mod CompactLaws
-pub mod FrontLaws
 pub mod PartLaws
+pub mod RepeatLaws
 pub mod RoundLaws
 pub mod SearchLaws
 pub mod Seen

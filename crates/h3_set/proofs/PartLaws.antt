@@ -1,42 +1,20 @@
 -- Where the rounds begin, and how one leads to the next.
-use Rattle.std.proofs.Common.{ℕ, zero, suc, ◌≡◌, ◌≢◌, ◌+◌, ◌<◌, ◌≤◌, ◌↔◌, ◌==◌, List, [], ◌∷◌, length, All, AllPairs, Contains, Bool, true, false, ◌||◌, refl, arith, sym, ap, inl, inr, get_or}
-use Rattle.std.proofs.lemmas.Bool.Decides.{nat_tests}
+use Rattle.std.proofs.Common.{ℕ, ◌≡◌, ◌≢◌, ◌+◌, ◌<◌, ◌≤◌, ◌↔◌, List, length, All, AllPairs, Contains, false, arith, sym, ap, inl, inr, get_or}
 use Rattle.std.proofs.lemmas.List.Elements.{All-contains, Contains-get_or}
-use Rattle.std.proofs.lemmas.List.Folds.{list_any_at}
 use Rattle.h3_index.specs.Cell.{Address, IsCell, number_of, resolution}
 use Rattle.h3_index.specs.Descendants.{IsAncestor}
 use Rattle.h3_tree.specs.Laws.{CellsFormTrees}
 use Rattle.h3_set.specs.Coverage.{IsApart, IsCompactable}
 use Rattle.h3_set.specs.Laws.{RoundsReachTheTop}
-use Rattle.h3_set.specs.Refusals.{has_repeat, is_listed}
+use Rattle.h3_set.specs.Refusals.{has_repeat}
 use Rattle.h3_set.specs.Rounds.{InPart, InRound}
 use Rattle.h3_set.specs.Rounds.InPart.{coarser, merged}
 use Rattle.h3_set.specs.Rounds.InRound.{kept, made}
 use Rattle.h3_set.proofs.ApartLaws.{one_in_round}
+use Rattle.h3_set.proofs.RepeatLaws.{numbers_differ}
 use Rattle.h3_set.proofs.RoundLaws.{one_of, from_round, to_round}
 use Rattle.h3_set.proofs.TopLaws.{part_first, part_last, last_part}
 use Rattle.h3_set.proofs.TreeLaws.{dec_number}
-
--- ---- lists without repeats
-
-same_number : (m n : ℕ) → m ≡ n → (m == n) ≡ true
-same_number m n e = grind (arith, nat_tests)
-
-neither : (a b : Bool) → (a || b) ≡ false → (a ≡ false) × (b ≡ false)
-neither false b h = (refl, h)
-neither true b h = cc
-
--- a list without repeats has no number twice
-pub numbers_differ : (cells : List Address) → has_repeat cells ≡ false → AllPairs (λ a b. number_of a ≢ number_of b) cells
-numbers_differ [] h i j d lt lj e = omega (arith, lj)
-numbers_differ (c ∷ cells) h zero zero d lt lj e = omega (arith, lt)
-numbers_differ (c ∷ cells) h zero (suc j) d lt lj e =
-    let found : is_listed c cells ≡ true = list_any_at (λ a. number_of a == number_of c) cells j d (omega (arith, lj)) (same_number _ _ (sym e)) in
-    let not_found = (neither (is_listed c cells) (has_repeat cells) h).0 in
-    cc
-numbers_differ (c ∷ cells) h (suc i) zero d lt lj e = omega (arith, lt)
-numbers_differ (c ∷ cells) h (suc i) (suc j) d lt lj e =
-    numbers_differ cells (neither (is_listed c cells) (has_repeat cells) h).1 i j d (omega (arith, lt)) (omega (arith, lj)) e
 
 -- members of which none stands above another do not overlap
 pub apart_from_once : (cells : List Address) → AllPairs (λ a b. a ≢ b) cells → ((a b : Address) → Contains cells a → Contains cells b → IsAncestor a b → a ≡ b) → IsApart cells

@@ -1,27 +1,15 @@
 -- What linear searches find.
-use Rattle.std.proofs.Common.{ℕ, zero, suc, ◌≡◌, ◌≢◌, ◌<◌, ◌≤◌, ◌==◌, List, [], ◌∷◌, length, All, Contains, true, false, not, refl, arith, sym, ap, get_or, ◌∙◌}
-use Rattle.std.proofs.lemmas.Bool.Decides.{nat_tests}
+use Rattle.std.proofs.Common.{ℕ, zero, suc, ◌≡◌, ◌≢◌, ◌<◌, ◌≤◌, ◌==◌, List, [], ◌∷◌, length, All, true, false, not, refl, arith, sym, ap, get_or, ◌∙◌}
 use Rattle.std.proofs.lemmas.List.Folds.{list_any_at, list_any_none}
 use Rattle.std.specs.List.{AllWithin}
 use Rattle.h3_index.specs.Cell.{Address, number_of, resolution}
 use Rattle.h3_set.specs.Coverage.{finest}
 use Rattle.h3_set.specs.Refusals.{has_repeat, has_two_resolutions, is_listed}
-
-same_number : (m n : ℕ) → m ≡ n → (m == n) ≡ true
-same_number m n e = grind (arith, nat_tests)
-
-other_number : (m n : ℕ) → m ≢ n → (m == n) ≡ false
-other_number m n e = grind (arith, nat_tests)
-
-pub listed_at : (cells : List Address) (c : Address) (i : ℕ) (d : Address) → i < length cells → number_of (get_or cells i d) ≡ number_of c → true ≡ is_listed c cells
-listed_at cells c i d lt e = sym (list_any_at (λ a. number_of a == number_of c) cells i d lt (same_number _ _ e))
+use Rattle.h3_set.proofs.TreeLaws.{other_number, same_number}
 
 pub not_listed : (cells : List Address) (c : Address) → AllWithin (λ a. number_of a ≢ number_of c) cells 0 (length cells) → false ≡ is_listed c cells
 not_listed cells c h =
     sym (list_any_none (λ a. number_of a == number_of c) cells (λ k d lt. other_number _ _ (h k d (omega arith) lt)))
-
-pub not_member : (cells : List Address) (c : Address) → AllWithin (λ a. number_of a ≢ number_of c) cells 0 (length cells) → ¬ Contains cells c
-not_member cells c h m = h m.0 c (omega arith) m.1 (ap number_of m.2)
 
 pub two_resolutions_at : (cells : List Address) (i r : ℕ) (c d : Address) → i < length cells → 0 < length cells → resolution (get_or cells 0 c) ≡ r → resolution (get_or cells i d) ≢ r → has_two_resolutions cells ≡ true
 two_resolutions_at [] i r c d lt pos e n = absurd (omega (arith, lt))

@@ -5,12 +5,13 @@ ghost use Rattle.std.specs.Result.{result_err};
 ghost use Rattle.h3_index.specs.Cell.{Address, number_of};
 ghost use Rattle.h3_set.specs.Compaction.{level_of, slots_in_use};
 ghost use Rattle.h3_set.specs.Coverage.{finest, IsApart, IsCompactable};
-ghost use Rattle.h3_set.specs.Laws.{RoundsReachTheTop};
+ghost use Rattle.h3_set.specs.Laws.{RepeatsAreFound, RoundsReachTheTop};
 ghost use Rattle.h3_set.specs.Refusals.{compaction_refusal};
 ghost use Rattle.h3_set.specs.Rounds.{InPart, InRound};
 
 use crate::merge::merge;
 use crate::search::{common_resolution, has_repeat};
+use h3_index::laws::numbers_tell_cells;
 use h3_index::{Cell, H3Error};
 use h3_tree::laws::cells_form_trees;
 
@@ -42,13 +43,18 @@ impl Compaction {
         ensures compactable { IfOk result (λ c. IsCompactable (level_of c) cells.now) }
         ensures apart { IfOk result (λ c. IsApart (take (slots_in_use c) slots.new)) }
         ensures part { IfOk result (λ c. (x : Address) → Contains (take (slots_in_use c) slots.new) x ↔ InPart cells.now (level_of c) (level_of c) x) }
+
+        // At level 0, where no round is left, these are the top cells; a repeat is a cell listed twice.
+        ensures last { RoundsReachTheTop }
+        ensures repeats { RepeatsAreFound }
     {
+        cells_form_trees();
+        numbers_tell_cells();
         let level = common_resolution(cells)?;
         slots[..cells.len()].copy_from_slice(cells);
         if has_repeat(cells) {
             return Err(H3Error::DuplicateInput);
         }
-        cells_form_trees();
         Ok(Compaction {
             len: cells.len(),
             level,

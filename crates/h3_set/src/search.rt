@@ -9,7 +9,7 @@ ghost use Rattle.h3_set.specs.Refusals.{has_repeat, is_listed, resolution_refusa
 
 use h3_index::laws::numbers_tell_cells;
 use h3_index::{Cell, H3Error};
-use h3_tree::children;
+use h3_tree::children_at;
 use h3_tree::laws::cells_form_trees;
 
 /// Whether a list has a cell.
@@ -32,10 +32,7 @@ pub(crate) fn has_children(cells: &[Cell], cell: Cell) -> bool
     ensures { IsTrue result ↔ HasChildren (Contains cells.now) cell }
 {
     cells_form_trees();
-    let Ok(items) = children(cell, i32::from(cell.resolution() + 1)) else {
-        unreachable!();
-    };
-    for child in items {
+    for child in children_at(cell, cell.resolution() + 1) {
         if !contains(cells, child) {
             return false;
         }

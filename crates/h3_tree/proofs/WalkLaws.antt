@@ -131,9 +131,6 @@ pub record IsChildBelow (m : Address) (s place d rest : ℕ) : Type 0 where
   pub ok : is_pentagon m ≡ true → d ≢ 1
   pub below : IsCell (child m d) → (x : Address) → HasPosition m s x place → HasPosition (child m d) s x rest
 
-pub level_of_child : (m : Address) (d : ℕ) → length (m.digits ++ d ∷ []) ≡ length m.digits + 1
-level_of_child m d = length-append m.digits (d ∷ [])
-
 module _ (laws : DescendantsAreKnown) (m : Address) (s place center outer : ℕ) (v : IsCell m) (finer : length m.digits < s) (high : s ≤ 15) (c : center ≡ length (descendants (child m 0) s)) (o : outer ≡ 7 ^ (s - length m.digits - 1)) where
   pub below_center : place < center → IsCell (child m 0) → (x : Address) → HasPosition m s x place → HasPosition (child m 0) s x place
   below_center lt w x h =

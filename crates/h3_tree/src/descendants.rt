@@ -2,7 +2,7 @@
 
 ghost use Rattle.std.specs.Prelude.{◌≡◌, ◌+◌, ◌-◌, ◌*◌, ◌/◌, ◌^◌, ◌<◌, ◌≤◌, ◌↔◌, length, false, true, IfOk, unsigned_abs, AllPairs, Contains};
 ghost use Rattle.std.specs.Result.{result_err};
-ghost use Rattle.h3_index.specs.Cell.{Address, is_pentagon, number_of};
+ghost use Rattle.h3_index.specs.Cell.{Address, is_pentagon, IsCell, number_of};
 ghost use Rattle.h3_index.specs.Descendants.{center_at, descendants, IsDescendant};
 ghost use Rattle.h3_tree.specs.Children.{children_left};
 ghost use Rattle.h3_tree.specs.Refusals.{descent_refusal};
@@ -26,10 +26,11 @@ pub fn center_child(cell: Cell, res: i32) -> Result<Cell, H3Error>
     Ok(cell.center_at(r))
 }
 
-/// How many descendants a cell has at a resolution that is not coarser than its own.
+/// The number of descendants of a cell at a resolution from its own to 15.
 pub(crate) fn size_at(cell: Cell, r: u8) -> u64
     requires not_coarser { length cell.digits ≤ r }
     requires at_most_fifteen { r ≤ 15 }
+    ensures valid { IsCell cell }
     ensures count { result ≡ length (descendants cell r) }
     ensures hexagon { is_pentagon cell ≡ false → result ≡ 7 ^ (r - length cell.digits) }
     ensures pentagon { is_pentagon cell ≡ true
@@ -60,6 +61,19 @@ pub fn children_size(cell: Cell, res: i32) -> Result<u64, H3Error>
     Ok(size_at(cell, r))
 }
 
+/// The descendants of a cell at a resolution from its own to 15, in ascending order and each once:
+/// at the cell's own resolution the cell alone. `children` takes any resolution.
+pub fn children_at(cell: Cell, r: u8) -> Children
+    requires not_coarser { length cell.digits ≤ r }
+    requires at_most_fifteen { r ≤ 15 }
+    ensures list { children_left result ≡ descendants cell r }
+    ensures members { (x : Address) → Contains (children_left result) x ↔ IsDescendant cell r x }
+    ensures ascending { AllPairs (λ a b. number_of a < number_of b) (children_left result) }
+{
+    descendants_are_listed();
+    Children::below(cell, r)
+}
+
 /// The descendants of a cell at a resolution, as H3's `cellToChildren` gives them, in ascending order and each once:
 /// at the cell's own resolution the cell alone.
 ///
@@ -72,7 +86,6 @@ pub fn children(cell: Cell, res: i32) -> Result<Children, H3Error>
     ensures ascending { IfOk result (λ items.
         AllPairs (λ a b. number_of a < number_of b) (children_left items)) }
 {
-    descendants_are_listed();
     let r = resolution_from(cell.resolution(), res)?;
-    Ok(Children::below(cell, r))
+    Ok(children_at(cell, r))
 }

@@ -2,6 +2,7 @@
 
 ghost use Rattle.std.specs.Prelude.{◌≡◌, ◌≤◌, length};
 ghost use Rattle.std.specs.Iterator.{YieldsFirst, item_count};
+ghost use Rattle.h3_index.specs.Cell.{IsCell};
 ghost use Rattle.h3_index.specs.Descendants.{descendants};
 ghost use Rattle.h3_tree.specs.Children.{children_left};
 ghost use Rattle.h3_tree.specs.Following.{following};
@@ -45,7 +46,8 @@ impl Children {
     pub(crate) fn below(cell: Cell, r: u8) -> Children
         requires not_coarser { length cell.digits ≤ r }
         requires at_most_fifteen { r ≤ 15 }
-        ensures { children_left result ≡ descendants cell r }
+        ensures list { children_left result ≡ descendants cell r }
+        ensures valid { IsCell cell }
     {
         paths_are_chains();
         Children {

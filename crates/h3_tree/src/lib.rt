@@ -10,7 +10,7 @@ mod powers;
 mod resolutions;
 
 pub use ancestors::parent;
-pub use descendants::{center_child, children, children_size};
+pub use descendants::{center_child, children, children_at, children_size};
 pub use iter::Children;
 pub use positions::{child_at, child_pos};
 

@@ -1,10 +1,10 @@
-use Rattle.std.proofs.Common.{◌≡◌, ◌↔◌, take, Contains, false, arith, sym, ◌∙◌}
+use Rattle.std.proofs.Common.{◌≡◌, ◌↔◌, take, Contains, arith, ◌∙◌}
 use Rattle.h3_index.specs.Cell.{Address}
 use Rattle.h3_set.specs.Compaction.{level_of, slots_in_use}
 use Rattle.h3_set.specs.Coverage.{finest, IsCovered}
-use Rattle.h3_set.specs.Refusals.{has_two_resolutions}
 use Rattle.h3_set.specs.Rounds.{InPart}
-use Rattle.h3_set.proofs.CompactLaws.{all_finest, compacts, cover_themselves, drop_later, not_two}
+use Rattle.h3_set.proofs.CompactLaws.{compacts, cover_themselves, drop_later}
+use Rattle.h3_set.proofs.RepeatLaws.{repeats_found}
 use Rattle.h3_set.proofs.SetLaws.{member_top, one_compacted, top_member}
 use Rattle.h3_set.proofs.StreamLaws.{streams_once}
 use Rattle.h3_set.proofs.TestLaws.{computes}
@@ -54,9 +54,22 @@ returns-clause-only c = λ others h.
 
 pub returns-clause-covered : goal.returns-clause-covered
 returns-clause-covered c =
-    let two : has_two_resolutions c.args.cells.now ≡ false = not_two c.args.cells.now (sym c.in_ok-compaction.ensures.refused) in
-    cover_themselves c.cells_form_trees.ensures c.args.cells.now (finest c.args.cells.now) c.loop-slots.invariant.compactable.cells_valid (all_finest c.args.cells.now two)
+    cover_themselves c.cells_form_trees.ensures c.args.cells.now (finest c.args.cells.now) c.loop-slots.invariant.compactable.cells_valid
 
 pub returns-clause-stream : goal.returns-clause-stream
 returns-clause-stream c =
     streams_once c.cells_form_trees.ensures (finest c.args.cells.now) c.loop-slots.invariant.small (IsCovered c.args.cells.now (finest c.args.cells.now)) _ (returns-clause-compacted c)
+
+pub returns-in_err-compaction-clause-unique : goal.returns-in_err-compaction-clause-unique
+returns-in_err-compaction-clause-unique c = λ cells r a b le p q.
+    one_compacted c.cells_form_trees.ensures (IsCovered cells r) r a b (omega (arith, le)) p q
+
+pub returns-clause-unique : goal.returns-clause-unique
+returns-clause-unique c = λ cells r a b le p q.
+    one_compacted c.cells_form_trees.ensures (IsCovered cells r) r a b (omega (arith, le)) p q
+
+pub returns-in_err-compaction-clause-repeats : goal.returns-in_err-compaction-clause-repeats
+returns-in_err-compaction-clause-repeats c = repeats_found c.numbers_tell_cells.ensures
+
+pub returns-clause-repeats : goal.returns-clause-repeats
+returns-clause-repeats c = repeats_found c.numbers_tell_cells.ensures

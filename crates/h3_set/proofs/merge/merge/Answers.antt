@@ -1,10 +1,9 @@
 use Rattle.std.proofs.Common.{◌≡◌, ◌-◌, ◌<◌, ◌≤◌, arith, sym, ◌∙◌, ap, take, drop, true, false, Bool, IsTrue, length, ◌↔◌}
 use Rattle.std.proofs.lemmas.Bool.{false≢true}
-use Rattle.std.proofs.lemmas.List.{length-drop}
+use Rattle.std.proofs.lemmas.List.{take_all, take_rest}
 use Rattle.std.proofs.lemmas.List.Elements.{Contains-get_or}
 use Rattle.h3_index.specs.Descendants.{cut}
 use Rattle.h3_set.specs.Compacted.{parent_of}
-use Rattle.h3_set.proofs.FrontLaws.{take_all}
 use Rattle.h3_set.proofs.Seen.{IsRoundSoFar}
 use Rattle.h3_set.proofs.SeenLaws.{round_from, round_to}
 use Rattle.h3_set.proofs.TurnLaws.{turn_other, turn_merge, turn_keep, turn_skip}
@@ -25,7 +24,7 @@ loop-i-preserved c =
     let x = c.index-cells-i.result in
     let inv = c.loop-i.invariant in
     let lt : c.loop-i.i < length c.loop-i.cells = omega (arith, inv.size) in
-    let tail : take (length c.loop-i.cells - c.loop-i.i) (drop c.loop-i.i c.loop-i.cells) ≡ drop c.loop-i.i c.loop-i.cells = take_all (drop c.loop-i.i c.loop-i.cells) (length c.loop-i.cells - c.loop-i.i) (omega (arith, length-drop c.loop-i.i c.loop-i.cells)) in
+    let tail : take (length c.loop-i.cells - c.loop-i.i) (drop c.loop-i.i c.loop-i.cells) ≡ drop c.loop-i.i c.loop-i.cells = take_rest c.loop-i.cells c.loop-i.i in
     elim c.if-resolution-level.branch [
       | then-resolution-level w ↦ rw (w.cells-is, w.written-is) (turn_other tree all c.args.level c.loop-i.i c.loop-i.written cells x c.resolution.ensures.valid inv lt c.index-cells-i.is c.requires.apart (λ e. w.if-resolution-level.true (c.resolution.ensures.number ∙ e)))
       | else-resolution-level+then-not-contains w ↦
@@ -53,4 +52,4 @@ returns-clause-members c =
 pub returns-clause-valid : goal.returns-clause-valid
 returns-clause-valid c =
     let last : length c.args.cells.now ≤ c.loop-i.i = omega (arith, c.loop-i.invariant.size) in
-    λ k d lt. c.loop-i.invariant.valid _ (rw (take_all c.args.cells.now c.loop-i.i last) (Contains-get_or c.args.cells.now k d lt))
+    λ k d lt. c.loop-i.invariant.valid _ (rw (take_all c.loop-i.i c.args.cells.now last) (Contains-get_or c.args.cells.now k d lt))
