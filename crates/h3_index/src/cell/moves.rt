@@ -9,7 +9,7 @@ use super::Cell;
 
 impl Cell {
     /// The cell of resolution 0 in a base cell.
-    pub(crate) fn in_base(base: u8) -> Cell
+    pub fn in_base(base: u8) -> Cell
         requires { base < 122 }
         ensures is { result ≡ base_cell base }
         ensures valid { IsCell result }
