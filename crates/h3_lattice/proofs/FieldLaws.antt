@@ -6,10 +6,11 @@ use Rattle.std.proofs.Math.ListN.{drop_of_length-le}
 use Rattle.std.proofs.lemmas.List.{take_all}
 use Rattle.std.proofs.Math.Seq.{drop-cons, take-suc-set}
 use Rattle.csv.specs.Records.{field_at}
-use Rattle.h3_lattice.specs.Fields.{Record, all_numbers, is_digit, number_from, number_in, numbers_in, same_fields, with_number}
+use Rattle.h3_lattice.specs.Fields.{Record, all_numbers, number_from, number_in, numbers_in, same_fields, with_number}
+use Rattle.std.specs.Char.{is_ascii_digit}
 
 -- one more digit
-pub number-next : (f : List ℕ) (n i : ℕ) → i < length f → number_from n (drop i f) ≡ (if is_digit (get_or f i 0) then number_from (n * 10 + (get_or f i 0 - 48)) (drop (i + 1) f) else None)
+pub number-next : (f : List ℕ) (n i : ℕ) → i < length f → number_from n (drop i f) ≡ (if is_ascii_digit (get_or f i 0) then number_from (n * 10 + (get_or f i 0 - 48)) (drop (i + 1) f) else None)
 unfolding number_from
 number-next f n i h = rw (drop-cons f i 0 h, add-one) refl
 
@@ -50,7 +51,7 @@ pub fields-next : (r t : Record) (i : ℕ) (f g : List ℕ) → field_at r i ≡
 unfolding same_fields
 fields-next r t i f g e k = rw (field-drop r i f e, field-drop t i g k) refl
 
--- a field of 1 to 3 bytes spells what its digits do
+-- the number in a field of 1 to 3 bytes is that of its digits
 pub number_of_short : (f : List ℕ) → 0 < length f → length f ≤ 3 → number_in f ≡ number_from 0 f
 number_of_short f h k =
     let e : nat_lt 0 (length f) && nat_le (length f) 3 ≡ true = grind (arith, nat_tests) in rw e refl
@@ -88,9 +89,6 @@ numbers-all r ns i h k = rw (drop_of_length-le r h) (ap (λ (x : List ℕ). Some
 -- a record of the right width
 pub numbers-of : (r : Record) (n : ℕ) → length r ≡ n → numbers_in n r ≡ all_numbers r
 numbers-of r n h = let e : (length r == n) ≡ true = grind (arith, nat_tests) in rw e refl
-
-pub numbers-width : (r : Record) (n : ℕ) → (length r ≡ n → ⊥) → None ≡ numbers_in n r
-numbers-width r n h = let e : (length r == n) ≡ false = grind (arith, nat_tests) in rw e refl
 
 pub numbers-refused : (r : Record) (ns : List ℕ) (i n : ℕ) (f : List ℕ) → length r ≡ n → all_numbers r ≡ option_map (λ rest. take i ns ++ rest) (all_numbers (drop i r))
     → field_at r i ≡ Some f → number_in f ≡ None → numbers_in n r ≡ None

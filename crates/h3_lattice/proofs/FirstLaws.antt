@@ -2,15 +2,16 @@
 use Rattle.std.proofs.Common.{◌≡◌, ◌<◌, ◌≤◌, ◌+◌, ◌-◌, ℕ, suc, Bool, true, false, if◌then◌else◌, Option, Some, None, List, [], refl, arith, ◌&&◌, drop, get_or, length, add-one}
 use Rattle.std.specs.Prelude.{is_some}
 use Rattle.std.proofs.Math.Seq.{drop-cons}
+use Rattle.std.specs.Option.{option_or}
 use Rattle.h3_lattice.specs.declared.direction.Direction.{Direction}
 use Rattle.h3_lattice.specs.declared.error.TableError.{TableError}
 use Rattle.h3_lattice.specs.Direction.{directions}
 use Rattle.h3_lattice.specs.Links.{is_hexagon_base}
-use Rattle.h3_lattice.specs.Checks.{each_of, from_base, in_directions, or_next}
+use Rattle.h3_lattice.specs.Checks.{each_of, from_base, in_directions}
 
 -- the first fault from b on: that at b, or the first from the next on
 pub from-next : (f : ℕ → Direction → Option TableError) (b : ℕ) → b < 122
-    → from_base f b (122 - b) ≡ or_next (if is_hexagon_base b then in_directions (f b) directions else None) (from_base f (b + 1) (122 - (b + 1)))
+    → from_base f b (122 - b) ≡ option_or (if is_hexagon_base b then in_directions (f b) directions else None) (from_base f (b + 1) (122 - (b + 1)))
 unfolding from_base
 from-next f b h =
     let e : 122 - b ≡ suc (122 - (b + 1)) = omega arith in rw e refl
@@ -19,11 +20,11 @@ pub from-none : (f : ℕ → Direction → Option TableError) (b : ℕ) → 122 
 unfolding from_base
 from-none f b h = let e : 122 - b ≡ 0 = omega arith in rw e refl
 
-pub some-next : (o n : Option TableError) → is_some o ≡ true → or_next o n ≡ o
+pub some-next : (o n : Option TableError) → is_some o ≡ true → option_or o n ≡ o
 some-next None n e = cc e
 some-next (Some x) n e = refl
 
-pub none-next : (o n : Option TableError) → is_some o ≡ false → or_next o n ≡ n
+pub none-next : (o n : Option TableError) → is_some o ≡ false → option_or o n ≡ n
 none-next None n e = refl
 none-next (Some x) n e = cc e
 

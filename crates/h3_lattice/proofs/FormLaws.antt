@@ -1,4 +1,4 @@
--- The files of the form, and those of which no fault is told.
+-- The files of the form, and those without an error.
 use Rattle.std.proofs.Common.{◌≡◌, ◌<◌, ◌≤◌, ◌+◌, ℕ, Bool, true, false, Option, Some, None, List, [], ◌∷◌, ◌++◌, length, refl, arith, sym, ◌∙◌, subst, ◌&&◌, slice_index}
 use Rattle.std.specs.Prelude.{if◌then◌else◌, ◌==◌, is_some, unwrap_or, All, bytes_eq, nat_lt}
 use Rattle.std.specs.List.{count_by}
@@ -6,13 +6,14 @@ use Rattle.std.proofs.lemmas.List.Elements.{All-cons, All-head, All-nil, All-tai
 use Rattle.std.proofs.lemmas.List.Sums.{sum_by-cons}
 use Rattle.std.proofs.lemmas.Slice.Eq.{bytes_eq-Decides}
 use Rattle.std.proofs.lemmas.Bool.Decides.{nat_tests}
+use Rattle.std.specs.Option.{option_or}
 use Rattle.h3_lattice.specs.declared.direction.Direction.{Direction}
 use Rattle.h3_lattice.specs.declared.error.TableError.TheVariants as fault
 use Rattle.h3_lattice.specs.Direction.{digit_of}
 use Rattle.h3_lattice.specs.Fields.{Record, header, numbers_in, same_fields}
 use Rattle.h3_lattice.specs.Links.{IsHexagonBase, IsLink, IsSound, is_hexagon_base}
-use Rattle.h3_lattice.specs.Checks.{at_places, fault_of_links, or_next}
-use Rattle.h3_lattice.specs.Records.{body_of, fault_in, fault_of, fault_of_records, first_fault, in_range, link_in, or_link, spelled_link}
+use Rattle.h3_lattice.specs.Checks.{at_places, fault_of_links}
+use Rattle.h3_lattice.specs.Records.{body_of, fault_in, fault_of, fault_of_records, first_fault, in_range, link_in, spelled_link}
 use Rattle.h3_lattice.specs.Table.{IsLinkRecord, IsOfForm, SoundFilesAreAccepted, links_of, missing_of, names, table_fault}
 use Rattle.h3_lattice.proofs.SlotLaws.{free-slot, in_range-true, spelled_link-append}
 use Rattle.h3_lattice.proofs.SoundLaws.{and_both, both, checks_mean_sound, direction_below, from_base-none, hexagon_of, is_hexagon_of, no_fault, no_fault_at, nones, nth_direction, unless-none}
@@ -66,8 +67,8 @@ count-cons : (b d : ℕ) (r : Record) (body : List Record) → count b d (r ∷ 
 unfolding count
 count-cons b d r body = sum_by-cons _ r body ∙ cond_is (names b d r) (count_by (names b d) body)
 
--- a link is spelled where some record names the place
-one_or_more : (o p : Option (ℕ × ℕ)) (n : ℕ) → (is_some p ≡ true → 1 ≤ n) → is_some (or_link o p) ≡ true → 1 ≤ one_if (is_some o) + n
+-- there is a link where some record names the place
+one_or_more : (o p : Option (ℕ × ℕ)) (n : ℕ) → (is_some p ≡ true → 1 ≤ n) → is_some (option_or o p) ≡ true → 1 ≤ one_if (is_some o) + n
 unfolding one_if
 one_or_more None p n h e = let k = h e in omega arith
 one_or_more (Some x) p n h e = omega arith
@@ -78,7 +79,7 @@ spelled-counts b d [] e = cc e
 spelled-counts b d (r ∷ body) e =
     rw (count-cons b d r body) (one_or_more (link_in b d (numbers_in 4 r)) (spelled_link b d body) (count b d body) (λ k. spelled-counts b d body k) e)
 
-some_of_one : (o p : Option (ℕ × ℕ)) (n : ℕ) → (1 ≤ n → is_some p ≡ true) → 1 ≤ one_if (is_some o) + n → is_some (or_link o p) ≡ true
+some_of_one : (o p : Option (ℕ × ℕ)) (n : ℕ) → (1 ≤ n → is_some p ≡ true) → 1 ≤ one_if (is_some o) + n → is_some (option_or o p) ≡ true
 unfolding one_if
 some_of_one None p n h e = h (omega arith)
 some_of_one (Some x) p n h e = refl
@@ -99,14 +100,14 @@ link_in-named b d ns false q x y e = cc e
 
 -- at most one record names a place, where one more without a fault comes after others
 more-room : (b d : ℕ) (before : Option (ℕ × ℕ)) (here : Option (ℕ × ℕ)) (n : ℕ) → (is_some here ≡ true → before ≡ None)
-    → n + one_if (is_some (or_link before here)) ≤ 1 → one_if (is_some here) + n + one_if (is_some before) ≤ 1
+    → n + one_if (is_some (option_or before here)) ≤ 1 → one_if (is_some here) + n + one_if (is_some before) ≤ 1
 unfolding one_if
 more-room b d None None n free h = omega arith
 more-room b d None (Some x) n free h = omega arith
 more-room b d (Some y) None n free h = omega arith
 more-room b d (Some y) (Some x) n free h = cc (free refl)
 
-less-room : (before here : Option (ℕ × ℕ)) (n : ℕ) → one_if (is_some here) + n + one_if (is_some before) ≤ 1 → n + one_if (is_some (or_link before here)) ≤ 1
+less-room : (before here : Option (ℕ × ℕ)) (n : ℕ) → one_if (is_some here) + n + one_if (is_some before) ≤ 1 → n + one_if (is_some (option_or before here)) ≤ 1
 unfolding one_if
 less-room None None n h = omega arith
 less-room None (Some x) n h = omega arith
@@ -194,7 +195,7 @@ first_fault-none front before (r ∷ rest) each most =
     (λ b d h low high. rw (spelled_link-append b d before r)
     (less-room (spelled_link b d before) (link_in b d (numbers_in 4 r)) (count b d rest) (rw (count-cons b d r rest) at (most b d h low high)))))
 
--- ---- links that good records spell
+-- ---- the links of good records
 
 link_within : (b d : ℕ) (r : Record) → IsLinkRecord r → IsLink (unwrap_or (link_in b d (numbers_in 4 r)) (0, 0))
 link_within b d r k = let range = in_range-true k.numbers k.ranges in
@@ -204,15 +205,15 @@ link_within b d r k = let range = in_range-true k.numbers k.ranges in
     within_if true h = h
     within_if false h = (omega arith, omega arith)
 
-or_link-within : (o p : Option (ℕ × ℕ)) → IsLink (unwrap_or o (0, 0)) → IsLink (unwrap_or p (0, 0)) → IsLink (unwrap_or (or_link o p) (0, 0))
-or_link-within None p h k = k
-or_link-within (Some x) p h k = h
+option_or-within : (o p : Option (ℕ × ℕ)) → IsLink (unwrap_or o (0, 0)) → IsLink (unwrap_or p (0, 0)) → IsLink (unwrap_or (option_or o p) (0, 0))
+option_or-within None p h k = k
+option_or-within (Some x) p h k = h
 
 spelled_link-within : (b d : ℕ) (body : List Record) → All IsLinkRecord body → IsLink (unwrap_or (spelled_link b d body) (0, 0))
 unfolding spelled_link
 spelled_link-within b d [] each = (omega arith, omega arith)
 spelled_link-within b d (r ∷ body) each =
-    or_link-within (link_in b d (numbers_in 4 r)) (spelled_link b d body) (link_within b d r (All-head IsLinkRecord r body each)) (spelled_link-within b d body (All-tail IsLinkRecord r body each))
+    option_or-within (link_in b d (numbers_in 4 r)) (spelled_link b d body) (link_within b d r (All-head IsLinkRecord r body each)) (spelled_link-within b d body (All-tail IsLinkRecord r body each))
 
 -- ---- files
 
@@ -224,7 +225,7 @@ one_of : (b d : ℕ) (body : List Record) (more : ℕ) → 1 ≤ count b d body 
 unfolding count
 one_of b d body more h k = omega arith
 
-form_of : (records : List Record) → fault_of_records records ≡ None → at_places (missing_of records) ≡ None → IsOfForm records
+pub form_of : (records : List Record) → fault_of_records records ≡ None → at_places (missing_of records) ≡ None → IsOfForm records
 unfolding first_fault
 form_of [] e full = cc e
 form_of (front ∷ body) e full =
@@ -255,7 +256,7 @@ begin_with_header : (body : List Record) → first_fault (header ∷ []) body �
 unfolding first_fault
 begin_with_header body e = nones (fault_of [] header) (first_fault (header ∷ []) body) (let same = same_fields-self header in rw same refl) e
 
-no_fault_of : (records : List Record) → IsOfForm records → fault_of_records records ≡ None
+pub no_fault_of : (records : List Record) → IsOfForm records → fault_of_records records ≡ None
 no_fault_of records f =
     subst (λ records. fault_of_records records ≡ None) (sym f.front)
     (begin_with_header (body_of records) (first_fault-none header [] (body_of records) f.each (at_most_once records f)))
@@ -264,7 +265,7 @@ some_of : (records : List Record) → IsOfForm records → (b : ℕ) (d : Direct
 unfolding count
 some_of records f b d h = let one = f.once b d h in counts-spelled b (digit_of d) (body_of records) (omega arith)
 
-none_missing : (records : List Record) → IsOfForm records → at_places (missing_of records) ≡ None
+pub none_missing : (records : List Record) → IsOfForm records → at_places (missing_of records) ≡ None
 none_missing records f =
     from_base-none (missing_of records) 0 122
     (λ b d h. unless-none (is_some (spelled_link b (digit_of d) (body_of records))) fault.Missing (some_of records f b d h))
@@ -277,12 +278,12 @@ sound_files_are_accepted records = (accepted, refused_not)
 
     accepted : table_fault records ≡ None → IsOfForm records × IsSound (links_of records)
     accepted e =
-        let one = both (fault_of_records records) (or_next (at_places (missing_of records)) (fault_of_links (links_of records))) e in
+        let one = both (fault_of_records records) (option_or (at_places (missing_of records)) (fault_of_links (links_of records))) e in
         let two = both (at_places (missing_of records)) (fault_of_links (links_of records)) one.1 in
         let form = form_of records one.0 two.0 in
         (form, (checks_mean_sound (links_of records) (within form.each)).0 two.1)
 
     refused_not : IsOfForm records × IsSound (links_of records) → table_fault records ≡ None
     refused_not h =
-        nones (fault_of_records records) (or_next (at_places (missing_of records)) (fault_of_links (links_of records))) (no_fault_of records h.0)
+        nones (fault_of_records records) (option_or (at_places (missing_of records)) (fault_of_links (links_of records))) (no_fault_of records h.0)
         (nones (at_places (missing_of records)) (fault_of_links (links_of records)) (none_missing records h.0) ((checks_mean_sound (links_of records) (within h.0.each)).1 h.1))

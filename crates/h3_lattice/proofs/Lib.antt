@@ -2,9 +2,11 @@ pub mod ByteLaws
 pub mod CarryLaws
 pub mod DivisionLaws
 pub mod ExpansionLaws
+pub mod FaultLaws
 pub mod FieldLaws
 pub mod FirstLaws
 pub mod FormLaws
+pub mod KindLaws
 pub mod LinearLaws
 pub mod ReadingLaws
 pub mod RecordLaws

@@ -24,10 +24,6 @@ point_out x y e =
 -- with these `omega` proves linear equations of Eisenstein integers from linear ones
 pub ruleset points = (point_in, point_out, same_in, same_out, sum_is_lem, neg_is, product_is, le_out, at_most_in)
 
-pub product-sum : (c : Class) (x y : Eisenstein) → product_of (multiplier c) (sum_of x y) ≡ sum_of (product_of (multiplier c) x) (product_of (multiplier c) y)
-product-sum Three x y = omega (arith, points)
-product-sum Two x y = omega (arith, points)
-
 -- one more turn is one more factor 1 + w
 turn_times_unit : (d : Direction) (p : Eisenstein) → product_of (eisenstein (pos 1) (pos 1)) (product_of p (unit_of d)) ≡ product_of (product_of (eisenstein (pos 1) (pos 1)) p) (unit_of d)
 turn_times_unit K p = omega (arith, points)

@@ -11,7 +11,7 @@ use Rattle.h3_lattice.specs.Records.{body_of, fault_of, fault_of_records, first_
 use Rattle.h3_lattice.specs.Slots.{Holds}
 use Rattle.h3_lattice.proofs.RecordLaws.{all-front, none-after}
 
--- a front of the file was read: its header and these records, none faulty, and the slots hold what they spell
+-- a front of the file was read: its header and these records, none faulty, and the slots hold their links
 pub record IsRead (text : List ℕ) (number : ℕ) (slots : List (Option (ℕ × ℕ))) (s : State) (y : List ℕ) : Type 0 where
   pub front : Record
   pub body : List Record

@@ -26,9 +26,6 @@ next-shorter cfg (d ∷ rest) s fields field c q e =
     (λ (k : next_record cfg (step cfg s c).0 (fields_after (step cfg s c).1 fields field) (field_after (step cfg s c).1 c field) (d ∷ rest) ≡ Some q).
     let h = next-shorter cfg rest (step cfg s c).0 (fields_after (step cfg s c).1 fields field) (field_after (step cfg s c).1 c field) d q k in omega arith) e
 
-none_is : (o : Option Read) (q : Read) → o ≡ None → o ≡ Some q → ⊥
-none_is o q a b = cc
-
 -- what the end of a text leaves
 left_at_end : (b : Bool) (r q : Read) → (if b then Some r else None) ≡ Some q → r ≡ q
 left_at_end true r q e = cc

@@ -1,28 +1,29 @@
--- The slots hold what the records spell
+-- The slots hold the links of the records
 use Rattle.std.proofs.Common.{◌≡◌, ◌≢◌, ◌<◌, ℕ, Bool, true, false, not, Option, Some, None, List, [], ◌∷◌, ◌++◌, length, replicate, refl, arith, sym, ◌∙◌, slice_index_or, slice_index, slice_set}
 use Rattle.std.proofs.lemmas.List.{length-set, get_or-set_same, get_or-set_other, get_or-replicate, length-replicate}
 use Rattle.std.proofs.lemmas.Bool.Decides.{nat_tests}
 use Rattle.std.specs.Prelude.{is_some, if◌then◌else◌, ◌==◌, ◌&&◌}
+use Rattle.std.specs.Option.{option_or}
 use Rattle.h3_lattice.specs.declared.error.TableError.TheVariants as fault
 use Rattle.h3_lattice.specs.Fields.{Record, numbers_in}
 use Rattle.h3_lattice.specs.Links.{is_hexagon_base, place_of}
-use Rattle.h3_lattice.specs.Records.{fault_in, in_range, link_in, or_link, spelled_link}
+use Rattle.h3_lattice.specs.Records.{fault_in, in_range, link_in, spelled_link}
 use Rattle.h3_lattice.specs.Slots.{Holds, IsInRange}
 use Rattle.h3_lattice.proofs.SoundLaws.{eqb-eq}
 
-or_none : (o : Option (ℕ × ℕ)) → or_link o None ≡ o
+or_none : (o : Option (ℕ × ℕ)) → option_or o None ≡ o
 or_none None = refl
 or_none (Some p) = refl
 
 eqb-ne : (m n : ℕ) → (m == n) ≡ false → m ≢ n
 eqb-ne m n e = grind (arith, nat_tests)
 
-pub spelled_link-append : (b d : ℕ) (body : List Record) (r : Record) → spelled_link b d (body ++ (r ∷ [])) ≡ or_link (spelled_link b d body) (link_in b d (numbers_in 4 r))
+pub spelled_link-append : (b d : ℕ) (body : List Record) (r : Record) → spelled_link b d (body ++ (r ∷ [])) ≡ option_or (spelled_link b d body) (link_in b d (numbers_in 4 r))
 unfolding spelled_link
 spelled_link-append b d [] r = or_none (link_in b d (numbers_in 4 r))
 spelled_link-append b d (x ∷ body) r = rw (spelled_link-append b d body r) (or_assoc (link_in b d (numbers_in 4 x)) (spelled_link b d body) (link_in b d (numbers_in 4 r)))
   where
-    or_assoc : (o p q : Option (ℕ × ℕ)) → or_link o (or_link p q) ≡ or_link (or_link o p) q
+    or_assoc : (o p q : Option (ℕ × ℕ)) → option_or o (option_or p q) ≡ option_or (option_or o p) q
     or_assoc None p q = refl
     or_assoc (Some x) p q = refl
 
@@ -30,11 +31,7 @@ pub spelled_link-none : (b d : ℕ) → spelled_link b d [] ≡ None
 unfolding spelled_link
 spelled_link-none b d = refl
 
-none_of : (o : Option (ℕ × ℕ)) → is_some o ≡ false → o ≡ None
-none_of None e = refl
-none_of (Some p) e = cc e
-
--- what the slots know is what the records spell
+-- the links in the slots are those of the records
 same_if : (known other : ℕ → ℕ → Option (ℕ × ℕ)) (row : ℕ) (ns : List ℕ) (b : Bool) → (b ≡ true → known (slice_index ns 0) (slice_index ns 1) ≡ other (slice_index ns 0) (slice_index ns 1))
     → (if not b then Some (fault.Range row) else if is_some (known (slice_index ns 0) (slice_index ns 1)) then Some (fault.Repeated row) else None)
     ≡ (if not b then Some (fault.Range row) else if is_some (other (slice_index ns 0) (slice_index ns 1)) then Some (fault.Repeated row) else None)
@@ -75,7 +72,7 @@ free-slot row known ns e = range_free row (known (slice_index ns 0) (slice_index
 held_at : (slots : List (Option (ℕ × ℕ))) (b d : ℕ) (ns : List ℕ) (o : Option (ℕ × ℕ)) → length slots ≡ 732 → IsInRange ns → b < 122 → 0 < d → d < 7
     → slice_index_or slots (place_of b d) None ≡ o → slice_index_or slots (place_of (slice_index ns 0) (slice_index ns 1)) None ≡ None
     → (p q : Bool) → p ≡ (slice_index ns 0 == b) → q ≡ (slice_index ns 1 == d)
-    → slice_index_or (slice_set slots (place_of (slice_index ns 0) (slice_index ns 1)) (Some (slice_index ns 2, slice_index ns 3))) (place_of b d) None ≡ or_link o (if p && q then Some (slice_index ns 2, slice_index ns 3) else None)
+    → slice_index_or (slice_set slots (place_of (slice_index ns 0) (slice_index ns 1)) (Some (slice_index ns 2, slice_index ns 3))) (place_of b d) None ≡ option_or o (if p && q then Some (slice_index ns 2, slice_index ns 3) else None)
 held_at slots b d ns o len r hb hd kd e free true true x y =
     let same0 : slice_index ns 0 ≡ b = eqb-eq _ _ (sym x) in
     let same1 : slice_index ns 1 ≡ d = eqb-eq _ _ (sym y) in

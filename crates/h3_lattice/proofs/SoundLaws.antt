@@ -6,6 +6,7 @@ use Rattle.std.specs.Prelude.{All}
 use Rattle.std.proofs.lemmas.List.Elements.{All-get_or}
 use Rattle.std.proofs.lemmas.Bool.{cases_eq, not-true}
 use Rattle.std.proofs.lemmas.Bool.Decides.{nat_tests}
+use Rattle.std.specs.Option.{option_or}
 use Rattle.h3_lattice.specs.declared.direction.Direction.{Direction}
 use Rattle.h3_lattice.specs.declared.direction.Direction.TheVariants.{K, J, JK, I, IK, IJ}
 use Rattle.h3_lattice.specs.declared.error.TableError.{TableError}
@@ -14,7 +15,8 @@ use Rattle.h3_lattice.specs.declared.checks.Check.TheVariants as check
 use Rattle.h3_index.specs.Cell.{is_pentagon_base}
 use Rattle.h3_lattice.specs.Direction.{digit_of, directions, turned_once}
 use Rattle.h3_lattice.specs.Links.{IsHexagonBase, IsLink, IsSound, Links, is_hexagon_base, links_in, place_of}
-use Rattle.h3_lattice.specs.Checks.{at_places, closes, each_of, fault_at, fault_of_links, from_base, in_directions, is_apart, or_next, parts, reverses, same_link, unless}
+use Rattle.h3_lattice.specs.Checks.{at_places, closes, each_of, fault_at, fault_of_links, from_base, in_directions, is_apart, parts, reverses, same_link, unless}
+use Rattle.h3_lattice.specs.First.{IsApart, IsClosed, IsReversed}
 use Rattle.h3_lattice.specs.Table.{ChecksMeanSound}
 
 -- ---- the digits of directions
@@ -35,7 +37,7 @@ digit_of-lt I = omega arith
 digit_of-lt IK = omega arith
 digit_of-lt IJ = omega arith
 
-direction-at : (d : Direction) → get_or directions (digit_of d - 1) K ≡ d
+pub direction-at : (d : Direction) → get_or directions (digit_of d - 1) K ≡ d
 direction-at K = refl
 direction-at J = refl
 direction-at JK = refl
@@ -43,9 +45,9 @@ direction-at I = refl
 direction-at IK = refl
 direction-at IJ = refl
 
--- ---- where no fault is told
+-- ---- where there is no error
 
-pub both : (a b : Option TableError) → or_next a b ≡ None → (a ≡ None) × (b ≡ None)
+pub both : (a b : Option TableError) → option_or a b ≡ None → (a ≡ None) × (b ≡ None)
 both None b e = (refl, e)
 both (Some x) b e = cc e
 
@@ -59,7 +61,7 @@ in_directions-at f [] i e h = absurd (omega arith)
 in_directions-at f (d ∷ ds) zero e h = (both (f d) (in_directions f ds) e).0
 in_directions-at f (d ∷ ds) (suc i) e h = in_directions-at f ds i (both (f d) (in_directions f ds) e).1 (omega arith)
 
-in_each : (f : Direction → Option TableError) (d : Direction) → in_directions f directions ≡ None → f d ≡ None
+pub in_each : (f : Direction → Option TableError) (d : Direction) → in_directions f directions ≡ None → f d ≡ None
 in_each f d e =
     let small = digit_of-lt d in
     subst (λ d. f d ≡ None) (direction-at d) (in_directions-at f directions (digit_of d - 1) e (omega arith))
@@ -177,20 +179,38 @@ links_within links long all b d h =
     let below : b < 122 = h.0 in
     All-get_or IsLink links (place_of b (digit_of d)) (0, 0) (omega arith) all
 
+-- ---- what each test says
+
+pub apart-is : (link : Links) (b : ℕ) (d : Direction) → is_apart link b d ≡ true → IsApart link b d
+apart-is link b d t =
+    let two = and_both (not ((link b d).0 == b)) (each_of (parts link b d) directions) t in
+    record {
+      away = λ same. not_self (link b d).0 b two.0 same;
+      apart = λ e same. one_direction link b d e (each_at (parts link b d) e two.1) same;
+    }
+
+pub reversed-is : (link : Links) (b : ℕ) (d : Direction) → reverses link b d ≡ true → IsReversed link b d
+reversed-is link b d t k = links_same _ _ (or_true (is_hexagon_base (link b d).0) _ t (is_hexagon_of (link b d).0 k))
+
+pub closed-is : (link : Links) (b : ℕ) (d : Direction) → closes link b d ≡ true → IsClosed link b d
+closed-is link b d t k l =
+    links_same _ _ (or_true (is_hexagon_base (link b (turned_once d)).0) _
+    (or_true (is_hexagon_base (link b d).0) _ (or_assoc (not (is_hexagon_base (link b d).0)) _ _ ∙ t) (is_hexagon_of (link b d).0 k)) (is_hexagon_of (link b (turned_once d)).0 l))
+
 -- what the three tests say at every place
 pub sound_of : (link : Links) → ((b : ℕ) (d : Direction) → IsHexagonBase b → IsLink (link b d)) → fault_of_links link ≡ None → IsSound link
 sound_of link within none =
-    let one = both (at_places (fault_at check.Neighbours link)) (or_next (at_places (fault_at check.Reversal link)) (at_places (fault_at check.Corner link))) none in
+    let one = both (at_places (fault_at check.Neighbours link)) (option_or (at_places (fault_at check.Reversal link)) (at_places (fault_at check.Corner link))) none in
     let two = both (at_places (fault_at check.Reversal link)) (at_places (fault_at check.Corner link)) one.1 in
     let neighbours : (b : ℕ) (d : Direction) → IsHexagonBase b → is_apart link b d ≡ true = λ b d h. no_fault (is_apart link b d) (fault.Neighbours b) (no_fault_at (fault_at check.Neighbours link) b d one.0 (is_hexagon_of b h)) in
     let reversal : (b : ℕ) (d : Direction) → IsHexagonBase b → reverses link b d ≡ true = λ b d h. no_fault (reverses link b d) (fault.Reversal b d) (no_fault_at (fault_at check.Reversal link) b d two.0 (is_hexagon_of b h)) in
     let corner : (b : ℕ) (d : Direction) → IsHexagonBase b → closes link b d ≡ true = λ b d h. no_fault (closes link b d) (fault.Corner b d) (no_fault_at (fault_at check.Corner link) b d two.1 (is_hexagon_of b h)) in
     record {
       within = within;
-      apart = λ b d e h same. one_direction link b d e (each_at (parts link b d) e (and_both (not ((link b d).0 == b)) (each_of (parts link b d) directions) (neighbours b d h)).1) same;
-      away = λ b d h same. not_self (link b d).0 b (and_both (not ((link b d).0 == b)) (each_of (parts link b d) directions) (neighbours b d h)).0 same;
-      reversal = λ b d h k. links_same _ _ (or_true (is_hexagon_base (link b d).0) _ (reversal b d h) (is_hexagon_of (link b d).0 k));
-      corner = λ b d h k l. links_same _ _ (or_true (is_hexagon_base (link b (turned_once d)).0) _ (or_true (is_hexagon_base (link b d).0) _ (or_assoc (not (is_hexagon_base (link b d).0)) _ _ ∙ corner b d h) (is_hexagon_of (link b d).0 k)) (is_hexagon_of (link b (turned_once d)).0 l));
+      apart = λ b d e h same. (apart-is link b d (neighbours b d h)).apart e same;
+      away = λ b d h same. (apart-is link b d (neighbours b d h)).away same;
+      reversal = λ b d h k. reversed-is link b d (reversal b d h) k;
+      corner = λ b d h k l. closed-is link b d (corner b d h) k l;
     }
 
 -- ---- a sound table has no fault
@@ -200,16 +220,16 @@ unfolding each_of
 each_of-true p [] h = refl
 each_of-true p (d ∷ ds) h = let first = h d in let rest = each_of-true p ds h in rw (first, rest) refl
 
-in_directions-none : (f : Direction → Option TableError) (ds : List Direction) → ((d : Direction) → f d ≡ None) → in_directions f ds ≡ None
+pub in_directions-none : (f : Direction → Option TableError) (ds : List Direction) → ((d : Direction) → f d ≡ None) → in_directions f ds ≡ None
 unfolding in_directions
 in_directions-none f [] h = refl
 in_directions-none f (d ∷ ds) h = let first = h d in let rest = in_directions-none f ds h in rw (first, rest) refl
 
-if_none : (c : Bool) (o : Option TableError) → (c ≡ true → o ≡ None) → (if c then o else None) ≡ None
+pub if_none : (c : Bool) (o : Option TableError) → (c ≡ true → o ≡ None) → (if c then o else None) ≡ None
 if_none true o h = h refl
 if_none false o h = refl
 
-pub nones : (a b : Option TableError) → a ≡ None → b ≡ None → or_next a b ≡ None
+pub nones : (a b : Option TableError) → a ≡ None → b ≡ None → option_or a b ≡ None
 nones a b h k = rw (h, k) refl
 
 pub from_base-none : (f : ℕ → Direction → Option TableError) (b n : ℕ) → ((b : ℕ) (d : Direction) → IsHexagonBase b → f b d ≡ None) → from_base f b n ≡ None
@@ -252,23 +272,30 @@ same_or_or true true p q e = rw (e refl refl) (same_link-self q)
 same_or_or true false p q e = refl
 same_or_or false k p q e = refl
 
+pub apart-of : (link : Links) (b : ℕ) (d : Direction) → IsApart link b d → is_apart link b d ≡ true
+apart-of link b d s =
+    let away : not ((link b d).0 == b) ≡ true = not_eqb (link b d).0 b s.away in
+    let each : each_of (parts link b d) directions ≡ true = each_of-true (parts link b d) directions parts_of in
+    rw (away, each) refl
+  where
+    parts_of : (e : Direction) → parts link b d e ≡ true
+    parts_of e = parts_true (digit_of e) (digit_of d) (link b e).0 (link b d).0 (λ k. ap digit_of (sym (s.apart e (sym k))))
+
+pub reversed-of : (link : Links) (b : ℕ) (d : Direction) → IsReversed link b d → reverses link b d ≡ true
+reversed-of link b d s = same_or (is_hexagon_base (link b d).0) _ _ (λ k. s (hexagon_of (link b d).0 k))
+
+pub closed-of : (link : Links) (b : ℕ) (d : Direction) → IsClosed link b d → closes link b d ≡ true
+closed-of link b d s =
+    same_or_or (is_hexagon_base (link b d).0) (is_hexagon_base (link b (turned_once d)).0) _ _
+    (λ k l. s (hexagon_of (link b d).0 k) (hexagon_of (link b (turned_once d)).0 l))
+
 sound_none : (link : Links) → IsSound link → fault_of_links link ≡ None
 sound_none link s =
-    let neighbours = from_base-none (fault_at check.Neighbours link) 0 122 (λ b d h. unless-none (is_apart link b d) (fault.Neighbours b) (apart_of b d h)) in
-    let reversal = from_base-none (fault_at check.Reversal link) 0 122 (λ b d h. unless-none (reverses link b d) (fault.Reversal b d)
-    (same_or (is_hexagon_base (link b d).0) _ _ (λ k. s.reversal b d h (hexagon_of (link b d).0 k)))) in
-    let corner = from_base-none (fault_at check.Corner link) 0 122 (λ b d h. unless-none (closes link b d) (fault.Corner b d)
-    (same_or_or (is_hexagon_base (link b d).0) (is_hexagon_base (link b (turned_once d)).0) _ _ (λ k l. s.corner b d h (hexagon_of (link b d).0 k) (hexagon_of (link b (turned_once d)).0 l)))) in
+    let apart : (b : ℕ) (d : Direction) → IsHexagonBase b → IsApart link b d = λ b d h. record { away = s.away b d h; apart = λ e k. s.apart b d e h k } in
+    let neighbours = from_base-none (fault_at check.Neighbours link) 0 122 (λ b d h. unless-none (is_apart link b d) (fault.Neighbours b) (apart-of link b d (apart b d h))) in
+    let reversal = from_base-none (fault_at check.Reversal link) 0 122 (λ b d h. unless-none (reverses link b d) (fault.Reversal b d) (reversed-of link b d (λ k. s.reversal b d h k))) in
+    let corner = from_base-none (fault_at check.Corner link) 0 122 (λ b d h. unless-none (closes link b d) (fault.Corner b d) (closed-of link b d (λ k l. s.corner b d h k l))) in
     nones _ _ neighbours (nones _ _ reversal corner)
-  where
-    parts_of : (b : ℕ) (d e : Direction) → IsHexagonBase b → parts link b d e ≡ true
-    parts_of b d e h = parts_true (digit_of e) (digit_of d) (link b e).0 (link b d).0 (λ k. ap digit_of (s.apart b e d h k))
-
-    apart_of : (b : ℕ) (d : Direction) → IsHexagonBase b → is_apart link b d ≡ true
-    apart_of b d h =
-        let away : not ((link b d).0 == b) ≡ true = not_eqb (link b d).0 b (s.away b d h) in
-        let each : each_of (parts link b d) directions ≡ true = each_of-true (parts link b d) directions (λ e. parts_of b d e h) in
-        rw (away, each) refl
 
 pub checks_mean_sound : ChecksMeanSound
 checks_mean_sound link within = (sound_of link within, sound_none link)

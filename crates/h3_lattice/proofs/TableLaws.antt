@@ -1,6 +1,7 @@
--- A file's first fault, and the table that it spells.
+-- A file's first error, and its table.
 use Rattle.std.proofs.Common.{◌≡◌, ◌<◌, ◌+◌, ◌-◌, ◌%◌, ℕ, zero, suc, Bool, true, false, not, Option, Some, None, List, [], ◌∷◌, ◌++◌, length, refl, arith, sym, ◌∙◌, ap, subst, ◌||◌, slice_index, slice_index_or, inl, inr}
 use Rattle.std.specs.Prelude.{if◌then◌else◌, ⊤, is_some, unwrap_or}
+use Rattle.std.specs.Option.{option_or}
 use Rattle.h3_lattice.specs.declared.direction.Direction.{Direction}
 use Rattle.h3_lattice.specs.declared.error.TableError.{TableError}
 use Rattle.h3_lattice.specs.declared.error.TableError.TheVariants as fault
@@ -9,88 +10,26 @@ use Rattle.h3_lattice.specs.declared.checks.Check.TheVariants as check
 use Rattle.h3_lattice.specs.Direction.{digit_of, directions, opposite, turned, turned_once}
 use Rattle.h3_lattice.specs.Fields.{Record, header, numbers_in, records_of, same_fields}
 use Rattle.h3_lattice.specs.Links.{IsHexagonBase, Links, is_hexagon_base, links_in, place_of}
-use Rattle.h3_lattice.specs.Checks.{at_places, closes, each_of, fault_at, fault_of_links, from_base, in_directions, is_apart, or_next, parts, reverses, same_link, unless}
+use Rattle.h3_lattice.specs.Checks.{at_places, closes, each_of, fault_at, fault_of_links, from_base, in_directions, is_apart, parts, reverses, same_link, unless}
 use Rattle.h3_lattice.specs.Records.{body_of, fault_in, fault_of, fault_of_records, first_fault, in_range, spelled_link}
 use Rattle.h3_lattice.specs.Slots.{Holds, IsFaultOrMemory, StopsReading, missing_at}
 use Rattle.h3_lattice.specs.Table.{RefusesTable, SameLinks, links_of, missing_of, table_fault}
+use Rattle.h3_lattice.proofs.KindLaws.{kind, table_fault-kind}
 use Rattle.h3_lattice.proofs.SoundLaws.{digit_of-gt, digit_of-lt, hexagon_of}
 
--- ---- a file's fault is of the file: neither of the reader nor of memory
-
-abbrev IsTold : Option TableError → Type 0
-IsTold (Some fault.Read) = ⊥
-IsTold (Some fault.Memory) = ⊥
-IsTold o = ⊤
-
-next_told : (a b : Option TableError) → IsTold a → IsTold b → IsTold (or_next a b)
-next_told None b p q = q
-next_told (Some e) b p q = p
-
-if_told : (c : Bool) (a b : Option TableError) → IsTold a → IsTold b → IsTold (if c then a else b)
-if_told true a b p q = p
-if_told false a b p q = q
-
-in_directions-told : (f : Direction → Option TableError) (ds : List Direction) → ((d : Direction) → IsTold (f d)) → IsTold (in_directions f ds)
-unfolding in_directions
-in_directions-told f [] h = tt
-in_directions-told f (d ∷ ds) h = next_told (f d) (in_directions f ds) (h d) (in_directions-told f ds h)
-
-from_base-told : (f : ℕ → Direction → Option TableError) (b n : ℕ) → ((b : ℕ) (d : Direction) → IsTold (f b d)) → IsTold (from_base f b n)
-unfolding from_base
-from_base-told f b zero h = tt
-from_base-told f b (suc n) h =
-    next_told (if is_hexagon_base b then in_directions (f b) directions else None) (from_base f (b + 1) n)
-    (if_told (is_hexagon_base b) (in_directions (f b) directions) None (in_directions-told (f b) directions (h b)) tt) (from_base-told f (b + 1) n h)
-
-fault_at-told : (check : Check) (link : Links) (b : ℕ) (d : Direction) → IsTold (fault_at check link b d)
-fault_at-told check.Neighbours link b d = if_told (is_apart link b d) None (Some (fault.Neighbours b)) tt tt
-fault_at-told check.Reversal link b d = if_told (reverses link b d) None (Some (fault.Reversal b d)) tt tt
-fault_at-told check.Corner link b d = if_told (closes link b d) None (Some (fault.Corner b d)) tt tt
-
-fault_in-told : (row : ℕ) (known : ℕ → ℕ → Option (ℕ × ℕ)) (o : Option (List ℕ)) → IsTold (fault_in row known o)
-fault_in-told row known None = tt
-fault_in-told row known (Some ns) =
-    if_told (not (in_range ns)) (Some (fault.Range row)) (if is_some (known (slice_index ns 0) (slice_index ns 1)) then Some (fault.Repeated row) else None) tt
-    (if_told (is_some (known (slice_index ns 0) (slice_index ns 1))) (Some (fault.Repeated row)) None tt tt)
-
-fault_of-told : (before : List Record) (r : Record) → IsTold (fault_of before r)
-fault_of-told [] r = if_told (same_fields r header) None (Some (fault.Form 1)) tt tt
-fault_of-told (front ∷ body) r = fault_in-told (length body + 2) (λ b d. spelled_link b d body) (numbers_in 4 r)
-
-first_fault-told : (before rest : List Record) → IsTold (first_fault before rest)
-unfolding first_fault
-first_fault-told before [] = tt
-first_fault-told before (r ∷ rest) =
-    next_told (fault_of before r) (first_fault (before ++ r ∷ []) rest) (fault_of-told before r) (first_fault-told (before ++ r ∷ []) rest)
-
-fault_of_records-told : (records : List Record) → IsTold (fault_of_records records)
-fault_of_records-told [] = tt
-fault_of_records-told (front ∷ body) = first_fault-told [] (front ∷ body)
-
-missing_of-told : (records : List Record) (b : ℕ) (d : Direction) → IsTold (missing_of records b d)
-missing_of-told records b d = if_told (is_some (spelled_link b (digit_of d) (body_of records))) None (Some fault.Missing) tt tt
-
-table_fault-told : (records : List Record) → IsTold (table_fault records)
-table_fault-told records =
-    let checks = λ (c : Check). from_base-told (fault_at c (links_of records)) 0 122 (fault_at-told c (links_of records)) in
-    next_told (fault_of_records records) _ (fault_of_records-told records)
-    (next_told (at_places (missing_of records)) _ (from_base-told (missing_of records) 0 122 (missing_of-told records))
-    (next_told (at_places (fault_at check.Neighbours (links_of records))) _ (checks check.Neighbours)
-    (next_told (at_places (fault_at check.Reversal (links_of records))) (at_places (fault_at check.Corner (links_of records))) (checks check.Reversal) (checks check.Corner))))
-
-refuses_told : (fails : Type 0) (first : Option TableError) (e : TableError) → IsTold (Some e) → first ≡ Some e → RefusesTable fails first e
-refuses_told fails first fault.Read t is = absurd t
-refuses_told fails first fault.Memory t is = tt
-refuses_told fails first (fault.Form row) t is = is
-refuses_told fails first (fault.Range row) t is = is
-refuses_told fails first (fault.Repeated row) t is = is
-refuses_told fails first fault.Missing t is = is
-refuses_told fails first (fault.Neighbours b) t is = is
-refuses_told fails first (fault.Reversal b d) t is = is
-refuses_told fails first (fault.Corner b d) t is = is
+refuses_kind : (fails : Type 0) (first : Option TableError) (e : TableError) → 0 < kind e → first ≡ Some e → RefusesTable fails first e
+refuses_kind fails first fault.Read k is = absurd (omega arith)
+refuses_kind fails first fault.Memory k is = tt
+refuses_kind fails first (fault.Form row) k is = is
+refuses_kind fails first (fault.Range row) k is = is
+refuses_kind fails first (fault.Repeated row) k is = is
+refuses_kind fails first fault.Missing k is = is
+refuses_kind fails first (fault.Neighbours b) k is = is
+refuses_kind fails first (fault.Reversal b d) k is = is
+refuses_kind fails first (fault.Corner b d) k is = is
 
 refuses_file : (fails : Type 0) (records : List Record) (e : TableError) → table_fault records ≡ Some e → RefusesTable fails (table_fault records) e
-refuses_file fails records e is = refuses_told fails (table_fault records) e (subst IsTold is (table_fault-told records)) is
+refuses_file fails records e is = refuses_kind fails (table_fault records) e (table_fault-kind records e is) is
 
 -- ---- links that agree have the same faults
 
@@ -98,7 +37,7 @@ if_same : (c : Bool) (x y : Option TableError) → (c ≡ true → x ≡ y) → 
 if_same true x y h = h refl
 if_same false x y h = refl
 
-next_same : (a b x y : Option TableError) → a ≡ b → x ≡ y → or_next a x ≡ or_next b y
+next_same : (a b x y : Option TableError) → a ≡ b → x ≡ y → option_or a x ≡ option_or b y
 next_same a b x y p q = rw (p, q) refl
 
 in_directions-same : (f g : Direction → Option TableError) (ds : List Direction) → ((d : Direction) → f d ≡ g d) → in_directions f ds ≡ in_directions g ds
@@ -157,7 +96,7 @@ fault_of_links-same link other s =
     let checks = λ (c : Check). from_base-same (fault_at c link) (fault_at c other) 0 122 (fault_at-same c link other s) in
     next_same _ _ _ _ (checks check.Neighbours) (next_same _ _ _ _ (checks check.Reversal) (checks check.Corner))
 
--- ---- what the slots hold is what the records spell
+-- ---- the slots hold the links of the records
 
 missing-same : (slots : List (Option (ℕ × ℕ))) (records : List Record) → Holds slots (body_of records) → at_places (missing_at slots) ≡ at_places (missing_of records)
 missing-same slots records h =
@@ -174,16 +113,16 @@ links-same slots links records h same b d k =
 
 -- ---- the file's fault, part by part
 
-next_some : (a b : Option TableError) (e : TableError) → a ≡ Some e → or_next a b ≡ Some e
+next_some : (a b : Option TableError) (e : TableError) → a ≡ Some e → option_or a b ≡ Some e
 next_some a b e is = rw is refl
 
-next_none : (a b : Option TableError) → a ≡ None → or_next a b ≡ b
+next_none : (a b : Option TableError) → a ≡ None → option_or a b ≡ b
 next_none a b is = rw is refl
 
-table_fault-missing : (records : List Record) (o : Option TableError) → fault_of_records records ≡ None → at_places (missing_of records) ≡ o → table_fault records ≡ or_next o (fault_of_links (links_of records))
+table_fault-missing : (records : List Record) (o : Option TableError) → fault_of_records records ≡ None → at_places (missing_of records) ≡ o → table_fault records ≡ option_or o (fault_of_links (links_of records))
 table_fault-missing records o none is =
-    next_none (fault_of_records records) (or_next (at_places (missing_of records)) (fault_of_links (links_of records))) none
-    ∙ ap (λ (p : Option TableError). or_next p (fault_of_links (links_of records))) is
+    next_none (fault_of_records records) (option_or (at_places (missing_of records)) (fault_of_links (links_of records))) none
+    ∙ ap (λ (p : Option TableError). option_or p (fault_of_links (links_of records))) is
 
 -- ---- how the reading of a file ends
 
@@ -197,7 +136,7 @@ refuses_records fails text bytes e same (inr is) =
     let told : fault_of_records (records_of bytes) ≡ Some e = ap (λ (t : List ℕ). fault_of_records (records_of t)) (sym same) ∙ is in
     refuses_file fails (records_of bytes) e (next_some (fault_of_records (records_of bytes)) _ e told)
 
--- the records of the text that was read are good, and the slots hold what they spell
+-- the records of the text that was read are good, and the slots hold their links
 abbrev pub IsGood : List (Option (ℕ × ℕ)) → List ℕ → Type 0
 IsGood slots text = (fault_of_records (records_of text) ≡ None) × Holds slots (body_of (records_of text))
 
@@ -208,7 +147,7 @@ refuses_missing fails slots text bytes o e same good first is =
     refuses_file fails (records_of bytes) e
     (table_fault-missing (records_of bytes) (Some e) good'.0 (sym (missing-same slots (records_of bytes) good'.1) ∙ sym first ∙ is))
 
--- what the checks tell of the filled slots is what is told of the file
+-- the error of the filled slots is that of the file
 table_fault-links : (slots : List (Option (ℕ × ℕ))) (links : List (ℕ × ℕ)) (records : List Record) (o p : Option TableError) → fault_of_records records ≡ None → Holds slots (body_of records)
     → o ≡ at_places (missing_at slots) → o ≡ None
     → ((i : ℕ) → i < 732 → slice_index_or links i (0, 0) ≡ unwrap_or (slice_index_or slots i None) (0, 0))

@@ -1,5 +1,6 @@
 -- The checks of a full table, and the first that fails.
 use Rattle.std.specs.Prelude.{ℕ, zero, suc, ◌+◌, ◌-◌, ◌%◌, Bool, true, not, ◌==◌, ◌&&◌, ◌||◌, if◌then◌else◌, List, [], ◌∷◌, Option, Some, None}
+use Rattle.std.specs.Option.{option_or}
 use Rattle.h3_lattice.specs.declared.direction.Direction.{Direction}
 use Rattle.h3_lattice.specs.declared.error.TableError.{TableError}
 use Rattle.h3_lattice.specs.declared.error.TableError.TheVariants as fault
@@ -38,35 +39,30 @@ closes link b d = not (is_hexagon_base (link b d).0) || not (is_hexagon_base (li
 
 -- ---- the first fault
 
--- this fault, or else the next
-abbrev pub or_next : Option TableError → Option TableError → Option TableError
-or_next None next = next
-or_next (Some e) next = Some e
-
 abbrev pub unless : Bool → TableError → Option TableError
 unless holds e = if holds then None else Some e
 
 -- the first fault in one of these directions
 unfoldable pub in_directions : (Direction → Option TableError) → List Direction → Option TableError
 in_directions f [] = None
-in_directions f (d ∷ rest) = or_next (f d) (in_directions f rest)
+in_directions f (d ∷ rest) = option_or (f d) (in_directions f rest)
 
 -- the first fault at a hexagon base cell, of n base cells from b on
 unfoldable pub from_base : (ℕ → Direction → Option TableError) → ℕ → ℕ → Option TableError
 from_base f b zero = None
-from_base f b (suc n) = or_next (if is_hexagon_base b then in_directions (f b) directions else None) (from_base f (b + 1) n)
+from_base f b (suc n) = option_or (if is_hexagon_base b then in_directions (f b) directions else None) (from_base f (b + 1) n)
 
 -- the first fault of all, by ascending base cell and then direction
 abbrev pub at_places : (ℕ → Direction → Option TableError) → Option TableError
 at_places f = from_base f 0 122
 
--- what a check tells of a base cell and a direction
+-- the error of a check at a base cell and a direction
 abbrev pub fault_at : Check → Links → ℕ → Direction → Option TableError
 fault_at check.Neighbours link b d = unless (is_apart link b d) (fault.Neighbours b)
 fault_at check.Reversal link b d = unless (reverses link b d) (fault.Reversal b d)
 fault_at check.Corner link b d = unless (closes link b d) (fault.Corner b d)
 
--- what the three checks tell of a full table: one after the other, each at all places
+-- the first error of the three checks of a full table: one after the other, each at all places
 abbrev pub fault_of_links : Links → Option TableError
 fault_of_links link =
-    or_next (at_places (fault_at check.Neighbours link)) (or_next (at_places (fault_at check.Reversal link)) (at_places (fault_at check.Corner link)))
+    option_or (at_places (fault_at check.Neighbours link)) (option_or (at_places (fault_at check.Reversal link)) (at_places (fault_at check.Corner link)))

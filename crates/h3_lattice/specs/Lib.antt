@@ -7,6 +7,7 @@ pub mod Eisenstein
 pub mod Examples
 pub mod Expansion
 pub mod Fields
+pub mod First
 pub mod Laws
 pub mod Links
 pub mod Moved

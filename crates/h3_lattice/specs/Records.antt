@@ -1,10 +1,10 @@
 -- What a list of records says of a table, and the first faulty record.
 use Rattle.std.specs.Prelude.{ℕ, ◌+◌, Bool, not, is_some, ◌==◌, ◌&&◌, nat_lt, if◌then◌else◌, List, [], ◌∷◌, ◌++◌, length, Option, Some, None, slice_index}
+use Rattle.std.specs.Option.{option_or}
 use Rattle.h3_lattice.specs.declared.error.TableError.{TableError}
 use Rattle.h3_lattice.specs.declared.error.TableError.TheVariants as fault
 use Rattle.h3_lattice.specs.Fields.{Record, header, numbers_in, same_fields}
 use Rattle.h3_lattice.specs.Links.{is_hexagon_base}
-use Rattle.h3_lattice.specs.Checks.{or_next}
 
 -- the records under the header
 abbrev pub body_of : List Record → List Record
@@ -13,19 +13,15 @@ body_of (front ∷ body) = body
 
 -- ---- links
 
-abbrev pub or_link : Option (ℕ × ℕ) → Option (ℕ × ℕ) → Option (ℕ × ℕ)
-or_link None next = next
-or_link (Some p) next = Some p
-
--- the link that a record's numbers spell for a base cell and the direction of a digit
+-- the link in a record's numbers for a base cell and the direction of a digit
 abbrev pub link_in : ℕ → ℕ → Option (List ℕ) → Option (ℕ × ℕ)
 link_in b d None = None
 link_in b d (Some ns) = if (slice_index ns 0 == b) && (slice_index ns 1 == d) then Some (slice_index ns 2, slice_index ns 3) else None
 
--- the link that the first of these records to name the base cell and the direction spells
+-- the link in the first of these records that names the base cell and the direction
 unfoldable pub spelled_link : ℕ → ℕ → List Record → Option (ℕ × ℕ)
 spelled_link b d [] = None
-spelled_link b d (r ∷ rest) = or_link (link_in b d (numbers_in 4 r)) (spelled_link b d rest)
+spelled_link b d (r ∷ rest) = option_or (link_in b d (numbers_in 4 r)) (spelled_link b d rest)
 
 -- ---- faults
 
@@ -49,7 +45,7 @@ fault_of (front ∷ body) r = fault_in (length body + 2) (λ b d. spelled_link b
 -- the first fault of records that come after others
 unfoldable pub first_fault : List Record → List Record → Option TableError
 first_fault before [] = None
-first_fault before (r ∷ rest) = or_next (fault_of before r) (first_fault (before ++ r ∷ []) rest)
+first_fault before (r ∷ rest) = option_or (fault_of before r) (first_fault (before ++ r ∷ []) rest)
 
 -- the first faulty record of a file: an empty file has no header
 abbrev pub fault_of_records : List Record → Option TableError

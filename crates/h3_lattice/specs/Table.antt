@@ -1,32 +1,33 @@
--- What the records of a file say as a whole: the table that they spell, or why they are refused.
+-- What the records of a file say as a whole: their table, or why they are refused.
 use Rattle.std.specs.Prelude.{◌≡◌, ◌↔◌, ℕ, Bool, true, is_some, List, ◌∷◌, All, ⊤, Option, Some, None, unwrap_or}
 use Rattle.std.specs.List.{count_by}
+use Rattle.std.specs.Option.{option_or}
 use Rattle.h3_lattice.specs.declared.direction.Direction.{Direction}
 use Rattle.h3_lattice.specs.declared.error.TableError.{TableError}
 use Rattle.h3_lattice.specs.declared.error.TableError.TheVariants as fault
 use Rattle.h3_lattice.specs.Direction.{digit_of}
 use Rattle.h3_lattice.specs.Fields.{Record, header, numbers_in}
 use Rattle.h3_lattice.specs.Links.{IsHexagonBase, IsLink, IsSound, Links}
-use Rattle.h3_lattice.specs.Checks.{at_places, fault_of_links, or_next, unless}
+use Rattle.h3_lattice.specs.Checks.{at_places, fault_of_links, unless}
 use Rattle.h3_lattice.specs.Records.{body_of, fault_of_records, in_range, link_in, spelled_link}
 
--- the table that these records spell
+-- the table of these records
 abbrev pub links_of : List Record → Links
 links_of records b d = unwrap_or (spelled_link b (digit_of d) (body_of records)) (0, 0)
 
--- no record spells the link of this base cell and direction
+-- no record has the link of this base cell and direction
 abbrev pub missing_of : List Record → ℕ → Direction → Option TableError
 missing_of records b d = unless (is_some (spelled_link b (digit_of d) (body_of records))) fault.Missing
 
 -- why a table file is refused: its first faulty record, or else a missing one, or else the first check that fails
 abbrev pub table_fault : List Record → Option TableError
-table_fault records = or_next (fault_of_records records) (or_next (at_places (missing_of records)) (fault_of_links (links_of records)))
+table_fault records = option_or (fault_of_records records) (option_or (at_places (missing_of records)) (fault_of_links (links_of records)))
 
 -- the same links from hexagon base cells
 abbrev pub SameLinks : Links → Links → Type 0
 SameLinks link other = (b : ℕ) (d : Direction) → IsHexagonBase b → link b d ≡ other b d
 
--- A refusal fits the file: want of memory says nothing of it, a read fault comes only where reads fail, and any other
+-- An error fits the file: out of memory says nothing of it, a read fault comes only where reads fail, and any other
 -- is the file's first fault.
 abbrev pub RefusesTable : Type 0 → Option TableError → TableError → Type 0
 RefusesTable read_fails first fault.Read = read_fails
@@ -35,7 +36,7 @@ RefusesTable read_fails first e = first ≡ Some e
 
 -- ---- the tables that are accepted
 
--- of links that lead to base cells by 0 to 5 turns, none of the checks tells a fault exactly where they are sound
+-- of links that lead to base cells by 0 to 5 turns, none of the checks fails exactly where they are sound
 abbrev pub ChecksMeanSound : Type 0
 ChecksMeanSound =
     (link : Links) → ((b : ℕ) (d : Direction) → IsHexagonBase b → IsLink (link b d)) → (fault_of_links link ≡ None) ↔ IsSound link
@@ -56,6 +57,6 @@ pub record IsOfForm (records : List Record) : Type 0 where
   pub each : All IsLinkRecord (body_of records)
   pub once : (b : ℕ) (d : Direction) → IsHexagonBase b → count_by (names b (digit_of d)) (body_of records) ≡ 1
 
--- no fault is told of a file exactly where it is of the form and the links that it spells are sound
+-- a file has no error exactly where it is of the form and its links are sound
 abbrev pub SoundFilesAreAccepted : Type 0
 SoundFilesAreAccepted = (records : List Record) → (table_fault records ≡ None) ↔ (IsOfForm records × IsSound (links_of records))

@@ -77,7 +77,7 @@ fn closes(links: &Links, base: u8, direction: Direction) -> bool
     across.0 == next && across.1 == (next_turns + 6 - turns) % 6
 }
 
-/// The fault that a check tells of a base cell and a direction.
+/// The error of a check at a base cell and a direction.
 fn fault_at(check: Check, links: &Links, base: u8, direction: Direction) -> Option<TableError>
     requires base { base < 122 }
     requires within { All IsLink links.now }
@@ -108,7 +108,7 @@ fn fault_at(check: Check, links: &Links, base: u8, direction: Direction) -> Opti
     }
 }
 
-/// The first fault that a check tells of a base cell.
+/// The first error of a check at a base cell.
 fn fault_from(check: Check, links: &Links, base: u8) -> Option<TableError>
     requires base { base < 122 }
     requires within { All IsLink links.now }
@@ -123,7 +123,7 @@ fn fault_from(check: Check, links: &Links, base: u8) -> Option<TableError>
     None
 }
 
-/// The first fault that a check tells.
+/// The first error of a check.
 fn first_fault(check: Check, links: &Links) -> Option<TableError>
     requires within { All IsLink links.now }
     ensures { result ≡ at_places (fault_at check (links_in links.now)) }
@@ -139,7 +139,7 @@ fn first_fault(check: Check, links: &Links) -> Option<TableError>
     None
 }
 
-/// The first fault that the checks tell, one after the other.
+/// The first error of the checks, one after the other.
 pub fn fault_of_links(links: &Links) -> Option<TableError>
     requires within { All IsLink links.now }
     ensures { result ≡ fault_of_links (links_in links.now) }

@@ -7,8 +7,7 @@ ghost use Rattle.h3_lattice.specs.Class.{class_at, IsCarry, IsOnlyCarry};
 use crate::direction::Direction;
 use crate::eisenstein::{digit_value, unit};
 
-/// The class of a resolution. It tells the multiplier by which the grid of that resolution is finer than the one
-/// before.
+/// The class of a resolution. It has the multiplier by which the grid of that resolution is finer than the one before.
 #[derive(Clone, Copy, Debug, PartialEq, Eq)]
 pub enum Class {
     /// Class II, the even resolutions. Their multiplier is 3 + w.

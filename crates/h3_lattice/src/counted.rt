@@ -1,6 +1,6 @@
-//! The bytes of a source, in as many reads as are allowed.
+//! The bytes of a source, in a limited number of reads.
 
-ghost use Rattle.std.specs.Prelude.{◌≡◌, ◌<◌, ◌≤◌, ◌+◌, ◌++◌, ◌⊎◌, ℕ, true, List, length, Some, IfOk, IfErr, OnOk, OnErr};
+ghost use Rattle.std.specs.Prelude.{◌≡◌, ◌≢◌, ◌<◌, ◌≤◌, ◌+◌, ◌*◌, ◌++◌, ◌⊎◌, ℕ, true, List, [], length, Some, Err, IfOk, IfErr, OnOk, OnErr};
 ghost use Rattle.h3_index.specs.Stream.{Pulls};
 ghost use Rattle.h3_lattice.specs.declared.error.TableError.{TableError};
 ghost use Rattle.h3_lattice.specs.Slots.{StopsReading};
@@ -9,7 +9,7 @@ use crate::error::TableError;
 use h3_index::Source;
 use std::alloc::Global;
 
-/// A source that may be read so many times.
+/// A source, and how many more reads of it are allowed.
 #[derive(Drop)]
 struct CountedReader<'a, R> {
     source: &'a mut R,
@@ -17,11 +17,13 @@ struct CountedReader<'a, R> {
 }
 
 impl<'a, R: Source> CountedReader<'a, R> {
-    /// Reads once, to the front of a page. A read after the last one that is allowed is a read fault, and never made.
+    /// Reads once, to the front of a page: `Read` where the source fails, and where no read is allowed any more, which
+    /// is then not made.
     fn read(&mut self, page: &mut [u8]) -> Result<usize, TableError>
         ensures bound { IfOk result (λ n. n ≤ length page.new) }
         ensures bytes { IfOk result (λ n. Pulls (R.left self.old.source.now) (R.left self.new.source.now) page.new n) }
         ensures counted { OnOk result (self.new.reads_left + 1 ≡ self.old.reads_left) }
+        ensures ok { OnOk result (R.has_failed self.new.source.now ≡ R.has_failed self.old.source.now) }
         ensures err { OnErr result ((self.old.reads_left ≡ 0) ⊎ (R.has_failed self.new.source.now ≡ true)) }
         ensures read { IfErr result (λ e. e ≡ TableError.Read) }
         ensures same { self.new.source.ghost_name ≡ self.old.source.ghost_name }
@@ -34,7 +36,7 @@ impl<'a, R: Source> CountedReader<'a, R> {
     }
 }
 
-/// Takes all bytes of a source, after those that a text has.
+/// Appends all bytes of a source to a text.
 fn read_pages<'a, R: Source>(
     text: &mut Vec<u8>,
     reader: &mut CountedReader<'a, R>,
@@ -45,6 +47,12 @@ fn read_pages<'a, R: Source>(
         text.new.items ≡ text.old.items ++ bytes) }
     ensures refused { IfErr result (λ e. (bytes : List ℕ) → R.left reader.old.source.now ≡ Some bytes →
         StopsReading ((R.has_failed reader.new.source.now ≡ true) ⊎ (reader.old.reads_left ≤ length bytes)) e) }
+    ensures kept { result ≢ Err TableError.Read →
+        R.has_failed reader.new.source.now ≡ R.has_failed reader.old.source.now }
+    ensures whole { OnOk result ((bytes : List ℕ) → R.left reader.old.source.now ≡ Some bytes →
+        R.left reader.new.source.now ≡ Some []) }
+    ensures limited { OnOk result ((bytes : List ℕ) → R.left reader.old.source.now ≡ Some bytes →
+        length bytes ≤ reader.old.reads_left * length page.old) }
     ensures same { reader.new.source.ghost_name ≡ reader.old.source.ghost_name }
 {
     loop {
@@ -57,7 +65,8 @@ fn read_pages<'a, R: Source>(
     }
 }
 
-/// All bytes of a source, in at most so many reads, each to a page.
+/// All bytes of a source, read page by page: `Read` where the source fails or more reads than the limit are needed,
+/// and `Memory` where there is none for the bytes.
 pub fn read_bytes<R: Source>(
     alloc: Global,
     source: &mut R,
@@ -68,6 +77,10 @@ pub fn read_bytes<R: Source>(
     ensures bytes { IfOk result (λ text. (bytes : List ℕ) → R.left source.old ≡ Some bytes → text.items ≡ bytes) }
     ensures refused { IfErr result (λ e. (bytes : List ℕ) → R.left source.old ≡ Some bytes →
         StopsReading ((R.has_failed source.new ≡ true) ⊎ (limit ≤ length bytes)) e) }
+    ensures kept { result ≢ Err TableError.Read → R.has_failed source.new ≡ R.has_failed source.old }
+    ensures whole { OnOk result ((bytes : List ℕ) → R.left source.old ≡ Some bytes → R.left source.new ≡ Some []) }
+    ensures limited { OnOk result ((bytes : List ℕ) → R.left source.old ≡ Some bytes →
+        length bytes ≤ limit * length page.old) }
 {
     let mut text = Vec::new(alloc);
     let mut reader = CountedReader {

@@ -8,7 +8,7 @@ ghost use Rattle.h3_lattice.specs.Digits.{cell_of, IsDigits};
 ghost use Rattle.h3_lattice.specs.Expansion.{place};
 
 use crate::direction::{Direction, turn};
-use h3_index::{Cell, res0_cell};
+use h3_index::Cell;
 use std::marker::Model;
 
 /// The digits of a cell without its base cell: a digit of 0 to 6 for each resolution from 1 up to its own.
@@ -32,17 +32,6 @@ impl Model for Digits {
     ghost inverse = { λ ds. record { resolution = length ds; fifteen = padded ds } };
 
     ghost inverse_ok = { λ d h i. record { resolution = h.long i; fifteen = h.is i } };
-}
-
-/// The cell of a base cell at resolution 0.
-fn base_cell(base: u8) -> Cell
-    requires { base < 122 }
-    ensures { result ≡ cell_of base [] }
-{
-    match res0_cell(i32::from(base)) {
-        Ok(cell) => cell,
-        Err(_) => unreachable!(),
-    }
 }
 
 /// A digit turned n times.
@@ -120,7 +109,7 @@ impl Digits {
         ensures is { result ≡ cell_of base self }
         ensures valid { IsCell result }
     {
-        let mut cell = base_cell(base);
+        let mut cell = Cell::in_base(base);
         for r in 0..self.resolution() {
             cell = cell.child(self.digit(r + 1));
         }

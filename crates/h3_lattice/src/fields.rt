@@ -6,7 +6,7 @@ ghost use Rattle.h3_lattice.specs.Fields.{number_in, numbers_in, same_fields};
 
 use csv::ByteRecord;
 
-/// The number that a field of 1 to 3 decimal digits spells.
+/// The number in a field of 1 to 3 decimal digits: none where it is anything else.
 fn number_in(field: &[u8]) -> Option<u16>
     ensures { result ≡ number_in field.now }
 {

@@ -1,10 +1,12 @@
 //! The base cell table.
 
-ghost use Rattle.std.specs.Prelude.{◌≡◌, ◌≤◌, ◌<◌, ◌^◌, ◌⊎◌, ℕ, true, false, List, length, None, Some, IfOk, IfErr, All};
+ghost use Rattle.std.specs.Prelude.{◌≡◌, ◌≢◌, ◌≤◌, ◌<◌, ◌*◌, ◌^◌, ◌⊎◌, ℕ, true, false, List, [], length, None, Some, Err, IfOk, IfErr, All};
 ghost use Rattle.h3_index.specs.Cell.{is_pentagon_base};
 ghost use Rattle.h3_lattice.specs.Fields.{records_of};
 ghost use Rattle.h3_lattice.specs.Links.{IsLink, IsSound, links_in};
+ghost use Rattle.h3_lattice.specs.declared.error.TableError.{TableError};
 ghost use Rattle.h3_lattice.specs.Checks.{fault_of_links};
+ghost use Rattle.h3_lattice.specs.First.{FaultsAreFirst};
 ghost use Rattle.h3_lattice.specs.Table.{ChecksMeanSound, RefusesTable, SameLinks, SoundFilesAreAccepted, links_of, table_fault};
 
 use crate::checks::fault_of_links;
@@ -19,11 +21,11 @@ use std::alloc::Global;
 /// The bytes that are read at once.
 const PAGE: usize = 4096;
 
-/// The reads that a table may take.
+/// How many reads a table may take.
 const READS: u64 = 1 << 40;
 
 /// How the 110 hexagon base cells lie beside each other: in each of six directions the neighbour, and how often each
-/// digit is turned on crossing. Its links fit together, as [`TableError`]'s last three kinds say. It is of fixed size,
+/// digit is turned on crossing. Its links fit together: none of the checks of [`TableError`] fails. It is of fixed size,
 /// and takes no memory.
 #[derive(Drop)]
 pub struct BaseTable {
@@ -53,17 +55,29 @@ impl BaseTable {
     /// order. In the frame of the base cell `base`, the base cell `to` lies in the direction of the digit `dir`, and each
     /// digit is turned `rot` times on crossing. Numbers have 1 to 3 digits.
     ///
-    /// Refused is, in this order: a reader that fails or more than 2^40 reads, the first faulty record, a missing record,
-    /// and the first check that fails, by ascending base cell and direction. [`TableError::Memory`] comes where memory
-    /// is refused.
+    /// The errors, in this order: [`TableError::Read`] where the reader fails or has more than 2^40 pages of 4096 bytes,
+    /// the first faulty record, a missing record, and the first check that fails, by ascending base cell and direction.
+    /// [`TableError::Memory`] where there is no memory for the file or a record.
     pub fn read<R: Source>(alloc: Global, source: &mut R) -> Result<BaseTable, TableError>
         ensures accepted { IfOk result (λ table. (bytes : List ℕ) → R.left source.old ≡ Some bytes →
             (table_fault (records_of bytes) ≡ None) × SameLinks (link_of table) (links_of (records_of bytes))) }
         ensures refused { IfErr result (λ e. (bytes : List ℕ) → R.left source.old ≡ Some bytes →
             RefusesTable ((R.has_failed source.new ≡ true) ⊎ (2 ^ 40 ≤ length bytes)) (table_fault (records_of bytes)) e) }
         ensures sound { IfOk result (λ table. IsSound (link_of table)) }
+
+        // A read that fails is never passed over.
+        ensures kept { result ≢ Err TableError.Read → R.has_failed source.new ≡ R.has_failed source.old }
+
+        // A table is accepted or refused for what is in it only after all of it was read.
+        ensures whole { result ≢ Err TableError.Read → result ≢ Err TableError.Memory →
+            (bytes : List ℕ) → R.left source.old ≡ Some bytes → R.left source.new ≡ Some [] }
+        ensures limited { result ≢ Err TableError.Read → result ≢ Err TableError.Memory →
+            (bytes : List ℕ) → R.left source.old ≡ Some bytes → length bytes ≤ 2 ^ 40 * 4096 }
+
+        // Laws of the definitions above: which files have no fault, and which fault is the first.
         ensures exact { SoundFilesAreAccepted }
         ensures checks { ChecksMeanSound }
+        ensures first { FaultsAreFirst }
     {
         let mut page = [0; PAGE];
         let text = read_bytes(alloc, source, READS, &mut page)?;
@@ -73,6 +87,11 @@ impl BaseTable {
             None => BaseTable::new(filled(&slots)),
         }
     }
+
+    /// A law: the links of every table are sound. It does nothing.
+    pub fn links_are_sound(&self)
+        ensures { IsSound (link_of self.now) }
+    {}
 
     /// The neighbour of a hexagon base cell in a direction, 0 to 121, and how often each digit is turned on crossing
     /// into it, 0 to 5.

@@ -2,7 +2,7 @@ use super::BaseTable;
 use crate::direction::{DIRECTIONS, Direction};
 use crate::error::TableError;
 use crate::vectors::{TestTable, link};
-use h3_index::{Streamed, is_pentagon_base};
+use h3_index::{Source, StreamFault, Streamed, is_pentagon_base};
 use std::test::Fail;
 
 const HEADER: &str = "base,dir,to,rot\n";
@@ -47,8 +47,8 @@ fn refusal(rt: &HostRuntime, text: &str) -> Option<TableError> {
     }
 }
 
-/// Whether a table file spells the links of a table.
-fn spells(rt: &HostRuntime, text: &str, table: TestTable) -> bool {
+/// Whether a table file has the links of a table.
+fn has_links(rt: &HostRuntime, text: &str, table: TestTable) -> bool {
     let Ok(read) = read(rt, text) else {
         return false;
     };
@@ -70,7 +70,7 @@ fn sound_tables_are_accepted(rt: HostRuntime) -> Result<(), Fail> {
         let records = records(&rt, table)?;
         assert_eq!(&rt; records.len(), 660);
         for end in ["\n", "\r\n", "\r", "\n\n"] {
-            assert!(&rt; spells(&rt, &text(&rt, &records, end)?, table));
+            assert!(&rt; has_links(&rt, &text(&rt, &records, end)?, table));
         }
     }
     Ok(())
@@ -92,7 +92,7 @@ fn links_are_those_of_worked_records(rt: HostRuntime) -> Result<(), Fail> {
 fn records_come_in_any_order(rt: HostRuntime) -> Result<(), Fail> {
     let mut records = records(&rt, TestTable::Plain)?;
     records.as_mut_slice().reverse();
-    assert!(&rt; spells(&rt, &text(&rt, &records, "\n")?, TestTable::Plain));
+    assert!(&rt; has_links(&rt, &text(&rt, &records, "\n")?, TestTable::Plain));
     Ok(())
 }
 
@@ -101,14 +101,14 @@ fn a_byte_order_mark_and_quotes_are_let_through(rt: HostRuntime) -> Result<(), F
     let records = records(&rt, TestTable::Plain)?;
     let plain = text(&rt, &records, "\n")?;
     let marked = format!(in rt.alloc(); "\u{feff}{plain}")?;
-    assert!(&rt; spells(&rt, &marked, TestTable::Plain));
+    assert!(&rt; has_links(&rt, &marked, TestTable::Plain));
     let mut quoted = String::new(rt.alloc());
     quoted.push_str(HEADER)?;
     for [base, digit, to, turns] in &records {
         let line = format!(in rt.alloc(); "\"{base}\",\"{digit}\",\"{to}\",\"{turns}\"\n")?;
         quoted.push_str(&line)?;
     }
-    assert!(&rt; spells(&rt, &quoted, TestTable::Plain));
+    assert!(&rt; has_links(&rt, &quoted, TestTable::Plain));
     Ok(())
 }
 
@@ -120,7 +120,7 @@ fn numbers_have_one_to_three_digits(rt: HostRuntime) -> Result<(), Fail> {
         let line = format!(in rt.alloc(); "{base:03},{digit:02},{to:03},{turns:03}\n")?;
         padded.push_str(&line)?;
     }
-    assert!(&rt; spells(&rt, &padded, TestTable::Plain));
+    assert!(&rt; has_links(&rt, &padded, TestTable::Plain));
     Ok(())
 }
 
@@ -180,6 +180,20 @@ fn a_missing_or_repeated_record_is_refused(rt: HostRuntime) -> Result<(), Fail> 
     Ok(())
 }
 
+/// What is returned for the plain table with some records changed.
+fn changed(rt: &HostRuntime, changes: &[[u8; 4]]) -> Result<Option<TableError>, Fail> {
+    let mut records = records(rt, TestTable::Plain)?;
+    for change in changes {
+        for record in records.as_mut_slice() {
+            if record[0] == change[0] && record[1] == change[1] {
+                *record = *change;
+            }
+        }
+    }
+    let text = text(rt, &records, "\n")?;
+    Ok(refusal(rt, &text))
+}
+
 #[test]
 fn the_first_check_that_fails_decides(rt: HostRuntime) -> Result<(), Fail> {
     let skew = text(&rt, &records(&rt, TestTable::Skew)?, "\n")?;
@@ -191,18 +205,95 @@ fn the_first_check_that_fails_decides(rt: HostRuntime) -> Result<(), Fail> {
         ([0, 1, 110, 1], TableError::Reversal(0, Direction::K)),
         ([0, 2, 110, 0], TableError::Neighbours(0)),
         ([0, 3, 0, 0], TableError::Neighbours(0)),
+        ([60, 4, 61, 1], TableError::Reversal(60, Direction::I)),
         ([121, 6, 13, 0], TableError::Reversal(11, Direction::K)),
         ([121, 6, 10, 0], TableError::Neighbours(121)),
     ];
-    for (changed, error) in table {
-        let mut records = records(&rt, TestTable::Plain)?;
-        for record in records.as_mut_slice() {
-            if record[0] == changed[0] && record[1] == changed[1] {
-                *record = changed;
-            }
-        }
-        let text = text(&rt, &records, "\n")?;
-        assert_eq!(&rt; refusal(&rt, &text), Some(error));
+    for (change, error) in table {
+        assert_eq!(&rt; changed(&rt, &[change])?, Some(error));
     }
+    Ok(())
+}
+
+#[test]
+fn corners_are_checked_at_every_base_cell(rt: HostRuntime) -> Result<(), Fail> {
+    // The neighbours of 50 and 80 in the direction I change places, and each link is still undone. The first corner with
+    // one of these links is that of 39, 51 and 50.
+    let exchanged = [
+        [50, 4, 81, 0],
+        [51, 3, 80, 0],
+        [80, 4, 51, 0],
+        [81, 3, 50, 0],
+    ];
+    assert_eq!(&rt;
+        changed(&rt, &exchanged)?,
+        Some(TableError::Corner(39, Direction::IJ))
+    );
+    Ok(())
+}
+
+/// A source that counts its calls and keeps the lengths of their buffers. Calls after the end of the bytes fail.
+#[derive(Drop)]
+struct CountingSource<'a> {
+    text: &'a [u8],
+    page: usize,
+    calls: u64,
+    ended: bool,
+    failed: bool,
+}
+
+impl<'a> Source for CountingSource<'a> {
+    ghost use Rattle.std.specs.Prelude.{None};
+
+    ghost left = { λ _. None };
+
+    ghost has_failed = { λ s. s.failed };
+
+    fn pull(&mut self, buf: &mut [u8]) -> Result<usize, StreamFault> {
+        if self.ended {
+            self.failed = true;
+            return Err(StreamFault);
+        }
+        self.calls = self.calls.wrapping_add(1);
+        self.page = buf.len();
+        let count = buf.len().min(self.text.len());
+        buf[..count].copy_from_slice(&self.text[..count]);
+        self.text = &self.text[count..];
+        self.ended = count == 0;
+        Ok(count)
+    }
+}
+
+/// A source of a text, not yet read.
+fn counting(text: &str) -> CountingSource<'_> {
+    CountingSource {
+        text: text.as_bytes(),
+        page: 0,
+        calls: 0,
+        ended: false,
+        failed: false,
+    }
+}
+
+#[test]
+fn a_table_is_read_to_its_end_and_no_further(rt: HostRuntime) -> Result<(), Fail> {
+    let records = records(&rt, TestTable::Plain)?;
+    let plain = text(&rt, &records, "\n")?;
+    let mut source = counting(&plain);
+    assert!(&rt; BaseTable::read(rt.alloc(), &mut source).is_ok());
+    assert_eq!(&rt; source.page, 4096);
+    let pages = (plain.len() / 4096) as u64;
+    assert_eq!(&rt; source.calls, pages + 2);
+    assert!(&rt; !source.failed);
+
+    // an error in the first record is returned after all of the file was read
+    let faulty = format!(in rt.alloc(); "0{plain}")?;
+    let mut source = counting(&faulty);
+    match BaseTable::read(rt.alloc(), &mut source) {
+        Ok(_) => assert!(&rt; false),
+        Err(error) => assert_eq!(&rt; error, TableError::Form(1)),
+    }
+    assert!(&rt; source.ended);
+    assert!(&rt; !source.failed);
     Ok(())
 }

@@ -1,6 +1,7 @@
-use Rattle.std.proofs.Common.{◌∙◌}
+use Rattle.std.proofs.Common.{◌∙◌, refl, inl, inr}
 use Rattle.std.proofs.lemmas.Result.{err_from_is_err_and, IfOk-weaker, IfErr-weaker}
 use Rattle.h3_lattice.specs.BaseTable.{link_of}
+use Rattle.h3_lattice.proofs.FaultLaws.{faults_are_first}
 use Rattle.h3_lattice.proofs.FormLaws.{sound_files_are_accepted}
 use Rattle.h3_lattice.proofs.SoundLaws.{checks_mean_sound}
 use Rattle.h3_lattice.proofs.TableLaws.{accepts, refuses_links, refuses_missing, refuses_records, stops}
@@ -54,3 +55,23 @@ returns-in-Some-clause-checks g c = checks_mean_sound
 
 pub returns-clause-checks : goal.returns-clause-checks
 returns-clause-checks g c = checks_mean_sound
+
+pub returns-in_err-text-clause-first : goal.returns-in_err-text-clause-first
+returns-in_err-text-clause-first g c = faults_are_first
+
+pub returns-in_err-slots-clause-first : goal.returns-in_err-slots-clause-first
+returns-in_err-slots-clause-first g c = faults_are_first
+
+pub returns-in-Some-clause-first : goal.returns-in-Some-clause-first
+returns-in-Some-clause-first g c = faults_are_first
+
+pub returns-clause-first : goal.returns-clause-first
+returns-clause-first g c = faults_are_first
+
+pub returns-in_err-text-clause-whole : goal.returns-in_err-text-clause-whole
+returns-in_err-text-clause-whole g c = λ read memory bytes told.
+    let p = err_from_is_err_and c.from_residual.result c.from_residual.ensures.1 in
+    elim (c.in_err-text.ensures.refused bytes told) [
+      | inl out_of_memory ↦ absurd (memory (rw (p.1, p.2, out_of_memory) refl))
+      | inr failed ↦ absurd (read (rw (p.1, p.2, failed.0) refl))
+    ]
