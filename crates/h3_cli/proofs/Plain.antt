@@ -23,10 +23,10 @@ use Rattle.h3_cli.specs.declared.commands.CommandName.{CommandName}
 use Rattle.h3_cli.specs.declared.commands.CommandName.TheVariants.{IsValidCell, GetResolution, GetBaseCellNumber, IsPentagon, IsResClassIII, GetNumCells, GetRes0Cells, GetPentagons, CellToParent, CellToCenterChild, CellToChildren, CellToChildrenSize, CellToChildPos, ChildPosToCell, CompactCells, UncompactCells}
 use Rattle.h3_cli.proofs.Top.{app_done, first_met, first_state, keeps_stop, leaf, stopped_at, top_done}
 use Rattle.clap.specs.Faults.{check_fault, defaults_fault, entered_fault, fault_of, given_default_fault, level_fault, other_fault, bundle_fault, bundle_step_fault, flag_word_fault, long_fault, option_fault, short_fault, flags_fault, settle_fault, step_fault, turn_fault, use_fault, walk_fault, word_fault}
-use Rattle.h3_cli.specs.Call.{IsUpTo, IsPlainCall, AreUses, IsOneOf, IsPlainValue, Use, names_for, uses_of, words_of}
+use Rattle.h3_cli.specs.Call.{IsPlainCall, AreUses, IsOneOf, IsPlainValue, Use, names_for, uses_of, words_of}
 use Rattle.h3_cli.proofs.Lexed.{given, is_long, is_short, named, named_by}
 use Rattle.h3_cli.specs.Given.{given_by}
-use Rattle.h3_cli.specs.Options.{IsIn, number_up_to, id_of, long_name, parser_done, short_name}
+use Rattle.h3_cli.specs.Options.{IsUpTo, IsIn, number_up_to, id_of, long_name, parser_done, short_name}
 use Rattle.h3_cli.specs.declared.options.CommandOption.{CommandOption}
 use Rattle.h3_cli.specs.declared.options.CommandOption.TheVariants.{Cell, Resolution, Position}
 use Rattle.h3_cli.proofs.Leaf.{Holds, long_is, mine, no_default, short_is, walks, Differs, Which, at_word, bytes_same, differ, done_rule, done_rules, help_done, idle_held, leaf_done, longs_differ, or_false, row_of_option, shorts_differ, used_fresh, value_state, walk_end}

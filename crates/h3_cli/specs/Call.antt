@@ -1,10 +1,10 @@
 -- A plain call: the program's name, a command's name, and then each option of the command once, in any order,
 -- its name and its value in two words.
-use Rattle.std.specs.Prelude.{Option, Some, None, pos, ⊤, ◌⊎◌, ◌≡◌, ◌≢◌, ◌∷◌, ◌+◌, ℕ, List, [], codes, if◌then◌else◌}
+use Rattle.std.specs.Prelude.{⊤, ◌⊎◌, ◌≡◌, ◌≢◌, ◌∷◌, ◌+◌, ℕ, List, [], codes, if◌then◌else◌}
 use Rattle.std.specs.Str.{bytes_eq}
-use Rattle.clap.specs.Words.{IsSignedIn, Text}
+use Rattle.clap.specs.Words.{Text}
 use Rattle.h3_cli.specs.Commands.{options_of, word_of}
-use Rattle.h3_cli.specs.Options.{IsIn, id_of, number_up_to}
+use Rattle.h3_cli.specs.Options.{IsIn, IsUpTo, id_of, number_up_to}
 use Rattle.h3_cli.specs.declared.options.CommandOption.{CommandOption}
 use Rattle.h3_cli.specs.declared.options.CommandOption.TheVariants.{Cell, Resolution, Position}
 use Rattle.h3_cli.specs.declared.commands.CommandName.{CommandName}
@@ -24,11 +24,6 @@ IsOneOf word (x ∷ xs) = (word ≡ x) ⊎ IsOneOf word xs
 abbrev pub IsPlainValue : Text → Type 0
 IsPlainValue [] = ⊥
 IsPlainValue (b ∷ bs) = b ≢ 45
-
--- a whole number from 0 to the most, as an `i64` is read; any text where there is no most
-abbrev pub IsUpTo : Option ℕ → Text → Type 0
-IsUpTo None text = ⊤
-IsUpTo (Some most) text = IsSignedIn (pos 0) (pos most) text
 
 -- an option, the word that names it, and its value
 pub record Use : Type 0 where

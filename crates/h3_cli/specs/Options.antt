@@ -1,6 +1,6 @@
 -- The options of the commands, and how `clap` takes each.
-use Rattle.std.specs.Prelude.{◌≡◌, ◌⊎◌, ℕ, List, [], ◌∷◌, Option, Some, None, true, codes, pos, option_map, unwrap_or}
-use Rattle.clap.specs.Words.{Rule, Text, new_rule}
+use Rattle.std.specs.Prelude.{⊤, ◌≡◌, ◌⊎◌, ℕ, List, [], ◌∷◌, Option, Some, None, true, codes, pos, option_map, unwrap_or}
+use Rattle.clap.specs.Words.{IsSignedIn, Rule, Text, new_rule}
 use Rattle.clap.specs.declared.builder.value_parser.ValueParser.{ValueParser}
 use Rattle.clap.specs.declared.builder.value_parser.ValueParser.TheVariants.{Signed, String}
 use Rattle.h3_cli.specs.declared.options.CommandOption.{CommandOption}
@@ -29,6 +29,11 @@ abbrev pub number_up_to : CommandOption → Option ℕ
 number_up_to Cell = None
 number_up_to Resolution = Some 2147483647
 number_up_to Position = Some 9223372036854775807
+
+-- a whole number from 0 to the most, as an `i64` is read; any text where there is no most
+abbrev pub IsUpTo : Option ℕ → Text → Type 0
+IsUpTo None text = ⊤
+IsUpTo (Some most) text = IsSignedIn (pos 0) (pos most) text
 
 -- a number is read from 0 to the option's most
 abbrev pub parser_for : CommandOption → Option ValueParser

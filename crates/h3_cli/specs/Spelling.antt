@@ -1,10 +1,10 @@
 -- What the words of a command line spell.
 use Rattle.std.specs.Prelude.{⊤, ◌≡◌, ℕ, ℤ, pos, List, Option, Some, None, IsNone, drop, slice_get, false}
 use Rattle.std.specs.Str.Parse.{signed_digits_value}
-use Rattle.clap.specs.Words.{Accepts, IsSignedIn, Text, first_value}
+use Rattle.clap.specs.Words.{Accepts, Text, first_value}
 use Rattle.clap.specs.declared.parser.matches.Found.{Found}
 use Rattle.h3_index.specs.Text.{spelled_index}
-use Rattle.h3_cli.specs.Options.{IsIn, id_of, parser_done}
+use Rattle.h3_cli.specs.Options.{IsIn, IsUpTo, id_of, number_up_to, parser_done}
 use Rattle.h3_cli.specs.Commands.{name_of_command, options_of, word_of}
 use Rattle.h3_cli.specs.Given.{given}
 use Rattle.h3_cli.specs.declared.options.CommandOption.{CommandOption}
@@ -19,15 +19,11 @@ abbrev pub IsIndex : Option Text → Option ℕ → Type 0
 IsIndex None index = ⊥
 IsIndex (Some text) index = index ≡ spelled_index text
 
--- there is a text, it is a whole number from 0 to 2147483647, as an `i64` is read, and this is that number
-abbrev pub IsWhole : Option Text → ℤ → Type 0
-IsWhole None number = ⊥
-IsWhole (Some text) number = IsSignedIn (pos 0) (pos 2147483647) text × (number ≡ signed_digits_value 10 text)
-
--- there is a text, it is a whole number from 0 to 9223372036854775807, as an `i64` is read, and this is that number
-abbrev pub IsPosition : Option Text → ℕ → Type 0
-IsPosition None number = ⊥
-IsPosition (Some text) number = IsSignedIn (pos 0) (pos 9223372036854775807) text × (pos number ≡ signed_digits_value 10 text)
+-- the option has a text, which is a whole number from 0 to the option's most, as an `i64` is read, and this is that
+-- number
+abbrev pub IsNumber : CommandOption → Option Text → ℤ → Type 0
+IsNumber o None number = ⊥
+IsNumber o (Some text) number = IsUpTo (number_up_to o) text × (number ≡ signed_digits_value 10 text)
 
 -- the command has for each of its options the value that the option's text spells
 abbrev pub HasValues : (CommandOption → Option Text) → Command → Type 0
@@ -36,17 +32,17 @@ HasValues text (GetResolution cell) = IsIndex (text Cell) cell
 HasValues text (GetBaseCellNumber cell) = IsIndex (text Cell) cell
 HasValues text (IsPentagon cell) = IsIndex (text Cell) cell
 HasValues text (IsResClassIII cell) = IsIndex (text Cell) cell
-HasValues text (GetNumCells res) = IsWhole (text Resolution) res
+HasValues text (GetNumCells res) = IsNumber Resolution (text Resolution) res
 HasValues text GetRes0Cells = ⊤
-HasValues text (GetPentagons res) = IsWhole (text Resolution) res
-HasValues text (CellToParent cell res) = IsIndex (text Cell) cell × IsWhole (text Resolution) res
-HasValues text (CellToCenterChild cell res) = IsIndex (text Cell) cell × IsWhole (text Resolution) res
-HasValues text (CellToChildren cell res) = IsIndex (text Cell) cell × IsWhole (text Resolution) res
-HasValues text (CellToChildrenSize cell res) = IsIndex (text Cell) cell × IsWhole (text Resolution) res
-HasValues text (CellToChildPos cell res) = IsIndex (text Cell) cell × IsWhole (text Resolution) res
-HasValues text (ChildPosToCell position cell res) = IsPosition (text Position) position × IsIndex (text Cell) cell × IsWhole (text Resolution) res
+HasValues text (GetPentagons res) = IsNumber Resolution (text Resolution) res
+HasValues text (CellToParent cell res) = IsIndex (text Cell) cell × IsNumber Resolution (text Resolution) res
+HasValues text (CellToCenterChild cell res) = IsIndex (text Cell) cell × IsNumber Resolution (text Resolution) res
+HasValues text (CellToChildren cell res) = IsIndex (text Cell) cell × IsNumber Resolution (text Resolution) res
+HasValues text (CellToChildrenSize cell res) = IsIndex (text Cell) cell × IsNumber Resolution (text Resolution) res
+HasValues text (CellToChildPos cell res) = IsIndex (text Cell) cell × IsNumber Resolution (text Resolution) res
+HasValues text (ChildPosToCell position cell res) = IsNumber Position (text Position) (pos position) × IsIndex (text Cell) cell × IsNumber Resolution (text Resolution) res
 HasValues text CompactCells = ⊤
-HasValues text (UncompactCells res) = IsWhole (text Resolution) res
+HasValues text (UncompactCells res) = IsNumber Resolution (text Resolution) res
 
 -- each option of the command has its text in what a parse found, and its parser let it through
 abbrev pub Answers : CommandName → (CommandOption → Option Text) → Found → Type 0

@@ -207,7 +207,7 @@ pub fn command_line<'a>(alloc: Global) -> Result<Parser<'a>, AllocError>
     ensures { IfOk result (λ parser. app_of parser ≡ app) }
 {
     let mut parser = Parser::new(alloc, "h3")
-        .about("Cells of the H3 grid, by whole numbers")
+        .about("Inspect, traverse and compact H3 cells")
         .subcommand_required(true)
         .disable_help_subcommand(true);
     for name in &COMMAND_NAMES {

@@ -55,10 +55,10 @@ impl CommandOption {
             CommandOption::Resolution => argument
                 .short('r')
                 .long("resolution")
-                .value_parser(value_parser!(i64).range(0..=2147483647)),
+                .value_parser(value_parser!(i64).range(0..=i64::from(i32::MAX))),
             CommandOption::Position => argument
                 .long("position")
-                .value_parser(value_parser!(i64).range(0..=9223372036854775807)),
+                .value_parser(value_parser!(i64).range(0..=i64::MAX)),
         }
     }
 
@@ -70,7 +70,7 @@ impl CommandOption {
         self.bare_argument(alloc).help(self.about())
     }
 
-    /// The index that the option's text spells.
+    /// The index that the option's text parses as.
     pub fn index(self, matches: &ArgMatches<'_>) -> Option<u64>
         ensures { (text : Text) → first_value (found_of matches.now) (id_of self) ≡ Some text
             → result ≡ spelled_index text }
@@ -78,10 +78,10 @@ impl CommandOption {
         read_index(matches.get_str(self.id())?.as_bytes()).ok()
     }
 
-    /// The whole number from 0 to 2147483647 that the option's text spells.
+    /// The whole number from 0 to `i32::MAX` that the option's text parses as.
     pub fn whole(self, matches: &ArgMatches<'_>) -> i32
         ensures { (text : Text) → first_value (found_of matches.now) (id_of self) ≡ Some text
-            → IsSignedIn (pos 0) (pos 2147483647) text → result ≡ signed_digits_value 10 text }
+            → IsSignedIn (pos 0) i32.MAX text → result ≡ signed_digits_value 10 text }
     {
         match matches.get_str(self.id()) {
             Some(text) => text.parse().unwrap_or(0),
@@ -89,10 +89,10 @@ impl CommandOption {
         }
     }
 
-    /// The whole number from 0 to 9223372036854775807 that the option's text spells.
+    /// The whole number from 0 to `i64::MAX` that the option's text parses as.
     pub fn position(self, matches: &ArgMatches<'_>) -> u64
         ensures { (text : Text) → first_value (found_of matches.now) (id_of self) ≡ Some text
-            → IsSignedIn (pos 0) (pos 9223372036854775807) text → pos result ≡ signed_digits_value 10 text }
+            → IsSignedIn (pos 0) i64.MAX text → pos result ≡ signed_digits_value 10 text }
     {
         match matches.get_str(self.id()) {
             Some(text) => text.parse::<i64>().unwrap_or(0).unsigned_abs(),

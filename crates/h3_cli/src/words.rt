@@ -23,16 +23,16 @@ pub struct Words {
     pub table: Option<String>,
 }
 
-/// Why the words ask for no command.
+/// Why there is no command to run.
 #[derive(Debug, Drop)]
 pub enum WordsFault {
-    /// They ask for help: its text.
+    /// The words ask for help: its text.
     Help(String),
 
-    /// They are no words of a command: the text that says why.
+    /// The command line is invalid: the text that says why.
     Usage(String),
 
-    /// Memory was wanted and refused.
+    /// Out of memory.
     Memory,
 }
 
@@ -45,8 +45,8 @@ impl From<AllocError> for WordsFault {
 }
 
 impl WordsFault {
-    /// The fault that `clap` found, with its text.
-    fn told(alloc: Global, error: clap::Error) -> WordsFault
+    /// The error that `clap` found, with its text.
+    fn from_parse(alloc: Global, error: clap::Error) -> WordsFault
         ensures { IsToldAs (kind_of error) result }
     {
         if error.kind() == ErrorKind::OutOfMemory {
@@ -62,7 +62,11 @@ impl WordsFault {
     }
 }
 
-/// Reads the words of a command line, of which the first is the program's name.
+/// Parses the words of a command line, of which the first is the program's name.
+///
+/// [`WordsFault::Help`] where they ask for help, [`WordsFault::Usage`] where they are no command with
+/// each of its options once and a value in range, and [`WordsFault::Memory`] where there is no memory
+/// for the parse.
 pub fn read_words(alloc: Global, words: Vec<String>) -> Result<Words, WordsFault>
     ensures read { IfOk result (Spells (map string_bytes words.items)) }
     ensures accepted { OnOk result (fault_of app (map string_bytes words.items) ≡ []) }
@@ -72,7 +76,7 @@ pub fn read_words(alloc: Global, words: Vec<String>) -> Result<Words, WordsFault
     let parser = command_line(alloc)?;
     let matches = match parser.try_get_matches_from(words.as_slice()) {
         Ok(matches) => matches,
-        Err(error) => return Err(WordsFault::told(alloc, error)),
+        Err(error) => return Err(WordsFault::from_parse(alloc, error)),
     };
     let Some((word, inner)) = matches.subcommand() else {
         unreachable!()

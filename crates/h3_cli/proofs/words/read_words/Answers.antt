@@ -8,11 +8,11 @@ use Rattle.h3_cli.proofs.Reading.{fault_told, word_named, met, only_memory, pass
 use Rattle.h3_cli.proofs.words.read_words.Goals as goal
 
 pub returns-in-Err-clause-faults : goal.returns-in-Err-clause-faults
-returns-in-Err-clause-faults c = fault_told _ _ _ c.in-Err.error c.in_ok-parser.ensures (ap (map string_bytes) c.as_slice.ensures.value) c.in-Err.ensures.kinds c.told.result c.told.ensures
+returns-in-Err-clause-faults c = fault_told _ _ _ c.in-Err.error c.in_ok-parser.ensures (ap (map string_bytes) c.as_slice.ensures.value) c.in-Err.ensures.kinds c.from_parse.result c.from_parse.ensures
 
 pub returns-in-Err-clause-taken : goal.returns-in-Err-clause-taken
-returns-in-Err-clause-taken c = λ call. only_memory (map string_bytes c.args.words.items) c.told.result
-    (fault_told _ _ _ c.in-Err.error c.in_ok-parser.ensures (ap (map string_bytes) c.as_slice.ensures.value) c.in-Err.ensures.kinds c.told.result c.told.ensures)
+returns-in-Err-clause-taken c = λ call. only_memory (map string_bytes c.args.words.items) c.from_parse.result
+    (fault_told _ _ _ c.in-Err.error c.in_ok-parser.ensures (ap (map string_bytes) c.as_slice.ensures.value) c.in-Err.ensures.kinds c.from_parse.result c.from_parse.ensures)
     (call_passes (map string_bytes c.args.words.items) call)
 
 pub unreachable-requires-in_default-named_by : goal.unreachable-requires-in_default-named_by

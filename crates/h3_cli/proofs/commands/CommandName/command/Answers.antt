@@ -1,12 +1,12 @@
 use Rattle.std.proofs.lemmas.Int.{to_z-of_z}
 use Rattle.std.proofs.Common.{w32, rules, ◌≡◌, ℕ, ℤ, List, Option, Some, pos, false, refl, sym, subst, inl, inr}
 use Rattle.std.specs.Str.Parse.{signed_digits_value}
-use Rattle.clap.specs.Words.{Accepts, IsSignedIn, Text, first_value, found_of}
+use Rattle.clap.specs.Words.{Accepts, Text, first_value, found_of}
 use Rattle.clap.specs.declared.parser.matches.Found.{Found}
 use Rattle.h3_index.specs.Text.{spelled_index}
-use Rattle.h3_cli.specs.Options.{IsIn, id_of, parser_done}
+use Rattle.h3_cli.specs.Options.{IsIn, IsUpTo, id_of, number_up_to, parser_done}
 use Rattle.h3_cli.specs.Commands.{options_of}
-use Rattle.h3_cli.specs.Spelling.{Answers, IsIndex, IsPosition, IsWhole}
+use Rattle.h3_cli.specs.Spelling.{Answers, IsIndex, IsNumber}
 use Rattle.h3_cli.specs.declared.options.CommandOption.{CommandOption}
 use Rattle.h3_cli.specs.declared.options.CommandOption.TheVariants.{Cell, Resolution, Position}
 use Rattle.h3_cli.specs.declared.commands.CommandName.{CommandName}
@@ -18,21 +18,13 @@ index_holds self k same text f answers o is index reads =
     let a = answers o (subst (λ x. IsIn o (options_of x)) (sym same) is) in
     subst (λ t. IsIndex t index) (sym a.1) (reads a.0 a.2)
 
--- each option of numbers up to 2147483647 is one of these
-whole_holds : (self k : CommandName) → self ≡ k → (text : CommandOption → Option Text) (f : Found) → Answers self text f → (o : CommandOption)
-    → ((t : Text) → Accepts false (parser_done o) t → IsSignedIn (pos 0) (pos 2147483647) t) → IsIn o (options_of k) → (n : ℤ)
-    → ((t : List ℕ) → first_value f (id_of o) ≡ Some t → IsSignedIn (pos 0) (pos 2147483647) t → n ≡ signed_digits_value 10 t) → IsWhole (text o) n
-whole_holds self k same text f answers o fits is n reads =
+-- each option of numbers is one of these
+number_holds : (self k : CommandName) → self ≡ k → (text : CommandOption → Option Text) (f : Found) → Answers self text f → (o : CommandOption)
+    → ((t : Text) → Accepts false (parser_done o) t → IsUpTo (number_up_to o) t) → IsIn o (options_of k) → (n : ℤ)
+    → ((t : List ℕ) → first_value f (id_of o) ≡ Some t → IsUpTo (number_up_to o) t → n ≡ signed_digits_value 10 t) → IsNumber o (text o) n
+number_holds self k same text f answers o fits is n reads =
     let a = answers o (subst (λ x. IsIn o (options_of x)) (sym same) is) in
-    subst (λ t. IsWhole t n) (sym a.1) (fits a.0 a.3, reads a.0 a.2 (fits a.0 a.3))
-
--- the same of a position
-position_holds : (self k : CommandName) → self ≡ k → (text : CommandOption → Option Text) (f : Found) → Answers self text f → (o : CommandOption)
-    → ((t : Text) → Accepts false (parser_done o) t → IsSignedIn (pos 0) (pos 9223372036854775807) t) → IsIn o (options_of k) → (n : ℕ)
-    → ((t : List ℕ) → first_value f (id_of o) ≡ Some t → IsSignedIn (pos 0) (pos 9223372036854775807) t → pos n ≡ signed_digits_value 10 t) → IsPosition (text o) n
-position_holds self k same text f answers o fits is n reads =
-    let a = answers o (subst (λ x. IsIn o (options_of x)) (sym same) is) in
-    subst (λ t. IsPosition t n) (sym a.1) (fits a.0 a.3, reads a.0 a.2 (fits a.0 a.3))
+    subst (λ t. IsNumber o t n) (sym a.1) (fits a.0 a.3, reads a.0 a.2 (fits a.0 a.3))
 
 pub returns-in-IsValidCell-clause-values : goal.returns-in-IsValidCell-clause-values
 returns-in-IsValidCell-clause-values c = λ text answers. index_holds c.args.self _ c.in-IsValidCell.is text (found_of c.args.matches.now) answers Cell (inl refl) _ c.index-cell.ensures
@@ -50,47 +42,47 @@ pub returns-in-IsResClassIII-clause-values : goal.returns-in-IsResClassIII-claus
 returns-in-IsResClassIII-clause-values c = λ text answers. index_holds c.args.self _ c.in-IsResClassIII.is text (found_of c.args.matches.now) answers Cell (inl refl) _ c.index-cell.ensures
 
 pub returns-in-GetNumCells-clause-values : goal.returns-in-GetNumCells-clause-values
-returns-in-GetNumCells-clause-values c = λ text answers. subst (IsWhole (text Resolution)) (sym (to_z-of_z w32 c.whole-res.result (search rules))) (whole_holds c.args.self _ c.in-GetNumCells.is text (found_of c.args.matches.now) answers Resolution (λ t a. a) (inl refl) c.whole-res.result c.whole-res.ensures)
+returns-in-GetNumCells-clause-values c = λ text answers. subst (IsNumber Resolution (text Resolution)) (sym (to_z-of_z w32 c.whole-res.result (search rules))) (number_holds c.args.self _ c.in-GetNumCells.is text (found_of c.args.matches.now) answers Resolution (λ t a. a) (inl refl) c.whole-res.result c.whole-res.ensures)
 
 pub returns-in-GetPentagons-clause-values : goal.returns-in-GetPentagons-clause-values
-returns-in-GetPentagons-clause-values c = λ text answers. subst (IsWhole (text Resolution)) (sym (to_z-of_z w32 c.whole-res.result (search rules))) (whole_holds c.args.self _ c.in-GetPentagons.is text (found_of c.args.matches.now) answers Resolution (λ t a. a) (inl refl) c.whole-res.result c.whole-res.ensures)
+returns-in-GetPentagons-clause-values c = λ text answers. subst (IsNumber Resolution (text Resolution)) (sym (to_z-of_z w32 c.whole-res.result (search rules))) (number_holds c.args.self _ c.in-GetPentagons.is text (found_of c.args.matches.now) answers Resolution (λ t a. a) (inl refl) c.whole-res.result c.whole-res.ensures)
 
 pub returns-in-CellToParent-clause-values : goal.returns-in-CellToParent-clause-values
 returns-in-CellToParent-clause-values c = λ text answers. (
   index_holds c.args.self _ c.in-CellToParent.is text (found_of c.args.matches.now) answers Cell (inl refl) _ c.index-cell.ensures,
-  subst (IsWhole (text Resolution)) (sym (to_z-of_z w32 c.whole-res.result (search rules))) (whole_holds c.args.self _ c.in-CellToParent.is text (found_of c.args.matches.now) answers Resolution (λ t a. a) (inr (inl refl)) c.whole-res.result c.whole-res.ensures),
+  subst (IsNumber Resolution (text Resolution)) (sym (to_z-of_z w32 c.whole-res.result (search rules))) (number_holds c.args.self _ c.in-CellToParent.is text (found_of c.args.matches.now) answers Resolution (λ t a. a) (inr (inl refl)) c.whole-res.result c.whole-res.ensures),
 )
 
 pub returns-in-CellToCenterChild-clause-values : goal.returns-in-CellToCenterChild-clause-values
 returns-in-CellToCenterChild-clause-values c = λ text answers. (
   index_holds c.args.self _ c.in-CellToCenterChild.is text (found_of c.args.matches.now) answers Cell (inl refl) _ c.index-cell.ensures,
-  subst (IsWhole (text Resolution)) (sym (to_z-of_z w32 c.whole-res.result (search rules))) (whole_holds c.args.self _ c.in-CellToCenterChild.is text (found_of c.args.matches.now) answers Resolution (λ t a. a) (inr (inl refl)) c.whole-res.result c.whole-res.ensures),
+  subst (IsNumber Resolution (text Resolution)) (sym (to_z-of_z w32 c.whole-res.result (search rules))) (number_holds c.args.self _ c.in-CellToCenterChild.is text (found_of c.args.matches.now) answers Resolution (λ t a. a) (inr (inl refl)) c.whole-res.result c.whole-res.ensures),
 )
 
 pub returns-in-CellToChildren-clause-values : goal.returns-in-CellToChildren-clause-values
 returns-in-CellToChildren-clause-values c = λ text answers. (
   index_holds c.args.self _ c.in-CellToChildren.is text (found_of c.args.matches.now) answers Cell (inl refl) _ c.index-cell.ensures,
-  subst (IsWhole (text Resolution)) (sym (to_z-of_z w32 c.whole-res.result (search rules))) (whole_holds c.args.self _ c.in-CellToChildren.is text (found_of c.args.matches.now) answers Resolution (λ t a. a) (inr (inl refl)) c.whole-res.result c.whole-res.ensures),
+  subst (IsNumber Resolution (text Resolution)) (sym (to_z-of_z w32 c.whole-res.result (search rules))) (number_holds c.args.self _ c.in-CellToChildren.is text (found_of c.args.matches.now) answers Resolution (λ t a. a) (inr (inl refl)) c.whole-res.result c.whole-res.ensures),
 )
 
 pub returns-in-CellToChildrenSize-clause-values : goal.returns-in-CellToChildrenSize-clause-values
 returns-in-CellToChildrenSize-clause-values c = λ text answers. (
   index_holds c.args.self _ c.in-CellToChildrenSize.is text (found_of c.args.matches.now) answers Cell (inl refl) _ c.index-cell.ensures,
-  subst (IsWhole (text Resolution)) (sym (to_z-of_z w32 c.whole-res.result (search rules))) (whole_holds c.args.self _ c.in-CellToChildrenSize.is text (found_of c.args.matches.now) answers Resolution (λ t a. a) (inr (inl refl)) c.whole-res.result c.whole-res.ensures),
+  subst (IsNumber Resolution (text Resolution)) (sym (to_z-of_z w32 c.whole-res.result (search rules))) (number_holds c.args.self _ c.in-CellToChildrenSize.is text (found_of c.args.matches.now) answers Resolution (λ t a. a) (inr (inl refl)) c.whole-res.result c.whole-res.ensures),
 )
 
 pub returns-in-CellToChildPos-clause-values : goal.returns-in-CellToChildPos-clause-values
 returns-in-CellToChildPos-clause-values c = λ text answers. (
   index_holds c.args.self _ c.in-CellToChildPos.is text (found_of c.args.matches.now) answers Cell (inl refl) _ c.index-cell.ensures,
-  subst (IsWhole (text Resolution)) (sym (to_z-of_z w32 c.whole-res.result (search rules))) (whole_holds c.args.self _ c.in-CellToChildPos.is text (found_of c.args.matches.now) answers Resolution (λ t a. a) (inr (inl refl)) c.whole-res.result c.whole-res.ensures),
+  subst (IsNumber Resolution (text Resolution)) (sym (to_z-of_z w32 c.whole-res.result (search rules))) (number_holds c.args.self _ c.in-CellToChildPos.is text (found_of c.args.matches.now) answers Resolution (λ t a. a) (inr (inl refl)) c.whole-res.result c.whole-res.ensures),
 )
 
 pub returns-in-ChildPosToCell-clause-values : goal.returns-in-ChildPosToCell-clause-values
 returns-in-ChildPosToCell-clause-values c = λ text answers. (
-  position_holds c.args.self _ c.in-ChildPosToCell.is text (found_of c.args.matches.now) answers Position (λ t a. a) (inl refl) c.position-position.result c.position-position.ensures,
+  number_holds c.args.self _ c.in-ChildPosToCell.is text (found_of c.args.matches.now) answers Position (λ t a. a) (inl refl) (pos c.position-position.result) c.position-position.ensures,
   index_holds c.args.self _ c.in-ChildPosToCell.is text (found_of c.args.matches.now) answers Cell (inr (inl refl)) _ c.index-cell.ensures,
-  subst (IsWhole (text Resolution)) (sym (to_z-of_z w32 c.whole-res.result (search rules))) (whole_holds c.args.self _ c.in-ChildPosToCell.is text (found_of c.args.matches.now) answers Resolution (λ t a. a) (inr (inr (inl refl))) c.whole-res.result c.whole-res.ensures),
+  subst (IsNumber Resolution (text Resolution)) (sym (to_z-of_z w32 c.whole-res.result (search rules))) (number_holds c.args.self _ c.in-ChildPosToCell.is text (found_of c.args.matches.now) answers Resolution (λ t a. a) (inr (inr (inl refl))) c.whole-res.result c.whole-res.ensures),
 )
 
 pub returns-in-UncompactCells-clause-values : goal.returns-in-UncompactCells-clause-values
-returns-in-UncompactCells-clause-values c = λ text answers. subst (IsWhole (text Resolution)) (sym (to_z-of_z w32 c.whole-res.result (search rules))) (whole_holds c.args.self _ c.in-UncompactCells.is text (found_of c.args.matches.now) answers Resolution (λ t a. a) (inl refl) c.whole-res.result c.whole-res.ensures)
+returns-in-UncompactCells-clause-values c = λ text answers. subst (IsNumber Resolution (text Resolution)) (sym (to_z-of_z w32 c.whole-res.result (search rules))) (number_holds c.args.self _ c.in-UncompactCells.is text (found_of c.args.matches.now) answers Resolution (λ t a. a) (inl refl) c.whole-res.result c.whole-res.ensures)
