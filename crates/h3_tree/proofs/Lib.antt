@@ -2,5 +2,6 @@ pub mod BlockLaws
 pub mod AncestorLaws
 pub mod FollowingLaws
 pub mod PositionLaws
+pub mod PostOrderLaws
 pub mod SizeLaws
 pub mod WalkLaws

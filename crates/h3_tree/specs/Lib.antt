@@ -2,5 +2,6 @@ pub mod Children
 pub mod Examples
 pub mod Following
 pub mod Positions
+pub mod PostOrder
 pub mod Refusals
 pub mod Laws

@@ -2,6 +2,7 @@
 //! proofs of crates that call it.
 
 ghost use Rattle.h3_tree.specs.Laws.{CellsFormTrees};
+ghost use Rattle.h3_tree.specs.PostOrder.{CellsFormIntervals};
 
 use h3_index::laws::{cuts_are_cells, descendants_are_listed, paths_are_chains};
 
@@ -14,3 +15,9 @@ pub fn cells_form_trees()
     descendants_are_listed();
     paths_are_chains();
 }
+
+/// In order of `post_order_key`, the cells below a cell, and the cell itself, are an interval that
+/// ends at the cell. Among cells of one resolution that order is the order of the numbers.
+pub fn cells_form_intervals()
+    ensures { CellsFormIntervals }
+{}

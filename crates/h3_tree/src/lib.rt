@@ -5,6 +5,7 @@ mod ancestors;
 mod descendants;
 mod iter;
 pub mod laws;
+mod order;
 mod positions;
 mod powers;
 mod resolutions;
@@ -12,6 +13,7 @@ mod resolutions;
 pub use ancestors::parent;
 pub use descendants::{center_child, children, children_at, children_size};
 pub use iter::Children;
+pub use order::post_order_key;
 pub use positions::{child_at, child_pos};
 
 #[cfg(test)]

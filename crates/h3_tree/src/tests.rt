@@ -1,4 +1,6 @@
-use crate::{center_child, child_at, child_pos, children, children_size, parent};
+use crate::{
+    center_child, child_at, child_pos, children, children_at, children_size, parent, post_order_key,
+};
 use h3_index::{Cell, H3Error};
 use std::process::Abort;
 use std::test::Fail;
@@ -54,6 +56,30 @@ fn children_of_a_pentagon(rt: HostRuntime) -> Result<(), Fail> {
         0x8109bffffffffff,
     ];
     assert_children(&rt, 0x8009fffffffffff, 1, &expected)
+}
+
+#[test]
+fn children_at_a_known_resolution(rt: HostRuntime) -> Result<(), Fail> {
+    let cell = Cell::new(0x85283473fffffff)?;
+    let own = cell.resolution();
+    let mut items = children_at(cell, own);
+    assert_eq!(rt; items.next(), Some(cell));
+    assert!(rt; items.next().is_none());
+    let finest = children_at(cell, 15).next().ok_or("none")?;
+    assert_eq!(rt; finest.raw(), 0x8f2834700000000);
+    Ok(())
+}
+
+#[test]
+fn a_cell_comes_after_its_children(rt: HostRuntime) -> Result<(), Fail> {
+    let key = post_order_key(Cell::new(0x85283473fffffff)?);
+    assert_eq!(rt; key, 0x283473fffffff);
+    let last_child = post_order_key(Cell::new(0x862834737ffffff)?);
+    assert_eq!(rt; last_child, 0x2834737ffffff);
+    assert!(rt; last_child < key);
+    let child_of_next = post_order_key(Cell::new(0x862834747ffffff)?);
+    assert!(rt; key < child_of_next);
+    Ok(())
 }
 
 #[test]
