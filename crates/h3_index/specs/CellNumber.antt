@@ -18,7 +18,7 @@ digits_in m = last_digits 8 15 m
 unfoldable pub address_in : ℕ → Address
 address_in m = record { base = base_in m; digits = take (resolution_in m) (last_digits 8 15 m) }
 
--- the number is that of a cell, the one that its fields tell
+-- the number is that of a cell, the one that its fields give
 pub record IsCellNumber (m : ℕ) : Type 0 where
   pub is : number_of (address_in m) ≡ m
   pub valid : IsCell (address_in m)

@@ -43,6 +43,6 @@ is_hexadecimal ds = nat_lt 0 (length ds) && nat_le (length ds) 16 && list_all (�
 abbrev pub number_spelled : List ℕ → Option ℕ
 number_spelled ds = if is_hexadecimal ds then Some (digits_value 16 ds) else None
 
--- the number that a list of bytes spells, where it spells one
+-- the number that a list of bytes parses as, where it parses as one
 unfoldable pub spelled_index : List ℕ → Option ℕ
 spelled_index bs = number_spelled (without_prefix (trimmed bs))

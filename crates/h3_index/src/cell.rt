@@ -71,7 +71,7 @@ impl Model for Cell {
 }
 
 impl Cell {
-    /// The cell that a number stands for, as H3's `isValidCell` tells: `CellInvalid` where it is no cell's number.
+    /// The cell with this number, as H3's `isValidCell` tests it: `CellInvalid` where no cell has it.
     pub fn new(raw: u64) -> Result<Cell, H3Error>
         ensures read { result_ok result ≡ cell_in raw }
         ensures accepted { IfOk result (λ cell. IsCell cell × (number_of cell ≡ raw)) }
@@ -123,13 +123,13 @@ impl Cell {
         (self.raw >> (45 - 3 * r) & 7) as u8
     }
 
-    /// Whether the cell is one of the twelve pentagons of its resolution, as H3's `isPentagon` tells: its base cell is
-    /// a pentagon, and its digits are all 0.
+    /// Whether the cell is one of the twelve pentagons of its resolution, as H3's `isPentagon`
+    /// returns it: its base cell is a pentagon, and its digits are all 0.
     #[inline(always)]
     pub fn is_pentagon(self) -> bool
         ensures { result ≡ is_pentagon self }
     {
-        // The digits alone tell most cells.
+        // The digits alone decide for most cells.
         (self.raw & 0x1fff_ffff_ffff) >> (3 * (15 - self.resolution())) == 0
             && self.in_pentagon_base()
     }
@@ -141,7 +141,7 @@ impl Cell {
         is_pentagon_base(self.base_cell())
     }
 
-    /// Whether the cell's resolution is odd, which is Class III, as H3's `isResClassIII` tells.
+    /// Whether the cell's resolution is odd, which is Class III, as H3's `isResClassIII` returns it.
     pub fn is_class_iii(self) -> bool
         ensures { result ≡ is_class_iii self }
     {

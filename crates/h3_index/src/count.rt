@@ -31,7 +31,7 @@ pub(crate) fn resolution_from(res: i32) -> Result<u8, H3Error>
     }
 }
 
-/// How many cells a resolution has, as H3's `getNumCells` tells: `ResDomain` outside 0 to 15.
+/// The number of cells of a resolution, as H3's `getNumCells` returns it: `ResDomain` outside 0 to 15.
 pub fn num_cells(res: i32) -> Result<u64, H3Error>
     ensures formula { MatchOption (resolution_of res) (result ≡ Err H3Error.ResDomain)
         (λ r. result ≡ Ok (2 + 120 * 7 ^ r)) }

@@ -4,7 +4,7 @@ ghost use Rattle.std.specs.Prelude.{◌≡◌};
 
 use thiserror::Error;
 
-/// Why a call is refused: the errors of H3's `H3Error` that calls here give.
+/// Why a call is refused: an error of H3's table of error codes.
 #[derive(Clone, Copy, Debug, PartialEq, Eq, Error)]
 pub enum H3Error {
     /// The call failed where H3 names no nearer cause.
@@ -43,7 +43,7 @@ pub enum H3Error {
     #[error("the resolutions do not go together")]
     ResMismatch,
 
-    /// Memory was wanted and refused.
+    /// Out of memory.
     #[error("memory was refused")]
     MemoryAlloc,
 }

@@ -15,14 +15,15 @@ pub struct StreamFault;
 
 /// What bytes are taken from: a file, standard input, or bytes in memory.
 pub trait Source {
-    /// The bytes left, where they are told.
+    /// The bytes left, where they are known.
     ghost left: { Self → Option (List ℕ) };
 
     /// It has failed.
     ghost has_failed: { Self → Bool };
 
-    /// Takes bytes to the front of a buffer, and answers how many: none only at the end of the bytes, or where the
-    /// buffer is empty. After a fault nothing is said of the bytes that are left.
+    /// Reads the next bytes into the front of a buffer, and returns how many they are: none only at
+    /// the end of the bytes, or where the buffer is empty. After a failure nothing is said of the
+    /// bytes that are left.
     fn pull(&mut self, buf: &mut [u8]) -> Result<usize, StreamFault>
         ensures bound { IfOk result (λ n. n ≤ length buf.new) }
         ensures bytes { IfOk result (λ n. Pulls (left self.old) (left self.new) buf.new n) }
@@ -32,13 +33,14 @@ pub trait Source {
 
 /// What bytes are given to: a file, standard output, or a buffer in memory.
 pub trait Sink {
-    /// The bytes taken, where they are told.
+    /// The bytes taken, where they are known.
     ghost taken: { Self → Option (List ℕ) };
 
     /// It has failed.
     ghost has_failed: { Self → Bool };
 
-    /// Gives bytes, and answers how many were taken from their front: some, unless there are none. A fault takes none.
+    /// Writes bytes, and returns how many were taken from their front: at least one, unless there are
+    /// none. A failure takes none.
     fn push(&mut self, bytes: &[u8]) -> Result<usize, StreamFault>
         ensures bound { IfOk result (λ n. n ≤ length bytes.now) }
         ensures some { IfOk result (λ n. 0 < length bytes.now → 0 < n) }
@@ -47,7 +49,8 @@ pub trait Sink {
         ensures refused { OnErr result (Keeps (taken self.old) (taken self.new)) }
         ensures err { OnErr result (has_failed self.new ≡ true) };
 
-    /// Hands on what was taken and held back. After a fault it may be lost: then the bytes are told no more.
+    /// Hands on what was taken and held back. After a failure it may be lost: then the bytes are no
+    /// longer known.
     fn flush(&mut self) -> Result<(), StreamFault>
         ensures bytes { OnOk result (Keeps (taken self.old) (taken self.new)) }
         ensures ok { OnOk result (has_failed self.new ≡ has_failed self.old) }
@@ -105,8 +108,9 @@ impl<T: Read> Source for Streamed<T> {
 
     ghost has_failed = { streamed_failed };
 
-    /// Takes bytes to the front of a buffer, and answers how many: none only at the end of the bytes, or where the
-    /// buffer is empty. After a fault nothing is said of the bytes that are left.
+    /// Reads the next bytes into the front of a buffer, and returns how many they are: none only at
+    /// the end of the bytes, or where the buffer is empty. After a failure nothing is said of the
+    /// bytes that are left.
     fn pull(&mut self, buf: &mut [u8]) -> Result<usize, StreamFault> {
         match self.inner.read(buf) {
             Ok(n) => Ok(n),

@@ -78,7 +78,7 @@ fn read_digits(digits: &[u8]) -> Option<u64>
     Some(number)
 }
 
-/// The index that a text spells; stricter than H3's `stringToH3`, which lets text after the digits through.
+/// The index that a text parses as; stricter than H3's `stringToH3`, which accepts text after the digits.
 ///
 /// Spaces, tabs and carriage returns at both ends are dropped, then an optional `0x` or `0X`; what is left must be 1
 /// to 16 hexadecimal digits of either case. Any other text is refused with `Failed`. The index need not be valid.
@@ -144,7 +144,7 @@ pub fn write_index(index: u64) -> ArrayString<16>
     ensures spells { spelled_index (text_of index) ≡ Some index }
 {
     let zeros = zeros_in_front(index);
-    // The zeros are shifted out and all sixteen digits put at once: a copy of so many as count would take longer.
+    // The zeros are shifted out and all sixteen digits put at once, which is faster than a copy of some.
     let mut text = text_from(&digits_of(index << (4 * zeros)));
     text.truncate(16 - zeros as usize);
     text
