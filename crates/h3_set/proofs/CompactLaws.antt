@@ -13,6 +13,7 @@ use Rattle.h3_tree.specs.Laws.{CellsFormTrees}
 use Rattle.h3_set.specs.Compacted.{IsCompacted, IsTop}
 use Rattle.h3_set.specs.Compaction.{level_of, slots_in_use}
 use Rattle.h3_set.specs.Coverage.{finest, IsApart, IsCompactable, IsCovered}
+use Rattle.h3_set.specs.Order.{IsInOrder}
 use Rattle.h3_set.specs.Rounds.{InPart}
 use Rattle.h3_set.specs.declared.rounds.Compaction.{Compaction}
 use Rattle.h3_set.proofs.TestLaws.{dec_covered}
@@ -30,6 +31,7 @@ pub record IsUnderWay (cells before slots : List Address) (c : Compaction) : Typ
   pub level : level_of c ≤ finest cells
   pub compactable : IsCompactable (finest cells) cells
   pub apart : IsApart (take (slots_in_use c) slots)
+  pub in_order : IsInOrder (take (slots_in_use c) slots)
   pub part : (x : Address) → Contains (take (slots_in_use c) slots) x ↔ InPart cells (finest cells) (level_of c) x
   pub others : drop (length cells) slots ≡ drop (length cells) before
 

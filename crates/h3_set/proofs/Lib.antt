@@ -1,9 +1,16 @@
 pub mod ApartLaws
+pub mod ChildLaws
 pub mod CompactLaws
+pub mod IdleLaws
+pub mod KeyLaws
+pub mod MergeLaws
+pub mod OrderLaws
 pub mod PartLaws
+pub mod PermutedLaws
 pub mod RepeatLaws
+pub mod ResolutionLaws
 pub mod RoundLaws
-pub mod SearchLaws
+pub mod RunLaws
 pub mod Seen
 pub mod SeenLaws
 pub mod SetLaws

@@ -1,5 +1,5 @@
 -- Lists with and without repeats.
-use Rattle.std.proofs.Common.{zero, suc, ◌≡◌, ◌≢◌, ◌==◌, List, [], ◌∷◌, AllPairs, Bool, true, false, ◌||◌, refl, arith, sym, ap, get_or}
+use Rattle.std.proofs.Common.{ℕ, zero, suc, ◌≡◌, ◌≢◌, ◌<◌, ◌==◌, List, [], ◌∷◌, length, AllPairs, Bool, true, false, ◌||◌, refl, arith, sym, ap, get_or}
 use Rattle.std.proofs.lemmas.List.Folds.{list_any_at, list_any_none}
 use Rattle.h3_index.specs.Cell.{Address, number_of}
 use Rattle.h3_index.specs.Laws.{NumbersTellCells}
@@ -37,3 +37,11 @@ repeats_found tell cells valid = (
   (λ none i j d lt lj e. numbers_differ cells none i j d lt lj (ap number_of e)),
   (λ once. no_repeat_from cells (λ i j d lt lj e. once i j d lt lj (tell (get_or cells i d) (get_or cells j d) (valid i d (omega (arith, lt, lj))) (valid j d lj) e))),
 )
+
+repeated : (cells : List Address) (i j : ℕ) (d : Address) → i < j → j < length cells → number_of (get_or cells i d) ≡ number_of (get_or cells j d) → (b : Bool) → has_repeat cells ≡ b → b ≡ true
+repeated cells i j d lt lj e true h = refl
+repeated cells i j d lt lj e false h = absurd (numbers_differ cells h i j d lt lj e)
+
+-- a number at two places is a repeat
+pub repeat_at : (cells : List Address) (i j : ℕ) (d : Address) → i < j → j < length cells → number_of (get_or cells i d) ≡ number_of (get_or cells j d) → has_repeat cells ≡ true
+repeat_at cells i j d lt lj e = repeated cells i j d lt lj e _ refl

@@ -39,7 +39,7 @@ pub fn compact_cells(cells: &[Cell], slots: &mut [Cell]) -> Result<usize, H3Erro
     // one resolution cover themselves; below the list each cell covered stands once.
     ensures tops { IfOk result (λ m. (x : Address)
         → Contains (take m slots.new) x
-            ↔ IsTop (IsCovered cells.now (finest cells.now)) (finest cells.now) x) }
+        ↔ IsTop (IsCovered cells.now (finest cells.now)) (finest cells.now) x) }
     ensures only { IfOk result (λ m. (others : List Address)
         → IsCompacted (IsCovered cells.now (finest cells.now)) (finest cells.now) others
         → others ≡ take m slots.new) }
@@ -55,9 +55,9 @@ pub fn compact_cells(cells: &[Cell], slots: &mut [Cell]) -> Result<usize, H3Erro
     cells_form_trees();
     numbers_tell_cells();
     cells_are_listed();
-    let mut compaction = Compaction::start(cells, slots)?;
+    let mut compaction = Compaction::start_in_order(cells, slots)?;
     while compaction.level() > 0 {
-        compaction = compaction.round(slots);
+        compaction = compaction.round_in_order(slots).skip(slots);
     }
     Ok(compaction.finish(slots))
 }

@@ -4,8 +4,9 @@
 mod compact;
 mod iter;
 mod merge;
+mod order;
+mod resolutions;
 mod rounds;
-mod search;
 mod uncompaction;
 
 pub use compact::compact_cells;

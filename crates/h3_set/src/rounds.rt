@@ -1,4 +1,4 @@
-//! Compaction in rounds, in slots that are lent at each call.
+//! Compaction in rounds, in slots that the caller provides at each call.
 
 ghost use Rattle.std.specs.Prelude.{◌≡◌, ◌≢◌, ◌+◌, ◌<◌, ◌≤◌, ◌↔◌, length, take, drop, AllPairs, Contains, IfOk, List, ℕ, IsPermutation};
 ghost use Rattle.std.specs.Result.{result_err};
@@ -6,18 +6,21 @@ ghost use Rattle.h3_index.specs.Cell.{Address, number_of};
 ghost use Rattle.h3_set.specs.Compaction.{level_of, slots_in_use};
 ghost use Rattle.h3_set.specs.Coverage.{finest, IsApart, IsCompactable};
 ghost use Rattle.h3_set.specs.Laws.{RepeatsAreFound, RoundsReachTheTop};
+ghost use Rattle.h3_set.specs.Order.{IsInOrder};
 ghost use Rattle.h3_set.specs.Refusals.{compaction_refusal};
 ghost use Rattle.h3_set.specs.Rounds.{InPart, InRound};
 
-use crate::merge::merge;
-use crate::search::{common_resolution, has_repeat};
+use crate::merge::{merge, merge_runs};
+use crate::order::{are_cells, sort_and_find_repeat};
+use crate::resolutions::{finest_up_to, survey};
 use h3_index::laws::numbers_tell_cells;
 use h3_index::{Cell, H3Error};
 use h3_tree::laws::cells_form_trees;
 
-/// H3's `compactCells` in rounds, each of which takes the complete sets of siblings of one resolution together, from
-/// the finest resolution up. It holds how many of the slots are in use, which are the first ones, and the resolution
-/// of the next round; the slots are handed in at each call.
+/// H3's `compactCells` in rounds, each of which replaces the complete sets of siblings of one
+/// resolution by their parents, from the finest resolution up. It holds how many of the slots are in
+/// use, which are the first ones, and the resolution of the next round; the caller provides the
+/// slots at each call.
 #[derive(Clone, Copy, Debug)]
 pub struct Compaction {
     len: usize,
@@ -25,15 +28,17 @@ pub struct Compaction {
 }
 
 impl Compaction {
-    /// Puts the cells into the first slots. There must be at least as many slots as cells; the others stay as they are.
+    /// Puts the cells into the first slots. There must be at least as many slots as cells, n; the slots
+    /// after the first n stay as they are.
     ///
-    /// `ResMismatch` where the cells have two resolutions: no slot is written. Else `DuplicateInput` where a cell is
-    /// listed twice: the first slots, as many as cells, hold the cells in some order.
+    /// `ResMismatch` where the cells have two resolutions: no slot is written. Else `DuplicateInput`
+    /// where a cell is listed twice: the first n slots hold the cells in some order.
     pub fn start(cells: &[Cell], slots: &mut [Cell]) -> Result<Compaction, H3Error>
         requires { length cells.now ≤ length slots.old }
         ensures refused { result_err result ≡ compaction_refusal cells.now }
         ensures mismatch { result ≡ Err H3Error.ResMismatch → slots.new ≡ slots.old }
-        ensures input { result ≢ Err H3Error.ResMismatch → IsPermutation cells.now (take (length cells.now) slots.new) }
+        ensures input { result ≢ Err H3Error.ResMismatch
+            → IsPermutation cells.now (take (length cells.now) slots.new) }
         ensures others { drop (length cells.now) slots.new ≡ drop (length cells.now) slots.old }
 
         // The rounds begin at the cells' resolution, with the cells, of which no two overlap.
@@ -42,23 +47,48 @@ impl Compaction {
         ensures at_most_fifteen { IfOk result (λ c. level_of c ≤ 15) }
         ensures compactable { IfOk result (λ c. IsCompactable (level_of c) cells.now) }
         ensures apart { IfOk result (λ c. IsApart (take (slots_in_use c) slots.new)) }
-        ensures part { IfOk result (λ c. (x : Address) → Contains (take (slots_in_use c) slots.new) x ↔ InPart cells.now (level_of c) (level_of c) x) }
+        ensures part { IfOk result (λ c. (x : Address) → Contains (take (slots_in_use c) slots.new) x
+            ↔ InPart cells.now (level_of c) (level_of c) x) }
 
         // At level 0, where no round is left, these are the top cells; a repeat is a cell listed twice.
         ensures last { RoundsReachTheTop }
         ensures repeats { RepeatsAreFound }
     {
+        Compaction::start_in_order(cells, slots)
+    }
+
+    /// As `start`, and the slots in use are in order.
+    pub(crate) fn start_in_order(cells: &[Cell], slots: &mut [Cell]) -> Result<Compaction, H3Error>
+        requires { length cells.now ≤ length slots.old }
+        ensures refused { result_err result ≡ compaction_refusal cells.now }
+        ensures mismatch { result ≡ Err H3Error.ResMismatch → slots.new ≡ slots.old }
+        ensures input { result ≢ Err H3Error.ResMismatch
+            → IsPermutation cells.now (take (length cells.now) slots.new) }
+        ensures others { drop (length cells.now) slots.new ≡ drop (length cells.now) slots.old }
+
+        // The rounds begin at the cells' resolution, with the cells, of which no two overlap.
+        ensures in_use { IfOk result (λ c. slots_in_use c ≡ length cells.now) }
+        ensures level { IfOk result (λ c. level_of c ≡ finest cells.now) }
+        ensures at_most_fifteen { IfOk result (λ c. level_of c ≤ 15) }
+        ensures compactable { IfOk result (λ c. IsCompactable (level_of c) cells.now) }
+        ensures apart { IfOk result (λ c. IsApart (take (slots_in_use c) slots.new)) }
+        ensures part { IfOk result (λ c. (x : Address) → Contains (take (slots_in_use c) slots.new) x
+            ↔ InPart cells.now (level_of c) (level_of c) x) }
+
+        // At level 0, where no round is left, these are the top cells; a repeat is a cell listed twice.
+        ensures last { RoundsReachTheTop }
+        ensures repeats { RepeatsAreFound }
+        ensures in_order { IfOk result (λ c. IsInOrder (take (slots_in_use c) slots.new)) }
+    {
         cells_form_trees();
         numbers_tell_cells();
-        let level = common_resolution(cells)?;
-        slots[..cells.len()].copy_from_slice(cells);
-        if has_repeat(cells) {
+        let (level, rises) = survey(cells)?;
+        let count = cells.len();
+        slots[..count].copy_from_slice(cells);
+        if sort_and_find_repeat(&mut slots[..count], rises) {
             return Err(H3Error::DuplicateInput);
         }
-        Ok(Compaction {
-            len: cells.len(),
-            level,
-        })
+        Ok(Compaction { len: count, level })
     }
 
     /// The resolution of the next round, or 0 where there is none.
@@ -75,27 +105,31 @@ impl Compaction {
         self.len
     }
 
-    /// Replaces each complete set of siblings of this round's resolution by the parent; all other cells stay, in some
-    /// order. The level falls by one, and no more slots are in use than before; those that were not in use stay as they
-    /// are.
+    /// Replaces each complete set of siblings of this round's resolution by the parent; all other
+    /// cells stay, in some order. The level falls by one, and no more slots are in use than before;
+    /// those that were not in use stay as they are.
     ///
-    /// The level must not be 0, there must be at least as many slots as are in use, and no cells at two of these may
-    /// overlap, as `start` and `round` leave them.
+    /// The level must not be 0, there must be at least as many slots as are in use, and no cells at
+    /// two of these may overlap, as `start` and `round` leave them.
     pub fn round(self, slots: &mut [Cell]) -> Compaction
         requires some_level { 0 < level_of self }
         requires room { slots_in_use self ≤ length slots.old }
         requires apart { IsApart (take (slots_in_use self) slots.old) }
         ensures level { level_of result + 1 ≡ level_of self }
         ensures fewer { slots_in_use result ≤ slots_in_use self }
-        ensures members { (x : Address) → Contains (take (slots_in_use result) slots.new) x ↔ InRound (Contains (take (slots_in_use self) slots.old)) (level_of self) x }
+        ensures members { (x : Address) → Contains (take (slots_in_use result) slots.new) x
+            ↔ InRound (Contains (take (slots_in_use self) slots.old)) (level_of self) x }
         ensures once { AllPairs (λ a b. a ≢ b) (take (slots_in_use result) slots.new) }
         ensures apart { IsApart (take (slots_in_use result) slots.new) }
         ensures others { drop (slots_in_use self) slots.new ≡ drop (slots_in_use self) slots.old }
 
         // So what the rounds above this level make of a list becomes what they and this one make of it.
-        ensures part { (cells : List Address) (r : ℕ) → IsCompactable r cells → r ≤ 15 → level_of self ≤ r
-            → ((x : Address) → Contains (take (slots_in_use self) slots.old) x ↔ InPart cells r (level_of self) x)
-            → (x : Address) → Contains (take (slots_in_use result) slots.new) x ↔ InPart cells r (level_of result) x }
+        ensures part { (cells : List Address) (r : ℕ)
+            → IsCompactable r cells → r ≤ 15 → level_of self ≤ r
+            → ((x : Address) → Contains (take (slots_in_use self) slots.old) x
+            ↔ InPart cells r (level_of self) x)
+            → (x : Address) → Contains (take (slots_in_use result) slots.new) x
+            ↔ InPart cells r (level_of result) x }
         ensures last { RoundsReachTheTop }
     {
         cells_form_trees();
@@ -106,13 +140,59 @@ impl Compaction {
         }
     }
 
-    /// Puts the slots in use into ascending order, whatever the level, and answers how many they are. There must be at
-    /// least as many slots; the others stay as they are.
+    /// As `round`, where the slots in use are in order, as they are then again.
+    pub(crate) fn round_in_order(self, slots: &mut [Cell]) -> Compaction
+        requires some_level { 0 < level_of self }
+        requires room { slots_in_use self ≤ length slots.old }
+        requires apart { IsApart (take (slots_in_use self) slots.old) }
+        requires in_order { IsInOrder (take (slots_in_use self) slots.old) }
+        ensures level { level_of result + 1 ≡ level_of self }
+        ensures fewer { slots_in_use result ≤ slots_in_use self }
+        ensures apart { IsApart (take (slots_in_use result) slots.new) }
+        ensures in_order { IsInOrder (take (slots_in_use result) slots.new) }
+        ensures others { drop (slots_in_use self) slots.new ≡ drop (slots_in_use self) slots.old }
+        ensures part { (cells : List Address) (r : ℕ)
+            → IsCompactable r cells → r ≤ 15 → level_of self ≤ r
+            → ((x : Address) → Contains (take (slots_in_use self) slots.old) x
+            ↔ InPart cells r (level_of self) x)
+            → (x : Address) → Contains (take (slots_in_use result) slots.new) x
+            ↔ InPart cells r (level_of result) x }
+    {
+        cells_form_trees();
+        are_cells(&slots[..self.len]);
+        let len = merge_runs(&mut slots[..self.len], self.level);
+        let level = self.level - 1;
+        Compaction { len, level }
+    }
+
+    /// Leaves out the rounds that would find nothing to do: down to a resolution that a cell in use
+    /// has.
+    pub(crate) fn skip(self, slots: &[Cell]) -> Compaction
+        requires room { slots_in_use self ≤ length slots.now }
+        ensures same { slots_in_use result ≡ slots_in_use self }
+        ensures level { level_of result ≤ level_of self }
+        ensures part { (cells : List Address) (r : ℕ)
+            → IsCompactable r cells → r ≤ 15 → level_of self ≤ r
+            → ((x : Address) → Contains (take (slots_in_use self) slots.now) x
+            ↔ InPart cells r (level_of self) x)
+            → (x : Address) → Contains (take (slots_in_use self) slots.now) x
+            ↔ InPart cells r (level_of result) x }
+    {
+        cells_form_trees();
+        Compaction {
+            len: self.len,
+            level: finest_up_to(&slots[..self.len], self.level),
+        }
+    }
+
+    /// Puts the slots in use into ascending order, whatever the level, and returns how many they are.
+    /// There must be at least as many slots; the others stay as they are.
     pub fn finish(self, slots: &mut [Cell]) -> usize
         requires { slots_in_use self ≤ length slots.old }
         ensures count { result ≡ slots_in_use self }
         ensures same { IsPermutation (take (slots_in_use self) slots.old) (take (slots_in_use self) slots.new) }
-        ensures ascending { AllPairs (λ a b. number_of a ≤ number_of b) (take (slots_in_use self) slots.new) }
+        ensures ascending { AllPairs (λ a b. number_of a ≤ number_of b)
+            (take (slots_in_use self) slots.new) }
         ensures others { drop (slots_in_use self) slots.new ≡ drop (slots_in_use self) slots.old }
     {
         let count = self.len;

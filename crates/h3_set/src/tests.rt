@@ -33,7 +33,8 @@ fn descendants(alloc: Global, cell: u64, res: i32) -> Result<Vec<Cell>, Fail> {
     Ok(cells)
 }
 
-/// Asserts that the compacted list of the cells is the list expected, and that the slots after those lent stay.
+/// Asserts that the compacted list of the cells is the list expected, and that the slots after the
+/// first `cells.len()` stay.
 fn assert_compacted(rt: &impl Abort, cells: &[Cell], expected: &[u64]) -> Result<(), Fail> {
     let other = Cell::new(0x80f3fffffffffff)?;
     let mut slots = [other; 64];
@@ -49,7 +50,8 @@ fn assert_compacted(rt: &impl Abort, cells: &[Cell], expected: &[u64]) -> Result
     Ok(())
 }
 
-/// Asserts that a compaction of cells of resolution 2 in its two rounds leaves in all slots what `compact_cells` does.
+/// Asserts that a compaction of cells of resolution 2 in its two rounds leaves in all slots what
+/// `compact_cells` does.
 fn assert_same_in_rounds(rt: &impl Abort, cells: &[Cell]) -> Result<(), Fail> {
     let other = Cell::new(0x80f3fffffffffff)?;
     let mut slots = [other; 64];
@@ -195,4 +197,72 @@ fn compactions_are_refused(rt: HostRuntime) -> Result<(), Fail> {
     );
     assert_eq!(rt; slots, [fine, fine, other, other]);
     Ok(())
+}
+
+/// Asserts how many cells the compacted list of the cells has, and which are its first and its last.
+fn assert_ends(
+    rt: &impl Abort,
+    cells: &[Cell],
+    slots: &mut [Cell],
+    count: usize,
+    first: u64,
+    last: u64,
+) -> Result<(), Fail> {
+    assert!(rt; cells.len() <= slots.len());
+    let found = compact_cells(cells, slots)?;
+    assert_eq!(rt; found, count);
+    assert!(rt; 0 < count && count <= slots.len());
+    assert_eq!(rt; slots[0].raw(), first);
+    assert_eq!(rt; slots[count - 1].raw(), last);
+    Ok(())
+}
+
+#[test]
+fn six_levels_are_compacted(rt: HostRuntime) -> Result<(), Fail> {
+    let base = 0x8029fffffffffff;
+    let mut cells = descendants(rt.alloc(), base, 6)?;
+    let mut slots = descendants(rt.alloc(), base, 6)?;
+    assert_eq!(rt; cells.len(), 117649);
+    assert_ends(&rt, &cells, &mut slots, 1, base, base)?;
+    cells.reverse();
+    assert_ends(&rt, &cells, &mut slots, 1, base, base)
+}
+
+#[test]
+fn five_levels_below_a_pentagon_are_compacted(rt: HostRuntime) -> Result<(), Fail> {
+    let base = 0x8009fffffffffff;
+    let mut cells = descendants(rt.alloc(), base, 5)?;
+    let mut slots = descendants(rt.alloc(), base, 5)?;
+    assert_eq!(rt; cells.len(), 14006);
+    assert_ends(&rt, &cells, &mut slots, 1, base, base)?;
+    assert_eq!(rt; cells.pop(), Some(Cell::new(0x8509b6dbfffffff)?));
+    let (first, last) = (0x81083ffffffffff, 0x8509b6d7fffffff);
+    assert_ends(&rt, &cells, &mut slots, 29, first, last)?;
+    cells.reverse();
+    assert_ends(&rt, &cells, &mut slots, 29, first, last)
+}
+
+#[test]
+fn siblings_of_two_parents_are_not_one_set(rt: HostRuntime) -> Result<(), Fail> {
+    // digit 0 below one cell of resolution 5, digits 1 to 6 below the next
+    let mut cells = descendants(rt.alloc(), 0x85283473fffffff, 6)?;
+    cells.truncate(1);
+    for (i, cell) in descendants(rt.alloc(), 0x85283477fffffff, 6)?
+        .iter()
+        .enumerate()
+    {
+        if i > 0 {
+            cells.push(*cell)?;
+        }
+    }
+    let expected = [
+        0x862834707ffffff,
+        0x86283474fffffff,
+        0x862834757ffffff,
+        0x86283475fffffff,
+        0x862834767ffffff,
+        0x86283476fffffff,
+        0x862834777ffffff,
+    ];
+    assert_compacted(&rt, &cells, &expected)
 }

@@ -13,15 +13,17 @@ use Rattle.h3_set.proofs.compact.compact_cells.Goals as goal
 pub loop-slots-preserved : goal.loop-slots-preserved
 loop-slots-preserved c =
     let i = c.loop-slots.invariant in
-    let after = c.round-compaction.ensures in
+    let after = c.round_in_order.ensures in
+    let left = c.skip-compaction.ensures in
     record {
-      room = omega (arith, i.room, c.round-compaction.auto.slots);
-      in_use = omega (arith, i.in_use, after.fewer);
+      room = omega (arith, i.room, c.round_in_order.auto.slots);
+      in_use = omega (arith, i.in_use, after.fewer, left.same);
       small = i.small;
-      level = omega (arith, i.level, after.level);
+      level = omega (arith, i.level, after.level, left.level);
       compactable = i.compactable;
-      apart = after.apart;
-      part = after.part c.args.cells.now (finest c.args.cells.now) i.compactable i.small i.level i.part;
+      apart = rw left.same after.apart;
+      in_order = rw left.same after.in_order;
+      part = rw left.same (left.part c.args.cells.now (finest c.args.cells.now) i.compactable i.small (omega (arith, i.level, after.level)) (after.part c.args.cells.now (finest c.args.cells.now) i.compactable i.small i.level i.part));
       others = drop_later _ _ _ _ i.in_use after.others ∙ i.others;
     }
 

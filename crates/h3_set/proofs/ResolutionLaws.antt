@@ -1,31 +1,18 @@
--- What linear searches find.
-use Rattle.std.proofs.Common.{ℕ, zero, suc, ◌≡◌, ◌≢◌, ◌<◌, ◌≤◌, ◌==◌, List, [], ◌∷◌, length, All, true, false, not, refl, arith, sym, ap, get_or, ◌∙◌}
+-- Whether cells have one resolution.
+use Rattle.std.proofs.Common.{ℕ, zero, suc, ◌≡◌, ◌≢◌, ◌<◌, ◌≤◌, ◌==◌, List, [], ◌∷◌, length, All, Bool, true, false, not, Some, None, if◌then◌else◌, refl, arith, sym, ap, get_or, ◌∙◌}
 use Rattle.std.proofs.lemmas.List.Folds.{list_any_at, list_any_none}
 use Rattle.std.specs.List.{AllWithin}
-use Rattle.h3_index.specs.Cell.{Address, number_of, resolution}
+use Rattle.h3_index.specs.Cell.{Address, resolution}
 use Rattle.h3_set.specs.Coverage.{finest}
-use Rattle.h3_set.specs.Refusals.{has_repeat, has_two_resolutions, is_listed}
 use Rattle.h3_set.proofs.TreeLaws.{other_number, same_number}
-
-pub not_listed : (cells : List Address) (c : Address) → AllWithin (λ a. number_of a ≢ number_of c) cells 0 (length cells) → false ≡ is_listed c cells
-not_listed cells c h =
-    sym (list_any_none (λ a. number_of a == number_of c) cells (λ k d lt. other_number _ _ (h k d (omega arith) lt)))
+use Rattle.h3_set.specs.Refusals.{compaction_refusal, has_repeat, has_two_resolutions, resolution_refusal}
+use Rattle.h3_index.specs.declared.error.H3Error.TheVariants.{DuplicateInput, ResMismatch}
 
 pub two_resolutions_at : (cells : List Address) (i r : ℕ) (c d : Address) → i < length cells → 0 < length cells → resolution (get_or cells 0 c) ≡ r → resolution (get_or cells i d) ≢ r → has_two_resolutions cells ≡ true
 two_resolutions_at [] i r c d lt pos e n = absurd (omega (arith, lt))
 two_resolutions_at (x ∷ cells) zero r c d lt pos e n = absurd (n e)
 two_resolutions_at (x ∷ cells) (suc i) r c d lt pos e n =
     list_any_at (λ a. not (resolution a == resolution x)) cells i d (omega (arith, lt)) (ap not (other_number _ _ (λ f. n (f ∙ e))))
-
-pub repeat_here : (rest others : List Address) (c : Address) → rest ≡ c ∷ others → is_listed c others ≡ true → has_repeat rest ≡ true
-repeat_here rest others c e h = rw (e, h) refl
-
-pub repeat_later : (rest others : List Address) (c : Address) → rest ≡ c ∷ others → is_listed c others ≡ false → has_repeat others ≡ has_repeat rest
-repeat_later rest others c e h = rw (e, h) refl
-
-pub no_repeat : (rest : List Address) → length rest ≡ 0 → has_repeat rest ≡ false
-no_repeat [] e = refl
-no_repeat (c ∷ rest) e = absurd (omega (arith, e))
 
 -- all cells have one resolution
 
@@ -45,3 +32,13 @@ finest-one (x ∷ y ∷ cells) r h pos =
 
 pub same_within : (cells : List Address) (r i : ℕ) → length cells ≤ i → AllWithin (λ c. resolution c ≡ r) cells 0 i → All (λ c. resolution c ≡ r) cells
 same_within cells r i le h k d lt = h k d (omega arith) (omega (arith, lt, le))
+
+-- ---- the refusal of a compaction
+
+answers : (two again : Bool) → None ≡ (if two then Some ResMismatch else None) → (if again then Some DuplicateInput else None) ≡ (if two then Some ResMismatch else (if again then Some DuplicateInput else None))
+answers true again h = cc
+answers false again h = refl
+
+-- where the cells have one resolution, a repeat decides
+pub repeat_decides : (cells : List Address) (again : Bool) → None ≡ resolution_refusal cells → has_repeat cells ≡ again → (if again then Some DuplicateInput else None) ≡ compaction_refusal cells
+repeat_decides cells again h e = rw e (answers (has_two_resolutions cells) again h)

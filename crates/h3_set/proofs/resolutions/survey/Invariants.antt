@@ -1,7 +1,8 @@
-use Rattle.std.proofs.Common.{◌≡◌, ◌<◌, ◌≤◌, length, get_or}
+use Rattle.std.proofs.Common.{ℕ, ◌≡◌, ◌<◌, ◌≤◌, true, length, get_or}
 use Rattle.std.specs.List.{AllWithin}
 use Rattle.h3_index.specs.Cell.{Address, IsCell, resolution}
-use Rattle.h3_set.proofs.search.common_resolution.Given as goal
+use Rattle.h3_tree.specs.PostOrder.{post_order_key as key}
+use Rattle.h3_set.proofs.resolutions.survey.Given as goal
 
 abbrev pub invariant-loop-cell : goal.invariant-loop-cell
 invariant-loop-cell l =
@@ -10,5 +11,6 @@ invariant-loop-cell l =
       first : (d : Address) → resolution (get_or l.cells 0 d) ≡ l.r;
       small : l.r ≤ 15;
       valid : AllWithin IsCell l.cells 0 l.cell-index;
+      rise : l.rises ≡ true → ((a b : ℕ) (d : Address) → a < b → b < l.cell-index → key (get_or l.cells a d) < key (get_or l.cells b d)) × ((a : ℕ) (d : Address) → a < l.cell-index → key (get_or l.cells a d) ≤ l.last);
       same : AllWithin (λ c. resolution c ≡ l.r) l.cells 0 l.cell-index;
     }
