@@ -1,0 +1,40 @@
+use Rattle.std.proofs.Common.{◌≡◌, ◌∷◌, ℤ, Ok, ap, arith, unsigned_abs, to_z, of_z, w32, ◌∙◌}
+use Rattle.std.proofs.lemmas.Int.{ints}
+use Rattle.h3_lattice.specs.BaseTable.{link_of}
+use Rattle.h3_grid.specs.Disk.{disk_left}
+use Rattle.h3_grid.specs.Steps.{state}
+use Rattle.h3_grid.specs.Walks.{disk, followed}
+use Rattle.h3_grid.proofs.MoveLaws.{left-all}
+use Rattle.h3_grid.specs.Counters.{moves_left}
+use Rattle.h3_grid.proofs.disks.Disk.new.Goals as goal
+
+pub returns-clause-items : goal.returns-clause-items
+unfolding disk_left disk
+returns-clause-items c =
+    let same : to_z w32 (of_z w32 c.args.k) ≡ c.args.k = omega (arith, ints) in
+    ap (λ l. Ok (c.args.cell, 0) ∷ followed (link_of c.args.table.now) (state c.args.cell 0) l) (ap (λ (k : ℤ). moves_left 0 0 0 (unsigned_abs k)) same ∙ left-all (unsigned_abs c.args.k))
+
+pub returns-then-k-lt0-clause-distances : goal.returns-then-k-lt0-clause-distances
+returns-then-k-lt0-clause-distances c =
+    let same : to_z w32 (of_z w32 c.args.k) ≡ c.args.k = omega (arith, ints) in
+    rw same at c.disk_is_lawful.ensures.distances
+
+pub returns-then-is_pentagon-clause-distances : goal.returns-then-is_pentagon-clause-distances
+returns-then-is_pentagon-clause-distances c =
+    let same : to_z w32 (of_z w32 c.args.k) ≡ c.args.k = omega (arith, ints) in
+    rw same at c.disk_is_lawful.ensures.distances
+
+pub returns-clause-chart : goal.returns-clause-chart
+returns-clause-chart c =
+    let same : to_z w32 (of_z w32 c.args.k) ≡ c.args.k = omega (arith, ints) in
+    rw same at c.disk_is_lawful.ensures.chart
+
+pub returns-clause-paths : goal.returns-clause-paths
+returns-clause-paths c =
+    let same : to_z w32 (of_z w32 c.args.k) ≡ c.args.k = omega (arith, ints) in
+    rw same at c.disk_is_lawful.ensures.paths
+
+pub returns-clause-distances : goal.returns-clause-distances
+returns-clause-distances c =
+    let same : to_z w32 (of_z w32 c.args.k) ≡ c.args.k = omega (arith, ints) in
+    rw same at c.disk_is_lawful.ensures.distances

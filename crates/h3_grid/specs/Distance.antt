@@ -1,0 +1,50 @@
+-- Distances, counted in neighbours.
+use Rattle.std.specs.Prelude.{◌≡◌, ◌↔◌, ◌≤◌, ℕ, suc, List, Contains, Some}
+use Rattle.h3_index.specs.Cell.{Address, IsCell}
+use Rattle.h3_lattice.specs.declared.direction.Direction.{Direction}
+use Rattle.h3_lattice.specs.Eisenstein.{Eisenstein, sum_of, zero_point}
+use Rattle.h3_lattice.specs.Direction.{unit_of}
+use Rattle.h3_lattice.specs.Links.{IsSound, Links}
+use Rattle.h3_grid.specs.Laws.{Writes}
+use Rattle.h3_grid.specs.Moves.{spiral}
+use Rattle.h3_grid.specs.Search.{step_of}
+use Rattle.h3_grid.specs.Steps.{state}
+
+-- y is the neighbour of x by some direction
+pub record AreNeighbours (link : Links) (x y : Address) : Type 0 where
+  pub direction : Direction
+  pub rotation : ℕ
+  pub step : step_of link (state x 0) direction ≡ Some (state y rotation)
+
+-- a path of at most n neighbours joins c to a cell
+pub data Joins (link : Links) (c : Address) : ℕ → Address → Type 0 where
+  stay : (n : ℕ) → Joins link c n c
+  go_on : (n : ℕ) (x y : Address) → Joins link c n x → AreNeighbours link x y → Joins link c (suc n) y
+
+-- a cell is written with a ring of at most j
+pub record IsWritten (cells : List (Address × ℕ)) (j : ℕ) (y : Address) : Type 0 where
+  pub ring : ℕ
+  pub within : ring ≤ j
+  pub item : Contains cells (y, ring)
+
+-- for each j up to k, the cells with rings up to j are those that a path of at most j neighbours joins to c
+abbrev pub HasDistances : Links → Address → ℕ → List (Address × ℕ) → Type 0
+HasDistances link c k cells = (j : ℕ) → j ≤ k → (y : Address) → IsWritten cells j y ↔ Joins link c j y
+
+-- it is so in a disk of which no move is refused
+abbrev pub RingsAreDistances : Type 0
+RingsAreDistances =
+    (link : Links) (c : Address) (k : ℕ) (cells : List (Address × ℕ)) → IsSound link → IsCell c → Writes link c k cells → HasDistances link c k cells
+
+-- a sum of at most n units
+pub data IsSumOfUnits : ℕ → Eisenstein → Type 0 where
+  no_unit : (n : ℕ) → IsSumOfUnits n zero_point
+  one_more : (n : ℕ) (z : Eisenstein) (d : Direction) → IsSumOfUnits n z → IsSumOfUnits (suc n) (sum_of z (unit_of d))
+
+-- the spiral has each sum of at most k units, and nothing else
+abbrev pub SpiralsHoldSums : Type 0
+SpiralsHoldSums = (k : ℕ) (z : Eisenstein) → Contains (spiral k) z ↔ IsSumOfUnits k z
+
+-- of two cells each is the other's neighbour, or none is
+abbrev pub NeighboursAreMutual : Type 0
+NeighboursAreMutual = (link : Links) (x y : Address) → IsSound link → IsCell x → IsCell y → AreNeighbours link x y ↔ AreNeighbours link y x

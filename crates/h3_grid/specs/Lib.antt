@@ -1,0 +1,12 @@
+pub mod Chart
+pub mod Counters
+pub mod Disk
+pub mod Distance
+pub mod Examples
+pub mod Laws
+pub mod Moves
+pub mod Refusals
+pub mod Ring
+pub mod Search
+pub mod Steps
+pub mod Walks

@@ -1,0 +1,227 @@
+//! Disks.
+
+ghost use Rattle.std.specs.Prelude.{◌≡◌, ◌≤◌, ◌<◌, ◌+◌, ◌*◌, ◌^◌, ◌∷◌, true, length, All, IfOk, unsigned_abs};
+ghost use Rattle.std.specs.Iterator.{YieldsFirst, item_count};
+ghost use Rattle.std.specs.Result.{result_err};
+ghost use Rattle.h3_lattice.specs.BaseTable.{link_of};
+ghost use Rattle.h3_grid.specs.Chart.{IsChart, LeadsAlongPaths};
+ghost use Rattle.h3_grid.specs.Counters.{side_before};
+ghost use Rattle.h3_grid.specs.Distance.{HasDistances, SpiralsHoldSums};
+ghost use Rattle.h3_grid.specs.Laws.{IfWritten, IsChartedInside, MovesFollowTheSpiral, SpiralsAreSimple};
+ghost use Rattle.h3_grid.specs.Refusals.{disk_refusal};
+ghost use Rattle.h3_grid.specs.Walks.{disk};
+
+use crate::laws::{disks_are_charts, disks_are_spirals};
+use crate::steps::step;
+use h3_index::{Cell, H3Error};
+use h3_lattice::{BaseTable, Direction};
+
+/// The direction of the side of a ring that has this many sides after it.
+pub(crate) fn side_before(sides: u8) -> Direction
+    requires { sides < 6 }
+    ensures { result ≡ side_before sides }
+{
+    match sides {
+        5 => Direction::J,
+        4 => Direction::JK,
+        3 => Direction::K,
+        2 => Direction::IK,
+        1 => Direction::I,
+        _ => Direction::IJ,
+    }
+}
+
+/// The cells within a radius of a cell: the origin first, and then ring by ring, each cell with the number of its ring.
+///
+/// An iterator. After the error `Pentagon`, which comes where a step meets a pentagon base cell, there is no further item.
+/// It takes no memory: it holds the cell that was reached last and counts what is left, steps of a side, sides of a ring
+/// and rings.
+#[derive(Clone, Copy)]
+pub struct Disk<'a> {
+    table: &'a BaseTable,
+    cell: Cell,
+    rotation: u8,
+    ring: u32,
+    steps: u32,
+    sides: u8,
+    rings: u32,
+    begun: bool,
+    ghost turned: { rotation < 6 },
+    ghost on_ring: { sides ≤ 5 * ring },
+    ghost in_ring: { sides ≤ 5 },
+    ghost in_range: { ring + rings < 2 ^ 31 },
+}
+
+/// Laws of the disk of a radius around a cell, over the links of a table. It does nothing.
+fn disk_is_lawful(table: &BaseTable, cell: Cell, k: i32)
+    ensures size { IfWritten (link_of table.now) cell (unsigned_abs k)
+        (λ cells. length cells ≡ 3 * unsigned_abs k * (unsigned_abs k + 1) + 1) }
+    ensures inside { IfWritten (link_of table.now) cell (unsigned_abs k)
+        (λ cells. All (λ item. item.0.base ≡ cell.base) cells → IsChartedInside cell (unsigned_abs k) cells) }
+    ensures chart { IfWritten (link_of table.now) cell (unsigned_abs k)
+        (λ cells. IsChart (link_of table.now) cell (unsigned_abs k)) }
+    ensures paths { IfWritten (link_of table.now) cell (unsigned_abs k)
+        (λ cells. LeadsAlongPaths (link_of table.now) cell (unsigned_abs k)) }
+    ensures distances { IfWritten (link_of table.now) cell (unsigned_abs k)
+        (λ cells. HasDistances (link_of table.now) cell (unsigned_abs k) cells) }
+{
+    disks_are_spirals();
+    disks_are_charts();
+    table.links_are_sound();
+    // The proof takes from this that the cell is one.
+    let _resolution = cell.resolution();
+}
+
+impl<'a> Disk<'a> {
+    ghost use Rattle.h3_grid.specs.Disk.{disk_left};
+
+    /// The disk of a radius around a cell, as H3's `gridDiskUnsafe` and `gridDiskDistancesUnsafe` walk it. Nothing of it
+    /// is walked yet.
+    ///
+    /// `Domain` for a negative radius; then `Pentagon` for a pentagon, and for a radius of 1 or more in a pentagon base
+    /// cell.
+    pub fn new(table: &'a BaseTable, cell: Cell, k: i32) -> Result<Disk<'a>, H3Error>
+        ensures refused { result_err result ≡ disk_refusal cell k }
+        ensures items { IfOk result (λ walk. disk_left walk ≡ disk (link_of table.now) cell (unsigned_abs k)) }
+
+        // Where no move is refused: how many cells there are; where they are, if all are in the origin's base cell; that
+        // steps between them lead where the places of the spiral say; and that rings are distances.
+        ensures size { IfWritten (link_of table.now) cell (unsigned_abs k)
+            (λ cells. length cells ≡ 3 * unsigned_abs k * (unsigned_abs k + 1) + 1) }
+        ensures inside { IfWritten (link_of table.now) cell (unsigned_abs k)
+            (λ cells. All (λ item. item.0.base ≡ cell.base) cells → IsChartedInside cell (unsigned_abs k) cells) }
+        ensures chart { IfWritten (link_of table.now) cell (unsigned_abs k)
+            (λ cells. IsChart (link_of table.now) cell (unsigned_abs k)) }
+        ensures paths { IfWritten (link_of table.now) cell (unsigned_abs k)
+            (λ cells. LeadsAlongPaths (link_of table.now) cell (unsigned_abs k)) }
+        ensures distances { IfWritten (link_of table.now) cell (unsigned_abs k)
+            (λ cells. HasDistances (link_of table.now) cell (unsigned_abs k) cells) }
+
+        // Laws of the moves and of the spiral alone.
+        ensures spiral { MovesFollowTheSpiral }
+        ensures simple { SpiralsAreSimple }
+        ensures sums { SpiralsHoldSums }
+    {
+        disk_is_lawful(table, cell, k);
+        disks_are_spirals();
+        disks_are_charts();
+        if k < 0 {
+            return Err(H3Error::Domain);
+        }
+        if cell.is_pentagon() || k > 0 && cell.in_pentagon_base() {
+            return Err(H3Error::Pentagon);
+        }
+        Ok(Disk {
+            table,
+            cell,
+            rotation: 0,
+            ring: 0,
+            steps: 0,
+            sides: 0,
+            rings: k as u32,
+            begun: false,
+        })
+    }
+
+    /// Takes the next step of a side.
+    fn go_on(&mut self) -> Result<(Cell, u32), H3Error>
+        requires begun { self.old.begun ≡ true }
+        requires some { 0 < self.old.steps }
+        ensures { disk_left self.old ≡ result ∷ disk_left self.new }
+    {
+        match step(
+            self.table,
+            self.cell,
+            side_before(self.sides),
+            self.rotation,
+        ) {
+            Err(error) => {
+                self.steps = 0;
+                self.sides = 0;
+                self.rings = 0;
+                Err(error)
+            }
+            Ok((cell, rotation)) => {
+                self.cell = cell;
+                self.rotation = rotation;
+                self.steps -= 1;
+                Ok((cell, self.ring))
+            }
+        }
+    }
+}
+
+impl<'a> Iterator for Disk<'a> {
+    ghost use Rattle.h3_grid.specs.Disk.{disk_left};
+
+    type Item = Result<(Cell, u32), H3Error>;
+
+    ghost next_gives = { YieldsFirst disk_left };
+
+    ghost remaining = { item_count disk_left };
+
+    fn next(&mut self) -> Option<Result<(Cell, u32), H3Error>> {
+        if !self.begun {
+            self.begun = true;
+            return Some(Ok((self.cell, 0)));
+        }
+        if self.steps > 0 {
+            return Some(self.go_on());
+        }
+        if self.sides > 0 {
+            self.sides -= 1;
+            self.steps = self.ring;
+            return Some(self.go_on());
+        }
+        if self.rings == 0 {
+            return None;
+        }
+        match step(self.table, self.cell, Direction::I, self.rotation) {
+            Err(error) => {
+                self.rings = 0;
+                Some(Err(error))
+            }
+            Ok((cell, rotation)) => {
+                self.cell = cell;
+                self.rotation = rotation;
+                self.rings -= 1;
+                self.ring += 1;
+                self.sides = 5;
+                self.steps = self.ring;
+                Some(self.go_on())
+            }
+        }
+    }
+}
+
+#[cfg(test)]
+mod tests {
+    use super::Disk;
+    use h3_index::Cell;
+    use h3_lattice::BaseTable;
+
+    #[test]
+    fn a_disk_holds_a_cell_a_rotation_and_counters(_rt: HostRuntime) {
+        let parts = |walk: Disk<'_>| {
+            let Disk {
+                table,
+                cell,
+                rotation,
+                ring,
+                steps,
+                sides,
+                rings,
+                begun,
+            } = walk;
+            let _table: &BaseTable = table;
+            let _cell: Cell = cell;
+            let _rotation: u8 = rotation;
+            let _ring: u32 = ring;
+            let _steps: u32 = steps;
+            let _sides: u8 = sides;
+            let _rings: u32 = rings;
+            let _begun: bool = begun;
+        };
+        let _parts = parts;
+    }
+}

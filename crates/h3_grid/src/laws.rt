@@ -1,0 +1,61 @@
+//! Laws of the definitions that contracts here cite. Each function does nothing; what it ensures is a law that holds
+//! always, for the proofs of crates that call it.
+
+ghost use Rattle.h3_grid.specs.Chart.{ChartsLeadAlongPaths, DisksAreCharts, OriginsAreAlone, RingsAgree, StatesAreWritten};
+ghost use Rattle.h3_grid.specs.Distance.{NeighboursAreMutual, RingsAreDistances, SpiralsHoldSums};
+ghost use Rattle.h3_grid.specs.Laws.{DisksHaveSizes, DisksInsideAreCharted, MovesFollowTheSpiral, SpiralsAreSimple, SpiralsHaveSizes, StepsCloseTriangles, StepsMove, StepsPart, StepsReachStates, StepsReverse};
+ghost use Rattle.h3_grid.specs.Search.{StepsAreFound};
+
+use h3_lattice::laws::{sums_are_lawful, turns_add_up};
+
+/// A state has exactly one step in each direction, that which the function `step_of` of the definitions gives.
+pub fn steps_are_found()
+    ensures { StepsAreFound }
+{
+    sums_are_lawful();
+}
+
+/// A disk of which no move is refused has 3k(k + 1) + 1 cells, and its moves follow the spiral. Where all of them are in
+/// the origin's base cell, they are at the places of the spiral around the origin's, and no cell comes twice.
+pub fn disks_are_spirals()
+    ensures sizes { DisksHaveSizes }
+    ensures moves { MovesFollowTheSpiral }
+    ensures places { SpiralsHaveSizes }
+    ensures simple { SpiralsAreSimple }
+    ensures inside { DisksInsideAreCharted }
+{
+    sums_are_lawful();
+    turns_add_up();
+    steps_are_found();
+}
+
+/// Over sound links the opposite direction leads back, different directions lead to different cells, none of them the
+/// cell itself, and the cells in a direction and in the next one are a step apart.
+pub fn steps_are_lawful()
+    ensures states { StepsReachStates }
+    ensures reverse { StepsReverse }
+    ensures part { StepsPart }
+    ensures move_on { StepsMove }
+    ensures triangles { StepsCloseTriangles }
+{
+    sums_are_lawful();
+    turns_add_up();
+}
+
+/// A disk of which no move is refused is a chart: where two places of the spiral are a direction apart, the step in that
+/// direction leads from the state at the one to the state at the other. Its rings are distances, and its last ring is the
+/// ring of its radius.
+pub fn disks_are_charts()
+    ensures charts { DisksAreCharts }
+    ensures paths { ChartsLeadAlongPaths }
+    ensures written { StatesAreWritten }
+    ensures rings { RingsAgree }
+    ensures origins { OriginsAreAlone }
+    ensures distances { RingsAreDistances }
+    ensures sums { SpiralsHoldSums }
+    ensures mutual { NeighboursAreMutual }
+{
+    steps_are_lawful();
+    turns_add_up();
+    sums_are_lawful();
+}

@@ -1,0 +1,220 @@
+//! Rings.
+
+ghost use Rattle.std.specs.Prelude.{◌≡◌, ◌≤◌, ◌<◌, ◌*◌, ◌^◌, ◌∷◌, replicate, true, false, Some, None, IfOk, IfErr, unsigned_abs};
+ghost use Rattle.std.specs.Iterator.{YieldsFirst, item_count};
+ghost use Rattle.std.specs.Result.{result_err};
+ghost use Rattle.h3_lattice.specs.BaseTable.{link_of};
+ghost use Rattle.h3_grid.specs.Chart.{OriginsAreAlone, RingAgrees};
+ghost use Rattle.h3_grid.specs.Laws.{IfWritten};
+ghost use Rattle.h3_grid.specs.Refusals.{ring_refusal};
+ghost use Rattle.h3_grid.specs.Steps.{state};
+ghost use Rattle.h3_grid.specs.Walks.{ring, stepped};
+
+use crate::disks::side_before;
+use crate::laws::disks_are_charts;
+use crate::steps::step;
+use h3_index::{Cell, H3Error};
+use h3_lattice::{BaseTable, Direction};
+
+/// The cell and the rotation that k steps in the direction I lead to from a cell.
+fn outward(table: &BaseTable, cell: Cell, k: u32) -> Result<(Cell, u8), H3Error>
+    ensures led { IfOk result (λ r. (stepped (link_of table.now) (Some (state cell 0)) (replicate k Direction.I) ≡ Some (state r.0 r.1)) × (r.1 < 6)) }
+    ensures refused { IfErr result (λ e. (stepped (link_of table.now) (Some (state cell 0)) (replicate k Direction.I) ≡ None) × (e ≡ H3Error.Pentagon)) }
+{
+    let mut reached = cell;
+    let mut rotation = 0;
+    for _done in 0..k {
+        match step(table, reached, Direction::I, rotation) {
+            Err(error) => return Err(error),
+            Ok((next, turned)) => {
+                reached = next;
+                rotation = turned;
+            }
+        }
+    }
+    Ok((reached, rotation))
+}
+
+/// The cells of the ring of a radius around a cell.
+///
+/// An iterator. After the error `Pentagon`, which comes where a step meets a pentagon base cell, or after the last cell
+/// where the ring does not close, there is no further item. It takes no memory: it holds the cell that was reached last
+/// and the first one, and counts what is left, steps of a side and sides.
+#[derive(Clone, Copy)]
+pub struct Ring<'a> {
+    table: &'a BaseTable,
+    cell: Cell,
+    rotation: u8,
+    first: Cell,
+    radius: u32,
+    steps: u32,
+    sides: u8,
+    begun: bool,
+    ghost turned: { rotation < 6 },
+    ghost in_ring: { sides ≤ 5 },
+    ghost on_side: { steps ≤ radius },
+}
+
+/// A law of the ring of a radius around a cell, over the links of a table. It does nothing.
+fn ring_is_lawful(table: &BaseTable, cell: Cell, k: i32)
+    ensures agree { 1 ≤ unsigned_abs k → IfWritten (link_of table.now) cell (unsigned_abs k)
+        (λ cells. RingAgrees (link_of table.now) cell (unsigned_abs k) cells) }
+    ensures origin { OriginsAreAlone }
+{
+    disks_are_charts();
+    table.links_are_sound();
+    // The proof takes from this that the cell is one.
+    let _resolution = cell.resolution();
+}
+
+impl<'a> Ring<'a> {
+    ghost use Rattle.h3_grid.specs.Ring.{ring_left};
+
+    /// The ring of a radius around a cell, as H3's `gridRingUnsafe` walks it. Nothing of it is walked yet: the first call
+    /// of `next` takes as many steps as the radius, every other at most one.
+    ///
+    /// `Domain` for a negative radius; then `Pentagon` for a radius of 1 or more in a pentagon base cell.
+    pub fn new(table: &'a BaseTable, cell: Cell, k: i32) -> Result<Ring<'a>, H3Error>
+        ensures refused { result_err result ≡ ring_refusal cell k }
+        ensures items { IfOk result (λ walk. ring_left walk ≡ ring (link_of table.now) cell (unsigned_abs k)) }
+
+        // The last ring of a disk of which no move is refused is this ring.
+        ensures agree { 1 ≤ unsigned_abs k → IfWritten (link_of table.now) cell (unsigned_abs k)
+            (λ cells. RingAgrees (link_of table.now) cell (unsigned_abs k) cells) }
+        ensures origin { OriginsAreAlone }
+    {
+        ring_is_lawful(table, cell, k);
+        if k < 0 {
+            return Err(H3Error::Domain);
+        }
+        if k > 0 && cell.in_pentagon_base() {
+            return Err(H3Error::Pentagon);
+        }
+        Ok(Ring {
+            table,
+            cell,
+            rotation: 0,
+            first: cell,
+            radius: k as u32,
+            steps: k as u32,
+            sides: 5,
+            begun: false,
+        })
+    }
+
+    /// Walks out to the ring, and gives its first cell.
+    fn begin(&mut self) -> Result<Cell, H3Error>
+        requires { self.old.begun ≡ false }
+        ensures { ring_left self.old ≡ result ∷ ring_left self.new }
+    {
+        self.begun = true;
+        match outward(self.table, self.cell, self.radius) {
+            Err(error) => {
+                self.steps = 0;
+                self.sides = 0;
+                Err(error)
+            }
+            Ok((cell, rotation)) => {
+                self.cell = cell;
+                self.rotation = rotation;
+                self.first = cell;
+                Ok(cell)
+            }
+        }
+    }
+
+    /// Takes the next step of a side. The last one of all closes the ring and gives no cell.
+    fn go_on(&mut self) -> Option<Result<Cell, H3Error>>
+        requires begun { self.old.begun ≡ true }
+        requires some { 0 < self.old.steps }
+        ensures { YieldsFirst ring_left self.old result self.new }
+    {
+        match step(
+            self.table,
+            self.cell,
+            side_before(self.sides),
+            self.rotation,
+        ) {
+            Err(error) => {
+                self.steps = 0;
+                self.sides = 0;
+                Some(Err(error))
+            }
+            Ok((cell, rotation)) => {
+                self.cell = cell;
+                self.rotation = rotation;
+                self.steps -= 1;
+                if self.steps > 0 {
+                    return Some(Ok(cell));
+                }
+                if self.sides > 0 {
+                    return Some(Ok(cell));
+                }
+                if cell == self.first {
+                    return None;
+                }
+                Some(Err(H3Error::Pentagon))
+            }
+        }
+    }
+}
+
+impl<'a> Iterator for Ring<'a> {
+    ghost use Rattle.h3_grid.specs.Ring.{ring_left};
+
+    type Item = Result<Cell, H3Error>;
+
+    ghost next_gives = { YieldsFirst ring_left };
+
+    ghost remaining = { item_count ring_left };
+
+    fn next(&mut self) -> Option<Result<Cell, H3Error>> {
+        if !self.begun {
+            return Some(self.begin());
+        }
+        if self.steps > 0 {
+            return self.go_on();
+        }
+        if self.sides == 0 {
+            return None;
+        }
+        if self.radius == 0 {
+            return None;
+        }
+        self.sides -= 1;
+        self.steps = self.radius;
+        self.go_on()
+    }
+}
+
+#[cfg(test)]
+mod tests {
+    use super::Ring;
+    use h3_index::Cell;
+    use h3_lattice::BaseTable;
+
+    #[test]
+    fn a_ring_holds_two_cells_a_rotation_and_counters(_rt: HostRuntime) {
+        let parts = |walk: Ring<'_>| {
+            let Ring {
+                table,
+                cell,
+                rotation,
+                first,
+                radius,
+                steps,
+                sides,
+                begun,
+            } = walk;
+            let _table: &BaseTable = table;
+            let _cell: Cell = cell;
+            let _rotation: u8 = rotation;
+            let _first: Cell = first;
+            let _radius: u32 = radius;
+            let _steps: u32 = steps;
+            let _sides: u8 = sides;
+            let _begun: bool = begun;
+        };
+        let _parts = parts;
+    }
+}

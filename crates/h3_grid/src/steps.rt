@@ -1,0 +1,60 @@
+//! Steps to the cells beside a cell.
+
+ghost use Rattle.std.specs.Prelude.{◌≡◌, ◌<◌, None, Some, IfOk, IfErr};
+ghost use Rattle.h3_index.specs.Cell.{IsCell};
+ghost use Rattle.h3_lattice.specs.BaseTable.{link_of};
+ghost use Rattle.h3_grid.specs.Laws.{StepsCloseTriangles, StepsMove, StepsPart, StepsReverse};
+ghost use Rattle.h3_grid.specs.Search.{step_of, StepsAreFound};
+ghost use Rattle.h3_grid.specs.Steps.{state, IsStep};
+
+use crate::laws::{steps_are_found, steps_are_lawful};
+use h3_index::{Cell, H3Error, is_pentagon_base};
+use h3_lattice::{BaseTable, Direction, Moved, add, turn};
+
+/// The neighbour of a cell in a direction, and the rotation there, as H3's `h3NeighborRotations` outside pentagon base
+/// cells.
+///
+/// A rotation, 0 to 5, is how often a walk's directions are turned in the base cell that it is in: the step goes in the
+/// direction turned `rot` times, and on crossing into another base cell the turns of the table's link are added.
+///
+/// `Pentagon` where the cell or its neighbour is in a pentagon base cell.
+pub fn step(
+    table: &BaseTable,
+    cell: Cell,
+    direction: Direction,
+    rot: u8,
+) -> Result<(Cell, u8), H3Error>
+    requires { rot < 6 }
+    ensures is { IfOk result (λ r. IsStep (link_of table.now) (state cell rot) direction (Some (state r.0 r.1))) }
+    ensures refused { IfErr result (λ e. (e ≡ H3Error.Pentagon)
+        × IsStep (link_of table.now) (state cell rot) direction None) }
+    ensures valid { IfOk result (λ r. IsCell r.0 × (r.1 < 6)) }
+
+    // The same by the function that is the step.
+    ensures leads { IfOk result (λ r. step_of (link_of table.now) (state cell rot) direction ≡ Some (state r.0 r.1)) }
+    ensures ends { IfErr result (λ e. step_of (link_of table.now) (state cell rot) direction ≡ None) }
+
+    ensures one { StepsAreFound }
+
+    // Laws of steps over sound links.
+    ensures reverse { StepsReverse }
+    ensures part { StepsPart }
+    ensures move_on { StepsMove }
+    ensures triangles { StepsCloseTriangles }
+{
+    steps_are_found();
+    steps_are_lawful();
+    if cell.in_pentagon_base() {
+        return Err(H3Error::Pentagon);
+    }
+    match add(cell, turn(direction, rot)) {
+        Moved::Inside(moved) => Ok((moved, rot)),
+        Moved::Across(side, digits) => {
+            let (base, turns) = table.link(cell.base_cell(), side);
+            if is_pentagon_base(base) {
+                return Err(H3Error::Pentagon);
+            }
+            Ok((digits.turned(turns).at(base), (rot + turns) % 6))
+        }
+    }
+}

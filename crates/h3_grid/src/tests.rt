@@ -1,0 +1,386 @@
+use crate::{Disk, Ring, disk_len, step};
+use h3_index::{Cell, H3Error, Streamed, is_pentagon_base};
+use h3_lattice::vectors::{TestTable, link};
+use h3_lattice::{BaseTable, Direction};
+use std::process::Abort;
+use std::test::Fail;
+
+/// Reads the base cell table of these records, those of a base cell and the digit of a direction.
+fn read_table(rt: &HostRuntime, records: &[[u8; 4]]) -> Result<BaseTable, Fail> {
+    let mut text = String::new(rt.alloc());
+    text.push_str("base,dir,to,rot\n")?;
+    for [base, digit, to, turns] in records {
+        let line = format!(in rt.alloc(); "{base},{digit},{to},{turns}\n")?;
+        text.push_str(&line)?;
+    }
+    let mut source = Streamed::new(text.as_bytes());
+    match BaseTable::read(rt.alloc(), &mut source) {
+        Ok(table) => Ok(table),
+        Err(_) => Err(Fail::from("the table is refused")),
+    }
+}
+
+/// A test table.
+fn test_table(rt: &HostRuntime, table: TestTable) -> Result<BaseTable, Fail> {
+    let mut records = Vec::new(rt.alloc());
+    for base in 0..122u8 {
+        if !is_pentagon_base(base) {
+            for digit in 1..7u8 {
+                let direction = Direction::from_digit(digit).ok_or("no direction")?;
+                let (to, turns) = link(table, base, direction);
+                records.push([base, digit, to, turns])?;
+            }
+        }
+    }
+    read_table(rt, &records)
+}
+
+/// Links along the ring of radius 2 around base cell 0: two out to it in the direction 4 (I), and the twelve around it. The
+/// last of them leads to base cell 16, and not to 2, with which the ring begins. Base cells 1, 2 and 3 are a triangle.
+const OPEN_RING: [[u8; 3]; 15] = [
+    [0, 4, 1],
+    [1, 4, 2],
+    [1, 6, 3],
+    [2, 2, 3],
+    [3, 2, 5],
+    [5, 3, 6],
+    [6, 3, 7],
+    [7, 1, 8],
+    [8, 1, 9],
+    [9, 5, 10],
+    [10, 5, 11],
+    [11, 4, 12],
+    [12, 4, 13],
+    [13, 6, 15],
+    [15, 6, 16],
+];
+
+/// A sound table on which a ring does not close: the links of `OPEN_RING` and those back, and all others lead to pentagon
+/// base cells.
+fn open_table(rt: &HostRuntime) -> Result<BaseTable, Fail> {
+    const PENTAGONS: [u8; 7] = [0, 4, 14, 24, 38, 49, 58];
+    let mut records = Vec::new(rt.alloc());
+    for base in 0..122u8 {
+        if !is_pentagon_base(base) {
+            for digit in 1..7u8 {
+                let mut to = PENTAGONS[digit as usize];
+                for [from, direction, reached] in OPEN_RING {
+                    if base == from && digit == direction {
+                        to = reached;
+                    }
+                    if base == reached && digit == 7 - direction {
+                        to = from;
+                    }
+                }
+                records.push([base, digit, to, 0])?;
+            }
+        }
+    }
+    read_table(rt, &records)
+}
+
+/// Asserts that a disk gives these cells, ring by ring, and then ends or is refused.
+fn assert_disk(
+    rt: &impl Abort,
+    table: &BaseTable,
+    cell: u64,
+    k: i32,
+    expected: &[u64],
+    refused: bool,
+) -> Result<(), Fail> {
+    let Ok(mut walk) = Disk::new(table, Cell::new(cell)?, k) else {
+        return Err(Fail::from("refused"));
+    };
+    let mut ring = 0;
+    let mut cells_up_to_ring = 1;
+    let mut count = 0;
+    for raw in expected {
+        if count == cells_up_to_ring {
+            ring += 1;
+            cells_up_to_ring += 6 * u64::from(ring);
+        }
+        count += 1;
+        assert_eq!(rt; walk.next(), Some(Ok((Cell::new(*raw)?, ring))));
+    }
+    if refused {
+        assert_eq!(rt; walk.next(), Some(Err(H3Error::Pentagon)));
+    }
+    assert!(rt; walk.next().is_none());
+    assert!(rt; walk.next().is_none());
+    Ok(())
+}
+
+/// Asserts that a ring gives these cells, and then ends or is refused.
+fn assert_ring(
+    rt: &impl Abort,
+    table: &BaseTable,
+    cell: u64,
+    k: i32,
+    expected: &[u64],
+    refused: bool,
+) -> Result<(), Fail> {
+    let Ok(mut walk) = Ring::new(table, Cell::new(cell)?, k) else {
+        return Err(Fail::from("refused"));
+    };
+    for raw in expected {
+        assert_eq!(rt; walk.next(), Some(Ok(Cell::new(*raw)?)));
+    }
+    if refused {
+        assert_eq!(rt; walk.next(), Some(Err(H3Error::Pentagon)));
+    }
+    assert!(rt; walk.next().is_none());
+    assert!(rt; walk.next().is_none());
+    Ok(())
+}
+
+#[test]
+fn steps_cross_base_cells(rt: HostRuntime) -> Result<(), Fail> {
+    let plain = test_table(&rt, TestTable::Plain)?;
+    let twisted = test_table(&rt, TestTable::Twisted)?;
+    let cell = Cell::new(0x813d3ffffffffff)?;
+    let in_plain = Cell::new(0x813ebffffffffff)?;
+    let in_twisted = Cell::new(0x813efffffffffff)?;
+    assert_eq!(&rt; step(&plain, cell, Direction::I, 0)?, (in_plain, 0));
+    assert_eq!(&rt; step(&plain, in_plain, Direction::JK, 0)?, (cell, 0));
+    assert_eq!(&rt; step(&twisted, cell, Direction::I, 0)?, (in_twisted, 1));
+    assert_eq!(&rt; step(&twisted, in_twisted, Direction::JK, 1)?, (cell, 0));
+    Ok(())
+}
+
+#[test]
+fn steps_end_at_pentagon_base_cells(rt: HostRuntime) -> Result<(), Fail> {
+    let plain = test_table(&rt, TestTable::Plain)?;
+    let beside = Cell::new(0x800bfffffffffff)?;
+    let inside = Cell::new(0x8108bffffffffff)?;
+    assert_eq!(&rt;
+        step(&plain, beside, Direction::JK, 0),
+        Err(H3Error::Pentagon)
+    );
+    assert_eq!(&rt;
+        step(&plain, inside, Direction::I, 0),
+        Err(H3Error::Pentagon)
+    );
+    Ok(())
+}
+
+#[test]
+fn disks_are_walked_ring_by_ring(rt: HostRuntime) -> Result<(), Fail> {
+    let plain = test_table(&rt, TestTable::Plain)?;
+    let twisted = test_table(&rt, TestTable::Twisted)?;
+    let inside = [
+        0x85283473fffffff,
+        0x85283447fffffff,
+        0x8528347bfffffff,
+        0x85283463fffffff,
+        0x85283477fffffff,
+        0x8528340ffffffff,
+        0x8528340bfffffff,
+    ];
+    assert_disk(&rt, &plain, 0x85283473fffffff, 1, &inside, false)?;
+    assert_disk(&rt, &plain, 0x85283473fffffff, 0, &inside[..1], false)?;
+    let centres = [
+        0x803dfffffffffff,
+        0x8055fffffffffff,
+        0x8053fffffffffff,
+        0x803bfffffffffff,
+        0x8025fffffffffff,
+        0x8027fffffffffff,
+        0x803ffffffffffff,
+        0x8057fffffffffff,
+        0x806dfffffffffff,
+        0x806bfffffffffff,
+        0x8069fffffffffff,
+        0x8051fffffffffff,
+        0x8039fffffffffff,
+        0x8023fffffffffff,
+        0x800dfffffffffff,
+        0x800ffffffffffff,
+        0x8011fffffffffff,
+        0x8029fffffffffff,
+        0x8041fffffffffff,
+    ];
+    for table in [&plain, &twisted] {
+        assert_disk(&rt, table, 0x803dfffffffffff, 1, &centres[..7], false)?;
+        assert_disk(&rt, table, 0x803dfffffffffff, 2, &centres, false)?;
+    }
+    let turned = [
+        0x813d3ffffffffff,
+        0x81547ffffffffff,
+        0x813dbffffffffff,
+        0x813c3ffffffffff,
+        0x813d7ffffffffff,
+        0x813e7ffffffffff,
+        0x813efffffffffff,
+    ];
+    assert_disk(&rt, &twisted, 0x813d3ffffffffff, 1, &turned, false)?;
+    Ok(())
+}
+
+#[test]
+fn disks_end_at_pentagon_base_cells(rt: HostRuntime) -> Result<(), Fail> {
+    let plain = test_table(&rt, TestTable::Plain)?;
+    let begun = [0x800bfffffffffff, 0x8023fffffffffff, 0x8021fffffffffff];
+    assert_disk(&rt, &plain, 0x800bfffffffffff, 1, &begun, true)?;
+    assert_disk(&rt, &plain, 0x800bfffffffffff, i32::MAX, &begun, true)?;
+    assert_disk(
+        &rt,
+        &plain,
+        0x8108bffffffffff,
+        0,
+        &[0x8108bffffffffff],
+        false,
+    )?;
+    Ok(())
+}
+
+#[test]
+fn rings_are_walked_around(rt: HostRuntime) -> Result<(), Fail> {
+    let plain = test_table(&rt, TestTable::Plain)?;
+    let twisted = test_table(&rt, TestTable::Twisted)?;
+    let inside = [
+        0x8528340bfffffff,
+        0x85283447fffffff,
+        0x8528347bfffffff,
+        0x85283463fffffff,
+        0x85283477fffffff,
+        0x8528340ffffffff,
+    ];
+    assert_ring(&rt, &plain, 0x85283473fffffff, 1, &inside, false)?;
+    assert_ring(
+        &rt,
+        &plain,
+        0x8009fffffffffff,
+        0,
+        &[0x8009fffffffffff],
+        false,
+    )?;
+    let twelve = [
+        0x8041fffffffffff,
+        0x8057fffffffffff,
+        0x806dfffffffffff,
+        0x806bfffffffffff,
+        0x8069fffffffffff,
+        0x8051fffffffffff,
+        0x8039fffffffffff,
+        0x8023fffffffffff,
+        0x800dfffffffffff,
+        0x800ffffffffffff,
+        0x8011fffffffffff,
+        0x8029fffffffffff,
+    ];
+    for table in [&plain, &twisted] {
+        assert_ring(&rt, table, 0x803dfffffffffff, 2, &twelve, false)?;
+    }
+    Ok(())
+}
+
+#[test]
+fn rings_end_at_pentagon_base_cells(rt: HostRuntime) -> Result<(), Fail> {
+    let plain = test_table(&rt, TestTable::Plain)?;
+    let begun = [0x800dfffffffffff, 0x8023fffffffffff, 0x8021fffffffffff];
+    assert_ring(&rt, &plain, 0x800bfffffffffff, 1, &begun, true)?;
+    assert_ring(&rt, &plain, 0x800bfffffffffff, i32::MAX, &[], true)?;
+    Ok(())
+}
+
+#[test]
+fn a_ring_that_does_not_close_is_refused_after_its_cells(rt: HostRuntime) -> Result<(), Fail> {
+    let open = open_table(&rt)?;
+    let twelve = [
+        0x8005fffffffffff,
+        0x8007fffffffffff,
+        0x800bfffffffffff,
+        0x800dfffffffffff,
+        0x800ffffffffffff,
+        0x8011fffffffffff,
+        0x8013fffffffffff,
+        0x8015fffffffffff,
+        0x8017fffffffffff,
+        0x8019fffffffffff,
+        0x801bfffffffffff,
+        0x801ffffffffffff,
+    ];
+    assert_ring(&rt, &open, 0x8001fffffffffff, 2, &twelve, true)?;
+    Ok(())
+}
+
+/// Why a disk is refused before it begins.
+fn disk_refusal(table: &BaseTable, cell: u64, k: i32) -> Result<Option<H3Error>, Fail> {
+    match Disk::new(table, Cell::new(cell)?, k) {
+        Ok(_) => Ok(None),
+        Err(error) => Ok(Some(error)),
+    }
+}
+
+/// Why a ring is refused before it begins.
+fn ring_refusal(table: &BaseTable, cell: u64, k: i32) -> Result<Option<H3Error>, Fail> {
+    match Ring::new(table, Cell::new(cell)?, k) {
+        Ok(_) => Ok(None),
+        Err(error) => Ok(Some(error)),
+    }
+}
+
+#[test]
+fn walks_are_refused_before_they_begin(rt: HostRuntime) -> Result<(), Fail> {
+    let plain = test_table(&rt, TestTable::Plain)?;
+    let table = [
+        (
+            0x8009fffffffffff,
+            -1,
+            Some(H3Error::Domain),
+            Some(H3Error::Domain),
+        ),
+        (0x8009fffffffffff, 0, Some(H3Error::Pentagon), None),
+        (0x8108bffffffffff, 0, None, None),
+        (
+            0x8108bffffffffff,
+            1,
+            Some(H3Error::Pentagon),
+            Some(H3Error::Pentagon),
+        ),
+        (
+            0x85283473fffffff,
+            -1,
+            Some(H3Error::Domain),
+            Some(H3Error::Domain),
+        ),
+        (0x85283473fffffff, i32::MAX, None, None),
+    ];
+    for (cell, k, disk, ring) in table {
+        assert_eq!(&rt; disk_refusal(&plain, cell, k)?, disk);
+        assert_eq!(&rt; ring_refusal(&plain, cell, k)?, ring);
+    }
+    Ok(())
+}
+
+#[test]
+fn disks_have_sizes(rt: HostRuntime) -> Result<(), Fail> {
+    assert_eq!(&rt; disk_len(0)?, 1);
+    assert_eq!(&rt; disk_len(1)?, 7);
+    assert_eq!(&rt; disk_len(2)?, 19);
+    assert_eq!(&rt; disk_len(i32::MAX)?, 13835058048839712769);
+    assert_eq!(&rt; disk_len(-1), Err(H3Error::Domain));
+    Ok(())
+}
+
+fn copy_of<T: Copy>(value: &T) -> T {
+    *value
+}
+
+#[test]
+fn walks_are_copied(rt: HostRuntime) -> Result<(), Fail> {
+    let plain = test_table(&rt, TestTable::Plain)?;
+    let Ok(mut walk) = Disk::new(&plain, Cell::new(0x85283473fffffff)?, 1) else {
+        return Err(Fail::from("refused"));
+    };
+    let mut again = copy_of(&walk);
+    assert_eq!(&rt; walk.next(), again.next());
+    assert_eq!(&rt; walk.next(), again.next());
+    let Ok(mut walk) = Ring::new(&plain, Cell::new(0x85283473fffffff)?, 1) else {
+        return Err(Fail::from("refused"));
+    };
+    let mut again = copy_of(&walk);
+    assert_eq!(&rt; walk.next(), again.next());
+    assert_eq!(&rt; walk.next(), again.next());
+    Ok(())
+}
