@@ -10,6 +10,12 @@ use clap::{Arg, ArgMatches, value_parser};
 use h3_index::read_index;
 use std::alloc::Global;
 
+/// The largest number that `-r` takes; which of them are resolutions, the command decides.
+const MOST_RESOLUTION: i64 = 2147483647;
+
+/// The largest position that `--position` takes.
+const MOST_POSITION: i64 = 9223372036854775807;
+
 /// An option of a command.
 #[derive(Clone, Copy)]
 pub enum CommandOption {
@@ -55,10 +61,10 @@ impl CommandOption {
             CommandOption::Resolution => argument
                 .short('r')
                 .long("resolution")
-                .value_parser(value_parser!(i64).range(0..=i64::from(i32::MAX))),
+                .value_parser(value_parser!(i64).range(0..=MOST_RESOLUTION)),
             CommandOption::Position => argument
                 .long("position")
-                .value_parser(value_parser!(i64).range(0..=i64::MAX)),
+                .value_parser(value_parser!(i64).range(0..=MOST_POSITION)),
         }
     }
 

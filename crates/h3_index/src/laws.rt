@@ -1,7 +1,7 @@
 //! Laws of the definitions that contracts here cite. Each function does nothing; what it ensures is a law that holds
 //! always, for the proofs of crates that call it.
 
-ghost use Rattle.std.specs.Prelude.{◌≡◌, ◌==◌};
+ghost use Rattle.std.specs.Prelude.{◌≡◌, ◌==◌, Some};
 ghost use Rattle.std.specs.Ordering.{nat_cmp};
 ghost use Rattle.std.specs.Hash as fed;
 ghost use Rattle.h3_index.specs.Cell.{Address, number_of};
@@ -17,6 +17,8 @@ pub fn cells_compare_by_number()
     ensures equal { (a b : Address) →
         ⟦<Cell as PartialEq>⟧.eq a b ≡ (number_of a == number_of b) }
     ensures order { (a b : Address) → ⟦<Cell as Ord>⟧.cmp a b ≡ nat_cmp (number_of a) (number_of b) }
+    ensures partial { (a b : Address) →
+        ⟦<Cell as PartialOrd>⟧.partial_cmp a b ≡ Some (nat_cmp (number_of a) (number_of b)) }
     ensures hash { (c : Address) → ⟦<Cell as Hash>⟧.hash_input c ≡ fed.u64 (number_of c) }
     ensures fields { NumbersFollowFields }
 {}
