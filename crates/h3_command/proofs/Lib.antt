@@ -1,3 +1,5 @@
+pub mod BasesLaws
+pub mod Endings
 pub mod Lines
 pub mod ListLines
 pub mod Pages

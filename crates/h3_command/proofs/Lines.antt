@@ -44,5 +44,5 @@ module _ {S A : Type 0} {steps : S → Option A → S → Type 0} {s : S} {all :
         ∙ ap (λ l. flat_map f xs ++ (l ++ tail)) (sym is ∙ p.split)
         ∙ ap (λ l. flat_map f xs ++ l) (append_assoc p.part p.rest tail)
         ∙ sym (append_assoc (flat_map f xs) p.part (p.rest ++ tail));
-    grown = Appends-trans old mid new (flat_map f xs) p.part so_far p.grown;
+    holds = Appends-trans old mid new (flat_map f xs) p.part so_far p.holds;
   }

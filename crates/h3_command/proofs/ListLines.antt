@@ -9,7 +9,8 @@ use Rattle.h3_index.specs.Cell.{Address}
 use Rattle.h3_index.specs.declared.error.H3Error.{H3Error}
 use Rattle.h3_index.specs.declared.error.H3Error.TheVariants.{Failed}
 use Rattle.h3_command.specs.declared.refusal.Refusal.{Refusal}
-use Rattle.h3_command.specs.List.{RefusesList, cells_before, is_unended, lines_of, listed_after, listed_cells, said_before, said_by, with_first}
+use Rattle.h3_command.specs.List.{lines_of, listed_cells, said_before, said_by, with_first}
+use Rattle.h3_command.specs.Reading.{RefusesList, cells_before, is_unended, listed_after}
 
 both : (b n : Bool) → (not b && n) ≡ true → (b ≡ false) × (n ≡ true)
 both true n h = absurd (cc)

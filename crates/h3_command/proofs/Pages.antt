@@ -1,61 +1,116 @@
 -- A list that is read page by page.
-use Rattle.std.proofs.Common.{◌≡◌, ℕ, ◌+◌, ◌<◌, ◌≤◌, List, [], ◌++◌, length, take, Option, None, Some, Result, sym, ap, ◌∙◌, refl, length-append, length-take, arith, subst}
+use Rattle.std.proofs.Common.{◌≡◌, ℕ, zero, suc, ◌+◌, ◌*◌, ◌<◌, ◌≤◌, ◌⊎◌, List, [], ◌++◌, length, take, Option, None, Some, Result, sym, ap, ◌∙◌, refl, length-append, length-take, append_assoc, append-nil, add-one, arith, subst, inl, inr}
 use Rattle.std.specs.Io.KnownBytes.{Consumes, IsAtEnd}
+use Rattle.std.proofs.KnownBytes.{Consumes-nil, Consumes-trans}
 use Rattle.h3_index.specs.Cell.{Address}
 use Rattle.h3_index.specs.Stream.{Pulls}
 use Rattle.h3_index.specs.declared.error.H3Error.{H3Error}
 use Rattle.h3_command.specs.declared.refusal.Refusal.{Refusal}
 use Rattle.h3_command.specs.declared.refusal.Refusal.TheVariants.{Error, Memory, Read, Write}
-use Rattle.h3_command.specs.List.{RefusesList, listed_after, listed_cells}
+use Rattle.h3_command.specs.List.{listed_cells}
+use Rattle.h3_command.specs.Reading.{RefusesList, listed_after}
+use Rattle.h3_command.specs.Run.{Holds}
 use Rattle.h3_command.proofs.ListLines.{listed_from_start}
 
--- whole is what the bytes list. Of these bytes, rest is left: what was read gave the cells and the line so far, in no
--- more reads than bytes
-pub record Reads (whole : Result (List Address) H3Error) (bytes : List ℕ) (limit : ℕ) (told : Option (List ℕ)) (reads_left : ℕ) (cells : List Address) (line : List ℕ) : Type 0 where
-  pub rest : List ℕ
-  pub told_is : told ≡ Some rest
-  pub list_is : whole ≡ listed_after cells line rest
-  pub counted : limit + length rest ≤ reads_left + length bytes
+-- The source told the bytes old and tells now. What was read of them turned the first cells and line into these, in no
+-- more reads than bytes and in pages of at most this size.
+pub record Reads (old now : Option (List ℕ)) (limit reads_left size : ℕ) (first-cells : List Address) (first-line : List ℕ) (cells : List Address) (line : List ℕ) : Type 0 where
+  pub bytes : List ℕ
+  pub told : Consumes old now bytes
+  pub list_is : (rest : List ℕ) → listed_after first-cells first-line (bytes ++ rest) ≡ listed_after cells line rest
+  pub counted : limit ≤ reads_left + length bytes
+  pub short : length bytes + reads_left * size ≤ limit * size
 
-pub reads_none : (bytes : List ℕ) (limit : ℕ) (told : Option (List ℕ)) (cells : List Address) (line : List ℕ) → told ≡ Some bytes → Reads (listed_after cells line bytes) bytes limit told limit cells line
-reads_none bytes limit told cells line e = record { rest = bytes; told_is = e; list_is = refl; counted = omega arith }
+pub reads_none : (told : Option (List ℕ)) (limit size : ℕ) (cells : List Address) (line : List ℕ) → Reads told told limit limit size cells line cells line
+reads_none told limit size cells line = record { bytes = []; told = Consumes-nil told; list_is = λ rest. refl; counted = omega arith; short = omega arith }
 
--- what a pull takes from the bytes left
-pulled : (old new : Option (List ℕ)) (rest front : List ℕ) → old ≡ Some rest → Consumes old new front → (more : List ℕ) × (new ≡ Some more) × (rest ≡ front ++ more)
-pulled None new rest front e k = absurd (cc)
-pulled (Some xs) None rest front e k = absurd k
-pulled (Some xs) (Some ys) rest front e k = (ys, refl, (let is : xs ≡ rest = cc in sym is ∙ k))
+-- one page less is left
+one_less : (reads reads' size : ℕ) → reads' + 1 ≡ reads → reads * size ≡ reads' * size + size
+one_less reads reads' size e = rw (← e) (grind arith)
 
-pub reads_more : {whole : Result (List Address) H3Error} {bytes : List ℕ} {limit : ℕ} {told : Option (List ℕ)} {reads : ℕ} {cells : List Address} {line : List ℕ}
-    → Reads whole bytes limit told reads cells line → (told' : Option (List ℕ)) (reads' : ℕ) (page : List ℕ) (n : ℕ) (cells' : List Address) (line' : List ℕ)
-    → Pulls told told' page n → 0 < n → n ≤ length page → reads' + 1 ≡ reads
+pub reads_more : {old now : Option (List ℕ)} {limit reads size : ℕ} {first-cells : List Address} {first-line : List ℕ} {cells : List Address} {line : List ℕ}
+    → Reads old now limit reads size first-cells first-line cells line → (now' : Option (List ℕ)) (reads' : ℕ) (page : List ℕ) (n : ℕ) (cells' : List Address) (line' : List ℕ)
+    → Pulls now now' page n → 0 < n → n ≤ length page → length page ≡ size → reads' + 1 ≡ reads
     → ((rest : List ℕ) → listed_after cells line (take n page ++ rest) ≡ listed_after cells' line' rest)
-    → Reads whole bytes limit told' reads' cells' line'
-reads_more {whole} {bytes} {limit} {told} {reads} {cells} {line} r told' reads' page n cells' line' p some fits count taken =
-    let (more, is, split) = pulled told told' r.rest (take n page) r.told_is p.taken in
-    let parts : length r.rest ≡ length (take n page) + length more = ap length split ∙ length-append (take n page) more in
+    → Reads old now' limit reads' size first-cells first-line cells' line'
+reads_more {old} {now} {limit} {reads} {size} {first-cells = fc} {first-line = fl} {cells} {line} r now' reads' page n cells' line' p some fits full count taken =
     let front : length (take n page) ≡ n = omega (arith, length-take {A = ℕ}) in
-    let before : limit + length r.rest ≤ reads + length bytes = r.counted in
+    let parts : length (r.bytes ++ take n page) ≡ length r.bytes + length (take n page) = length-append r.bytes (take n page) in
+    let counted : limit ≤ reads + length r.bytes = r.counted in
+    let short : length r.bytes + reads * size ≤ limit * size = r.short in
+    let less : reads * size ≡ reads' * size + size = one_less reads reads' size count in
     record {
-      rest = more;
-      told_is = is;
-      list_is = r.list_is ∙ ap (listed_after cells line) split ∙ taken more;
+      bytes = r.bytes ++ take n page;
+      told = Consumes-trans old now now' r.bytes (take n page) r.told p.taken;
+      list_is = λ rest. ap (listed_after fc fl) (append_assoc r.bytes (take n page) rest) ∙ r.list_is (take n page ++ rest) ∙ taken rest;
       counted = omega arith;
+      short = omega arith;
     }
 
--- a refusal of a page fits the whole, whatever may be said of reads
+-- ---- the bytes of the source
+
+-- those that were read, and those that it still tells
+pub all_bytes : (old now : Option (List ℕ)) (bytes : List ℕ) → Consumes old now bytes → (rest : List ℕ) × Holds old (bytes ++ rest)
+all_bytes None now bytes told = ([], tt)
+all_bytes (Some xs) None bytes told = absurd told
+all_bytes (Some xs) (Some ys) bytes told = (ys, told)
+
+-- some bytes are held
+pub some_held : (told : Option (List ℕ)) → (bytes : List ℕ) × Holds told bytes
+some_held None = ([], tt)
+some_held (Some xs) = (xs, refl)
+
+-- at the end of the source, those that were read
+at_end : (old now : Option (List ℕ)) (bytes : List ℕ) → Consumes old now bytes → IsAtEnd now → Holds old bytes
+at_end None now bytes told end = tt
+at_end (Some xs) None bytes told end = absurd told
+at_end (Some xs) (Some ys) bytes told end = told ∙ ap (λ l. bytes ++ l) end ∙ append-nil bytes
+
+-- ---- the end of the reading
+
+-- the bytes are held, and the list in them is what the cells and the line so far give
+pub reads_all : {old now : Option (List ℕ)} {limit reads size : ℕ} {first-cells : List Address} {first-line : List ℕ} {cells : List Address} {line : List ℕ}
+    → Reads old now limit reads size first-cells first-line cells line → IsAtEnd now → 0 < reads
+    → (bytes : List ℕ) × Holds old bytes × (length bytes + size ≤ limit * size) × (listed_after first-cells first-line bytes ≡ listed_after cells line [])
+reads_all {old} {now} {limit} {reads} {size} {first-cells = fc} {first-line = fl} {cells} {line} r end some =
+    let short : length r.bytes + reads * size ≤ limit * size = r.short in
+    let one : size ≤ reads * size = one_at_least reads size some in
+    (r.bytes, at_end old now r.bytes r.told end, omega arith, ap (listed_after fc fl) (sym (append-nil r.bytes)) ∙ r.list_is [])
+  where
+    one_at_least : (reads size : ℕ) → 0 < reads → size ≤ reads * size
+    one_at_least zero size h = absurd (omega arith)
+    one_at_least (suc k) size h = rw (one_less (suc k) k size (add-one k)) (omega arith)
+
+-- a refusal of a page fits the list, whatever may be said of reads
 fits_any : (reads : Type 0) (list : Result (List Address) H3Error) (e : Refusal) → RefusesList ⊥ list e → RefusesList reads list e
 fits_any reads list (Error e) h = h
 fits_any reads list Memory h = h
 fits_any reads list Read h = absurd h
 fits_any reads list Write h = absurd h
 
-pub refuses_whole : {whole : Result (List Address) H3Error} {bytes : List ℕ} {limit : ℕ} {told : Option (List ℕ)} {reads : ℕ} {cells : List Address} {line : List ℕ}
-    → Reads whole bytes limit told reads cells line → (told' : Option (List ℕ)) (page : List ℕ) (n : ℕ) → Pulls told told' page n
-    → (fails : Type 0) (e : Refusal) → ((rest : List ℕ) → RefusesList ⊥ (listed_after cells line (take n page ++ rest)) e) → RefusesList fails whole e
-refuses_whole {whole} {bytes} {limit} {told} {reads} {cells} {line} r told' page n p fails e refused =
-    let (more, is, split) = pulled told told' r.rest (take n page) r.told_is p.taken in
-    fits_any fails whole e (subst (λ list. RefusesList ⊥ list e) (sym (r.list_is ∙ ap (listed_after cells line) split)) (refused more))
+-- a page is refused
+pub reads_refused : {old now : Option (List ℕ)} {limit reads size : ℕ} {first-cells : List Address} {first-line : List ℕ} {cells : List Address} {line : List ℕ}
+    → Reads old now limit reads size first-cells first-line cells line → (now' : Option (List ℕ)) (page : List ℕ) (n : ℕ) → Pulls now now' page n → (failed : Type 0) (e : Refusal)
+    → ((rest : List ℕ) → RefusesList ⊥ (listed_after cells line (take n page ++ rest)) e)
+    → (bytes : List ℕ) × Holds old bytes × RefusesList (failed ⊎ (limit ≤ length bytes)) (listed_after first-cells first-line bytes) e
+reads_refused {old} {now} {limit} {reads} {size} {first-cells = fc} {first-line = fl} {cells} {line} r now' page n p failed e refused =
+    let front = take n page in
+    let (rest, held) = all_bytes old now' (r.bytes ++ front) (Consumes-trans old now now' r.bytes front r.told p.taken) in
+    let bytes = (r.bytes ++ front) ++ rest in
+    let is : listed_after fc fl bytes ≡ listed_after cells line (front ++ rest) = ap (listed_after fc fl) (append_assoc r.bytes front rest) ∙ r.list_is (front ++ rest) in
+    (bytes, held, fits_any (failed ⊎ (limit ≤ length bytes)) _ e (subst (λ list. RefusesList ⊥ list e) (sym is) (refused rest)))
+
+-- a read fails, or none is left
+pub reads_stopped : {old now : Option (List ℕ)} {limit reads size : ℕ} {first-cells : List Address} {first-line : List ℕ} {cells : List Address} {line : List ℕ}
+    → Reads old now limit reads size first-cells first-line cells line → (failed : Type 0) → (reads ≡ 0) ⊎ failed
+    → (bytes : List ℕ) × Holds old bytes × (failed ⊎ (limit ≤ length bytes))
+reads_stopped {old} {now} {limit} {reads} r failed why =
+    let (rest, held) = all_bytes old now r.bytes r.told in
+    let counted : limit ≤ reads + length r.bytes = r.counted in
+    let parts : length (r.bytes ++ rest) ≡ length r.bytes + length rest = length-append r.bytes rest in
+    (r.bytes ++ rest, held, elim why [ inl none ↦ inr (omega arith) | inr f ↦ inl f ])
+
+-- ---- the whole list
 
 -- a refusal of the list from its first byte
 pub refuses_from_start : (reads : Type 0) (cells : List Address) (line bytes : List ℕ) (e : Refusal) → cells ≡ [] → line ≡ [] → RefusesList reads (listed_after cells line bytes) e → RefusesList reads (listed_cells bytes) e
@@ -67,20 +122,6 @@ pub refuses_at_end : (reads : Type 0) (cells cells' : List Address) (line line' 
 refuses_at_end reads cells cells' line line' bytes e p q is h =
     fits_any reads _ e (subst (λ list. RefusesList ⊥ list e) (sym is ∙ listed_from_start cells line bytes p q) h)
 
--- a refusal of a page is never a write fault
-pub never_write : (cells : List Address) (line page : List ℕ) (e : Refusal) → ((rest : List ℕ) → RefusesList ⊥ (listed_after cells line (page ++ rest)) e) → e ≡ Write → ⊥
-never_write cells line page e refused is = subst (λ r. RefusesList ⊥ (listed_after cells line (page ++ [])) r) is (refused [])
-
--- at the end of the bytes
-at_end : (told : Option (List ℕ)) (rest : List ℕ) → told ≡ Some rest → IsAtEnd told → rest ≡ []
-at_end None rest e h = absurd (cc)
-at_end (Some xs) rest e h = let is : xs ≡ rest = cc in sym is ∙ h
-
-pub reads_all : {whole : Result (List Address) H3Error} {bytes : List ℕ} {limit : ℕ} {told : Option (List ℕ)} {reads : ℕ} {cells : List Address} {line : List ℕ}
-    → Reads whole bytes limit told reads cells line → IsAtEnd told → whole ≡ listed_after cells line []
-reads_all {told = told} {cells = cells} {line = line} r h = r.list_is ∙ ap (listed_after cells line) (at_end told r.rest r.told_is h)
-
--- where no read is left, the bytes are as many as reads were allowed
-pub reads_out : {whole : Result (List Address) H3Error} {bytes : List ℕ} {limit : ℕ} {told : Option (List ℕ)} {reads : ℕ} {cells : List Address} {line : List ℕ}
-    → Reads whole bytes limit told reads cells line → reads ≡ 0 → limit ≤ length bytes
-reads_out r e = omega (arith, r.counted)
+-- a refusal of a page or of the last line is never a read fault
+pub never_read : (list : Result (List Address) H3Error) (e : Refusal) → RefusesList ⊥ list e → e ≡ Read → ⊥
+never_read list e refused is = subst (λ r. RefusesList ⊥ list r) is refused

@@ -1,11 +1,17 @@
 -- What is written in part, and what a flush leaves.
-use Rattle.std.proofs.Common.{◌≡◌, ℕ, List, [], Option, None, Some, Bool, false, Result, Ok, Err, sym, ◌∙◌, subst, append-nil, inl, inr}
+use Rattle.std.proofs.Common.{◌≡◌, ℕ, List, [], Option, None, Some, true, Result, Ok, Err, sym, ap, ◌∙◌, subst, refl, append-nil}
 use Rattle.std.specs.Io.KnownBytes.{Appends, Keeps}
+use Rattle.std.specs.Prelude.{IfOk}
+use Rattle.std.specs.Iterator.{YieldsFirst}
+use Rattle.std.specs.Result.{result_err}
+use Rattle.std.proofs.lemmas.Iterator.Consumers.{YieldsList-from_first}
 use Rattle.h3_index.specs.Stream.{KeepsOrHides}
-use Rattle.h3_command.specs.Answer.{Answer}
+use Rattle.h3_index.specs.declared.error.H3Error.{H3Error}
+use Rattle.h3_command.specs.Answer.{printed, refused, written}
+use Rattle.h3_command.specs.Hierarchy.{unless}
 use Rattle.h3_command.specs.declared.refusal.Refusal.{Refusal}
-use Rattle.h3_command.specs.declared.refusal.Refusal.TheVariants.{Error, Memory, Read, Write}
-use Rattle.h3_command.specs.Run.{AppendsOrHides, WritesPart, WritesAs, Ends, Reports, GivesOrRunsOut}
+use Rattle.h3_command.specs.declared.refusal.Refusal.TheVariants.{Error, Write}
+use Rattle.h3_command.specs.Run.{AppendsOrHides, AppendsPart, IsLeft, Lists, SinkUse, Takes, Writes}
 
 hides : (old mid new : Option (List ℕ)) (bs : List ℕ) → Appends old mid bs → KeepsOrHides mid new → AppendsOrHides old new bs
 hides None mid new bs grown kept = tt
@@ -13,32 +19,64 @@ hides (Some xs) None new bs grown kept = absurd grown
 hides (Some xs) (Some ys) None bs grown kept = tt
 hides (Some xs) (Some ys) (Some zs) bs grown kept = kept ∙ grown
 
--- all was written, and the flush then failed
-pub part_from_flush : (old mid new : Option (List ℕ)) (bs : List ℕ) → Appends old mid bs → KeepsOrHides mid new → WritesPart old new bs
-part_from_flush old mid new bs grown kept = record { part = bs; rest = []; split = sym (append-nil bs); grown = hides old mid new bs grown kept }
+-- what is appended may be told no more
+appended_hides : (old new : Option (List ℕ)) (bs : List ℕ) → Appends old new bs → AppendsOrHides old new bs
+appended_hides None new bs grown = tt
+appended_hides (Some xs) None bs grown = absurd grown
+appended_hides (Some xs) (Some ys) bs grown = grown
 
-nothing : (old new : Option (List ℕ)) → Keeps old new → Appends old new []
+-- nothing was appended
+pub nothing : (old new : Option (List ℕ)) → Keeps old new → Appends old new []
 nothing None new kept = tt
 nothing (Some xs) None kept = absurd kept
 nothing (Some xs) (Some ys) kept = kept ∙ sym (append-nil xs)
 
--- where no stream failed, the answer is given
-pub gives_from_ending : (ending : Result (Unit {0}) Refusal) (a : Answer) (memory : Bool) (read_fails : Type 0) (write_failed : Bool) (status : ℕ) (old new err-old err-new : Option (List ℕ)) (err-failed : Bool)
-    → Ends memory write_failed ending old new → (read_fails → ⊥) → write_failed ≡ false → WritesAs a read_fails ending old new → Reports ending status err-old err-new err-failed
-    → GivesOrRunsOut memory a status old new err-old err-new err-failed
-gives_from_ending (Ok u) a memory rf wf status old new eo en ef ends r w writes reports =
-    inl (record { output = writes.1; report = subst (λ e. Reports e status eo en ef) (sym writes.0) reports })
-gives_from_ending (Err (Error e)) a memory rf wf status old new eo en ef ends r w writes reports =
-    inl (record { output = writes.1; report = subst (λ e. Reports e status eo en ef) (sym writes.0) reports })
-gives_from_ending (Err Memory) a memory rf wf status old new eo en ef ends r w writes reports =
-    inr (ends.0, record { output = nothing old new ends.1; report = reports })
-gives_from_ending (Err Read) a memory rf wf status old new eo en ef ends r w writes reports = absurd (r writes)
-gives_from_ending (Err Write) a memory rf wf status old new eo en ef ends r w writes reports = cc (ends, w)
+-- ---- `Writes`, by how a run ends
 
--- a read fault may come in more cases
-pub writes_weaker : (ending : Result (Unit {0}) Refusal) (a : Answer) (P Q : Type 0) (old new : Option (List ℕ)) → (P → Q) → WritesAs a P ending old new → WritesAs a Q ending old new
-writes_weaker (Ok u) a P Q old new f w = w
-writes_weaker (Err (Error e)) a P Q old new f w = w
-writes_weaker (Err Memory) a P Q old new f w = w
-writes_weaker (Err Read) a P Q old new f w = f w
-writes_weaker (Err Write) a P Q old new f w = w
+pub writes_whole : (bytes : List ℕ) (out : SinkUse) → Takes out bytes → Writes (written bytes) (Ok tt) out
+unfolding Writes
+writes_whole bytes out takes = (refl, takes)
+
+-- a push failed
+pub writes_part : (bytes : List ℕ) (out : SinkUse) → AppendsPart out.before out.after bytes → out.has_failed ≡ true → Writes (written bytes) (Err Write) out
+unfolding Writes
+writes_part bytes out p failed = (record { part = p.part; rest = p.rest; split = p.split; holds = appended_hides _ _ _ p.holds }, failed)
+
+-- all was pushed, and the flush then failed
+pub writes_unflushed : (bytes : List ℕ) (mid : Option (List ℕ)) (out : SinkUse) → Appends out.before mid bytes → KeepsOrHides mid out.after → out.has_failed ≡ true → Writes (written bytes) (Err Write) out
+unfolding Writes
+writes_unflushed bytes mid out grown kept failed =
+    (record { part = bytes; rest = []; split = sym (append-nil bytes); holds = hides _ mid _ bytes grown kept }, failed)
+
+-- there is an error, and nothing is written
+pub writes_refused : (e : H3Error) (out : SinkUse) → IsLeft out → Writes (refused e) (Err (Error e)) out
+unfolding Writes
+writes_refused e out left = (refl, (nothing _ _ left.0, left.1))
+
+-- ---- a result in place of a value, and of items
+
+pub printed_refused : {A : Type 0} (text : A → List ℕ) (value : Result A H3Error) (e : H3Error) (out : SinkUse) → value ≡ Err e → IsLeft out → Writes (printed text value) (Err (Error e)) out
+printed_refused text value e out is left = rw is (writes_refused e out left)
+
+-- the value is not there for an error
+pub printed_unless : {A : Type 0} (text : A → List ℕ) (error : Option H3Error) (value : A) (e : H3Error) (out : SinkUse) → Some e ≡ error → IsLeft out → Writes (printed text (unless error value)) (Err (Error e)) out
+printed_unless text error value e out is left = printed_refused text (unless error value) e out (ap (λ d. unless d value) (sym is)) left
+
+-- the items are there
+pub printed_items : {A : Type 0} (text : A → List ℕ) (error : Option H3Error) (value given : A) (ending : Result (Unit {0}) Refusal) (out : SinkUse) → given ≡ value → None ≡ error → Writes (written (text given)) ending out
+    → Writes (printed text (unless error value)) ending out
+printed_items text error value given ending out same fits writes =
+    subst (λ a. Writes a ending out) (ap (λ v. written (text v)) same ∙ ap (λ e. printed text (unless e value)) fits) writes
+
+-- an error stands in place of the items
+pub printed_error : {S A : Type 0} (text : List A → List ℕ) (steps : S → Option A → S → Type 0) (given all : Result (List A) H3Error) (e : H3Error) (out : SinkUse) → given ≡ all → Lists steps (Err e) given → IsLeft out
+    → Writes (printed text all) (Err (Error e)) out
+printed_error text steps (Ok xs) all e out same never left = absurd never
+printed_error text steps (Err d) all e out same is left = printed_refused text all e out (sym same ∙ ap Err (sym is)) left
+
+-- an iterator that yields what it has left, or an error
+pub lists_first : {S A : Type 0} (rest : S → List A) (items : Result S H3Error) (error : Option H3Error) (all : List A) → result_err items ≡ error → IfOk items (λ s. rest s ≡ all)
+    → Lists (YieldsFirst rest) items (unless error all)
+lists_first rest (Ok s) error all refused left =
+    subst (λ e. Lists (YieldsFirst rest) (Ok s) (unless e all)) refused (YieldsList-from_first (λ x. x) rest all left)
+lists_first rest (Err e) error all refused left = subst (λ d. Lists (YieldsFirst rest) (Err e) (unless d all)) refused refl

@@ -1,26 +1,20 @@
--- What a command answers.
-use Rattle.std.specs.Prelude.{ℕ, ℤ, ◌+◌, ◌*◌, ◌^◌, Bool, true, false, ◌||◌, List, [], ◌∷◌, ◌++◌, length, slice_get, codes, decimal, unsigned_abs, Option, None, Some, is_some, Result, Ok, Err, if◌then◌else◌}
+-- What a command asks for, and the answer to it.
+use Rattle.std.specs.Prelude.{ℕ, Bool, true, false, List, [], ◌∷◌, ◌++◌, codes, decimal, Result, Ok, Err, if◌then◌else◌}
 use Rattle.std.specs.List.{flat_map}
-use Rattle.std.specs.Option.{option_map_or}
-use Rattle.h3_index.specs.Cell.{Address, is_class_iii, is_pentagon, number_of, resolution}
-use Rattle.h3_index.specs.CellNumber.{cell_in}
-use Rattle.h3_index.specs.Count.{cells_of, pentagons, resolution_of}
-use Rattle.h3_index.specs.Descendants.{center_at, cut, descendants}
+use Rattle.h3_index.specs.Cell.{Address, number_of}
 use Rattle.h3_index.specs.Text.{text_of}
 use Rattle.h3_index.specs.declared.error.H3Error.{H3Error}
-use Rattle.h3_index.specs.declared.error.H3Error.TheVariants.{CellInvalid, Failed, ResDomain}
-use Rattle.h3_set.specs.Compacted.{compacted}
-use Rattle.h3_set.specs.Refusals.{compaction_refusal}
-use Rattle.h3_set.specs.Uncompaction.{uncompacted, uncompact_refusal}
-use Rattle.h3_tree.specs.Positions.{position_under}
-use Rattle.h3_tree.specs.Refusals.{descent_refusal, parent_refusal, position_refusal}
+use Rattle.h3_command.specs.Hierarchy.{cell_to_center_child, cell_to_child_pos, cell_to_children, cell_to_children_size, cell_to_parent, child_pos_to_cell}
+use Rattle.h3_command.specs.Inspection.{get_base_cell_number, get_resolution, is_pentagon, is_res_class_iii, is_valid_cell}
 use Rattle.h3_command.specs.List.{listed_cells}
+use Rattle.h3_command.specs.Resolutions.{get_num_cells, get_pentagons, get_res0_cells}
+use Rattle.h3_command.specs.Sets.{compact_cells, uncompact_cells}
 use Rattle.h3_command.specs.declared.command.Command.{Command}
 use Rattle.h3_command.specs.declared.command.Command.TheVariants.{IsValidCell, GetResolution, GetBaseCellNumber, IsPentagon, IsResClassIII, GetNumCells, GetRes0Cells, GetPentagons, CellToParent, CellToCenterChild, CellToChildren, CellToChildrenSize, CellToChildPos, ChildPosToCell, CompactCells, UncompactCells}
 use Rattle.h3_command.specs.declared.refusal.Refusal.{Refusal}
 use Rattle.h3_command.specs.declared.refusal.Refusal.TheVariants.{Error, Memory}
 
--- the bytes of the output, and how the command ends, which fixes the line on standard error and the status
+-- the bytes of the output, and how the command ends, which fixes the line on standard error and the exit status
 pub record Answer : Type 0 where
   pub output : List ℕ
   pub ending : Result (Unit {0}) Refusal
@@ -33,14 +27,9 @@ written bytes = record { output = bytes; ending = Ok tt }
 abbrev pub refused : H3Error → Answer
 refused e = record { output = []; ending = Err (Error e) }
 
--- want of memory, and no output
-abbrev pub want_of_memory : Answer
-want_of_memory = record { output = []; ending = Err Memory }
-
--- these bytes, unless there is an error
-abbrev pub written_unless : Option H3Error → List ℕ → Answer
-written_unless None bytes = written bytes
-written_unless (Some e) bytes = refused e
+-- out of memory, and no output
+abbrev pub out_of_memory : Answer
+out_of_memory = record { output = []; ending = Err Memory }
 
 -- ---- lines
 
@@ -60,155 +49,68 @@ cell_line c = text_of (number_of c) ++ 10 ∷ []
 abbrev pub cell_lines : List Address → List ℕ
 cell_lines cells = flat_map cell_line cells
 
--- ---- cells
+-- the text of what a function returns, or its error
+abbrev pub printed : {A : Type 0} → (A → List ℕ) → Result A H3Error → Answer
+printed text (Ok value) = written (text value)
+printed text (Err e) = refused e
 
--- whether a number stands for a cell; an error where its word spells none
-abbrev pub is_valid_cell_answer : Option ℕ → Answer
-is_valid_cell_answer None = refused Failed
-is_valid_cell_answer (Some v) = written (truth_line (is_some (cell_in v)))
+-- ---- what a command asks for
 
--- the answer about a cell: an error where its word spells no number, and then where the number stands for no cell
-abbrev pub with_cell : Option ℕ → (Address → Answer) → Answer
-with_cell None about = refused Failed
-with_cell (Some v) about = option_map_or about (cell_in v) (refused CellInvalid)
+-- an answer that its words alone give, one about the cells listed on standard input, or one about the bytes of a table
+pub data Request : Type 0 where
+  plain : Answer → Request
+  of_list : (List Address → Answer) → Request
+  of_table : (List ℕ → Answer) → Request
 
-abbrev pub get_resolution_answer : Option ℕ → Answer
-get_resolution_answer cell = with_cell cell (λ c. written (number_line (resolution c)))
+abbrev pub request : Command → Request
+request (IsValidCell cell) = plain (printed truth_line (is_valid_cell cell))
+request (GetResolution cell) = plain (printed number_line (get_resolution cell))
+request (GetBaseCellNumber cell) = plain (printed number_line (get_base_cell_number cell))
+request (IsPentagon cell) = plain (printed truth_line (is_pentagon cell))
+request (IsResClassIII cell) = plain (printed truth_line (is_res_class_iii cell))
+request (GetNumCells res) = plain (printed number_line (get_num_cells res))
+request GetRes0Cells = plain (written (cell_lines get_res0_cells))
+request (GetPentagons res) = plain (printed cell_lines (get_pentagons res))
+request (CellToParent cell res) = plain (printed cell_line (cell_to_parent cell res))
+request (CellToCenterChild cell res) = plain (printed cell_line (cell_to_center_child cell res))
+request (CellToChildren cell res) = plain (printed cell_lines (cell_to_children cell res))
+request (CellToChildrenSize cell res) = plain (printed number_line (cell_to_children_size cell res))
+request (CellToChildPos cell res) = plain (printed number_line (cell_to_child_pos cell res))
+request (ChildPosToCell position cell res) = plain (printed cell_line (child_pos_to_cell position cell res))
+request CompactCells = of_list (λ cells. printed cell_lines (compact_cells cells))
+request (UncompactCells res) = of_list (λ cells. printed cell_lines (uncompact_cells res cells))
 
-abbrev pub get_base_cell_number_answer : Option ℕ → Answer
-get_base_cell_number_answer cell = with_cell cell (λ c. written (number_line c.base))
+-- the list of cells is read from standard input
+abbrev pub reads_list : Request → Bool
+reads_list (plain a) = false
+reads_list (of_list about) = true
+reads_list (of_table about) = false
 
-abbrev pub is_pentagon_answer : Option ℕ → Answer
-is_pentagon_answer cell = with_cell cell (λ c. written (truth_line (is_pentagon c)))
+-- the table is read
+abbrev pub reads_table : Request → Bool
+reads_table (plain a) = false
+reads_table (of_list about) = false
+reads_table (of_table about) = true
 
-abbrev pub is_res_class_iii_answer : Option ℕ → Answer
-is_res_class_iii_answer cell = with_cell cell (λ c. written (truth_line (is_class_iii c)))
+-- what is read is kept in memory
+abbrev pub takes_memory : Request → Bool
+takes_memory (plain a) = false
+takes_memory (of_list about) = true
+takes_memory (of_table about) = true
 
--- ---- the cells of a resolution
-
--- the answer about a resolution, or an error where the number is none
-abbrev pub with_resolution : ℤ → (ℕ → Answer) → Answer
-with_resolution res about = option_map_or about (resolution_of res) (refused ResDomain)
-
-abbrev pub get_num_cells_answer : ℤ → Answer
-get_num_cells_answer res = with_resolution res (λ r. written (number_line (2 + 120 * 7 ^ r)))
-
-abbrev pub get_res0_cells_answer : Answer
-get_res0_cells_answer = written (cell_lines (cells_of 0))
-
-abbrev pub get_pentagons_answer : ℤ → Answer
-get_pentagons_answer res = with_resolution res (λ r. written (cell_lines (pentagons r)))
-
--- ---- the hierarchy
-
-abbrev pub cell_to_parent_answer : Option ℕ → ℤ → Answer
-cell_to_parent_answer cell res =
-    with_cell cell (λ c. written_unless (parent_refusal (resolution c) res) (cell_line (cut c (unsigned_abs res))))
-
-abbrev pub cell_to_center_child_answer : Option ℕ → ℤ → Answer
-cell_to_center_child_answer cell res =
-    with_cell cell (λ c. written_unless (descent_refusal (resolution c) res) (cell_line (center_at c (unsigned_abs res))))
-
-abbrev pub cell_to_children_answer : Option ℕ → ℤ → Answer
-cell_to_children_answer cell res =
-    with_cell cell (λ c. written_unless (descent_refusal (resolution c) res) (cell_lines (descendants c (unsigned_abs res))))
-
-abbrev pub cell_to_children_size_answer : Option ℕ → ℤ → Answer
-cell_to_children_size_answer cell res =
-    with_cell cell (λ c. written_unless (descent_refusal (resolution c) res) (number_line (length (descendants c (unsigned_abs res)))))
-
-abbrev pub cell_to_child_pos_answer : Option ℕ → ℤ → Answer
-cell_to_child_pos_answer cell res =
-    with_cell cell (λ c. written_unless (parent_refusal (resolution c) res) (number_line (position_under (cut c (unsigned_abs res)) c)))
-
--- the line of a listed cell
-abbrev pub listed_line : Option Address → List ℕ
-listed_line None = []
-listed_line (Some c) = cell_line c
-
-abbrev pub child_pos_to_cell_answer : ℕ → Option ℕ → ℤ → Answer
-child_pos_to_cell_answer position cell res =
-    with_cell cell (λ c. written_unless (position_refusal c res position) (listed_line (slice_get (descendants c (unsigned_abs res)) position)))
-
--- ---- lists
+-- ---- the answer
 
 -- the answer about a list of cells, or the error of its first faulty line
-abbrev pub with_list : Result (List Address) H3Error → (List Address → Answer) → Answer
-with_list (Ok cells) about = about cells
-with_list (Err e) about = refused e
+abbrev pub about_list : (List Address → Answer) → Result (List Address) H3Error → Answer
+about_list about (Ok cells) = about cells
+about_list about (Err e) = refused e
 
-abbrev pub compacted_answer : List Address → Answer
-compacted_answer cells = written_unless (compaction_refusal cells) (cell_lines (compacted cells))
+-- the answer to a request, for the bytes of the list and of the table
+abbrev pub answer_to : Request → List ℕ → List ℕ → Answer
+answer_to (plain a) list rows = a
+answer_to (of_list about) list rows = about_list about (listed_cells list)
+answer_to (of_table about) list rows = about rows
 
-abbrev pub compact_cells_answer : List ℕ → Answer
-compact_cells_answer list = with_list (listed_cells list) compacted_answer
-
-abbrev pub uncompacted_answer : ℤ → List Address → Answer
-uncompacted_answer res cells =
-    written_unless (uncompact_refusal cells res) (cell_lines (uncompacted cells (unsigned_abs res)))
-
-abbrev pub uncompact_cells_answer : ℤ → List ℕ → Answer
-uncompact_cells_answer res list = with_list (listed_cells list) (uncompacted_answer res)
-
--- ---- all commands
-
--- the answer to a command, the bytes of the list that it reads and those of its table
+-- the answer to a command
 abbrev pub answer : Command → List ℕ → List ℕ → Answer
-answer (IsValidCell cell) list rows = is_valid_cell_answer cell
-answer (GetResolution cell) list rows = get_resolution_answer cell
-answer (GetBaseCellNumber cell) list rows = get_base_cell_number_answer cell
-answer (IsPentagon cell) list rows = is_pentagon_answer cell
-answer (IsResClassIII cell) list rows = is_res_class_iii_answer cell
-answer (GetNumCells res) list rows = get_num_cells_answer res
-answer GetRes0Cells list rows = get_res0_cells_answer
-answer (GetPentagons res) list rows = get_pentagons_answer res
-answer (CellToParent cell res) list rows = cell_to_parent_answer cell res
-answer (CellToCenterChild cell res) list rows = cell_to_center_child_answer cell res
-answer (CellToChildren cell res) list rows = cell_to_children_answer cell res
-answer (CellToChildrenSize cell res) list rows = cell_to_children_size_answer cell res
-answer (CellToChildPos cell res) list rows = cell_to_child_pos_answer cell res
-answer (ChildPosToCell position cell res) list rows = child_pos_to_cell_answer position cell res
-answer CompactCells list rows = compact_cells_answer list
-answer (UncompactCells res) list rows = uncompact_cells_answer res list
-
--- the command reads a list of cells from its input
-abbrev pub uses_list : Command → Bool
-uses_list (IsValidCell cell) = false
-uses_list (GetResolution cell) = false
-uses_list (GetBaseCellNumber cell) = false
-uses_list (IsPentagon cell) = false
-uses_list (IsResClassIII cell) = false
-uses_list (GetNumCells res) = false
-uses_list GetRes0Cells = false
-uses_list (GetPentagons res) = false
-uses_list (CellToParent cell res) = false
-uses_list (CellToCenterChild cell res) = false
-uses_list (CellToChildren cell res) = false
-uses_list (CellToChildrenSize cell res) = false
-uses_list (CellToChildPos cell res) = false
-uses_list (ChildPosToCell position cell res) = false
-uses_list CompactCells = true
-uses_list (UncompactCells res) = true
-
--- the command reads the table of base cells
-abbrev pub uses_table : Command → Bool
-uses_table (IsValidCell cell) = false
-uses_table (GetResolution cell) = false
-uses_table (GetBaseCellNumber cell) = false
-uses_table (IsPentagon cell) = false
-uses_table (IsResClassIII cell) = false
-uses_table (GetNumCells res) = false
-uses_table GetRes0Cells = false
-uses_table (GetPentagons res) = false
-uses_table (CellToParent cell res) = false
-uses_table (CellToCenterChild cell res) = false
-uses_table (CellToChildren cell res) = false
-uses_table (CellToChildrenSize cell res) = false
-uses_table (CellToChildPos cell res) = false
-uses_table (ChildPosToCell position cell res) = false
-uses_table CompactCells = false
-uses_table (UncompactCells res) = false
-
--- the command takes memory: it reads a list or a table
-abbrev pub takes_memory : Command → Bool
-takes_memory command = uses_list command || uses_table command
+answer command list rows = answer_to (request command) list rows

@@ -1,5 +1,11 @@
 pub mod Answer
+pub mod Bases
 pub mod Examples
+pub mod Hierarchy
+pub mod Inspection
 pub mod List
+pub mod Reading
 pub mod Refusal
+pub mod Resolutions
 pub mod Run
+pub mod Sets

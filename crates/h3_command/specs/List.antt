@@ -1,13 +1,10 @@
--- The list of cells that an input spells, one cell a line.
-use Rattle.std.specs.Prelude.{ℕ, ◌≡◌, ◌==◌, nat_lt, Bool, not, List, [], ◌∷◌, ◌++◌, length, ⊤, Option, None, Some, Result, Ok, Err, if◌then◌else◌}
-use Rattle.std.specs.List.{list_all}
+-- The list of cells in the bytes of an input, one cell a line.
+use Rattle.std.specs.Prelude.{ℕ, ◌==◌, nat_lt, List, [], ◌∷◌, length, Option, None, Some, Result, Ok, Err, if◌then◌else◌}
 use Rattle.h3_index.specs.Cell.{Address}
 use Rattle.h3_index.specs.CellNumber.{cell_in}
 use Rattle.h3_index.specs.Text.{spelled_index, trimmed}
 use Rattle.h3_index.specs.declared.error.H3Error.{H3Error}
 use Rattle.h3_index.specs.declared.error.H3Error.TheVariants.{Failed, CellInvalid}
-use Rattle.h3_command.specs.declared.refusal.Refusal.{Refusal}
-use Rattle.h3_command.specs.declared.refusal.Refusal.TheVariants.{Error, Memory, Read, Write}
 
 -- ---- lines
 
@@ -46,33 +43,10 @@ said_before (Ok (Some cell)) (Ok cells) = Ok (cell ∷ cells)
 said_before (Ok (Some cell)) (Err e) = Err e
 
 -- the cells of the lines; the first faulty line decides
-abbrev pub cells_of : List (List ℕ) → Result (List Address) H3Error
-cells_of [] = Ok []
-cells_of (line ∷ lines) = said_before (said_by line) (cells_of lines)
+abbrev pub cells_said : List (List ℕ) → Result (List Address) H3Error
+cells_said [] = Ok []
+cells_said (line ∷ lines) = said_before (said_by line) (cells_said lines)
 
--- the list that these bytes spell
+-- the list in these bytes
 abbrev pub listed_cells : List ℕ → Result (List Address) H3Error
-listed_cells bytes = cells_of (lines_of bytes)
-
--- ---- a list that is read in pieces
-
--- these cells, before those of a list
-abbrev pub cells_before : List Address → Result (List Address) H3Error → Result (List Address) H3Error
-cells_before cells (Ok later) = Ok (cells ++ later)
-cells_before cells (Err e) = Err e
-
--- the list, where these cells were read before, and this is the line so far
-abbrev pub listed_after : List Address → List ℕ → List ℕ → Result (List Address) H3Error
-listed_after cells line rest = cells_before cells (listed_cells (line ++ rest))
-
--- no byte is a line feed
-abbrev pub is_unended : List ℕ → Bool
-is_unended = list_all (λ b. not (b == 10))
-
--- A refusal fits the list: an error is the list's own, want of memory says nothing of it, and a read fault comes only
--- where reads fail.
-abbrev pub RefusesList : Type 0 → Result (List Address) H3Error → Refusal → Type 0
-RefusesList read_fails list (Error e) = list ≡ Err e
-RefusesList read_fails list Memory = ⊤
-RefusesList read_fails list Read = read_fails
-RefusesList read_fails list Write = ⊥
+listed_cells bytes = cells_said (lines_of bytes)

@@ -1,71 +1,159 @@
--- What a run leaves in its streams.
+-- What a run does with its streams.
 use Rattle.std.specs.Prelude.{◌≡◌, ℕ, ◌≤◌, ◌^◌, ◌⊎◌, Bool, true, false, List, ◌++◌, length, ⊤, Option, None, Some, Result, Ok, Err, IsTrue}
 use Rattle.std.specs.Io.KnownBytes.{Appends, Keeps}
+use Rattle.std.proofs.lemmas.Iterator.{YieldsList}
+use Rattle.h3_index.specs.Cell.{Address}
+use Rattle.h3_index.specs.declared.error.H3Error.{H3Error}
 use Rattle.h3_command.specs.declared.refusal.Refusal.{Refusal}
 use Rattle.h3_command.specs.declared.refusal.Refusal.TheVariants.{Error, Memory, Read, Write}
-use Rattle.h3_command.specs.Answer.{Answer, want_of_memory}
+use Rattle.h3_command.specs.Answer.{Answer, Request, about_list, answer_to, out_of_memory, reads_list, reads_table, takes_memory}
+use Rattle.h3_command.specs.Answer.Request.{plain, of_list, of_table}
+use Rattle.h3_command.specs.List.{listed_cells}
 use Rattle.h3_command.specs.Refusal.{ending_line, ending_status}
 
--- a source that is used tells these bytes
-abbrev pub Tells : Bool → Option (List ℕ) → List ℕ → Type 0
-Tells false told bytes = ⊤
-Tells true told bytes = told ≡ Some bytes
+-- ---- streams
 
--- a source that is used failed, or has as many bytes as it may be read
-abbrev pub ReadFails : Bool → Bool → List ℕ → Type 0
-ReadFails false failed bytes = ⊥
-ReadFails true failed bytes = (failed ≡ true) ⊎ (2 ^ 40 ≤ length bytes)
+-- a source over a call: the bytes that it had left, where they are told, and whether it had failed before and has after
+pub record SourceUse : Type 0 where
+  pub left : Option (List ℕ)
+  pub had_failed : Bool
+  pub has_failed : Bool
 
--- a beginning of bs was appended, and the rest of it was not
-pub record AppendsPart (old new : Option (List ℕ)) (bs : List ℕ) : Type 0 where
+abbrev pub source_use : {S : Type 0} → (S → Option (List ℕ)) → (S → Bool) → S → S → SourceUse
+source_use left failed old new = record { left = left old; had_failed = failed old; has_failed = failed new }
+
+-- a sink over a call: the bytes that it had taken and has taken, where they are told, and whether it had failed and has
+pub record SinkUse : Type 0 where
+  pub before : Option (List ℕ)
+  pub after : Option (List ℕ)
+  pub had_failed : Bool
+  pub has_failed : Bool
+
+abbrev pub sink_use : {S : Type 0} → (S → Option (List ℕ)) → (S → Bool) → S → S → SinkUse
+sink_use taken failed old new =
+    record { before = taken old; after = taken new; had_failed = failed old; has_failed = failed new }
+
+-- the streams of a run
+pub record Streams : Type 0 where
+  pub input : SourceUse
+  pub table : SourceUse
+  pub out : SinkUse
+  pub err : SinkUse
+
+-- the source has these bytes left: those that it tells, where it does
+abbrev pub Holds : Option (List ℕ) → List ℕ → Type 0
+Holds None bytes = ⊤
+Holds (Some told) bytes = told ≡ bytes
+
+-- no call of the source failed
+abbrev pub IsSound : SourceUse → Type 0
+IsSound source = source.has_failed ≡ source.had_failed
+
+-- a call of the source failed, or the bytes are as many as it may be read
+abbrev pub ReadFails : SourceUse → List ℕ → Type 0
+ReadFails source bytes = (source.has_failed ≡ true) ⊎ (2 ^ 40 ≤ length bytes)
+
+-- the sink took nothing, and no call of it failed
+abbrev pub IsLeft : SinkUse → Type 0
+IsLeft sink = Keeps sink.before sink.after × (sink.has_failed ≡ sink.had_failed)
+
+-- the sink took these bytes, and no call of it failed
+abbrev pub Takes : SinkUse → List ℕ → Type 0
+Takes sink bytes = Appends sink.before sink.after bytes × (sink.has_failed ≡ sink.had_failed)
+
+-- some beginning of the bytes has the property
+pub record SomeBeginning (P : List ℕ → Type 0) (bytes : List ℕ) : Type 0 where
   pub part : List ℕ
   pub rest : List ℕ
-  pub split : bs ≡ part ++ rest
-  pub grown : Appends old new part
+  pub split : bytes ≡ part ++ rest
+  pub holds : P part
 
--- where the bytes are told before and after, they grew by bs
+-- a beginning of the bytes was appended, and the rest of them was not
+abbrev pub AppendsPart : Option (List ℕ) → Option (List ℕ) → List ℕ → Type 0
+AppendsPart old new bytes = SomeBeginning (Appends old new) bytes
+
+-- where the bytes are told before and after, they grew by these
 abbrev pub AppendsOrHides : Option (List ℕ) → Option (List ℕ) → List ℕ → Type 0
-AppendsOrHides None new bs = ⊤
-AppendsOrHides (Some xs) None bs = ⊤
-AppendsOrHides (Some xs) (Some ys) bs = ys ≡ xs ++ bs
+AppendsOrHides None new bytes = ⊤
+AppendsOrHides (Some xs) None bytes = ⊤
+AppendsOrHides (Some xs) (Some ys) bytes = ys ≡ xs ++ bytes
 
--- a beginning of bs was appended, or the bytes are told no more
-pub record WritesPart (old new : Option (List ℕ)) (bs : List ℕ) : Type 0 where
-  pub part : List ℕ
-  pub rest : List ℕ
-  pub split : bs ≡ part ++ rest
-  pub grown : AppendsOrHides old new part
+-- a call of the sink failed, and it took a beginning of the bytes, or tells its bytes no more
+abbrev pub TakesPart : SinkUse → List ℕ → Type 0
+TakesPart sink bytes = SomeBeginning (AppendsOrHides sink.before sink.after) bytes × (sink.has_failed ≡ true)
 
--- What is written beside an answer: its output, where the run ends as the answer does, and a part of that after a
--- write fault. A read fault comes only where reads fail.
-abbrev pub WritesAs : Answer → Type 0 → Result (Unit {0}) Refusal → Option (List ℕ) → Option (List ℕ) → Type 0
-WritesAs a read_fails (Ok u) old new = (a.ending ≡ Ok u) × Appends old new a.output
-WritesAs a read_fails (Err (Error e)) old new = (a.ending ≡ Err (Error e)) × Appends old new a.output
-WritesAs a read_fails (Err Memory) old new = ⊤
-WritesAs a read_fails (Err Read) old new = read_fails
-WritesAs a read_fails (Err Write) old new = WritesPart old new a.output
+-- ---- how a run ends
 
--- Whatever the sources tell: want of memory comes only where memory is taken, and a write fault only where the sink
--- failed; after a read fault and for want of memory nothing is written.
-abbrev pub Ends : Bool → Bool → Result (Unit {0}) Refusal → Option (List ℕ) → Option (List ℕ) → Type 0
-Ends memory write_failed (Ok u) old new = ⊤
-Ends memory write_failed (Err (Error e)) old new = ⊤
-Ends memory write_failed (Err Memory) old new = IsTrue memory × Keeps old new
-Ends memory write_failed (Err Read) old new = Keeps old new
-Ends memory write_failed (Err Write) old new = IsTrue write_failed
+-- the answer is written: all of its output, and then the run ends as the answer does, or a part of it and a write fault
+unfoldable pub Writes : Answer → Result (Unit {0}) Refusal → SinkUse → Type 0
+Writes a (Ok u) out = (a.ending ≡ Ok u) × Takes out a.output
+Writes a (Err (Error e)) out = (a.ending ≡ Err (Error e)) × Takes out a.output
+Writes a (Err Memory) out = ⊥
+Writes a (Err Read) out = ⊥
+Writes a (Err Write) out = TakesPart out a.output
 
--- the status is that of this ending, and standard error has its line, unless it failed
-pub record Reports (ending : Result (Unit {0}) Refusal) (status : ℕ) (err-old err-new : Option (List ℕ)) (err-failed : Bool) : Type 0 where
+-- the result has an iterator, of these steps, that yields the items of this list, or both have the same error
+abbrev pub Lists : {S A : Type 0} → (S → Option A → S → Type 0) → Result S H3Error → Result (List A) H3Error → Type 0
+Lists steps (Ok items) (Ok all) = YieldsList steps (λ x. x) items all
+Lists steps (Err e) (Err d) = e ≡ d
+Lists steps (Ok items) (Err d) = ⊥
+Lists steps (Err e) (Ok all) = ⊥
+
+-- The answer to these bytes of a source is written, and no read fails. Or there is no memory, or a read fails, and
+-- then nothing is written.
+abbrev pub WritesReading : Answer → List ℕ → SourceUse → Result (Unit {0}) Refusal → SinkUse → Type 0
+WritesReading a bytes source (Err Memory) out = IsSound source × IsLeft out
+WritesReading a bytes source (Err Read) out = ReadFails source bytes × IsLeft out
+WritesReading a bytes source ending out = IsSound source × Writes a ending out
+
+-- there are bytes of the list, those that the source tells, and the answer about the cells in them is written
+abbrev pub WritesOfList : (List Address → Answer) → SourceUse → Result (Unit {0}) Refusal → SinkUse → Type 0
+WritesOfList about input ending out =
+    (list : List ℕ) × Holds input.left list × WritesReading (about_list about (listed_cells list)) list input ending out
+
+-- the same of the bytes of a table
+abbrev pub WritesOfTable : (List ℕ → Answer) → SourceUse → Result (Unit {0}) Refusal → SinkUse → Type 0
+WritesOfTable about table ending out =
+    (rows : List ℕ) × Holds table.left rows × WritesReading (about rows) rows table ending out
+
+-- how a run ends, by what it asks for
+abbrev pub Ends : Request → SourceUse → SourceUse → Result (Unit {0}) Refusal → SinkUse → Type 0
+Ends (plain a) input table ending out = Writes a ending out
+Ends (of_list about) input table ending out = WritesOfList about input ending out
+Ends (of_table about) input table ending out = WritesOfTable about table ending out
+
+-- the status is that of this ending, and standard error has its line, or a beginning of it where it failed
+pub record Reports (ending : Result (Unit {0}) Refusal) (status : ℕ) (err : SinkUse) : Type 0 where
   pub status_is : status ≡ ending_status ending
-  pub line : err-failed ≡ false → Appends err-old err-new (ending_line ending)
+  pub line : err.has_failed ≡ false → Appends err.before err.after (ending_line ending)
+  pub part : AppendsPart err.before err.after (ending_line ending)
+
+-- ---- where nothing fails
+
+-- no source that the request reads fails, nor does standard output
+pub record NothingFails (r : Request) (list rows : List ℕ) (s : Streams) : Type 0 where
+  pub list_read : IsTrue (reads_list r) → ¬ ReadFails s.input list
+  pub table_read : IsTrue (reads_table r) → ¬ ReadFails s.table rows
+  pub answer_written : s.out.has_failed ≡ false
 
 -- an answer is given whole
-pub record Gives (a : Answer) (status : ℕ) (out-old out-new err-old err-new : Option (List ℕ)) (err-failed : Bool) : Type 0 where
-  pub output : Appends out-old out-new a.output
-  pub report : Reports a.ending status err-old err-new err-failed
+pub record Gives (a : Answer) (status : ℕ) (s : Streams) : Type 0 where
+  pub output : Takes s.out a.output
+  pub report : Reports a.ending status s.err
 
--- the answer is given, or want of memory where memory is taken
-abbrev pub GivesOrRunsOut : Bool → Answer → ℕ → (out-old out-new err-old err-new : Option (List ℕ)) → Bool → Type 0
-GivesOrRunsOut memory a status out-old out-new err-old err-new err-failed =
-    Gives a status out-old out-new err-old err-new err-failed
-    ⊎ (IsTrue memory × Gives want_of_memory status out-old out-new err-old err-new err-failed)
+-- there are bytes of the list and of the table, those that the sources tell, and where nothing fails the answer to
+-- them is given, or out of memory where memory is taken
+pub record Answers (r : Request) (status : ℕ) (s : Streams) : Type 0 where
+  pub list : List ℕ
+  pub rows : List ℕ
+  pub list_told : Holds s.input.left list
+  pub rows_told : Holds s.table.left rows
+  pub given : NothingFails r list rows s
+      → Gives (answer_to r list rows) status s ⊎ (IsTrue (takes_memory r) × Gives out_of_memory status s)
+
+-- what a run does that asks for this and returns this status: what it writes where nothing fails, and how it may end
+pub record Runs (r : Request) (status : ℕ) (s : Streams) : Type 0 where
+  pub answers : Answers r status s
+  pub ending : Result (Unit {0}) Refusal
+  pub ends : Ends r s.input s.table ending s.out
+  pub reports : Reports ending status s.err

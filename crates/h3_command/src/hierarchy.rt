@@ -1,78 +1,62 @@
-//! The answers of H3's hierarchy functions.
+//! H3's hierarchy functions, for the index of a word: `None` where the word has none.
+//!
+//! Each returns `Failed` where there is no index, then `CellInvalid` where no cell has the index, and then the error of
+//! the function for that cell.
 
-ghost use Rattle.std.specs.Prelude.{false};
-ghost use Rattle.h3_command.specs.Answer.{cell_to_center_child_answer, cell_to_child_pos_answer, cell_to_children_answer, cell_to_children_size_answer, cell_to_parent_answer, child_pos_to_cell_answer};
-ghost use Rattle.h3_command.specs.Run.{Ends, WritesAs};
+ghost use Rattle.std.specs.Prelude.{◌≡◌};
+ghost use Rattle.std.specs.Iterator.{YieldsFirst};
+ghost use Rattle.h3_tree.specs.Children.{children_left};
+ghost use Rattle.h3_command.specs.Hierarchy.{cell_to_center_child, cell_to_child_pos, cell_to_children, cell_to_children_size, cell_to_parent, child_pos_to_cell};
+ghost use Rattle.h3_command.specs.Run.{Lists};
 
 use crate::inspection::cell_from;
-use crate::refusal::Refusal;
-use crate::write::{write_line, write_lines};
-use h3_index::Sink;
-use h3_tree::{center_child, child_at, child_pos, children, children_size, parent};
+use h3_index::{Cell, H3Error};
+use h3_tree::{Children, center_child, child_at, child_pos, children, children_size, parent};
 
-/// Writes the ancestor of a cell at a resolution.
-pub fn cell_to_parent<W: Sink>(index: Option<u64>, res: i32, out: &mut W) -> Result<(), Refusal>
-    ensures writes { WritesAs (cell_to_parent_answer index res) ⊥ result (W.taken out.old) (W.taken out.new) }
-    ensures ends { Ends false (W.has_failed out.new) result (W.taken out.old) (W.taken out.new) }
+/// The ancestor of a cell at a resolution, as H3's `cellToParent` returns it.
+pub fn cell_to_parent(index: Option<u64>, res: i32) -> Result<Cell, H3Error>
+    ensures { result ≡ cell_to_parent index res }
 {
     let cell = cell_from(index)?;
-    write_line(out, &parent(cell, res)?)
+    parent(cell, res)
 }
 
-/// Writes the descendant of a cell at a resolution whose further digits are 0.
-pub fn cell_to_center_child<W: Sink>(
-    index: Option<u64>,
-    res: i32,
-    out: &mut W,
-) -> Result<(), Refusal>
-    ensures writes { WritesAs (cell_to_center_child_answer index res) ⊥ result (W.taken out.old) (W.taken out.new) }
-    ensures ends { Ends false (W.has_failed out.new) result (W.taken out.old) (W.taken out.new) }
+/// The descendant of a cell at a resolution whose further digits are 0, as H3's `cellToCenterChild` returns it.
+pub fn cell_to_center_child(index: Option<u64>, res: i32) -> Result<Cell, H3Error>
+    ensures { result ≡ cell_to_center_child index res }
 {
     let cell = cell_from(index)?;
-    write_line(out, &center_child(cell, res)?)
+    center_child(cell, res)
 }
 
-/// Writes the descendants of a cell at a resolution, in ascending order.
-pub fn cell_to_children<W: Sink>(index: Option<u64>, res: i32, out: &mut W) -> Result<(), Refusal>
-    ensures writes { WritesAs (cell_to_children_answer index res) ⊥ result (W.taken out.old) (W.taken out.new) }
-    ensures ends { Ends false (W.has_failed out.new) result (W.taken out.old) (W.taken out.new) }
+/// The descendants of a cell at a resolution, in ascending order, as H3's `cellToChildren` lists them.
+pub fn cell_to_children(index: Option<u64>, res: i32) -> Result<Children, H3Error>
+    ensures { Lists (YieldsFirst children_left) result (cell_to_children index res) }
 {
     let cell = cell_from(index)?;
-    write_lines(out, children(cell, res)?)
+    children(cell, res)
 }
 
-/// Writes how many descendants a cell has at a resolution.
-pub fn cell_to_children_size<W: Sink>(
-    index: Option<u64>,
-    res: i32,
-    out: &mut W,
-) -> Result<(), Refusal>
-    ensures writes { WritesAs (cell_to_children_size_answer index res) ⊥ result (W.taken out.old) (W.taken out.new) }
-    ensures ends { Ends false (W.has_failed out.new) result (W.taken out.old) (W.taken out.new) }
+/// The number of descendants that a cell has at a resolution, as H3's `cellToChildrenSize` returns it.
+pub fn cell_to_children_size(index: Option<u64>, res: i32) -> Result<u64, H3Error>
+    ensures { result ≡ cell_to_children_size index res }
 {
     let cell = cell_from(index)?;
-    write_line(out, &children_size(cell, res)?)
+    children_size(cell, res)
 }
 
-/// Writes the position of a cell among the descendants of its ancestor at a resolution.
-pub fn cell_to_child_pos<W: Sink>(index: Option<u64>, res: i32, out: &mut W) -> Result<(), Refusal>
-    ensures writes { WritesAs (cell_to_child_pos_answer index res) ⊥ result (W.taken out.old) (W.taken out.new) }
-    ensures ends { Ends false (W.has_failed out.new) result (W.taken out.old) (W.taken out.new) }
+/// The position of a cell among the descendants of its ancestor at a resolution, as H3's `cellToChildPos` returns it.
+pub fn cell_to_child_pos(index: Option<u64>, res: i32) -> Result<u64, H3Error>
+    ensures { result ≡ cell_to_child_pos index res }
 {
     let cell = cell_from(index)?;
-    write_line(out, &child_pos(cell, res)?)
+    child_pos(cell, res)
 }
 
-/// Writes the descendant of a cell at a resolution that stands at a position.
-pub fn child_pos_to_cell<W: Sink>(
-    position: u64,
-    index: Option<u64>,
-    res: i32,
-    out: &mut W,
-) -> Result<(), Refusal>
-    ensures writes { WritesAs (child_pos_to_cell_answer position index res) ⊥ result (W.taken out.old) (W.taken out.new) }
-    ensures ends { Ends false (W.has_failed out.new) result (W.taken out.old) (W.taken out.new) }
+/// The descendant of a cell at a resolution that stands at a position, as H3's `childPosToCell` returns it.
+pub fn child_pos_to_cell(position: u64, index: Option<u64>, res: i32) -> Result<Cell, H3Error>
+    ensures { result ≡ child_pos_to_cell position index res }
 {
     let cell = cell_from(index)?;
-    write_line(out, &child_at(position, cell, res)?)
+    child_at(position, cell, res)
 }

@@ -1,64 +1,55 @@
-//! The answers of H3's index inspection functions.
+//! H3's index inspection functions, for the index of a word: `None` where the word has none.
+//!
+//! Each returns `Failed` where there is no index, and then `CellInvalid` where no cell has the index.
 
-ghost use Rattle.std.specs.Prelude.{◌≡◌, false, IfErr, IfOk};
-ghost use Rattle.h3_index.specs.Cell.{Address};
-ghost use Rattle.h3_command.specs.Answer.{Answer, get_base_cell_number_answer, get_resolution_answer, is_pentagon_answer, is_res_class_iii_answer, is_valid_cell_answer, refused, with_cell};
-ghost use Rattle.h3_command.specs.Run.{Ends, WritesAs};
+ghost use Rattle.std.specs.Prelude.{◌≡◌};
+ghost use Rattle.h3_command.specs.Inspection.{cell_of, get_base_cell_number, get_resolution, is_pentagon, is_res_class_iii, is_valid_cell};
 
-use crate::refusal::Refusal;
-use crate::write::write_line;
-use h3_index::{Cell, H3Error, Sink};
+use h3_index::{Cell, H3Error};
 
-/// The cell that a word's index is: `Failed` where the word spells none, and then `CellInvalid` where the index is no
-/// cell.
+/// The cell with an index.
 pub fn cell_from(index: Option<u64>) -> Result<Cell, H3Error>
-    ensures cell { IfOk result (λ cell. (about : Address → Answer) → with_cell index about ≡ about cell) }
-    ensures refused { IfErr result (λ e. (about : Address → Answer) → with_cell index about ≡ refused e) }
+    ensures { result ≡ cell_of index }
 {
     Cell::new(index.ok_or(H3Error::Failed)?)
 }
 
-/// Writes whether an index is a valid cell.
-pub fn is_valid_cell<W: Sink>(index: Option<u64>, out: &mut W) -> Result<(), Refusal>
-    ensures writes { WritesAs (is_valid_cell_answer index) ⊥ result (W.taken out.old) (W.taken out.new) }
-    ensures ends { Ends false (W.has_failed out.new) result (W.taken out.old) (W.taken out.new) }
+/// Whether an index is a valid cell, as H3's `isValidCell` returns it. `Failed` where there is no index; no other error.
+pub fn is_valid_cell(index: Option<u64>) -> Result<bool, H3Error>
+    ensures { result ≡ is_valid_cell index }
 {
-    let number = index.ok_or(H3Error::Failed)?;
-    write_line(out, &Cell::new(number).is_ok())
+    let index = index.ok_or(H3Error::Failed)?;
+    Ok(Cell::new(index).is_ok())
 }
 
-/// Writes the resolution of a cell.
-pub fn get_resolution<W: Sink>(index: Option<u64>, out: &mut W) -> Result<(), Refusal>
-    ensures writes { WritesAs (get_resolution_answer index) ⊥ result (W.taken out.old) (W.taken out.new) }
-    ensures ends { Ends false (W.has_failed out.new) result (W.taken out.old) (W.taken out.new) }
+/// The resolution of a cell, 0 to 15, as H3's `getResolution` returns it.
+pub fn get_resolution(index: Option<u64>) -> Result<u64, H3Error>
+    ensures { result ≡ get_resolution index }
 {
     let cell = cell_from(index)?;
-    write_line(out, &u64::from(cell.resolution()))
+    Ok(u64::from(cell.resolution()))
 }
 
-/// Writes the base cell of a cell.
-pub fn get_base_cell_number<W: Sink>(index: Option<u64>, out: &mut W) -> Result<(), Refusal>
-    ensures writes { WritesAs (get_base_cell_number_answer index) ⊥ result (W.taken out.old) (W.taken out.new) }
-    ensures ends { Ends false (W.has_failed out.new) result (W.taken out.old) (W.taken out.new) }
+/// The base cell of a cell, 0 to 121, as H3's `getBaseCellNumber` returns it.
+pub fn get_base_cell_number(index: Option<u64>) -> Result<u64, H3Error>
+    ensures { result ≡ get_base_cell_number index }
 {
     let cell = cell_from(index)?;
-    write_line(out, &u64::from(cell.base_cell()))
+    Ok(u64::from(cell.base_cell()))
 }
 
-/// Writes whether a cell is a pentagon.
-pub fn is_pentagon<W: Sink>(index: Option<u64>, out: &mut W) -> Result<(), Refusal>
-    ensures writes { WritesAs (is_pentagon_answer index) ⊥ result (W.taken out.old) (W.taken out.new) }
-    ensures ends { Ends false (W.has_failed out.new) result (W.taken out.old) (W.taken out.new) }
+/// Whether a cell is a pentagon, as H3's `isPentagon` returns it.
+pub fn is_pentagon(index: Option<u64>) -> Result<bool, H3Error>
+    ensures { result ≡ is_pentagon index }
 {
     let cell = cell_from(index)?;
-    write_line(out, &cell.is_pentagon())
+    Ok(cell.is_pentagon())
 }
 
-/// Writes whether the resolution of a cell is Class III.
-pub fn is_res_class_iii<W: Sink>(index: Option<u64>, out: &mut W) -> Result<(), Refusal>
-    ensures writes { WritesAs (is_res_class_iii_answer index) ⊥ result (W.taken out.old) (W.taken out.new) }
-    ensures ends { Ends false (W.has_failed out.new) result (W.taken out.old) (W.taken out.new) }
+/// Whether the resolution of a cell is Class III, as H3's `isResClassIII` returns it.
+pub fn is_res_class_iii(index: Option<u64>) -> Result<bool, H3Error>
+    ensures { result ≡ is_res_class_iii index }
 {
     let cell = cell_from(index)?;
-    write_line(out, &cell.is_class_iii())
+    Ok(cell.is_class_iii())
 }

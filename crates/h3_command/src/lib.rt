@@ -2,6 +2,7 @@
 //! to a sink, and faults are told.
 #![tactic(auto)]
 
+mod bases;
 mod command;
 mod counted;
 #[cfg(test)]

@@ -1,10 +1,11 @@
 //! Lists of cells, one a line.
 
-ghost use Rattle.std.specs.Prelude.{◌≡◌, ◌≤◌, ◌<◌, ◌+◌, ◌⊎◌, ℕ, true, List, [], ◌∷◌, ◌++◌, length, Some, Result, Ok, IfOk, IfErr, IfSome, IfNone, OnOk, OnErr, IsErrOf};
+ghost use Rattle.std.specs.Prelude.{◌≡◌, ◌≤◌, ◌<◌, ◌+◌, ◌*◌, ◌^◌, ◌⊎◌, ℕ, true, List, [], ◌∷◌, ◌++◌, length, Some, Result, Ok, IfOk, IfErr, IfSome, IfNone, OnOk, OnErr, IsErrOf};
 ghost use Rattle.h3_index.specs.Cell.{Address};
 ghost use Rattle.h3_index.specs.declared.error.H3Error.{H3Error};
-ghost use Rattle.h3_command.specs.List.{RefusesList, cells_before, is_unended, listed_after, listed_cells, said_before, said_by};
-ghost use Rattle.h3_command.specs.Run.{ReadFails, Tells};
+ghost use Rattle.h3_command.specs.List.{listed_cells, said_before, said_by};
+ghost use Rattle.h3_command.specs.Reading.{RefusesList, cells_before, is_unended, listed_after};
+ghost use Rattle.h3_command.specs.Run.{Holds};
 
 use crate::counted::CountedReader;
 use crate::refusal::Refusal;
@@ -145,12 +146,15 @@ fn read_pages<'a, R: Source>(
     page: &mut [u8],
 ) -> Result<(), Refusal>
     requires room { 0 < length page.old }
-    ensures ok { OnOk result ((bytes : List ℕ) → R.left reader.old.source.now ≡ Some bytes →
-        listed_after list.old.cells.items list.old.line.items bytes ≡ listed_after list.new.cells.items list.new.line.items []) }
-    ensures err { IfErr result (λ e. (bytes : List ℕ) → R.left reader.old.source.now ≡ Some bytes →
+    ensures ok { OnOk result ((bytes : List ℕ) × Holds (R.left reader.old.source.now) bytes ×
+        (length bytes + length page.old ≤ reader.old.reads_left * length page.old) ×
+        (listed_after list.old.cells.items list.old.line.items bytes
+        ≡ listed_after list.new.cells.items list.new.line.items [])) }
+    ensures err { IfErr result (λ e. (bytes : List ℕ) × Holds (R.left reader.old.source.now) bytes ×
         RefusesList ((R.has_failed reader.new.source.now ≡ true) ⊎ (reader.old.reads_left ≤ length bytes))
         (listed_after list.old.cells.items list.old.line.items bytes) e) }
-    ensures no_write { ¬ (IsErrOf result Refusal.Write) }
+    ensures sound { ¬ (IsErrOf result Refusal.Read) →
+        R.has_failed reader.new.source.now ≡ R.has_failed reader.old.source.now }
     ensures same { reader.new.source.ghost_name ≡ reader.old.source.ghost_name }
 {
     loop {
@@ -162,7 +166,7 @@ fn read_pages<'a, R: Source>(
     }
 }
 
-/// Reads a list in at most so many reads, each to a page.
+/// Reads a list in at most a given number of reads, each to a page.
 fn read_list<R: Source>(
     alloc: Global,
     input: &mut R,
@@ -170,11 +174,12 @@ fn read_list<R: Source>(
     page: &mut [u8],
 ) -> Result<Vec<Cell>, Refusal>
     requires room { 0 < length page.old }
-    ensures cells { IfOk result (λ cells. (bytes : List ℕ) → R.left input.old ≡ Some bytes →
-        listed_cells bytes ≡ Ok cells.items) }
-    ensures refused { IfErr result (λ e. (bytes : List ℕ) → R.left input.old ≡ Some bytes →
-        RefusesList ((R.has_failed input.new ≡ true) ⊎ (limit ≤ length bytes)) (listed_cells bytes) e) }
-    ensures no_write { ¬ (IsErrOf result Refusal.Write) }
+    ensures cells { IfOk result (λ cells. (list : List ℕ) × Holds (R.left input.old) list ×
+        (length list + length page.old ≤ limit * length page.old) ×
+        (listed_cells list ≡ Ok cells.items)) }
+    ensures refused { IfErr result (λ e. (list : List ℕ) × Holds (R.left input.old) list ×
+        RefusesList ((R.has_failed input.new ≡ true) ⊎ (limit ≤ length list)) (listed_cells list) e) }
+    ensures sound { ¬ (IsErrOf result Refusal.Read) → R.has_failed input.new ≡ R.has_failed input.old }
 {
     let mut list = ListReader::new(alloc);
     let mut reader = CountedReader {
@@ -190,15 +195,16 @@ fn read_list<R: Source>(
 
 /// Reads a list of cells, one a line, to its end or its first faulty line.
 ///
-/// A line of more than 64 bytes is faulty. Any other line of spaces, tabs and carriage returns alone is skipped, and the
-/// others must spell a valid cell. The last line may be ended by a line feed or not. Nothing is read once a faulty line
-/// is known, and of a line that a read fault cuts nothing is known but that it is too long.
+/// A line of more than 64 bytes is faulty. Any other line of spaces, tabs and carriage returns alone is skipped, and each
+/// of the others must parse as the index of a valid cell. The last line may end with a line feed or not. Nothing is read
+/// once a faulty line is known, and of a line that a read fault cuts nothing is known but that it is too long.
 pub fn read_cells<R: Source>(alloc: Global, input: &mut R) -> Result<Vec<Cell>, Refusal>
-    ensures cells { IfOk result (λ cells. (list : List ℕ) → Tells true (R.left input.old) list →
-        listed_cells list ≡ Ok cells.items) }
-    ensures refused { IfErr result (λ refusal. (list : List ℕ) → Tells true (R.left input.old) list →
-        RefusesList (ReadFails true (R.has_failed input.new) list) (listed_cells list) refusal) }
-    ensures no_write { ¬ (IsErrOf result Refusal.Write) }
+    // 2^40 reads of a page, of which the last finds the end
+    ensures cells { IfOk result (λ cells. (list : List ℕ) × Holds (R.left input.old) list ×
+        (length list + 65536 ≤ 2 ^ 40 * 65536) × (listed_cells list ≡ Ok cells.items)) }
+    ensures refused { IfErr result (λ e. (list : List ℕ) × Holds (R.left input.old) list ×
+        RefusesList ((R.has_failed input.new ≡ true) ⊎ (2 ^ 40 ≤ length list)) (listed_cells list) e) }
+    ensures sound { ¬ (IsErrOf result Refusal.Read) → R.has_failed input.new ≡ R.has_failed input.old }
 {
     let mut page = vec![in alloc; 0u8; PAGE].map_err(|_| Refusal::Memory)?;
     read_list(alloc, input, READS, &mut page)

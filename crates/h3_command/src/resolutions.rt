@@ -1,37 +1,33 @@
-//! The answers of H3's functions about whole resolutions.
+//! H3's functions about whole resolutions.
 
-ghost use Rattle.std.specs.Prelude.{false};
-ghost use Rattle.h3_command.specs.Answer.{get_num_cells_answer, get_pentagons_answer, get_res0_cells_answer};
-ghost use Rattle.h3_command.specs.Run.{Ends, WritesAs};
+ghost use Rattle.std.specs.Prelude.{◌≡◌};
+ghost use Rattle.std.specs.Iterator.{YieldsFirst};
+ghost use Rattle.h3_command.specs.Bases.{base_cells_left, pentagons_left};
+ghost use Rattle.h3_command.specs.Resolutions.{get_num_cells, get_pentagons, get_res0_cells};
+ghost use Rattle.h3_command.specs.Run.{Lists};
 
-use crate::refusal::Refusal;
-use crate::write::{write_line, write_lines};
-use h3_index::{Sink, num_cells, pentagon, res0_cell};
+use crate::bases::{BaseCells, Pentagons};
+use h3_index::{H3Error, num_cells, pentagon};
 
-/// Writes how many cells a resolution has.
-pub fn get_num_cells<W: Sink>(res: i32, out: &mut W) -> Result<(), Refusal>
-    ensures writes { WritesAs (get_num_cells_answer res) ⊥ result (W.taken out.old) (W.taken out.new) }
-    ensures ends { Ends false (W.has_failed out.new) result (W.taken out.old) (W.taken out.new) }
+/// The number of cells of a resolution, as H3's `getNumCells` returns it. `ResDomain` outside 0 to 15.
+pub fn get_num_cells(res: i32) -> Result<u64, H3Error>
+    ensures { result ≡ get_num_cells res }
 {
-    write_line(out, &num_cells(res)?)
+    num_cells(res)
 }
 
-/// Writes the cells of resolution 0, in ascending order.
-pub fn get_res0_cells<W: Sink>(out: &mut W) -> Result<(), Refusal>
-    ensures writes { WritesAs get_res0_cells_answer ⊥ result (W.taken out.old) (W.taken out.new) }
-    ensures ends { Ends false (W.has_failed out.new) result (W.taken out.old) (W.taken out.new) }
+/// The 122 cells of resolution 0, in ascending order, as H3's `getRes0Cells` lists them.
+pub fn get_res0_cells() -> BaseCells
+    ensures { base_cells_left result ≡ get_res0_cells }
 {
-    let cells = (0..122u8).filter_map(|base| res0_cell(i32::from(base)).ok());
-    write_lines(out, cells)
+    BaseCells::all()
 }
 
-/// Writes the pentagons of a resolution, in ascending order.
-pub fn get_pentagons<W: Sink>(res: i32, out: &mut W) -> Result<(), Refusal>
-    ensures writes { WritesAs (get_pentagons_answer res) ⊥ result (W.taken out.old) (W.taken out.new) }
-    ensures ends { Ends false (W.has_failed out.new) result (W.taken out.old) (W.taken out.new) }
+/// The twelve pentagons of a resolution, in ascending order, as H3's `getPentagons` lists them. `ResDomain` outside 0 to
+/// 15.
+pub fn get_pentagons(res: i32) -> Result<Pentagons, H3Error>
+    ensures { Lists (YieldsFirst pentagons_left) result (get_pentagons res) }
 {
-    // The first tells whether the resolution is one.
-    pentagon(res, 0)?;
-    let cells = (0..12u8).filter_map(|n| pentagon(res, i32::from(n)).ok());
-    write_lines(out, cells)
+    let first = pentagon(res, 0)?;
+    Ok(Pentagons::of_resolution(first.resolution()))
 }

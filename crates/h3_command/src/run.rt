@@ -1,9 +1,8 @@
 //! Running a command.
 
-ghost use Rattle.std.specs.Prelude.{◌≡◌, ◌⊎◌, ℕ, List, false, Result};
-ghost use Rattle.h3_command.specs.Answer.{answer, takes_memory, uses_list, uses_table};
-ghost use Rattle.h3_command.specs.Run.{Ends, GivesOrRunsOut, ReadFails, Reports, Tells, WritesAs};
-ghost use Rattle.h3_command.specs.declared.refusal.Refusal.{Refusal};
+ghost use Rattle.std.specs.Prelude.{◌≡◌, false};
+ghost use Rattle.h3_command.specs.Answer.{reads_list, reads_table, request};
+ghost use Rattle.h3_command.specs.Run.{Ends, Reports, Runs, sink_use, source_use};
 
 use crate::command::Command;
 use crate::hierarchy::{
@@ -16,7 +15,7 @@ use crate::inspection::{
 use crate::refusal::Refusal;
 use crate::resolutions::{get_num_cells, get_pentagons, get_res0_cells};
 use crate::sets::{compact_cells, uncompact_cells};
-use crate::write::write_all;
+use crate::write::{write_all, write_lines, write_result};
 use h3_index::{Sink, Source};
 use std::alloc::Global;
 
@@ -28,44 +27,45 @@ fn perform<R: Source, T: Source, W: Sink>(
     table: &mut T,
     out: &mut W,
 ) -> Result<(), Refusal>
-    ensures writes { (list rows : List ℕ) → Tells (uses_list command.now) (R.left input.old) list →
-        Tells (uses_table command.now) (T.left table.old) rows →
-        WritesAs (answer command.now list rows)
-        (ReadFails (uses_list command.now) (R.has_failed input.new) list
-        ⊎ ReadFails (uses_table command.now) (T.has_failed table.new) rows)
-        result (W.taken out.old) (W.taken out.new) }
-    ensures ends { Ends (takes_memory command.now) (W.has_failed out.new) result
-        (W.taken out.old) (W.taken out.new) }
-    ensures input_kept { uses_list command.now ≡ false → input.new ≡ input.old }
-    ensures table_kept { uses_table command.now ≡ false → table.new ≡ table.old }
+    ensures ends { Ends (request command.now) (source_use R.left R.has_failed input.old input.new)
+        (source_use T.left T.has_failed table.old table.new) result
+        (sink_use W.taken W.has_failed out.old out.new) }
+    ensures input_kept { reads_list (request command.now) ≡ false → input.new ≡ input.old }
+    ensures table_kept { reads_table (request command.now) ≡ false → table.new ≡ table.old }
 {
     match command {
-        Command::IsValidCell { cell } => is_valid_cell(*cell, out),
-        Command::GetResolution { cell } => get_resolution(*cell, out),
-        Command::GetBaseCellNumber { cell } => get_base_cell_number(*cell, out),
-        Command::IsPentagon { cell } => is_pentagon(*cell, out),
-        Command::IsResClassIII { cell } => is_res_class_iii(*cell, out),
-        Command::GetNumCells { res } => get_num_cells(*res, out),
-        Command::GetRes0Cells => get_res0_cells(out),
-        Command::GetPentagons { res } => get_pentagons(*res, out),
-        Command::CellToParent { cell, res } => cell_to_parent(*cell, *res, out),
-        Command::CellToCenterChild { cell, res } => cell_to_center_child(*cell, *res, out),
-        Command::CellToChildren { cell, res } => cell_to_children(*cell, *res, out),
-        Command::CellToChildrenSize { cell, res } => cell_to_children_size(*cell, *res, out),
-        Command::CellToChildPos { cell, res } => cell_to_child_pos(*cell, *res, out),
+        Command::IsValidCell { cell } => write_result(out, is_valid_cell(*cell)),
+        Command::GetResolution { cell } => write_result(out, get_resolution(*cell)),
+        Command::GetBaseCellNumber { cell } => write_result(out, get_base_cell_number(*cell)),
+        Command::IsPentagon { cell } => write_result(out, is_pentagon(*cell)),
+        Command::IsResClassIII { cell } => write_result(out, is_res_class_iii(*cell)),
+        Command::GetNumCells { res } => write_result(out, get_num_cells(*res)),
+        Command::GetRes0Cells => write_lines(out, get_res0_cells()),
+        Command::GetPentagons { res } => write_lines(out, get_pentagons(*res)?),
+        Command::CellToParent { cell, res } => write_result(out, cell_to_parent(*cell, *res)),
+        Command::CellToCenterChild { cell, res } => {
+            write_result(out, cell_to_center_child(*cell, *res))
+        }
+        Command::CellToChildren { cell, res } => write_lines(out, cell_to_children(*cell, *res)?),
+        Command::CellToChildrenSize { cell, res } => {
+            write_result(out, cell_to_children_size(*cell, *res))
+        }
+        Command::CellToChildPos { cell, res } => write_result(out, cell_to_child_pos(*cell, *res)),
         Command::ChildPosToCell {
             position,
             cell,
             res,
-        } => child_pos_to_cell(*position, *cell, *res, out),
+        } => write_result(out, child_pos_to_cell(*position, *cell, *res)),
         Command::CompactCells => compact_cells(alloc, input, out),
         Command::UncompactCells { res } => uncompact_cells(alloc, *res, input, out),
     }
 }
 
-/// Writes the line of a refusal, and gives the exit status. A standard error that fails changes no status.
+/// Writes the error line of an ending, if it has one, and returns the exit status. A standard error that fails changes
+/// no status.
 pub fn report<E: Sink>(err: &mut E, ending: Result<(), Refusal>) -> u8
-    ensures { Reports ending result (E.taken err.old) (E.taken err.new) (E.has_failed err.new) }
+    ensures reported { Reports ending result (sink_use E.taken E.has_failed err.old err.new) }
+    ensures err_kept { result ≡ 0 → err.new ≡ err.old }
 {
     match ending {
         Ok(()) => 0,
@@ -77,11 +77,11 @@ pub fn report<E: Sink>(err: &mut E, ending: Result<(), Refusal>) -> u8
     }
 }
 
-/// Runs a command: writes its answer, or a line on standard error, and gives the exit status: 0 where the answer is
-/// written, 1 for an H3 error, want of memory included, and 4 for a read or a write that failed.
+/// Runs a command: writes its answer to `out`, or an error line to `err`, and returns the exit status: 0 where the
+/// answer is written, 1 for an H3 error, out of memory included, and 4 for a read or a write that failed.
 ///
-/// A command that takes a list reads it from `input`, and one that takes a table reads that from `table`; the others
-/// leave them alone, and take no memory.
+/// A command on a list of cells reads it from `input`, and one on a table reads that from `table`. The others read
+/// neither and take no memory.
 pub fn run<R: Source, T: Source, W: Sink, E: Sink>(
     alloc: Global,
     command: &Command,
@@ -90,30 +90,18 @@ pub fn run<R: Source, T: Source, W: Sink, E: Sink>(
     out: &mut W,
     err: &mut E,
 ) -> u8
-    // Where no stream that the command uses fails, the answer is given.
-    ensures answered { (list rows : List ℕ) → Tells (uses_list command.now) (R.left input.old) list →
-        Tells (uses_table command.now) (T.left table.old) rows →
-        ¬ (ReadFails (uses_list command.now) (R.has_failed input.new) list) →
-        ¬ (ReadFails (uses_table command.now) (T.has_failed table.new) rows) →
-        W.has_failed out.new ≡ false →
-        GivesOrRunsOut (takes_memory command.now) (answer command.now list rows) result
-        (W.taken out.old) (W.taken out.new) (E.taken err.old) (E.taken err.new) (E.has_failed err.new) }
+    // What it writes where nothing fails, and how else it may end.
+    ensures runs { Runs (request command.now) result (record {
+      input = source_use R.left R.has_failed input.old input.new;
+      table = source_use T.left T.has_failed table.old table.new;
+      out = sink_use W.taken W.has_failed out.old out.new;
+      err = sink_use E.taken E.has_failed err.old err.new;
+    }) }
 
-    // However it ends: why it may end so, what is then written, and what is reported.
-    ensures ended { (ending : Result (Unit {0}) Refusal) ×
-        Ends (takes_memory command.now) (W.has_failed out.new) ending
-        (W.taken out.old) (W.taken out.new) ×
-        Reports ending result (E.taken err.old) (E.taken err.new) (E.has_failed err.new) ×
-        ((list rows : List ℕ) → Tells (uses_list command.now) (R.left input.old) list →
-        Tells (uses_table command.now) (T.left table.old) rows →
-        WritesAs (answer command.now list rows)
-        (ReadFails (uses_list command.now) (R.has_failed input.new) list
-        ⊎ ReadFails (uses_table command.now) (T.has_failed table.new) rows)
-        ending (W.taken out.old) (W.taken out.new)) }
-
-    // A source that the command does not use is left alone.
-    ensures input_kept { uses_list command.now ≡ false → input.new ≡ input.old }
-    ensures table_kept { uses_table command.now ≡ false → table.new ≡ table.old }
+    // What is left alone: a source that the command does not read, and `err` where the status is 0.
+    ensures input_kept { reads_list (request command.now) ≡ false → input.new ≡ input.old }
+    ensures table_kept { reads_table (request command.now) ≡ false → table.new ≡ table.old }
+    ensures err_kept { result ≡ 0 → err.new ≡ err.old }
 {
     let ending = perform(alloc, command, input, table, out);
     report(err, ending)

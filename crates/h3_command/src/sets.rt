@@ -1,8 +1,9 @@
-//! The answers of H3's functions on lists of cells.
+//! H3's functions on lists of cells.
 
-ghost use Rattle.std.specs.Prelude.{◌≡◌, ◌≤◌, ℕ, List, length, false, true, Some};
-ghost use Rattle.h3_command.specs.Answer.{compact_cells_answer, compacted_answer, uncompact_cells_answer, uncompacted_answer};
-ghost use Rattle.h3_command.specs.Run.{Ends, ReadFails, WritesAs};
+ghost use Rattle.std.specs.Prelude.{◌≡◌, ◌≤◌, length};
+ghost use Rattle.h3_command.specs.Answer.{cell_lines, printed};
+ghost use Rattle.h3_command.specs.Run.{Writes, WritesOfList, sink_use, source_use};
+ghost use Rattle.h3_command.specs.Sets.{compact_cells, uncompact_cells};
 
 use crate::list::read_cells;
 use crate::refusal::Refusal;
@@ -14,8 +15,8 @@ use std::alloc::Global;
 /// Writes the compacted list of a list of cells. There must be at least as many slots as cells.
 fn write_compacted<W: Sink>(cells: &[Cell], slots: &mut [Cell], out: &mut W) -> Result<(), Refusal>
     requires { length cells.now ≤ length slots.old }
-    ensures writes { WritesAs (compacted_answer cells.now) ⊥ result (W.taken out.old) (W.taken out.new) }
-    ensures ends { Ends false (W.has_failed out.new) result (W.taken out.old) (W.taken out.new) }
+    ensures { Writes (printed cell_lines (compact_cells cells.now)) result
+        (sink_use W.taken W.has_failed out.old out.new) }
 {
     match compact(cells, slots) {
         Ok(count) => write_lines(out, slots[..count].iter().copied()),
@@ -23,16 +24,15 @@ fn write_compacted<W: Sink>(cells: &[Cell], slots: &mut [Cell], out: &mut W) -> 
     }
 }
 
-/// Writes the compacted list of the cells that the input spells.
+/// Writes the compacted list of the cells listed on the input, as H3's `compactCells` computes it.
 pub fn compact_cells<R: Source, W: Sink>(
     alloc: Global,
     input: &mut R,
     out: &mut W,
 ) -> Result<(), Refusal>
-    ensures writes { (list : List ℕ) → R.left input.old ≡ Some list →
-        WritesAs (compact_cells_answer list) (ReadFails true (R.has_failed input.new) list) result
-        (W.taken out.old) (W.taken out.new) }
-    ensures ends { Ends true (W.has_failed out.new) result (W.taken out.old) (W.taken out.new) }
+    ensures { WritesOfList (λ cells. printed cell_lines (compact_cells cells))
+        (source_use R.left R.has_failed input.old input.new) result
+        (sink_use W.taken W.has_failed out.old out.new) }
 {
     let cells = read_cells(alloc, input)?;
     let mut slots = cells.to_vec(alloc).map_err(|_| Refusal::Memory)?;
@@ -41,8 +41,8 @@ pub fn compact_cells<R: Source, W: Sink>(
 
 /// Writes the cells of a resolution below the cells of a list.
 fn write_uncompacted<W: Sink>(cells: &[Cell], res: i32, out: &mut W) -> Result<(), Refusal>
-    ensures writes { WritesAs (uncompacted_answer res cells.now) ⊥ result (W.taken out.old) (W.taken out.new) }
-    ensures ends { Ends false (W.has_failed out.new) result (W.taken out.old) (W.taken out.new) }
+    ensures { Writes (printed cell_lines (uncompact_cells res cells.now)) result
+        (sink_use W.taken W.has_failed out.old out.new) }
 {
     match uncompact(cells, res) {
         Ok(items) => write_lines(out, items),
@@ -50,17 +50,16 @@ fn write_uncompacted<W: Sink>(cells: &[Cell], res: i32, out: &mut W) -> Result<(
     }
 }
 
-/// Writes the cells of a resolution below the cells that the input spells.
+/// Writes the cells of a resolution below the cells listed on the input, as H3's `uncompactCells` computes them.
 pub fn uncompact_cells<R: Source, W: Sink>(
     alloc: Global,
     res: i32,
     input: &mut R,
     out: &mut W,
 ) -> Result<(), Refusal>
-    ensures writes { (list : List ℕ) → R.left input.old ≡ Some list →
-        WritesAs (uncompact_cells_answer res list) (ReadFails true (R.has_failed input.new) list) result
-        (W.taken out.old) (W.taken out.new) }
-    ensures ends { Ends true (W.has_failed out.new) result (W.taken out.old) (W.taken out.new) }
+    ensures { WritesOfList (λ cells. printed cell_lines (uncompact_cells res cells))
+        (source_use R.left R.has_failed input.old input.new) result
+        (sink_use W.taken W.has_failed out.old out.new) }
 {
     let cells = read_cells(alloc, input)?;
     write_uncompacted(&cells, res, out)

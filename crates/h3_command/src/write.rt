@@ -1,19 +1,21 @@
 //! Writing to a sink.
 
-ghost use Rattle.std.specs.Prelude.{◌≡◌, List, true, false, OnOk, OnErr};
+ghost use Rattle.std.specs.Prelude.{◌≡◌, List, true, OnOk, OnErr};
 ghost use Rattle.std.specs.Io.KnownBytes.{Appends};
 ghost use Rattle.std.specs.Iterator.{IsFinite};
 ghost use Rattle.std.specs.List.{flat_map};
 ghost use Rattle.std.proofs.lemmas.Iterator.{YieldsList};
-ghost use Rattle.h3_command.specs.Answer.{written};
-ghost use Rattle.h3_command.specs.Run.{AppendsPart, WritesAs, Ends};
+ghost use Rattle.h3_command.specs.Answer.{printed, written};
+ghost use Rattle.h3_command.specs.Run.{AppendsPart, Writes, sink_use};
 
 use crate::line::Line;
 use crate::refusal::Refusal;
 use arrayvec::ArrayString;
-use h3_index::{Sink, StreamFault};
+use h3_index::{H3Error, Sink, StreamFault};
 
 /// Writes all of the bytes, in as many pushes as it takes.
+///
+/// `StreamFault` where a push fails: then a beginning of the bytes has been written, and no push is made after it.
 #[inline]
 pub fn write_all<W: Sink>(out: &mut W, bytes: &[u8]) -> Result<(), StreamFault>
     ensures written { OnOk result (Appends (W.taken out.old) (W.taken out.new) bytes.now) }
@@ -29,23 +31,27 @@ pub fn write_all<W: Sink>(out: &mut W, bytes: &[u8]) -> Result<(), StreamFault>
     Ok(())
 }
 
-/// Writes an answer whole, and flushes.
+/// Writes all of the bytes, and flushes. `Refusal::Write` where a push or the flush fails.
 pub fn write_answer<W: Sink>(out: &mut W, answer: &[u8]) -> Result<(), Refusal>
-    ensures writes { WritesAs (written answer.now) ⊥ result (W.taken out.old) (W.taken out.new) }
-    ensures ends { Ends false (W.has_failed out.new) result (W.taken out.old) (W.taken out.new) }
+    ensures { Writes (written answer.now) result (sink_use W.taken W.has_failed out.old out.new) }
 {
     write_all(out, answer)?;
     out.flush()?;
     Ok(())
 }
 
-/// Writes an answer of one line, and flushes.
-pub fn write_line<W: Sink, L: Line>(out: &mut W, value: &L) -> Result<(), Refusal>
-    ensures writes { WritesAs (written (L.line_of value.now)) ⊥ result (W.taken out.old) (W.taken out.new) }
-    ensures ends { Ends false (W.has_failed out.new) result (W.taken out.old) (W.taken out.new) }
+/// Writes the line of a result's value and flushes, or returns the result's error.
+///
+/// `Refusal::Write` where a push or the flush fails.
+pub fn write_result<W: Sink, L: Line + Drop>(
+    out: &mut W,
+    value: Result<L, H3Error>,
+) -> Result<(), Refusal>
+    ensures { Writes (printed L.line_of value) result
+        (sink_use W.taken W.has_failed out.old out.new) }
 {
     let mut line = ArrayString::new();
-    value.put(&mut line);
+    value?.put(&mut line);
     write_answer(out, line.as_str().as_bytes())
 }
 
@@ -71,16 +77,18 @@ fn write_items<W: Sink, L: Line + Drop, I: Iterator<Item = L> + Drop>(
     Ok(())
 }
 
-/// Writes an answer of a line for each item, and flushes. Each line is written when its item is there; none is kept.
+/// Writes a line for each item, and flushes. Each line is written when its item is there; none is kept.
+///
+/// `Refusal::Write` where a push or the flush fails.
 pub fn write_lines<W: Sink, L: Line + Drop, I: Iterator<Item = L> + Drop>(
     out: &mut W,
     items: I,
 ) -> Result<(), Refusal>
     requires can { I.can_next items }
     requires ends { IsFinite (I.remaining items) }
-    ensures writes { (all : List _) → YieldsList I.next_gives (λ x. x) items all →
-        WritesAs (written (flat_map L.line_of all)) ⊥ result (W.taken out.old) (W.taken out.new) }
-    ensures ends { Ends false (W.has_failed out.new) result (W.taken out.old) (W.taken out.new) }
+    ensures { (all : List _) → YieldsList I.next_gives (λ x. x) items all →
+        Writes (written (flat_map L.line_of all)) result
+        (sink_use W.taken W.has_failed out.old out.new) }
 {
     write_items(out, items)?;
     Ok(out.flush()?)

@@ -1,13 +1,13 @@
-use Rattle.std.proofs.Common.{◌≡◌, ℕ, List, Some}
-use Rattle.h3_command.specs.List.{listed_after}
+use Rattle.std.proofs.Common.{◌≡◌, length}
 use Rattle.h3_command.proofs.Pages.{Reads}
 use Rattle.h3_command.proofs.list.read_pages.Given as goal
 
 abbrev pub invariant-loop-count : goal.invariant-loop-count
 invariant-loop-count g l = record {
-  reads : (bytes : List ℕ) → g.R.Source.left l.initial.reader.source.now ≡ Some bytes →
-      Reads (listed_after l.initial.list.cells.items l.initial.list.line.items bytes) bytes l.initial.reader.reads_left
-      (g.R.Source.left l.reader.source.now) l.reader.reads_left l.list.cells.items l.list.line.items;
+  reads : Reads (g.R.Source.left l.initial.reader.source.now) (g.R.Source.left l.reader.source.now)
+      l.initial.reader.reads_left l.reader.reads_left (length l.initial.page)
+      l.initial.list.cells.items l.initial.list.line.items l.list.cells.items l.list.line.items;
+  sound : g.R.Source.has_failed l.reader.source.now ≡ g.R.Source.has_failed l.initial.reader.source.now;
   same : l.reader.source.ghost_name ≡ l.initial.reader.source.ghost_name;
 }
 

@@ -1,5 +1,5 @@
 use Rattle.std.proofs.Common.{length, take_all, sym, ◌∙◌, ap, arith}
-use Rattle.h3_command.specs.List.{is_unended}
+use Rattle.h3_command.specs.Reading.{is_unended}
 use Rattle.h3_command.proofs.ListLines.{unended_below, split_whole}
 use Rattle.h3_command.proofs.list.split_line.Goals as goal
 

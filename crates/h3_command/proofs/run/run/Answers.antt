@@ -1,7 +1,5 @@
-use Rattle.std.proofs.Common.{inl, inr}
-use Rattle.h3_command.proofs.Written.{gives_from_ending}
+use Rattle.h3_command.proofs.Endings.{runs_so}
 use Rattle.h3_command.proofs.run.run.Goals as goal
 
-pub returns-clause-answered : goal.returns-clause-answered
-returns-clause-answered g c bytes rows list table r t w =
-    gives_from_ending c.perform-ending.result _ _ _ _ _ _ _ _ _ _ c.perform-ending.ensures.ends (elim [ inl p ↦ r p | inr p ↦ t p ]) w (c.perform-ending.ensures.writes bytes rows list table) c.report.ensures
+pub returns-clause-runs : goal.returns-clause-runs
+returns-clause-runs g c = runs_so _ _ _ _ c.perform-ending.ensures.ends c.report.ensures.reported

@@ -1,5 +1,5 @@
 use Rattle.std.proofs.Common.{◌≡◌, ℕ, List, ◌++◌, length}
-use Rattle.h3_command.specs.List.{listed_after}
+use Rattle.h3_command.specs.Reading.{listed_after}
 use Rattle.h3_command.proofs.list.ListReader.take.Given as goal
 
 abbrev pub invariant-loop-line : goal.invariant-loop-line

@@ -1,0 +1,32 @@
+-- What H3's index inspection functions return for the index of a word, if the word has one.
+use Rattle.std.specs.Prelude.{ℕ, Bool, Option, None, Some, is_some, ok_or, Result, Ok, Err}
+use Rattle.h3_index.specs.Cell.{Address, is_class_iii, is_pentagon as is_pentagon_cell, resolution}
+use Rattle.h3_index.specs.CellNumber.{cell_in}
+use Rattle.h3_index.specs.declared.error.H3Error.{H3Error}
+use Rattle.h3_index.specs.declared.error.H3Error.TheVariants.{CellInvalid, Failed}
+
+-- the cell with this index: an error where there is no index, and then where no cell has it
+abbrev pub cell_of : Option ℕ → Result Address H3Error
+cell_of None = Err Failed
+cell_of (Some index) = ok_or (cell_in index) CellInvalid
+
+-- what is returned for a cell, or the error in place of the cell
+abbrev pub for_cell : {A : Type 0} → (Address → Result A H3Error) → Result Address H3Error → Result A H3Error
+for_cell f (Ok cell) = f cell
+for_cell f (Err e) = Err e
+
+abbrev pub is_valid_cell : Option ℕ → Result Bool H3Error
+is_valid_cell None = Err Failed
+is_valid_cell (Some index) = Ok (is_some (cell_in index))
+
+abbrev pub get_resolution : Option ℕ → Result ℕ H3Error
+get_resolution index = for_cell (λ c. Ok (resolution c)) (cell_of index)
+
+abbrev pub get_base_cell_number : Option ℕ → Result ℕ H3Error
+get_base_cell_number index = for_cell (λ c. Ok c.base) (cell_of index)
+
+abbrev pub is_pentagon : Option ℕ → Result Bool H3Error
+is_pentagon index = for_cell (λ c. Ok (is_pentagon_cell c)) (cell_of index)
+
+abbrev pub is_res_class_iii : Option ℕ → Result Bool H3Error
+is_res_class_iii index = for_cell (λ c. Ok (is_class_iii c)) (cell_of index)
