@@ -1,7 +1,10 @@
 //! The plain Rust programs that the command h3 is measured against: the same work over the same kinds of buffers,
-//! with no proof. `plain valid CELL`, `plain children CELL RES`, `plain uncompact RES` (cells on standard input),
-//! `plain positions COUNT` (so many positions and back), `plain table` (a table file) and `plain tables COUNT` (so many
-//! readings of the table file on standard input).
+//! with no proof. `plain valid CELL`, `plain children CELL RES`, `plain uncompact RES` and `plain compact` (cells on
+//! standard input), `plain positions COUNT` (that many positions and back), `plain table` (a table file) and
+//! `plain tables COUNT` (that many readings of the table file on standard input).
+//!
+//! Lists to be compacted: `plain first COUNT CELL RES` (the first children), `plain shuffled CELL RES` (all children in a
+//! random order, always the same) and `plain lone CELL RES` (one child of each parent).
 
 use std::env;
 use std::io::{self, BufWriter, Read, Write};
@@ -147,6 +150,86 @@ fn read_cells() -> io::Result<Vec<u64>> {
     }
 }
 
+/// The cell without its mode and resolution: in this order each cell comes right after its descendants.
+fn post_order_key(cell: u64) -> u64 {
+    cell & (1 << 52) - 1
+}
+
+fn parent(cell: u64, level: u64) -> u64 {
+    with_digit(cell & !(15 << 52) | (level - 1) << 52, level, 7)
+}
+
+/// The number of cells in a complete set of siblings of a resolution that the cells begin with; else 0.
+fn siblings(cells: &[u64], level: u64) -> usize {
+    let first = cells[0];
+    if resolution(first) != level || digit(first, level) != 0 {
+        return 0;
+    }
+    let skipped = usize::from(is_pentagon(parent(first, level)));
+    let count = 7 - skipped;
+    let is_whole = cells.len() >= count
+        && (1..count).all(|i| cells[i] == with_digit(first, level, (i + skipped) as u64));
+    if is_whole { count } else { 0 }
+}
+
+/// Replaces the complete sets of siblings of a resolution by their parents, and returns how many cells there are then.
+fn merge(cells: &mut [u64], level: u64) -> usize {
+    let mut written = 0;
+    let mut i = 0;
+    while i < cells.len() {
+        let count = siblings(&cells[i..], level);
+        cells[written] = if count > 0 { parent(cells[i], level) } else { cells[i] };
+        i += count.max(1);
+        written += 1;
+    }
+    written
+}
+
+/// The compacted list of cells of one resolution: one sort, and a pass a level while there is something to merge.
+fn compact(cells: &mut Vec<u64>) {
+    let Some(first) = cells.first() else {
+        return;
+    };
+    let res = resolution(*first);
+    assert!(cells.iter().all(|cell| resolution(*cell) == res), "cells of two resolutions");
+    cells.sort_unstable_by_key(|cell| post_order_key(*cell));
+    assert!(cells.windows(2).all(|pair| pair[0] != pair[1]), "a cell is listed twice");
+    for level in (1..=res).rev() {
+        let count = merge(cells, level);
+        if count == cells.len() {
+            break;
+        }
+        cells.truncate(count);
+    }
+    cells.sort_unstable();
+}
+
+/// Puts the cells into a random order, always the same.
+fn shuffle(cells: &mut [u64]) {
+    let mut state = 0x9e37_79b9_7f4a_7c15u64;
+    for i in (1..cells.len()).rev() {
+        state ^= state << 13;
+        state ^= state >> 7;
+        state ^= state << 17;
+        cells.swap(i, (state % (i as u64 + 1)) as usize);
+    }
+}
+
+fn write_cells(out: &mut impl Write, cells: impl Iterator<Item = u64>) -> io::Result<()> {
+    for cell in cells {
+        write_line(out, cell)?;
+    }
+    Ok(())
+}
+
+/// The children of a cell given in words.
+fn children(cell: &str, res: &str) -> Children {
+    Children::of(
+        read_cell(cell.as_bytes()).expect("a cell"),
+        res.parse().expect("a resolution"),
+    )
+}
+
 fn position(cell: u64, ancestor_res: u64) -> u64 {
     let res = resolution(cell);
     let mut pentagon = PENTAGONS.contains(&base(cell)) && (1..=ancestor_res).all(|r| digit(cell, r) == 0);
@@ -250,11 +333,23 @@ fn main() -> io::Result<()> {
     let mut out = BufWriter::with_capacity(65536, io::stdout().lock());
     match words[..] {
         ["valid", cell] => writeln!(out, "{}", u64::from_str_radix(cell, 16).is_ok_and(is_valid))?,
-        ["children", cell, res] => {
-            let cell = read_cell(cell.as_bytes()).expect("a cell");
-            for child in Children::of(cell, res.parse().expect("a resolution")) {
-                write_line(&mut out, child)?;
-            }
+        ["children", cell, res] => write_cells(&mut out, children(cell, res))?,
+        ["first", count, cell, res] => {
+            write_cells(&mut out, children(cell, res).take(count.parse().expect("a number")))?
+        }
+        ["shuffled", cell, res] => {
+            let mut cells: Vec<u64> = children(cell, res).collect();
+            shuffle(&mut cells);
+            write_cells(&mut out, cells.into_iter())?
+        }
+        ["lone", cell, res] => {
+            let level = res.parse().expect("a resolution");
+            write_cells(&mut out, children(cell, res).filter(|child| digit(*child, level) == 3))?
+        }
+        ["compact"] => {
+            let mut cells = read_cells()?;
+            compact(&mut cells);
+            write_cells(&mut out, cells.into_iter())?
         }
         ["uncompact", res] => {
             let res = res.parse().expect("a resolution");

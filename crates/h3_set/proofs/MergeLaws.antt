@@ -284,11 +284,3 @@ module _ (tree : CellsFormTrees) (intervals : CellsFormIntervals) (all : List Ad
           in_order = up;
           before = λ a j d l le lj. push_before now w x room_w (λ b. key b ≤ key (get_or all j d)) d (λ b lb. before b j d lb (omega (arith, le)) lj) (subst (λ v. key v ≤ key (get_or all j d)) (any_default all i d x within ∙ at) (order i j d (omega (arith, le)) lj)) a l;
         }
-
-pub merge_start : (all cells : List Address) (q : ℕ) → IsRoundLoop all q 0 0 cells → IsMergingInOrder all q 0 0 cells
-merge_start all cells q h =
-    record {
-      merging = record { so_far = h; inside = omega arith; whole = λ p l c y z by bz m. absurd (omega (arith, m.1)) };
-      in_order = λ a b d lt lb. absurd (omega (arith, lb));
-      before = λ a j d l le lj. absurd (omega (arith, l));
-    }

@@ -1,12 +1,11 @@
 -- Whether cells have one resolution.
-use Rattle.std.proofs.Common.{ℕ, zero, suc, ◌≡◌, ◌≢◌, ◌<◌, ◌≤◌, ◌==◌, List, [], ◌∷◌, length, All, Bool, true, false, not, Some, None, if◌then◌else◌, refl, arith, sym, ap, get_or, ◌∙◌}
+use Rattle.std.proofs.Common.{ℕ, zero, suc, ◌≡◌, ◌≢◌, ◌<◌, ◌≤◌, ◌==◌, List, [], ◌∷◌, length, All, true, false, not, refl, arith, sym, ap, get_or, ◌∙◌}
 use Rattle.std.proofs.lemmas.List.Folds.{list_any_at, list_any_none}
 use Rattle.std.specs.List.{AllWithin}
 use Rattle.h3_index.specs.Cell.{Address, resolution}
 use Rattle.h3_set.specs.Coverage.{finest}
 use Rattle.h3_set.proofs.TreeLaws.{other_number, same_number}
-use Rattle.h3_set.specs.Refusals.{compaction_refusal, has_repeat, has_two_resolutions, resolution_refusal}
-use Rattle.h3_index.specs.declared.error.H3Error.TheVariants.{DuplicateInput, ResMismatch}
+use Rattle.h3_set.specs.Refusals.{has_two_resolutions}
 
 pub two_resolutions_at : (cells : List Address) (i r : ℕ) (c d : Address) → i < length cells → 0 < length cells → resolution (get_or cells 0 c) ≡ r → resolution (get_or cells i d) ≢ r → has_two_resolutions cells ≡ true
 two_resolutions_at [] i r c d lt pos e n = absurd (omega (arith, lt))
@@ -32,13 +31,3 @@ finest-one (x ∷ y ∷ cells) r h pos =
 
 pub same_within : (cells : List Address) (r i : ℕ) → length cells ≤ i → AllWithin (λ c. resolution c ≡ r) cells 0 i → All (λ c. resolution c ≡ r) cells
 same_within cells r i le h k d lt = h k d (omega arith) (omega (arith, lt, le))
-
--- ---- the refusal of a compaction
-
-answers : (two again : Bool) → None ≡ (if two then Some ResMismatch else None) → (if again then Some DuplicateInput else None) ≡ (if two then Some ResMismatch else (if again then Some DuplicateInput else None))
-answers true again h = cc
-answers false again h = refl
-
--- where the cells have one resolution, a repeat decides
-pub repeat_decides : (cells : List Address) (again : Bool) → None ≡ resolution_refusal cells → has_repeat cells ≡ again → (if again then Some DuplicateInput else None) ≡ compaction_refusal cells
-repeat_decides cells again h e = rw e (answers (has_two_resolutions cells) again h)

@@ -1,4 +1,5 @@
-//! Compaction: the one list of cells that covers those of a list, with no overlap and no complete set of siblings.
+//! Compaction: the one list of cells that covers those of a list, with no overlap and no complete
+//! set of siblings.
 
 ghost use Rattle.std.specs.Prelude.{◌≡◌, ◌≤◌, ◌↔◌, length, take, drop, All, Contains, IfOk, IsPermutation, List};
 ghost use Rattle.std.specs.Result.{result_err};
@@ -25,8 +26,8 @@ use h3_tree::laws::cells_form_trees;
 /// where a cell is listed twice: the first n slots hold the cells in some order.
 pub fn compact_cells(cells: &[Cell], slots: &mut [Cell]) -> Result<usize, H3Error>
     requires { length cells.now ≤ length slots.old }
-    ensures compacted { IfOk result (λ m.
-        IsCompacted (IsCovered cells.now (finest cells.now)) (finest cells.now) (take m slots.new)) }
+    ensures compacted { IfOk result (λ m. IsCompacted
+        (IsCovered cells.now (finest cells.now)) (finest cells.now) (take m slots.new)) }
     ensures is { IfOk result (λ m. take m slots.new ≡ compacted cells.now) }
     ensures fewer { IfOk result (λ m. m ≤ length cells.now) }
     ensures refused { result_err result ≡ compaction_refusal cells.now }

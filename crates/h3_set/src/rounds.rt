@@ -18,8 +18,8 @@ use h3_index::{Cell, H3Error};
 use h3_tree::laws::cells_form_trees;
 
 /// H3's `compactCells` in rounds, each of which replaces the complete sets of siblings of one
-/// resolution by their parents, from the finest resolution up. It holds how many of the slots are in
-/// use, which are the first ones, and the resolution of the next round; the caller provides the
+/// resolution by their parents, from the finest resolution up. It holds how many of the slots are
+/// in use, which are the first ones, and the resolution of the next round; the caller provides the
 /// slots at each call.
 #[derive(Clone, Copy, Debug)]
 pub struct Compaction {
@@ -28,11 +28,12 @@ pub struct Compaction {
 }
 
 impl Compaction {
-    /// Puts the cells into the first slots. There must be at least as many slots as cells, n; the slots
-    /// after the first n stay as they are.
+    /// Puts the cells into the first slots. There must be at least as many slots as cells, n; the
+    /// slots after the first n stay as they are.
     ///
-    /// `ResMismatch` where the cells have two resolutions: no slot is written. Else `DuplicateInput`
-    /// where a cell is listed twice: the first n slots hold the cells in some order.
+    /// `ResMismatch` where the cells have two resolutions: no slot is written. Else
+    /// `DuplicateInput` where a cell is listed twice: the first n slots hold the cells in some
+    /// order.
     pub fn start(cells: &[Cell], slots: &mut [Cell]) -> Result<Compaction, H3Error>
         requires { length cells.now ≤ length slots.old }
         ensures refused { result_err result ≡ compaction_refusal cells.now }
@@ -47,10 +48,12 @@ impl Compaction {
         ensures at_most_fifteen { IfOk result (λ c. level_of c ≤ 15) }
         ensures compactable { IfOk result (λ c. IsCompactable (level_of c) cells.now) }
         ensures apart { IfOk result (λ c. IsApart (take (slots_in_use c) slots.new)) }
-        ensures part { IfOk result (λ c. (x : Address) → Contains (take (slots_in_use c) slots.new) x
+        ensures part { IfOk result (λ c. (x : Address)
+            → Contains (take (slots_in_use c) slots.new) x
             ↔ InPart cells.now (level_of c) (level_of c) x) }
 
-        // At level 0, where no round is left, these are the top cells; a repeat is a cell listed twice.
+        // At level 0, where no round is left, these are the top cells; a repeat is a cell listed
+        // twice.
         ensures last { RoundsReachTheTop }
         ensures repeats { RepeatsAreFound }
     {
@@ -72,10 +75,12 @@ impl Compaction {
         ensures at_most_fifteen { IfOk result (λ c. level_of c ≤ 15) }
         ensures compactable { IfOk result (λ c. IsCompactable (level_of c) cells.now) }
         ensures apart { IfOk result (λ c. IsApart (take (slots_in_use c) slots.new)) }
-        ensures part { IfOk result (λ c. (x : Address) → Contains (take (slots_in_use c) slots.new) x
+        ensures part { IfOk result (λ c. (x : Address)
+            → Contains (take (slots_in_use c) slots.new) x
             ↔ InPart cells.now (level_of c) (level_of c) x) }
 
-        // At level 0, where no round is left, these are the top cells; a repeat is a cell listed twice.
+        // At level 0, where no round is left, these are the top cells; a repeat is a cell listed
+        // twice.
         ensures last { RoundsReachTheTop }
         ensures repeats { RepeatsAreFound }
         ensures in_order { IfOk result (λ c. IsInOrder (take (slots_in_use c) slots.new)) }
@@ -123,7 +128,8 @@ impl Compaction {
         ensures apart { IsApart (take (slots_in_use result) slots.new) }
         ensures others { drop (slots_in_use self) slots.new ≡ drop (slots_in_use self) slots.old }
 
-        // So what the rounds above this level make of a list becomes what they and this one make of it.
+        // So what the rounds above this level make of a list becomes what they and this one make of
+        // it.
         ensures part { (cells : List Address) (r : ℕ)
             → IsCompactable r cells → r ≤ 15 → level_of self ≤ r
             → ((x : Address) → Contains (take (slots_in_use self) slots.old) x
@@ -185,12 +191,13 @@ impl Compaction {
         }
     }
 
-    /// Puts the slots in use into ascending order, whatever the level, and returns how many they are.
-    /// There must be at least as many slots; the others stay as they are.
+    /// Puts the slots in use into ascending order, whatever the level, and returns how many they
+    /// are. There must be at least as many slots; the others stay as they are.
     pub fn finish(self, slots: &mut [Cell]) -> usize
         requires { slots_in_use self ≤ length slots.old }
         ensures count { result ≡ slots_in_use self }
-        ensures same { IsPermutation (take (slots_in_use self) slots.old) (take (slots_in_use self) slots.new) }
+        ensures same { IsPermutation (take (slots_in_use self) slots.old)
+            (take (slots_in_use self) slots.new) }
         ensures ascending { AllPairs (λ a b. number_of a ≤ number_of b)
             (take (slots_in_use self) slots.new) }
         ensures others { drop (slots_in_use self) slots.new ≡ drop (slots_in_use self) slots.old }

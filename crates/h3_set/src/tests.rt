@@ -199,7 +199,8 @@ fn compactions_are_refused(rt: HostRuntime) -> Result<(), Fail> {
     Ok(())
 }
 
-/// Asserts how many cells the compacted list of the cells has, and which are its first and its last.
+/// Asserts how many cells the compacted list of the cells has, and which are its first and its
+/// last.
 fn assert_ends(
     rt: &impl Abort,
     cells: &[Cell],

@@ -1,4 +1,5 @@
-//! The way up: the ancestors of a cell. In contracts `unsigned_abs res` is the resolution as a natural number.
+//! The way up: the ancestors of a cell. In contracts `unsigned_abs res` is the resolution as a
+//! natural number.
 
 ghost use Rattle.std.specs.Prelude.{◌≡◌, length, pos, IfOk, unsigned_abs};
 ghost use Rattle.std.specs.Result.{result_err};
@@ -9,16 +10,18 @@ ghost use Rattle.h3_tree.specs.Refusals.{parent_refusal};
 use crate::resolutions::resolution_from;
 use h3_index::{Cell, H3Error};
 
-/// The one ancestor of a cell at a resolution, as H3's `cellToParent` gives it: at the cell's own resolution the cell.
+/// The one ancestor of a cell at a resolution, as H3's `cellToParent` gives it: at the cell's own
+/// resolution the cell.
 ///
-/// `ResDomain` where the resolution is outside 0 to 15, and then `ResMismatch` where it is finer than the cell's.
+/// `ResDomain` where the resolution is outside 0 to 15, and then `ResMismatch` where it is finer
+/// than the cell's.
 pub fn parent(cell: Cell, res: i32) -> Result<Cell, H3Error>
     ensures refused { result_err result ≡ parent_refusal (length cell.digits) res }
     ensures is { IfOk result (λ ancestor. ancestor ≡ cut cell (unsigned_abs res)) }
     ensures ancestor { IfOk result (λ ancestor. IsCell ancestor × IsAncestor ancestor cell
         × (pos (length ancestor.digits) ≡ res)) }
 
-    // any ancestor at the resolution is the one that is answered
+    // any ancestor at the resolution is the one returned
     ensures one { (other : Address) → IsAncestor other cell → pos (length other.digits) ≡ res
         → result ≡ Ok other }
 {

@@ -1,4 +1,5 @@
-//! The way down: the descendants of a cell. In contracts `unsigned_abs res` is the resolution as a natural number.
+//! The way down: the descendants of a cell. In contracts `unsigned_abs res` is the resolution as a
+//! natural number.
 
 ghost use Rattle.std.specs.Prelude.{◌≡◌, ◌+◌, ◌-◌, ◌*◌, ◌/◌, ◌^◌, ◌<◌, ◌≤◌, ◌↔◌, length, false, true, IfOk, unsigned_abs, AllPairs, Contains};
 ghost use Rattle.std.specs.Result.{result_err};
@@ -13,8 +14,8 @@ use crate::resolutions::resolution_from;
 use h3_index::laws::descendants_are_listed;
 use h3_index::{Cell, H3Error};
 
-/// The descendant of a cell at a resolution whose further digits are 0, as H3's `cellToCenterChild` gives it: at the
-/// cell's own resolution the cell.
+/// The descendant of a cell at a resolution whose further digits are 0, as H3's `cellToCenterChild`
+/// gives it: at the cell's own resolution the cell.
 ///
 /// `ResDomain` where the resolution is outside the cell's own to 15.
 pub fn center_child(cell: Cell, res: i32) -> Result<Cell, H3Error>
@@ -45,8 +46,9 @@ pub(crate) fn size_at(cell: Cell, r: u8) -> u64
     }
 }
 
-/// How many descendants a cell has at a resolution, as H3's `cellToChildrenSize` counts them. n levels down there are
-/// 7^n below a hexagon and 1 + 5 * ((7^n - 1) / 6) below a pentagon; at its own resolution a cell has one, itself.
+/// How many descendants a cell has at a resolution, as H3's `cellToChildrenSize` counts them. n
+/// levels down there are 7^n below a hexagon and 1 + 5 * ((7^n - 1) / 6) below a pentagon; at its
+/// own resolution a cell has one, itself.
 ///
 /// `ResDomain` where the resolution is outside the cell's own to 15.
 pub fn children_size(cell: Cell, res: i32) -> Result<u64, H3Error>
@@ -55,7 +57,8 @@ pub fn children_size(cell: Cell, res: i32) -> Result<u64, H3Error>
     ensures hexagon { is_pentagon cell ≡ false
         → IfOk result (λ size. size ≡ 7 ^ (unsigned_abs res - length cell.digits)) }
     ensures pentagon { is_pentagon cell ≡ true
-        → IfOk result (λ size. size ≡ 1 + 5 * ((7 ^ (unsigned_abs res - length cell.digits) - 1) / 6)) }
+        → IfOk result (λ size.
+        size ≡ 1 + 5 * ((7 ^ (unsigned_abs res - length cell.digits) - 1) / 6)) }
 {
     let r = resolution_from(cell.resolution(), res)?;
     Ok(size_at(cell, r))
@@ -74,13 +77,14 @@ pub fn children_at(cell: Cell, r: u8) -> Children
     Children::below(cell, r)
 }
 
-/// The descendants of a cell at a resolution, as H3's `cellToChildren` gives them, in ascending order and each once:
-/// at the cell's own resolution the cell alone.
+/// The descendants of a cell at a resolution, as H3's `cellToChildren` gives them, in ascending
+/// order and each once: at the cell's own resolution the cell alone.
 ///
 /// `ResDomain` where the resolution is outside the cell's own to 15.
 pub fn children(cell: Cell, res: i32) -> Result<Children, H3Error>
     ensures refused { result_err result ≡ descent_refusal (length cell.digits) res }
-    ensures list { IfOk result (λ items. children_left items ≡ descendants cell (unsigned_abs res)) }
+    ensures list { IfOk result (λ items.
+        children_left items ≡ descendants cell (unsigned_abs res)) }
     ensures members { IfOk result (λ items. (x : Address)
         → Contains (children_left items) x ↔ IsDescendant cell (unsigned_abs res) x) }
     ensures ascending { IfOk result (λ items.

@@ -34,7 +34,8 @@ fn following(cell: Cell) -> Cell
     cell
 }
 
-/// The descendants of a cell at one resolution, in ascending order. It holds the next of them and how many are left.
+/// The descendants of a cell at one resolution, in ascending order. It holds the next of them and
+/// how many are left.
 #[derive(Clone, Copy, Debug)]
 pub struct Children {
     next: Cell,

@@ -1,13 +1,14 @@
-//! Laws of the hierarchy of cells. Each function does nothing; what it ensures is a law that holds always, for the
-//! proofs of crates that call it.
+//! Laws of the hierarchy of cells. Each function does nothing; what it ensures is a law that holds
+//! always, for the proofs of crates that call it.
 
 ghost use Rattle.h3_tree.specs.Laws.{CellsFormTrees};
 ghost use Rattle.h3_tree.specs.PostOrder.{CellsFormIntervals};
 
 use h3_index::laws::{cuts_are_cells, descendants_are_listed, paths_are_chains};
 
-/// The cells of a base cell form a tree: of two ancestors of a cell one stands above the other, there is one at each
-/// resolution up to the cell's own, and below a cell there are descendants at each finer resolution, as listed.
+/// The cells of a base cell form a tree: of two ancestors of a cell one stands above the other,
+/// there is one at each resolution up to the cell's own, and below a cell there are descendants at
+/// each finer resolution, as listed.
 pub fn cells_form_trees()
     ensures { CellsFormTrees }
 {

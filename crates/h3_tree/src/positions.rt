@@ -1,4 +1,5 @@
-//! Positions: where a cell stands among the descendants of a cell above it, in ascending order, from 0 on.
+//! Positions: where a cell stands among the descendants of a cell above it, in ascending order,
+//! from 0 on.
 
 ghost use Rattle.std.specs.Prelude.{◌≡◌, ◌+◌, ◌-◌, ◌<◌, ◌≤◌, length, IfOk, Some, slice_get, unsigned_abs};
 ghost use Rattle.std.specs.Result.{result_err};
@@ -27,7 +28,8 @@ fn before_own(cell: Cell, r: u8) -> u64
     requires not_coarser { length cell.digits ≤ r }
     requires at_most_fifteen { r ≤ 15 }
     ensures small { result ≤ 4747561509943 }
-    ensures before { (x : Address) → IsDescendant cell r x → position_under (cut cell (length cell.digits - 1)) x ≡ result + position_under cell x }
+    ensures before { (x : Address) → IsDescendant cell r x
+        → position_under (cut cell (length cell.digits - 1)) x ≡ result + position_under cell x }
 {
     descendants_are_known();
     let own = cell.resolution();
@@ -45,8 +47,8 @@ fn before_own(cell: Cell, r: u8) -> u64
     center + u64::from(digit - 2) * outer
 }
 
-/// The child of a cell, whose resolution is given, that has the descendant at a position, and the descendant's
-/// position under that child.
+/// The child of a cell, whose resolution is given, that has the descendant at a position, and the
+/// descendant's position under that child.
 fn child_below(position: u64, cell: Cell, level: u8, r: u8) -> (Cell, u64)
     requires valid { IsCell cell }
     requires own { level ≡ length cell.digits }
@@ -55,7 +57,8 @@ fn child_below(position: u64, cell: Cell, level: u8, r: u8) -> (Cell, u64)
     requires within { position < length (descendants cell r) }
     ensures valid { IsCell result.0 }
     ensures level { length result.0.digits ≡ length cell.digits + 1 }
-    ensures below { (x : Address) → HasPosition cell r x position → HasPosition result.0 r x result.1 }
+    ensures below { (x : Address)
+        → HasPosition cell r x position → HasPosition result.0 r x result.1 }
 {
     descendants_are_known();
     let outer = power_of_seven(r - level - 1);
@@ -96,14 +99,16 @@ fn member_at(position: u64, cell: Cell, r: u8) -> Cell
     member
 }
 
-/// The position of a cell among the descendants of its ancestor at a resolution, as H3's `cellToChildPos` gives it:
-/// how many of those that have the cell's resolution have a smaller number than the cell. At the cell's own
-/// resolution it is 0.
+/// The position of a cell among the descendants of its ancestor at a resolution, as H3's
+/// `cellToChildPos` gives it: how many of those that have the cell's resolution have a smaller
+/// number than the cell. At the cell's own resolution it is 0.
 ///
-/// `ResDomain` where the resolution is outside 0 to 15, and then `ResMismatch` where it is finer than the cell's.
+/// `ResDomain` where the resolution is outside 0 to 15, and then `ResMismatch` where it is finer
+/// than the cell's.
 pub fn child_pos(cell: Cell, parent_res: i32) -> Result<u64, H3Error>
     ensures refused { result_err result ≡ parent_refusal (resolution cell) parent_res }
-    ensures is { IfOk result (λ position. position ≡ position_under (cut cell (unsigned_abs parent_res)) cell) }
+    ensures is { IfOk result (λ position.
+        position ≡ position_under (cut cell (unsigned_abs parent_res)) cell) }
 {
     descendants_are_known();
     let ancestor = parent(cell, parent_res)?;
@@ -115,17 +120,21 @@ pub fn child_pos(cell: Cell, parent_res: i32) -> Result<u64, H3Error>
     Ok(position)
 }
 
-/// The descendant of a cell at a resolution that stands at a position, counted from 0, among all of them in ascending
-/// order, as H3's `childPosToCell` gives it: at the cell's own resolution, at position 0, the cell.
+/// The descendant of a cell at a resolution that stands at a position, counted from 0, among all of
+/// them in ascending order, as H3's `childPosToCell` gives it: at the cell's own resolution, at
+/// position 0, the cell.
 ///
-/// `ResDomain` where the resolution is outside 0 to 15, then `ResMismatch` where it is coarser than the cell's, and
-/// then `Domain` where the position is not below the number of descendants, which `children_size` gives.
+/// `ResDomain` where the resolution is outside 0 to 15, then `ResMismatch` where it is coarser than
+/// the cell's, and then `Domain` where the position is not below the number of descendants, which
+/// `children_size` gives.
 pub fn child_at(position: u64, cell: Cell, res: i32) -> Result<Cell, H3Error>
     ensures refused { result_err result ≡ position_refusal cell res position }
-    ensures is { IfOk result (λ member. slice_get (descendants cell (unsigned_abs res)) position ≡ Some member) }
+    ensures is { IfOk result (λ member.
+        slice_get (descendants cell (unsigned_abs res)) position ≡ Some member) }
     ensures place { IfOk result (λ member. HasPosition cell (unsigned_abs res) member position) }
 
-    // Laws of positions: the member at one has it, and the member at a descendant's is that descendant.
+    // Laws of positions: the member at one has it, and the member at a descendant's is that
+    // descendant.
     ensures members { MembersHavePositions }
     ensures positions { PositionsTellMembers }
 {

@@ -1,4 +1,4 @@
-//! The powers of 7, of which a hexagon has so many descendants.
+//! The powers of 7: a hexagon has 7^n descendants n levels down.
 
 ghost use Rattle.std.specs.Prelude.{◌≡◌, ◌^◌, ◌<◌, ◌≤◌};
 
