@@ -11,7 +11,7 @@ use Rattle.h3_lattice.specs.Expansion.{place, scaled}
 use Rattle.h3_lattice.specs.Laws.{OppositesAreThreeTurns, SumsCloseTriangles, SumsReverse, Triangle, all_inside, z_across, x_across, y_across, all_across}
 use Rattle.h3_lattice.specs.Links.{IsSound, Links}
 use Rattle.h3_lattice.specs.Moved.{IsSum}
-use Rattle.h3_grid.specs.Laws.{IsState, StepsCloseTriangles, StepsMove, StepsPart, StepsReachStates, StepsReverse}
+use Rattle.h3_grid.specs.Laws.{IsState, OverSoundLinks, StepsCloseTriangles, StepsMove, StepsPart, StepsReachStates, StepsReverse}
 use Rattle.h3_grid.specs.Search.{step_of}
 use Rattle.h3_grid.specs.Steps.{Leads, State, crossed, led_to, state}
 use Rattle.h3_grid.proofs.DiskLaws.{unit_moves}
@@ -112,11 +112,11 @@ module _ (w : Lattice) (link : Links) (sound : IsSound link) (x : State) (st : I
       ∙ crossed_to (link other (turned n (opposite u))) b ((6 - n) % 6) there.rotation (map (digit_turned n) x.cell.digits) rev st.hexagon.1
       ∙ λ i. Some (state (cell_of b (digits i)) (rotation i))
 
-pub steps_reach : Lattice → StepsReachStates
-steps_reach w link x y d sound st e = reached w link sound x st d y (way w link x y d st e)
+pub steps_reach : Lattice → OverSoundLinks StepsReachStates
+steps_reach w link sound x y d st e = reached w link sound x st d y (way w link x y d st e)
 
-pub steps_reverse : Lattice → StepsReverse
-steps_reverse w link x y d sound st e = reversed w link sound x st d y (way w link x y d st e)
+pub steps_reverse : Lattice → OverSoundLinks StepsReverse
+steps_reverse w link sound x y d st e = reversed w link sound x st d y (way w link x y d st e)
 
 -- ---- different steps
 
@@ -180,12 +180,12 @@ module _ (w : Lattice) (link : Links) (sound : IsSound link) (x : State) (st : I
       unit_moves (place x.cell.digits) (turned x.rotation d) (sym (ap place digits) ∙ sum_inside x.cell.digits es (turned x.rotation d) sum)
   moved d y (goes_over u es sum h) same = sound.away x.cell.base u st.hexagon (ap (λ (a : Address). a.base) same)
 
-pub steps_part : Lattice → StepsPart
-steps_part w link x y z d e sound st p q same =
+pub steps_part : Lattice → OverSoundLinks StepsPart
+steps_part w link sound x y z d e st p q same =
     parted w link sound x st d e y z (way w link x y d st p) (way w link x z e st q) same
 
-pub steps_move : Lattice → StepsMove
-steps_move w link x y d sound st e same = moved w link sound x st d y (way w link x y d st e) same
+pub steps_move : Lattice → OverSoundLinks StepsMove
+steps_move w link sound x y d st e same = moved w link sound x st d y (way w link x y d st e) same
 
 -- ---- triangles
 
@@ -252,8 +252,8 @@ module _ (w : Lattice) (link : Links) (sound : IsSound link) (x : State) (st : I
       ∙ (λ i. Some (state (cell_of c (digits i)) (rotation i)))
       ∙ ap (λ r. Some r) (sym cz.is)
 
-pub steps_close : Lattice → StepsCloseTriangles
-steps_close w link x y z d sound st p q =
+pub steps_close : Lattice → OverSoundLinks StepsCloseTriangles
+steps_close w link sound x y z d st p q =
     let ly = leads w.sums link x y d st.hexagon.1 p in
     let lz = leads w.sums link x z (turned_once d) st.hexagon.1 q in
     let next : turned x.rotation (turned_once d) ≡ turned_once (turned x.rotation d) = commute w x.rotation 1 d in

@@ -9,7 +9,7 @@ use Rattle.h3_lattice.specs.declared.direction.Direction.TheVariants.{I}
 use Rattle.h3_lattice.specs.Direction.{turned}
 use Rattle.h3_lattice.specs.Links.{IsSound, Links}
 use Rattle.h3_grid.specs.Chart.{states_from}
-use Rattle.h3_grid.specs.Laws.{IsState, StepsReachStates}
+use Rattle.h3_grid.specs.Laws.{IsState, OverSoundLinks, StepsReachStates}
 use Rattle.h3_grid.specs.Moves.{Move, ring_moves, side_moves, silent, write}
 use Rattle.h3_grid.specs.Search.{step_of}
 use Rattle.h3_grid.specs.Steps.{State}
@@ -63,7 +63,7 @@ ring_is : (r : ℕ) (ms : List Move) → ring_moves r ++ ms ≡ silent r I ∷ (
 unfolding ring_moves
 ring_is r ms = refl
 
-module _ (reach : StepsReachStates) (link : Links) (sound : IsSound link) where
+module _ (reach : OverSoundLinks StepsReachStates) (link : Links) (sound : IsSound link) where
   -- ---- along a side
 
   pub record SideGoes (s : State) (d : Direction) (q n j : ℕ) (ms : List Move) : Type 0 where
@@ -89,7 +89,7 @@ module _ (reach : StepsReachStates) (link : Links) (sound : IsSound link) where
       let b = began w.to.cell q (followed link w.to (replicate n (write q d) ++ ms)) cells w.rest in
       let to_is : w.to ≡ along link s d (j + 1) = sym (go_is link here w.to d w.led) ∙ ap (along link s d) (sym (add-one j)) in
       let led : step_of link here d ≡ Some (go link here d) = w.led ∙ ap (λ t. Some t) (sym (go_is link here w.to d w.led)) in
-      let valid : IsState (along link s d (j + 1)) = subst IsState to_is (reach link here w.to d sound st w.led) in
+      let valid : IsState (along link s d (j + 1)) = subst IsState to_is (reach link sound here w.to d st w.led) in
       let more = side_goes s d q n (j + 1) ms b.others valid (subst (λ t. followed link t (replicate n (write q d) ++ ms) ≡ all_ok b.others) to_is b.rest) in
       let sum : j + 1 + n ≡ j + suc n = omega arith in
       record {
@@ -184,7 +184,7 @@ module _ (reach : StepsReachStates) (link : Links) (sound : IsSound link) where
       let w = went link last (silent (a + 1) I) (flat_map (λ i. side_moves (a + 1) (turned (i + 2) I)) (range_with_len 0 6) ++ others) cells (subst (λ l. followed link last l ≡ all_ok cells) ring_of e) in
       let led : step_of link last I ≡ Some (go link last I) = w.led ∙ ap (λ t. Some t) (sym (go_is link last w.to I w.led)) in
       let first : w.to ≡ start_of link s (a + 1) = sym (go_is link last w.to I w.led) ∙ ap (start_of link s) (sym (add-one a)) in
-      let valid : IsState (start_of link s (a + 1)) = subst IsState first (reach link last w.to I sound st w.led) in
+      let valid : IsState (start_of link s (a + 1)) = subst IsState first (reach link sound last w.to I st w.led) in
       let six = sides_go (a + 1) (start_of link s (a + 1)) 0 6 others cells valid (subst (λ t. followed link t (flat_map (λ i. side_moves (a + 1) (turned (i + 2) I)) (range_with_len 0 6) ++ others) ≡ all_ok cells) first w.rest) in
       let more = rings_go s (a + 1) n six.cells six.valid six.rest in
       record {

@@ -20,27 +20,31 @@ pub record IsState (s : State) : Type 0 where
   pub digits : AllBelowBase 7 s.cell.digits
   pub few : s.rotation < 6
 
+-- a law of the steps over links, where the links are sound
+abbrev pub OverSoundLinks : (Links → Type 0) → Type 0
+OverSoundLinks Law = (link : Links) → IsSound link → Law link
+
 -- a step leads to a state again
-abbrev pub StepsReachStates : Type 0
-StepsReachStates = (link : Links) (x y : State) (d : Direction) → IsSound link → IsState x → step_of link x d ≡ Some y → IsState y
+abbrev pub StepsReachStates : Links → Type 0
+StepsReachStates link = (x y : State) (d : Direction) → IsState x → step_of link x d ≡ Some y → IsState y
 
 -- the opposite direction leads back, and undoes the rotation
-abbrev pub StepsReverse : Type 0
-StepsReverse =
-    (link : Links) (x y : State) (d : Direction) → IsSound link → IsState x → step_of link x d ≡ Some y → step_of link y (opposite d) ≡ Some x
+abbrev pub StepsReverse : Links → Type 0
+StepsReverse link =
+    (x y : State) (d : Direction) → IsState x → step_of link x d ≡ Some y → step_of link y (opposite d) ≡ Some x
 
 -- steps in different directions lead to different cells, and none stays
-abbrev pub StepsPart : Type 0
-StepsPart =
-    (link : Links) (x y z : State) (d e : Direction) → IsSound link → IsState x → step_of link x d ≡ Some y → step_of link x e ≡ Some z → y.cell ≡ z.cell → d ≡ e
+abbrev pub StepsPart : Links → Type 0
+StepsPart link =
+    (x y z : State) (d e : Direction) → IsState x → step_of link x d ≡ Some y → step_of link x e ≡ Some z → y.cell ≡ z.cell → d ≡ e
 
-abbrev pub StepsMove : Type 0
-StepsMove = (link : Links) (x y : State) (d : Direction) → IsSound link → IsState x → step_of link x d ≡ Some y → y.cell ≢ x.cell
+abbrev pub StepsMove : Links → Type 0
+StepsMove link = (x y : State) (d : Direction) → IsState x → step_of link x d ≡ Some y → y.cell ≢ x.cell
 
 -- the cells in a direction and in the next one are a step apart
-abbrev pub StepsCloseTriangles : Type 0
-StepsCloseTriangles =
-    (link : Links) (x y z : State) (d : Direction) → IsSound link → IsState x → step_of link x d ≡ Some y → step_of link x (turned_once d) ≡ Some z → step_of link y (turned 2 d) ≡ Some z
+abbrev pub StepsCloseTriangles : Links → Type 0
+StepsCloseTriangles link =
+    (x y z : State) (d : Direction) → IsState x → step_of link x d ≡ Some y → step_of link x (turned_once d) ≡ Some z → step_of link y (turned 2 d) ≡ Some z
 
 -- ---- disks
 

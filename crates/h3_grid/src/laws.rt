@@ -3,7 +3,7 @@
 
 ghost use Rattle.h3_grid.specs.Chart.{ChartsLeadAlongPaths, DisksAreCharts, OriginsAreAlone, RingsAgree, StatesAreWritten};
 ghost use Rattle.h3_grid.specs.Distance.{NeighboursAreMutual, RingsAreDistances, SpiralsHoldSums};
-ghost use Rattle.h3_grid.specs.Laws.{DisksHaveSizes, DisksInsideAreCharted, MovesFollowTheSpiral, SpiralsAreSimple, SpiralsHaveSizes, StepsCloseTriangles, StepsMove, StepsPart, StepsReachStates, StepsReverse};
+ghost use Rattle.h3_grid.specs.Laws.{DisksHaveSizes, DisksInsideAreCharted, MovesFollowTheSpiral, OverSoundLinks, SpiralsAreSimple, SpiralsHaveSizes, StepsCloseTriangles, StepsMove, StepsPart, StepsReachStates, StepsReverse};
 ghost use Rattle.h3_grid.specs.Search.{StepsAreFound};
 
 use h3_lattice::laws::{sums_are_lawful, turns_add_up};
@@ -32,11 +32,11 @@ pub fn disks_are_spirals()
 /// Over sound links the opposite direction leads back, different directions lead to different cells, none of them the
 /// cell itself, and the cells in a direction and in the next one are a step apart.
 pub fn steps_are_lawful()
-    ensures states { StepsReachStates }
-    ensures reverse { StepsReverse }
-    ensures part { StepsPart }
-    ensures move_on { StepsMove }
-    ensures triangles { StepsCloseTriangles }
+    ensures states { OverSoundLinks StepsReachStates }
+    ensures reverse { OverSoundLinks StepsReverse }
+    ensures part { OverSoundLinks StepsPart }
+    ensures move_on { OverSoundLinks StepsMove }
+    ensures triangles { OverSoundLinks StepsCloseTriangles }
 {
     sums_are_lawful();
     turns_add_up();

@@ -18,8 +18,12 @@ use h3_lattice::{BaseTable, Direction};
 
 /// The cell and the rotation that k steps in the direction I lead to from a cell.
 fn outward(table: &BaseTable, cell: Cell, k: u32) -> Result<(Cell, u8), H3Error>
-    ensures led { IfOk result (λ r. (stepped (link_of table.now) (Some (state cell 0)) (replicate k Direction.I) ≡ Some (state r.0 r.1)) × (r.1 < 6)) }
-    ensures refused { IfErr result (λ e. (stepped (link_of table.now) (Some (state cell 0)) (replicate k Direction.I) ≡ None) × (e ≡ H3Error.Pentagon)) }
+    ensures led { IfOk result (λ r.
+        (stepped (link_of table.now) (Some (state cell 0)) (replicate k Direction.I) ≡ Some (state r.0 r.1))
+        × (r.1 < 6)) }
+    ensures refused { IfErr result (λ e.
+        (stepped (link_of table.now) (Some (state cell 0)) (replicate k Direction.I) ≡ None)
+        × (e ≡ H3Error.Pentagon)) }
 {
     let mut reached = cell;
     let mut rotation = 0;

@@ -11,6 +11,17 @@ use crate::laws::{steps_are_found, steps_are_lawful};
 use h3_index::{Cell, H3Error, is_pentagon_base};
 use h3_lattice::{BaseTable, Direction, Moved, add, turn};
 
+/// Laws of steps over the links of a table. It does nothing.
+fn step_is_lawful(table: &BaseTable)
+    ensures reverse { StepsReverse (link_of table.now) }
+    ensures part { StepsPart (link_of table.now) }
+    ensures move_on { StepsMove (link_of table.now) }
+    ensures triangles { StepsCloseTriangles (link_of table.now) }
+{
+    steps_are_lawful();
+    table.links_are_sound();
+}
+
 /// The neighbour of a cell in a direction, and the rotation there, as H3's `h3NeighborRotations` outside pentagon base
 /// cells.
 ///
@@ -36,14 +47,16 @@ pub fn step(
 
     ensures one { StepsAreFound }
 
-    // Laws of steps over sound links.
-    ensures reverse { StepsReverse }
-    ensures part { StepsPart }
-    ensures move_on { StepsMove }
-    ensures triangles { StepsCloseTriangles }
+    // Laws of steps over the table: the opposite direction leads back, with the rotation undone; steps in different
+    // directions lead to different cells, none of them the cell itself; those in a direction and the next one lead to
+    // neighbours.
+    ensures reverse { StepsReverse (link_of table.now) }
+    ensures part { StepsPart (link_of table.now) }
+    ensures move_on { StepsMove (link_of table.now) }
+    ensures triangles { StepsCloseTriangles (link_of table.now) }
 {
     steps_are_found();
-    steps_are_lawful();
+    step_is_lawful(table);
     if cell.in_pentagon_base() {
         return Err(H3Error::Pentagon);
     }

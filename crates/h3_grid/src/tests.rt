@@ -79,6 +79,15 @@ fn open_table(rt: &HostRuntime) -> Result<BaseTable, Fail> {
     read_table(rt, &records)
 }
 
+/// The ring of a cell in a disk of radius 2 at most, by its index.
+fn ring_of(index: usize) -> u32 {
+    match index {
+        0 => 0,
+        1..=6 => 1,
+        _ => 2,
+    }
+}
+
 /// Asserts that a disk gives these cells, ring by ring, and then ends or is refused.
 fn assert_disk(
     rt: &impl Abort,
@@ -91,16 +100,9 @@ fn assert_disk(
     let Ok(mut walk) = Disk::new(table, Cell::new(cell)?, k) else {
         return Err(Fail::from("refused"));
     };
-    let mut ring = 0;
-    let mut cells_up_to_ring = 1;
-    let mut count = 0;
-    for raw in expected {
-        if count == cells_up_to_ring {
-            ring += 1;
-            cells_up_to_ring += 6 * u64::from(ring);
-        }
-        count += 1;
-        assert_eq!(rt; walk.next(), Some(Ok((Cell::new(*raw)?, ring))));
+    for (index, raw) in expected.iter().enumerate() {
+        let item = (Cell::new(*raw)?, ring_of(index));
+        assert_eq!(rt; walk.next(), Some(Ok(item)));
     }
     if refused {
         assert_eq!(rt; walk.next(), Some(Err(H3Error::Pentagon)));
