@@ -65,11 +65,12 @@ none_left {told = told} r told' page n p zero room =
     last_of [] more e = e
     last_of (x ∷ front) more e = cc e
 
--- and the bytes fit in the pages that may be read
+-- and the bytes fit in the pages that may be read, but for the last read, which finds the end
 pub reads_fit : {whole bytes : List ℕ} {limit size : ℕ} {told : Option (List ℕ)} {reads : ℕ} {text : List ℕ}
-    → Reads whole bytes limit size told reads text → IsAtEnd told → length bytes ≤ limit * size
-reads_fit {told = told} r h =
+    → Reads whole bytes limit size told reads text → IsAtEnd told → (reads' : ℕ) → reads' + 1 ≡ reads → length bytes + size ≤ limit * size
+reads_fit {size = size} {told = told} {reads = reads} r h reads' count =
     let none : length r.rest ≡ 0 = ap length (at_end told r.rest r.told_is h) in
+    let one : reads * size ≡ reads' * size + size = rw (← count) (grind arith) in
     omega (arith, r.paged)
 
 -- where no read is left, the bytes are as many as reads were allowed

@@ -52,7 +52,7 @@ fn read_pages<'a, R: Source>(
     ensures whole { OnOk result ((bytes : List ℕ) → R.left reader.old.source.now ≡ Some bytes →
         R.left reader.new.source.now ≡ Some []) }
     ensures limited { OnOk result ((bytes : List ℕ) → R.left reader.old.source.now ≡ Some bytes →
-        length bytes ≤ reader.old.reads_left * length page.old) }
+        length bytes + length page.old ≤ reader.old.reads_left * length page.old) }
     ensures same { reader.new.source.ghost_name ≡ reader.old.source.ghost_name }
 {
     loop {
@@ -65,8 +65,8 @@ fn read_pages<'a, R: Source>(
     }
 }
 
-/// All bytes of a source, read page by page: `Read` where the source fails or more reads than the limit are needed,
-/// and `Memory` where there is none for the bytes.
+/// All bytes of a source, read page by page: `Read` where the source fails or is not at its end within
+/// the limit of reads, and `Memory` where there is none for the bytes.
 pub fn read_bytes<R: Source>(
     alloc: Global,
     source: &mut R,
@@ -80,7 +80,7 @@ pub fn read_bytes<R: Source>(
     ensures kept { result ≢ Err TableError.Read → R.has_failed source.new ≡ R.has_failed source.old }
     ensures whole { OnOk result ((bytes : List ℕ) → R.left source.old ≡ Some bytes → R.left source.new ≡ Some []) }
     ensures limited { OnOk result ((bytes : List ℕ) → R.left source.old ≡ Some bytes →
-        length bytes ≤ limit * length page.old) }
+        length bytes + length page.old ≤ limit * length page.old) }
 {
     let mut text = Vec::new(alloc);
     let mut reader = CountedReader {

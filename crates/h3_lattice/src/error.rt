@@ -7,7 +7,7 @@ use thiserror::Error;
 /// header is record 1.
 #[derive(Clone, Copy, Debug, PartialEq, Eq, Error)]
 pub enum TableError {
-    /// The reader failed, or had more to read than a table may have.
+    /// The reader failed, or was not at its end within 2^40 reads.
     #[error("the table could not be read")]
     Read,
 

@@ -1,6 +1,6 @@
 //! The base cell table.
 
-ghost use Rattle.std.specs.Prelude.{◌≡◌, ◌≢◌, ◌≤◌, ◌<◌, ◌*◌, ◌^◌, ◌⊎◌, ℕ, true, false, List, [], length, None, Some, Err, IfOk, IfErr, All};
+ghost use Rattle.std.specs.Prelude.{◌+◌, ◌≡◌, ◌≢◌, ◌≤◌, ◌<◌, ◌*◌, ◌^◌, ◌⊎◌, ℕ, true, false, List, [], length, None, Some, Err, IfOk, IfErr, All};
 ghost use Rattle.h3_index.specs.Cell.{is_pentagon_base};
 ghost use Rattle.h3_lattice.specs.Fields.{records_of};
 ghost use Rattle.h3_lattice.specs.Links.{IsLink, IsSound, links_in};
@@ -55,7 +55,7 @@ impl BaseTable {
     /// order. In the frame of the base cell `base`, the base cell `to` lies in the direction of the digit `dir`, and each
     /// digit is turned `rot` times on crossing. Numbers have 1 to 3 digits.
     ///
-    /// The errors, in this order: [`TableError::Read`] where the reader fails or has more than 2^40 pages of 4096 bytes,
+    /// The errors, in this order: [`TableError::Read`] where the reader fails or is not at its end within 2^40 reads,
     /// the first faulty record, a missing record, and the first check that fails, by ascending base cell and direction.
     /// [`TableError::Memory`] where there is no memory for the file or a record.
     pub fn read<R: Source>(alloc: Global, source: &mut R) -> Result<BaseTable, TableError>
@@ -68,11 +68,12 @@ impl BaseTable {
         // A read that fails is never passed over.
         ensures kept { result ≢ Err TableError.Read → R.has_failed source.new ≡ R.has_failed source.old }
 
-        // A table is accepted or refused for what is in it only after all of it was read.
+        // A table is accepted or refused for what is in it only after all of it was read, in 2^40 reads of a page,
+        // of which the last finds the end.
         ensures whole { result ≢ Err TableError.Read → result ≢ Err TableError.Memory →
             (bytes : List ℕ) → R.left source.old ≡ Some bytes → R.left source.new ≡ Some [] }
         ensures limited { result ≢ Err TableError.Read → result ≢ Err TableError.Memory →
-            (bytes : List ℕ) → R.left source.old ≡ Some bytes → length bytes ≤ 2 ^ 40 * 4096 }
+            (bytes : List ℕ) → R.left source.old ≡ Some bytes → length bytes + 4096 ≤ 2 ^ 40 * 4096 }
 
         // Laws of the definitions above: which files have no fault, and which fault is the first.
         ensures exact { SoundFilesAreAccepted }

@@ -14,7 +14,7 @@ returns-then-count-eq0-clause-whole g c = λ bytes told.
 
 pub returns-then-count-eq0-clause-limited : goal.returns-then-count-eq0-clause-limited
 returns-then-count-eq0-clause-limited g c = λ bytes told.
-    reads_fit (c.loop-count.invariant.reads bytes told) (c.in_ok-count.ensures.bytes.at_end c.if-count-eq0.true (omega arith))
+    reads_fit (c.loop-count.invariant.reads bytes told) (c.in_ok-count.ensures.bytes.at_end c.if-count-eq0.true (omega arith)) _ c.in_ok-count.ensures.counted
 
 pub loop-count-preserved : goal.loop-count-preserved
 loop-count-preserved g c = record {
