@@ -3,11 +3,12 @@ use Rattle.std.proofs.Common.{◌≡◌, ◌<◌, ◌≤◌, ◌+◌, ◌-◌, �
 use Rattle.std.specs.Prelude.{is_some}
 use Rattle.std.proofs.Math.Seq.{drop-cons}
 use Rattle.std.specs.Option.{option_or}
+use Rattle.std.specs.List.{list_all}
 use Rattle.h3_lattice.specs.declared.direction.Direction.{Direction}
 use Rattle.h3_lattice.specs.declared.error.TableError.{TableError}
 use Rattle.h3_lattice.specs.Direction.{directions}
 use Rattle.h3_lattice.specs.Links.{is_hexagon_base}
-use Rattle.h3_lattice.specs.Checks.{each_of, from_base, in_directions}
+use Rattle.h3_lattice.specs.Checks.{from_base, in_directions}
 
 -- the first fault from b on: that at b, or the first from the next on
 pub from-next : (f : ℕ → Direction → Option TableError) (b : ℕ) → b < 122
@@ -41,8 +42,7 @@ directions-none f ds i d o h e s = rw (drop-cons ds i d h, add-one, ← e) (none
 
 -- the test in each direction from a place on
 pub each-next : (p : Direction → Bool) (ds : List Direction) (i : ℕ) (d : Direction) (o : Bool) → i < length ds → o ≡ p (get_or ds i d)
-    → each_of p (drop i ds) ≡ o && each_of p (drop (i + 1) ds)
-unfolding each_of
+    → list_all p (drop i ds) ≡ o && list_all p (drop (i + 1) ds)
 each-next p ds i d o h e = rw (drop-cons ds i d h, add-one, ← e) refl
 
 -- what comes of one base cell and the next
@@ -58,8 +58,7 @@ pub base-pentagon : (f : ℕ → Direction → Option TableError) (b : ℕ) → 
     → from_base f b (122 - b) ≡ from_base f (b + 1) (122 - (b + 1))
 base-pentagon f b h e = rw (from-next f b h, e) refl
 
-pub each-end : (p : Direction → Bool) → each_of p [] ≡ true
-unfolding each_of
+pub each-end : (p : Direction → Bool) → list_all p [] ≡ true
 each-end p = refl
 
 pub both_false : (a b : Bool) → b ≡ false → a && b ≡ false

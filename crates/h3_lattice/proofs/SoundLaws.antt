@@ -7,6 +7,7 @@ use Rattle.std.proofs.lemmas.List.Elements.{All-get_or}
 use Rattle.std.proofs.lemmas.Bool.{cases_eq, not-true}
 use Rattle.std.proofs.lemmas.Bool.Decides.{nat_tests}
 use Rattle.std.specs.Option.{option_or}
+use Rattle.std.specs.List.{list_all}
 use Rattle.h3_lattice.specs.declared.direction.Direction.{Direction}
 use Rattle.h3_lattice.specs.declared.direction.Direction.TheVariants.{K, J, JK, I, IK, IJ}
 use Rattle.h3_lattice.specs.declared.error.TableError.{TableError}
@@ -15,7 +16,7 @@ use Rattle.h3_lattice.specs.declared.checks.Check.TheVariants as check
 use Rattle.h3_index.specs.Cell.{is_pentagon_base}
 use Rattle.h3_lattice.specs.Direction.{digit_of, directions, turned_once}
 use Rattle.h3_lattice.specs.Links.{IsHexagonBase, IsLink, IsSound, Links, is_hexagon_base, links_in, place_of}
-use Rattle.h3_lattice.specs.Checks.{at_places, closes, each_of, fault_at, fault_of_links, from_base, in_directions, is_apart, parts, reverses, same_link, unless}
+use Rattle.h3_lattice.specs.Checks.{at_places, closes, fault_at, fault_of_links, from_base, in_directions, is_apart, parts, reverses, same_link, unless}
 use Rattle.h3_lattice.specs.First.{IsApart, IsClosed, IsReversed}
 use Rattle.h3_lattice.specs.Table.{ChecksMeanSound}
 
@@ -142,16 +143,15 @@ eqb-eq m n e = grind (arith, nat_tests)
 links_same : (p q : ℕ × ℕ) → same_link p q ≡ true → p ≡ q
 links_same p q e = let two = and_both (p.0 == q.0) (p.1 == q.1) e in pair_same p q (eqb-eq p.0 q.0 two.0) (eqb-eq p.1 q.1 two.1)
 
-each_of-at : (p : Direction → Bool) (ds : List Direction) (i : ℕ) → each_of p ds ≡ true → i < length ds → p (get_or ds i K) ≡ true
-unfolding each_of
-each_of-at p [] i e h = absurd (omega arith)
-each_of-at p (d ∷ ds) zero e h = (and_both (p d) (each_of p ds) e).0
-each_of-at p (d ∷ ds) (suc i) e h = each_of-at p ds i (and_both (p d) (each_of p ds) e).1 (omega arith)
+list_all-at : (p : Direction → Bool) (ds : List Direction) (i : ℕ) → list_all p ds ≡ true → i < length ds → p (get_or ds i K) ≡ true
+list_all-at p [] i e h = absurd (omega arith)
+list_all-at p (d ∷ ds) zero e h = (and_both (p d) (list_all p ds) e).0
+list_all-at p (d ∷ ds) (suc i) e h = list_all-at p ds i (and_both (p d) (list_all p ds) e).1 (omega arith)
 
-each_at : (p : Direction → Bool) (d : Direction) → each_of p directions ≡ true → p d ≡ true
+each_at : (p : Direction → Bool) (d : Direction) → list_all p directions ≡ true → p d ≡ true
 each_at p d e =
     let small = digit_of-lt d in
-    subst (λ d. p d ≡ true) (direction-at d) (each_of-at p directions (digit_of d - 1) e (omega arith))
+    subst (λ d. p d ≡ true) (direction-at d) (list_all-at p directions (digit_of d - 1) e (omega arith))
 
 or_left : (a b : Bool) → a || b ≡ true → b ≡ false → a ≡ true
 or_left true b e h = refl
@@ -183,7 +183,7 @@ links_within links long all b d h =
 
 pub apart-is : (link : Links) (b : ℕ) (d : Direction) → is_apart link b d ≡ true → IsApart link b d
 apart-is link b d t =
-    let two = and_both (not ((link b d).0 == b)) (each_of (parts link b d) directions) t in
+    let two = and_both (not ((link b d).0 == b)) (list_all (parts link b d) directions) t in
     record {
       away = λ same. not_self (link b d).0 b two.0 same;
       apart = λ e same. one_direction link b d e (each_at (parts link b d) e two.1) same;
@@ -215,10 +215,9 @@ sound_of link within none =
 
 -- ---- a sound table has no fault
 
-each_of-true : (p : Direction → Bool) (ds : List Direction) → ((d : Direction) → p d ≡ true) → each_of p ds ≡ true
-unfolding each_of
-each_of-true p [] h = refl
-each_of-true p (d ∷ ds) h = let first = h d in let rest = each_of-true p ds h in rw (first, rest) refl
+list_all-true : (p : Direction → Bool) (ds : List Direction) → ((d : Direction) → p d ≡ true) → list_all p ds ≡ true
+list_all-true p [] h = refl
+list_all-true p (d ∷ ds) h = let first = h d in let rest = list_all-true p ds h in rw (first, rest) refl
 
 pub in_directions-none : (f : Direction → Option TableError) (ds : List Direction) → ((d : Direction) → f d ≡ None) → in_directions f ds ≡ None
 unfolding in_directions
@@ -275,7 +274,7 @@ same_or_or false k p q e = refl
 pub apart-of : (link : Links) (b : ℕ) (d : Direction) → IsApart link b d → is_apart link b d ≡ true
 apart-of link b d s =
     let away : not ((link b d).0 == b) ≡ true = not_eqb (link b d).0 b s.away in
-    let each : each_of (parts link b d) directions ≡ true = each_of-true (parts link b d) directions parts_of in
+    let each : list_all (parts link b d) directions ≡ true = list_all-true (parts link b d) directions parts_of in
     rw (away, each) refl
   where
     parts_of : (e : Direction) → parts link b d e ≡ true

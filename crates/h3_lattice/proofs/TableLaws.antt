@@ -2,6 +2,7 @@
 use Rattle.std.proofs.Common.{◌≡◌, ◌<◌, ◌+◌, ◌-◌, ◌%◌, ℕ, zero, suc, Bool, true, false, not, Option, Some, None, List, [], ◌∷◌, ◌++◌, length, refl, arith, sym, ◌∙◌, ap, subst, ◌||◌, slice_index, slice_index_or, inl, inr}
 use Rattle.std.specs.Prelude.{if◌then◌else◌, ⊤, is_some, unwrap_or}
 use Rattle.std.specs.Option.{option_or}
+use Rattle.std.specs.List.{list_all}
 use Rattle.h3_lattice.specs.declared.direction.Direction.{Direction}
 use Rattle.h3_lattice.specs.declared.error.TableError.{TableError}
 use Rattle.h3_lattice.specs.declared.error.TableError.TheVariants as fault
@@ -10,7 +11,7 @@ use Rattle.h3_lattice.specs.declared.checks.Check.TheVariants as check
 use Rattle.h3_lattice.specs.Direction.{digit_of, directions, opposite, turned, turned_once}
 use Rattle.h3_lattice.specs.Fields.{Record, header, numbers_in, records_of, same_fields}
 use Rattle.h3_lattice.specs.Links.{IsHexagonBase, Links, is_hexagon_base, links_in, place_of}
-use Rattle.h3_lattice.specs.Checks.{at_places, closes, each_of, fault_at, fault_of_links, from_base, in_directions, is_apart, parts, reverses, same_link, unless}
+use Rattle.h3_lattice.specs.Checks.{at_places, closes, fault_at, fault_of_links, from_base, in_directions, is_apart, parts, reverses, same_link, unless}
 use Rattle.h3_lattice.specs.Records.{body_of, fault_in, fault_of, fault_of_records, first_fault, in_range, spelled_link}
 use Rattle.h3_lattice.specs.Slots.{Holds, IsFaultOrMemory, StopsReading, missing_at}
 use Rattle.h3_lattice.specs.Table.{RefusesTable, SameLinks, links_of, missing_of, table_fault}
@@ -53,10 +54,9 @@ from_base-same f g b (suc n) h =
     (if_same (is_hexagon_base b) (in_directions (f b) directions) (in_directions (g b) directions) (λ k. in_directions-same (f b) (g b) directions (λ d. h b d (hexagon_of b k))))
     (from_base-same f g (b + 1) n h)
 
-each_of-same : (p q : Direction → Bool) (ds : List Direction) → ((d : Direction) → p d ≡ q d) → each_of p ds ≡ each_of q ds
-unfolding each_of
-each_of-same p q [] h = refl
-each_of-same p q (d ∷ ds) h = let first = h d in let rest = each_of-same p q ds h in rw (first, rest) refl
+list_all-same : (p q : Direction → Bool) (ds : List Direction) → ((d : Direction) → p d ≡ q d) → list_all p ds ≡ list_all q ds
+list_all-same p q [] h = refl
+list_all-same p q (d ∷ ds) h = let first = h d in let rest = list_all-same p q ds h in rw (first, rest) refl
 
 one_or : (h x y : Bool) → (h ≡ true → x ≡ y) → not h || x ≡ not h || y
 one_or true x y e = e refl
@@ -72,7 +72,7 @@ parts-same link other b d e s h = rw (s b d h, s b e h) refl
 
 is_apart-same : (link other : Links) (b : ℕ) (d : Direction) → SameLinks link other → IsHexagonBase b → is_apart link b d ≡ is_apart other b d
 is_apart-same link other b d s h =
-    let each = each_of-same (parts link b d) (parts other b d) directions (λ e. parts-same link other b d e s h) in
+    let each = list_all-same (parts link b d) (parts other b d) directions (λ e. parts-same link other b d e s h) in
     rw (each, s b d h) refl
 
 reverses-same : (link other : Links) (b : ℕ) (d : Direction) → SameLinks link other → IsHexagonBase b → reverses link b d ≡ reverses other b d

@@ -1,6 +1,7 @@
 -- The checks of a full table, and the first that fails.
 use Rattle.std.specs.Prelude.{ℕ, zero, suc, ◌+◌, ◌-◌, ◌%◌, Bool, true, not, ◌==◌, ◌&&◌, ◌||◌, if◌then◌else◌, List, [], ◌∷◌, Option, Some, None}
 use Rattle.std.specs.Option.{option_or}
+use Rattle.std.specs.List.{list_all}
 use Rattle.h3_lattice.specs.declared.direction.Direction.{Direction}
 use Rattle.h3_lattice.specs.declared.error.TableError.{TableError}
 use Rattle.h3_lattice.specs.declared.error.TableError.TheVariants as fault
@@ -14,17 +15,13 @@ use Rattle.h3_lattice.specs.Links.{Links, is_hexagon_base}
 abbrev pub same_link : ℕ × ℕ → ℕ × ℕ → Bool
 same_link p q = (p.0 == q.0) && (p.1 == q.1)
 
-unfoldable pub each_of : (Direction → Bool) → List Direction → Bool
-each_of test [] = true
-each_of test (d ∷ rest) = test d && each_of test rest
-
 -- two directions are one, or lead to different base cells
 abbrev pub parts : Links → ℕ → Direction → Direction → Bool
 parts link b d e = (digit_of e == digit_of d) || not ((link b e).0 == (link b d).0)
 
 -- the neighbour in this direction is not b, and in no other direction
 abbrev pub is_apart : Links → ℕ → Direction → Bool
-is_apart link b d = not ((link b d).0 == b) && each_of (parts link b d) directions
+is_apart link b d = not ((link b d).0 == b) && list_all (parts link b d) directions
 
 -- the link back leads to b and undoes the turns
 abbrev pub reverses : Links → ℕ → Direction → Bool

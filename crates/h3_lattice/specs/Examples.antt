@@ -14,7 +14,7 @@ use Rattle.h3_lattice.specs.Class.{class_at, multiplier}
 use Rattle.h3_lattice.specs.Expansion.{place, scaled, sum_from}
 use Rattle.h3_lattice.specs.Fields.{Record, all_numbers, header, number_from, number_in, same_fields}
 use Rattle.h3_lattice.specs.Links.{is_hexagon_base}
-use Rattle.h3_lattice.specs.Checks.{each_of, fault_of_links, from_base, in_directions}
+use Rattle.h3_lattice.specs.Checks.{fault_of_links, from_base, in_directions}
 use Rattle.h3_lattice.specs.Records.{fault_of_records, first_fault, spelled_link}
 use Rattle.h3_lattice.specs.Vectors.{test_link}
 
@@ -155,13 +155,13 @@ twisted_links : test_link Twisted 30 I ∷ test_link Twisted 31 K ∷ [] ≡ (31
 twisted_links = refl
 
 plain_is_sound : fault_of_links (test_link Plain) ≡ None
-unfolding each_of from_base in_directions is_hexagon_base
+unfolding from_base in_directions is_hexagon_base
 plain_is_sound = refl
 
 twisted_is_sound : fault_of_links (test_link Twisted) ≡ None
-unfolding each_of from_base in_directions is_hexagon_base
+unfolding from_base in_directions is_hexagon_base
 twisted_is_sound = refl
 
 skew_is_not : fault_of_links (test_link Skew) ≡ Some (Corner 0 K)
-unfolding each_of from_base in_directions is_hexagon_base
+unfolding from_base in_directions is_hexagon_base
 skew_is_not = refl
