@@ -4,4 +4,5 @@ pub mod Faults
 pub mod Given
 pub mod Options
 pub mod PageWriter
+pub mod Program
 pub mod Spelling

@@ -27,7 +27,8 @@ fn given_words<R: Env + AllocGlobal>(rt: &R) -> Result<Vec<String>, Refusal> {
     words.collect(rt.alloc()).map_err(|_| Refusal::Memory)
 }
 
-/// Takes the words from the system, and runs their command over the streams.
+/// Takes the words from the system, and runs their command over the streams. No command reads a table
+/// yet, so there is an empty one.
 fn start<S: Env + AllocGlobal, R: Source, W: Sink, E: Sink>(
     rt: &S,
     input: &mut R,
@@ -35,7 +36,10 @@ fn start<S: Env + AllocGlobal, R: Source, W: Sink, E: Sink>(
     err: &mut E,
 ) -> u8 {
     match given_words(rt) {
-        Ok(words) => run_words(rt.alloc(), words, input, out, err),
+        Ok(words) => {
+            let mut table = Streamed::new(b"".as_slice());
+            run_words(rt.alloc(), words, input, &mut table, out, err)
+        }
         Err(refusal) => report(err, Err(refusal)),
     }
 }

@@ -18,7 +18,8 @@ fn status_of<W: Sink, E: Sink>(
         words.push(String::from_str(alloc, word)?)?;
     }
     let mut input = Streamed::new(list.as_bytes());
-    Ok(run_words(alloc, words, &mut input, out, err))
+    let mut table = Streamed::new(b"".as_slice());
+    Ok(run_words(alloc, words, &mut input, &mut table, out, err))
 }
 
 #[test]
