@@ -11,7 +11,8 @@ use Rattle.h3_command.specs.Answer.{printed, refused, written}
 use Rattle.h3_command.specs.Hierarchy.{unless}
 use Rattle.h3_command.specs.declared.refusal.Refusal.{Refusal}
 use Rattle.h3_command.specs.declared.refusal.Refusal.TheVariants.{Error, Write}
-use Rattle.h3_command.specs.Run.{AppendsOrHides, AppendsPart, IsLeft, Lists, SinkUse, Takes, Writes}
+use Rattle.h3_command.specs.Items.{Lists}
+use Rattle.h3_command.specs.Run.{AppendsOrHides, AppendsPart, IsLeft, SinkUse, Takes, Writes}
 
 hides : (old mid new : Option (List ℕ)) (bs : List ℕ) → Appends old mid bs → KeepsOrHides mid new → AppendsOrHides old new bs
 hides None mid new bs grown kept = tt

@@ -3,6 +3,7 @@ pub mod Bases
 pub mod Examples
 pub mod Hierarchy
 pub mod Inspection
+pub mod Items
 pub mod List
 pub mod Reading
 pub mod Refusal

@@ -1,9 +1,7 @@
 -- What a run does with its streams.
 use Rattle.std.specs.Prelude.{◌≡◌, ℕ, ◌≤◌, ◌^◌, ◌⊎◌, Bool, true, false, List, ◌++◌, length, ⊤, Option, None, Some, Result, Ok, Err, IsTrue}
 use Rattle.std.specs.Io.KnownBytes.{Appends, Keeps}
-use Rattle.std.proofs.lemmas.Iterator.{YieldsList}
 use Rattle.h3_index.specs.Cell.{Address}
-use Rattle.h3_index.specs.declared.error.H3Error.{H3Error}
 use Rattle.h3_command.specs.declared.refusal.Refusal.{Refusal}
 use Rattle.h3_command.specs.declared.refusal.Refusal.TheVariants.{Error, Memory, Read, Write}
 use Rattle.h3_command.specs.Answer.{Answer, Request, about_list, answer_to, out_of_memory, reads_list, reads_table, takes_memory}
@@ -91,13 +89,6 @@ Writes a (Err (Error e)) out = (a.ending ≡ Err (Error e)) × Takes out a.outpu
 Writes a (Err Memory) out = ⊥
 Writes a (Err Read) out = ⊥
 Writes a (Err Write) out = TakesPart out a.output
-
--- the result has an iterator, of these steps, that yields the items of this list, or both have the same error
-abbrev pub Lists : {S A : Type 0} → (S → Option A → S → Type 0) → Result S H3Error → Result (List A) H3Error → Type 0
-Lists steps (Ok items) (Ok all) = YieldsList steps (λ x. x) items all
-Lists steps (Err e) (Err d) = e ≡ d
-Lists steps (Ok items) (Err d) = ⊥
-Lists steps (Err e) (Ok all) = ⊥
 
 -- The answer to these bytes of a source is written, and no read fails. Or there is no memory, or a read fails, and
 -- then nothing is written.

@@ -1,4 +1,5 @@
-//! The iterators over the cells of resolution 0 and over the pentagons of a resolution, by base cell.
+//! The iterators over the cells of resolution 0 and over the pentagons of a resolution, by base
+//! cell.
 
 ghost use Rattle.std.specs.Prelude.{◌≡◌, ◌≤◌};
 ghost use Rattle.std.specs.Iterator.{YieldsFirst, item_count};
@@ -45,7 +46,8 @@ impl Iterator for BaseCells {
     }
 }
 
-/// The pentagons of a resolution, in ascending order. It holds the first base cell that the next may be in.
+/// The pentagons of a resolution, in ascending order. It holds the first base cell that the next
+/// may be in.
 #[derive(Clone, Copy, Debug)]
 pub struct Pentagons {
     next: u8,

@@ -22,10 +22,13 @@ impl<'a, R: Source> CountedReader<'a, R> {
     /// `Refusal::Read` where the read fails, or where no read is left: then none is made.
     pub fn read(&mut self, page: &mut [u8]) -> Result<usize, Refusal>
         ensures bound { IfOk result (λ n. n ≤ length page.new) }
-        ensures bytes { IfOk result (λ n. Pulls (R.left self.old.source.now) (R.left self.new.source.now) page.new n) }
+        ensures bytes { IfOk result (λ n.
+            Pulls (R.left self.old.source.now) (R.left self.new.source.now) page.new n) }
         ensures counted { OnOk result (self.new.reads_left + 1 ≡ self.old.reads_left) }
-        ensures ok { OnOk result (R.has_failed self.new.source.now ≡ R.has_failed self.old.source.now) }
-        ensures err { OnErr result ((self.old.reads_left ≡ 0) ⊎ (R.has_failed self.new.source.now ≡ true)) }
+        ensures ok { OnOk result
+            (R.has_failed self.new.source.now ≡ R.has_failed self.old.source.now) }
+        ensures err { OnErr result
+            ((self.old.reads_left ≡ 0) ⊎ (R.has_failed self.new.source.now ≡ true)) }
         ensures read { IfErr result (λ e. e ≡ Refusal.Read) }
         ensures same { self.new.source.ghost_name ≡ self.old.source.ghost_name }
     {

@@ -1,4 +1,4 @@
-//! Sources and sinks for tests, which fail where they are told to.
+//! Sources and sinks for tests, which fail at a given call.
 
 ghost use Rattle.std.specs.Prelude.{◌≡◌, ◌<◌, true, false, [], Some, OnOk, OnErr};
 
@@ -30,6 +30,16 @@ impl<'a> SlowSource<'a> {
             failed: false,
         }
     }
+
+    /// The number of pulls that are left before the one that fails.
+    pub fn calls_left(&self) -> u64 {
+        self.calls
+    }
+
+    /// Whether a pull failed.
+    pub fn failed(&self) -> bool {
+        self.failed
+    }
 }
 
 impl Source for SlowSource<'_> {
@@ -51,16 +61,19 @@ impl Source for SlowSource<'_> {
     }
 }
 
-/// A sink of fixed room: at most a few bytes a push, and a fault at one of its calls, or where it is full.
+/// A sink of fixed room: at most a few bytes a push, and a fault at one of its calls, or where it
+/// is full.
 #[derive(Drop)]
 pub struct SlowSink<const N: usize> {
     bytes: ArrayVec<u8, N>,
     most: usize,
     calls: u64,
+    passes: bool,
     failed: bool,
 }
 
 impl<const N: usize> SlowSink<N> {
+    /// A sink that takes at most `most` bytes a push. It fails at each call after `calls` calls.
     pub fn new(most: usize, calls: u64) -> Self
         ensures bytes { result.bytes.items ≡ [] }
         ensures most { result.most ≡ most }
@@ -71,10 +84,23 @@ impl<const N: usize> SlowSink<N> {
             bytes: ArrayVec::new(),
             most,
             calls,
+            passes: false,
             failed: false,
         }
     }
 
+    /// The same, but it fails at one call alone.
+    pub fn failing_once(most: usize, calls: u64) -> Self {
+        SlowSink {
+            bytes: ArrayVec::new(),
+            most,
+            calls,
+            passes: true,
+            failed: false,
+        }
+    }
+
+    /// The bytes that it took.
     pub fn bytes(&self) -> &[u8]
         ensures { result.now ≡ self.now.bytes.items }
     {
@@ -89,6 +115,9 @@ impl<const N: usize> SlowSink<N> {
     {
         if self.calls == 0 {
             self.failed = true;
+            if self.passes {
+                self.calls = u64::MAX;
+            }
             return Err(StreamFault);
         }
         self.calls -= 1;

@@ -1,13 +1,13 @@
 //! H3's hierarchy functions, for the index of a word: `None` where the word has none.
 //!
-//! Each returns `Failed` where there is no index, then `CellInvalid` where no cell has the index, and then the error of
-//! the function for that cell.
+//! Each returns `Failed` where there is no index, then `CellInvalid` where no cell has the index,
+//! and then the error of the function for that cell.
 
 ghost use Rattle.std.specs.Prelude.{◌≡◌};
 ghost use Rattle.std.specs.Iterator.{YieldsFirst};
 ghost use Rattle.h3_tree.specs.Children.{children_left};
 ghost use Rattle.h3_command.specs.Hierarchy.{cell_to_center_child, cell_to_child_pos, cell_to_children, cell_to_children_size, cell_to_parent, child_pos_to_cell};
-ghost use Rattle.h3_command.specs.Run.{Lists};
+ghost use Rattle.h3_command.specs.Items.{Lists};
 
 use crate::inspection::cell_from;
 use h3_index::{Cell, H3Error};
@@ -21,7 +21,8 @@ pub fn cell_to_parent(index: Option<u64>, res: i32) -> Result<Cell, H3Error>
     parent(cell, res)
 }
 
-/// The descendant of a cell at a resolution whose further digits are 0, as H3's `cellToCenterChild` returns it.
+/// The descendant of a cell at a resolution whose further digits are 0, as H3's `cellToCenterChild`
+/// returns it.
 pub fn cell_to_center_child(index: Option<u64>, res: i32) -> Result<Cell, H3Error>
     ensures { result ≡ cell_to_center_child index res }
 {
@@ -29,7 +30,8 @@ pub fn cell_to_center_child(index: Option<u64>, res: i32) -> Result<Cell, H3Erro
     center_child(cell, res)
 }
 
-/// The descendants of a cell at a resolution, in ascending order, as H3's `cellToChildren` lists them.
+/// The descendants of a cell at a resolution, in ascending order, as H3's `cellToChildren` lists
+/// them.
 pub fn cell_to_children(index: Option<u64>, res: i32) -> Result<Children, H3Error>
     ensures { Lists (YieldsFirst children_left) result (cell_to_children index res) }
 {
@@ -37,7 +39,8 @@ pub fn cell_to_children(index: Option<u64>, res: i32) -> Result<Children, H3Erro
     children(cell, res)
 }
 
-/// The number of descendants that a cell has at a resolution, as H3's `cellToChildrenSize` returns it.
+/// The number of descendants that a cell has at a resolution, as H3's `cellToChildrenSize` returns
+/// it.
 pub fn cell_to_children_size(index: Option<u64>, res: i32) -> Result<u64, H3Error>
     ensures { result ≡ cell_to_children_size index res }
 {
@@ -45,7 +48,8 @@ pub fn cell_to_children_size(index: Option<u64>, res: i32) -> Result<u64, H3Erro
     children_size(cell, res)
 }
 
-/// The position of a cell among the descendants of its ancestor at a resolution, as H3's `cellToChildPos` returns it.
+/// The position of a cell among the descendants of its ancestor at a resolution, as H3's
+/// `cellToChildPos` returns it.
 pub fn cell_to_child_pos(index: Option<u64>, res: i32) -> Result<u64, H3Error>
     ensures { result ≡ cell_to_child_pos index res }
 {
@@ -53,7 +57,8 @@ pub fn cell_to_child_pos(index: Option<u64>, res: i32) -> Result<u64, H3Error>
     child_pos(cell, res)
 }
 
-/// The descendant of a cell at a resolution that stands at a position, as H3's `childPosToCell` returns it.
+/// The descendant of a cell at a resolution that stands at a position, as H3's `childPosToCell`
+/// returns it.
 pub fn child_pos_to_cell(position: u64, index: Option<u64>, res: i32) -> Result<Cell, H3Error>
     ensures { result ≡ child_pos_to_cell position index res }
 {

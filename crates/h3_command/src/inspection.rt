@@ -1,6 +1,7 @@
 //! H3's index inspection functions, for the index of a word: `None` where the word has none.
 //!
-//! Each returns `Failed` where there is no index, and then `CellInvalid` where no cell has the index.
+//! Each returns `Failed` where there is no index, and then `CellInvalid` where no cell has the
+//! index.
 
 ghost use Rattle.std.specs.Prelude.{◌≡◌};
 ghost use Rattle.h3_command.specs.Inspection.{cell_of, get_base_cell_number, get_resolution, is_pentagon, is_res_class_iii, is_valid_cell};
@@ -14,7 +15,8 @@ pub fn cell_from(index: Option<u64>) -> Result<Cell, H3Error>
     Cell::new(index.ok_or(H3Error::Failed)?)
 }
 
-/// Whether an index is a valid cell, as H3's `isValidCell` returns it. `Failed` where there is no index; no other error.
+/// Whether an index is a valid cell, as H3's `isValidCell` returns it. `Failed` where there is no
+/// index; no other error.
 pub fn is_valid_cell(index: Option<u64>) -> Result<bool, H3Error>
     ensures { result ≡ is_valid_cell index }
 {

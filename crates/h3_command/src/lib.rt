@@ -1,5 +1,5 @@
-//! The commands of the program `h3`, and what each answers: lists of cells are read from a source, lines are written
-//! to a sink, and faults are told.
+//! The commands of the program `h3` and how they run: lists of cells are read from a source, and
+//! lines are written to a sink.
 #![tactic(auto)]
 
 mod bases;

@@ -23,7 +23,7 @@ const PAGE: usize = 65536;
 /// The reads that a list may take.
 const READS: u64 = 1 << 40;
 
-/// What a line says: a cell, or nothing, or why it is faulty.
+/// The cell of a line, nothing where it is blank, or the error of a faulty line.
 fn read_line(line: &[u8]) -> Result<Option<Cell>, H3Error>
     ensures { result ≡ said_by line.now }
 {
@@ -38,10 +38,11 @@ fn read_line(line: &[u8]) -> Result<Option<Cell>, H3Error>
     Ok(Some(cell))
 }
 
-/// Takes what a line says to the cells.
+/// Adds the cell of a line, if it has one, to the cells.
 fn take_line(cells: &mut Vec<Cell>, line: &[u8]) -> Result<(), Refusal>
     ensures ok { OnOk result ((later : Result (List Address) H3Error) →
-        cells_before cells.old.items (said_before (said_by line.now) later) ≡ cells_before cells.new.items later) }
+        cells_before cells.old.items (said_before (said_by line.now) later)
+        ≡ cells_before cells.new.items later) }
     ensures err { IfErr result (λ e. (later : Result (List Address) H3Error) →
         RefusesList ⊥ (cells_before cells.old.items (said_before (said_by line.now) later)) e) }
 {
@@ -54,7 +55,8 @@ fn take_line(cells: &mut Vec<Cell>, line: &[u8]) -> Result<(), Refusal>
 
 /// The bytes before the first line feed, and those after it.
 fn split_line(bytes: &[u8]) -> Option<(&[u8], &[u8])>
-    ensures ended { IfSome result (λ p. (is_unended p.0.now ≡ true) × (bytes.now ≡ p.0.now ++ 10 ∷ p.1.now)) }
+    ensures ended { IfSome result (λ p.
+        (is_unended p.0.now ≡ true) × (bytes.now ≡ p.0.now ++ 10 ∷ p.1.now)) }
     ensures unended { IfNone result (is_unended bytes.now ≡ true) }
 {
     let end = memchr(b'\n', bytes)?;
@@ -86,7 +88,8 @@ impl ListReader {
         ensures line { OnOk result (self.new.line.items ≡ self.old.line.items ++ bytes.now) }
         ensures cells { self.new.cells.items ≡ self.old.cells.items }
         ensures err { IfErr result (λ e. (rest : List ℕ) →
-            RefusesList ⊥ (listed_after self.old.cells.items self.old.line.items (bytes.now ++ rest)) e) }
+            RefusesList ⊥
+            (listed_after self.old.cells.items self.old.line.items (bytes.now ++ rest)) e) }
     {
         match self.line.try_extend_from_slice(bytes) {
             Ok(()) => Ok(()),
@@ -101,7 +104,8 @@ impl ListReader {
             listed_after self.old.cells.items self.old.line.items (bytes.now ++ 10 ∷ rest)
             ≡ listed_after self.new.cells.items self.new.line.items rest) }
         ensures err { IfErr result (λ e. (rest : List ℕ) →
-            RefusesList ⊥ (listed_after self.old.cells.items self.old.line.items (bytes.now ++ 10 ∷ rest)) e) }
+            RefusesList ⊥
+            (listed_after self.old.cells.items self.old.line.items (bytes.now ++ 10 ∷ rest)) e) }
     {
         if self.line.is_empty() {
             return take_line(&mut self.cells, bytes);
@@ -118,7 +122,8 @@ impl ListReader {
             listed_after self.old.cells.items self.old.line.items (page.now ++ rest)
             ≡ listed_after self.new.cells.items self.new.line.items rest) }
         ensures err { IfErr result (λ e. (rest : List ℕ) →
-            RefusesList ⊥ (listed_after self.old.cells.items self.old.line.items (page.now ++ rest)) e) }
+            RefusesList ⊥
+            (listed_after self.old.cells.items self.old.line.items (page.now ++ rest)) e) }
     {
         let mut bytes = page;
         while let Some((line, after)) = split_line(bytes) {
@@ -130,8 +135,10 @@ impl ListReader {
 
     /// Ends the last line.
     fn finish(self) -> Result<Vec<Cell>, Refusal>
-        ensures ok { IfOk result (λ cells. listed_after self.cells.items self.line.items [] ≡ Ok cells.items) }
-        ensures err { IfErr result (λ e. RefusesList ⊥ (listed_after self.cells.items self.line.items []) e) }
+        ensures ok { IfOk result (λ cells.
+            listed_after self.cells.items self.line.items [] ≡ Ok cells.items) }
+        ensures err { IfErr result (λ e.
+            RefusesList ⊥ (listed_after self.cells.items self.line.items []) e) }
     {
         let ListReader { mut cells, line } = self;
         take_line(&mut cells, line.as_slice())?;
@@ -151,7 +158,8 @@ fn read_pages<'a, R: Source>(
         (listed_after list.old.cells.items list.old.line.items bytes
         ≡ listed_after list.new.cells.items list.new.line.items [])) }
     ensures err { IfErr result (λ e. (bytes : List ℕ) × Holds (R.left reader.old.source.now) bytes ×
-        RefusesList ((R.has_failed reader.new.source.now ≡ true) ⊎ (reader.old.reads_left ≤ length bytes))
+        RefusesList
+        ((R.has_failed reader.new.source.now ≡ true) ⊎ (reader.old.reads_left ≤ length bytes))
         (listed_after list.old.cells.items list.old.line.items bytes) e) }
     ensures sound { ¬ (IsErrOf result Refusal.Read) →
         R.has_failed reader.new.source.now ≡ R.has_failed reader.old.source.now }
@@ -178,8 +186,10 @@ fn read_list<R: Source>(
         (length list + length page.old ≤ limit * length page.old) ×
         (listed_cells list ≡ Ok cells.items)) }
     ensures refused { IfErr result (λ e. (list : List ℕ) × Holds (R.left input.old) list ×
-        RefusesList ((R.has_failed input.new ≡ true) ⊎ (limit ≤ length list)) (listed_cells list) e) }
-    ensures sound { ¬ (IsErrOf result Refusal.Read) → R.has_failed input.new ≡ R.has_failed input.old }
+        RefusesList ((R.has_failed input.new ≡ true) ⊎ (limit ≤ length list))
+        (listed_cells list) e) }
+    ensures sound { ¬ (IsErrOf result Refusal.Read)
+        → R.has_failed input.new ≡ R.has_failed input.old }
 {
     let mut list = ListReader::new(alloc);
     let mut reader = CountedReader {
@@ -195,16 +205,19 @@ fn read_list<R: Source>(
 
 /// Reads a list of cells, one a line, to its end or its first faulty line.
 ///
-/// A line of more than 64 bytes is faulty. Any other line of spaces, tabs and carriage returns alone is skipped, and each
-/// of the others must parse as the index of a valid cell. The last line may end with a line feed or not. Nothing is read
-/// once a faulty line is known, and of a line that a read fault cuts nothing is known but that it is too long.
+/// A line of more than 64 bytes is faulty. Any other line of spaces, tabs and carriage returns
+/// alone is skipped, and each of the others must parse as the index of a valid cell. The last line
+/// may end with a line feed or not. Nothing is read once a faulty line is known, and of a line that
+/// a read fault cuts nothing is known but that it is too long.
 pub fn read_cells<R: Source>(alloc: Global, input: &mut R) -> Result<Vec<Cell>, Refusal>
     // 2^40 reads of a page, of which the last finds the end
     ensures cells { IfOk result (λ cells. (list : List ℕ) × Holds (R.left input.old) list ×
         (length list + 65536 ≤ 2 ^ 40 * 65536) × (listed_cells list ≡ Ok cells.items)) }
     ensures refused { IfErr result (λ e. (list : List ℕ) × Holds (R.left input.old) list ×
-        RefusesList ((R.has_failed input.new ≡ true) ⊎ (2 ^ 40 ≤ length list)) (listed_cells list) e) }
-    ensures sound { ¬ (IsErrOf result Refusal.Read) → R.has_failed input.new ≡ R.has_failed input.old }
+        RefusesList ((R.has_failed input.new ≡ true) ⊎ (2 ^ 40 ≤ length list))
+        (listed_cells list) e) }
+    ensures sound { ¬ (IsErrOf result Refusal.Read)
+        → R.has_failed input.new ≡ R.has_failed input.old }
 {
     let mut page = vec![in alloc; 0u8; PAGE].map_err(|_| Refusal::Memory)?;
     read_list(alloc, input, READS, &mut page)

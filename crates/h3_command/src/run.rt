@@ -61,8 +61,8 @@ fn perform<R: Source, T: Source, W: Sink>(
     }
 }
 
-/// Writes the error line of an ending, if it has one, and returns the exit status. A standard error that fails changes
-/// no status.
+/// Writes the error line of an ending, if it has one, and returns the exit status. A standard error
+/// that fails changes no status.
 pub fn report<E: Sink>(err: &mut E, ending: Result<(), Refusal>) -> u8
     ensures reported { Reports ending result (sink_use E.taken E.has_failed err.old err.new) }
     ensures err_kept { result ≡ 0 → err.new ≡ err.old }
@@ -77,11 +77,12 @@ pub fn report<E: Sink>(err: &mut E, ending: Result<(), Refusal>) -> u8
     }
 }
 
-/// Runs a command: writes its answer to `out`, or an error line to `err`, and returns the exit status: 0 where the
-/// answer is written, 1 for an H3 error, out of memory included, and 4 for a read or a write that failed.
+/// Runs a command: writes its answer to `out`, or an error line to `err`, and returns the exit
+/// status: 0 where the answer is written, 1 for an H3 error, out of memory included, and 4 for a
+/// read or a write that failed.
 ///
-/// A command on a list of cells reads it from `input`, and one on a table reads that from `table`. The others read
-/// neither and take no memory.
+/// A command on a list of cells reads it from `input`, and one on a table reads that from `table`.
+/// The others read neither and take no memory.
 pub fn run<R: Source, T: Source, W: Sink, E: Sink>(
     alloc: Global,
     command: &Command,

@@ -50,7 +50,8 @@ fn write_uncompacted<W: Sink>(cells: &[Cell], res: i32, out: &mut W) -> Result<(
     }
 }
 
-/// Writes the cells of a resolution below the cells listed on the input, as H3's `uncompactCells` computes them.
+/// Writes the cells of a resolution below the cells listed on the input, as H3's `uncompactCells`
+/// computes them.
 pub fn uncompact_cells<R: Source, W: Sink>(
     alloc: Global,
     res: i32,

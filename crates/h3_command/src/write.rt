@@ -15,7 +15,8 @@ use h3_index::{H3Error, Sink, StreamFault};
 
 /// Writes all of the bytes, in as many pushes as it takes.
 ///
-/// `StreamFault` where a push fails: then a beginning of the bytes has been written, and no push is made after it.
+/// `StreamFault` where a push fails: then a beginning of the bytes has been written, and no push is
+/// made after it.
 #[inline]
 pub fn write_all<W: Sink>(out: &mut W, bytes: &[u8]) -> Result<(), StreamFault>
     ensures written { OnOk result (Appends (W.taken out.old) (W.taken out.new) bytes.now) }
@@ -77,7 +78,7 @@ fn write_items<W: Sink, L: Line + Drop, I: Iterator<Item = L> + Drop>(
     Ok(())
 }
 
-/// Writes a line for each item, and flushes. Each line is written when its item is there; none is kept.
+/// Writes a line for each item, and flushes. No item and no line is kept.
 ///
 /// `Refusal::Write` where a push or the flush fails.
 pub fn write_lines<W: Sink, L: Line + Drop, I: Iterator<Item = L> + Drop>(

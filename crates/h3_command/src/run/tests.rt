@@ -460,6 +460,56 @@ fn a_list_is_flushed_once(rt: HostRuntime) {
 }
 
 #[test]
+fn nothing_is_written_after_a_fault_that_passes(rt: HostRuntime) {
+    let command = Command::CellToChildren {
+        cell: HEXAGON,
+        res: 6,
+    };
+    // seven lines and a flush
+    for calls in 0..8 {
+        let mut out: SlowSink<128> = SlowSink::failing_once(64, calls);
+        let mut err: SlowSink<64> = SlowSink::new(64, 100);
+        assert_eq!(&rt; run_alone(&rt, &command, &mut out, &mut err), 4);
+        assert_eq!(&rt; out.bytes().len() as u64, 16 * calls);
+        assert!(&rt; err.bytes() == b"fault: write\n".as_slice());
+    }
+    // one line a byte a push, and a flush
+    let lengths = [(0, 0), (1, 1), (4, 4), (5, 5)];
+    for (calls, length) in lengths {
+        let mut out: SlowSink<64> = SlowSink::failing_once(1, calls);
+        let mut err: SlowSink<64> = SlowSink::new(64, 100);
+        assert_eq!(&rt; run_alone(&rt, &IS_CELL, &mut out, &mut err), 4);
+        assert!(&rt; out.bytes() == &b"true\n"[..length]);
+    }
+}
+
+#[test]
+fn no_more_is_read_than_is_needed(rt: HostRuntime) {
+    // the list, the bytes of a pull at most, and the pulls
+    let reads = [
+        ("", 16, 1),
+        ("85283473fffffff\n", 16, 2),
+        ("85283473fffffff\n", 4, 5),
+        ("85283473fffffff", 4, 5),
+        ("xyz", 3, 2),
+        ("xyz\n85283473fffffff\n", 4, 1),
+        ("85283473fffffff\n81087ffffffffff\n85283473fffffff\n", 8, 4),
+    ];
+    for (list, most, pulls) in reads {
+        let mut input = SlowSource::new(list.as_bytes(), most, 100);
+        let mut table = SlowSource::new(b"", 1, 0);
+        let mut out: SlowSink<128> = SlowSink::new(64, 100);
+        let mut err: SlowSink<64> = SlowSink::new(64, 100);
+        let command = Command::UncompactCells { res: 6 };
+        let alloc = rt.alloc();
+        let status = run(alloc, &command, &mut input, &mut table, &mut out, &mut err);
+        assert!(&rt; status < 4, "{list}");
+        assert_eq!(&rt; input.calls_left(), 100 - pulls, "{list}");
+        assert!(&rt; !input.failed() && !table.failed(), "{list}");
+    }
+}
+
+#[test]
 fn a_standard_error_that_fails_changes_no_status(rt: HostRuntime) {
     let mut err: SlowSink<64> = SlowSink::new(64, 0);
     let mut out: SlowSink<64> = SlowSink::new(64, 100);

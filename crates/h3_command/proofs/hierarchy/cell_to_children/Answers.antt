@@ -8,7 +8,7 @@ use Rattle.h3_tree.specs.Children.{children_left}
 use Rattle.h3_tree.specs.Refusals.{descent_refusal}
 use Rattle.h3_command.specs.Hierarchy.{cell_to_children, unless}
 use Rattle.h3_command.specs.Inspection.{cell_of, for_cell}
-use Rattle.h3_command.specs.Run.{Lists}
+use Rattle.h3_command.specs.Items.{Lists}
 use Rattle.h3_command.proofs.Written.{lists_first}
 use Rattle.h3_command.proofs.hierarchy.cell_to_children.Goals as goal
 

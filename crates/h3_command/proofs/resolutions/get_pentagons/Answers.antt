@@ -14,7 +14,7 @@ use Rattle.h3_index.specs.declared.error.H3Error.{H3Error}
 use Rattle.h3_index.specs.declared.error.H3Error.TheVariants.{Domain, ResDomain}
 use Rattle.h3_command.specs.Bases.{pentagons_left}
 use Rattle.h3_command.specs.Resolutions.{get_pentagons}
-use Rattle.h3_command.specs.Run.{Lists}
+use Rattle.h3_command.specs.Items.{Lists}
 use Rattle.h3_command.proofs.resolutions.get_pentagons.Goals as goal
 
 -- the call gave the first pentagon of the resolution, or an error
