@@ -16,7 +16,7 @@ use Rattle.h3_set.proofs.RoundLaws.{one_of}
 use Rattle.h3_set.proofs.RunLaws.{run}
 use Rattle.h3_set.proofs.Seen.{InSeen, IsMerging, IsMergingInOrder, IsRoundLoop}
 use Rattle.h3_set.proofs.Seen.InSeen.{kept, made}
-use Rattle.h3_set.proofs.TreeLaws.{any_default, dec_number, step_down, IsChild}
+use Rattle.h3_set.proofs.TreeLaws.{any_default, dec_number, from_front, parent_of_child, step_down, IsChild}
 use Rattle.h3_set.proofs.TurnLaws.{turn_keep, turn_merge, turn_other, turn_skip}
 
 pairs_drop : (R : Address → Address → Type 0) (xs : List Address) (i : ℕ) → AllPairs R xs → AllPairs R (drop i xs)
@@ -32,15 +32,6 @@ here : (i : ℕ) (xs ys : List Address) (d : Address) → drop i xs ≡ drop i y
 here i xs ys d e =
     let none : i + 0 ≡ i = omega arith in
     sym (rw none at (get_or-drop i xs 0 d)) ∙ ap (λ l. get_or l 0 d) e ∙ rw none at (get_or-drop i ys 0 d)
-
-parent_of_child : (p y : Address) (q : ℕ) → length p.digits + 1 ≡ q → IsDescendant p q y → parent_of y ≡ p
-parent_of_child p y q e b =
-    let back : length y.digits - 1 ≡ length p.digits = omega (arith, b.resolution_is, e) in
-    ap (λ k. cut y k) back ∙ b.under
-
-from_front : (i : ℕ) (xs : List Address) (y : Address) → Contains (take i xs) y → Contains xs y
-from_front i xs y m =
-    subst (λ l. Contains l y) (take-append-drop i xs) (Contains-append_left (take i xs) (drop i xs) y m)
 
 -- a cell that is written after w others
 push_before : (now : List Address) (w : ℕ) (y : Address) → w < length now → (P : Address → Type 0) (d : Address) → ((a : ℕ) → a < w → P (get_or now a d)) → P y → (a : ℕ) → a < w + 1 → P (get_or (set now w y) a d)
