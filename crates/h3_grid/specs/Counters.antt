@@ -1,4 +1,4 @@
--- What the counters of the walks mean. Private contracts and proofs cite these definitions; public contracts do not.
+-- What the counters of the walks mean. Public contracts cite these definitions only by what a walk has left.
 use Rattle.std.specs.Prelude.{ℕ, ◌+◌, ◌-◌, List, ◌++◌, drop, replicate, slice_index_or}
 use Rattle.std.specs.List.{flat_map, range_with_len}
 use Rattle.h3_lattice.specs.declared.direction.Direction.{Direction}

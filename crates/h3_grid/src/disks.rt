@@ -75,8 +75,8 @@ fn disk_is_lawful(table: &BaseTable, cell: Cell, k: i32)
 impl<'a> Disk<'a> {
     ghost use Rattle.h3_grid.specs.Disk.{disk_left};
 
-    /// The disk of a radius around a cell, as H3's `gridDiskUnsafe` and `gridDiskDistancesUnsafe` walk it. Nothing of it
-    /// is walked yet.
+    /// The disk of a radius around a cell, as H3's `gridDiskUnsafe` and `gridDiskDistancesUnsafe` walk it; which
+    /// disks are refused is this library's own. Nothing of it is walked yet.
     ///
     /// `Domain` for a negative radius; then `Pentagon` for a pentagon, and for a radius of 1 or more in a pentagon base
     /// cell.

@@ -9,7 +9,7 @@ ghost use Rattle.h3_grid.specs.Refusals.{radius_refusal};
 use crate::laws::disks_are_spirals;
 use h3_index::H3Error;
 
-/// How many cells a disk of a radius has, as H3's `maxGridDiskSize` says: 3k(k + 1) + 1.
+/// The number of cells of a disk of radius k of which no step is refused: 3k(k + 1) + 1.
 ///
 /// `Domain` for a negative radius.
 pub fn disk_len(k: i32) -> Result<u64, H3Error>

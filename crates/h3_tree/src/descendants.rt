@@ -65,7 +65,7 @@ pub fn children_size(cell: Cell, res: i32) -> Result<u64, H3Error>
 }
 
 /// The descendants of a cell at a resolution from its own to 15, in ascending order and each once:
-/// at the cell's own resolution the cell alone. `children` takes any resolution.
+/// at the cell's own resolution the cell alone. `children` tests its resolution.
 pub fn children_at(cell: Cell, r: u8) -> Children
     requires not_coarser { length cell.digits ≤ r }
     requires at_most_fifteen { r ≤ 15 }
