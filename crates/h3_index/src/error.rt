@@ -44,7 +44,7 @@ pub enum H3Error {
     ResMismatch,
 
     /// Out of memory.
-    #[error("memory was refused")]
+    #[error("out of memory")]
     MemoryAlloc,
 }
 

@@ -1,3 +1,5 @@
+ghost use Rattle.std.specs.Prelude.{◌≤◌, IfOk};
+
 use crate::{
     Cell, H3Error, Sink, Source, StreamFault, Streamed, is_pentagon_base, num_cells, pentagon,
     read_index, res0_cell, write_index,
@@ -107,6 +109,32 @@ fn errors_have_their_numbers_and_names(rt: HostRuntime) {
 }
 
 #[test]
+fn errors_have_texts(rt: HostRuntime) -> Result<(), Fail> {
+    let table = [
+        (H3Error::Failed, "the operation failed"),
+        (H3Error::Domain, "an argument is outside its range"),
+        (H3Error::ResDomain, "a resolution is outside its range"),
+        (H3Error::CellInvalid, "the index is no valid cell"),
+        (
+            H3Error::DirEdgeInvalid,
+            "the index is no valid directed edge",
+        ),
+        (H3Error::Pentagon, "a pentagon was met"),
+        (H3Error::DuplicateInput, "a cell is listed twice"),
+        (H3Error::NotNeighbors, "the cells are no neighbours"),
+        (H3Error::ResMismatch, "the resolutions do not go together"),
+        (H3Error::MemoryAlloc, "out of memory"),
+    ];
+    for (error, text) in table {
+        let shown = format!(in rt.alloc(); "{error}")?;
+        assert_eq!(&rt; shown.as_str(), text);
+    }
+    let shown = format!(in rt.alloc(); "{}", StreamFault)?;
+    assert_eq!(&rt; shown.as_str(), "the stream failed");
+    Ok(())
+}
+
+#[test]
 fn a_streamed_reader_is_read(rt: HostRuntime) {
     let mut source = Streamed::new(b"abc".as_slice());
     let mut page = [0; 2];
@@ -139,14 +167,16 @@ struct Counting {
 }
 
 impl Counting {
-    /// Counts a call that was handed a buffer of this length.
-    fn call(&mut self, length: usize) -> io::Result<usize> {
+    /// Counts a call that was handed a buffer of this size.
+    fn call(&mut self, size: usize) -> io::Result<usize>
+        ensures { IfOk result (λ n. n ≤ size) }
+    {
         self.calls = self.calls.saturating_add(1);
-        self.handed = length;
+        self.handed = size;
         if self.fails {
             return Err(io::Error::from(io::ErrorKind::Other));
         }
-        Ok(length.min(self.at_most))
+        Ok(size.min(self.at_most))
     }
 }
 
