@@ -13,8 +13,7 @@ use h3_index::{Sink, Source};
 use std::alloc::Global;
 
 /// Runs the command that the words of a command line ask for, and returns the exit status. Help goes
-/// to `out`; the text of an invalid command line goes to `err`, with status 2. Neither reads `input`
-/// or `table`.
+/// to `out`; the text of an invalid command line goes to `err`, with status 2.
 pub fn run_words<R: Source, T: Source, W: Sink, E: Sink>(
     alloc: Global,
     words: Vec<String>,
