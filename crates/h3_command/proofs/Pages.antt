@@ -3,13 +3,12 @@ use Rattle.std.proofs.Common.{◌≡◌, ℕ, zero, suc, ◌+◌, ◌*◌, ◌<�
 use Rattle.std.specs.Io.KnownBytes.{Consumes, IsAtEnd}
 use Rattle.std.proofs.KnownBytes.{Consumes-nil, Consumes-trans}
 use Rattle.h3_index.specs.Cell.{Address}
-use Rattle.h3_index.specs.Stream.{Pulls}
+use Rattle.h3_index.specs.Stream.{HasLeft, Pulls}
 use Rattle.h3_index.specs.declared.error.H3Error.{H3Error}
 use Rattle.h3_command.specs.declared.refusal.Refusal.{Refusal}
 use Rattle.h3_command.specs.declared.refusal.Refusal.TheVariants.{Error, Memory, Read, Write}
 use Rattle.h3_command.specs.List.{listed_cells}
 use Rattle.h3_command.specs.Reading.{RefusesList, listed_after}
-use Rattle.h3_command.specs.Run.{Holds}
 use Rattle.h3_command.proofs.ListLines.{listed_from_start}
 
 -- The source told the bytes old and tells now. What was read of them turned the first cells and line into these, in no
@@ -50,18 +49,18 @@ reads_more {old} {now} {limit} {reads} {size} {first-cells = fc} {first-line = f
 -- ---- the bytes of the source
 
 -- those that were read, and those that it still tells
-pub all_bytes : (old now : Option (List ℕ)) (bytes : List ℕ) → Consumes old now bytes → (rest : List ℕ) × Holds old (bytes ++ rest)
+pub all_bytes : (old now : Option (List ℕ)) (bytes : List ℕ) → Consumes old now bytes → (rest : List ℕ) × HasLeft old (bytes ++ rest)
 all_bytes None now bytes told = ([], tt)
 all_bytes (Some xs) None bytes told = absurd told
 all_bytes (Some xs) (Some ys) bytes told = (ys, told)
 
 -- some bytes are held
-pub some_held : (told : Option (List ℕ)) → (bytes : List ℕ) × Holds told bytes
+pub some_held : (told : Option (List ℕ)) → (bytes : List ℕ) × HasLeft told bytes
 some_held None = ([], tt)
 some_held (Some xs) = (xs, refl)
 
 -- at the end of the source, those that were read
-at_end : (old now : Option (List ℕ)) (bytes : List ℕ) → Consumes old now bytes → IsAtEnd now → Holds old bytes
+at_end : (old now : Option (List ℕ)) (bytes : List ℕ) → Consumes old now bytes → IsAtEnd now → HasLeft old bytes
 at_end None now bytes told end = tt
 at_end (Some xs) None bytes told end = absurd told
 at_end (Some xs) (Some ys) bytes told end = told ∙ ap (λ l. bytes ++ l) end ∙ append-nil bytes
@@ -71,7 +70,7 @@ at_end (Some xs) (Some ys) bytes told end = told ∙ ap (λ l. bytes ++ l) end �
 -- the bytes are held, and the list in them is what the cells and the line so far give
 pub reads_all : {old now : Option (List ℕ)} {limit reads size : ℕ} {first-cells : List Address} {first-line : List ℕ} {cells : List Address} {line : List ℕ}
     → Reads old now limit reads size first-cells first-line cells line → IsAtEnd now → 0 < reads
-    → (bytes : List ℕ) × Holds old bytes × (length bytes + size ≤ limit * size) × (listed_after first-cells first-line bytes ≡ listed_after cells line [])
+    → (bytes : List ℕ) × HasLeft old bytes × (length bytes + size ≤ limit * size) × (listed_after first-cells first-line bytes ≡ listed_after cells line [])
 reads_all {old} {now} {limit} {reads} {size} {first-cells = fc} {first-line = fl} {cells} {line} r end some =
     let short : length r.bytes + reads * size ≤ limit * size = r.short in
     let one : size ≤ reads * size = one_at_least reads size some in
@@ -92,7 +91,7 @@ fits_any reads list Write h = absurd h
 pub reads_refused : {old now : Option (List ℕ)} {limit reads size : ℕ} {first-cells : List Address} {first-line : List ℕ} {cells : List Address} {line : List ℕ}
     → Reads old now limit reads size first-cells first-line cells line → (now' : Option (List ℕ)) (page : List ℕ) (n : ℕ) → Pulls now now' page n → (failed : Type 0) (e : Refusal)
     → ((rest : List ℕ) → RefusesList ⊥ (listed_after cells line (take n page ++ rest)) e)
-    → (bytes : List ℕ) × Holds old bytes × RefusesList (failed ⊎ (limit ≤ length bytes)) (listed_after first-cells first-line bytes) e
+    → (bytes : List ℕ) × HasLeft old bytes × RefusesList (failed ⊎ (limit ≤ length bytes)) (listed_after first-cells first-line bytes) e
 reads_refused {old} {now} {limit} {reads} {size} {first-cells = fc} {first-line = fl} {cells} {line} r now' page n p failed e refused =
     let front = take n page in
     let (rest, held) = all_bytes old now' (r.bytes ++ front) (Consumes-trans old now now' r.bytes front r.told p.taken) in
@@ -103,7 +102,7 @@ reads_refused {old} {now} {limit} {reads} {size} {first-cells = fc} {first-line 
 -- a read fails, or none is left
 pub reads_stopped : {old now : Option (List ℕ)} {limit reads size : ℕ} {first-cells : List Address} {first-line : List ℕ} {cells : List Address} {line : List ℕ}
     → Reads old now limit reads size first-cells first-line cells line → (failed : Type 0) → (reads ≡ 0) ⊎ failed
-    → (bytes : List ℕ) × Holds old bytes × (failed ⊎ (limit ≤ length bytes))
+    → (bytes : List ℕ) × HasLeft old bytes × (failed ⊎ (limit ≤ length bytes))
 reads_stopped {old} {now} {limit} {reads} r failed why =
     let (rest, held) = all_bytes old now r.bytes r.told in
     let counted : limit ≤ reads + length r.bytes = r.counted in

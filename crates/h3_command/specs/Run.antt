@@ -2,6 +2,7 @@
 use Rattle.std.specs.Prelude.{◌≡◌, ℕ, ◌≤◌, ◌^◌, ◌⊎◌, Bool, true, false, List, ◌++◌, length, ⊤, Option, None, Some, Result, Ok, Err, IsTrue}
 use Rattle.std.specs.Io.KnownBytes.{Appends, Keeps}
 use Rattle.h3_index.specs.Cell.{Address}
+use Rattle.h3_index.specs.Stream.{HasLeft}
 use Rattle.h3_command.specs.declared.refusal.Refusal.{Refusal}
 use Rattle.h3_command.specs.declared.refusal.Refusal.TheVariants.{Error, Memory, Read, Write}
 use Rattle.h3_command.specs.Answer.{Answer, Request, about_list, answer_to, out_of_memory, reads_list, reads_table, takes_memory}
@@ -37,11 +38,6 @@ pub record Streams : Type 0 where
   pub table : SourceUse
   pub out : SinkUse
   pub err : SinkUse
-
--- the source has these bytes left: those that it tells, where it does
-abbrev pub Holds : Option (List ℕ) → List ℕ → Type 0
-Holds None bytes = ⊤
-Holds (Some told) bytes = told ≡ bytes
 
 -- no call of the source failed
 abbrev pub IsSound : SourceUse → Type 0
@@ -100,12 +96,12 @@ WritesReading a bytes source ending out = IsSound source × Writes a ending out
 -- there are bytes of the list, those that the source tells, and the answer about the cells in them is written
 abbrev pub WritesOfList : (List Address → Answer) → SourceUse → Result (Unit {0}) Refusal → SinkUse → Type 0
 WritesOfList about input ending out =
-    (list : List ℕ) × Holds input.left list × WritesReading (about_list about (listed_cells list)) list input ending out
+    (list : List ℕ) × HasLeft input.left list × WritesReading (about_list about (listed_cells list)) list input ending out
 
 -- the same of the bytes of a table
 abbrev pub WritesOfTable : (List ℕ → Answer) → SourceUse → Result (Unit {0}) Refusal → SinkUse → Type 0
 WritesOfTable about table ending out =
-    (rows : List ℕ) × Holds table.left rows × WritesReading (about rows) rows table ending out
+    (rows : List ℕ) × HasLeft table.left rows × WritesReading (about rows) rows table ending out
 
 -- how a run ends, by what it asks for
 abbrev pub Ends : Request → SourceUse → SourceUse → Result (Unit {0}) Refusal → SinkUse → Type 0
@@ -137,8 +133,8 @@ pub record Gives (a : Answer) (status : ℕ) (s : Streams) : Type 0 where
 pub record Answers (r : Request) (status : ℕ) (s : Streams) : Type 0 where
   pub list : List ℕ
   pub rows : List ℕ
-  pub list_told : Holds s.input.left list
-  pub rows_told : Holds s.table.left rows
+  pub list_told : HasLeft s.input.left list
+  pub rows_told : HasLeft s.table.left rows
   pub given : NothingFails r list rows s
       → Gives (answer_to r list rows) status s ⊎ (IsTrue (takes_memory r) × Gives out_of_memory status s)
 

@@ -2,10 +2,10 @@
 
 ghost use Rattle.std.specs.Prelude.{◌≡◌, ◌≤◌, ◌<◌, ◌+◌, ◌*◌, ◌^◌, ◌⊎◌, ℕ, true, List, [], ◌∷◌, ◌++◌, length, Some, Result, Ok, IfOk, IfErr, IfSome, IfNone, OnOk, OnErr, IsErrOf};
 ghost use Rattle.h3_index.specs.Cell.{Address};
+ghost use Rattle.h3_index.specs.Stream.{HasLeft};
 ghost use Rattle.h3_index.specs.declared.error.H3Error.{H3Error};
 ghost use Rattle.h3_command.specs.List.{listed_cells, said_before, said_by};
 ghost use Rattle.h3_command.specs.Reading.{RefusesList, cells_before, is_unended, listed_after};
-ghost use Rattle.h3_command.specs.Run.{Holds};
 
 use crate::counted::CountedReader;
 use crate::refusal::Refusal;
@@ -153,11 +153,11 @@ fn read_pages<'a, R: Source>(
     page: &mut [u8],
 ) -> Result<(), Refusal>
     requires room { 0 < length page.old }
-    ensures ok { OnOk result ((bytes : List ℕ) × Holds (R.left reader.old.source.now) bytes ×
+    ensures ok { OnOk result ((bytes : List ℕ) × HasLeft (R.left reader.old.source.now) bytes ×
         (length bytes + length page.old ≤ reader.old.reads_left * length page.old) ×
         (listed_after list.old.cells.items list.old.line.items bytes
         ≡ listed_after list.new.cells.items list.new.line.items [])) }
-    ensures err { IfErr result (λ e. (bytes : List ℕ) × Holds (R.left reader.old.source.now) bytes ×
+    ensures err { IfErr result (λ e. (bytes : List ℕ) × HasLeft (R.left reader.old.source.now) bytes ×
         RefusesList
         ((R.has_failed reader.new.source.now ≡ true) ⊎ (reader.old.reads_left ≤ length bytes))
         (listed_after list.old.cells.items list.old.line.items bytes) e) }
@@ -182,10 +182,10 @@ fn read_list<R: Source>(
     page: &mut [u8],
 ) -> Result<Vec<Cell>, Refusal>
     requires room { 0 < length page.old }
-    ensures cells { IfOk result (λ cells. (list : List ℕ) × Holds (R.left input.old) list ×
+    ensures cells { IfOk result (λ cells. (list : List ℕ) × HasLeft (R.left input.old) list ×
         (length list + length page.old ≤ limit * length page.old) ×
         (listed_cells list ≡ Ok cells.items)) }
-    ensures refused { IfErr result (λ e. (list : List ℕ) × Holds (R.left input.old) list ×
+    ensures refused { IfErr result (λ e. (list : List ℕ) × HasLeft (R.left input.old) list ×
         RefusesList ((R.has_failed input.new ≡ true) ⊎ (limit ≤ length list))
         (listed_cells list) e) }
     ensures sound { ¬ (IsErrOf result Refusal.Read)
@@ -211,9 +211,9 @@ fn read_list<R: Source>(
 /// a read fault cuts nothing is known but that it is too long.
 pub fn read_cells<R: Source>(alloc: Global, input: &mut R) -> Result<Vec<Cell>, Refusal>
     // 2^40 reads of a page, of which the last finds the end
-    ensures cells { IfOk result (λ cells. (list : List ℕ) × Holds (R.left input.old) list ×
+    ensures cells { IfOk result (λ cells. (list : List ℕ) × HasLeft (R.left input.old) list ×
         (length list + 65536 ≤ 2 ^ 40 * 65536) × (listed_cells list ≡ Ok cells.items)) }
-    ensures refused { IfErr result (λ e. (list : List ℕ) × Holds (R.left input.old) list ×
+    ensures refused { IfErr result (λ e. (list : List ℕ) × HasLeft (R.left input.old) list ×
         RefusesList ((R.has_failed input.new ≡ true) ⊎ (2 ^ 40 ≤ length list))
         (listed_cells list) e) }
     ensures sound { ¬ (IsErrOf result Refusal.Read)
