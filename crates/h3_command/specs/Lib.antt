@@ -10,3 +10,4 @@ pub mod Refusal
 pub mod Resolutions
 pub mod Run
 pub mod Sets
+pub mod Walks

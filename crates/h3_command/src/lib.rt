@@ -15,6 +15,7 @@ mod refusal;
 mod resolutions;
 pub mod run;
 mod sets;
+mod walks;
 mod write;
 
 pub use command::Command;
