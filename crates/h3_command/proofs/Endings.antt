@@ -6,7 +6,7 @@ use Rattle.h3_command.specs.Answer.Request.{of_list, of_table, plain}
 use Rattle.h3_command.specs.List.{listed_cells}
 use Rattle.h3_command.specs.Reading.{RefusesList}
 use Rattle.h3_command.specs.declared.refusal.Refusal.{Refusal}
-use Rattle.h3_command.specs.declared.refusal.Refusal.TheVariants.{Error, Memory, Read, Write}
+use Rattle.h3_command.specs.declared.refusal.Refusal.TheVariants.{Error, Memory, Read, Write, Table, TableOpen}
 use Rattle.h3_command.specs.Run.{Answers, Ends, Gives, IsLeft, IsSound, ReadFails, Reports, Runs, SinkUse, SourceUse, Streams, Writes, WritesReading}
 use Rattle.h3_command.proofs.Pages.{some_held}
 use Rattle.h3_command.proofs.Written.{nothing, writes_refused}
@@ -21,6 +21,8 @@ list_refused about list input (Error d) out is sound left =
 list_refused about list input Memory out is sound left = (sound (λ never. cc never), left)
 list_refused about list input Read out fails sound left = (fails, left)
 list_refused about list input Write out never sound left = absurd never
+list_refused about list input (Table d) out never sound left = absurd never
+list_refused about list input TableOpen out never sound left = absurd never
 
 -- the list is read, and the answer about its cells is written
 pub list_written : (about : List Address → Answer) (list : List ℕ) (cells : List Address) (input : SourceUse) (ending : Result (Unit {0}) Refusal) (out : SinkUse) → listed_cells list ≡ Ok cells
@@ -30,6 +32,8 @@ list_written about list cells input (Ok u) out is sound writes = (sound, subst (
 list_written about list cells input (Err (Error e)) out is sound writes = (sound, subst (λ read. Writes (about_list about read) (Err (Error e)) out) (sym is) writes)
 list_written about list cells input (Err Memory) out is sound never = absurd never
 list_written about list cells input (Err Read) out is sound never = absurd never
+list_written about list cells input (Err (Table e)) out is sound writes = (sound, subst (λ read. Writes (about_list about read) (Err (Table e)) out) (sym is) writes)
+list_written about list cells input (Err TableOpen) out is sound never = absurd never
 list_written about list cells input (Err Write) out is sound writes = (sound, subst (λ read. Writes (about_list about read) (Err Write) out) (sym is) writes)
 
 -- ---- a run
@@ -39,15 +43,19 @@ gives_written : (a : Answer) (ending : Result (Unit {0}) Refusal) (status : ℕ)
 unfolding Writes
 gives_written a (Ok u) status s writes w reports = record { output = writes.1; report = subst (λ e. Reports e status s.err) (sym writes.0) reports }
 gives_written a (Err (Error e)) status s writes w reports = record { output = writes.1; report = subst (λ e. Reports e status s.err) (sym writes.0) reports }
+gives_written a (Err (Table e)) status s writes w reports = record { output = writes.1; report = subst (λ e. Reports e status s.err) (sym writes.0) reports }
 gives_written a (Err Memory) status s never w reports = absurd never
 gives_written a (Err Read) status s never w reports = absurd never
-gives_written a (Err Write) status s writes w reports = let failed : s.out.has_failed ≡ true = writes.1 in cc
+gives_written a (Err TableOpen) status s never w reports = absurd never
+gives_written a (Err Write) status s writes w reports = let failed : s.out.has_failed ≡ true = writes.2 in cc
 
 -- the same of an answer to what was read
 gives_reading : (a : Answer) (bytes : List ℕ) (source : SourceUse) (ending : Result (Unit {0}) Refusal) (status : ℕ) (s : Streams) → WritesReading a bytes source ending s.out
     → (ReadFails source bytes → ⊥) → s.out.has_failed ≡ false → Reports ending status s.err → Gives a status s ⊎ Gives out_of_memory status s
 gives_reading a bytes source (Ok u) status s writes r w reports = inl (gives_written a (Ok u) status s writes.1 w reports)
 gives_reading a bytes source (Err (Error e)) status s writes r w reports = inl (gives_written a (Err (Error e)) status s writes.1 w reports)
+gives_reading a bytes source (Err (Table e)) status s writes r w reports = inl (gives_written a (Err (Table e)) status s writes.1 w reports)
+gives_reading a bytes source (Err TableOpen) status s writes r w reports = inl (gives_written a (Err TableOpen) status s writes.1 w reports)
 gives_reading a bytes source (Err Memory) status s writes r w reports =
     inr (record { output = (nothing _ _ writes.1.0, writes.1.1); report = reports })
 gives_reading a bytes source (Err Read) status s writes r w reports = absurd (r writes.0)

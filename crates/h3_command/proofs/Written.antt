@@ -1,5 +1,5 @@
 -- What is written in part, and what a flush leaves.
-use Rattle.std.proofs.Common.{◌≡◌, ℕ, List, [], Option, None, Some, true, Result, Ok, Err, sym, ap, ◌∙◌, subst, refl, append-nil}
+use Rattle.std.proofs.Common.{◌≡◌, ℕ, List, [], Option, None, Some, true, Result, Ok, Err, IsErr, sym, ap, ◌∙◌, subst, refl, append-nil}
 use Rattle.std.specs.Io.KnownBytes.{Appends, Keeps}
 use Rattle.std.specs.Prelude.{IfOk}
 use Rattle.std.specs.Iterator.{YieldsFirst}
@@ -12,16 +12,16 @@ use Rattle.h3_command.specs.Hierarchy.{unless}
 use Rattle.h3_command.specs.declared.refusal.Refusal.{Refusal}
 use Rattle.h3_command.specs.declared.refusal.Refusal.TheVariants.{Error, Write}
 use Rattle.h3_command.specs.Items.{Lists}
-use Rattle.h3_command.specs.Run.{AppendsOrHides, AppendsPart, IsLeft, SinkUse, Takes, Writes}
+use Rattle.h3_command.specs.Run.{AppendsOrHides, AppendsPart, IsLeft, IsRefusal, SinkUse, Takes, Writes}
 
-hides : (old mid new : Option (List ℕ)) (bs : List ℕ) → Appends old mid bs → KeepsOrHides mid new → AppendsOrHides old new bs
+pub hides : (old mid new : Option (List ℕ)) (bs : List ℕ) → Appends old mid bs → KeepsOrHides mid new → AppendsOrHides old new bs
 hides None mid new bs grown kept = tt
 hides (Some xs) None new bs grown kept = absurd grown
 hides (Some xs) (Some ys) None bs grown kept = tt
 hides (Some xs) (Some ys) (Some zs) bs grown kept = kept ∙ grown
 
 -- what is appended may be told no more
-appended_hides : (old new : Option (List ℕ)) (bs : List ℕ) → Appends old new bs → AppendsOrHides old new bs
+pub appended_hides : (old new : Option (List ℕ)) (bs : List ℕ) → Appends old new bs → AppendsOrHides old new bs
 appended_hides None new bs grown = tt
 appended_hides (Some xs) None bs grown = absurd grown
 appended_hides (Some xs) (Some ys) bs grown = grown
@@ -38,16 +38,20 @@ pub writes_whole : (bytes : List ℕ) (out : SinkUse) → Takes out bytes → Wr
 unfolding Writes
 writes_whole bytes out takes = (refl, takes)
 
+-- an answer that is written to its end has no error
+whole_is_no_refusal : (bytes : List ℕ) → IsRefusal (written bytes) → ⊥
+whole_is_no_refusal bytes r = let never : IsErr (written bytes).ending = r.1 in cc
+
 -- a push failed
 pub writes_part : (bytes : List ℕ) (out : SinkUse) → AppendsPart out.before out.after bytes → out.has_failed ≡ true → Writes (written bytes) (Err Write) out
 unfolding Writes
-writes_part bytes out p failed = (record { part = p.part; rest = p.rest; split = p.split; holds = appended_hides _ _ _ p.holds }, failed)
+writes_part bytes out p failed = (whole_is_no_refusal bytes, (record { part = p.part; rest = p.rest; split = p.split; holds = appended_hides _ _ _ p.holds }, failed))
 
 -- all was pushed, and the flush then failed
 pub writes_unflushed : (bytes : List ℕ) (mid : Option (List ℕ)) (out : SinkUse) → Appends out.before mid bytes → KeepsOrHides mid out.after → out.has_failed ≡ true → Writes (written bytes) (Err Write) out
 unfolding Writes
 writes_unflushed bytes mid out grown kept failed =
-    (record { part = bytes; rest = []; split = sym (append-nil bytes); holds = hides _ mid _ bytes grown kept }, failed)
+    (whole_is_no_refusal bytes, (record { part = bytes; rest = []; split = sym (append-nil bytes); holds = hides _ mid _ bytes grown kept }, failed))
 
 -- there is an error, and nothing is written
 pub writes_refused : (e : H3Error) (out : SinkUse) → IsLeft out → Writes (refused e) (Err (Error e)) out

@@ -1,5 +1,6 @@
 pub mod Answer
 pub mod Bases
+pub mod DiskCells
 pub mod Examples
 pub mod Hierarchy
 pub mod Inspection

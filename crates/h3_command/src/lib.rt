@@ -5,6 +5,7 @@
 mod bases;
 mod command;
 mod counted;
+mod disk_cells;
 #[cfg(test)]
 mod fakes;
 mod hierarchy;

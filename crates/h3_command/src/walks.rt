@@ -11,6 +11,7 @@ ghost use Rattle.h3_command.specs.Run.{Ends, SourceUse, Writes, sink_use, source
 ghost use Rattle.h3_command.specs.Walks.{grid_disk_distances_unsafe, grid_disk_unsafe, grid_ring_unsafe};
 ghost use Rattle.h3_command.specs.declared.command.Command.TheVariants.{GridDiskDistancesUnsafe, GridDiskUnsafe, GridRingUnsafe};
 
+use crate::disk_cells::DiskCells;
 use crate::inspection::cell_from;
 use crate::refusal::Refusal;
 use crate::write::write_walk;
@@ -30,7 +31,7 @@ fn write_disk<W: Sink>(
         (sink_use W.taken W.has_failed out.old out.new) }
 {
     match Disk::new(table, cell, k) {
-        Ok(walk) => write_walk(out, walk.map(|item| item.map(|(cell, _)| cell))),
+        Ok(disk) => write_walk(out, DiskCells { disk }),
         Err(error) => Err(Refusal::Error(error)),
     }
 }
