@@ -1,18 +1,19 @@
 -- The lines of a walk: those of the items so far, and of all that it gives.
-use Rattle.std.proofs.Common.{◌≡◌, ℕ, ◌+◌, ◌<◌, Bool, true, false, List, [], ◌∷◌, ◌++◌, length, drop, Option, None, Some, Result, Ok, Err, sym, ap, ◌∙◌, refl, subst, append_assoc, append-nil, length-append, arith}
+use Rattle.std.proofs.Common.{◌≡◌, ℕ, ℤ, ◌+◌, ◌<◌, Bool, true, false, List, [], ◌∷◌, ◌++◌, length, drop, Option, None, Some, Result, Ok, Err, sym, ap, ◌∙◌, refl, subst, append_assoc, append-nil, length-append, arith}
 use Rattle.std.proofs.KnownBytes.{Appends-nil, Appends-kept, Appends-trans}
-use Rattle.std.specs.Iterator.{Yields}
+use Rattle.std.specs.Iterator.{Yields, YieldsFirst}
 use Rattle.std.specs.Io.KnownBytes.{Appends, Keeps}
 use Rattle.std.proofs.lemmas.Iterator.{YieldsList}
-use Rattle.std.proofs.lemmas.Iterator.Consumers.{YieldsList-end}
+use Rattle.std.proofs.lemmas.Iterator.Consumers.{YieldsList-end, YieldsList-from_first}
 use Rattle.h3_index.specs.Stream.{KeepsOrHides}
 use Rattle.h3_index.specs.declared.error.H3Error.{H3Error}
-use Rattle.h3_command.specs.Answer.{Answer, before, refused, walked, written}
+use Rattle.h3_command.specs.Answer.{Answer, answered, before, refused, walked, written}
+use Rattle.h3_command.specs.Hierarchy.{unless}
 use Rattle.h3_command.specs.declared.refusal.Refusal.{Refusal}
 use Rattle.h3_command.specs.declared.refusal.Refusal.TheVariants.{Error, Write}
-use Rattle.h3_command.specs.Run.{AppendsPart, IsRefusal, SinkUse, Takes, Writes}
+use Rattle.h3_command.specs.Run.{AppendsPart, IsLeft, IsRefusal, SinkUse, Takes, Writes}
 use Rattle.h3_command.proofs.Lines.{map_same, split_at}
-use Rattle.h3_command.proofs.Written.{appended_hides, hides}
+use Rattle.h3_command.proofs.Written.{answered_unless, answered_value, appended_hides, hides}
 
 before_before : (xs ys : List ℕ) (a : Answer) → before xs (before ys a) ≡ before (xs ++ ys) a
 before_before xs ys a = ap (λ l. record { output = l; ending = a.ending }) (sym (append_assoc xs ys a.output))
@@ -95,3 +96,15 @@ module _ {S A : Type 0} {steps : S → Option (Result A H3Error) → S → Type 
       let e' : YieldsList steps (λ x. x) from all = subst (λ z. YieldsList steps (λ x. x) z all) (sym begins) e in
       let whole : xs ≡ all = sym (map_same xs) ∙ (YieldsList-end e' xs t ys None u refl st).0 in
       ap (walked line) (sym whole ∙ sym (append-nil xs)) ∙ so [] ∙ ap written (append-nil done)
+
+-- the walk begins, and what it has left is written
+pub walk_written : {S A : Type 0} (line : A → List ℕ) (rest : S → List (Result A H3Error)) (error : ℤ → Option H3Error) (items : ℤ → List (Result A H3Error)) {s : S} (k read : ℤ) (ending : Result (Unit {0}) Refusal) (out : SinkUse)
+    → read ≡ k → None ≡ error read → rest s ≡ items read → ((all : List (Result A H3Error)) → YieldsList (YieldsFirst rest) (λ x. x) s all → Writes (walked line all) ending out)
+    → Writes (answered (walked line) (unless (error k) (items k))) ending out
+walk_written line rest error items k read ending out same fits left writes =
+    answered_value (walked line) (error k) (items k) (items read) ending out (ap items same) (fits ∙ ap error same) (writes (items read) (YieldsList-from_first (λ x. x) rest (items read) left))
+
+-- the walk does not begin
+pub walk_unbegun : {A : Type 0} (line : A → List ℕ) (error : ℤ → Option H3Error) (items : List (Result A H3Error)) (k read : ℤ) (e : H3Error) (out : SinkUse)
+    → read ≡ k → Some e ≡ error read → IsLeft out → Writes (answered (walked line) (unless (error k) items)) (Err (Error e)) out
+walk_unbegun line error items k read e out same is left = answered_unless (walked line) (error k) items e out (is ∙ ap error same) left

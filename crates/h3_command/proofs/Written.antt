@@ -7,7 +7,7 @@ use Rattle.std.specs.Result.{result_err}
 use Rattle.std.proofs.lemmas.Iterator.Consumers.{YieldsList-from_first}
 use Rattle.h3_index.specs.Stream.{KeepsOrHides}
 use Rattle.h3_index.specs.declared.error.H3Error.{H3Error}
-use Rattle.h3_command.specs.Answer.{printed, refused, written}
+use Rattle.h3_command.specs.Answer.{Answer, answered, refused, written}
 use Rattle.h3_command.specs.Hierarchy.{unless}
 use Rattle.h3_command.specs.declared.refusal.Refusal.{Refusal}
 use Rattle.h3_command.specs.declared.refusal.Refusal.TheVariants.{Error, Write}
@@ -60,24 +60,24 @@ writes_refused e out left = (refl, (nothing _ _ left.0, left.1))
 
 -- ---- a result in place of a value, and of items
 
-pub printed_refused : {A : Type 0} (text : A → List ℕ) (value : Result A H3Error) (e : H3Error) (out : SinkUse) → value ≡ Err e → IsLeft out → Writes (printed text value) (Err (Error e)) out
-printed_refused text value e out is left = rw is (writes_refused e out left)
+pub answered_refused : {A : Type 0} (about : A → Answer) (value : Result A H3Error) (e : H3Error) (out : SinkUse) → value ≡ Err e → IsLeft out → Writes (answered about value) (Err (Error e)) out
+answered_refused about value e out is left = rw is (writes_refused e out left)
 
 -- the value is not there for an error
-pub printed_unless : {A : Type 0} (text : A → List ℕ) (error : Option H3Error) (value : A) (e : H3Error) (out : SinkUse) → Some e ≡ error → IsLeft out → Writes (printed text (unless error value)) (Err (Error e)) out
-printed_unless text error value e out is left = printed_refused text (unless error value) e out (ap (λ d. unless d value) (sym is)) left
+pub answered_unless : {A : Type 0} (about : A → Answer) (error : Option H3Error) (value : A) (e : H3Error) (out : SinkUse) → Some e ≡ error → IsLeft out → Writes (answered about (unless error value)) (Err (Error e)) out
+answered_unless about error value e out is left = answered_refused about (unless error value) e out (ap (λ d. unless d value) (sym is)) left
 
--- the items are there
-pub printed_items : {A : Type 0} (text : A → List ℕ) (error : Option H3Error) (value given : A) (ending : Result (Unit {0}) Refusal) (out : SinkUse) → given ≡ value → None ≡ error → Writes (written (text given)) ending out
-    → Writes (printed text (unless error value)) ending out
-printed_items text error value given ending out same fits writes =
-    subst (λ a. Writes a ending out) (ap (λ v. written (text v)) same ∙ ap (λ e. printed text (unless e value)) fits) writes
+-- the value is there
+pub answered_value : {A : Type 0} (about : A → Answer) (error : Option H3Error) (value given : A) (ending : Result (Unit {0}) Refusal) (out : SinkUse) → given ≡ value → None ≡ error → Writes (about given) ending out
+    → Writes (answered about (unless error value)) ending out
+answered_value about error value given ending out same fits writes =
+    subst (λ a. Writes a ending out) (ap about same ∙ ap (λ e. answered about (unless e value)) fits) writes
 
 -- an error stands in place of the items
-pub printed_error : {S A : Type 0} (text : List A → List ℕ) (steps : S → Option A → S → Type 0) (given all : Result (List A) H3Error) (e : H3Error) (out : SinkUse) → given ≡ all → Lists steps (Err e) given → IsLeft out
-    → Writes (printed text all) (Err (Error e)) out
-printed_error text steps (Ok xs) all e out same never left = absurd never
-printed_error text steps (Err d) all e out same is left = printed_refused text all e out (sym same ∙ ap Err (sym is)) left
+pub answered_error : {S A : Type 0} (about : List A → Answer) (steps : S → Option A → S → Type 0) (given all : Result (List A) H3Error) (e : H3Error) (out : SinkUse) → given ≡ all → Lists steps (Err e) given → IsLeft out
+    → Writes (answered about all) (Err (Error e)) out
+answered_error about steps (Ok xs) all e out same never left = absurd never
+answered_error about steps (Err d) all e out same is left = answered_refused about all e out (sym same ∙ ap Err (sym is)) left
 
 -- an iterator that yields what it has left, or an error
 pub lists_first : {S A : Type 0} (rest : S → List A) (items : Result S H3Error) (error : Option H3Error) (all : List A) → result_err items ≡ error → IfOk items (λ s. rest s ≡ all)

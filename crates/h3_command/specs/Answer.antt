@@ -13,7 +13,7 @@ use Rattle.h3_command.specs.Inspection.{cell_of, get_base_cell_number, get_resol
 use Rattle.h3_command.specs.List.{listed_cells}
 use Rattle.h3_command.specs.Resolutions.{get_num_cells, get_pentagons, get_res0_cells}
 use Rattle.h3_command.specs.Sets.{compact_cells, uncompact_cells}
-use Rattle.h3_command.specs.Walks.{Walk, grid_disk_distances_unsafe, grid_disk_unsafe, grid_ring_unsafe}
+use Rattle.h3_command.specs.Walks.{grid_disk_distances_unsafe, grid_disk_unsafe, grid_ring_unsafe}
 use Rattle.h3_command.specs.declared.command.Command.{Command}
 use Rattle.h3_command.specs.declared.command.Command.TheVariants.{IsValidCell, GetResolution, GetBaseCellNumber, IsPentagon, IsResClassIII, GetNumCells, GetRes0Cells, GetPentagons, CellToParent, CellToCenterChild, CellToChildren, CellToChildrenSize, CellToChildPos, ChildPosToCell, CompactCells, UncompactCells, GridDiskUnsafe, GridDiskDistancesUnsafe, GridRingUnsafe}
 use Rattle.h3_command.specs.declared.refusal.Refusal.{Refusal}
@@ -62,10 +62,14 @@ ring_line item = text_of (number_of item.0) ++ 32 ∷ decimal item.1 ++ 10 ∷ [
 abbrev pub cell_lines : List Address → List ℕ
 cell_lines cells = flat_map cell_line cells
 
+-- the answer about what a function returns, or its error
+abbrev pub answered : {A : Type 0} → (A → Answer) → Result A H3Error → Answer
+answered about (Ok value) = about value
+answered about (Err e) = refused e
+
 -- the text of what a function returns, or its error
 abbrev pub printed : {A : Type 0} → (A → List ℕ) → Result A H3Error → Answer
-printed text (Ok value) = written (text value)
-printed text (Err e) = refused e
+printed text value = answered (λ v. written (text v)) value
 
 -- bytes before an answer
 abbrev pub before : List ℕ → Answer → Answer
@@ -76,11 +80,6 @@ abbrev pub walked : {A : Type 0} → (A → List ℕ) → List (Result A H3Error
 walked line [] = written []
 walked line (Ok item ∷ items) = before (line item) (walked line items)
 walked line (Err e ∷ items) = refused e
-
--- the lines of a walk, or the error where it does not begin
-abbrev pub printed_walk : {A : Type 0} → (A → List ℕ) → Walk A → Answer
-printed_walk line (Ok items) = walked line items
-printed_walk line (Err e) = refused e
 
 -- ---- what a command asks for
 
@@ -113,9 +112,9 @@ request (CellToChildPos cell res) = plain (printed number_line (cell_to_child_po
 request (ChildPosToCell position cell res) = plain (printed cell_line (child_pos_to_cell position cell res))
 request CompactCells = of_list (λ cells. printed cell_lines (compact_cells cells))
 request (UncompactCells res) = of_list (λ cells. printed cell_lines (uncompact_cells res cells))
-request (GridDiskUnsafe cell k) = from_cell (λ c link. printed_walk cell_line (grid_disk_unsafe link c k)) (cell_of cell)
-request (GridDiskDistancesUnsafe cell k) = from_cell (λ c link. printed_walk ring_line (grid_disk_distances_unsafe link c k)) (cell_of cell)
-request (GridRingUnsafe cell k) = from_cell (λ c link. printed_walk cell_line (grid_ring_unsafe link c k)) (cell_of cell)
+request (GridDiskUnsafe cell k) = from_cell (λ c link. answered (walked cell_line) (grid_disk_unsafe link c k)) (cell_of cell)
+request (GridDiskDistancesUnsafe cell k) = from_cell (λ c link. answered (walked ring_line) (grid_disk_distances_unsafe link c k)) (cell_of cell)
+request (GridRingUnsafe cell k) = from_cell (λ c link. answered (walked cell_line) (grid_ring_unsafe link c k)) (cell_of cell)
 
 -- the list of cells is read from standard input
 abbrev pub reads_list : Request → Bool
@@ -137,11 +136,6 @@ takes_memory (of_table about) = true
 
 -- ---- the answer
 
--- the answer about a list of cells, or the error of its first faulty line
-abbrev pub about_list : (List Address → Answer) → Result (List Address) H3Error → Answer
-about_list about (Ok cells) = about cells
-about_list about (Err e) = refused e
-
 -- an answer, or in its place an error of the table
 abbrev pub unless_faulty : Option TableError → Answer → Answer
 unless_faulty None a = a
@@ -154,7 +148,7 @@ about_table about rows = unless_faulty (table_fault (records_of rows)) (about (l
 -- the answer to a request, for the bytes of the list and of the table
 abbrev pub answer_to : Request → List ℕ → List ℕ → Answer
 answer_to (plain a) list rows = a
-answer_to (of_list about) list rows = about_list about (listed_cells list)
+answer_to (of_list about) list rows = answered about (listed_cells list)
 answer_to (of_table about) list rows = about_table about rows
 
 -- the answer to a command

@@ -6,7 +6,7 @@ use Rattle.h3_index.specs.Stream.{HasLeft}
 use Rattle.h3_lattice.specs.Links.{Links}
 use Rattle.h3_command.specs.declared.refusal.Refusal.{Refusal}
 use Rattle.h3_command.specs.declared.refusal.Refusal.TheVariants.{Error, Memory, Read, Write, Table, TableOpen}
-use Rattle.h3_command.specs.Answer.{Answer, Request, about_list, about_table, answer_to, out_of_memory, reads_list, reads_table, takes_memory}
+use Rattle.h3_command.specs.Answer.{Answer, Request, about_table, answer_to, answered, out_of_memory, reads_list, reads_table, takes_memory}
 use Rattle.h3_command.specs.Answer.Request.{plain, of_list, of_table}
 use Rattle.h3_command.specs.List.{listed_cells}
 use Rattle.h3_command.specs.Refusal.{ending_line, ending_status}
@@ -103,7 +103,7 @@ WritesReading a bytes source ending out = IsSound source × Writes a ending out
 -- there are bytes of the list, those that the source tells, and the answer about the cells in them is written
 abbrev pub WritesOfList : (List Address → Answer) → SourceUse → Result (Unit {0}) Refusal → SinkUse → Type 0
 WritesOfList about input ending out =
-    (list : List ℕ) × HasLeft input.left list × WritesReading (about_list about (listed_cells list)) list input ending out
+    (list : List ℕ) × HasLeft input.left list × WritesReading (answered about (listed_cells list)) list input ending out
 
 -- the same of a table, and the answer about its links
 abbrev pub WritesOfTable : (Links → Answer) → SourceUse → Result (Unit {0}) Refusal → SinkUse → Type 0

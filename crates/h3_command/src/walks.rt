@@ -6,7 +6,7 @@
 
 ghost use Rattle.std.specs.Prelude.{◌≡◌, false};
 ghost use Rattle.h3_lattice.specs.BaseTable.{link_of};
-ghost use Rattle.h3_command.specs.Answer.{cell_line, printed_walk, reads_table, request, ring_line};
+ghost use Rattle.h3_command.specs.Answer.{answered, cell_line, reads_table, request, ring_line, walked};
 ghost use Rattle.h3_command.specs.Run.{Ends, SourceUse, Writes, sink_use, source_use};
 ghost use Rattle.h3_command.specs.Walks.{grid_disk_distances_unsafe, grid_disk_unsafe, grid_ring_unsafe};
 ghost use Rattle.h3_command.specs.declared.command.Command.TheVariants.{GridDiskDistancesUnsafe, GridDiskUnsafe, GridRingUnsafe};
@@ -27,8 +27,8 @@ fn write_disk<W: Sink>(
     k: i32,
     out: &mut W,
 ) -> Result<(), Refusal>
-    ensures { Writes (printed_walk cell_line (grid_disk_unsafe (link_of table.now) cell k)) result
-        (sink_use W.taken W.has_failed out.old out.new) }
+    ensures { Writes (answered (walked cell_line) (grid_disk_unsafe (link_of table.now) cell k))
+        result (sink_use W.taken W.has_failed out.old out.new) }
 {
     match Disk::new(table, cell, k) {
         Ok(disk) => write_walk(out, DiskCells { disk }),
@@ -43,8 +43,9 @@ fn write_disk_distances<W: Sink>(
     k: i32,
     out: &mut W,
 ) -> Result<(), Refusal>
-    ensures { Writes (printed_walk ring_line (grid_disk_distances_unsafe (link_of table.now) cell k))
-        result (sink_use W.taken W.has_failed out.old out.new) }
+    ensures { Writes (answered (walked ring_line)
+        (grid_disk_distances_unsafe (link_of table.now) cell k)) result
+        (sink_use W.taken W.has_failed out.old out.new) }
 {
     match Disk::new(table, cell, k) {
         Ok(walk) => write_walk(out, walk),
@@ -59,8 +60,8 @@ fn write_ring<W: Sink>(
     k: i32,
     out: &mut W,
 ) -> Result<(), Refusal>
-    ensures { Writes (printed_walk cell_line (grid_ring_unsafe (link_of table.now) cell k)) result
-        (sink_use W.taken W.has_failed out.old out.new) }
+    ensures { Writes (answered (walked cell_line) (grid_ring_unsafe (link_of table.now) cell k))
+        result (sink_use W.taken W.has_failed out.old out.new) }
 {
     match Ring::new(table, cell, k) {
         Ok(walk) => write_walk(out, walk),
