@@ -91,7 +91,7 @@ pub table_answered : (about : Address → Links → Answer) (index : Result Addr
     → Ends (from_cell about index) input table ending out
 table_answered about index cell links ending input table out is rows held none same sound writes =
     let about_rows : Writes (about_table (about cell) rows) ending out =
-        subst (λ f. Writes (unless_faulty f (about cell (links_of (records_of rows)))) ending out) (sym none) (subst (λ l. Writes (about cell l) ending out) same writes) in
+    subst (λ f. Writes (unless_faulty f (about cell (links_of (records_of rows)))) ending out) (sym none) (subst (λ l. Writes (about cell l) ending out) same writes) in
     subst (λ c. Ends (from_cell about c) input table ending out) is (rows, held, reading_written _ rows table ending out sound about_rows)
 
 -- ---- a run

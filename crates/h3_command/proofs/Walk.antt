@@ -32,13 +32,18 @@ pub walk_torn : (a b : Answer) (done bytes : List ℕ) (mid : Option (List ℕ))
     → Appends out.before mid done → AppendsPart mid out.after bytes → out.has_failed ≡ true → Writes a (Err Write) out
 unfolding Writes
 walk_torn a b done bytes mid out is some grown p failed =
-    let longer : 0 < length (done ++ bytes) = (let parts : length (done ++ bytes) ≡ length done + length bytes = length-append done bytes in omega (arith, parts, some)) in
-    (begins_no_refusal a b (done ++ bytes) (is ∙ before_before done bytes b) longer, (record {
-      part = done ++ p.part;
-      rest = p.rest ++ b.output;
-      split = ap (λ z. z.output) is ∙ ap (λ l. done ++ (l ++ b.output)) p.split ∙ ap (λ l. done ++ l) (append_assoc p.part p.rest b.output) ∙ sym (append_assoc done p.part (p.rest ++ b.output));
-      holds = appended_hides _ _ _ (Appends-trans _ _ _ _ _ grown p.holds);
-    }, failed))
+    let longer : 0 < length (done ++ bytes) = (let parts : length (done ++ bytes) ≡ length done + length bytes = length-append done bytes in omega (arith, parts, some)) in (
+      begins_no_refusal a b (done ++ bytes) (is ∙ before_before done bytes b) longer,
+      (
+        record {
+          part = done ++ p.part;
+          rest = p.rest ++ b.output;
+          split = ap (λ z. z.output) is ∙ ap (λ l. done ++ (l ++ b.output)) p.split ∙ ap (λ l. done ++ l) (append_assoc p.part p.rest b.output) ∙ sym (append_assoc done p.part (p.rest ++ b.output));
+          holds = appended_hides _ _ _ (Appends-trans _ _ _ _ _ grown p.holds);
+        },
+        failed,
+      ),
+    )
 
 -- the flush before an error failed
 pub walk_unflushed : (a : Answer) (e : H3Error) (done : List ℕ) (mid : Option (List ℕ)) (out : SinkUse) → a ≡ before done (refused e) → 0 < length done

@@ -21,12 +21,7 @@ use h3_lattice::BaseTable;
 use std::alloc::Global;
 
 /// Writes the cells of a disk.
-fn write_disk<W: Sink>(
-    table: &BaseTable,
-    cell: Cell,
-    k: i32,
-    out: &mut W,
-) -> Result<(), Refusal>
+fn write_disk<W: Sink>(table: &BaseTable, cell: Cell, k: i32, out: &mut W) -> Result<(), Refusal>
     ensures { Writes (answered (walked cell_line) (grid_disk_unsafe (link_of table.now) cell k))
         result (sink_use W.taken W.has_failed out.old out.new) }
 {
@@ -54,12 +49,7 @@ fn write_disk_distances<W: Sink>(
 }
 
 /// Writes the cells of a ring.
-fn write_ring<W: Sink>(
-    table: &BaseTable,
-    cell: Cell,
-    k: i32,
-    out: &mut W,
-) -> Result<(), Refusal>
+fn write_ring<W: Sink>(table: &BaseTable, cell: Cell, k: i32, out: &mut W) -> Result<(), Refusal>
     ensures { Writes (answered (walked cell_line) (grid_ring_unsafe (link_of table.now) cell k))
         result (sink_use W.taken W.has_failed out.old out.new) }
 {
@@ -126,3 +116,6 @@ pub fn grid_ring_unsafe<T: Source, W: Sink>(
     let table = BaseTable::read(alloc, table)?;
     write_ring(&table, cell, k, out)
 }
+
+#[cfg(test)]
+mod tests;
