@@ -1,19 +1,20 @@
 -- The commands, and the command line that `clap` is told of.
-use Rattle.std.specs.Prelude.{List, [], ◌∷◌, map, true, false, codes}
+use Rattle.std.specs.Prelude.{Bool, List, [], ◌∷◌, map, true, false, codes}
+use Rattle.std.specs.List.{list_any}
 use Rattle.clap.specs.Words.{App, Shape, Text}
 use Rattle.clap.specs.Simple.{new_shape}
-use Rattle.h3_cli.specs.Options.{rule_for}
+use Rattle.h3_cli.specs.Options.{is_table, rule_for}
 use Rattle.h3_command.specs.declared.command.Command.{Command}
 use Rattle.h3_command.specs.declared.command.Command.TheVariants as command
 use Rattle.h3_cli.specs.declared.options.CommandOption.{CommandOption}
-use Rattle.h3_cli.specs.declared.options.CommandOption.TheVariants.{Cell, Resolution, Position}
+use Rattle.h3_cli.specs.declared.options.CommandOption.TheVariants.{Cell, Resolution, Radius, Position, Table}
 use Rattle.h3_cli.specs.declared.commands.CommandName.{CommandName}
-use Rattle.h3_cli.specs.declared.commands.CommandName.TheVariants.{IsValidCell, GetResolution, GetBaseCellNumber, IsPentagon, IsResClassIII, GetNumCells, GetRes0Cells, GetPentagons, CellToParent, CellToCenterChild, CellToChildren, CellToChildrenSize, CellToChildPos, ChildPosToCell, CompactCells, UncompactCells}
+use Rattle.h3_cli.specs.declared.commands.CommandName.TheVariants.{IsValidCell, GetResolution, GetBaseCellNumber, IsPentagon, IsResClassIII, GetNumCells, GetRes0Cells, GetPentagons, CellToParent, CellToCenterChild, CellToChildren, CellToChildrenSize, CellToChildPos, ChildPosToCell, CompactCells, UncompactCells, GridDiskUnsafe, GridDiskDistancesUnsafe, GridRingUnsafe}
 
 -- all names of commands
 abbrev pub command_names : List CommandName
 command_names =
-    IsValidCell ∷ GetResolution ∷ GetBaseCellNumber ∷ IsPentagon ∷ IsResClassIII ∷ GetNumCells ∷ GetRes0Cells ∷ GetPentagons ∷ CellToParent ∷ CellToCenterChild ∷ CellToChildren ∷ CellToChildrenSize ∷ CellToChildPos ∷ ChildPosToCell ∷ CompactCells ∷ UncompactCells ∷ []
+    IsValidCell ∷ GetResolution ∷ GetBaseCellNumber ∷ IsPentagon ∷ IsResClassIII ∷ GetNumCells ∷ GetRes0Cells ∷ GetPentagons ∷ CellToParent ∷ CellToCenterChild ∷ CellToChildren ∷ CellToChildrenSize ∷ CellToChildPos ∷ ChildPosToCell ∷ CompactCells ∷ UncompactCells ∷ GridDiskUnsafe ∷ GridDiskDistancesUnsafe ∷ GridRingUnsafe ∷ []
 
 -- the word that names the command
 abbrev pub word_of : CommandName → Text
@@ -33,6 +34,9 @@ word_of CellToChildPos = codes "cellToChildPos"
 word_of ChildPosToCell = codes "childPosToCell"
 word_of CompactCells = codes "compactCells"
 word_of UncompactCells = codes "uncompactCells"
+word_of GridDiskUnsafe = codes "gridDiskUnsafe"
+word_of GridDiskDistancesUnsafe = codes "gridDiskDistancesUnsafe"
+word_of GridRingUnsafe = codes "gridRingUnsafe"
 
 -- the options that the command has
 abbrev pub options_of : CommandName → List CommandOption
@@ -52,6 +56,13 @@ options_of CellToChildPos = Cell ∷ Resolution ∷ []
 options_of ChildPosToCell = Position ∷ Cell ∷ Resolution ∷ []
 options_of CompactCells = []
 options_of UncompactCells = Resolution ∷ []
+options_of GridDiskUnsafe = Cell ∷ Radius ∷ Table ∷ []
+options_of GridDiskDistancesUnsafe = Cell ∷ Radius ∷ Table ∷ []
+options_of GridRingUnsafe = Cell ∷ Radius ∷ Table ∷ []
+
+-- the command has a table
+abbrev pub takes_table : CommandName → Bool
+takes_table k = list_any is_table (options_of k)
 
 -- the name of a command with its values
 abbrev pub name_of_command : Command → CommandName
@@ -71,6 +82,9 @@ name_of_command (command.CellToChildPos cell res) = CellToChildPos
 name_of_command (command.ChildPosToCell position cell res) = ChildPosToCell
 name_of_command command.CompactCells = CompactCells
 name_of_command (command.UncompactCells res) = UncompactCells
+name_of_command (command.GridDiskUnsafe cell k) = GridDiskUnsafe
+name_of_command (command.GridDiskDistancesUnsafe cell k) = GridDiskDistancesUnsafe
+name_of_command (command.GridRingUnsafe cell k) = GridRingUnsafe
 
 -- a command of this name that takes these options
 abbrev pub leaf_with : Text → List CommandOption → Shape

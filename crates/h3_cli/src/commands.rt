@@ -1,11 +1,11 @@
 //! The names of the commands, and the command line that `clap` parses.
 
-ghost use Rattle.std.specs.Prelude.{◌≡◌, Option, IfOk, find, false};
+ghost use Rattle.std.specs.Prelude.{◌≡◌, Option, IfOk, find, false, option_map, string_bytes};
 ghost use Rattle.std.specs.Str.{bytes_eq};
 ghost use Rattle.clap.specs.Words.{Text, app_of, found_of, shape_of};
 ghost use Rattle.clap.specs.declared.builder.command.Command.TheViews.{out-Command};
-ghost use Rattle.h3_cli.specs.Commands.{app, command_names, name_of_command, options_of, shape_for, word_of};
-ghost use Rattle.h3_cli.specs.Spelling.{Answers, HasValues};
+ghost use Rattle.h3_cli.specs.Commands.{app, command_names, name_of_command, options_of, shape_for, takes_table, word_of};
+ghost use Rattle.h3_cli.specs.Spelling.{Answers, HasValues, table_path};
 ghost use Rattle.h3_cli.specs.declared.options.CommandOption.{CommandOption};
 
 use crate::options::CommandOption;
@@ -32,9 +32,12 @@ pub enum CommandName {
     ChildPosToCell,
     CompactCells,
     UncompactCells,
+    GridDiskUnsafe,
+    GridDiskDistancesUnsafe,
+    GridRingUnsafe,
 }
 
-static COMMAND_NAMES: [CommandName; 16] = [
+static COMMAND_NAMES: [CommandName; 19] = [
     CommandName::IsValidCell,
     CommandName::GetResolution,
     CommandName::GetBaseCellNumber,
@@ -51,6 +54,9 @@ static COMMAND_NAMES: [CommandName; 16] = [
     CommandName::ChildPosToCell,
     CommandName::CompactCells,
     CommandName::UncompactCells,
+    CommandName::GridDiskUnsafe,
+    CommandName::GridDiskDistancesUnsafe,
+    CommandName::GridRingUnsafe,
 ];
 
 static NO_OPTIONS: [CommandOption; 0] = [];
@@ -65,6 +71,12 @@ static POSITION_CELL_RESOLUTION: [CommandOption; 3] = [
     CommandOption::Position,
     CommandOption::Cell,
     CommandOption::Resolution,
+];
+
+static CELL_RADIUS_TABLE: [CommandOption; 3] = [
+    CommandOption::Cell,
+    CommandOption::Radius,
+    CommandOption::Table,
 ];
 
 impl CommandName {
@@ -89,6 +101,9 @@ impl CommandName {
             CommandName::ChildPosToCell => "childPosToCell",
             CommandName::CompactCells => "compactCells",
             CommandName::UncompactCells => "uncompactCells",
+            CommandName::GridDiskUnsafe => "gridDiskUnsafe",
+            CommandName::GridDiskDistancesUnsafe => "gridDiskDistancesUnsafe",
+            CommandName::GridRingUnsafe => "gridRingUnsafe",
         }
     }
 
@@ -123,6 +138,9 @@ impl CommandName {
             CommandName::ChildPosToCell => POSITION_CELL_RESOLUTION.as_slice(),
             CommandName::CompactCells => NO_OPTIONS.as_slice(),
             CommandName::UncompactCells => RESOLUTION.as_slice(),
+            CommandName::GridDiskUnsafe => CELL_RADIUS_TABLE.as_slice(),
+            CommandName::GridDiskDistancesUnsafe => CELL_RADIUS_TABLE.as_slice(),
+            CommandName::GridRingUnsafe => CELL_RADIUS_TABLE.as_slice(),
         }
     }
 
@@ -153,6 +171,15 @@ impl CommandName {
             CommandName::UncompactCells => {
                 "The descendants at a resolution of each cell listed on standard input"
             }
+            CommandName::GridDiskUnsafe => {
+                "The cells within k steps of a cell, ring by ring; fails at a pentagon's base cell"
+            }
+            CommandName::GridDiskDistancesUnsafe => {
+                "The cells within k steps of a cell, each with its ring; fails at a pentagon's base cell"
+            }
+            CommandName::GridRingUnsafe => {
+                "The cells exactly k steps from a cell; fails at a pentagon's base cell"
+            }
         }
     }
 
@@ -176,6 +203,7 @@ impl CommandName {
     {
         let cell = CommandOption::Cell.index(matches);
         let res = CommandOption::Resolution.whole(matches);
+        let k = CommandOption::Radius.whole(matches);
         let position = CommandOption::Position.position(matches);
         match self {
             CommandName::IsValidCell => Command::IsValidCell { cell },
@@ -198,6 +226,35 @@ impl CommandName {
             },
             CommandName::CompactCells => Command::CompactCells,
             CommandName::UncompactCells => Command::UncompactCells { res },
+            CommandName::GridDiskUnsafe => Command::GridDiskUnsafe { cell, k },
+            CommandName::GridDiskDistancesUnsafe => Command::GridDiskDistancesUnsafe { cell, k },
+            CommandName::GridRingUnsafe => Command::GridRingUnsafe { cell, k },
+        }
+    }
+
+    /// Whether the command reads a table.
+    fn takes_table(self) -> bool
+        ensures { result ≡ takes_table self }
+    {
+        self.options().iter().any(|option| option.is_table())
+    }
+
+    /// The path of the table, where the command reads one.
+    pub fn table(
+        self,
+        alloc: Global,
+        matches: &ArgMatches<'_>,
+    ) -> Result<Option<String>, AllocError>
+        ensures { IfOk result (λ path. (text : CommandOption → Option Text) →
+            Answers self text (found_of matches.now)
+            → option_map string_bytes path ≡ table_path self text) }
+    {
+        if !self.takes_table() {
+            return Ok(None);
+        }
+        match matches.get_str(CommandOption::Table.id()) {
+            Some(path) => Ok(Some(String::from_str(alloc, path)?)),
+            None => Ok(None),
         }
     }
 }

@@ -4,7 +4,7 @@ ghost use Rattle.std.specs.Prelude.{◌≡◌, Some, false, pos};
 ghost use Rattle.std.specs.Str.Parse.{signed_digits_value};
 ghost use Rattle.clap.specs.Words.{IsSignedIn, Text, first_value, found_of, rule_of};
 ghost use Rattle.h3_index.specs.Text.{spelled_index};
-ghost use Rattle.h3_cli.specs.Options.{id_of, rule_for};
+ghost use Rattle.h3_cli.specs.Options.{id_of, is_table, rule_for};
 
 use clap::{Arg, ArgMatches, value_parser};
 use h3_index::read_index;
@@ -12,6 +12,9 @@ use std::alloc::Global;
 
 /// The largest number that `-r` takes; which of them are resolutions, the command decides.
 const MOST_RESOLUTION: i64 = 2147483647;
+
+/// The largest number that `-k` takes.
+const MOST_RADIUS: i64 = 2147483647;
 
 /// The largest position that `--position` takes.
 const MOST_POSITION: i64 = 9223372036854775807;
@@ -25,8 +28,14 @@ pub enum CommandOption {
     /// `-r` or `--resolution`: a resolution.
     Resolution,
 
+    /// `-k`: a radius.
+    Radius,
+
     /// `--position`: a position, counted from 0.
     Position,
+
+    /// `--table`: the path of a base cell table.
+    Table,
 }
 
 impl CommandOption {
@@ -37,7 +46,9 @@ impl CommandOption {
         match self {
             CommandOption::Cell => "cell",
             CommandOption::Resolution => "resolution",
+            CommandOption::Radius => "k",
             CommandOption::Position => "position",
+            CommandOption::Table => "table",
         }
     }
 
@@ -46,7 +57,9 @@ impl CommandOption {
         match self {
             CommandOption::Cell => "A cell's index in hexadecimal",
             CommandOption::Resolution => "A resolution, 0 to 15",
+            CommandOption::Radius => "A radius in steps of the grid, from 0",
             CommandOption::Position => "A position, from 0",
+            CommandOption::Table => "The path of the file of the base cell table",
         }
     }
 
@@ -62,9 +75,13 @@ impl CommandOption {
                 .short('r')
                 .long("resolution")
                 .value_parser(value_parser!(i64).range(0..=MOST_RESOLUTION)),
+            CommandOption::Radius => argument
+                .short('k')
+                .value_parser(value_parser!(i64).range(0..=MOST_RADIUS)),
             CommandOption::Position => argument
                 .long("position")
                 .value_parser(value_parser!(i64).range(0..=MOST_POSITION)),
+            CommandOption::Table => argument.long("table"),
         }
     }
 
@@ -74,6 +91,13 @@ impl CommandOption {
         ensures local { result.global ≡ false }
     {
         self.bare_argument(alloc).help(self.about())
+    }
+
+    /// Whether its value is the path of a table.
+    pub fn is_table(self) -> bool
+        ensures { result ≡ is_table self }
+    {
+        matches!(self, CommandOption::Table)
     }
 
     /// The index that the option's text parses as.

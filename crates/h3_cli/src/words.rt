@@ -86,7 +86,7 @@ pub fn read_words(alloc: Global, words: Vec<String>) -> Result<Words, WordsFault
     };
     Ok(Words {
         command: name.command(inner),
-        table: None,
+        table: name.table(alloc, inner)?,
     })
 }
 
