@@ -1,6 +1,6 @@
 -- From a parse that succeeds to what the words spell.
 use Rattle.std.proofs.Common.{◌≡◌, ◌∙◌, true, false, refl, sym, ap, ap₂, subst, List, [], ◌∷◌, drop, Option, Some, None, inl, inr}
-use Rattle.std.specs.Prelude.{IsNone, Box, find, option_map, option_and_then, slice_get}
+use Rattle.std.specs.Prelude.{Box, option_map, string_bytes, option_and_then, slice_get}
 use Rattle.std.specs.Box.{box_value}
 use Rattle.std.specs.Str.{bytes_eq}
 use Rattle.clap.specs.Kinds.{HasKind, IsAmong}
@@ -17,38 +17,19 @@ use Rattle.clap.specs.declared.parser.matches.ArgMatches.{ArgMatches}
 use Rattle.clap.specs.declared.parser.matches.ArgMatches.TheViews.{out-ArgMatches, out-SubCommand}
 use Rattle.clap.specs.declared.parser.matches.Found.{Found}
 use Rattle.clap.specs.declared.parser.matches.SubCommand.{SubCommand}
-use Rattle.h3_cli.specs.Commands.{command_names, app, name_of_command, word_of, options_of}
+use Rattle.h3_cli.specs.Commands.{app, name_of_command, word_of, options_of}
 use Rattle.h3_cli.specs.Faults.{IsFaultOf, IsToldAs}
 use Rattle.h3_cli.specs.Given.{given}
 use Rattle.h3_cli.specs.Options.{IsIn, id_of, parser_done}
-use Rattle.h3_cli.specs.Spelling.{Answers, HasValues, Spells}
+use Rattle.h3_cli.specs.Spelling.{Answers, HasValues, Spells, table_path}
 use Rattle.h3_cli.specs.declared.words.Words.{Words}
 use Rattle.h3_cli.specs.declared.words.WordsFault.{WordsFault}
 use Rattle.h3_cli.specs.declared.words.WordsFault.TheVariants.{Help, Usage, Memory}
 use Rattle.h3_cli.specs.declared.options.CommandOption.{CommandOption}
 use Rattle.h3_cli.specs.declared.commands.CommandName.{CommandName}
-use Rattle.h3_cli.specs.declared.commands.CommandName.TheVariants.{IsValidCell, GetResolution, GetBaseCellNumber, IsPentagon, IsResClassIII, GetNumCells, GetRes0Cells, GetPentagons, CellToParent, CellToCenterChild, CellToChildren, CellToChildrenSize, CellToChildPos, ChildPosToCell, CompactCells, UncompactCells}
 use Rattle.h3_cli.proofs.Lexed.{given_same}
 use Rattle.h3_cli.proofs.Leaf.{Reads, leaf_reads}
 use Rattle.h3_cli.proofs.Top.{app_enters, app_is_simple}
-
-pub word_named : (k : CommandName) → find (λ x. bytes_eq (word_of x) (word_of k)) command_names ≡ Some k
-word_named IsValidCell = refl
-word_named GetResolution = refl
-word_named GetBaseCellNumber = refl
-word_named IsPentagon = refl
-word_named IsResClassIII = refl
-word_named GetNumCells = refl
-word_named GetRes0Cells = refl
-word_named GetPentagons = refl
-word_named CellToParent = refl
-word_named CellToCenterChild = refl
-word_named CellToChildren = refl
-word_named CellToChildrenSize = refl
-word_named CellToChildPos = refl
-word_named ChildPosToCell = refl
-word_named CompactCells = refl
-word_named UncompactCells = refl
 
 is_simple_app : is_simple app ≡ true
 is_simple_app = refl
@@ -127,10 +108,12 @@ second (program ∷ ws) name rest e = (ap (λ t. slice_get t 0) e, ap (drop 1) e
 
 -- the command that the parse met, with its values, is what the words spell
 pub spells : (ws : List Text) (name : Text) (found : Found) (m : Met ws name found) {k : CommandName} → m.0 ≡ k → (asked : Words) → name_of_command asked.command ≡ k
-    → ((text : CommandOption → Option Text) → Answers k text found → HasValues text asked.command) → IsNone asked.table → Spells ws asked
-spells ws name found m {k} same asked is has none =
-    let two = second ws (word_of m.0) m.1 m.2 in record {
+    → ((text : CommandOption → Option Text) → Answers k text found → HasValues text asked.command)
+    → ((text : CommandOption → Option Text) → Answers k text found → option_map string_bytes asked.table ≡ table_path k text) → Spells ws asked
+spells ws name found m {k} same asked is has opens =
+    let two = second ws (word_of m.0) m.1 m.2 in
+    let answers = subst (λ x. Answers x (λ o. given o m.1) found) same m.4 in record {
       command = two.0 ∙ ap (λ x. Some (word_of x)) (same ∙ sym is);
-      values = subst (λ rest. HasValues (λ o. given o rest) asked.command) (sym two.1) (has (λ o. given o m.1) (subst (λ x. Answers x (λ o. given o m.1) found) same m.4));
-      table = none;
+      values = subst (λ rest. HasValues (λ o. given o rest) asked.command) (sym two.1) (has (λ o. given o m.1) answers);
+      table = opens (λ o. given o m.1) answers ∙ ap₂ (λ x rest. table_path x (λ o. given o rest)) (sym is) (sym two.1);
     }

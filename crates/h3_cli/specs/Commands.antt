@@ -1,9 +1,10 @@
 -- The commands, and the command line that `clap` is told of.
 use Rattle.std.specs.Prelude.{Bool, List, [], ◌∷◌, map, true, false, codes}
 use Rattle.std.specs.List.{list_any}
+use Rattle.std.specs.Str.{bytes_eq}
 use Rattle.clap.specs.Words.{App, Shape, Text}
 use Rattle.clap.specs.Simple.{new_shape}
-use Rattle.h3_cli.specs.Options.{is_table, rule_for}
+use Rattle.h3_cli.specs.Options.{id_of, rule_for}
 use Rattle.h3_command.specs.declared.command.Command.{Command}
 use Rattle.h3_command.specs.declared.command.Command.TheVariants as command
 use Rattle.h3_cli.specs.declared.options.CommandOption.{CommandOption}
@@ -60,9 +61,9 @@ options_of GridDiskUnsafe = Cell ∷ Radius ∷ Table ∷ []
 options_of GridDiskDistancesUnsafe = Cell ∷ Radius ∷ Table ∷ []
 options_of GridRingUnsafe = Cell ∷ Radius ∷ Table ∷ []
 
--- the command has a table
-abbrev pub takes_table : CommandName → Bool
-takes_table k = list_any is_table (options_of k)
+-- the command has the option
+abbrev pub has_option : CommandName → CommandOption → Bool
+has_option k o = list_any (λ x. bytes_eq (id_of x) (id_of o)) (options_of k)
 
 -- the name of a command with its values
 abbrev pub name_of_command : Command → CommandName

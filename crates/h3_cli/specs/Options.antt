@@ -1,5 +1,5 @@
 -- The options of the commands, and how `clap` takes each.
-use Rattle.std.specs.Prelude.{⊤, ◌≡◌, ◌⊎◌, ℕ, List, [], ◌∷◌, Option, Some, None, Bool, true, false, codes, pos, option_map, unwrap_or}
+use Rattle.std.specs.Prelude.{⊤, ◌≡◌, ◌⊎◌, ℕ, List, [], ◌∷◌, Option, Some, None, true, codes, pos, option_map, unwrap_or}
 use Rattle.clap.specs.Words.{IsSignedIn, Rule, Text, new_rule}
 use Rattle.clap.specs.declared.builder.value_parser.ValueParser.{ValueParser}
 use Rattle.clap.specs.declared.builder.value_parser.ValueParser.TheVariants.{Signed, String}
@@ -59,14 +59,6 @@ rule_for o = record (new_rule (id_of o)) {
   parser = parser_for o;
   required = true;
 }
-
--- the option's value is the path of a table
-abbrev pub is_table : CommandOption → Bool
-is_table Cell = false
-is_table Resolution = false
-is_table Radius = false
-is_table Position = false
-is_table Table = true
 
 -- the option is in the list
 abbrev pub IsIn : CommandOption → List CommandOption → Type 0

@@ -5,7 +5,7 @@ use Rattle.clap.specs.Words.{Accepts, Text, first_value}
 use Rattle.clap.specs.declared.parser.matches.Found.{Found}
 use Rattle.h3_index.specs.Text.{spelled_index}
 use Rattle.h3_cli.specs.Options.{IsIn, IsUpTo, id_of, number_up_to, parser_done}
-use Rattle.h3_cli.specs.Commands.{name_of_command, options_of, takes_table, word_of}
+use Rattle.h3_cli.specs.Commands.{has_option, name_of_command, options_of, word_of}
 use Rattle.h3_cli.specs.Given.{given}
 use Rattle.h3_cli.specs.declared.options.CommandOption.{CommandOption}
 use Rattle.h3_cli.specs.declared.options.CommandOption.TheVariants.{Cell, Resolution, Radius, Position, Table}
@@ -49,7 +49,7 @@ HasValues text (GridRingUnsafe cell k) = IsIndex (text Cell) cell × IsNumber Ra
 
 -- the path of the command's table, if it has one
 abbrev pub table_path : CommandName → (CommandOption → Option Text) → Option Text
-table_path k text = if takes_table k then text Table else None
+table_path k text = if has_option k Table then text Table else None
 
 -- each option of the command has its text in what a parse found, and its parser let it through
 abbrev pub Answers : CommandName → (CommandOption → Option Text) → Found → Type 0

@@ -4,7 +4,7 @@ ghost use Rattle.std.specs.Prelude.{◌≡◌, Option, IfOk, find, false, option
 ghost use Rattle.std.specs.Str.{bytes_eq};
 ghost use Rattle.clap.specs.Words.{Text, app_of, found_of, shape_of};
 ghost use Rattle.clap.specs.declared.builder.command.Command.TheViews.{out-Command};
-ghost use Rattle.h3_cli.specs.Commands.{app, command_names, name_of_command, options_of, shape_for, takes_table, word_of};
+ghost use Rattle.h3_cli.specs.Commands.{app, command_names, has_option, name_of_command, options_of, shape_for, word_of};
 ghost use Rattle.h3_cli.specs.Spelling.{Answers, HasValues, table_path};
 ghost use Rattle.h3_cli.specs.declared.options.CommandOption.{CommandOption};
 
@@ -232,11 +232,11 @@ impl CommandName {
         }
     }
 
-    /// Whether the command reads a table.
-    fn takes_table(self) -> bool
-        ensures { result ≡ takes_table self }
+    /// Whether the command has the option.
+    fn has(self, option: CommandOption) -> bool
+        ensures { result ≡ has_option self option }
     {
-        self.options().iter().any(|option| option.is_table())
+        self.options().iter().any(|own| own.id() == option.id())
     }
 
     /// The path of the table, where the command reads one.
@@ -249,7 +249,7 @@ impl CommandName {
             Answers self text (found_of matches.now)
             → option_map string_bytes path ≡ table_path self text) }
     {
-        if !self.takes_table() {
+        if !self.has(CommandOption::Table) {
             return Ok(None);
         }
         match matches.get_str(CommandOption::Table.id()) {

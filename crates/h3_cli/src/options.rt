@@ -4,7 +4,7 @@ ghost use Rattle.std.specs.Prelude.{◌≡◌, Some, false, pos};
 ghost use Rattle.std.specs.Str.Parse.{signed_digits_value};
 ghost use Rattle.clap.specs.Words.{IsSignedIn, Text, first_value, found_of, rule_of};
 ghost use Rattle.h3_index.specs.Text.{spelled_index};
-ghost use Rattle.h3_cli.specs.Options.{id_of, is_table, rule_for};
+ghost use Rattle.h3_cli.specs.Options.{id_of, rule_for};
 
 use clap::{Arg, ArgMatches, value_parser};
 use h3_index::read_index;
@@ -91,13 +91,6 @@ impl CommandOption {
         ensures local { result.global ≡ false }
     {
         self.bare_argument(alloc).help(self.about())
-    }
-
-    /// Whether its value is the path of a table.
-    pub fn is_table(self) -> bool
-        ensures { result ≡ is_table self }
-    {
-        matches!(self, CommandOption::Table)
     }
 
     /// The index that the option's text parses as.
