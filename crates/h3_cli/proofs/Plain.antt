@@ -367,5 +367,5 @@ app_passes program k rest f =
 -- where the words are a plain call, no step of the parse fails
 pub call_passes : (words : List Text) → IsPlainCall words → fault_of app words ≡ []
 call_passes words h =
-    ap (fault_of app) h.spelled ∙ app_passes h.program h.name (words_of h.uses) (leaf_passes (word_of h.name) (options_of h.name) h.uses h.uses_options h.once
+    ap (fault_of app) h.words_are ∙ app_passes h.program h.name (words_of h.uses) (leaf_passes (word_of h.name) (options_of h.name) h.uses h.uses_options h.once
     (at_most_once (options_of h.name) h.uses h.uses_options h.once))

@@ -60,6 +60,6 @@ pub record IsPlainCall (words : List Text) : Type 0 where
   pub program : Text
   pub name : CommandName
   pub uses : List Use
-  pub spelled : words ≡ program ∷ word_of name ∷ words_of uses
+  pub words_are : words ≡ program ∷ word_of name ∷ words_of uses
   pub uses_options : AreUses (options_of name) uses
   pub once : (o : CommandOption) → IsIn o (options_of name) → uses_of o uses ≡ 1

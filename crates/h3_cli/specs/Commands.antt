@@ -1,4 +1,4 @@
--- The commands, and the command line that `clap` is told of.
+-- The commands, and the command line that is given to `clap`.
 use Rattle.std.specs.Prelude.{Bool, List, [], ◌∷◌, map, true, false, codes}
 use Rattle.std.specs.List.{list_any}
 use Rattle.std.specs.Str.{bytes_eq}
@@ -61,7 +61,7 @@ options_of GridDiskUnsafe = Cell ∷ Radius ∷ Table ∷ []
 options_of GridDiskDistancesUnsafe = Cell ∷ Radius ∷ Table ∷ []
 options_of GridRingUnsafe = Cell ∷ Radius ∷ Table ∷ []
 
--- the command has the option
+-- the command has the option; options are told apart by their ids
 abbrev pub has_option : CommandName → CommandOption → Bool
 has_option k o = list_any (λ x. bytes_eq (id_of x) (id_of o)) (options_of k)
 
@@ -87,15 +87,15 @@ name_of_command (command.GridDiskUnsafe cell k) = GridDiskUnsafe
 name_of_command (command.GridDiskDistancesUnsafe cell k) = GridDiskDistancesUnsafe
 name_of_command (command.GridRingUnsafe cell k) = GridRingUnsafe
 
--- a command of this name that takes these options
+-- a command of this name that has these options
 abbrev pub leaf_with : Text → List CommandOption → Shape
 leaf_with name os = record (new_shape name) { rules = map rule_for os }
 
--- the command as `clap` is told of it
+-- the command as it is given to `clap`
 abbrev pub shape_for : CommandName → Shape
 shape_for k = leaf_with (word_of k) (options_of k)
 
--- the whole command line as `clap` is told of it: one of the commands is required
+-- the whole command line as it is given to `clap`: one of the commands is required
 abbrev pub app : App
 app = record {
   top = record (new_shape (codes "h3")) {

@@ -6,7 +6,7 @@ use Rattle.clap.specs.declared.builder.value_parser.ValueParser.TheVariants.{Sig
 use Rattle.h3_cli.specs.declared.options.CommandOption.{CommandOption}
 use Rattle.h3_cli.specs.declared.options.CommandOption.TheVariants.{Cell, Resolution, Radius, Position, Table}
 
--- what `clap` knows the option by
+-- the option's id in `clap`
 abbrev pub id_of : CommandOption → Text
 id_of Cell = codes "cell"
 id_of Resolution = codes "resolution"

@@ -5,7 +5,7 @@ ghost use Rattle.std.specs.Str.{bytes_eq};
 ghost use Rattle.clap.specs.Words.{Text, app_of, found_of, shape_of};
 ghost use Rattle.clap.specs.declared.builder.command.Command.TheViews.{out-Command};
 ghost use Rattle.h3_cli.specs.Commands.{app, command_names, has_option, name_of_command, options_of, shape_for, word_of};
-ghost use Rattle.h3_cli.specs.Spelling.{Answers, HasValues, table_path};
+ghost use Rattle.h3_cli.specs.Values.{AreFound, HasTable, HasValues};
 ghost use Rattle.h3_cli.specs.declared.options.CommandOption.{CommandOption};
 
 use crate::options::CommandOption;
@@ -147,39 +147,29 @@ impl CommandName {
     /// What help says of the command.
     fn about<'a>(self) -> &'a str {
         match self {
-            CommandName::IsValidCell => "Whether an index is a valid cell",
-            CommandName::GetResolution => "The resolution of a cell",
-            CommandName::GetBaseCellNumber => "The base cell of a cell",
-            CommandName::IsPentagon => "Whether a cell is a pentagon",
-            CommandName::IsResClassIII => "Whether the resolution of a cell is Class III",
-            CommandName::GetNumCells => "How many cells a resolution has",
-            CommandName::GetRes0Cells => "The 122 cells of resolution 0",
-            CommandName::GetPentagons => "The twelve pentagons of a resolution",
-            CommandName::CellToParent => "The ancestor of a cell at a resolution",
-            CommandName::CellToCenterChild => "The center descendant of a cell at a resolution",
-            CommandName::CellToChildren => "The descendants of a cell at a resolution, ascending",
-            CommandName::CellToChildrenSize => "How many descendants a cell has at a resolution",
-            CommandName::CellToChildPos => {
-                "The position of a cell among the descendants of its ancestor at a resolution"
+            Self::IsValidCell => "Whether an index is a valid cell",
+            Self::GetResolution => "The resolution of a cell",
+            Self::GetBaseCellNumber => "The base cell of a cell",
+            Self::IsPentagon => "Whether a cell is a pentagon",
+            Self::IsResClassIII => "Whether the resolution of a cell is Class III",
+            Self::GetNumCells => "How many cells a resolution has",
+            Self::GetRes0Cells => "The 122 cells of resolution 0",
+            Self::GetPentagons => "The twelve pentagons of a resolution",
+            Self::CellToParent => "The ancestor of a cell at a resolution",
+            Self::CellToCenterChild => "The center descendant of a cell at a resolution",
+            Self::CellToChildren => "The descendants of a cell at a resolution, ascending",
+            Self::CellToChildrenSize => "How many descendants a cell has at a resolution",
+            Self::CellToChildPos => "The position of a cell among its ancestor's descendants",
+            Self::ChildPosToCell => "The descendant of a cell at a position of a resolution",
+            Self::CompactCells => "The compacted list of the cells on standard input",
+            Self::UncompactCells => "The descendants of each cell listed on standard input",
+            Self::GridDiskUnsafe => {
+                "The cells within k steps; fails where a step meets a pentagon's base cell"
             }
-            CommandName::ChildPosToCell => {
-                "The descendant of a cell that stands at a position among those of a resolution"
+            Self::GridDiskDistancesUnsafe => {
+                "The cells within k steps and their rings; fails as gridDiskUnsafe does"
             }
-            CommandName::CompactCells => {
-                "The compacted list of the cells listed on standard input, ascending"
-            }
-            CommandName::UncompactCells => {
-                "The descendants at a resolution of each cell listed on standard input"
-            }
-            CommandName::GridDiskUnsafe => {
-                "The cells within k steps of a cell, ring by ring; fails at a pentagon's base cell"
-            }
-            CommandName::GridDiskDistancesUnsafe => {
-                "The cells within k steps of a cell, each with its ring; fails at a pentagon's base cell"
-            }
-            CommandName::GridRingUnsafe => {
-                "The cells exactly k steps from a cell; fails at a pentagon's base cell"
-            }
+            Self::GridRingUnsafe => "The cells exactly k steps away; fails as gridDiskUnsafe does",
         }
     }
 
@@ -198,7 +188,7 @@ impl CommandName {
     /// The command with the values that a parse found.
     pub fn command(self, matches: &ArgMatches<'_>) -> Command
         ensures named { name_of_command result ≡ self }
-        ensures values { (text : CommandOption → Option Text) → Answers self text (found_of matches.now)
+        ensures values { (text : CommandOption → Option Text) → AreFound self text (found_of matches.now)
             → HasValues text result }
     {
         let cell = CommandOption::Cell.index(matches);
@@ -233,23 +223,25 @@ impl CommandName {
     }
 
     /// Whether the command has the option.
-    fn has(self, option: CommandOption) -> bool
+    fn has_option(self, option: CommandOption) -> bool
         ensures { result ≡ has_option self option }
     {
         self.options().iter().any(|own| own.id() == option.id())
     }
 
-    /// The path of the table, where the command reads one.
-    pub fn table(
+    /// The path of the table, where the command has one.
+    ///
+    /// [`AllocError`] where there is no memory for the path.
+    pub fn table_path(
         self,
         alloc: Global,
         matches: &ArgMatches<'_>,
     ) -> Result<Option<String>, AllocError>
         ensures { IfOk result (λ path. (text : CommandOption → Option Text) →
-            Answers self text (found_of matches.now)
-            → option_map string_bytes path ≡ table_path self text) }
+            AreFound self text (found_of matches.now)
+            → HasTable text self (option_map string_bytes path)) }
     {
-        if !self.has(CommandOption::Table) {
+        if !self.has_option(CommandOption::Table) {
             return Ok(None);
         }
         match matches.get_str(CommandOption::Table.id()) {

@@ -39,7 +39,7 @@ pub enum CommandOption {
 }
 
 impl CommandOption {
-    /// What `clap` knows the option by.
+    /// The id of the option in `clap`.
     pub fn id<'a>(self) -> &'a str
         ensures { result.now ≡ id_of self }
     {

@@ -1,4 +1,4 @@
-//! The whole program but for what only the system can give: words, and the opened streams.
+//! The whole program but for what only the system can give: words, the standard streams, and files.
 
 ghost use Rattle.std.specs.Prelude.{◌≡◌, map, string_bytes, option_map, Result};
 ghost use Rattle.h3_command.specs.Answer.{request};
@@ -24,24 +24,25 @@ fn run_command<R: Source, T: OpenTable, W: Sink, E: Sink>(
     out: &mut W,
     err: &mut E,
 ) -> u8
-    ensures { RunsCommand (option_map string_bytes words.now.table) (request words.now.command) result
-        (input.new ≡ input.old) (table.new ≡ table.old) (record {
+    ensures { RunsCommand (record {
+      opens = T.opens;
+      fails_to_open = T.fails_to_open;
+      as_source = source_use T.left T.has_failed;
+    }) (option_map string_bytes words.now.table) (request words.now.command) result
+        (record { old = input.old; new = input.new }) (record { old = table.old; new = table.new }) (record {
           input = source_use R.left R.has_failed input.old input.new;
-          table = record {
-            closed = source_use T.left T.has_failed table.old table.new;
-            bytes_at = T.bytes_at table.old;
-            open_failed = T.open_failed table.new;
-          };
+          table = source_use T.left T.has_failed table.old table.new;
           out = sink_use W.taken W.has_failed out.old out.new;
           err = sink_use E.taken E.has_failed err.old err.new;
         }) }
 {
-    if let Some(path) = &words.table {
-        if table.open(path.as_str()).is_err() {
-            return report(err, Err(Refusal::TableOpen));
-        }
+    match &words.table {
+        None => run(alloc, &words.command, input, table, out, err),
+        Some(path) => match table.open(path.as_str()) {
+            Ok(()) => run(alloc, &words.command, input, table, out, err),
+            Err(_) => report(err, Err(Refusal::TableOpen)),
+        },
     }
-    run(alloc, &words.command, input, table, out, err)
 }
 
 /// Runs the command that the words of a command line ask for, and returns the exit status. Help goes
@@ -58,13 +59,14 @@ pub fn run_words<R: Source, T: OpenTable, W: Sink, E: Sink>(
     err: &mut E,
 ) -> u8
     ensures { (parsed : Result Words WordsFault) × ParsesAs (map string_bytes words.items) parsed
-        × Follows parsed result (input.new ≡ input.old) (table.new ≡ table.old) (record {
+        × Follows (record {
+          opens = T.opens;
+          fails_to_open = T.fails_to_open;
+          as_source = source_use T.left T.has_failed;
+        }) parsed result
+        (record { old = input.old; new = input.new }) (record { old = table.old; new = table.new }) (record {
           input = source_use R.left R.has_failed input.old input.new;
-          table = record {
-            closed = source_use T.left T.has_failed table.old table.new;
-            bytes_at = T.bytes_at table.old;
-            open_failed = T.open_failed table.new;
-          };
+          table = source_use T.left T.has_failed table.old table.new;
           out = sink_use W.taken W.has_failed out.old out.new;
           err = sink_use E.taken E.has_failed err.old err.new;
         }) }

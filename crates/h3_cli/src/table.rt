@@ -1,77 +1,85 @@
 //! The base cell table, which is opened by its path.
 
-ghost use Rattle.std.specs.Prelude.{◌≡◌, ℕ, Bool, true, false, List, None, Option, OnOk, OnErr};
-ghost use Rattle.std.specs.Option.{option_map_or};
-ghost use Rattle.h3_index.specs.Streamed.{streamed_failed};
+ghost use Rattle.std.specs.Prelude.{◌≡◌, List, ℕ, None, IsSome, OnOk, OnErr};
 
-use h3_index::{Source, StreamFault, Streamed};
-use std::fs::File;
+use h3_index::{Source, StreamFault};
+use std::io::{ErrorKind, Read};
 use std::rt::Files;
+use std::{fs, io};
 
-/// A table that is opened by its path. Once it is opened, it is the source of the table's bytes.
+/// A table cannot be opened.
+#[derive(Debug, Drop)]
+pub struct OpenFault;
+
+/// A table that is opened by its path. From then on it is the source of the table's bytes.
 pub trait OpenTable: Source {
-    /// The bytes of the table at a path, where they are known.
-    ghost bytes_at: { Self → List ℕ → Option (List ℕ) };
+    /// The second state comes right after an opening of this path that succeeds.
+    ghost opens: { Self → List ℕ → Self → Type 0 };
 
-    /// An opening has failed.
-    ghost open_failed: { Self → Bool };
+    /// The second state comes right after an opening of this path that fails.
+    ghost fails_to_open: { Self → List ℕ → Self → Type 0 };
 
     /// Opens the table at a path, of which nothing is read yet.
     ///
     /// An error where it cannot be opened, for whatever cause.
-    fn open(&mut self, path: &str) -> Result<(), StreamFault>
-        ensures bytes { OnOk result (Self.left self.new ≡ bytes_at self.old path.now) }
-        ensures ok { OnOk result (Self.has_failed self.new ≡ false) }
-        ensures err { OnErr result (open_failed self.new ≡ true) };
+    fn open(&mut self, path: &str) -> Result<(), OpenFault>
+        ensures ok { OnOk result (opens self.old path.now self.new) }
+        ensures err { OnErr result (fails_to_open self.old path.now self.new) };
 }
 
-/// A table in a file of the system. Until it is opened it has no bytes.
+/// A table in a file of the system. To read it before it is opened is a failure.
+///
+/// No clause says which bytes a file has.
 #[derive(Drop)]
-pub struct TableFile<'a, R> {
+pub struct TableFile<'a, R: Files> {
     files: &'a R,
-    file: Option<Streamed<File>>,
-    open_failed: bool,
+    file: Option<R::File>,
+    failed: bool,
 }
 
-impl<'a, R: Files<File = File>> TableFile<'a, R> {
+impl<'a, R: Files> TableFile<'a, R> {
     /// The table, not opened yet.
     pub fn new(files: &'a R) -> Self {
         TableFile {
             files,
             file: None,
-            open_failed: false,
+            failed: false,
         }
     }
 }
 
-impl<'a, R: Files<File = File>> Source for TableFile<'a, R> {
+impl<'a, R: Files> Source for TableFile<'a, R> {
     ghost left = { λ _. None };
 
-    ghost has_failed = { λ table. option_map_or streamed_failed table.file false };
+    ghost has_failed = { λ table. table.failed };
 
     fn pull(&mut self, buf: &mut [u8]) -> Result<usize, StreamFault> {
-        match &mut self.file {
-            Some(file) => file.pull(buf),
-            None => Ok(0),
+        let read = match &mut self.file {
+            Some(file) => file.read(buf),
+            None => Err(io::Error::from(ErrorKind::NotFound)),
+        };
+        match read {
+            Ok(n) => Ok(n),
+            Err(_) => {
+                self.failed = true;
+                Err(StreamFault)
+            }
         }
     }
 }
 
-impl<'a, R: Files<File = File>> OpenTable for TableFile<'a, R> {
-    ghost bytes_at = { λ _ _. None };
+impl<'a, R: Files> OpenTable for TableFile<'a, R> {
+    ghost opens = { λ _ _ table. IsSome table.file };
 
-    ghost open_failed = { λ table. table.open_failed };
+    ghost fails_to_open = { λ old _ new. new ≡ old };
 
-    fn open(&mut self, path: &str) -> Result<(), StreamFault> {
-        match File::open(self.files, path) {
+    fn open(&mut self, path: &str) -> Result<(), OpenFault> {
+        match fs::open(self.files, path) {
             Ok(file) => {
-                self.file = Some(Streamed::new(file));
+                self.file = Some(file);
                 Ok(())
             }
-            Err(_) => {
-                self.open_failed = true;
-                Err(StreamFault)
-            }
+            Err(_) => Err(OpenFault),
         }
     }
 }

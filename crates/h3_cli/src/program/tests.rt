@@ -1,6 +1,6 @@
 use super::run_words;
 use crate::page::PageWriter;
-use crate::table::OpenTable;
+use crate::table::{OpenFault, OpenTable};
 use arrayvec::ArrayVec;
 use h3_index::{Sink, Source, StreamFault, Streamed};
 use std::alloc::{AllocError, Global};
@@ -12,9 +12,8 @@ struct MemoryTable<'a> {
     path: &'a str,
     rows: &'a [u8],
     source: Streamed<&'a [u8]>,
-    /// How often it was asked for a table.
-    asked: u8,
-    refused: bool,
+    /// How often `open` was called.
+    opened: u8,
 }
 
 impl<'a> MemoryTable<'a> {
@@ -23,8 +22,7 @@ impl<'a> MemoryTable<'a> {
             path,
             rows: rows.as_bytes(),
             source: Streamed::new(b"".as_slice()),
-            asked: 0,
-            refused: false,
+            opened: 0,
         }
     }
 }
@@ -43,17 +41,18 @@ impl<'a> Source for MemoryTable<'a> {
 }
 
 impl<'a> OpenTable for MemoryTable<'a> {
-    ghost use Rattle.std.specs.Prelude.{Some};
+    ghost use Rattle.std.specs.Prelude.{◌≡◌, ◌≢◌, false};
+    ghost use Rattle.h3_index.specs.Streamed.{streamed_failed, streamed_inner};
 
-    ghost bytes_at = { λ table _. Some table.rows.now };
+    ghost opens = { λ old path new. (old.path.now ≡ path)
+        × ((streamed_inner new.source).now ≡ old.rows.now) × (streamed_failed new.source ≡ false) };
 
-    ghost open_failed = { λ table. table.refused };
+    ghost fails_to_open = { λ old path new. old.path.now ≢ path };
 
-    fn open(&mut self, path: &str) -> Result<(), StreamFault> {
-        self.asked = self.asked.saturating_add(1);
+    fn open(&mut self, path: &str) -> Result<(), OpenFault> {
+        self.opened = self.opened.saturating_add(1);
         if self.path != path {
-            self.refused = true;
-            return Err(StreamFault);
+            return Err(OpenFault);
         }
         self.source = Streamed::new(self.rows);
         Ok(())
@@ -149,7 +148,7 @@ fn a_list_reaches_what_is_behind_the_page(rt: HostRuntime) -> Result<(), Fail> {
 }
 
 #[test]
-fn a_table_that_cannot_be_opened_is_told(rt: HostRuntime) -> Result<(), Fail> {
+fn table_that_cannot_be_opened(rt: HostRuntime) -> Result<(), Fail> {
     for line in [
         "h3 gridDiskUnsafe -c 85283473fffffff -k 1 --table none.csv",
         "h3 gridDiskDistancesUnsafe -c xyz -k 1 --table none.csv",
@@ -160,7 +159,7 @@ fn a_table_that_cannot_be_opened_is_told(rt: HostRuntime) -> Result<(), Fail> {
         let mut err = Streamed::new(ArrayVec::<u8, 64>::new());
         let status = status_over(rt.alloc(), line, "", &mut table, &mut out, &mut err)?;
         assert_eq!(&rt; status, 3, "{line}");
-        assert_eq!(&rt; table.asked, 1, "{line}");
+        assert_eq!(&rt; table.opened, 1, "{line}");
         assert!(&rt; out.into_inner().is_empty(), "{line}");
         assert!(&rt;
             err.into_inner().as_slice() == b"table: open\n".as_slice(),
@@ -171,7 +170,7 @@ fn a_table_that_cannot_be_opened_is_told(rt: HostRuntime) -> Result<(), Fail> {
 }
 
 #[test]
-fn words_that_run_no_table_open_none(rt: HostRuntime) -> Result<(), Fail> {
+fn opens_no_table(rt: HostRuntime) -> Result<(), Fail> {
     let lines = [
         (
             "h3 gridDiskUnsafe -c 85283473fffffff -k -1 --table plain.csv",
@@ -188,7 +187,7 @@ fn words_that_run_no_table_open_none(rt: HostRuntime) -> Result<(), Fail> {
         let mut err = Streamed::new(ArrayVec::<u8, 4096>::new());
         let status = status_over(rt.alloc(), line, "", &mut table, &mut out, &mut err)?;
         assert_eq!(&rt; status, wanted, "{line}");
-        assert_eq!(&rt; table.asked, 0, "{line}");
+        assert_eq!(&rt; table.opened, 0, "{line}");
     }
     Ok(())
 }
