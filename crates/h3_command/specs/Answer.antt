@@ -4,6 +4,7 @@ use Rattle.std.specs.List.{flat_map}
 use Rattle.h3_index.specs.Cell.{Address, number_of}
 use Rattle.h3_index.specs.Text.{text_of}
 use Rattle.h3_index.specs.declared.error.H3Error.{H3Error}
+use Rattle.h3_index.specs.declared.error.H3Error.TheVariants.{Failed}
 use Rattle.h3_lattice.specs.Fields.{records_of}
 use Rattle.h3_lattice.specs.Links.{Links}
 use Rattle.h3_lattice.specs.Table.{links_of, table_fault}
@@ -15,7 +16,7 @@ use Rattle.h3_command.specs.Resolutions.{get_num_cells, get_pentagons, get_res0_
 use Rattle.h3_command.specs.Sets.{compact_cells, uncompact_cells}
 use Rattle.h3_command.specs.Walks.{grid_disk_distances_unsafe, grid_disk_unsafe, grid_ring_unsafe}
 use Rattle.h3_command.specs.declared.command.Command.{Command}
-use Rattle.h3_command.specs.declared.command.Command.TheVariants.{IsValidCell, GetResolution, GetBaseCellNumber, IsPentagon, IsResClassIII, GetNumCells, GetRes0Cells, GetPentagons, CellToParent, CellToCenterChild, CellToChildren, CellToChildrenSize, CellToChildPos, ChildPosToCell, CompactCells, UncompactCells, GridDiskUnsafe, GridDiskDistancesUnsafe, GridRingUnsafe}
+use Rattle.h3_command.specs.declared.command.Command.TheVariants.{IsValidCell, GetResolution, GetBaseCellNumber, IsPentagon, IsResClassIII, GetNumCells, GetRes0Cells, GetPentagons, CellToParent, CellToCenterChild, CellToChildren, CellToChildrenSize, CellToChildPos, ChildPosToCell, CompactCells, UncompactCells, GridDiskUnsafe, GridDiskDistancesUnsafe, GridRingUnsafe, AreNeighborCells, CellsToDirectedEdge, IsValidDirectedEdge, GetDirectedEdgeOrigin, GetDirectedEdgeDestination, OriginToDirectedEdges}
 use Rattle.h3_command.specs.declared.refusal.Refusal.{Refusal}
 use Rattle.h3_command.specs.declared.refusal.Refusal.TheVariants.{Error, Memory, Table}
 
@@ -115,6 +116,12 @@ request (UncompactCells res) = of_list (λ cells. printed cell_lines (uncompact_
 request (GridDiskUnsafe cell k) = with_table (λ c link. answer_or_error (walked cell_line) (grid_disk_unsafe link c k)) (cell_of cell)
 request (GridDiskDistancesUnsafe cell k) = with_table (λ c link. answer_or_error (walked ring_line) (grid_disk_distances_unsafe link c k)) (cell_of cell)
 request (GridRingUnsafe cell k) = with_table (λ c link. answer_or_error (walked cell_line) (grid_ring_unsafe link c k)) (cell_of cell)
+request (AreNeighborCells cell to) = plain (printed truth_line (Err Failed))
+request (CellsToDirectedEdge cell to) = plain (printed truth_line (Err Failed))
+request (IsValidDirectedEdge edge) = plain (printed truth_line (Err Failed))
+request (GetDirectedEdgeOrigin edge) = plain (printed truth_line (Err Failed))
+request (GetDirectedEdgeDestination edge) = plain (printed truth_line (Err Failed))
+request (OriginToDirectedEdges cell) = plain (printed truth_line (Err Failed))
 
 -- the list of cells is read from standard input
 abbrev pub reads_list : Request → Bool

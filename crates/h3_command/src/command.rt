@@ -106,4 +106,36 @@ pub enum Command {
         cell: Option<u64>,
         k: i32,
     },
+
+    /// Whether two cells are neighbors, over a base cell table.
+    AreNeighborCells {
+        cell: Option<u64>,
+        to: Option<u64>,
+    },
+
+    /// The directed edge from a cell to its neighbor, over a base cell table.
+    CellsToDirectedEdge {
+        cell: Option<u64>,
+        to: Option<u64>,
+    },
+
+    /// Whether an index is a valid directed edge.
+    IsValidDirectedEdge {
+        edge: Option<u64>,
+    },
+
+    /// The cell that a directed edge starts from.
+    GetDirectedEdgeOrigin {
+        edge: Option<u64>,
+    },
+
+    /// The cell that a directed edge leads to, over a base cell table.
+    GetDirectedEdgeDestination {
+        edge: Option<u64>,
+    },
+
+    /// The directed edges of a cell.
+    OriginToDirectedEdges {
+        cell: Option<u64>,
+    },
 }

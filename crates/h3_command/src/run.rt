@@ -1,6 +1,7 @@
 //! Running a command.
 
 ghost use Rattle.std.specs.Prelude.{◌≡◌, false};
+ghost use Rattle.h3_index.specs.declared.error.H3Error.{H3Error};
 ghost use Rattle.h3_command.specs.Answer.{reads_list, reads_table, request};
 ghost use Rattle.h3_command.specs.Run.{Ends, Reports, Runs, sink_use, source_use};
 
@@ -17,8 +18,14 @@ use crate::resolutions::{get_num_cells, get_pentagons, get_res0_cells};
 use crate::sets::{compact_cells, uncompact_cells};
 use crate::walks::{grid_disk_distances_unsafe, grid_disk_unsafe, grid_ring_unsafe};
 use crate::write::{write_all, write_lines, write_result};
-use h3_index::{Sink, Source};
+use h3_index::{H3Error, Sink, Source};
 use std::alloc::Global;
+
+fn no_answer() -> Result<bool, H3Error>
+    ensures { result ≡ Err H3Error.Failed }
+{
+    Err(H3Error::Failed)
+}
 
 /// Does the work of a command, up to the line on standard error.
 fn perform<R: Source, T: Source, W: Sink>(
@@ -64,6 +71,12 @@ fn perform<R: Source, T: Source, W: Sink>(
             grid_disk_distances_unsafe(alloc, *cell, *k, table, out)
         }
         Command::GridRingUnsafe { cell, k } => grid_ring_unsafe(alloc, *cell, *k, table, out),
+        Command::AreNeighborCells { .. } => write_result(out, no_answer()),
+        Command::CellsToDirectedEdge { .. } => write_result(out, no_answer()),
+        Command::IsValidDirectedEdge { .. } => write_result(out, no_answer()),
+        Command::GetDirectedEdgeOrigin { .. } => write_result(out, no_answer()),
+        Command::GetDirectedEdgeDestination { .. } => write_result(out, no_answer()),
+        Command::OriginToDirectedEdges { .. } => write_result(out, no_answer()),
     }
 }
 
