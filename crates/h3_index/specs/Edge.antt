@@ -10,12 +10,15 @@ pub record DirectedEdge : Type 0 where
   pub origin : Address
   pub direction : ℕ
 
+abbrev pub directed_edge : Address → ℕ → DirectedEdge
+directed_edge c d = record { origin = c; direction = d }
+
 pub record IsEdge (e : DirectedEdge) : Type 0 where
   pub origin_cell : IsCell e.origin
   pub some_direction : 0 < e.direction
   pub direction_small : e.direction < 7
   pub not_deleted : IsTrue (is_pentagon e.origin) → e.direction ≢ 1
 
--- the number of an edge
+-- the number of an edge: mode 2 is one more than mode 1
 unfoldable pub edge_number : DirectedEdge → ℕ
 edge_number e = number_of e.origin + 2 ^ 59 + e.direction * 2 ^ 56
