@@ -1,7 +1,7 @@
 -- Neighbours: the direction that leads to one, the way back, and cells that are refused.
-use Rattle.std.proofs.Common.{ℕ, zero, suc, ◌≡◌, ◌≢◌, ◌<◌, ◌+◌, ◌-◌, ◌%◌, ◌==◌, List, [], ◌∷◌, length, map, Contains, Bool, true, false, not, ◌||◌, Option, Some, None, is_some, refl, arith, sym, ap, ◌∙◌, subst}
+use Rattle.std.proofs.Common.{ℕ, zero, suc, ◌≡◌, ◌≢◌, ◌<◌, ◌+◌, ◌-◌, ◌%◌, ◌==◌, ◌↔◌, List, [], ◌∷◌, length, map, Contains, Bool, true, false, not, ◌||◌, Option, Some, None, is_some, refl, arith, sym, ap, ◌∙◌, subst}
 use Rattle.std.specs.List.{find}
-use Rattle.std.proofs.Math.ListN.{length-map}
+use Rattle.std.proofs.lemmas.List.{length-map}
 use Rattle.std.proofs.lemmas.Bool.Decides.{nat_tests}
 use Rattle.h3_index.specs.Cell.{Address, IsCell, is_pentagon_base, number_of, resolution}
 use Rattle.h3_index.specs.Laws.{NumbersTellCells}
@@ -44,6 +44,61 @@ same_turn sums link x y rot q p d e hex same st = by_out l.out l.list l.sum l.is
               ∙ crossed_to (link x.base u) (link x.base u).0 (link x.base u).1 p es refl c.hexagon ∙ ap (λ a. Some (state a ((p + (link x.base u).1) % 6))) (sym cell),
         )
 
+-- ---- tests
+
+false_true : false ≡ true → ⊥
+false_true e = cc
+
+pub number_same : (x y : Address) → is_same y x ≡ true → number_of x ≡ number_of y
+number_same x y e = grind (arith, nat_tests)
+
+pub same_number : (x y : Address) → number_of x ≡ number_of y → is_same x y ≡ true
+same_number x y e = grind (arith, nat_tests)
+
+pub other_number : (x y : Address) → number_of x ≢ number_of y → is_same x y ≡ false
+other_number x y h = grind (arith, nat_tests)
+
+same_truth : (a b : Bool) → (a ≡ true → b ≡ true) → (b ≡ true → a ≡ true) → a ≡ b
+same_truth true b h k = sym (h refl)
+same_truth false true h k = k refl
+same_truth false false h k = refl
+
+eq-sym : (m n : ℕ) → (m == n) ≡ (n == m)
+eq-sym m n =
+    same_truth (m == n) (n == m) (λ e. grind (arith, nat_tests)) (λ e. grind (arith, nat_tests))
+
+or-sym : (a b : Bool) → (a || b) ≡ (b || a)
+or-sym true true = refl
+or-sym true false = refl
+or-sym false true = refl
+or-sym false false = refl
+
+pub some_of : {A : Type 0} (o : Option A) → is_some o ≡ true → (a : A) × (o ≡ Some a)
+some_of None e = absurd (false_true e)
+some_of (Some a) e = (a, refl)
+
+-- what is found passes
+found_passes : {A : Type 0} (p : A → Bool) (xs : List A) (x : A) → find p xs ≡ Some x → p x ≡ true
+found_passes p [] x e = cc
+found_passes p (y ∷ xs) x e = first (p y) refl (λ f. found_passes p xs x f)
+  where
+    first : (b : Bool) → p y ≡ b → (find p xs ≡ Some x → p x ≡ true) → p x ≡ true
+    first true is later = let here : Some y ≡ Some x = rw is at e in let same : y ≡ x = cc in ap p (sym same) ∙ is
+    first false is later = later (rw is at e)
+
+in_directions : (d : Direction) → Contains directions d
+in_directions K = (0, omega arith, refl)
+in_directions J = (1, omega arith, refl)
+in_directions JK = (2, omega arith, refl)
+in_directions I = (3, omega arith, refl)
+in_directions IK = (4, omega arith, refl)
+in_directions IJ = (5, omega arith, refl)
+
+refusal-sym : (x y : Address) → neighbour_refusal x y ≡ neighbour_refusal y x
+unfolding neighbour_refusal
+refusal-sym x y =
+    rw (eq-sym (resolution x) (resolution y), eq-sym (number_of x) (number_of y), or-sym (is_pentagon_base x.base) (is_pentagon_base y.base)) refl
+
 -- ---- the neighbour in a direction
 
 -- a step that reaches the neighbour
@@ -58,6 +113,9 @@ step-neighbour link x y d e = by_step (step_of link (state x 0) d) refl e
 pub neighbour-step : (link : Links) (x y : Address) (d : Direction) (r : ℕ) → step_of link (state x 0) d ≡ Some (state y r) → neighbour link x d ≡ Some y
 unfolding neighbour
 neighbour-step link x y d r e = ap cell_reached e
+
+is_passes : (link : Links) (x y : Address) (d : Direction) → neighbour link x d ≡ Some y → is_some_same y (neighbour link x d) ≡ true
+is_passes link x y d e = ap (is_some_same y) e ∙ same_number y y refl
 
 some_none : {A : Type 0} (a : A) → Some a ≡ None → ⊥
 some_none a e = cc
@@ -121,3 +179,46 @@ module _ (w : StepLawsHold) (sums : SumLaws) (link : Links) (sound : IsSound lin
 
   pub neighbours_mutual : NeighboursAreMutual link
   neighbours_mutual x y v u = (neighbour_back x y v, neighbour_back y x u)
+
+  -- ---- the direction to a neighbour
+
+  module _ (tell : NumbersTellCells) (part : OverSoundLinks StepsPart) where
+    pub directions_part : DirectionsPart link
+    directions_part x y d e v p q =
+        let s = step-neighbour link x y d p in
+        let t = step-neighbour link x y e q in
+        part link sound (state x 0) (state y s.0) (state y t.0) d e (from_hexagon link x y d v p) s.1 t.1 refl
+
+    passes_is : (x y : Address) (d : Direction) → IsCell x → IsCell y → is_some_same y (neighbour link x d) ≡ true → neighbour link x d ≡ Some y
+    passes_is x y d v u e = by_neighbour (neighbour link x d) refl e
+      where
+        by_neighbour : (o : Option Address) → neighbour link x d ≡ o → is_some_same y o ≡ true → neighbour link x d ≡ Some y
+        by_neighbour None is e = absurd (false_true e)
+        by_neighbour (Some z) is e = is ∙ ap (λ c. Some c) (tell z y (neighbour_is x z d v is).valid u (number_same z y e))
+
+    pub directions_found : DirectionsAreFound link
+    unfolding direction_to
+    directions_found x y d v u = (
+      λ e. passes_is x y d v u (found_passes (λ d. is_some_same y (neighbour link x d)) directions d e),
+      λ e. find_one (λ d. is_some_same y (neighbour link x d)) directions d (in_directions d) (is_passes link x y d e) (λ c m t. directions_part x y c d v (passes_is x y c v u t) e),
+    )
+
+    -- ---- whether two cells are neighbours
+
+    to_related : (x y : Address) → IsCell x → IsCell y → is_some (direction_to link x y) ≡ true → AreNeighbours link x y
+    to_related x y v u e =
+        let s = some_of (direction_to link x y) e in
+        record { direction = s.0; leads = (directions_found x y s.0 v u).0 s.1 }
+
+    pub related : (x y : Address) → IsCell x → IsCell y → (is_some (direction_to link x y) ≡ true) ↔ AreNeighbours link x y
+    related x y v u =
+        (to_related x y v u, λ n. ap is_some ((directions_found x y n.direction v u).1 n.leads))
+
+    pub both_agree : BothOrdersAgree link
+    unfolding are_neighbours
+    both_agree x y v u =
+        let there = related x y v u in
+        let back = related y x u v in
+        let swap = neighbours_mutual x y v u in
+        let same : is_some (direction_to link x y) ≡ is_some (direction_to link y x) = same_truth _ _ (λ e. back.1 (swap.0 (there.0 e))) (λ e. there.1 (swap.1 (back.0 e))) in
+        rw (refusal-sym x y, same) refl

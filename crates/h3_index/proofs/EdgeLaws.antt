@@ -1,16 +1,16 @@
 -- Directed edges and their numbers: a number tells the edge that it stands for.
 use Rattle.std.specs.Int.Digits.{number_from_digits}
 use Rattle.std.specs.Cmp.Derive.{both_true}
-use Rattle.std.specs.Result.{result_ok}
-use Rattle.std.proofs.Common.{ℕ, ◌≡◌, ◌≢◌, ◌+◌, ◌-◌, ◌*◌, ◌/◌, ◌%◌, ◌^◌, ◌<◌, ◌==◌, nat_lt, length, take, replicate, Bool, true, false, ◌&&◌, Some, None, Result, Ok, Err, IfOk, IfErr, if◌then◌else◌, refl, arith, ◌∙◌, sym, ap, subst}
+use Rattle.std.specs.Result.{result_ok, result_err}
+use Rattle.std.proofs.Common.{ℕ, ◌≡◌, ◌≢◌, ◌+◌, ◌-◌, ◌*◌, ◌/◌, ◌%◌, ◌^◌, ◌<◌, ◌==◌, nat_lt, length, take, replicate, Bool, true, false, not, ◌&&◌, Some, None, Result, Ok, Err, IfOk, IfErr, if◌then◌else◌, refl, arith, ◌∙◌, sym, ap, subst}
 use Rattle.std.proofs.Math.Seq.{take-append_seam}
-use Rattle.std.proofs.lemmas.Bool.{and_parts}
+use Rattle.std.proofs.lemmas.Bool.{and_parts, false≢true}
 use Rattle.std.proofs.lemmas.Bool.Decides.{nat_tests}
 use Rattle.h3_index.specs.Cell.{Address, IsCell, is_pentagon, number_of, padded}
 use Rattle.h3_index.specs.CellNumber.{address_in, is_cell}
 use Rattle.h3_index.specs.declared.error.H3Error.{H3Error}
 use Rattle.h3_index.specs.declared.error.H3Error.TheVariants.{DirEdgeInvalid}
-use Rattle.h3_index.specs.Edge.{DirectedEdge, IsEdge, directed_edge, edge_number}
+use Rattle.h3_index.specs.Edge.{DirectedEdge, IsEdge, direction_refusal, directed_edge, edge_number, has_edge}
 use Rattle.h3_index.specs.EdgeNumber.{IsEdgeNumber, directed_edge_in, direction_in, edge_in, is_edge}
 use Rattle.h3_index.proofs.CellLaws.{digits-under, head_of, low_small, mode-number_of, number_of_is, same_from_number}
 use Rattle.h3_index.proofs.CellTestLaws.{is_cell-true, not_deleted-true, true-is_cell, true-not_deleted}
@@ -83,26 +83,31 @@ from_bits c d m = number_is (number_of c) d m
 
 -- ---- the test
 
-pub is_edge-true : (e : DirectedEdge) → IsEdge e → is_edge e ≡ true
-is_edge-true e h =
-    let some = h.some_direction in
-    let small = h.direction_small in
-    let some_test : nat_lt 0 e.direction ≡ true = grind (arith, nat_tests) in
-    let small_test : nat_lt e.direction 7 ≡ true = grind (arith, nat_tests) in
-    both_true (both_true (both_true (is_cell-true e.origin h.origin_cell) some_test) small_test)
-    (not_deleted-true (is_pentagon e.origin) e.direction h.not_deleted)
+pub has_edge-true : (c : Address) (d : ℕ) → 0 < d → d < 7 → (is_pentagon c ≡ true → d ≢ 1) → has_edge c d ≡ true
+has_edge-true c d some small left =
+    let some_test : nat_lt 0 d ≡ true = grind (arith, nat_tests) in
+    let small_test : nat_lt d 7 ≡ true = grind (arith, nat_tests) in
+    both_true (both_true some_test small_test) (not_deleted-true (is_pentagon c) d left)
 
-pub true-is_edge : (e : DirectedEdge) → is_edge e ≡ true → IsEdge e
-true-is_edge e h =
-    let all = and_parts _ _ h in
-    let numbers = and_parts _ _ all.0 in
-    let first = and_parts (is_cell e.origin) (nat_lt 0 e.direction) numbers.0 in
+pub true-has_edge : (c : Address) (d : ℕ) → IsCell c → has_edge c d ≡ true → IsEdge (directed_edge c d)
+true-has_edge c d h e =
+    let all = and_parts (nat_lt 0 d && nat_lt d 7) (not (is_pentagon c && d == 1)) e in
+    let sizes = and_parts (nat_lt 0 d) (nat_lt d 7) all.0 in
     record {
-      origin_cell = true-is_cell e.origin first.0;
-      some_direction = (let test = first.1 in grind (arith, nat_tests));
-      direction_small = (let test = numbers.1 in grind (arith, nat_tests));
-      not_deleted = true-not_deleted (is_pentagon e.origin) e.direction all.1;
+      origin_cell = h;
+      some_direction = (let test = sizes.0 in grind (arith, nat_tests));
+      direction_small = (let test = sizes.1 in grind (arith, nat_tests));
+      not_deleted = true-not_deleted (is_pentagon c) d all.1;
     }
+
+is_edge-true : (e : DirectedEdge) → IsEdge e → is_edge e ≡ true
+is_edge-true e h =
+    both_true (is_cell-true e.origin h.origin_cell) (has_edge-true e.origin e.direction h.some_direction h.direction_small h.not_deleted)
+
+true-is_edge : (e : DirectedEdge) → is_edge e ≡ true → IsEdge e
+true-is_edge e h =
+    let p = and_parts (is_cell e.origin) (has_edge e.origin e.direction) h in
+    true-has_edge e.origin e.direction (true-is_cell e.origin p.0) p.1
 
 pub edge_in-some : (e : DirectedEdge) (m : ℕ) → IsEdge e → edge_number e ≡ m → edge_in m ≡ Some e
 unfolding edge_in
@@ -171,18 +176,28 @@ only_read c d m h s none e valid is =
 abbrev Made : Address → ℕ → Result DirectedEdge H3Error → Type 0
 Made c d r = IfOk r (λ e. (e ≡ directed_edge c d) × IsEdge e)
 
-abbrev Refused : Address → ℕ → Result DirectedEdge H3Error → Type 0
-Refused c d r = IfErr r (λ e. (e ≡ DirEdgeInvalid) × (IsEdge (directed_edge c d) → ⊥))
+-- of a cell and a direction that are refused no edge is made
+none_refused : (c : Address) (d : ℕ) (e : H3Error) → Some e ≡ direction_refusal c d → (e ≡ DirEdgeInvalid) × (IsEdge (directed_edge c d) → ⊥)
+none_refused c d e is = by_test (has_edge c d) refl
+  where
+    by_test : (b : Bool) → has_edge c d ≡ b → (e ≡ DirEdgeInvalid) × (IsEdge (directed_edge c d) → ⊥)
+    by_test true test = let none : Some e ≡ None = rw test at is in cc
+    by_test false test =
+        let other : Some e ≡ Some DirEdgeInvalid = rw test at is in
+        (cc, λ h. false≢true (sym test ∙ has_edge-true c d h.some_direction h.direction_small h.not_deleted))
 
-pub made_read : (c : Address) (d m : ℕ) (r : Result DirectedEdge H3Error) → IsCell c → Stands c d m → Made c d r → Refused c d r → result_ok r ≡ edge_in m
+pub made_read : (c : Address) (d m : ℕ) (r : Result DirectedEdge H3Error) → IsCell c → Stands c d m → Made c d r → result_err r ≡ direction_refusal c d → result_ok r ≡ edge_in m
 made_read c d m (Ok e) h s made refused =
     sym (edge_in-some e m made.1 (ap edge_number made.0 ∙ number_read c d m s))
-made_read c d m (Err e) h s made refused = sym (edge_in-none m (only_read c d m h s refused.1))
+made_read c d m (Err e) h s made refused =
+    sym (edge_in-none m (only_read c d m h s (none_refused c d e refused).1))
 
 pub made_accepted : (c : Address) (d m : ℕ) (r : Result DirectedEdge H3Error) → Stands c d m → Made c d r → IfOk r (λ e. IsEdge e × (edge_number e ≡ m))
 made_accepted c d m (Ok e) s made = (made.1, ap edge_number made.0 ∙ number_read c d m s)
 made_accepted c d m (Err e) s made = tt
 
-pub made_refused : (c : Address) (d m : ℕ) (r : Result DirectedEdge H3Error) → IsCell c → Stands c d m → Refused c d r → IfErr r (λ e. (e ≡ DirEdgeInvalid) × ((e : DirectedEdge) → IsEdge e → edge_number e ≢ m))
+pub made_refused : (c : Address) (d m : ℕ) (r : Result DirectedEdge H3Error) → IsCell c → Stands c d m → result_err r ≡ direction_refusal c d → IfErr r (λ e. (e ≡ DirEdgeInvalid) × ((e : DirectedEdge) → IsEdge e → edge_number e ≢ m))
 made_refused c d m (Ok e) h s refused = tt
-made_refused c d m (Err e) h s refused = (refused.0, only_read c d m h s refused.1)
+made_refused c d m (Err e) h s refused =
+    let n = none_refused c d e refused in
+    (n.0, only_read c d m h s n.1)

@@ -1,8 +1,7 @@
 -- What the fields of a number say of a directed edge.
-use Rattle.std.specs.Prelude.{ℕ, ◌≡◌, ◌/◌, ◌%◌, ◌^◌, ◌==◌, nat_lt, Bool, ◌&&◌, not, Option, Some, None, if◌then◌else◌}
-use Rattle.h3_index.specs.Cell.{is_pentagon}
+use Rattle.std.specs.Prelude.{ℕ, ◌≡◌, ◌/◌, ◌%◌, ◌^◌, ◌==◌, Bool, ◌&&◌, Option, Some, None, if◌then◌else◌}
 use Rattle.h3_index.specs.CellNumber.{address_in, is_cell}
-use Rattle.h3_index.specs.Edge.{DirectedEdge, IsEdge, directed_edge, edge_number}
+use Rattle.h3_index.specs.Edge.{DirectedEdge, IsEdge, directed_edge, edge_number, has_edge}
 
 -- the three bits that depend on the mode
 abbrev pub direction_in : ℕ → ℕ
@@ -19,8 +18,7 @@ pub record IsEdgeNumber (m : ℕ) : Type 0 where
 
 -- the test of `IsEdge`
 abbrev pub is_edge : DirectedEdge → Bool
-is_edge e =
-    is_cell e.origin && nat_lt 0 e.direction && nat_lt e.direction 7 && not (is_pentagon e.origin && e.direction == 1)
+is_edge e = is_cell e.origin && has_edge e.origin e.direction
 
 -- the edge that a number stands for, where it does for one
 unfoldable pub edge_in : ℕ → Option DirectedEdge

@@ -1,8 +1,8 @@
 //! Directed edges, each a cell and a direction in which it leaves the cell.
 
 ghost use Rattle.std.specs.Prelude.{◌≡◌, ◌≢◌, ◌+◌, ◌%◌, ◌^◌, IfOk, IfErr};
-ghost use Rattle.std.specs.Result.{result_ok};
-ghost use Rattle.h3_index.specs.Edge.{DirectedEdge, IsEdge, directed_edge, edge_number};
+ghost use Rattle.std.specs.Result.{result_ok, result_err};
+ghost use Rattle.h3_index.specs.Edge.{DirectedEdge, IsEdge, direction_refusal, directed_edge, edge_number};
 ghost use Rattle.h3_index.specs.EdgeNumber.{edge_in};
 
 use crate::cell::Cell;
@@ -59,8 +59,7 @@ impl Edge {
     /// it is 1 (K) at a pentagon.
     pub fn from_parts(origin: Cell, direction: u8) -> Result<Edge, H3Error>
         ensures made { IfOk result (λ edge. (edge ≡ directed_edge origin direction) × IsEdge edge) }
-        ensures refused { IfErr result (λ e. (e ≡ H3Error.DirEdgeInvalid)
-            × ¬ IsEdge (directed_edge origin direction)) }
+        ensures refused { result_err result ≡ direction_refusal origin direction }
     {
         if direction == 0 || direction > 6 || direction == 1 && origin.is_pentagon() {
             return Err(H3Error::DirEdgeInvalid);
