@@ -1,10 +1,11 @@
 -- Neighbours: the direction that leads to one, the way back, and cells that are refused.
-use Rattle.std.proofs.Common.{ℕ, zero, suc, ◌≡◌, ◌≢◌, ◌<◌, ◌+◌, ◌-◌, ◌%◌, ◌==◌, ◌↔◌, List, [], ◌∷◌, length, map, Contains, Bool, true, false, not, ◌||◌, Option, Some, None, is_some, refl, arith, sym, ap, ◌∙◌, subst}
+use Rattle.std.proofs.Common.{ℕ, ◌≡◌, ◌≢◌, ◌<◌, ◌+◌, ◌%◌, ◌==◌, ◌↔◌, List, [], ◌∷◌, length, map, Contains, Bool, true, false, ◌||◌, if◌then◌else◌, Option, Some, None, is_some, Ok, Err, refl, arith, sym, ap, ◌∙◌, subst}
 use Rattle.std.specs.List.{find}
 use Rattle.std.proofs.lemmas.List.{length-map}
 use Rattle.std.proofs.lemmas.Bool.Decides.{nat_tests}
 use Rattle.h3_index.specs.Cell.{Address, IsCell, is_pentagon_base, number_of, resolution}
 use Rattle.h3_index.specs.Laws.{NumbersTellCells}
+use Rattle.h3_index.specs.declared.error.H3Error.{H3Error}
 use Rattle.h3_index.specs.declared.error.H3Error.TheVariants.{Pentagon, ResMismatch}
 use Rattle.h3_lattice.specs.declared.direction.Direction.{Direction}
 use Rattle.h3_lattice.specs.declared.direction.Direction.TheVariants.{K, J, JK, I, IK, IJ}
@@ -13,7 +14,7 @@ use Rattle.h3_lattice.specs.Direction.{digit_turned, directions, opposite, turne
 use Rattle.h3_lattice.specs.Links.{IsSound, Links}
 use Rattle.h3_lattice.specs.Moved.{IsSum}
 use Rattle.h3_grid.specs.Laws.{IsState, OverSoundLinks, StepsMove, StepsPart}
-use Rattle.h3_grid.specs.Neighbours.{AreNeighbours, BothOrdersAgree, DirectionsAreFound, DirectionsPart, NeighboursAreMutual, are_neighbours, cell_reached, direction_to, is_same, is_some_same, neighbour, neighbour_refusal, unless_refused}
+use Rattle.h3_grid.specs.Neighbours.{AreNeighbours, BothOrdersAgree, DirectionsAreFound, DirectionsPart, NeighboursAreMutual, NeighboursDiffer, are_neighbours, cell_reached, direction_to, is_same, is_some_same, neighbour, neighbour_refusal}
 use Rattle.h3_grid.specs.Search.{step_of}
 use Rattle.h3_grid.specs.Steps.{Leads, State, led_to, state}
 use Rattle.h3_grid.proofs.BackLaws.{crossed_to}
@@ -49,7 +50,7 @@ same_turn sums link x y rot q p d e hex same st = by_out l.out l.list l.sum l.is
 false_true : false ≡ true → ⊥
 false_true e = cc
 
-pub number_same : (x y : Address) → is_same y x ≡ true → number_of x ≡ number_of y
+pub number_same : (x y : Address) → is_same x y ≡ true → number_of x ≡ number_of y
 number_same x y e = grind (arith, nat_tests)
 
 pub same_number : (x y : Address) → number_of x ≡ number_of y → is_same x y ≡ true
@@ -99,6 +100,41 @@ unfolding neighbour_refusal
 refusal-sym x y =
     rw (eq-sym (resolution x) (resolution y), eq-sym (number_of x) (number_of y), or-sym (is_pentagon_base x.base) (is_pentagon_base y.base)) refl
 
+-- ---- refusals
+
+pub refusal-resolution : (x y : Address) → (resolution x ≡ resolution y → ⊥) → neighbour_refusal x y ≡ Some ResMismatch
+unfolding neighbour_refusal
+refusal-resolution x y h =
+    let test : (resolution x == resolution y) ≡ false = grind (arith, nat_tests) in
+    rw test refl
+
+same_resolution : (x y : Address) → resolution x ≡ resolution y → (resolution x == resolution y) ≡ true
+same_resolution x y e = grind (arith, nat_tests)
+
+pub refusal-same : (x y : Address) → resolution x ≡ resolution y → is_same x y ≡ true → neighbour_refusal x y ≡ None
+unfolding neighbour_refusal
+refusal-same x y e same = rw (same_resolution x y e, same) refl
+
+pub refusal-other : (x y : Address) (b : Bool) → resolution x ≡ resolution y → is_same x y ≡ false → (is_pentagon_base x.base || is_pentagon_base y.base) ≡ b → neighbour_refusal x y ≡ (if b then Some Pentagon else None)
+unfolding neighbour_refusal
+refusal-other x y b e other test = rw (same_resolution x y e, other, test) refl
+
+pub answer-refused : (link : Links) (x y : Address) (e : H3Error) → neighbour_refusal x y ≡ Some e → are_neighbours link x y ≡ Err e
+unfolding are_neighbours
+answer-refused link x y e h = rw h refl
+
+pub answer-told : (link : Links) (x y : Address) → neighbour_refusal x y ≡ None → are_neighbours link x y ≡ Ok (is_some (direction_to link x y))
+unfolding are_neighbours
+answer-told link x y h = rw h refl
+
+-- a cell of the same number is not found
+pub none_same : (link : Links) → DirectionsAreFound link → NeighboursDiffer link → (x y : Address) → IsCell x → IsCell y → is_same x y ≡ true → direction_to link x y ≡ None
+none_same link found differ x y v u same = by_direction (direction_to link x y) refl
+  where
+    by_direction : (o : Option Direction) → direction_to link x y ≡ o → direction_to link x y ≡ None
+    by_direction None is = is
+    by_direction (Some d) is = absurd (differ x y d v ((found x y d v u).0 is) (number_same x y same))
+
 -- ---- the neighbour in a direction
 
 -- a step that reaches the neighbour
@@ -146,6 +182,17 @@ same_length sums link x y q d hex st = by_out l.out l.list l.sum l.is
         let c = crossed_is (link x.base u) 0 es (state y q) is in
         ap (λ (s : State). length s.cell.digits) c.is ∙ length-map es (digit_turned (link x.base u).1) ∙ sum.long
 
+to_related : (link : Links) → DirectionsAreFound link → (x y : Address) → IsCell x → IsCell y → is_some (direction_to link x y) ≡ true → AreNeighbours link x y
+to_related link found x y v u e =
+    let s = some_of (direction_to link x y) e in
+    record { direction = s.0; leads = (found x y s.0 v u).0 s.1 }
+
+pub related : (link : Links) → DirectionsAreFound link → (x y : Address) → IsCell x → IsCell y → (is_some (direction_to link x y) ≡ true) ↔ AreNeighbours link x y
+related link found x y v u =
+    (to_related link found x y v u, λ n. ap is_some ((found x y n.direction v u).1 n.leads))
+
+-- ---- over sound links
+
 module _ (w : StepLawsHold) (sums : SumLaws) (link : Links) (sound : IsSound link) where
   -- a neighbour is a cell, of the same resolution and in a hexagon base cell
   pub record IsNeighbour (x y : Address) : Type 0 where
@@ -189,6 +236,11 @@ module _ (w : StepLawsHold) (sums : SumLaws) (link : Links) (sound : IsSound lin
         let t = step-neighbour link x y e q in
         part link sound (state x 0) (state y s.0) (state y t.0) d e (from_hexagon link x y d v p) s.1 t.1 refl
 
+    pub neighbours_differ : OverSoundLinks StepsMove → NeighboursDiffer link
+    neighbours_differ move_on x y d v p e =
+        let s = step-neighbour link x y d p in
+        move_on link sound (state x 0) (state y s.0) d (from_hexagon link x y d v p) s.1 (sym (tell x y v (neighbour_is x y d v p).valid e))
+
     passes_is : (x y : Address) (d : Direction) → IsCell x → IsCell y → is_some_same y (neighbour link x d) ≡ true → neighbour link x d ≡ Some y
     passes_is x y d v u e = by_neighbour (neighbour link x d) refl e
       where
@@ -203,22 +255,11 @@ module _ (w : StepLawsHold) (sums : SumLaws) (link : Links) (sound : IsSound lin
       λ e. find_one (λ d. is_some_same y (neighbour link x d)) directions d (in_directions d) (is_passes link x y d e) (λ c m t. directions_part x y c d v (passes_is x y c v u t) e),
     )
 
-    -- ---- whether two cells are neighbours
-
-    to_related : (x y : Address) → IsCell x → IsCell y → is_some (direction_to link x y) ≡ true → AreNeighbours link x y
-    to_related x y v u e =
-        let s = some_of (direction_to link x y) e in
-        record { direction = s.0; leads = (directions_found x y s.0 v u).0 s.1 }
-
-    pub related : (x y : Address) → IsCell x → IsCell y → (is_some (direction_to link x y) ≡ true) ↔ AreNeighbours link x y
-    related x y v u =
-        (to_related x y v u, λ n. ap is_some ((directions_found x y n.direction v u).1 n.leads))
-
     pub both_agree : BothOrdersAgree link
     unfolding are_neighbours
     both_agree x y v u =
-        let there = related x y v u in
-        let back = related y x u v in
+        let there = related link directions_found x y v u in
+        let back = related link directions_found y x u v in
         let swap = neighbours_mutual x y v u in
         let same : is_some (direction_to link x y) ≡ is_some (direction_to link y x) = same_truth _ _ (λ e. back.1 (swap.0 (there.0 e))) (λ e. there.1 (swap.1 (back.0 e))) in
         rw (refusal-sym x y, same) refl

@@ -2,7 +2,7 @@
 --
 -- H3's `areNeighborCells`: two cells of one resolution are neighbours where a step leads from the one to the other. No
 -- step starts or ends in a pentagon base cell, so there no cell is the neighbour of another.
-use Rattle.std.specs.Prelude.{◌≡◌, ◌↔◌, ◌==◌, ◌||◌, Bool, false, not, if◌then◌else◌, Option, Some, None, is_some, Result, Ok, Err}
+use Rattle.std.specs.Prelude.{◌≡◌, ◌≢◌, ◌↔◌, ◌==◌, ◌||◌, Bool, false, not, if◌then◌else◌, Option, Some, None, is_some, Result, Ok, Err}
 use Rattle.std.specs.List.{find}
 use Rattle.h3_index.specs.Cell.{Address, IsCell, is_pentagon_base, number_of, resolution}
 use Rattle.h3_index.specs.declared.error.H3Error.{H3Error}
@@ -34,7 +34,7 @@ is_same x y = number_of x == number_of y
 
 abbrev pub is_some_same : Address → Option Address → Bool
 is_some_same y None = false
-is_some_same y (Some z) = is_same y z
+is_some_same y (Some z) = is_same z y
 
 -- the direction by which y is the neighbour of x, if there is one
 unfoldable pub direction_to : Links → Address → Address → Option Direction
@@ -68,6 +68,11 @@ DirectionsAreFound link =
 abbrev pub DirectionsPart : Links → Type 0
 DirectionsPart link =
     (x y : Address) (d e : Direction) → IsCell x → neighbour link x d ≡ Some y → neighbour link x e ≡ Some y → d ≡ e
+
+-- no cell is its own neighbour
+abbrev pub NeighboursDiffer : Links → Type 0
+NeighboursDiffer link =
+    (x y : Address) (d : Direction) → IsCell x → neighbour link x d ≡ Some y → number_of x ≢ number_of y
 
 -- of two cells each is the other's neighbour, or none is
 abbrev pub NeighboursAreMutual : Links → Type 0

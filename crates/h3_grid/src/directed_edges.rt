@@ -8,8 +8,7 @@ ghost use Rattle.h3_grid.specs.Edges.{edges_left};
 ghost use Rattle.h3_grid.specs.Neighbours.{AreNeighbours, DirectionsAreFound, DirectionsPart};
 
 use crate::iter::Edges;
-use crate::neighbours::{direction_to, neighbour_is_lawful};
-use crate::steps::step;
+use crate::neighbours::{direction_to, either_in_pentagon_base, neighbor, neighbour_is_lawful};
 use h3_index::{Cell, Edge, H3Error};
 use h3_lattice::{BaseTable, Direction};
 
@@ -37,7 +36,7 @@ pub fn edge_between(table: &BaseTable, a: Cell, b: Cell) -> Result<Edge, H3Error
     if a == b {
         return Err(H3Error::NotNeighbors);
     }
-    if a.in_pentagon_base() || b.in_pentagon_base() {
+    if either_in_pentagon_base(a, b) {
         return Err(H3Error::Pentagon);
     }
     match direction_to(table, a, b) {
@@ -61,9 +60,9 @@ pub fn edge_destination(table: &BaseTable, edge: Edge) -> Result<Cell, H3Error>
     let Some(direction) = Direction::from_digit(edge.direction()) else {
         unreachable!()
     };
-    match step(table, edge.origin(), direction, 0) {
-        Ok((cell, _)) => Ok(cell),
-        Err(error) => Err(error),
+    match neighbor(table, edge.origin(), direction) {
+        Some(cell) => Ok(cell),
+        None => Err(H3Error::Pentagon),
     }
 }
 

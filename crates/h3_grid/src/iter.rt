@@ -30,9 +30,15 @@ impl Edges {
         // The proof takes from this that the cell is one.
         let _resolution = origin.resolution();
         if origin.is_pentagon() {
-            return Edges { origin, direction: 2 };
+            return Edges {
+                origin,
+                direction: 2,
+            };
         }
-        Edges { origin, direction: 1 }
+        Edges {
+            origin,
+            direction: 1,
+        }
     }
 }
 

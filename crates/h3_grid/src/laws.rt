@@ -4,7 +4,7 @@
 ghost use Rattle.h3_grid.specs.Chart.{ChartsLeadAlongPaths, DisksAreCharts, OriginsAreAlone, RingsAgree, StatesAreWritten};
 ghost use Rattle.h3_grid.specs.Distance.{RingsAreDistances, SpiralsHoldSums};
 ghost use Rattle.h3_grid.specs.Laws.{DisksHaveSizes, DisksInsideAreCharted, MovesFollowTheSpiral, OverSoundLinks, SpiralsAreSimple, SpiralsHaveSizes, StepsCloseTriangles, StepsMove, StepsPart, StepsReachStates, StepsReverse};
-ghost use Rattle.h3_grid.specs.Neighbours.{BothOrdersAgree, DirectionsAreFound, DirectionsPart, NeighboursAreMutual};
+ghost use Rattle.h3_grid.specs.Neighbours.{BothOrdersAgree, DirectionsAreFound, DirectionsPart, NeighboursAreMutual, NeighboursDiffer};
 ghost use Rattle.h3_grid.specs.Search.{StepsAreFound};
 
 use h3_index::laws::numbers_tell_cells;
@@ -62,10 +62,11 @@ pub fn disks_are_charts()
 }
 
 /// Over sound links a cell is the neighbour of another by one direction at most, which the function `direction_to` of the
-/// definitions finds, and of two cells each is the other's neighbour, or none is.
+/// definitions finds, and none is its own; of two cells each is the other's neighbour, or none is.
 pub fn neighbours_are_lawful()
     ensures found { OverSoundLinks DirectionsAreFound }
     ensures part { OverSoundLinks DirectionsPart }
+    ensures differ { OverSoundLinks NeighboursDiffer }
     ensures mutual { OverSoundLinks NeighboursAreMutual }
     ensures both { OverSoundLinks BothOrdersAgree }
 {

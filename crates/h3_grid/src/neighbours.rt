@@ -1,9 +1,10 @@
 //! Neighbours.
 
-ghost use Rattle.std.specs.Prelude.{◌≡◌, ◌↔◌, Ok, Some, None, IsTrue, IfOk, false};
+ghost use Rattle.std.specs.Prelude.{◌≡◌, ◌↔◌, ◌||◌, Ok, Some, None, IsTrue, IfOk, false};
 ghost use Rattle.std.specs.Result.{result_err};
+ghost use Rattle.h3_index.specs.Cell.{is_pentagon_base};
 ghost use Rattle.h3_lattice.specs.BaseTable.{link_of};
-ghost use Rattle.h3_grid.specs.Neighbours.{AreNeighbours, BothOrdersAgree, DirectionsAreFound, DirectionsPart, NeighboursAreMutual, are_neighbours, direction_to, is_some_same, neighbour, neighbour_refusal};
+ghost use Rattle.h3_grid.specs.Neighbours.{AreNeighbours, BothOrdersAgree, DirectionsAreFound, DirectionsPart, NeighboursAreMutual, NeighboursDiffer, are_neighbours, direction_to, is_some_same, neighbour, neighbour_refusal};
 
 use crate::laws::neighbours_are_lawful;
 use crate::steps::step;
@@ -24,6 +25,7 @@ const DIRECTIONS: [Direction; 6] = [
 pub(crate) fn neighbour_is_lawful(table: &BaseTable)
     ensures found { DirectionsAreFound (link_of table.now) }
     ensures part { DirectionsPart (link_of table.now) }
+    ensures differ { NeighboursDiffer (link_of table.now) }
     ensures mutual { NeighboursAreMutual (link_of table.now) }
     ensures both { BothOrdersAgree (link_of table.now) }
 {
@@ -31,26 +33,42 @@ pub(crate) fn neighbour_is_lawful(table: &BaseTable)
     table.links_are_sound();
 }
 
-/// Whether the step from a cell, with rotation 0, in a direction leads to another cell.
-fn leads(table: &BaseTable, from: Cell, direction: Direction, to: Cell) -> bool
-    ensures { result ≡ is_some_same to (neighbour (link_of table.now) from direction) }
+/// The neighbour of a cell in a direction: the cell that the step with rotation 0 leads to, unless it is refused.
+pub(crate) fn neighbor(table: &BaseTable, cell: Cell, direction: Direction) -> Option<Cell>
+    ensures { result ≡ neighbour (link_of table.now) cell direction }
 {
-    match step(table, from, direction, 0) {
-        Ok((reached, _)) => reached == to,
-        Err(_) => false,
+    match step(table, cell, direction, 0) {
+        Ok((reached, _)) => Some(reached),
+        Err(_) => None,
     }
 }
 
-/// The direction in which a step from a cell, with rotation 0, leads to another cell, if one does.
+/// Whether a cell is the neighbour of another in a direction.
+fn leads(table: &BaseTable, from: Cell, direction: Direction, to: Cell) -> bool
+    ensures { result ≡ is_some_same to (neighbour (link_of table.now) from direction) }
+{
+    match neighbor(table, from, direction) {
+        Some(reached) => reached == to,
+        None => false,
+    }
+}
+
+/// The direction in which a cell is the neighbour of another, if there is one.
+#[tactic(auto, unfolding(crate::specs::Neighbours::direction_to))]
 pub(crate) fn direction_to(table: &BaseTable, from: Cell, to: Cell) -> Option<Direction>
     ensures { result ≡ direction_to (link_of table.now) from to }
 {
-    for direction in DIRECTIONS {
-        if leads(table, from, direction, to) {
-            return Some(direction);
-        }
-    }
-    None
+    DIRECTIONS
+        .iter()
+        .copied()
+        .find(|direction| leads(table, from, *direction, to))
+}
+
+/// Whether one of two cells is in a pentagon base cell.
+pub(crate) fn either_in_pentagon_base(a: Cell, b: Cell) -> bool
+    ensures { result ≡ is_pentagon_base a.base || is_pentagon_base b.base }
+{
+    a.in_pentagon_base() || b.in_pentagon_base()
 }
 
 /// Whether two cells are neighbours, as H3's `areNeighborCells` returns it: a step leads from the one to the other. No
@@ -77,7 +95,7 @@ pub fn are_neighbors(table: &BaseTable, a: Cell, b: Cell) -> Result<bool, H3Erro
     if a == b {
         return Ok(false);
     }
-    if a.in_pentagon_base() || b.in_pentagon_base() {
+    if either_in_pentagon_base(a, b) {
         return Err(H3Error::Pentagon);
     }
     Ok(direction_to(table, a, b).is_some())

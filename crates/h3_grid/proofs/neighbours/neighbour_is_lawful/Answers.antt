@@ -12,3 +12,6 @@ returns-clause-mutual c = c.neighbours_are_lawful.ensures.mutual (link_of c.args
 
 pub returns-clause-both : goal.returns-clause-both
 returns-clause-both c = c.neighbours_are_lawful.ensures.both (link_of c.args.table.now) c.links_are_sound.ensures
+
+pub returns-clause-differ : goal.returns-clause-differ
+returns-clause-differ c = c.neighbours_are_lawful.ensures.differ (link_of c.args.table.now) c.links_are_sound.ensures
