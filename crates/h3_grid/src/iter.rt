@@ -9,8 +9,9 @@ use h3_index::{Cell, Edge};
 
 /// The edges that leave a cell, in ascending direction.
 ///
-/// An iterator. It takes no memory: it holds the cell and the direction of the next edge.
-#[derive(Clone, Copy)]
+/// An iterator. It takes no memory: it holds the cell and the direction of the next edge, or 7
+/// after the last.
+#[derive(Clone, Copy, Debug)]
 pub struct Edges {
     origin: Cell,
     direction: u8,
@@ -27,7 +28,7 @@ impl Edges {
         ensures items { edges_left result ≡ edges_from origin }
         ensures listed { ListsEdges origin (edges_from origin) }
     {
-        // The proof takes from this that the cell is one.
+        // The proof takes from this that the origin is a valid cell.
         let _resolution = origin.resolution();
         if origin.is_pentagon() {
             return Edges {

@@ -55,11 +55,13 @@ impl Edge {
         }
     }
 
-    /// The edge that leaves a cell in the direction of a digit: `DirEdgeInvalid` where the digit is not 1 to 6, and where
-    /// it is 1 (K) at a pentagon.
+    /// The edge that leaves a cell in the direction of a digit; H3 has no public function for it.
+    ///
+    /// `DirEdgeInvalid` where the digit is not 1 to 6, and where it is 1 (K) at a pentagon.
     pub fn from_parts(origin: Cell, direction: u8) -> Result<Edge, H3Error>
         ensures made { IfOk result (λ edge. (edge ≡ directed_edge origin direction) × IsEdge edge) }
         ensures refused { result_err result ≡ direction_refusal origin direction }
+        ensures none { IfErr result (λ _. ¬ IsEdge (directed_edge origin direction)) }
     {
         if direction == 0 || direction > 6 || direction == 1 && origin.is_pentagon() {
             return Err(H3Error::DirEdgeInvalid);
