@@ -119,38 +119,38 @@ unfolding pair_refusal
 refusal-sym twice x y =
     rw (eq-sym (resolution x) (resolution y), eq-sym (number_of x) (number_of y), or-sym (is_pentagon_base x.base) (is_pentagon_base y.base)) refl
 
-pub answer-refused : (link : Links) (x y : Address) (e : H3Error) → neighbour_refusal x y ≡ Some e → are_neighbours link x y ≡ Err e
+pub result-refused : (link : Links) (x y : Address) (e : H3Error) → neighbour_refusal x y ≡ Some e → are_neighbours link x y ≡ Err e
 unfolding are_neighbours
-answer-refused link x y e h = rw h refl
+result-refused link x y e h = rw h refl
 
-pub answer-told : (link : Links) (x y : Address) → neighbour_refusal x y ≡ None → are_neighbours link x y ≡ Ok (not (is_same x y) && is_some (direction_to link x y))
+pub result-given : (link : Links) (x y : Address) → neighbour_refusal x y ≡ None → are_neighbours link x y ≡ Ok (not (is_same x y) && is_some (direction_to link x y))
 unfolding are_neighbours
-answer-told link x y h = rw h refl
+result-given link x y h = rw h refl
 
 -- a cell and itself
-pub answer-same : (link : Links) (x y : Address) → x ≡ y → are_neighbours link x y ≡ Ok false
-answer-same link x y e =
+pub result-same : (link : Links) (x y : Address) → x ≡ y → are_neighbours link x y ≡ Ok false
+result-same link x y e =
     let same = same_number x y (ap number_of e) in
-    answer-told link x y (refusal-twice None x y (ap resolution e) same) ∙ (rw same refl)
+    result-given link x y (refusal-twice None x y (ap resolution e) same) ∙ (rw same refl)
 
 -- what is true is not refused
-record IsTold (link : Links) (x y : Address) : Type 0 where
+record IsTrueOf (link : Links) (x y : Address) : Type 0 where
   other : is_same x y ≡ false
   some : is_some (direction_to link x y) ≡ true
 
-abbrev told : Bool → Result Bool H3Error
-told b = Ok b
+abbrev truth : Bool → Result Bool H3Error
+truth b = Ok b
 
-true_told : (link : Links) (x y : Address) → are_neighbours link x y ≡ Ok true → IsTold link x y
-true_told link x y e = by_refusal (neighbour_refusal x y) refl
+true_is : (link : Links) (x y : Address) → are_neighbours link x y ≡ Ok true → IsTrueOf link x y
+true_is link x y e = by_refusal (neighbour_refusal x y) refl
   where
-    by_same : (b c : Bool) → told (not b && c) ≡ told true → (b ≡ false) × (c ≡ true)
+    by_same : (b c : Bool) → truth (not b && c) ≡ truth true → (b ≡ false) × (c ≡ true)
     by_same true c h = let no : false ≡ true = cc in absurd (false_true no)
     by_same false c h = let is : c ≡ true = cc in (refl, is)
 
-    by_refusal : (o : Option H3Error) → neighbour_refusal x y ≡ o → IsTold link x y
-    by_refusal None h = let p = by_same (is_same x y) (is_some (direction_to link x y)) (sym (answer-told link x y h) ∙ e) in record { other = p.0; some = p.1 }
-    by_refusal (Some f) h = let no : Err f ≡ Ok true = sym (answer-refused link x y f h) ∙ e in cc
+    by_refusal : (o : Option H3Error) → neighbour_refusal x y ≡ o → IsTrueOf link x y
+    by_refusal None h = let p = by_same (is_same x y) (is_some (direction_to link x y)) (sym (result-given link x y h) ∙ e) in record { other = p.0; some = p.1 }
+    by_refusal (Some f) h = let no : Err f ≡ Ok true = sym (result-refused link x y f h) ∙ e in cc
 
 -- ---- the neighbour in a direction
 
@@ -279,11 +279,11 @@ module _ (w : StepLawsHold) (sums : SumLaws) (link : Links) (sound : IsSound lin
           let i = neighbour_is x y n.direction v n.leads in
           let other = other_number x y (λ e. neighbours_differ x y n.direction v n.leads (tell y x u v (sym e))) in
           let hexagons : (is_pentagon_base x.base || is_pentagon_base y.base) ≡ false = rw (i.hexagon, i.hexagon-2) refl in
-          answer-told link x y (refusal-other None x y false (sym i.resolution_is) other hexagons) ∙ (rw (other, from_related x y v u n) refl)
+          result-given link x y (refusal-other None x y false (sym i.resolution_is) other hexagons) ∙ (rw (other, from_related x y v u n) refl)
 
       pub neighbours_found : NeighboursAreFound link
       neighbours_found x y v u =
-          (λ e. to_related x y v u (true_told link x y e).some, true_of_neighbours x y v u)
+          (λ e. to_related x y v u (true_is link x y e).some, true_of_neighbours x y v u)
 
     pub both_agree : BothOrdersAgree link
     unfolding are_neighbours
