@@ -1,10 +1,10 @@
 //! Whether two cells are neighbours, and in which direction.
 
-ghost use Rattle.std.specs.Prelude.{◌≡◌, ◌↔◌, Ok, true, false};
+ghost use Rattle.std.specs.Prelude.{◌≡◌, ◌↔◌, ◌&&◌, not, is_some, Ok, true, false};
 ghost use Rattle.std.specs.Result.{result_err};
 ghost use Rattle.h3_index.specs.Cell.{IsCell};
 ghost use Rattle.h3_lattice.specs.BaseTable.{link_of};
-ghost use Rattle.h3_grid.specs.Neighbours.{AreNeighbours, BothOrdersAgree, DirectionsAreFound, DirectionsPart, NeighboursAreFound, NeighboursAreMutual, are_neighbours, direction_to, is_some_same, neighbour, neighbour_refusal, pair_refusal};
+ghost use Rattle.h3_grid.specs.Neighbours.{AreNeighbours, BothOrdersAgree, DirectionsAreFound, DirectionsPart, NeighboursAreFound, NeighboursAreMutual, are_neighbours, direction_to, is_same, is_some_same, neighbour, neighbour_refusal, pair_refusal};
 
 use crate::laws::neighbours_are_lawful;
 use crate::steps::step;
@@ -82,6 +82,13 @@ pub(crate) fn pair_refusal(twice: Option<H3Error>, a: Cell, b: Cell) -> Option<H
     None
 }
 
+/// Whether a cell is the neighbour of another in some direction.
+fn is_neighbor(table: &BaseTable, a: Cell, b: Cell) -> bool
+    ensures { result ≡ not (is_same a b) && is_some (direction_to (link_of table.now) a b) }
+{
+    a != b && direction_to(table, a, b).is_some()
+}
+
 /// Whether two cells are neighbours, as H3's `areNeighborCells` returns it outside pentagon base cells: a step leads from
 /// the one to the other. No cell is its own neighbour. Which pairs are refused is this library's own.
 ///
@@ -102,6 +109,6 @@ pub fn are_neighbors(table: &BaseTable, a: Cell, b: Cell) -> Result<bool, H3Erro
     neighbour_is_lawful(table);
     match pair_refusal(None, a, b) {
         Some(error) => Err(error),
-        None => Ok(a != b && direction_to(table, a, b).is_some()),
+        None => Ok(is_neighbor(table, a, b)),
     }
 }
