@@ -1,12 +1,16 @@
 //! The plain Rust programs that the command h3 is measured against: the same work over the same kinds of buffers,
 //! with no proof. `plain valid CELL`, `plain children CELL RES`, `plain uncompact RES` and `plain compact` (cells on
 //! standard input), `plain positions COUNT` (that many positions and back), `plain table` (a table file) and
-//! `plain tables COUNT` (that many readings of the table file on standard input).
+//! `plain tables COUNT` (that many readings of the table file on standard input), `plain disk CELL K TABLE` and
+//! `plain ring CELL K TABLE`.
 //!
 //! Lists to be compacted: `plain first COUNT CELL RES` (the first children), `plain shuffled CELL RES` (all children in a
 //! random order, always the same) and `plain lone CELL RES` (one child of each parent).
 
+mod walks;
+
 use std::env;
+use std::fs;
 use std::io::{self, BufWriter, Read, Write};
 
 const PENTAGONS: [u64; 12] = [4, 14, 24, 38, 49, 58, 63, 72, 83, 97, 107, 117];
@@ -386,6 +390,15 @@ fn main() -> io::Result<()> {
                 sum += u64::from(to) + u64::from(turns);
             }
             writeln!(out, "{sum}")?;
+        }
+        [shape @ ("disk" | "ring"), cell, k, table] => {
+            let links = read_table(&fs::read(table)?).expect("a table");
+            let origin = u64::from_str_radix(cell, 16).expect("a cell");
+            let k = k.parse().expect("a radius");
+            match shape {
+                "disk" => walks::disk(&mut out, &links, origin, k)?,
+                _ => walks::ring(&mut out, &links, origin, k)?,
+            }
         }
         _ => panic!("unknown words"),
     }

@@ -1,4 +1,5 @@
 pub mod Chart
+pub mod ChartExamples
 pub mod Counters
 pub mod DirectedEdges
 pub mod Disk

@@ -1,79 +1,94 @@
 -- Bytes that are read page by page.
-use Rattle.std.proofs.Common.{◌≡◌, ℕ, ◌+◌, ◌<◌, ◌≤◌, ◌*◌, List, [], ◌∷◌, ◌++◌, length, take, Option, None, Some, sym, ap, ◌∙◌, refl, length-append, length-take, append_assoc, append-nil, arith}
+use Rattle.std.proofs.Common.{◌≡◌, ℕ, zero, suc, ◌+◌, ◌<◌, ◌≤◌, ◌*◌, ◌⊎◌, List, [], ◌∷◌, ◌++◌, length, take, Option, None, Some, ap, ◌∙◌, length-append, length-take, append_assoc, append-nil, add-one, arith, inl, inr, sym}
 use Rattle.std.specs.Io.KnownBytes.{Consumes, IsAtEnd}
-use Rattle.h3_index.specs.Stream.{Pulls}
+use Rattle.std.proofs.KnownBytes.{Consumes-nil, Consumes-trans}
+use Rattle.h3_index.specs.Stream.{HasLeft, Pulls}
 
--- whole is the bytes so far and those to come, of which rest is left: they were read in no more reads than bytes, and
--- by no more bytes than a page each
-pub record Reads (whole : List ℕ) (bytes : List ℕ) (limit : ℕ) (page : ℕ) (told : Option (List ℕ)) (reads_left : ℕ) (text : List ℕ) : Type 0 where
-  pub rest : List ℕ
-  pub told_is : told ≡ Some rest
-  pub text_is : whole ≡ text ++ rest
-  pub counted : limit + length rest ≤ reads_left + length bytes
-  pub paged : length bytes + reads_left * page ≤ limit * page + length rest
+-- The source told the bytes old and tells now. The bytes read of them were appended to the first text, in no more reads
+-- than bytes, and in pages of at most this size.
+pub record Reads (old now : Option (List ℕ)) (limit reads_left size : ℕ) (first text : List ℕ) : Type 0 where
+  pub bytes : List ℕ
+  pub told : Consumes old now bytes
+  pub text_is : text ≡ first ++ bytes
+  pub counted : limit ≤ reads_left + length bytes
+  pub short : length bytes + reads_left * size ≤ limit * size
 
-pub reads_none : (bytes : List ℕ) (limit page : ℕ) (told : Option (List ℕ)) (text : List ℕ) → told ≡ Some bytes → Reads (text ++ bytes) bytes limit page told limit text
-reads_none bytes limit page told text e = record { rest = bytes; told_is = e; text_is = refl; counted = omega arith; paged = omega arith }
+pub reads_none : (told : Option (List ℕ)) (limit size : ℕ) (text : List ℕ) → Reads told told limit limit size text text
+reads_none told limit size text =
+    record { bytes = []; told = Consumes-nil told; text_is = sym (append-nil text); counted = omega arith; short = omega arith }
 
--- what a pull takes from the bytes left
-pulled : (old new : Option (List ℕ)) (rest front : List ℕ) → old ≡ Some rest → Consumes old new front → (more : List ℕ) × (new ≡ Some more) × (rest ≡ front ++ more)
-pulled None new rest front e k = absurd (cc)
-pulled (Some xs) None rest front e k = absurd k
-pulled (Some xs) (Some ys) rest front e k = (ys, refl, (let is : xs ≡ rest = cc in sym is ∙ k))
+-- one page less is left
+one_less : (reads reads' size : ℕ) → reads' + 1 ≡ reads → reads * size ≡ reads' * size + size
+one_less reads reads' size e = rw (← e) (grind arith)
 
--- one more read
-paged_more : (bytes reads reads' limit page n rest more : ℕ) → bytes + reads * page ≤ limit * page + rest → reads' + 1 ≡ reads → rest ≡ n + more → n ≤ page
-    → bytes + reads' * page ≤ limit * page + more
-paged_more bytes reads reads' limit page n rest more h count parts fits =
-    let one : reads * page ≡ reads' * page + page = rw (← count) (grind arith) in omega arith
-
-pub reads_more : {whole bytes : List ℕ} {limit size : ℕ} {told : Option (List ℕ)} {reads : ℕ} {text : List ℕ}
-    → Reads whole bytes limit size told reads text → (told' : Option (List ℕ)) (reads' : ℕ) (page : List ℕ) (n : ℕ) (text' : List ℕ)
-    → Pulls told told' page n → 0 < n → n ≤ length page → length page ≡ size → reads' + 1 ≡ reads → text' ≡ text ++ take n page
-    → Reads whole bytes limit size told' reads' text'
-reads_more {whole} {bytes} {limit} {size} {told} {reads} {text} r told' reads' page n text' p some fits long count grown =
-    let (more, is, split) = pulled told told' r.rest (take n page) r.told_is p.taken in
-    let parts : length r.rest ≡ length (take n page) + length more = ap length split ∙ length-append (take n page) more in
+pub reads_more : {old now : Option (List ℕ)} {limit reads size : ℕ} {first text : List ℕ} → Reads old now limit reads size first text
+    → (now' : Option (List ℕ)) (reads' : ℕ) (page : List ℕ) (n : ℕ) (text' : List ℕ)
+    → Pulls now now' page n → 0 < n → n ≤ length page → length page ≡ size → reads' + 1 ≡ reads → text' ≡ text ++ take n page
+    → Reads old now' limit reads' size first text'
+reads_more {old} {now} {limit} {reads} {size} {first} {text} r now' reads' page n text' p some fits full count grown =
     let front : length (take n page) ≡ n = omega (arith, length-take {A = ℕ}) in
-    let before : limit + length r.rest ≤ reads + length bytes = r.counted in
+    let parts : length (r.bytes ++ take n page) ≡ length r.bytes + length (take n page) = length-append r.bytes (take n page) in
+    let counted : limit ≤ reads + length r.bytes = r.counted in
+    let short : length r.bytes + reads * size ≤ limit * size = r.short in
+    let less : reads * size ≡ reads' * size + size = one_less reads reads' size count in
     record {
-      rest = more;
-      told_is = is;
-      text_is = r.text_is ∙ ap (λ (t : List ℕ). text ++ t) split ∙ sym (append_assoc text (take n page) more) ∙ ap (λ (t : List ℕ). t ++ more) (sym grown);
+      bytes = r.bytes ++ take n page;
+      told = Consumes-trans old now now' r.bytes (take n page) r.told p.taken;
+      text_is = grown ∙ ap (λ (t : List ℕ). t ++ take n page) r.text_is ∙ append_assoc first r.bytes (take n page);
       counted = omega arith;
-      paged = paged_more (length bytes) reads reads' limit size n (length r.rest) (length more) r.paged count (omega arith) (omega arith);
+      short = omega arith;
     }
 
--- at the end of the bytes
-at_end : (told : Option (List ℕ)) (rest : List ℕ) → told ≡ Some rest → IsAtEnd told → rest ≡ []
-at_end None rest e h = absurd (cc)
-at_end (Some xs) rest e h = let is : xs ≡ rest = cc in sym is ∙ h
+-- ---- the end of the reading
 
-pub reads_all : {whole bytes : List ℕ} {limit page : ℕ} {told : Option (List ℕ)} {reads : ℕ} {text : List ℕ}
-    → Reads whole bytes limit page told reads text → IsAtEnd told → text ≡ whole
-reads_all {told = told} {text = text} r h = sym (r.text_is ∙ ap (λ (t : List ℕ). text ++ t) (at_end told r.rest r.told_is h) ∙ append-nil text)
+-- the bytes that were read, and those that the source still tells
+pub all_bytes : (old now : Option (List ℕ)) (bytes : List ℕ) → Consumes old now bytes → (rest : List ℕ) × HasLeft old (bytes ++ rest)
+all_bytes None now bytes told = ([], tt)
+all_bytes (Some xs) None bytes told = absurd told
+all_bytes (Some xs) (Some ys) bytes told = (ys, told)
 
--- after the last read no byte is left
-pub none_left : {whole bytes : List ℕ} {limit size : ℕ} {told : Option (List ℕ)} {reads : ℕ} {text : List ℕ}
-    → Reads whole bytes limit size told reads text → (told' : Option (List ℕ)) (page : List ℕ) (n : ℕ) → Pulls told told' page n → n ≡ 0 → 0 < length page → told' ≡ Some []
-none_left {told = told} r told' page n p zero room =
-    let (more, is, split) = pulled told told' r.rest (take n page) r.told_is p.taken in
-    let done : r.rest ≡ [] = at_end told r.rest r.told_is (p.at_end zero room) in
-    is ∙ ap Some (last_of (take n page) more (sym split ∙ done))
+at_end : (old now : Option (List ℕ)) (bytes : List ℕ) → Consumes old now bytes → IsAtEnd now → HasLeft old bytes
+at_end None now bytes told end = tt
+at_end (Some xs) None bytes told end = absurd told
+at_end (Some xs) (Some ys) bytes told end = told ∙ ap (λ l. bytes ++ l) end ∙ append-nil bytes
+
+-- all bytes of the source were read, and fit in the pages that may be read but for the last, which finds the end
+pub reads_all : {old now : Option (List ℕ)} {limit reads size : ℕ} {first text : List ℕ} → Reads old now limit reads size first text → IsAtEnd now → 0 < reads
+    → (bytes : List ℕ) × HasLeft old bytes × (length bytes + size ≤ limit * size) × (text ≡ first ++ bytes)
+reads_all {old} {now} {limit} {reads} {size} r end some =
+    let short : length r.bytes + reads * size ≤ limit * size = r.short in
+    let one : size ≤ reads * size = one_at_least reads size some in
+    (r.bytes, at_end old now r.bytes r.told end, omega arith, r.text_is)
   where
-    last_of : (front more : List ℕ) → front ++ more ≡ [] → more ≡ []
-    last_of [] more e = e
-    last_of (x ∷ front) more e = cc e
+    one_at_least : (reads size : ℕ) → 0 < reads → size ≤ reads * size
+    one_at_least zero size h = absurd (omega arith)
+    one_at_least (suc k) size h = rw (one_less (suc k) k size (add-one k)) (omega arith)
 
--- and the bytes fit in the pages that may be read, but for the last read, which finds the end
-pub reads_fit : {whole bytes : List ℕ} {limit size : ℕ} {told : Option (List ℕ)} {reads : ℕ} {text : List ℕ}
-    → Reads whole bytes limit size told reads text → IsAtEnd told → (reads' : ℕ) → reads' + 1 ≡ reads → length bytes + size ≤ limit * size
-reads_fit {size = size} {told = told} {reads = reads} r h reads' count =
-    let none : length r.rest ≡ 0 = ap length (at_end told r.rest r.told_is h) in
-    let one : reads * size ≡ reads' * size + size = rw (← count) (grind arith) in
-    omega (arith, r.paged)
+-- some bytes are left, whatever was read
+pub reads_some : {old now : Option (List ℕ)} {limit reads size : ℕ} {first text : List ℕ} → Reads old now limit reads size first text → (bytes : List ℕ) × HasLeft old bytes
+reads_some {old} {now} r = let (rest, held) = all_bytes old now r.bytes r.told in (r.bytes ++ rest, held)
 
--- where no read is left, the bytes are as many as reads were allowed
-pub reads_out : {whole bytes : List ℕ} {limit page : ℕ} {told : Option (List ℕ)} {reads : ℕ} {text : List ℕ}
-    → Reads whole bytes limit page told reads text → reads ≡ 0 → limit ≤ length bytes
-reads_out r e = omega (arith, r.counted)
+-- a read fails, or none is left
+pub reads_stopped : {old now : Option (List ℕ)} {limit reads size : ℕ} {first text : List ℕ} → Reads old now limit reads size first text → (failed : Type 0) → (reads ≡ 0) ⊎ failed
+    → (bytes : List ℕ) × HasLeft old bytes × (failed ⊎ (limit ≤ length bytes))
+reads_stopped {old} {now} {limit} {reads} r failed why =
+    let (rest, held) = all_bytes old now r.bytes r.told in
+    let counted : limit ≤ reads + length r.bytes = r.counted in
+    let parts : length (r.bytes ++ rest) ≡ length r.bytes + length rest = length-append r.bytes rest in
+    (r.bytes ++ rest, held, elim why [ inl none ↦ inr (omega arith) | inr f ↦ inl f ])
+
+-- after the last read, a source that tells its bytes has none left
+pub none_left : {old now : Option (List ℕ)} {limit reads size : ℕ} {first text : List ℕ} → Reads old now limit reads size first text → (now' : Option (List ℕ)) (page : List ℕ) (n : ℕ)
+    → Pulls now now' page n → n ≡ 0 → 0 < length page → (bytes : List ℕ) → old ≡ Some bytes → now' ≡ Some []
+none_left {old} {now} r now' page n p none room bytes told =
+    at_last old now now' r.bytes (take n page) r.told p.taken (p.at_end none room) bytes told
+  where
+    nothing : (front ys : List ℕ) → [] ≡ front ++ ys → ys ≡ []
+    nothing [] ys e = sym e
+    nothing (x ∷ front) ys e = cc e
+
+    at_last : (old now now' : Option (List ℕ)) (read front : List ℕ) → Consumes old now read → Consumes now now' front → IsAtEnd now → (bytes : List ℕ) → old ≡ Some bytes → now' ≡ Some []
+    at_last None now now' read front p q end bytes e = cc e
+    at_last (Some xs) None now' read front p q end bytes e = absurd p
+    at_last (Some xs) (Some ys) None read front p q end bytes e = absurd q
+    at_last (Some xs) (Some ys) (Some zs) read front p q end bytes e = ap Some (nothing front zs (sym end ∙ q))

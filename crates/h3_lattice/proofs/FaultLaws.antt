@@ -3,20 +3,19 @@ use Rattle.std.proofs.Common.{◌≡◌, ◌<◌, ◌≤◌, ◌+◌, ◌-◌, �
 use Rattle.std.specs.Prelude.{if◌then◌else◌, is_some}
 use Rattle.std.specs.Option.{option_or}
 use Rattle.h3_lattice.specs.declared.direction.Direction.{Direction}
-use Rattle.h3_lattice.specs.declared.direction.Direction.TheVariants.{K, J, JK, I, IK, IJ}
+use Rattle.h3_lattice.specs.declared.direction.Direction.TheVariants.{K}
 use Rattle.h3_lattice.specs.declared.error.TableError.{TableError}
 use Rattle.h3_lattice.specs.declared.error.TableError.TheVariants as fault
-use Rattle.h3_lattice.specs.declared.checks.Check.{Check}
 use Rattle.h3_lattice.specs.declared.checks.Check.TheVariants as check
 use Rattle.h3_lattice.specs.Direction.{digit_of, directions}
-use Rattle.h3_lattice.specs.Fields.{Record, header, same_fields}
+use Rattle.h3_lattice.specs.Fields.{Record}
 use Rattle.h3_lattice.specs.First.{AreGood, FailsFirst, FaultsAreFirst, HoldsEverywhere, IsApart, IsBefore, IsClosed, IsFirstFault, IsFirstFaulty, IsMissing, IsReversed}
 use Rattle.h3_lattice.specs.Links.{IsHexagonBase, Links, is_hexagon_base}
 use Rattle.h3_lattice.specs.Checks.{at_places, closes, fault_at, fault_of_links, from_base, in_directions, is_apart, reverses, unless}
 use Rattle.h3_lattice.specs.Records.{body_of, fault_of, fault_of_records, first_fault, spelled_link}
 use Rattle.h3_lattice.specs.Table.{IsOfForm, links_of, missing_of, table_fault}
 use Rattle.h3_lattice.proofs.FormLaws.{form_of, no_fault_of, none_missing}
-use Rattle.h3_lattice.proofs.KindLaws.{IsKind, checks-kind, first_part, is_kind, kind, kind_of, missing-kind, records-kind, second_part, table_fault-kind}
+use Rattle.h3_lattice.proofs.KindLaws.{IsKind, checks-kind, is_kind, kind, missing-kind, records-kind}
 use Rattle.h3_lattice.proofs.SoundLaws.{apart-is, apart-of, closed-is, closed-of, digit_of-gt, digit_of-lt, direction-at, from_base-none, hexagon_of, in_each, is_hexagon_of, both, if_none, in_directions-none, no_fault, no_fault_at, reversed-is, reversed-of, unless-none}
 
 -- ---- the first of a list of directions

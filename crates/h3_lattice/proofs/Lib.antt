@@ -7,6 +7,7 @@ pub mod FieldLaws
 pub mod FirstLaws
 pub mod FormLaws
 pub mod KindLaws
+pub mod LiftedLaws
 pub mod LinearLaws
 pub mod ReadingLaws
 pub mod RecordLaws

@@ -5,8 +5,7 @@ use Rattle.h3_lattice.specs.declared.direction.Direction.{Direction}
 use Rattle.h3_lattice.specs.declared.direction.Direction.TheVariants.{K, J, JK, I, IK, IJ}
 use Rattle.h3_lattice.specs.declared.class.Class.{Class}
 use Rattle.h3_lattice.specs.declared.class.Class.TheVariants.{Two, Three}
-use Rattle.h3_lattice.specs.declared.error.TableError.{TableError}
-use Rattle.h3_lattice.specs.declared.error.TableError.TheVariants.{Corner, Form, Missing, Range, Repeated}
+use Rattle.h3_lattice.specs.declared.error.TableError.TheVariants.{Corner, Form, Range, Repeated}
 use Rattle.h3_lattice.specs.declared.vectors.TestTable.TheVariants.{Plain, Skew, Twisted}
 use Rattle.h3_lattice.specs.Eisenstein.{Eisenstein, eisenstein, minus_one, norm, one, product_of, sum_of, zero_point}
 use Rattle.h3_lattice.specs.Direction.{digit_of, digit_turned, digit_value, direction_of, directions, opposite, turned, turns, unit_of, value_of}

@@ -9,6 +9,7 @@ pub mod Expansion
 pub mod Fields
 pub mod First
 pub mod Laws
+pub mod Lifted
 pub mod Links
 pub mod Moved
 pub mod Records

@@ -16,7 +16,7 @@ IsInRange ns = (slice_index ns 0 < 122) × (0 < slice_index ns 1) × (slice_inde
 -- the slots hold the links of these records
 pub record Holds (slots : List (Option (ℕ × ℕ))) (body : List Record) : Type 0 where
   pub long : length slots ≡ 732
-  pub same : (b d : ℕ) → b < 122 → 0 < d → d < 7 → slice_index_or slots (place_of b d) None ≡ spelled_link b d body
+  pub same : (b d : ℕ) → 0 < d → d < 7 → slice_index_or slots (place_of b d) None ≡ spelled_link b d body
 
 -- no link stands in the slot of this base cell and direction
 abbrev pub missing_at : List (Option (ℕ × ℕ)) → ℕ → Direction → Option TableError

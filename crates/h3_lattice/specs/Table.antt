@@ -23,10 +23,6 @@ missing_of records b d = unless (is_some (spelled_link b (digit_of d) (body_of r
 abbrev pub table_fault : List Record → Option TableError
 table_fault records = option_or (fault_of_records records) (option_or (at_places (missing_of records)) (fault_of_links (links_of records)))
 
--- the same links from hexagon base cells
-abbrev pub SameLinks : Links → Links → Type 0
-SameLinks link other = (b : ℕ) (d : Direction) → IsHexagonBase b → link b d ≡ other b d
-
 -- An error fits the file: out of memory says nothing of it, a read fault comes only where reads fail, and any other
 -- is the file's first fault.
 abbrev pub RefusesTable : Type 0 → Option TableError → TableError → Type 0

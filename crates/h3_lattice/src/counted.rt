@@ -1,7 +1,7 @@
 //! The bytes of a source, in a limited number of reads.
 
 ghost use Rattle.std.specs.Prelude.{◌≡◌, ◌≢◌, ◌<◌, ◌≤◌, ◌+◌, ◌*◌, ◌++◌, ◌⊎◌, ℕ, true, List, [], length, Some, Err, IfOk, IfErr, OnOk, OnErr};
-ghost use Rattle.h3_index.specs.Stream.{Pulls};
+ghost use Rattle.h3_index.specs.Stream.{HasLeft, Pulls};
 ghost use Rattle.h3_lattice.specs.declared.error.TableError.{TableError};
 ghost use Rattle.h3_lattice.specs.Slots.{StopsReading};
 
@@ -43,16 +43,15 @@ fn read_pages<'a, R: Source>(
     page: &mut [u8],
 ) -> Result<(), TableError>
     requires room { 0 < length page.old }
-    ensures bytes { OnOk result ((bytes : List ℕ) → R.left reader.old.source.now ≡ Some bytes →
-        text.new.items ≡ text.old.items ++ bytes) }
-    ensures refused { IfErr result (λ e. (bytes : List ℕ) → R.left reader.old.source.now ≡ Some bytes →
+    ensures bytes { OnOk result ((bytes : List ℕ) × HasLeft (R.left reader.old.source.now) bytes ×
+        (length bytes + length page.old ≤ reader.old.reads_left * length page.old) ×
+        (text.new.items ≡ text.old.items ++ bytes)) }
+    ensures refused { IfErr result (λ e. (bytes : List ℕ) × HasLeft (R.left reader.old.source.now) bytes ×
         StopsReading ((R.has_failed reader.new.source.now ≡ true) ⊎ (reader.old.reads_left ≤ length bytes)) e) }
     ensures kept { result ≢ Err TableError.Read →
         R.has_failed reader.new.source.now ≡ R.has_failed reader.old.source.now }
     ensures whole { OnOk result ((bytes : List ℕ) → R.left reader.old.source.now ≡ Some bytes →
         R.left reader.new.source.now ≡ Some []) }
-    ensures limited { OnOk result ((bytes : List ℕ) → R.left reader.old.source.now ≡ Some bytes →
-        length bytes + length page.old ≤ reader.old.reads_left * length page.old) }
     ensures same { reader.new.source.ghost_name ≡ reader.old.source.ghost_name }
 {
     loop {
@@ -74,13 +73,12 @@ pub fn read_bytes<R: Source>(
     page: &mut [u8],
 ) -> Result<Vec<u8>, TableError>
     requires room { 0 < length page.old }
-    ensures bytes { IfOk result (λ text. (bytes : List ℕ) → R.left source.old ≡ Some bytes → text.items ≡ bytes) }
-    ensures refused { IfErr result (λ e. (bytes : List ℕ) → R.left source.old ≡ Some bytes →
+    ensures bytes { IfOk result (λ text. HasLeft (R.left source.old) text.items ×
+        (length text.items + length page.old ≤ limit * length page.old)) }
+    ensures refused { IfErr result (λ e. (bytes : List ℕ) × HasLeft (R.left source.old) bytes ×
         StopsReading ((R.has_failed source.new ≡ true) ⊎ (limit ≤ length bytes)) e) }
     ensures kept { result ≢ Err TableError.Read → R.has_failed source.new ≡ R.has_failed source.old }
     ensures whole { OnOk result ((bytes : List ℕ) → R.left source.old ≡ Some bytes → R.left source.new ≡ Some []) }
-    ensures limited { OnOk result ((bytes : List ℕ) → R.left source.old ≡ Some bytes →
-        length bytes + length page.old ≤ limit * length page.old) }
 {
     let mut text = Vec::new(alloc);
     let mut reader = CountedReader {

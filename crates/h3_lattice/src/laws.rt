@@ -1,6 +1,7 @@
 //! Laws of the definitions that contracts here cite. Each function does nothing; what it ensures is a law that holds
 //! always, for the proofs of crates that call it.
 
+ghost use Rattle.h3_lattice.specs.Lifted.{CornersLift, ReversalsLift};
 ghost use Rattle.h3_lattice.specs.Laws.{TurnsAdd, SixTurnsAreNone, OppositesAreThreeTurns, DigitTurnsAdd, SixDigitTurnsAreNone, NoTurnsKeepDigits, SumsExist, SumsAreUnique, SumsReverse, SumsTurn, SumsCloseTriangles};
 
 /// Turns of a direction and of a digit list add up, and six of them are none.
@@ -21,4 +22,11 @@ pub fn sums_are_lawful()
     ensures reverse { SumsReverse }
     ensures turn { SumsTurn }
     ensures triangles { SumsCloseTriangles }
+{}
+
+/// The checks of a table hold of steps too, at every resolution: over sound links, a step back undoes a step, and the
+/// steps in a direction and in the next one are a step apart.
+pub fn checks_lift_to_steps()
+    ensures reversals { ReversalsLift }
+    ensures corners { CornersLift }
 {}

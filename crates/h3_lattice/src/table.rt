@@ -2,12 +2,13 @@
 
 ghost use Rattle.std.specs.Prelude.{◌+◌, ◌≡◌, ◌≢◌, ◌≤◌, ◌<◌, ◌*◌, ◌^◌, ◌⊎◌, ℕ, true, false, List, [], length, None, Some, Err, IfOk, IfErr, All};
 ghost use Rattle.h3_index.specs.Cell.{is_pentagon_base};
+ghost use Rattle.h3_index.specs.Stream.{HasLeft};
 ghost use Rattle.h3_lattice.specs.Fields.{records_of};
 ghost use Rattle.h3_lattice.specs.Links.{IsLink, IsSound, links_in};
 ghost use Rattle.h3_lattice.specs.declared.error.TableError.{TableError};
 ghost use Rattle.h3_lattice.specs.Checks.{fault_of_links};
 ghost use Rattle.h3_lattice.specs.First.{FaultsAreFirst};
-ghost use Rattle.h3_lattice.specs.Table.{ChecksMeanSound, RefusesTable, SameLinks, SoundFilesAreAccepted, links_of, table_fault};
+ghost use Rattle.h3_lattice.specs.Table.{ChecksMeanSound, RefusesTable, SoundFilesAreAccepted, links_of, table_fault};
 
 use crate::checks::fault_of_links;
 use crate::counted::read_bytes;
@@ -59,9 +60,11 @@ impl BaseTable {
     /// the first faulty record, a missing record, and the first check that fails, by ascending base cell and direction.
     /// [`TableError::Memory`] where there is no memory for the file or a record.
     pub fn read<R: Source>(alloc: Global, source: &mut R) -> Result<BaseTable, TableError>
-        ensures accepted { IfOk result (λ table. (bytes : List ℕ) → R.left source.old ≡ Some bytes →
-            (table_fault (records_of bytes) ≡ None) × SameLinks (link_of table) (links_of (records_of bytes))) }
-        ensures refused { IfErr result (λ e. (bytes : List ℕ) → R.left source.old ≡ Some bytes →
+        // The bytes of the file are those that the source tells, where it tells them.
+        ensures accepted { IfOk result (λ table. (bytes : List ℕ) × HasLeft (R.left source.old) bytes ×
+            (length bytes + 4096 ≤ 2 ^ 40 * 4096) ×
+            (table_fault (records_of bytes) ≡ None) × (link_of table ≡ links_of (records_of bytes))) }
+        ensures refused { IfErr result (λ e. (bytes : List ℕ) × HasLeft (R.left source.old) bytes ×
             RefusesTable ((R.has_failed source.new ≡ true) ⊎ (2 ^ 40 ≤ length bytes)) (table_fault (records_of bytes)) e) }
         ensures sound { IfOk result (λ table. IsSound (link_of table)) }
 

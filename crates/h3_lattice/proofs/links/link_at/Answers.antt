@@ -1,9 +1,6 @@
 use Rattle.std.proofs.Common.{◌<◌, ◌*◌, ◌+◌, ◌-◌, arith, refl}
 use Rattle.std.proofs.lemmas.List.Elements.{All-get_or}
-use Rattle.h3_lattice.specs.Direction.{digit_of}
 use Rattle.h3_lattice.specs.Links.{IsLink, links_in}
-use Rattle.h3_lattice.specs.declared.direction.Direction.{Direction}
-use Rattle.h3_lattice.specs.declared.direction.Direction.TheVariants.{K, J, JK, I, IK, IJ}
 use Rattle.h3_lattice.proofs.SoundLaws.{digit_of-lt}
 use Rattle.h3_lattice.proofs.links.link_at.Goals as goal
 
