@@ -2,10 +2,12 @@
 //! always, for the proofs of crates that call it.
 
 ghost use Rattle.h3_grid.specs.Chart.{ChartsLeadAlongPaths, DisksAreCharts, OriginsAreAlone, RingsAgree, StatesAreWritten};
-ghost use Rattle.h3_grid.specs.Distance.{NeighboursAreMutual, RingsAreDistances, SpiralsHoldSums};
+ghost use Rattle.h3_grid.specs.Distance.{RingsAreDistances, SpiralsHoldSums};
 ghost use Rattle.h3_grid.specs.Laws.{DisksHaveSizes, DisksInsideAreCharted, MovesFollowTheSpiral, OverSoundLinks, SpiralsAreSimple, SpiralsHaveSizes, StepsCloseTriangles, StepsMove, StepsPart, StepsReachStates, StepsReverse};
+ghost use Rattle.h3_grid.specs.Neighbours.{BothOrdersAgree, DirectionsAreFound, DirectionsPart, NeighboursAreFound, NeighboursAreMutual, NeighboursDiffer};
 ghost use Rattle.h3_grid.specs.Search.{StepsAreFound};
 
+use h3_index::laws::numbers_tell_cells;
 use h3_lattice::laws::{sums_are_lawful, turns_add_up};
 
 /// A state has exactly one step in each direction, that which the function `step_of` of the definitions gives.
@@ -53,8 +55,24 @@ pub fn disks_are_charts()
     ensures origins { OriginsAreAlone }
     ensures distances { RingsAreDistances }
     ensures sums { SpiralsHoldSums }
-    ensures mutual { NeighboursAreMutual }
 {
+    steps_are_lawful();
+    turns_add_up();
+    sums_are_lawful();
+}
+
+/// Over sound links at most one direction leads from a cell to another, and `direction_to` of the definitions finds it, so
+/// that `are_neighbours` is true of neighbours alone; no cell is its own neighbour; of two cells each is the other's
+/// neighbour or neither is, and `are_neighbours` has the same result in either order, errors included.
+pub fn neighbours_are_lawful()
+    ensures found { OverSoundLinks DirectionsAreFound }
+    ensures related { OverSoundLinks NeighboursAreFound }
+    ensures part { OverSoundLinks DirectionsPart }
+    ensures differ { OverSoundLinks NeighboursDiffer }
+    ensures mutual { OverSoundLinks NeighboursAreMutual }
+    ensures both { OverSoundLinks BothOrdersAgree }
+{
+    numbers_tell_cells();
     steps_are_lawful();
     turns_add_up();
     sums_are_lawful();
