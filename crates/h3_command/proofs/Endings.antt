@@ -1,36 +1,98 @@
--- How a run ends that reads a list, and what a run does whose ending is known.
-use Rattle.std.proofs.Common.{◌≡◌, ℕ, ◌⊎◌, Bool, true, false, List, Result, Ok, Err, IsTrue, sym, subst, refl, inl, inr}
+-- How a run ends that reads a list or a table, and what a run does whose ending is known.
+use Rattle.std.proofs.Common.{◌≡◌, ℕ, ◌⊎◌, Bool, true, false, List, Option, None, Some, Result, Ok, Err, IsTrue, OnOk, OnErr, [], append-nil, sym, subst, refl, inl, inr}
 use Rattle.h3_index.specs.Cell.{Address}
-use Rattle.h3_command.specs.Answer.{Answer, Request, about_list, out_of_memory}
+use Rattle.h3_index.specs.Stream.{HasLeft}
+use Rattle.std.specs.Io.KnownBytes.{Appends}
+use Rattle.h3_index.specs.declared.stream.StreamFault.{StreamFault}
+use Rattle.h3_index.specs.declared.error.H3Error.{H3Error}
+use Rattle.h3_lattice.specs.Fields.{records_of}
+use Rattle.h3_lattice.specs.Links.{Links}
+use Rattle.h3_lattice.specs.Table.{RefusesTable, links_of, table_fault}
+use Rattle.h3_lattice.specs.declared.error.TableError.{TableError}
+use Rattle.h3_lattice.specs.declared.error.TableError.TheVariants as fault
+use Rattle.h3_command.specs.Answer.{Answer, Request, about_table, answered, from_cell, out_of_memory, unless_faulty}
 use Rattle.h3_command.specs.Answer.Request.{of_list, of_table, plain}
 use Rattle.h3_command.specs.List.{listed_cells}
 use Rattle.h3_command.specs.Reading.{RefusesList}
+use Rattle.h3_command.specs.Refusal.{refusal_line, refusal_status, table_refusal}
 use Rattle.h3_command.specs.declared.refusal.Refusal.{Refusal}
-use Rattle.h3_command.specs.declared.refusal.Refusal.TheVariants.{Error, Memory, Read, Write}
-use Rattle.h3_command.specs.Run.{Answers, Ends, Gives, IsLeft, IsSound, ReadFails, Reports, Runs, SinkUse, SourceUse, Streams, Writes, WritesReading}
+use Rattle.h3_command.specs.declared.refusal.Refusal.TheVariants.{Error, Memory, Read, Write, Table, TableOpen}
+use Rattle.h3_command.specs.Run.{Answers, AppendsPart, Ends, Gives, IsLeft, IsSound, ReadFails, Reports, Runs, SinkUse, SourceUse, Streams, Writes, WritesReading}
 use Rattle.h3_command.proofs.Pages.{some_held}
 use Rattle.h3_command.proofs.Written.{nothing, writes_refused}
+
+-- an answer to what was read is written, and no read failed
+reading_written : (a : Answer) (bytes : List ℕ) (source : SourceUse) (ending : Result (Unit {0}) Refusal) (out : SinkUse) → IsSound source → Writes a ending out → WritesReading a bytes source ending out
+unfolding Writes
+reading_written a bytes source (Ok u) out sound writes = (sound, writes)
+reading_written a bytes source (Err (Error e)) out sound writes = (sound, writes)
+reading_written a bytes source (Err (Table e)) out sound writes = (sound, writes)
+reading_written a bytes source (Err TableOpen) out sound never = absurd never
+reading_written a bytes source (Err Memory) out sound never = absurd never
+reading_written a bytes source (Err Read) out sound never = absurd never
+reading_written a bytes source (Err Write) out sound writes = (sound, writes)
 
 -- ---- a list
 
 -- the list is refused
 pub list_refused : (about : List Address → Answer) (list : List ℕ) (input : SourceUse) (e : Refusal) (out : SinkUse) → RefusesList (ReadFails input list) (listed_cells list) e
-    → ((e ≡ Read → ⊥) → IsSound input) → IsLeft out → WritesReading (about_list about (listed_cells list)) list input (Err e) out
+    → ((e ≡ Read → ⊥) → IsSound input) → IsLeft out → WritesReading (answered about (listed_cells list)) list input (Err e) out
 list_refused about list input (Error d) out is sound left =
-    (sound (λ never. cc never), subst (λ cells. Writes (about_list about cells) (Err (Error d)) out) (sym is) (writes_refused d out left))
+    (sound (λ never. cc never), subst (λ cells. Writes (answered about cells) (Err (Error d)) out) (sym is) (writes_refused d out left))
 list_refused about list input Memory out is sound left = (sound (λ never. cc never), left)
 list_refused about list input Read out fails sound left = (fails, left)
 list_refused about list input Write out never sound left = absurd never
+list_refused about list input (Table d) out never sound left = absurd never
+list_refused about list input TableOpen out never sound left = absurd never
 
 -- the list is read, and the answer about its cells is written
 pub list_written : (about : List Address → Answer) (list : List ℕ) (cells : List Address) (input : SourceUse) (ending : Result (Unit {0}) Refusal) (out : SinkUse) → listed_cells list ≡ Ok cells
-    → IsSound input → Writes (about cells) ending out → WritesReading (about_list about (listed_cells list)) list input ending out
+    → IsSound input → Writes (about cells) ending out → WritesReading (answered about (listed_cells list)) list input ending out
+list_written about list cells input ending out is sound writes =
+    reading_written _ list input ending out sound (subst (λ read. Writes (answered about read) ending out) (sym is) writes)
+
+-- ---- a table
+
+-- there is an error in place of the cell, and the table is not read
+pub cell_refused : (about : Address → Links → Answer) (cell : Result Address H3Error) (e : H3Error) (input table : SourceUse) (out : SinkUse) → cell ≡ Err e → IsLeft out
+    → Ends (from_cell about cell) input table (Err (Error e)) out
+cell_refused about cell e input table out is left =
+    subst (λ c. Ends (from_cell about c) input table (Err (Error e)) out) (sym is) (writes_refused e out left)
+
+-- an error of the table stands in place of an answer
+table_error : (a : Answer) (first : Option TableError) (e : TableError) (rows : List ℕ) (table : SourceUse) (out : SinkUse) → first ≡ Some e → ((e ≡ fault.Read → ⊥) → IsSound table) → IsLeft out → (e ≡ fault.Read → ⊥)
+    → WritesReading (unless_faulty first a) rows table (Err (Table e)) out
 unfolding Writes
-list_written about list cells input (Ok u) out is sound writes = (sound, subst (λ read. Writes (about_list about read) (Ok u) out) (sym is) writes)
-list_written about list cells input (Err (Error e)) out is sound writes = (sound, subst (λ read. Writes (about_list about read) (Err (Error e)) out) (sym is) writes)
-list_written about list cells input (Err Memory) out is sound never = absurd never
-list_written about list cells input (Err Read) out is sound never = absurd never
-list_written about list cells input (Err Write) out is sound writes = (sound, subst (λ read. Writes (about_list about read) (Err Write) out) (sym is) writes)
+table_error a first e rows table out is sound left other =
+    (sound other, subst (λ f. Writes (unless_faulty f a) (Err (Table e)) out) (sym is) (refl, (nothing _ _ left.0, left.1)))
+
+table_refuses : (a : Answer) (first : Option TableError) (e : TableError) (rows : List ℕ) (table : SourceUse) (out : SinkUse) → RefusesTable (ReadFails table rows) first e → ((e ≡ fault.Read → ⊥) → IsSound table) → IsLeft out
+    → WritesReading (unless_faulty first a) rows table (Err (table_refusal e)) out
+table_refuses a first fault.Read rows table out fails sound left = (fails, left)
+table_refuses a first fault.Memory rows table out any sound left = (sound (λ never. cc never), left)
+table_refuses a first (fault.Form row) rows table out is sound left = table_error a first _ rows table out is sound left (λ never. cc never)
+table_refuses a first (fault.Range row) rows table out is sound left = table_error a first _ rows table out is sound left (λ never. cc never)
+table_refuses a first (fault.Repeated row) rows table out is sound left = table_error a first _ rows table out is sound left (λ never. cc never)
+table_refuses a first fault.Missing rows table out is sound left = table_error a first _ rows table out is sound left (λ never. cc never)
+table_refuses a first (fault.Neighbours b) rows table out is sound left = table_error a first _ rows table out is sound left (λ never. cc never)
+table_refuses a first (fault.Reversal b d) rows table out is sound left = table_error a first _ rows table out is sound left (λ never. cc never)
+table_refuses a first (fault.Corner b d) rows table out is sound left = table_error a first _ rows table out is sound left (λ never. cc never)
+
+-- the table is refused
+pub table_refused_so : (about : Address → Links → Answer) (index : Result Address H3Error) (cell : Address) (e : TableError) (input table : SourceUse) (out : SinkUse) → Ok cell ≡ index
+    → (rows : List ℕ) × HasLeft table.left rows × RefusesTable (ReadFails table rows) (table_fault (records_of rows)) e → ((e ≡ fault.Read → ⊥) → IsSound table) → IsLeft out
+    → Ends (from_cell about index) input table (Err (table_refusal e)) out
+table_refused_so about index cell e input table out is (rows, held, refuses) sound left =
+    subst (λ c. Ends (from_cell about c) input table (Err (table_refusal e)) out) is (rows, held, table_refuses _ _ e rows table out refuses sound left)
+
+-- the table is read, and the answer about its links is written
+pub table_answered : (about : Address → Links → Answer) (index : Result Address H3Error) (cell : Address) (links : Links) (ending : Result (Unit {0}) Refusal) (input table : SourceUse) (out : SinkUse) → Ok cell ≡ index
+    → (rows : List ℕ) → HasLeft table.left rows → table_fault (records_of rows) ≡ None → links ≡ links_of (records_of rows) → IsSound table → Writes (about cell links) ending out
+    → Ends (from_cell about index) input table ending out
+table_answered about index cell links ending input table out is rows held none same sound writes =
+    let about_rows : Writes (about_table (about cell) rows) ending out =
+    subst (λ f. Writes (unless_faulty f (about cell (links_of (records_of rows)))) ending out) (sym none) (subst (λ l. Writes (about cell l) ending out) same writes) in
+    subst (λ c. Ends (from_cell about c) input table ending out) is (rows, held, reading_written _ rows table ending out sound about_rows)
 
 -- ---- a run
 
@@ -39,15 +101,19 @@ gives_written : (a : Answer) (ending : Result (Unit {0}) Refusal) (status : ℕ)
 unfolding Writes
 gives_written a (Ok u) status s writes w reports = record { output = writes.1; report = subst (λ e. Reports e status s.err) (sym writes.0) reports }
 gives_written a (Err (Error e)) status s writes w reports = record { output = writes.1; report = subst (λ e. Reports e status s.err) (sym writes.0) reports }
+gives_written a (Err (Table e)) status s writes w reports = record { output = writes.1; report = subst (λ e. Reports e status s.err) (sym writes.0) reports }
 gives_written a (Err Memory) status s never w reports = absurd never
 gives_written a (Err Read) status s never w reports = absurd never
-gives_written a (Err Write) status s writes w reports = let failed : s.out.has_failed ≡ true = writes.1 in cc
+gives_written a (Err TableOpen) status s never w reports = absurd never
+gives_written a (Err Write) status s writes w reports = let failed : s.out.has_failed ≡ true = writes.1.1 in cc
 
 -- the same of an answer to what was read
 gives_reading : (a : Answer) (bytes : List ℕ) (source : SourceUse) (ending : Result (Unit {0}) Refusal) (status : ℕ) (s : Streams) → WritesReading a bytes source ending s.out
     → (ReadFails source bytes → ⊥) → s.out.has_failed ≡ false → Reports ending status s.err → Gives a status s ⊎ Gives out_of_memory status s
 gives_reading a bytes source (Ok u) status s writes r w reports = inl (gives_written a (Ok u) status s writes.1 w reports)
 gives_reading a bytes source (Err (Error e)) status s writes r w reports = inl (gives_written a (Err (Error e)) status s writes.1 w reports)
+gives_reading a bytes source (Err (Table e)) status s writes r w reports = inl (gives_written a (Err (Table e)) status s writes.1 w reports)
+gives_reading a bytes source (Err TableOpen) status s writes r w reports = inl (gives_written a (Err TableOpen) status s writes.1 w reports)
 gives_reading a bytes source (Err Memory) status s writes r w reports =
     inr (record { output = (nothing _ _ writes.1.0, writes.1.1); report = reports })
 gives_reading a bytes source (Err Read) status s writes r w reports = absurd (r writes.0)
@@ -85,3 +151,14 @@ answers (of_table about) ending status s (rows, held, writes) reports =
 pub runs_so : (r : Request) (ending : Result (Unit {0}) Refusal) (status : ℕ) (s : Streams) → Ends r s.input s.table ending s.out → Reports ending status s.err → Runs r status s
 runs_so r ending status s ends reports =
     record { answers = answers r ending status s ends reports; ending = ending; ends = ends; reports = reports }
+
+-- ---- standard error
+
+-- the line of a refusal was pushed, or a part of it
+pub refusal_reported : (refusal : Refusal) (status : ℕ) (bytes : List ℕ) (pushed : Result (Unit {0}) StreamFault) (err : SinkUse) → status ≡ refusal_status refusal → bytes ≡ refusal_line refusal
+    → OnOk pushed (Appends err.before err.after bytes) → OnErr pushed (AppendsPart err.before err.after bytes) → OnErr pushed (err.has_failed ≡ true) → Reports (Err refusal) status err
+refusal_reported refusal status bytes (Ok u) err told is whole part failed =
+    let grown : Appends err.before err.after (refusal_line refusal) = subst (Appends err.before err.after) is whole in
+    record { status_is = told; line = λ ok. grown; part = record { part = refusal_line refusal; rest = []; split = sym (append-nil (refusal_line refusal)); holds = grown } }
+refusal_reported refusal status bytes (Err e) err told is whole part failed =
+    record { status_is = told; line = λ ok. absurd (cc (ok, failed)); part = subst (AppendsPart err.before err.after) is part }

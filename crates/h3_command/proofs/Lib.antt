@@ -3,4 +3,5 @@ pub mod Endings
 pub mod Lines
 pub mod ListLines
 pub mod Pages
+pub mod Walk
 pub mod Written

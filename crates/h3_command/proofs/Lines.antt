@@ -10,12 +10,12 @@ use Rattle.std.proofs.lemmas.Iterator.{YieldsList}
 use Rattle.std.proofs.lemmas.Iterator.Consumers.{YieldsList-so_far, YieldsList-turn, YieldsList-end}
 use Rattle.h3_command.specs.Run.{AppendsPart}
 
-map_same : {A : Type 0} (xs : List A) → map (λ x. x) xs ≡ xs
+pub map_same : {A : Type 0} (xs : List A) → map (λ x. x) xs ≡ xs
 map_same [] = refl
 map_same (x ∷ xs) = ap (λ l. x ∷ l) (map_same xs)
 
 -- where a call gives x after xs, these stand so in the list of all items
-split_at : {S A : Type 0} {steps : S → Option A → S → Type 0} {s : S} {all : List A} → YieldsList steps (λ x. x) s all → (xs : List A) (t : S) → Yields steps s xs t → (u : S) (x : A) → steps t (Some x) u
+pub split_at : {S A : Type 0} {steps : S → Option A → S → Type 0} {s : S} {all : List A} → YieldsList steps (λ x. x) s all → (xs : List A) (t : S) → Yields steps s xs t → (u : S) (x : A) → steps t (Some x) u
     → all ≡ xs ++ x ∷ drop (length xs + 1) all
 split_at {all = all} e xs t y u x st =
     let (less, here) = YieldsList-turn e xs t y (Some x) u x refl st in

@@ -6,7 +6,7 @@ use Rattle.h3_index.specs.Cell.{Address}
 use Rattle.h3_index.specs.Stream.{HasLeft, Pulls}
 use Rattle.h3_index.specs.declared.error.H3Error.{H3Error}
 use Rattle.h3_command.specs.declared.refusal.Refusal.{Refusal}
-use Rattle.h3_command.specs.declared.refusal.Refusal.TheVariants.{Error, Memory, Read, Write}
+use Rattle.h3_command.specs.declared.refusal.Refusal.TheVariants.{Error, Memory, Read, Write, Table, TableOpen}
 use Rattle.h3_command.specs.List.{listed_cells}
 use Rattle.h3_command.specs.Reading.{RefusesList, listed_after}
 use Rattle.h3_command.proofs.ListLines.{listed_from_start}
@@ -86,6 +86,8 @@ fits_any reads list (Error e) h = h
 fits_any reads list Memory h = h
 fits_any reads list Read h = absurd h
 fits_any reads list Write h = absurd h
+fits_any reads list (Table d) h = absurd h
+fits_any reads list TableOpen h = absurd h
 
 -- a page is refused
 pub reads_refused : {old now : Option (List ℕ)} {limit reads size : ℕ} {first-cells : List Address} {first-line : List ℕ} {cells : List Address} {line : List ℕ}

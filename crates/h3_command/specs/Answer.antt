@@ -1,18 +1,23 @@
 -- What a command asks for, and the answer to it.
-use Rattle.std.specs.Prelude.{ℕ, Bool, true, false, List, [], ◌∷◌, ◌++◌, codes, decimal, Result, Ok, Err, if◌then◌else◌}
+use Rattle.std.specs.Prelude.{ℕ, Bool, true, false, List, [], ◌∷◌, ◌++◌, codes, decimal, Option, None, Some, Result, Ok, Err, if◌then◌else◌}
 use Rattle.std.specs.List.{flat_map}
 use Rattle.h3_index.specs.Cell.{Address, number_of}
 use Rattle.h3_index.specs.Text.{text_of}
 use Rattle.h3_index.specs.declared.error.H3Error.{H3Error}
+use Rattle.h3_lattice.specs.Fields.{records_of}
+use Rattle.h3_lattice.specs.Links.{Links}
+use Rattle.h3_lattice.specs.Table.{links_of, table_fault}
+use Rattle.h3_lattice.specs.declared.error.TableError.{TableError}
 use Rattle.h3_command.specs.Hierarchy.{cell_to_center_child, cell_to_child_pos, cell_to_children, cell_to_children_size, cell_to_parent, child_pos_to_cell}
-use Rattle.h3_command.specs.Inspection.{get_base_cell_number, get_resolution, is_pentagon, is_res_class_iii, is_valid_cell}
+use Rattle.h3_command.specs.Inspection.{cell_of, get_base_cell_number, get_resolution, is_pentagon, is_res_class_iii, is_valid_cell}
 use Rattle.h3_command.specs.List.{listed_cells}
 use Rattle.h3_command.specs.Resolutions.{get_num_cells, get_pentagons, get_res0_cells}
 use Rattle.h3_command.specs.Sets.{compact_cells, uncompact_cells}
+use Rattle.h3_command.specs.Walks.{grid_disk_distances_unsafe, grid_disk_unsafe, grid_ring_unsafe}
 use Rattle.h3_command.specs.declared.command.Command.{Command}
-use Rattle.h3_command.specs.declared.command.Command.TheVariants.{IsValidCell, GetResolution, GetBaseCellNumber, IsPentagon, IsResClassIII, GetNumCells, GetRes0Cells, GetPentagons, CellToParent, CellToCenterChild, CellToChildren, CellToChildrenSize, CellToChildPos, ChildPosToCell, CompactCells, UncompactCells}
+use Rattle.h3_command.specs.declared.command.Command.TheVariants.{IsValidCell, GetResolution, GetBaseCellNumber, IsPentagon, IsResClassIII, GetNumCells, GetRes0Cells, GetPentagons, CellToParent, CellToCenterChild, CellToChildren, CellToChildrenSize, CellToChildPos, ChildPosToCell, CompactCells, UncompactCells, GridDiskUnsafe, GridDiskDistancesUnsafe, GridRingUnsafe}
 use Rattle.h3_command.specs.declared.refusal.Refusal.{Refusal}
-use Rattle.h3_command.specs.declared.refusal.Refusal.TheVariants.{Error, Memory}
+use Rattle.h3_command.specs.declared.refusal.Refusal.TheVariants.{Error, Memory, Table}
 
 -- the bytes of the output, and how the command ends, which fixes the line on standard error and the exit status
 pub record Answer : Type 0 where
@@ -26,6 +31,10 @@ written bytes = record { output = bytes; ending = Ok tt }
 -- an error, and no output
 abbrev pub refused : H3Error → Answer
 refused e = record { output = []; ending = Err (Error e) }
+
+-- an error of the base cell table, and no output
+abbrev pub table_refused : TableError → Answer
+table_refused e = record { output = []; ending = Err (Table e) }
 
 -- out of memory, and no output
 abbrev pub out_of_memory : Answer
@@ -45,22 +54,46 @@ number_line n = decimal n ++ 10 ∷ []
 abbrev pub cell_line : Address → List ℕ
 cell_line c = text_of (number_of c) ++ 10 ∷ []
 
+-- the text of the cell's number, a space, its ring in decimal, and a line feed
+abbrev pub ring_line : Address × ℕ → List ℕ
+ring_line item = text_of (number_of item.0) ++ 32 ∷ decimal item.1 ++ 10 ∷ []
+
 -- a line for each cell
 abbrev pub cell_lines : List Address → List ℕ
 cell_lines cells = flat_map cell_line cells
 
+-- the answer about what a function returns, or its error
+abbrev pub answered : {A : Type 0} → (A → Answer) → Result A H3Error → Answer
+answered about (Ok value) = about value
+answered about (Err e) = refused e
+
 -- the text of what a function returns, or its error
 abbrev pub printed : {A : Type 0} → (A → List ℕ) → Result A H3Error → Answer
-printed text (Ok value) = written (text value)
-printed text (Err e) = refused e
+printed text value = answered (λ v. written (text v)) value
+
+-- bytes before an answer
+abbrev pub before : List ℕ → Answer → Answer
+before bytes a = record { output = bytes ++ a.output; ending = a.ending }
+
+-- a line for each item of a walk; the first error ends it
+abbrev pub walked : {A : Type 0} → (A → List ℕ) → List (Result A H3Error) → Answer
+walked line [] = written []
+walked line (Ok item ∷ items) = before (line item) (walked line items)
+walked line (Err e ∷ items) = refused e
 
 -- ---- what a command asks for
 
--- an answer that its words alone give, one about the cells listed on standard input, or one about the bytes of a table
+-- an answer that its words alone give, one about the cells listed on standard input, or one about the links of a base
+-- cell table
 pub data Request : Type 0 where
   plain : Answer → Request
   of_list : (List Address → Answer) → Request
-  of_table : (List ℕ → Answer) → Request
+  of_table : (Links → Answer) → Request
+
+-- about a cell and a table; where there is an error in place of the cell, the table is not read
+abbrev pub from_cell : (Address → Links → Answer) → Result Address H3Error → Request
+from_cell about (Ok cell) = of_table (about cell)
+from_cell about (Err e) = plain (refused e)
 
 abbrev pub request : Command → Request
 request (IsValidCell cell) = plain (printed truth_line (is_valid_cell cell))
@@ -79,6 +112,9 @@ request (CellToChildPos cell res) = plain (printed number_line (cell_to_child_po
 request (ChildPosToCell position cell res) = plain (printed cell_line (child_pos_to_cell position cell res))
 request CompactCells = of_list (λ cells. printed cell_lines (compact_cells cells))
 request (UncompactCells res) = of_list (λ cells. printed cell_lines (uncompact_cells res cells))
+request (GridDiskUnsafe cell k) = from_cell (λ c link. answered (walked cell_line) (grid_disk_unsafe link c k)) (cell_of cell)
+request (GridDiskDistancesUnsafe cell k) = from_cell (λ c link. answered (walked ring_line) (grid_disk_distances_unsafe link c k)) (cell_of cell)
+request (GridRingUnsafe cell k) = from_cell (λ c link. answered (walked cell_line) (grid_ring_unsafe link c k)) (cell_of cell)
 
 -- the list of cells is read from standard input
 abbrev pub reads_list : Request → Bool
@@ -100,16 +136,20 @@ takes_memory (of_table about) = true
 
 -- ---- the answer
 
--- the answer about a list of cells, or the error of its first faulty line
-abbrev pub about_list : (List Address → Answer) → Result (List Address) H3Error → Answer
-about_list about (Ok cells) = about cells
-about_list about (Err e) = refused e
+-- an answer, or in its place an error of the table
+abbrev pub unless_faulty : Option TableError → Answer → Answer
+unless_faulty None a = a
+unless_faulty (Some e) a = table_refused e
+
+-- the answer about the links of the table with these bytes, or the first error of its records
+abbrev pub about_table : (Links → Answer) → List ℕ → Answer
+about_table about rows = unless_faulty (table_fault (records_of rows)) (about (links_of (records_of rows)))
 
 -- the answer to a request, for the bytes of the list and of the table
 abbrev pub answer_to : Request → List ℕ → List ℕ → Answer
 answer_to (plain a) list rows = a
-answer_to (of_list about) list rows = about_list about (listed_cells list)
-answer_to (of_table about) list rows = about rows
+answer_to (of_list about) list rows = answered about (listed_cells list)
+answer_to (of_table about) list rows = about_table about rows
 
 -- the answer to a command
 abbrev pub answer : Command → List ℕ → List ℕ → Answer

@@ -1,5 +1,6 @@
 pub mod Answer
 pub mod Bases
+pub mod DiskCells
 pub mod Examples
 pub mod Hierarchy
 pub mod Inspection
@@ -10,3 +11,4 @@ pub mod Refusal
 pub mod Resolutions
 pub mod Run
 pub mod Sets
+pub mod Walks

@@ -5,7 +5,7 @@ use Rattle.h3_index.specs.Cell.{Address}
 use Rattle.h3_index.specs.declared.error.H3Error.{H3Error}
 use Rattle.h3_command.specs.List.{listed_cells}
 use Rattle.h3_command.specs.declared.refusal.Refusal.{Refusal}
-use Rattle.h3_command.specs.declared.refusal.Refusal.TheVariants.{Error, Memory, Read, Write}
+use Rattle.h3_command.specs.declared.refusal.Refusal.TheVariants.{Error, Memory, Read, Write, Table, TableOpen}
 
 -- these cells, before those of a list
 abbrev pub cells_before : List Address → Result (List Address) H3Error → Result (List Address) H3Error
@@ -27,3 +27,5 @@ RefusesList read_fails list (Error e) = list ≡ Err e
 RefusesList read_fails list Memory = ⊤
 RefusesList read_fails list Read = read_fails
 RefusesList read_fails list Write = ⊥
+RefusesList read_fails list (Table e) = ⊥
+RefusesList read_fails list TableOpen = ⊥

@@ -1,11 +1,12 @@
 -- What a run does with its streams.
-use Rattle.std.specs.Prelude.{◌≡◌, ℕ, ◌≤◌, ◌^◌, ◌⊎◌, Bool, true, false, List, ◌++◌, length, ⊤, Option, None, Some, Result, Ok, Err, IsTrue}
+use Rattle.std.specs.Prelude.{◌≡◌, ℕ, ◌≤◌, ◌^◌, ◌⊎◌, Bool, true, false, List, [], ◌++◌, length, ⊤, Option, None, Some, Result, Ok, Err, IsErr, IsTrue}
 use Rattle.std.specs.Io.KnownBytes.{Appends, Keeps}
 use Rattle.h3_index.specs.Cell.{Address}
 use Rattle.h3_index.specs.Stream.{HasLeft}
+use Rattle.h3_lattice.specs.Links.{Links}
 use Rattle.h3_command.specs.declared.refusal.Refusal.{Refusal}
-use Rattle.h3_command.specs.declared.refusal.Refusal.TheVariants.{Error, Memory, Read, Write}
-use Rattle.h3_command.specs.Answer.{Answer, Request, about_list, answer_to, out_of_memory, reads_list, reads_table, takes_memory}
+use Rattle.h3_command.specs.declared.refusal.Refusal.TheVariants.{Error, Memory, Read, Write, Table, TableOpen}
+use Rattle.h3_command.specs.Answer.{Answer, Request, about_table, answer_to, answered, out_of_memory, reads_list, reads_table, takes_memory}
 use Rattle.h3_command.specs.Answer.Request.{plain, of_list, of_table}
 use Rattle.h3_command.specs.List.{listed_cells}
 use Rattle.h3_command.specs.Refusal.{ending_line, ending_status}
@@ -78,13 +79,19 @@ TakesPart sink bytes = SomeBeginning (AppendsOrHides sink.before sink.after) byt
 
 -- ---- how a run ends
 
+-- an answer with an error and no output: for it nothing is written, and nothing flushed
+abbrev pub IsRefusal : Answer → Type 0
+IsRefusal a = (a.output ≡ []) × IsErr a.ending
+
 -- the answer is written: all of its output, and then the run ends as the answer does, or a part of it and a write fault
 unfoldable pub Writes : Answer → Result (Unit {0}) Refusal → SinkUse → Type 0
 Writes a (Ok u) out = (a.ending ≡ Ok u) × Takes out a.output
 Writes a (Err (Error e)) out = (a.ending ≡ Err (Error e)) × Takes out a.output
+Writes a (Err (Table e)) out = (a.ending ≡ Err (Table e)) × Takes out a.output
 Writes a (Err Memory) out = ⊥
 Writes a (Err Read) out = ⊥
-Writes a (Err Write) out = TakesPart out a.output
+Writes a (Err TableOpen) out = ⊥
+Writes a (Err Write) out = (¬ IsRefusal a) × TakesPart out a.output
 
 -- The answer to these bytes of a source is written, and no read fails. Or there is no memory, or a read fails, and
 -- then nothing is written.
@@ -96,12 +103,12 @@ WritesReading a bytes source ending out = IsSound source × Writes a ending out
 -- there are bytes of the list, those that the source tells, and the answer about the cells in them is written
 abbrev pub WritesOfList : (List Address → Answer) → SourceUse → Result (Unit {0}) Refusal → SinkUse → Type 0
 WritesOfList about input ending out =
-    (list : List ℕ) × HasLeft input.left list × WritesReading (about_list about (listed_cells list)) list input ending out
+    (list : List ℕ) × HasLeft input.left list × WritesReading (answered about (listed_cells list)) list input ending out
 
--- the same of the bytes of a table
-abbrev pub WritesOfTable : (List ℕ → Answer) → SourceUse → Result (Unit {0}) Refusal → SinkUse → Type 0
+-- the same of a table, and the answer about its links
+abbrev pub WritesOfTable : (Links → Answer) → SourceUse → Result (Unit {0}) Refusal → SinkUse → Type 0
 WritesOfTable about table ending out =
-    (rows : List ℕ) × HasLeft table.left rows × WritesReading (about rows) rows table ending out
+    (rows : List ℕ) × HasLeft table.left rows × WritesReading (about_table about rows) rows table ending out
 
 -- how a run ends, by what it asks for
 abbrev pub Ends : Request → SourceUse → SourceUse → Result (Unit {0}) Refusal → SinkUse → Type 0

@@ -87,4 +87,22 @@ pub enum Command {
     UncompactCells {
         res: i32,
     },
+
+    /// The cells within a radius of a cell, over a base cell table.
+    GridDiskUnsafe {
+        cell: Option<u64>,
+        k: i32,
+    },
+
+    /// The same, each cell with the number of its ring.
+    GridDiskDistancesUnsafe {
+        cell: Option<u64>,
+        k: i32,
+    },
+
+    /// The cells of the ring of a radius around a cell, over a base cell table.
+    GridRingUnsafe {
+        cell: Option<u64>,
+        k: i32,
+    },
 }

@@ -5,6 +5,7 @@
 mod bases;
 mod command;
 mod counted;
+mod disk_cells;
 #[cfg(test)]
 mod fakes;
 mod hierarchy;
@@ -15,6 +16,7 @@ mod refusal;
 mod resolutions;
 pub mod run;
 mod sets;
+mod walks;
 mod write;
 
 pub use command::Command;

@@ -1,7 +1,7 @@
 //! The lines of answers.
 
 ghost use Rattle.std.specs.Prelude.{◌≡◌, ◌<◌, ◌++◌, ◌∷◌, [], ℕ, List, length};
-ghost use Rattle.h3_command.specs.Answer.{cell_line, number_line, truth_line};
+ghost use Rattle.h3_command.specs.Answer.{cell_line, number_line, ring_line, truth_line};
 
 use arrayvec::ArrayString;
 use h3_index::{Cell, write_index};
@@ -17,7 +17,8 @@ pub trait Line {
 
     /// Puts the line in place of the text of a buffer.
     fn put(&self, line: &mut ArrayString<ROOM>)
-        ensures { line.new.bytes ≡ line_of self.now };
+        ensures line { line.new.bytes ≡ line_of self.now }
+        ensures some { 0 < length line.new.bytes };
 }
 
 /// Puts the text and a line feed in place of the text of a buffer.
@@ -54,5 +55,20 @@ impl Line for Cell {
     #[inline]
     fn put(&self, line: &mut ArrayString<ROOM>) {
         put_text(line, write_index(self.raw()).as_str());
+    }
+}
+
+/// A cell with its ring.
+impl Line for (Cell, u32) {
+    ghost line_of = { ring_line };
+
+    #[inline]
+    fn put(&self, line: &mut ArrayString<ROOM>) {
+        let mut buffer = Buffer::new();
+        line.clear();
+        line.push_str(write_index(self.0.raw()).as_str());
+        line.push_str(" ");
+        line.push_str(buffer.format(self.1));
+        line.push_str("\n");
     }
 }

@@ -1,10 +1,11 @@
 //! Why a run does not write its answer to its end.
 
 ghost use Rattle.std.specs.Prelude.{◌≡◌, ◌≤◌, length};
-ghost use Rattle.h3_command.specs.Refusal.{error_line};
+ghost use Rattle.h3_command.specs.Refusal.{error_line, link_line, numbered_line, table_line};
 
 use arrayvec::ArrayString;
 use h3_index::{H3Error, StreamFault};
+use h3_lattice::{Direction, TableError};
 use itoa::Buffer;
 
 /// The room for a line on standard error.
@@ -24,6 +25,12 @@ pub enum Refusal {
 
     /// A write failed.
     Write,
+
+    /// The base cell table has an error.
+    Table(TableError),
+
+    /// The file of the base cell table cannot be opened.
+    TableOpen,
 }
 
 impl Refusal {
@@ -36,8 +43,10 @@ impl Refusal {
         match self {
             Refusal::Error(error) => error_line(*error),
             Refusal::Memory => error_line(H3Error::MemoryAlloc),
-            Refusal::Read => fault_line("fault: read\n"),
-            Refusal::Write => fault_line("fault: write\n"),
+            Refusal::Read => fixed_line("fault: read\n"),
+            Refusal::Write => fixed_line("fault: write\n"),
+            Refusal::Table(error) => table_line(*error),
+            Refusal::TableOpen => fixed_line("table: open\n"),
         }
     }
 
@@ -47,6 +56,9 @@ impl Refusal {
     {
         match self {
             Refusal::Error(_) | Refusal::Memory => 1,
+            Refusal::Table(TableError::Memory) => 1,
+            Refusal::Table(TableError::Read) => 4,
+            Refusal::Table(_) | Refusal::TableOpen => 3,
             Refusal::Read | Refusal::Write => 4,
         }
     }
@@ -74,6 +86,21 @@ impl From<H3Error> for Refusal {
     }
 }
 
+impl From<TableError> for Refusal {
+    ghost use Rattle.h3_command.specs.Refusal.{table_refusal};
+
+    /// The error of a table: a read that failed and memory that was refused are told as such.
+    ghost from_gives = { λ e r. r ≡ table_refusal e };
+
+    fn from(error: TableError) -> Refusal {
+        match error {
+            TableError::Read => Refusal::Read,
+            TableError::Memory => Refusal::Memory,
+            _ => Refusal::Table(error),
+        }
+    }
+}
+
 /// The line of an H3 error.
 fn error_line(error: H3Error) -> ArrayString<LINE_ROOM>
     ensures { result.bytes ≡ error_line error }
@@ -89,11 +116,56 @@ fn error_line(error: H3Error) -> ArrayString<LINE_ROOM>
 }
 
 /// A line that is told as it is.
-fn fault_line(text: &str) -> ArrayString<LINE_ROOM>
+fn fixed_line(text: &str) -> ArrayString<LINE_ROOM>
     requires { length text.now ≤ 80 }
     ensures { result.bytes ≡ text.now }
 {
     let mut line = ArrayString::new();
     line.push_str(text);
+    line
+}
+
+/// The line of an error of the base cell table.
+fn table_line(error: TableError) -> ArrayString<LINE_ROOM>
+    ensures { result.bytes ≡ table_line error }
+{
+    match error {
+        TableError::Read => fixed_line("fault: read\n"),
+        TableError::Memory => error_line(H3Error::MemoryAlloc),
+        TableError::Form(row) => numbered_line("table: form ", row),
+        TableError::Range(row) => numbered_line("table: range ", row),
+        TableError::Repeated(row) => numbered_line("table: repeated ", row),
+        TableError::Missing => fixed_line("table: missing\n"),
+        TableError::Neighbours(base) => numbered_line("table: neighbours ", u64::from(base)),
+        TableError::Reversal(base, direction) => link_line("table: reversal ", base, direction),
+        TableError::Corner(base, direction) => link_line("table: corner ", base, direction),
+    }
+}
+
+/// A line of words and a number.
+fn numbered_line(words: &str, number: u64) -> ArrayString<LINE_ROOM>
+    requires { length words.now ≤ 20 }
+    ensures { result.bytes ≡ numbered_line words.now number }
+{
+    let mut buffer = Buffer::new();
+    let mut line = ArrayString::new();
+    line.push_str(words);
+    line.push_str(buffer.format(number));
+    line.push_str("\n");
+    line
+}
+
+/// A line of words, a base cell and a direction by its digit.
+fn link_line(words: &str, base: u8, direction: Direction) -> ArrayString<LINE_ROOM>
+    requires { length words.now ≤ 20 }
+    ensures { result.bytes ≡ link_line words.now base direction }
+{
+    let mut buffer = Buffer::new();
+    let mut line = ArrayString::new();
+    line.push_str(words);
+    line.push_str(buffer.format(base));
+    line.push_str(" ");
+    line.push_str(buffer.format(direction.digit()));
+    line.push_str("\n");
     line
 }

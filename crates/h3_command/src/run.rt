@@ -15,6 +15,7 @@ use crate::inspection::{
 use crate::refusal::Refusal;
 use crate::resolutions::{get_num_cells, get_pentagons, get_res0_cells};
 use crate::sets::{compact_cells, uncompact_cells};
+use crate::walks::{grid_disk_distances_unsafe, grid_disk_unsafe, grid_ring_unsafe};
 use crate::write::{write_all, write_lines, write_result};
 use h3_index::{Sink, Source};
 use std::alloc::Global;
@@ -58,6 +59,11 @@ fn perform<R: Source, T: Source, W: Sink>(
         } => write_result(out, child_pos_to_cell(*position, *cell, *res)),
         Command::CompactCells => compact_cells(alloc, input, out),
         Command::UncompactCells { res } => uncompact_cells(alloc, *res, input, out),
+        Command::GridDiskUnsafe { cell, k } => grid_disk_unsafe(alloc, *cell, *k, table, out),
+        Command::GridDiskDistancesUnsafe { cell, k } => {
+            grid_disk_distances_unsafe(alloc, *cell, *k, table, out)
+        }
+        Command::GridRingUnsafe { cell, k } => grid_ring_unsafe(alloc, *cell, *k, table, out),
     }
 }
 
@@ -78,11 +84,12 @@ pub fn report<E: Sink>(err: &mut E, ending: Result<(), Refusal>) -> u8
 }
 
 /// Runs a command: writes its answer to `out`, or an error line to `err`, and returns the exit
-/// status: 0 where the answer is written, 1 for an H3 error, out of memory included, and 4 for a
-/// read or a write that failed.
+/// status: 0 where the answer is written, 1 for an H3 error, out of memory included, 3 for an error
+/// of the base cell table, and 4 for a read or a write that failed.
 ///
 /// A command on a list of cells reads it from `input`, and one on a table reads that from `table`.
-/// The others read neither and take no memory.
+/// The others read neither and take no memory. Where a walk over a table is refused on its way, the
+/// lines of the cells before that stand on `out`.
 pub fn run<R: Source, T: Source, W: Sink, E: Sink>(
     alloc: Global,
     command: &Command,

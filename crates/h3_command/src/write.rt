@@ -1,11 +1,12 @@
 //! Writing to a sink.
 
-ghost use Rattle.std.specs.Prelude.{◌≡◌, List, true, OnOk, OnErr};
+ghost use Rattle.std.specs.Prelude.{◌≡◌, List, true, OnOk, OnErr, Result};
 ghost use Rattle.std.specs.Io.KnownBytes.{Appends};
 ghost use Rattle.std.specs.Iterator.{IsFinite};
 ghost use Rattle.std.specs.List.{flat_map};
 ghost use Rattle.std.proofs.lemmas.Iterator.{YieldsList};
-ghost use Rattle.h3_command.specs.Answer.{printed, written};
+ghost use Rattle.h3_index.specs.declared.error.H3Error.{H3Error};
+ghost use Rattle.h3_command.specs.Answer.{printed, walked, written};
 ghost use Rattle.h3_command.specs.Run.{AppendsPart, Writes, sink_use};
 
 use crate::line::Line;
@@ -92,5 +93,38 @@ pub fn write_lines<W: Sink, L: Line + Drop, I: Iterator<Item = L> + Drop>(
         (sink_use W.taken W.has_failed out.old out.new) }
 {
     write_items(out, items)?;
+    Ok(out.flush()?)
+}
+
+/// Writes a line for each item of a walk up to its first error, which it then returns. No item and no
+/// line is kept. It flushes at the end, and before an error only where a line was written.
+///
+/// `Refusal::Write` where a push or the flush fails.
+pub fn write_walk<W: Sink, L: Line + Drop, I: Iterator<Item = Result<L, H3Error>> + Drop>(
+    out: &mut W,
+    items: I,
+) -> Result<(), Refusal>
+    requires can { I.can_next items }
+    requires ends { IsFinite (I.remaining items) }
+    ensures { (all : List (Result _ H3Error)) → YieldsList I.next_gives (λ x. x) items all →
+        Writes (walked L.line_of all) result (sink_use W.taken W.has_failed out.old out.new) }
+{
+    let mut line = ArrayString::new();
+    let mut wrote = false;
+    for item in items {
+        match item {
+            Ok(value) => {
+                value.put(&mut line);
+                write_all(out, line.as_str().as_bytes())?;
+                wrote = true;
+            }
+            Err(error) => {
+                if wrote {
+                    out.flush()?;
+                }
+                return Err(Refusal::Error(error));
+            }
+        }
+    }
     Ok(out.flush()?)
 }

@@ -14,4 +14,4 @@ returns-in_err-write_all-clause-part g c =
     let so_far : Yields g.I.Iterator.next_gives c.into_iter-item-iterator.result c.loop-item.yielded c.loop-item.item-iterator = c.loop-item.yielded_by in
     let p = err_from_is_err_and c.from_residual.result c.from_residual.ensures.1 in rw p.1 (λ all e.
     part_lines g.L.Line.line_of e _ c.into_iter-item-iterator.ensures.into_iter_gives _ _ so_far _ _ c.in-Some.ensures.steps _ _ _ c.loop-item.invariant.written _
-    (c.as_bytes.ensures.value ∙ c.as_str.ensures.value ∙ c.put.ensures) c.in_err-write_all.ensures.part)
+    (c.as_bytes.ensures.value ∙ c.as_str.ensures.value ∙ c.put.ensures.line) c.in_err-write_all.ensures.part)
