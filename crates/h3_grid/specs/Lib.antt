@@ -1,4 +1,5 @@
 pub mod Chart
+pub mod ChartExamples
 pub mod Counters
 pub mod Disk
 pub mod Distance
