@@ -1,5 +1,5 @@
 -- Distances, counted in neighbours.
-use Rattle.std.specs.Prelude.{◌≡◌, ◌↔◌, ◌≤◌, ℕ, suc, List, Contains, Some}
+use Rattle.std.specs.Prelude.{◌↔◌, ◌≤◌, ℕ, suc, List, Contains}
 use Rattle.h3_index.specs.Cell.{Address, IsCell}
 use Rattle.h3_lattice.specs.declared.direction.Direction.{Direction}
 use Rattle.h3_lattice.specs.Eisenstein.{Eisenstein, sum_of, zero_point}
@@ -7,14 +7,7 @@ use Rattle.h3_lattice.specs.Direction.{unit_of}
 use Rattle.h3_lattice.specs.Links.{IsSound, Links}
 use Rattle.h3_grid.specs.Laws.{Writes}
 use Rattle.h3_grid.specs.Moves.{spiral}
-use Rattle.h3_grid.specs.Search.{step_of}
-use Rattle.h3_grid.specs.Steps.{state}
-
--- y is the neighbour of x by some direction
-pub record AreNeighbours (link : Links) (x y : Address) : Type 0 where
-  pub direction : Direction
-  pub rotation : ℕ
-  pub step : step_of link (state x 0) direction ≡ Some (state y rotation)
+use Rattle.h3_grid.specs.Neighbours.{AreNeighbours}
 
 -- a path of at most n neighbours joins c to a cell
 pub data Joins (link : Links) (c : Address) : ℕ → Address → Type 0 where
@@ -44,7 +37,3 @@ pub data IsSumOfUnits : ℕ → Eisenstein → Type 0 where
 -- the spiral has each sum of at most k units, and nothing else
 abbrev pub SpiralsHoldSums : Type 0
 SpiralsHoldSums = (k : ℕ) (z : Eisenstein) → Contains (spiral k) z ↔ IsSumOfUnits k z
-
--- of two cells each is the other's neighbour, or none is
-abbrev pub NeighboursAreMutual : Type 0
-NeighboursAreMutual = (link : Links) (x y : Address) → IsSound link → IsCell x → IsCell y → AreNeighbours link x y ↔ AreNeighbours link y x

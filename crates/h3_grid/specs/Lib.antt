@@ -1,11 +1,14 @@
 pub mod Chart
 pub mod ChartExamples
 pub mod Counters
+pub mod DirectedEdges
 pub mod Disk
 pub mod Distance
+pub mod Edges
 pub mod Examples
 pub mod Laws
 pub mod Moves
+pub mod Neighbours
 pub mod Refusals
 pub mod Ring
 pub mod Search

@@ -2,10 +2,12 @@
 //! always, for the proofs of crates that call it.
 
 ghost use Rattle.h3_grid.specs.Chart.{ChartsLeadAlongPaths, DisksAreCharts, OriginsAreAlone, RingsAgree, StatesAreWritten};
-ghost use Rattle.h3_grid.specs.Distance.{NeighboursAreMutual, RingsAreDistances, SpiralsHoldSums};
+ghost use Rattle.h3_grid.specs.Distance.{RingsAreDistances, SpiralsHoldSums};
 ghost use Rattle.h3_grid.specs.Laws.{DisksHaveSizes, DisksInsideAreCharted, MovesFollowTheSpiral, OverSoundLinks, SpiralsAreSimple, SpiralsHaveSizes, StepsCloseTriangles, StepsMove, StepsPart, StepsReachStates, StepsReverse};
+ghost use Rattle.h3_grid.specs.Neighbours.{BothOrdersAgree, DirectionsAreFound, DirectionsPart, NeighboursAreMutual, NeighboursDiffer};
 ghost use Rattle.h3_grid.specs.Search.{StepsAreFound};
 
+use h3_index::laws::numbers_tell_cells;
 use h3_lattice::laws::{sums_are_lawful, turns_add_up};
 
 /// A state has exactly one step in each direction, that which the function `step_of` of the definitions gives.
@@ -53,8 +55,22 @@ pub fn disks_are_charts()
     ensures origins { OriginsAreAlone }
     ensures distances { RingsAreDistances }
     ensures sums { SpiralsHoldSums }
-    ensures mutual { NeighboursAreMutual }
 {
+    steps_are_lawful();
+    turns_add_up();
+    sums_are_lawful();
+}
+
+/// Over sound links a cell is the neighbour of another by one direction at most, which the function `direction_to` of the
+/// definitions finds, and none is its own; of two cells each is the other's neighbour, or none is.
+pub fn neighbours_are_lawful()
+    ensures found { OverSoundLinks DirectionsAreFound }
+    ensures part { OverSoundLinks DirectionsPart }
+    ensures differ { OverSoundLinks NeighboursDiffer }
+    ensures mutual { OverSoundLinks NeighboursAreMutual }
+    ensures both { OverSoundLinks BothOrdersAgree }
+{
+    numbers_tell_cells();
     steps_are_lawful();
     turns_add_up();
     sums_are_lawful();

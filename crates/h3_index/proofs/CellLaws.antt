@@ -31,14 +31,19 @@ pub low_small : (n : Address) → IsCell n → number_from_digits 8 (padded n.di
 low_small n h =
     rw (length-padded n.digits h.coarse) at (number_lt 8 (padded n.digits) (below-padded n.digits (15 - length n.digits) h.digits_small))
 
+-- the digits below a head
+pub digits-under : (h : ℕ) (ds : List ℕ) → length ds < 16 → AllBelowBase 7 ds → last_digits 8 15 (h * 2 ^ 45 + number_from_digits 8 (padded ds)) ≡ padded ds
+digits-under h ds coarse digits_small =
+    let len = length-padded ds coarse in
+    let after : number_from_digits_after 8 h (padded ds) ≡ h * 2 ^ 45 + number_from_digits 8 (padded ds) =
+    number_after_is 8 h (padded ds) ∙ (rw len refl) in
+    let small = below-padded ds (15 - length ds) digits_small in
+    let none : 0 + length (padded ds) ≡ 15 = omega (arith, len) in
+    rw (none, after) at (last_digits-more 0 h (padded ds) small)
+
 pub digits-number_of : (n : Address) → IsCell n → last_digits 8 15 (number_of n) ≡ padded n.digits
 digits-number_of n h =
-    let len = length-padded n.digits h.coarse in
-    let after : number_from_digits_after 8 (head_of n) (padded n.digits) ≡ number_of n =
-    number_after_is 8 (head_of n) (padded n.digits) ∙ (rw len (sym (number_of_is n h))) in
-    let small = below-padded n.digits (15 - length n.digits) h.digits_small in
-    let none : 0 + length (padded n.digits) ≡ 15 = omega (arith, len) in
-    rw (none, after) at (last_digits-more 0 (head_of n) (padded n.digits) small)
+    rw (number_of_is n h) (digits-under (head_of n) n.digits h.coarse h.digits_small)
 
 fields_are : (res base low : ℕ) → res < 16 → base < 128 → low < 2 ^ 45 → ((2 ^ 14 + res * 2 ^ 7 + base) * 2 ^ 45 + low) / 2 ^ 52 % 16 ≡ res × ((2 ^ 14 + res * 2 ^ 7 + base) * 2 ^ 45 + low) / 2 ^ 45 % 128 ≡ base × ((2 ^ 14 + res * 2 ^ 7 + base) * 2 ^ 45 + low) / 2 ^ 56 ≡ 8
 fields_are res base low p q r = (omega (arith, p, q, r), omega (arith, p, q, r), omega (arith, p, q, r))

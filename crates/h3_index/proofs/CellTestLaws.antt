@@ -18,11 +18,11 @@ true-small (d ∷ ds) h =
     let p = and_parts (nat_lt d 7) (list_all (λ d. nat_lt d 7) ds) h in
     (let first = p.0 in grind (arith, nat_tests), true-small ds p.1)
 
-not_deleted-true : (p : Bool) (d : ℕ) → (p ≡ true → d ≢ 1) → not (p && d == 1) ≡ true
+pub not_deleted-true : (p : Bool) (d : ℕ) → (p ≡ true → d ≢ 1) → not (p && d == 1) ≡ true
 not_deleted-true false d h = refl
 not_deleted-true true d h = let other = h refl in let test : (d == 1) ≡ false = grind (arith, nat_tests) in rw test refl
 
-true-not_deleted : (p : Bool) (d : ℕ) → not (p && d == 1) ≡ true → p ≡ true → d ≢ 1
+pub true-not_deleted : (p : Bool) (d : ℕ) → not (p && d == 1) ≡ true → p ≡ true → d ≢ 1
 true-not_deleted false d h e = absurd (cc)
 true-not_deleted true d h e = λ is. let test : (d == 1) ≡ true = grind (arith, nat_tests) in let no : not (true && d == 1) ≡ false = rw test refl in cc
 

@@ -6,6 +6,8 @@ pub mod CountLaws
 pub mod DescendantLaws
 pub mod DigitsLaws
 pub mod DigitTestLaws
+pub mod EdgeLaws
+pub mod EdgeOrderLaws
 pub mod MoveLaws
 pub mod OrderLaws
 pub mod PathLaws

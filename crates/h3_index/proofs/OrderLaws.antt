@@ -20,7 +20,7 @@ rises q c d l m small less =
     omega (arith, more, spread, small)
 
 -- of two numbers, each a part above and a small part below, the parts above decide, and then those below
-above_first : (q c d l m : ℕ) → l < q → m < q → ordering_then (nat_cmp c d) (nat_cmp l m) ≡ nat_cmp (c * q + l) (d * q + m)
+pub above_first : (q c d l m : ℕ) → l < q → m < q → ordering_then (nat_cmp c d) (nat_cmp l m) ≡ nat_cmp (c * q + l) (d * q + m)
 above_first q c d l m below_l below_m = by (nat_cmp c d) (ranked c d (nat_cmp c d) refl)
   where
     level : c ≡ d → (r : Ordering) → MatchOrdering r (l < m) (l ≡ m) (m < l) → MatchOrdering r (c * q + l < d * q + m) (c * q + l ≡ d * q + m) (d * q + m < c * q + l)
@@ -53,10 +53,10 @@ followed_alike [] (y ∷ ys) ts e = absurd (omega (arith, e))
 followed_alike (x ∷ xs) [] ts e = absurd (omega (arith, e))
 followed_alike (x ∷ xs) (y ∷ ys) ts e = ap (ordering_then (nat_cmp x y)) (followed_alike xs ys ts (omega (arith, e)))
 
-shifted : (r s : ℕ) → nat_cmp r s ≡ nat_cmp (2 ^ 7 + r) (2 ^ 7 + s)
-shifted r s = nat_cmp_is (2 ^ 7 + r) (2 ^ 7 + s) (nat_cmp r s) (by (nat_cmp r s) (ranked r s (nat_cmp r s) refl))
+pub shifted : (k r s : ℕ) → nat_cmp r s ≡ nat_cmp (k + r) (k + s)
+shifted k r s = nat_cmp_is (k + r) (k + s) (nat_cmp r s) (by (nat_cmp r s) (ranked r s (nat_cmp r s) refl))
   where
-    by : (o : Ordering) → MatchOrdering o (r < s) (r ≡ s) (s < r) → MatchOrdering o (2 ^ 7 + r < 2 ^ 7 + s) (2 ^ 7 + r ≡ 2 ^ 7 + s) (2 ^ 7 + s < 2 ^ 7 + r)
+    by : (o : Ordering) → MatchOrdering o (r < s) (r ≡ s) (s < r) → MatchOrdering o (k + r < k + s) (k + r ≡ k + s) (k + s < k + r)
     by Less h = omega (arith, h)
     by Equal h = omega (arith, h)
     by Greater h = omega (arith, h)
@@ -65,7 +65,7 @@ shifted r s = nat_cmp_is (2 ^ 7 + r) (2 ^ 7 + s) (nat_cmp r s) (by (nat_cmp r s)
 heads_order : (a b : Address) → IsCell a → IsCell b → ordering_then (nat_cmp (length a.digits) (length b.digits)) (nat_cmp a.base b.base) ≡ nat_cmp (head_of a) (head_of b)
 heads_order a b p q =
     let whole : (n : Address) → head_of n ≡ (2 ^ 7 + length n.digits) * 2 ^ 7 + n.base = λ n. omega arith in
-    rw (whole a, whole b, shifted (length a.digits) (length b.digits)) (above_first (2 ^ 7) (2 ^ 7 + length a.digits) (2 ^ 7 + length b.digits) a.base b.base (omega (arith, p.base_small)) (omega (arith, q.base_small)))
+    rw (whole a, whole b, shifted (2 ^ 7) (length a.digits) (length b.digits)) (above_first (2 ^ 7) (2 ^ 7 + length a.digits) (2 ^ 7 + length b.digits) a.base b.base (omega (arith, p.base_small)) (omega (arith, q.base_small)))
 
 -- the digits of cells of one resolution are ordered as the numbers of all fifteen
 padded_order : (a b : Address) → IsCell a → IsCell b → length a.digits ≡ length b.digits → slice_cmp nat_cmp a.digits b.digits ≡ nat_cmp (number_from_digits 8 (padded a.digits)) (number_from_digits 8 (padded b.digits))

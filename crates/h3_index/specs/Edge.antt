@@ -2,13 +2,18 @@
 --
 -- H3's directed edges: the index of the cell that the edge leaves, with mode 2 in place of mode 1, and the direction,
 -- 1 to 6, in the three bits that depend on the mode. A pentagon has no edge of direction 1 (K).
-use Rattle.std.specs.Prelude.{ℕ, ◌≢◌, ◌+◌, ◌*◌, ◌^◌, ◌<◌, IsTrue}
+use Rattle.std.specs.Prelude.{ℕ, ◌≢◌, ◌+◌, ◌*◌, ◌^◌, ◌<◌, ◌==◌, nat_lt, Bool, ◌&&◌, not, IsTrue, Option, Some, None, if◌then◌else◌}
 use Rattle.h3_index.specs.Cell.{Address, IsCell, is_pentagon, number_of}
+use Rattle.h3_index.specs.declared.error.H3Error.{H3Error}
+use Rattle.h3_index.specs.declared.error.H3Error.TheVariants.{DirEdgeInvalid}
 
 -- the cell that an edge leaves, and the direction in which it does
 pub record DirectedEdge : Type 0 where
   pub origin : Address
   pub direction : ℕ
+
+abbrev pub directed_edge : Address → ℕ → DirectedEdge
+directed_edge c d = record { origin = c; direction = d }
 
 pub record IsEdge (e : DirectedEdge) : Type 0 where
   pub origin_cell : IsCell e.origin
@@ -16,6 +21,14 @@ pub record IsEdge (e : DirectedEdge) : Type 0 where
   pub direction_small : e.direction < 7
   pub not_deleted : IsTrue (is_pentagon e.origin) → e.direction ≢ 1
 
--- the number of an edge
+-- whether a cell has an edge in a direction: in each of 1 to 6, but a pentagon in none of 1
+abbrev pub has_edge : Address → ℕ → Bool
+has_edge c d = nat_lt 0 d && nat_lt d 7 && not (is_pentagon c && d == 1)
+
+-- the error where it has none
+abbrev pub direction_refusal : Address → ℕ → Option H3Error
+direction_refusal c d = if has_edge c d then None else Some DirEdgeInvalid
+
+-- the number of an edge: mode 2 is one more than mode 1
 unfoldable pub edge_number : DirectedEdge → ℕ
 edge_number e = number_of e.origin + 2 ^ 59 + e.direction * 2 ^ 56

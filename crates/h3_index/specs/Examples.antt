@@ -4,7 +4,8 @@ use Rattle.h3_index.specs.Cell.{Address, is_pentagon, number_of}
 use Rattle.h3_index.specs.CellNumber.{address_in, cell_in}
 use Rattle.h3_index.specs.Count.{base_cell, pentagons}
 use Rattle.h3_index.specs.Descendants.{cut}
-use Rattle.h3_index.specs.Edge.{edge_number}
+use Rattle.h3_index.specs.Edge.{directed_edge, edge_number}
+use Rattle.h3_index.specs.EdgeNumber.{directed_edge_in, edge_in}
 use Rattle.h3_index.specs.Text.{spelled_index, text_of}
 
 -- ---- cells
@@ -44,9 +45,24 @@ no_cells = refl
 
 -- ---- edges
 
-edge : edge_number (record { origin = hexagon; direction = 1 }) ≡ 0x115283473fffffff
+edge : edge_number (directed_edge hexagon 1) ≡ 0x115283473fffffff
 unfolding edge_number number_of
 edge = refl
+
+edge_read : edge_in 0x115283473fffffff ≡ Some (directed_edge hexagon 1)
+unfolding edge_in directed_edge_in edge_number address_in number_of
+edge_read = refl
+
+-- those of a pentagon
+edges_of_a_pentagon : map (λ d. edge_number (directed_edge (base_cell 4) d)) (2 ∷ 3 ∷ 4 ∷ 5 ∷ 6 ∷ []) ≡ 0x12009fffffffffff ∷ 0x13009fffffffffff ∷ 0x14009fffffffffff ∷ 0x15009fffffffffff ∷ 0x16009fffffffffff ∷ []
+unfolding edge_number number_of
+edges_of_a_pentagon = refl
+
+-- direction 1 at a pentagon, the directions 0 and 7, the reserved bit, mode 3, mode 1 with a direction, a cell, an origin in a
+-- deleted subsequence, and 0
+no_edges : map (λ m. edge_in m) (0x11009fffffffffff ∷ 0x105283473fffffff ∷ 0x175283473fffffff ∷ 0x915283473fffffff ∷ 0x195283473fffffff ∷ 0x095283473fffffff ∷ 0x85283473fffffff ∷ 0x121087ffffffffff ∷ 0 ∷ []) ≡ None ∷ None ∷ None ∷ None ∷ None ∷ None ∷ None ∷ None ∷ None ∷ []
+unfolding edge_in directed_edge_in edge_number address_in number_of
+no_edges = refl
 
 -- ---- texts
 

@@ -4,6 +4,7 @@ use Rattle.std.specs.Cmp.Lexicographic.{slice_cmp}
 use Rattle.std.specs.Ordering.{nat_cmp, ordering_then}
 use Rattle.h3_index.specs.Cell.{Address, IsCell, is_pentagon, number_of, resolution}
 use Rattle.h3_index.specs.Descendants.{cut, IsDescendant, descendants}
+use Rattle.h3_index.specs.Edge.{DirectedEdge, IsEdge, edge_number}
 use Rattle.h3_index.specs.Paths.{paths, next_path, Links}
 
 -- cells of one number are one
@@ -14,6 +15,11 @@ NumbersTellCells = (a b : Address) → IsCell a → IsCell b → number_of a ≡
 abbrev pub NumbersFollowFields : Type 0
 NumbersFollowFields =
     (a b : Address) → IsCell a → IsCell b → nat_cmp (number_of a) (number_of b) ≡ ordering_then (nat_cmp (resolution a) (resolution b)) (ordering_then (nat_cmp a.base b.base) (slice_cmp nat_cmp a.digits b.digits))
+
+-- edges are ordered by direction, and then as the cells that they leave
+abbrev pub EdgeNumbersFollowFields : Type 0
+EdgeNumbersFollowFields =
+    (a b : DirectedEdge) → IsEdge a → IsEdge b → nat_cmp (edge_number a) (edge_number b) ≡ ordering_then (nat_cmp a.direction b.direction) (ordering_then (nat_cmp (resolution a.origin) (resolution b.origin)) (ordering_then (nat_cmp a.origin.base b.origin.base) (slice_cmp nat_cmp a.origin.digits b.origin.digits)))
 
 -- a cell cut at a resolution that is not finer than its own is a cell
 abbrev pub CutsAreCells : Type 0

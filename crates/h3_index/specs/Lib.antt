@@ -5,6 +5,7 @@ pub mod Descendants
 pub mod DigitTest
 pub mod Digits
 pub mod Edge
+pub mod EdgeNumber
 pub mod Error
 pub mod Examples
 pub mod Laws

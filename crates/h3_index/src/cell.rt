@@ -3,7 +3,7 @@
 ghost use Rattle.std.specs.Prelude.{◌≡◌, ◌≢◌, ◌-◌, ◌<◌, ◌≤◌, length, IfOk, IfErr, slice_index_or};
 ghost use Rattle.std.specs.Result.{result_ok};
 ghost use Rattle.h3_index.specs.Cell.{Address, IsCell, is_class_iii, is_pentagon, is_pentagon_base, number_of};
-ghost use Rattle.h3_index.specs.CellNumber.{cell_in, digits_in};
+ghost use Rattle.h3_index.specs.CellNumber.{address_in, cell_in, digits_in, IsCellNumber};
 ghost use Rattle.h3_index.specs.DigitTest.{are_digits};
 
 mod moves;
@@ -88,6 +88,14 @@ impl Cell {
         } else {
             Err(H3Error::CellInvalid)
         }
+    }
+
+    /// The cell with a number that is known to be a cell's.
+    pub(crate) fn from_number(raw: u64) -> Cell
+        requires { IsCellNumber raw }
+        ensures { result ≡ address_in raw }
+    {
+        Cell { raw }
     }
 
     /// The number of the cell.

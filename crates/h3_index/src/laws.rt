@@ -6,9 +6,11 @@ ghost use Rattle.std.specs.Ordering.{nat_cmp};
 ghost use Rattle.std.specs.Hash as fed;
 ghost use Rattle.h3_index.specs.Cell.{Address, number_of};
 ghost use Rattle.h3_index.specs.Count.{CellsUpToAreListed};
-ghost use Rattle.h3_index.specs.Laws.{NumbersFollowFields, NumbersTellCells, CutsAreCells, DescendantsAreListed, DescendantsAscend, HexagonsHaveSevens, PentagonsHaveFewer, PathsAreChains};
+ghost use Rattle.h3_index.specs.Edge.{DirectedEdge, edge_number};
+ghost use Rattle.h3_index.specs.Laws.{EdgeNumbersFollowFields, NumbersFollowFields, NumbersTellCells, CutsAreCells, DescendantsAreListed, DescendantsAscend, HexagonsHaveSevens, PentagonsHaveFewer, PathsAreChains};
 
 use crate::cell::Cell;
+use crate::edge::Edge;
 use std::hash::Hash;
 
 /// Cells are equal, ordered and hashed as their numbers are, and numbers are ordered by resolution,
@@ -21,6 +23,18 @@ pub fn cells_compare_by_number()
         ⟦<Cell as PartialOrd>⟧.partial_cmp a b ≡ Some (nat_cmp (number_of a) (number_of b)) }
     ensures hash { (c : Address) → ⟦<Cell as Hash>⟧.hash_input c ≡ fed.u64 (number_of c) }
     ensures fields { NumbersFollowFields }
+{}
+
+/// Edges are equal, ordered and hashed as their numbers are, and numbers are ordered by direction, then the resolution
+/// of the origin, then its base cell, then its digits.
+pub fn edges_compare_by_number()
+    ensures equal { (a b : DirectedEdge) →
+        ⟦<Edge as PartialEq>⟧.eq a b ≡ (edge_number a == edge_number b) }
+    ensures order { (a b : DirectedEdge) → ⟦<Edge as Ord>⟧.cmp a b ≡ nat_cmp (edge_number a) (edge_number b) }
+    ensures partial { (a b : DirectedEdge) →
+        ⟦<Edge as PartialOrd>⟧.partial_cmp a b ≡ Some (nat_cmp (edge_number a) (edge_number b)) }
+    ensures hash { (e : DirectedEdge) → ⟦<Edge as Hash>⟧.hash_input e ≡ fed.u64 (edge_number e) }
+    ensures fields { EdgeNumbersFollowFields }
 {}
 
 /// Cells of one number are one.

@@ -1,8 +1,9 @@
-//! H3 indexes: cells, the texts of indexes, errors, and the streams that the `h3` command runs over.
+//! H3 indexes: cells, directed edges, the texts of indexes, errors, and the streams that the `h3` command runs over.
 #![tactic(auto)]
 
 mod cell;
 mod count;
+mod edge;
 mod error;
 pub mod laws;
 mod stream;
@@ -10,6 +11,7 @@ mod text;
 
 pub use cell::{Cell, is_pentagon_base};
 pub use count::{num_cells, pentagon, res0_cell};
+pub use edge::Edge;
 pub use error::H3Error;
 pub use stream::{Sink, Source, StreamFault, Streamed};
 pub use text::{is_blank_text, read_index, write_index};

@@ -1,8 +1,8 @@
 ghost use Rattle.std.specs.Prelude.{◌≤◌, IfOk};
 
 use crate::{
-    Cell, H3Error, Sink, Source, StreamFault, Streamed, is_pentagon_base, num_cells, pentagon,
-    read_index, res0_cell, write_index,
+    Cell, Edge, H3Error, Sink, Source, StreamFault, Streamed, is_pentagon_base, num_cells,
+    pentagon, read_index, res0_cell, write_index,
 };
 use std::cmp::Ordering;
 use std::io::{self, Read, Write};
@@ -332,5 +332,78 @@ fn cells_are_ordered_by_number(rt: HostRuntime) -> Result<(), Fail> {
     assert!(rt; first == Cell::new(0x8001fffffffffff)? && first != last);
     assert_eq!(rt; first.cmp(&last), Ordering::Less);
     assert_eq!(rt; finer.cmp(&last), Ordering::Greater);
+    Ok(())
+}
+
+#[test]
+fn an_edge_has_the_fields_of_its_number(rt: HostRuntime) -> Result<(), Fail> {
+    let edge = Edge::new(0x115283473fffffff)?;
+    assert_eq!(rt; edge.raw(), 0x115283473fffffff);
+    assert_eq!(rt; edge.origin().raw(), 0x85283473fffffff);
+    assert_eq!(rt; edge.direction(), 1);
+    assert_eq!(rt; write_index(edge.raw()).as_str(), "115283473fffffff");
+    Ok(())
+}
+
+#[test]
+fn other_numbers_are_no_edges(rt: HostRuntime) {
+    let refused = [
+        // direction 1 at a pentagon
+        0x11009fffffffffff,
+        // the directions 0 and 7
+        0x105283473fffffff,
+        0x175283473fffffff,
+        // the reserved bit
+        0x915283473fffffff,
+        // mode 1, with a direction and without, and mode 3
+        0x95283473fffffff,
+        0x85283473fffffff,
+        0x195283473fffffff,
+        // an origin in a deleted subsequence, and one in base cell 122
+        0x121087ffffffffff,
+        0x120f5fffffffffff,
+        0,
+    ];
+    for raw in refused {
+        assert_eq!(rt; Edge::new(raw), Err(H3Error::DirEdgeInvalid), "{raw:x}");
+    }
+}
+
+#[test]
+fn edges_are_made_of_a_cell_and_a_direction(rt: HostRuntime) -> Result<(), Fail> {
+    let pentagon = Cell::new(0x8009fffffffffff)?;
+    let hexagon = Cell::new(0x85283473fffffff)?;
+    for (direction, raw) in [
+        (1, 0x115283473fffffff),
+        (2, 0x125283473fffffff),
+        (3, 0x135283473fffffff),
+        (4, 0x145283473fffffff),
+        (5, 0x155283473fffffff),
+        (6, 0x165283473fffffff),
+    ] {
+        let edge = Edge::from_parts(hexagon, direction)?;
+        assert_eq!(rt; edge.raw(), raw);
+        assert_eq!(rt; Edge::new(raw), Ok(edge));
+    }
+    assert_eq!(rt; Edge::from_parts(pentagon, 2)?.raw(), 0x12009fffffffffff);
+    for (origin, direction) in [(pentagon, 1), (hexagon, 0), (hexagon, 7)] {
+        let refused = Edge::from_parts(origin, direction);
+        assert_eq!(rt; refused, Err(H3Error::DirEdgeInvalid));
+    }
+    // a hexagon in a pentagon base cell has an edge in each direction
+    let beside = Cell::new(0x8108bffffffffff)?;
+    assert_eq!(rt; Edge::from_parts(beside, 1)?.raw(), 0x11108bffffffffff);
+    Ok(())
+}
+
+#[test]
+fn edges_are_ordered_by_number(rt: HostRuntime) -> Result<(), Fail> {
+    // the direction decides before the origin's resolution
+    let first = Edge::new(0x115283473fffffff)?;
+    let last = Edge::new(0x12009fffffffffff)?;
+    assert!(rt; first < last && first != last);
+    assert!(rt; first == Edge::new(0x115283473fffffff)?);
+    assert_eq!(rt; first.cmp(&last), Ordering::Less);
+    assert_eq!(rt; last.cmp(&first), Ordering::Greater);
     Ok(())
 }

@@ -1,0 +1,265 @@
+-- Neighbours: the direction that leads to one, the way back, and cells that are refused.
+use Rattle.std.proofs.Common.{ℕ, ◌≡◌, ◌≢◌, ◌<◌, ◌+◌, ◌%◌, ◌==◌, ◌↔◌, List, [], ◌∷◌, length, map, Contains, Bool, true, false, ◌||◌, if◌then◌else◌, Option, Some, None, is_some, Ok, Err, refl, arith, sym, ap, ◌∙◌, subst}
+use Rattle.std.specs.List.{find}
+use Rattle.std.proofs.lemmas.List.{length-map}
+use Rattle.std.proofs.lemmas.Bool.Decides.{nat_tests}
+use Rattle.h3_index.specs.Cell.{Address, IsCell, is_pentagon_base, number_of, resolution}
+use Rattle.h3_index.specs.Laws.{NumbersTellCells}
+use Rattle.h3_index.specs.declared.error.H3Error.{H3Error}
+use Rattle.h3_index.specs.declared.error.H3Error.TheVariants.{Pentagon, ResMismatch}
+use Rattle.h3_lattice.specs.declared.direction.Direction.{Direction}
+use Rattle.h3_lattice.specs.declared.direction.Direction.TheVariants.{K, J, JK, I, IK, IJ}
+use Rattle.h3_lattice.specs.Digits.{cell_of}
+use Rattle.h3_lattice.specs.Direction.{digit_turned, directions, opposite, turned}
+use Rattle.h3_lattice.specs.Links.{IsSound, Links}
+use Rattle.h3_lattice.specs.Moved.{IsSum}
+use Rattle.h3_grid.specs.Laws.{IsState, OverSoundLinks, StepsMove, StepsPart}
+use Rattle.h3_grid.specs.Neighbours.{AreNeighbours, BothOrdersAgree, DirectionsAreFound, DirectionsPart, NeighboursAreMutual, NeighboursDiffer, are_neighbours, cell_reached, direction_to, is_same, is_some_same, neighbour, neighbour_refusal}
+use Rattle.h3_grid.specs.Search.{step_of}
+use Rattle.h3_grid.specs.Steps.{Leads, State, led_to, state}
+use Rattle.h3_grid.proofs.BackLaws.{crossed_to}
+use Rattle.h3_grid.proofs.InsideLaws.{SumLaws, crossed_is, leads}
+use Rattle.h3_grid.proofs.LatticeLaws.{StepLawsHold}
+use Rattle.h3_grid.proofs.ListLaws.{find_one}
+use Rattle.h3_grid.proofs.SearchLaws.{step-hexagon, step-pentagon}
+
+-- ---- a step depends on its direction in the base cell alone
+
+pub same_turn : SumLaws → (link : Links) (x y : Address) (rot q p : ℕ) (d e : Direction) → is_pentagon_base x.base ≡ false → turned rot d ≡ turned p e → step_of link (state x rot) d ≡ Some (state y q)
+    → (r : ℕ) × (step_of link (state x p) e ≡ Some (state y r))
+same_turn sums link x y rot q p d e hex same st = by_out l.out l.list l.sum l.is
+  where
+    l : Leads link (state x rot) d (Some (state y q))
+    l = leads sums link (state x rot) (state y q) d hex st
+
+    by_out : (u : Option Direction) (es : List ℕ) → IsSum x.digits (turned rot d) u es → Some (state y q) ≡ led_to link (state x rot) u es → (r : ℕ) × (step_of link (state x p) e ≡ Some (state y r))
+    by_out None es sum is =
+        let at : state y q ≡ state (cell_of x.base es) rot = cc in
+        let cell : y ≡ cell_of x.base es = ap (λ (s : State). s.cell) at in
+        (p, step-hexagon sums.unique link (state x p) e None es hex (subst (λ t. IsSum x.digits t None es) same sum) ∙ ap (λ a. Some (state a p)) (sym cell))
+    by_out (Some u) es sum is =
+        let c = crossed_is (link x.base u) rot es (state y q) is in
+        let cell : y ≡ cell_of (link x.base u).0 (map (digit_turned (link x.base u).1) es) = ap (λ (s : State). s.cell) c.is in (
+          (p + (link x.base u).1) % 6,
+          step-hexagon sums.unique link (state x p) e (Some u) es hex (subst (λ t. IsSum x.digits t (Some u) es) same sum)
+              ∙ crossed_to (link x.base u) (link x.base u).0 (link x.base u).1 p es refl c.hexagon ∙ ap (λ a. Some (state a ((p + (link x.base u).1) % 6))) (sym cell),
+        )
+
+-- ---- tests
+
+false_true : false ≡ true → ⊥
+false_true e = cc
+
+pub number_same : (x y : Address) → is_same x y ≡ true → number_of x ≡ number_of y
+number_same x y e = grind (arith, nat_tests)
+
+pub same_number : (x y : Address) → number_of x ≡ number_of y → is_same x y ≡ true
+same_number x y e = grind (arith, nat_tests)
+
+pub other_number : (x y : Address) → number_of x ≢ number_of y → is_same x y ≡ false
+other_number x y h = grind (arith, nat_tests)
+
+same_truth : (a b : Bool) → (a ≡ true → b ≡ true) → (b ≡ true → a ≡ true) → a ≡ b
+same_truth true b h k = sym (h refl)
+same_truth false true h k = k refl
+same_truth false false h k = refl
+
+eq-sym : (m n : ℕ) → (m == n) ≡ (n == m)
+eq-sym m n =
+    same_truth (m == n) (n == m) (λ e. grind (arith, nat_tests)) (λ e. grind (arith, nat_tests))
+
+or-sym : (a b : Bool) → (a || b) ≡ (b || a)
+or-sym true true = refl
+or-sym true false = refl
+or-sym false true = refl
+or-sym false false = refl
+
+pub some_of : {A : Type 0} (o : Option A) → is_some o ≡ true → (a : A) × (o ≡ Some a)
+some_of None e = absurd (false_true e)
+some_of (Some a) e = (a, refl)
+
+-- what is found passes
+found_passes : {A : Type 0} (p : A → Bool) (xs : List A) (x : A) → find p xs ≡ Some x → p x ≡ true
+found_passes p [] x e = cc
+found_passes p (y ∷ xs) x e = first (p y) refl (λ f. found_passes p xs x f)
+  where
+    first : (b : Bool) → p y ≡ b → (find p xs ≡ Some x → p x ≡ true) → p x ≡ true
+    first true is later = let here : Some y ≡ Some x = rw is at e in let same : y ≡ x = cc in ap p (sym same) ∙ is
+    first false is later = later (rw is at e)
+
+in_directions : (d : Direction) → Contains directions d
+in_directions K = (0, omega arith, refl)
+in_directions J = (1, omega arith, refl)
+in_directions JK = (2, omega arith, refl)
+in_directions I = (3, omega arith, refl)
+in_directions IK = (4, omega arith, refl)
+in_directions IJ = (5, omega arith, refl)
+
+refusal-sym : (x y : Address) → neighbour_refusal x y ≡ neighbour_refusal y x
+unfolding neighbour_refusal
+refusal-sym x y =
+    rw (eq-sym (resolution x) (resolution y), eq-sym (number_of x) (number_of y), or-sym (is_pentagon_base x.base) (is_pentagon_base y.base)) refl
+
+-- ---- refusals
+
+pub refusal-resolution : (x y : Address) → (resolution x ≡ resolution y → ⊥) → neighbour_refusal x y ≡ Some ResMismatch
+unfolding neighbour_refusal
+refusal-resolution x y h =
+    let test : (resolution x == resolution y) ≡ false = grind (arith, nat_tests) in
+    rw test refl
+
+same_resolution : (x y : Address) → resolution x ≡ resolution y → (resolution x == resolution y) ≡ true
+same_resolution x y e = grind (arith, nat_tests)
+
+pub refusal-same : (x y : Address) → resolution x ≡ resolution y → is_same x y ≡ true → neighbour_refusal x y ≡ None
+unfolding neighbour_refusal
+refusal-same x y e same = rw (same_resolution x y e, same) refl
+
+pub refusal-other : (x y : Address) (b : Bool) → resolution x ≡ resolution y → is_same x y ≡ false → (is_pentagon_base x.base || is_pentagon_base y.base) ≡ b → neighbour_refusal x y ≡ (if b then Some Pentagon else None)
+unfolding neighbour_refusal
+refusal-other x y b e other test = rw (same_resolution x y e, other, test) refl
+
+pub answer-refused : (link : Links) (x y : Address) (e : H3Error) → neighbour_refusal x y ≡ Some e → are_neighbours link x y ≡ Err e
+unfolding are_neighbours
+answer-refused link x y e h = rw h refl
+
+pub answer-told : (link : Links) (x y : Address) → neighbour_refusal x y ≡ None → are_neighbours link x y ≡ Ok (is_some (direction_to link x y))
+unfolding are_neighbours
+answer-told link x y h = rw h refl
+
+-- a cell of the same number is not found
+pub none_same : (link : Links) → DirectionsAreFound link → NeighboursDiffer link → (x y : Address) → IsCell x → IsCell y → is_same x y ≡ true → direction_to link x y ≡ None
+none_same link found differ x y v u same = by_direction (direction_to link x y) refl
+  where
+    by_direction : (o : Option Direction) → direction_to link x y ≡ o → direction_to link x y ≡ None
+    by_direction None is = is
+    by_direction (Some d) is = absurd (differ x y d v ((found x y d v u).0 is) (number_same x y same))
+
+-- ---- the neighbour in a direction
+
+-- a step that reaches the neighbour
+pub step-neighbour : (link : Links) (x y : Address) (d : Direction) → neighbour link x d ≡ Some y → (r : ℕ) × (step_of link (state x 0) d ≡ Some (state y r))
+unfolding neighbour
+step-neighbour link x y d e = by_step (step_of link (state x 0) d) refl e
+  where
+    by_step : (o : Option State) → step_of link (state x 0) d ≡ o → cell_reached o ≡ Some y → (r : ℕ) × (step_of link (state x 0) d ≡ Some (state y r))
+    by_step None is e = cc
+    by_step (Some s) is e = let same : s.cell ≡ y = cc in (s.rotation, is ∙ ap (λ c. Some (state c s.rotation)) same)
+
+pub neighbour-step : (link : Links) (x y : Address) (d : Direction) (r : ℕ) → step_of link (state x 0) d ≡ Some (state y r) → neighbour link x d ≡ Some y
+unfolding neighbour
+neighbour-step link x y d r e = ap cell_reached e
+
+is_passes : (link : Links) (x y : Address) (d : Direction) → neighbour link x d ≡ Some y → is_some_same y (neighbour link x d) ≡ true
+is_passes link x y d e = ap (is_some_same y) e ∙ same_number y y refl
+
+some_none : {A : Type 0} (a : A) → Some a ≡ None → ⊥
+some_none a e = cc
+
+-- a cell that has a neighbour is in a hexagon base cell
+pub from_hexagon : (link : Links) (x y : Address) (d : Direction) → IsCell x → neighbour link x d ≡ Some y → IsState (state x 0)
+from_hexagon link x y d v e = by_test (is_pentagon_base x.base) refl
+  where
+    by_test : (b : Bool) → is_pentagon_base x.base ≡ b → IsState (state x 0)
+    by_test true h =
+        let s = step-neighbour link x y d e in
+        let none : Some (state y s.0) ≡ None = sym s.1 ∙ step-pentagon link (state x 0) d h in
+        absurd (some_none (state y s.0) none)
+    by_test false h = record { hexagon = (v.base_small, h); digits = v.digits_small; few = omega arith }
+
+-- a step stays at the resolution
+pub same_length : SumLaws → (link : Links) (x y : Address) (q : ℕ) (d : Direction) → is_pentagon_base x.base ≡ false → step_of link (state x 0) d ≡ Some (state y q) → length y.digits ≡ length x.digits
+same_length sums link x y q d hex st = by_out l.out l.list l.sum l.is
+  where
+    l : Leads link (state x 0) d (Some (state y q))
+    l = leads sums link (state x 0) (state y q) d hex st
+
+    by_out : (u : Option Direction) (es : List ℕ) → IsSum x.digits d u es → Some (state y q) ≡ led_to link (state x 0) u es → length y.digits ≡ length x.digits
+    by_out None es sum is =
+        let at : state y q ≡ state (cell_of x.base es) 0 = cc in
+        ap (λ (s : State). length s.cell.digits) at ∙ sum.long
+    by_out (Some u) es sum is =
+        let c = crossed_is (link x.base u) 0 es (state y q) is in
+        ap (λ (s : State). length s.cell.digits) c.is ∙ length-map es (digit_turned (link x.base u).1) ∙ sum.long
+
+to_related : (link : Links) → DirectionsAreFound link → (x y : Address) → IsCell x → IsCell y → is_some (direction_to link x y) ≡ true → AreNeighbours link x y
+to_related link found x y v u e =
+    let s = some_of (direction_to link x y) e in
+    record { direction = s.0; leads = (found x y s.0 v u).0 s.1 }
+
+pub related : (link : Links) → DirectionsAreFound link → (x y : Address) → IsCell x → IsCell y → (is_some (direction_to link x y) ≡ true) ↔ AreNeighbours link x y
+related link found x y v u =
+    (to_related link found x y v u, λ n. ap is_some ((found x y n.direction v u).1 n.leads))
+
+-- ---- over sound links
+
+module _ (w : StepLawsHold) (sums : SumLaws) (link : Links) (sound : IsSound link) where
+  -- a neighbour is a cell, of the same resolution and in a hexagon base cell
+  pub record IsNeighbour (x y : Address) : Type 0 where
+    pub valid : IsCell y
+    pub resolution_is : resolution y ≡ resolution x
+    pub hexagon : is_pentagon_base x.base ≡ false
+    pub hexagon-2 : is_pentagon_base y.base ≡ false
+
+  pub neighbour_is : (x y : Address) (d : Direction) → IsCell x → neighbour link x d ≡ Some y → IsNeighbour x y
+  neighbour_is x y d v e =
+      let s = step-neighbour link x y d e in
+      let st = from_hexagon link x y d v e in
+      let to = w.reach link sound (state x 0) (state y s.0) d st s.1 in
+      let same = same_length sums link x y s.0 d st.hexagon.1 s.1 in
+      let coarse : length y.digits < 16 = omega (arith, same, v.coarse) in
+      let valid : IsCell y = record { base_small = to.hexagon.0; coarse = coarse; digits_small = to.digits; not_deleted = λ p. absurd (true_false (sym p ∙ to.hexagon.1)) } in
+      record { valid = valid; resolution_is = same; hexagon = st.hexagon.1; hexagon-2 = to.hexagon.1 }
+    where
+      true_false : true ≡ false → ⊥
+      true_false e = cc
+
+  neighbour_back : (x y : Address) → IsCell x → AreNeighbours link x y → AreNeighbours link y x
+  neighbour_back x y v n =
+      let d = n.direction in
+      let s = step-neighbour link x y d n.leads in
+      let st = from_hexagon link x y d v n.leads in
+      let other = w.reach link sound (state x 0) (state y s.0) d st s.1 in
+      let back = w.reverse link sound (state x 0) (state y s.0) d st s.1 in
+      let p = same_turn sums link y x s.0 0 0 (opposite d) (turned s.0 (opposite d)) other.hexagon.1 refl back in
+      record { direction = turned s.0 (opposite d); leads = neighbour-step link y x (turned s.0 (opposite d)) p.0 p.1 }
+
+  pub neighbours_mutual : NeighboursAreMutual link
+  neighbours_mutual x y v u = (neighbour_back x y v, neighbour_back y x u)
+
+  -- ---- the direction to a neighbour
+
+  module _ (tell : NumbersTellCells) (part : OverSoundLinks StepsPart) where
+    pub directions_part : DirectionsPart link
+    directions_part x y d e v p q =
+        let s = step-neighbour link x y d p in
+        let t = step-neighbour link x y e q in
+        part link sound (state x 0) (state y s.0) (state y t.0) d e (from_hexagon link x y d v p) s.1 t.1 refl
+
+    pub neighbours_differ : OverSoundLinks StepsMove → NeighboursDiffer link
+    neighbours_differ move_on x y d v p e =
+        let s = step-neighbour link x y d p in
+        move_on link sound (state x 0) (state y s.0) d (from_hexagon link x y d v p) s.1 (sym (tell x y v (neighbour_is x y d v p).valid e))
+
+    passes_is : (x y : Address) (d : Direction) → IsCell x → IsCell y → is_some_same y (neighbour link x d) ≡ true → neighbour link x d ≡ Some y
+    passes_is x y d v u e = by_neighbour (neighbour link x d) refl e
+      where
+        by_neighbour : (o : Option Address) → neighbour link x d ≡ o → is_some_same y o ≡ true → neighbour link x d ≡ Some y
+        by_neighbour None is e = absurd (false_true e)
+        by_neighbour (Some z) is e = is ∙ ap (λ c. Some c) (tell z y (neighbour_is x z d v is).valid u (number_same z y e))
+
+    pub directions_found : DirectionsAreFound link
+    unfolding direction_to
+    directions_found x y d v u = (
+      λ e. passes_is x y d v u (found_passes (λ d. is_some_same y (neighbour link x d)) directions d e),
+      λ e. find_one (λ d. is_some_same y (neighbour link x d)) directions d (in_directions d) (is_passes link x y d e) (λ c m t. directions_part x y c d v (passes_is x y c v u t) e),
+    )
+
+    pub both_agree : BothOrdersAgree link
+    unfolding are_neighbours
+    both_agree x y v u =
+        let there = related link directions_found x y v u in
+        let back = related link directions_found y x u v in
+        let swap = neighbours_mutual x y v u in
+        let same : is_some (direction_to link x y) ≡ is_some (direction_to link y x) = same_truth _ _ (λ e. back.1 (swap.0 (there.0 e))) (λ e. there.1 (swap.1 (back.0 e))) in
+        rw (refusal-sym x y, same) refl

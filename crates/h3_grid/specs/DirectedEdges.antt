@@ -1,0 +1,72 @@
+-- Directed edges between neighbours.
+--
+-- H3's directed edges: an edge leaves its origin in one of the six directions, and leads to the neighbour there, its
+-- destination.
+use Rattle.std.specs.Prelude.{ℕ, ◌≡◌, ◌↔◌, ◌<◌, ◌==◌, ◌||◌, List, [], ◌∷◌, map, Bool, true, false, not, if◌then◌else◌, Option, Some, None, Result, Ok, Err, AllPairs, Contains}
+use Rattle.h3_index.specs.Cell.{Address, is_pentagon, is_pentagon_base, resolution}
+use Rattle.h3_index.specs.Edge.{DirectedEdge, IsEdge, directed_edge}
+use Rattle.h3_index.specs.declared.error.H3Error.{H3Error}
+use Rattle.h3_index.specs.declared.error.H3Error.TheVariants.{NotNeighbors, Pentagon, ResMismatch}
+use Rattle.h3_lattice.specs.declared.direction.Direction.{Direction}
+use Rattle.h3_lattice.specs.Direction.{digit_of, direction_of}
+use Rattle.h3_lattice.specs.Links.{Links}
+use Rattle.h3_grid.specs.Neighbours.{direction_to, is_same, neighbour, unless_refused}
+
+-- y is the destination of the edge: the neighbour of its origin by its direction
+pub record IsDestination (link : Links) (e : DirectedEdge) (y : Address) : Type 0 where
+  pub direction : Direction
+  pub digit_is : e.direction ≡ digit_of direction
+  pub leads : neighbour link e.origin direction ≡ Some y
+
+-- the edge leaves x and leads to y
+pub record IsEdgeBetween (link : Links) (x y : Address) (e : DirectedEdge) : Type 0 where
+  pub valid : IsEdge e
+  pub leaves : e.origin ≡ x
+  pub leads : IsDestination link e y
+
+-- ---- as functions
+
+-- the error with which two cells are refused before a direction is looked for, if they are: first that their resolutions
+-- differ, then that they are one cell, then that one of them is in a pentagon base cell
+unfoldable pub edge_refusal : Address → Address → Option H3Error
+edge_refusal x y =
+    if not (resolution x == resolution y) then Some ResMismatch
+    else (if is_same x y then Some NotNeighbors
+    else (if is_pentagon_base x.base || is_pentagon_base y.base then Some Pentagon
+    else None))
+
+abbrev pub edge_toward : Address → Option Direction → Result DirectedEdge H3Error
+edge_toward x None = Err NotNeighbors
+edge_toward x (Some d) = Ok (directed_edge x (digit_of d))
+
+-- the edge that leaves x and leads to y, where there is one
+unfoldable pub edge_between : Links → Address → Address → Result DirectedEdge H3Error
+edge_between link x y = unless_refused (edge_refusal x y) (edge_toward x (direction_to link x y))
+
+abbrev pub neighbour_toward : Links → Address → Option Direction → Option Address
+neighbour_toward link x None = None
+neighbour_toward link x (Some d) = neighbour link x d
+
+abbrev pub or_pentagon : Option Address → Result Address H3Error
+or_pentagon None = Err Pentagon
+or_pentagon (Some y) = Ok y
+
+-- the destination of an edge
+unfoldable pub edge_destination : Links → DirectedEdge → Result Address H3Error
+edge_destination link e = or_pentagon (neighbour_toward link e.origin (direction_of e.direction))
+
+-- ---- the edges of a cell
+
+-- the directions of a cell's edges, which is a pentagon or not
+abbrev pub edge_directions : Bool → List ℕ
+edge_directions false = 1 ∷ 2 ∷ 3 ∷ 4 ∷ 5 ∷ 6 ∷ []
+edge_directions true = 2 ∷ 3 ∷ 4 ∷ 5 ∷ 6 ∷ []
+
+-- the edges that leave a cell, in ascending direction
+unfoldable pub edges_from : Address → List DirectedEdge
+edges_from c = map (directed_edge c) (edge_directions (is_pentagon c))
+
+-- the list holds the edges that leave a cell and nothing else, and ascends
+pub record ListsEdges (c : Address) (edges : List DirectedEdge) : Type 0 where
+  pub each : (e : DirectedEdge) → Contains edges e ↔ (IsEdge e × (e.origin ≡ c))
+  pub ascending : AllPairs (λ a b. a.direction < b.direction) edges

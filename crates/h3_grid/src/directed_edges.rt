@@ -1,0 +1,76 @@
+//! Directed edges between neighbours.
+
+ghost use Rattle.std.specs.Prelude.{◌≡◌, IfOk, IfErr, MatchOption};
+ghost use Rattle.h3_index.specs.Cell.{Address};
+ghost use Rattle.h3_lattice.specs.BaseTable.{link_of};
+ghost use Rattle.h3_grid.specs.DirectedEdges.{IsDestination, IsEdgeBetween, ListsEdges, edge_between, edge_destination, edge_refusal, edges_from};
+ghost use Rattle.h3_grid.specs.Edges.{edges_left};
+ghost use Rattle.h3_grid.specs.Neighbours.{AreNeighbours, DirectionsAreFound, DirectionsPart};
+
+use crate::iter::Edges;
+use crate::neighbours::{direction_to, either_in_pentagon_base, neighbor, neighbour_is_lawful};
+use h3_index::{Cell, Edge, H3Error};
+use h3_lattice::{BaseTable, Direction};
+
+/// The edge that leaves one cell and leads to another, as H3's `cellsToDirectedEdge` returns it.
+///
+/// `ResMismatch` where their resolutions differ; then `NotNeighbors` for one cell given twice; then `Pentagon` where one of
+/// them is in a pentagon base cell; then `NotNeighbors` where no step leads from the first to the second.
+pub fn edge_between(table: &BaseTable, a: Cell, b: Cell) -> Result<Edge, H3Error>
+    ensures is { result ≡ edge_between (link_of table.now) a b }
+
+    // The same in parts: what the edge is, and which pairs are refused.
+    ensures leads { IfOk result (λ edge. IsEdgeBetween (link_of table.now) a b edge) }
+    ensures refused { MatchOption (edge_refusal a b)
+        (IfErr result (λ e. (e ≡ H3Error.NotNeighbors) × ¬ AreNeighbours (link_of table.now) a b))
+        (λ e. result ≡ Err e) }
+
+    // Laws of neighbours over the table: there is no second direction, and the function of the definitions finds it.
+    ensures part { DirectionsPart (link_of table.now) }
+    ensures found { DirectionsAreFound (link_of table.now) }
+{
+    neighbour_is_lawful(table);
+    if a.resolution() != b.resolution() {
+        return Err(H3Error::ResMismatch);
+    }
+    if a == b {
+        return Err(H3Error::NotNeighbors);
+    }
+    if either_in_pentagon_base(a, b) {
+        return Err(H3Error::Pentagon);
+    }
+    match direction_to(table, a, b) {
+        None => Err(H3Error::NotNeighbors),
+        Some(direction) => Edge::from_parts(a, direction.digit()),
+    }
+}
+
+/// The cell that an edge leads to, as H3's `getDirectedEdgeDestination` returns it: that of the step from its origin, with
+/// rotation 0, in its direction.
+///
+/// `Pentagon` where the origin or that cell is in a pentagon base cell.
+pub fn edge_destination(table: &BaseTable, edge: Edge) -> Result<Cell, H3Error>
+    ensures is { result ≡ edge_destination (link_of table.now) edge }
+
+    // The same in parts.
+    ensures leads { IfOk result (λ cell. IsDestination (link_of table.now) edge cell) }
+    ensures refused { IfErr result (λ e. (e ≡ H3Error.Pentagon)
+        × ((cell : Address) → ¬ IsDestination (link_of table.now) edge cell)) }
+{
+    let Some(direction) = Direction::from_digit(edge.direction()) else {
+        unreachable!()
+    };
+    match neighbor(table, edge.origin(), direction) {
+        Some(cell) => Ok(cell),
+        None => Err(H3Error::Pentagon),
+    }
+}
+
+/// The edges that leave a cell, in ascending direction, as H3's `originToDirectedEdges` gives them: six, or five without
+/// direction 1 (K) at a pentagon. No table is needed for them.
+pub fn edges_of(cell: Cell) -> Edges
+    ensures items { edges_left result ≡ edges_from cell }
+    ensures listed { ListsEdges cell (edges_from cell) }
+{
+    Edges::from(cell)
+}
