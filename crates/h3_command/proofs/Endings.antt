@@ -10,7 +10,7 @@ use Rattle.h3_lattice.specs.Links.{Links}
 use Rattle.h3_lattice.specs.Table.{RefusesTable, links_of, table_fault}
 use Rattle.h3_lattice.specs.declared.error.TableError.{TableError}
 use Rattle.h3_lattice.specs.declared.error.TableError.TheVariants as fault
-use Rattle.h3_command.specs.Answer.{Answer, Request, about_table, answered, from_cell, out_of_memory, unless_faulty}
+use Rattle.h3_command.specs.Answer.{Answer, Request, about_table, answer_or_error, with_table, out_of_memory, unless_faulty}
 use Rattle.h3_command.specs.Answer.Request.{of_list, of_table, plain}
 use Rattle.h3_command.specs.List.{listed_cells}
 use Rattle.h3_command.specs.Reading.{RefusesList}
@@ -36,9 +36,9 @@ reading_written a bytes source (Err Write) out sound writes = (sound, writes)
 
 -- the list is refused
 pub list_refused : (about : List Address → Answer) (list : List ℕ) (input : SourceUse) (e : Refusal) (out : SinkUse) → RefusesList (ReadFails input list) (listed_cells list) e
-    → ((e ≡ Read → ⊥) → IsSound input) → IsLeft out → WritesReading (answered about (listed_cells list)) list input (Err e) out
+    → ((e ≡ Read → ⊥) → IsSound input) → IsLeft out → WritesReading (answer_or_error about (listed_cells list)) list input (Err e) out
 list_refused about list input (Error d) out is sound left =
-    (sound (λ never. cc never), subst (λ cells. Writes (answered about cells) (Err (Error d)) out) (sym is) (writes_refused d out left))
+    (sound (λ never. cc never), subst (λ cells. Writes (answer_or_error about cells) (Err (Error d)) out) (sym is) (writes_refused d out left))
 list_refused about list input Memory out is sound left = (sound (λ never. cc never), left)
 list_refused about list input Read out fails sound left = (fails, left)
 list_refused about list input Write out never sound left = absurd never
@@ -47,52 +47,52 @@ list_refused about list input TableOpen out never sound left = absurd never
 
 -- the list is read, and the answer about its cells is written
 pub list_written : (about : List Address → Answer) (list : List ℕ) (cells : List Address) (input : SourceUse) (ending : Result (Unit {0}) Refusal) (out : SinkUse) → listed_cells list ≡ Ok cells
-    → IsSound input → Writes (about cells) ending out → WritesReading (answered about (listed_cells list)) list input ending out
+    → IsSound input → Writes (about cells) ending out → WritesReading (answer_or_error about (listed_cells list)) list input ending out
 list_written about list cells input ending out is sound writes =
-    reading_written _ list input ending out sound (subst (λ read. Writes (answered about read) ending out) (sym is) writes)
+    reading_written _ list input ending out sound (subst (λ read. Writes (answer_or_error about read) ending out) (sym is) writes)
 
 -- ---- a table
 
--- there is an error in place of the cell, and the table is not read
-pub cell_refused : (about : Address → Links → Answer) (cell : Result Address H3Error) (e : H3Error) (input table : SourceUse) (out : SinkUse) → cell ≡ Err e → IsLeft out
-    → Ends (from_cell about cell) input table (Err (Error e)) out
-cell_refused about cell e input table out is left =
-    subst (λ c. Ends (from_cell about c) input table (Err (Error e)) out) (sym is) (writes_refused e out left)
+-- there is an error in place of the value, and the table is not read
+pub value_refused : {A : Type 0} (about : A → Links → Answer) (value : Result A H3Error) (e : H3Error) (input table : SourceUse) (out : SinkUse) → Err e ≡ value → IsLeft out
+    → Ends (with_table about value) input table (Err (Error e)) out
+value_refused about value e input table out is left =
+    subst (λ c. Ends (with_table about c) input table (Err (Error e)) out) is (writes_refused e out left)
 
 -- an error of the table stands in place of an answer
-table_error : (a : Answer) (first : Option TableError) (e : TableError) (rows : List ℕ) (table : SourceUse) (out : SinkUse) → first ≡ Some e → ((e ≡ fault.Read → ⊥) → IsSound table) → IsLeft out → (e ≡ fault.Read → ⊥)
-    → WritesReading (unless_faulty first a) rows table (Err (Table e)) out
+table_error : (a : Answer) (first : Option TableError) (e : TableError) (file : List ℕ) (table : SourceUse) (out : SinkUse) → first ≡ Some e → ((e ≡ fault.Read → ⊥) → IsSound table) → IsLeft out → (e ≡ fault.Read → ⊥)
+    → WritesReading (unless_faulty first a) file table (Err (Table e)) out
 unfolding Writes
-table_error a first e rows table out is sound left other =
+table_error a first e file table out is sound left other =
     (sound other, subst (λ f. Writes (unless_faulty f a) (Err (Table e)) out) (sym is) (refl, (nothing _ _ left.0, left.1)))
 
-table_refuses : (a : Answer) (first : Option TableError) (e : TableError) (rows : List ℕ) (table : SourceUse) (out : SinkUse) → RefusesTable (ReadFails table rows) first e → ((e ≡ fault.Read → ⊥) → IsSound table) → IsLeft out
-    → WritesReading (unless_faulty first a) rows table (Err (table_refusal e)) out
-table_refuses a first fault.Read rows table out fails sound left = (fails, left)
-table_refuses a first fault.Memory rows table out any sound left = (sound (λ never. cc never), left)
-table_refuses a first (fault.Form row) rows table out is sound left = table_error a first _ rows table out is sound left (λ never. cc never)
-table_refuses a first (fault.Range row) rows table out is sound left = table_error a first _ rows table out is sound left (λ never. cc never)
-table_refuses a first (fault.Repeated row) rows table out is sound left = table_error a first _ rows table out is sound left (λ never. cc never)
-table_refuses a first fault.Missing rows table out is sound left = table_error a first _ rows table out is sound left (λ never. cc never)
-table_refuses a first (fault.Neighbours b) rows table out is sound left = table_error a first _ rows table out is sound left (λ never. cc never)
-table_refuses a first (fault.Reversal b d) rows table out is sound left = table_error a first _ rows table out is sound left (λ never. cc never)
-table_refuses a first (fault.Corner b d) rows table out is sound left = table_error a first _ rows table out is sound left (λ never. cc never)
+table_refuses : (a : Answer) (first : Option TableError) (e : TableError) (file : List ℕ) (table : SourceUse) (out : SinkUse) → RefusesTable (ReadFails table file) first e → ((e ≡ fault.Read → ⊥) → IsSound table) → IsLeft out
+    → WritesReading (unless_faulty first a) file table (Err (table_refusal e)) out
+table_refuses a first fault.Read file table out fails sound left = (fails, left)
+table_refuses a first fault.Memory file table out any sound left = (sound (λ never. cc never), left)
+table_refuses a first (fault.Form row) file table out is sound left = table_error a first _ file table out is sound left (λ never. cc never)
+table_refuses a first (fault.Range row) file table out is sound left = table_error a first _ file table out is sound left (λ never. cc never)
+table_refuses a first (fault.Repeated row) file table out is sound left = table_error a first _ file table out is sound left (λ never. cc never)
+table_refuses a first fault.Missing file table out is sound left = table_error a first _ file table out is sound left (λ never. cc never)
+table_refuses a first (fault.Neighbours b) file table out is sound left = table_error a first _ file table out is sound left (λ never. cc never)
+table_refuses a first (fault.Reversal b d) file table out is sound left = table_error a first _ file table out is sound left (λ never. cc never)
+table_refuses a first (fault.Corner b d) file table out is sound left = table_error a first _ file table out is sound left (λ never. cc never)
 
 -- the table is refused
-pub table_refused_so : (about : Address → Links → Answer) (index : Result Address H3Error) (cell : Address) (e : TableError) (input table : SourceUse) (out : SinkUse) → Ok cell ≡ index
-    → (rows : List ℕ) × HasLeft table.left rows × RefusesTable (ReadFails table rows) (table_fault (records_of rows)) e → ((e ≡ fault.Read → ⊥) → IsSound table) → IsLeft out
-    → Ends (from_cell about index) input table (Err (table_refusal e)) out
-table_refused_so about index cell e input table out is (rows, held, refuses) sound left =
-    subst (λ c. Ends (from_cell about c) input table (Err (table_refusal e)) out) is (rows, held, table_refuses _ _ e rows table out refuses sound left)
+pub table_refused_so : {A : Type 0} (about : A → Links → Answer) (read : Result A H3Error) (value : A) (e : TableError) (input table : SourceUse) (out : SinkUse) → Ok value ≡ read
+    → (file : List ℕ) × HasLeft table.left file × RefusesTable (ReadFails table file) (table_fault (records_of file)) e → ((e ≡ fault.Read → ⊥) → IsSound table) → IsLeft out
+    → Ends (with_table about read) input table (Err (table_refusal e)) out
+table_refused_so about read value e input table out is (file, held, refuses) sound left =
+    subst (λ c. Ends (with_table about c) input table (Err (table_refusal e)) out) is (file, held, table_refuses _ _ e file table out refuses sound left)
 
 -- the table is read, and the answer about its links is written
-pub table_answered : (about : Address → Links → Answer) (index : Result Address H3Error) (cell : Address) (links : Links) (ending : Result (Unit {0}) Refusal) (input table : SourceUse) (out : SinkUse) → Ok cell ≡ index
-    → (rows : List ℕ) → HasLeft table.left rows → table_fault (records_of rows) ≡ None → links ≡ links_of (records_of rows) → IsSound table → Writes (about cell links) ending out
-    → Ends (from_cell about index) input table ending out
-table_answered about index cell links ending input table out is rows held none same sound writes =
-    let about_rows : Writes (about_table (about cell) rows) ending out =
-    subst (λ f. Writes (unless_faulty f (about cell (links_of (records_of rows)))) ending out) (sym none) (subst (λ l. Writes (about cell l) ending out) same writes) in
-    subst (λ c. Ends (from_cell about c) input table ending out) is (rows, held, reading_written _ rows table ending out sound about_rows)
+pub table_answered : {A : Type 0} (about : A → Links → Answer) (read : Result A H3Error) (value : A) (links : Links) (ending : Result (Unit {0}) Refusal) (input table : SourceUse) (out : SinkUse) → Ok value ≡ read
+    → (file : List ℕ) → HasLeft table.left file → table_fault (records_of file) ≡ None → links ≡ links_of (records_of file) → IsSound table → Writes (about value links) ending out
+    → Ends (with_table about read) input table ending out
+table_answered about read value links ending input table out is file held none same sound writes =
+    let about_file : Writes (about_table (about value) file) ending out =
+    subst (λ f. Writes (unless_faulty f (about value (links_of (records_of file)))) ending out) (sym none) (subst (λ l. Writes (about value l) ending out) same writes) in
+    subst (λ c. Ends (with_table about c) input table ending out) is (file, held, reading_written _ file table ending out sound about_file)
 
 -- ---- a run
 
@@ -126,25 +126,25 @@ with_memory memory takes (inr b) = inr (takes, b)
 answers : (r : Request) (ending : Result (Unit {0}) Refusal) (status : ℕ) (s : Streams) → Ends r s.input s.table ending s.out → Reports ending status s.err → Answers r status s
 answers (plain a) ending status s writes reports =
     let (list, held) = some_held s.input.left in
-    let (rows, kept) = some_held s.table.left in
-    record { list = list; rows = rows; list_told = held; rows_told = kept; given = λ none. inl (gives_written a ending status s writes none.answer_written reports) }
+    let (file, kept) = some_held s.table.left in
+    record { list = list; file = file; list_told = held; file_told = kept; given = λ none. inl (gives_written a ending status s writes none.answer_written reports) }
 answers (of_list about) ending status s (list, held, writes) reports =
-    let (rows, kept) = some_held s.table.left in
+    let (file, kept) = some_held s.table.left in
     record {
       list = list;
-      rows = rows;
+      file = file;
       list_told = held;
-      rows_told = kept;
+      file_told = kept;
       given = λ none. with_memory true refl (gives_reading _ list s.input ending status s writes (none.list_read refl) none.answer_written reports);
     }
-answers (of_table about) ending status s (rows, held, writes) reports =
+answers (of_table about) ending status s (file, held, writes) reports =
     let (list, kept) = some_held s.input.left in
     record {
       list = list;
-      rows = rows;
+      file = file;
       list_told = kept;
-      rows_told = held;
-      given = λ none. with_memory true refl (gives_reading _ rows s.table ending status s writes (none.table_read refl) none.answer_written reports);
+      file_told = held;
+      given = λ none. with_memory true refl (gives_reading _ file s.table ending status s writes (none.table_read refl) none.answer_written reports);
     }
 
 -- a run ends so, and reports it

@@ -1,26 +1,26 @@
 -- The lines of a walk: those of the items so far, and of all that it gives.
 use Rattle.std.proofs.Common.{◌≡◌, ℕ, ℤ, ◌+◌, ◌<◌, Bool, true, false, List, [], ◌∷◌, ◌++◌, length, drop, Option, None, Some, Result, Ok, Err, sym, ap, ◌∙◌, refl, subst, append_assoc, append-nil, length-append, arith}
-use Rattle.std.proofs.KnownBytes.{Appends-nil, Appends-kept, Appends-trans}
+use Rattle.std.proofs.KnownBytes.{Appends-nil, Appends-trans}
 use Rattle.std.specs.Iterator.{Yields, YieldsFirst}
-use Rattle.std.specs.Io.KnownBytes.{Appends, Keeps}
+use Rattle.std.specs.Io.KnownBytes.{Appends}
 use Rattle.std.proofs.lemmas.Iterator.{YieldsList}
 use Rattle.std.proofs.lemmas.Iterator.Consumers.{YieldsList-end, YieldsList-from_first}
 use Rattle.h3_index.specs.Stream.{KeepsOrHides}
 use Rattle.h3_index.specs.declared.error.H3Error.{H3Error}
-use Rattle.h3_command.specs.Answer.{Answer, answered, before, refused, walked, written}
+use Rattle.h3_command.specs.Answer.{Answer, answer_or_error, before, refused, walked, written}
 use Rattle.h3_command.specs.Hierarchy.{unless}
 use Rattle.h3_command.specs.declared.refusal.Refusal.{Refusal}
 use Rattle.h3_command.specs.declared.refusal.Refusal.TheVariants.{Error, Write}
-use Rattle.h3_command.specs.Run.{AppendsPart, IsLeft, IsRefusal, SinkUse, Takes, Writes}
+use Rattle.h3_command.specs.Run.{AppendsPart, IsLeft, IsErrorAlone, SinkUse, Takes, Writes}
 use Rattle.h3_command.proofs.Lines.{map_same, split_at}
 use Rattle.h3_command.proofs.Written.{answered_unless, answered_value, appended_hides, hides}
 
 before_before : (xs ys : List ℕ) (a : Answer) → before xs (before ys a) ≡ before (xs ++ ys) a
 before_before xs ys a = ap (λ l. record { output = l; ending = a.ending }) (sym (append_assoc xs ys a.output))
 
--- an answer that begins with bytes is not the answer to a refusal
-begins_no_refusal : (a b : Answer) (bytes : List ℕ) → a ≡ before bytes b → 0 < length bytes → IsRefusal a → ⊥
-begins_no_refusal a b bytes is some r =
+-- an answer that begins with bytes is not an error alone
+begins_no_error : (a b : Answer) (bytes : List ℕ) → a ≡ before bytes b → 0 < length bytes → IsErrorAlone a → ⊥
+begins_no_error a b bytes is some r =
     let none : length (bytes ++ b.output) ≡ 0 = ap length (ap (λ z. z.output) (sym is) ∙ r.0) in
     let parts : length (bytes ++ b.output) ≡ length bytes + length b.output = length-append bytes b.output in
     omega (arith, none, parts, some)
@@ -33,7 +33,7 @@ pub walk_torn : (a b : Answer) (done bytes : List ℕ) (mid : Option (List ℕ))
 unfolding Writes
 walk_torn a b done bytes mid out is some grown p failed =
     let longer : 0 < length (done ++ bytes) = (let parts : length (done ++ bytes) ≡ length done + length bytes = length-append done bytes in omega (arith, parts, some)) in (
-      begins_no_refusal a b (done ++ bytes) (is ∙ before_before done bytes b) longer,
+      begins_no_error a b (done ++ bytes) (is ∙ before_before done bytes b) longer,
       (
         record {
           part = done ++ p.part;
@@ -50,7 +50,7 @@ pub walk_unflushed : (a : Answer) (e : H3Error) (done : List ℕ) (mid : Option 
     → Appends out.before mid done → KeepsOrHides mid out.after → out.has_failed ≡ true → Writes a (Err Write) out
 unfolding Writes
 walk_unflushed a e done mid out is some grown kept failed =
-    (begins_no_refusal a (refused e) done is some, (record { part = done; rest = []; split = ap (λ z. z.output) is; holds = hides _ mid _ done grown kept }, failed))
+    (begins_no_error a (refused e) done is some, (record { part = done; rest = []; split = ap (λ z. z.output) is; holds = hides _ mid _ done grown kept }, failed))
 
 -- the error comes after what was written
 pub walk_refused : (a : Answer) (e : H3Error) (done : List ℕ) (out : SinkUse) → a ≡ before done (refused e) → Takes out done → Writes a (Err (Error e)) out
@@ -105,11 +105,11 @@ module _ {S A : Type 0} {steps : S → Option (Result A H3Error) → S → Type 
 -- the walk begins, and what it has left is written
 pub walk_written : {S A : Type 0} (line : A → List ℕ) (rest : S → List (Result A H3Error)) (error : ℤ → Option H3Error) (items : ℤ → List (Result A H3Error)) {s : S} (k read : ℤ) (ending : Result (Unit {0}) Refusal) (out : SinkUse)
     → read ≡ k → None ≡ error read → rest s ≡ items read → ((all : List (Result A H3Error)) → YieldsList (YieldsFirst rest) (λ x. x) s all → Writes (walked line all) ending out)
-    → Writes (answered (walked line) (unless (error k) (items k))) ending out
+    → Writes (answer_or_error (walked line) (unless (error k) (items k))) ending out
 walk_written line rest error items k read ending out same fits left writes =
     answered_value (walked line) (error k) (items k) (items read) ending out (ap items same) (fits ∙ ap error same) (writes (items read) (YieldsList-from_first (λ x. x) rest (items read) left))
 
 -- the walk does not begin
 pub walk_unbegun : {A : Type 0} (line : A → List ℕ) (error : ℤ → Option H3Error) (items : List (Result A H3Error)) (k read : ℤ) (e : H3Error) (out : SinkUse)
-    → read ≡ k → Some e ≡ error read → IsLeft out → Writes (answered (walked line) (unless (error k) items)) (Err (Error e)) out
+    → read ≡ k → Some e ≡ error read → IsLeft out → Writes (answer_or_error (walked line) (unless (error k) items)) (Err (Error e)) out
 walk_unbegun line error items k read e out same is left = answered_unless (walked line) (error k) items e out (is ∙ ap error same) left

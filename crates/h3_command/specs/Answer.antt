@@ -63,13 +63,13 @@ abbrev pub cell_lines : List Address → List ℕ
 cell_lines cells = flat_map cell_line cells
 
 -- the answer about what a function returns, or its error
-abbrev pub answered : {A : Type 0} → (A → Answer) → Result A H3Error → Answer
-answered about (Ok value) = about value
-answered about (Err e) = refused e
+abbrev pub answer_or_error : {A : Type 0} → (A → Answer) → Result A H3Error → Answer
+answer_or_error about (Ok value) = about value
+answer_or_error about (Err e) = refused e
 
 -- the text of what a function returns, or its error
 abbrev pub printed : {A : Type 0} → (A → List ℕ) → Result A H3Error → Answer
-printed text value = answered (λ v. written (text v)) value
+printed text value = answer_or_error (λ v. written (text v)) value
 
 -- bytes before an answer
 abbrev pub before : List ℕ → Answer → Answer
@@ -90,10 +90,10 @@ pub data Request : Type 0 where
   of_list : (List Address → Answer) → Request
   of_table : (Links → Answer) → Request
 
--- about a cell and a table; where there is an error in place of the cell, the table is not read
-abbrev pub from_cell : (Address → Links → Answer) → Result Address H3Error → Request
-from_cell about (Ok cell) = of_table (about cell)
-from_cell about (Err e) = plain (refused e)
+-- one about a value and a table; where there is an error in place of the value, the table is not read
+abbrev pub with_table : {A : Type 0} → (A → Links → Answer) → Result A H3Error → Request
+with_table about (Ok value) = of_table (about value)
+with_table about (Err e) = plain (refused e)
 
 abbrev pub request : Command → Request
 request (IsValidCell cell) = plain (printed truth_line (is_valid_cell cell))
@@ -112,9 +112,9 @@ request (CellToChildPos cell res) = plain (printed number_line (cell_to_child_po
 request (ChildPosToCell position cell res) = plain (printed cell_line (child_pos_to_cell position cell res))
 request CompactCells = of_list (λ cells. printed cell_lines (compact_cells cells))
 request (UncompactCells res) = of_list (λ cells. printed cell_lines (uncompact_cells res cells))
-request (GridDiskUnsafe cell k) = from_cell (λ c link. answered (walked cell_line) (grid_disk_unsafe link c k)) (cell_of cell)
-request (GridDiskDistancesUnsafe cell k) = from_cell (λ c link. answered (walked ring_line) (grid_disk_distances_unsafe link c k)) (cell_of cell)
-request (GridRingUnsafe cell k) = from_cell (λ c link. answered (walked cell_line) (grid_ring_unsafe link c k)) (cell_of cell)
+request (GridDiskUnsafe cell k) = with_table (λ c link. answer_or_error (walked cell_line) (grid_disk_unsafe link c k)) (cell_of cell)
+request (GridDiskDistancesUnsafe cell k) = with_table (λ c link. answer_or_error (walked ring_line) (grid_disk_distances_unsafe link c k)) (cell_of cell)
+request (GridRingUnsafe cell k) = with_table (λ c link. answer_or_error (walked cell_line) (grid_ring_unsafe link c k)) (cell_of cell)
 
 -- the list of cells is read from standard input
 abbrev pub reads_list : Request → Bool
@@ -136,21 +136,21 @@ takes_memory (of_table about) = true
 
 -- ---- the answer
 
--- an answer, or in its place an error of the table
+-- an answer, or an error of the table in its place
 abbrev pub unless_faulty : Option TableError → Answer → Answer
 unless_faulty None a = a
 unless_faulty (Some e) a = table_refused e
 
--- the answer about the links of the table with these bytes, or the first error of its records
+-- the answer about the links of the table in this file, or the first error of the file
 abbrev pub about_table : (Links → Answer) → List ℕ → Answer
-about_table about rows = unless_faulty (table_fault (records_of rows)) (about (links_of (records_of rows)))
+about_table about file = unless_faulty (table_fault (records_of file)) (about (links_of (records_of file)))
 
 -- the answer to a request, for the bytes of the list and of the table
 abbrev pub answer_to : Request → List ℕ → List ℕ → Answer
-answer_to (plain a) list rows = a
-answer_to (of_list about) list rows = answered about (listed_cells list)
-answer_to (of_table about) list rows = about_table about rows
+answer_to (plain a) list file = a
+answer_to (of_list about) list file = answer_or_error about (listed_cells list)
+answer_to (of_table about) list file = about_table about file
 
 -- the answer to a command
 abbrev pub answer : Command → List ℕ → List ℕ → Answer
-answer command list rows = answer_to (request command) list rows
+answer command list file = answer_to (request command) list file

@@ -1,4 +1,4 @@
--- How a refusal is told: a line on standard error, and an exit status.
+-- The line and the exit status of a refusal.
 use Rattle.std.specs.Prelude.{ℕ, List, [], ◌∷◌, ◌++◌, codes, decimal, Result, Ok, Err}
 use Rattle.h3_index.specs.Error.{error_name, error_number}
 use Rattle.h3_index.specs.declared.error.H3Error.{H3Error}
@@ -22,9 +22,13 @@ numbered_line words n = words ++ decimal n ++ 10 ∷ []
 abbrev pub link_line : List ℕ → ℕ → Direction → List ℕ
 link_line words base d = words ++ decimal base ++ 32 ∷ decimal (digit_of d) ++ 10 ∷ []
 
--- the line of an error of the base cell table
+-- the line of a read that failed
+abbrev pub read_line : List ℕ
+read_line = codes "fault: read" ++ 10 ∷ []
+
+-- the line of an error of a base cell table
 abbrev pub table_line : TableError → List ℕ
-table_line fault.Read = codes "fault: read" ++ 10 ∷ []
+table_line fault.Read = read_line
 table_line fault.Memory = error_line MemoryAlloc
 table_line (fault.Form row) = numbered_line (codes "table: form ") row
 table_line (fault.Range row) = numbered_line (codes "table: range ") row
@@ -38,12 +42,12 @@ table_line (fault.Corner base d) = link_line (codes "table: corner ") base d
 abbrev pub refusal_line : Refusal → List ℕ
 refusal_line (Error e) = error_line e
 refusal_line Memory = error_line MemoryAlloc
-refusal_line Read = codes "fault: read" ++ 10 ∷ []
+refusal_line Read = read_line
 refusal_line Write = codes "fault: write" ++ 10 ∷ []
 refusal_line (Table e) = table_line e
 refusal_line TableOpen = codes "table: open" ++ 10 ∷ []
 
--- 1 for an H3 error, 3 for an error of the base cell table, and 4 for a fault of a stream
+-- 1 for an H3 error, 3 for an error of a base cell table, and 4 for a fault of a stream
 abbrev pub refusal_status : Refusal → ℕ
 refusal_status (Error e) = 1
 refusal_status Memory = 1
@@ -54,7 +58,7 @@ refusal_status (Table fault.Memory) = 1
 refusal_status (Table e) = 3
 refusal_status TableOpen = 3
 
--- what an error of the base cell table is as a refusal: a read that fails and want of memory are so wherever they come
+-- the refusal for an error of a base cell table: a read that failed is `Read` and out of memory is `Memory`, as for a list
 abbrev pub table_refusal : TableError → Refusal
 table_refusal fault.Read = Read
 table_refusal fault.Memory = Memory

@@ -6,7 +6,7 @@ use Rattle.h3_index.specs.Stream.{HasLeft}
 use Rattle.h3_lattice.specs.Links.{Links}
 use Rattle.h3_command.specs.declared.refusal.Refusal.{Refusal}
 use Rattle.h3_command.specs.declared.refusal.Refusal.TheVariants.{Error, Memory, Read, Write, Table, TableOpen}
-use Rattle.h3_command.specs.Answer.{Answer, Request, about_table, answer_to, answered, out_of_memory, reads_list, reads_table, takes_memory}
+use Rattle.h3_command.specs.Answer.{Answer, Request, about_table, answer_to, answer_or_error, out_of_memory, reads_list, reads_table, takes_memory}
 use Rattle.h3_command.specs.Answer.Request.{plain, of_list, of_table}
 use Rattle.h3_command.specs.List.{listed_cells}
 use Rattle.h3_command.specs.Refusal.{ending_line, ending_status}
@@ -79,9 +79,9 @@ TakesPart sink bytes = SomeBeginning (AppendsOrHides sink.before sink.after) byt
 
 -- ---- how a run ends
 
--- an answer with an error and no output: for it nothing is written, and nothing flushed
-abbrev pub IsRefusal : Answer → Type 0
-IsRefusal a = (a.output ≡ []) × IsErr a.ending
+-- an answer that is an error and no output: no write fault comes in its place, so nothing is flushed for it that could fail
+abbrev pub IsErrorAlone : Answer → Type 0
+IsErrorAlone a = (a.output ≡ []) × IsErr a.ending
 
 -- the answer is written: all of its output, and then the run ends as the answer does, or a part of it and a write fault
 unfoldable pub Writes : Answer → Result (Unit {0}) Refusal → SinkUse → Type 0
@@ -91,7 +91,7 @@ Writes a (Err (Table e)) out = (a.ending ≡ Err (Table e)) × Takes out a.outpu
 Writes a (Err Memory) out = ⊥
 Writes a (Err Read) out = ⊥
 Writes a (Err TableOpen) out = ⊥
-Writes a (Err Write) out = (¬ IsRefusal a) × TakesPart out a.output
+Writes a (Err Write) out = (¬ IsErrorAlone a) × TakesPart out a.output
 
 -- The answer to these bytes of a source is written, and no read fails. Or there is no memory, or a read fails, and
 -- then nothing is written.
@@ -103,12 +103,12 @@ WritesReading a bytes source ending out = IsSound source × Writes a ending out
 -- there are bytes of the list, those that the source tells, and the answer about the cells in them is written
 abbrev pub WritesOfList : (List Address → Answer) → SourceUse → Result (Unit {0}) Refusal → SinkUse → Type 0
 WritesOfList about input ending out =
-    (list : List ℕ) × HasLeft input.left list × WritesReading (answered about (listed_cells list)) list input ending out
+    (list : List ℕ) × HasLeft input.left list × WritesReading (answer_or_error about (listed_cells list)) list input ending out
 
 -- the same of a table, and the answer about its links
 abbrev pub WritesOfTable : (Links → Answer) → SourceUse → Result (Unit {0}) Refusal → SinkUse → Type 0
 WritesOfTable about table ending out =
-    (rows : List ℕ) × HasLeft table.left rows × WritesReading (about_table about rows) rows table ending out
+    (file : List ℕ) × HasLeft table.left file × WritesReading (about_table about file) file table ending out
 
 -- how a run ends, by what it asks for
 abbrev pub Ends : Request → SourceUse → SourceUse → Result (Unit {0}) Refusal → SinkUse → Type 0
@@ -125,9 +125,9 @@ pub record Reports (ending : Result (Unit {0}) Refusal) (status : ℕ) (err : Si
 -- ---- where nothing fails
 
 -- no source that the request reads fails, nor does standard output
-pub record NothingFails (r : Request) (list rows : List ℕ) (s : Streams) : Type 0 where
+pub record NothingFails (r : Request) (list file : List ℕ) (s : Streams) : Type 0 where
   pub list_read : IsTrue (reads_list r) → ¬ ReadFails s.input list
-  pub table_read : IsTrue (reads_table r) → ¬ ReadFails s.table rows
+  pub table_read : IsTrue (reads_table r) → ¬ ReadFails s.table file
   pub answer_written : s.out.has_failed ≡ false
 
 -- an answer is given whole
@@ -139,11 +139,11 @@ pub record Gives (a : Answer) (status : ℕ) (s : Streams) : Type 0 where
 -- them is given, or out of memory where memory is taken
 pub record Answers (r : Request) (status : ℕ) (s : Streams) : Type 0 where
   pub list : List ℕ
-  pub rows : List ℕ
+  pub file : List ℕ
   pub list_told : HasLeft s.input.left list
-  pub rows_told : HasLeft s.table.left rows
-  pub given : NothingFails r list rows s
-      → Gives (answer_to r list rows) status s ⊎ (IsTrue (takes_memory r) × Gives out_of_memory status s)
+  pub file_told : HasLeft s.table.left file
+  pub given : NothingFails r list file s
+      → Gives (answer_to r list file) status s ⊎ (IsTrue (takes_memory r) × Gives out_of_memory status s)
 
 -- what a run does that asks for this and returns this status: what it writes where nothing fails, and how it may end
 pub record Runs (r : Request) (status : ℕ) (s : Streams) : Type 0 where

@@ -1,7 +1,7 @@
 //! Why a run does not write its answer to its end.
 
 ghost use Rattle.std.specs.Prelude.{◌≡◌, ◌≤◌, length};
-ghost use Rattle.h3_command.specs.Refusal.{error_line, link_line, numbered_line, table_line};
+ghost use Rattle.h3_command.specs.Refusal.{error_line, link_line, numbered_line, read_line, table_line};
 
 use arrayvec::ArrayString;
 use h3_index::{H3Error, StreamFault};
@@ -26,7 +26,8 @@ pub enum Refusal {
     /// A write failed.
     Write,
 
-    /// The base cell table has an error.
+    /// An error of the base cell table: of its records or its checks. A read that failed and out of
+    /// memory are `Read` and `Memory`.
     Table(TableError),
 
     /// The file of the base cell table cannot be opened.
@@ -43,7 +44,7 @@ impl Refusal {
         match self {
             Refusal::Error(error) => error_line(*error),
             Refusal::Memory => error_line(H3Error::MemoryAlloc),
-            Refusal::Read => fixed_line("fault: read\n"),
+            Refusal::Read => read_line(),
             Refusal::Write => fixed_line("fault: write\n"),
             Refusal::Table(error) => table_line(*error),
             Refusal::TableOpen => fixed_line("table: open\n"),
@@ -89,7 +90,7 @@ impl From<H3Error> for Refusal {
 impl From<TableError> for Refusal {
     ghost use Rattle.h3_command.specs.Refusal.{table_refusal};
 
-    /// The error of a table: a read that failed and memory that was refused are told as such.
+    /// The error of a table: a read that failed and out of memory become `Read` and `Memory`.
     ghost from_gives = { λ e r. r ≡ table_refusal e };
 
     fn from(error: TableError) -> Refusal {
@@ -115,7 +116,7 @@ fn error_line(error: H3Error) -> ArrayString<LINE_ROOM>
     line
 }
 
-/// A line that is told as it is.
+/// A line of fixed text.
 fn fixed_line(text: &str) -> ArrayString<LINE_ROOM>
     requires { length text.now ≤ 80 }
     ensures { result.bytes ≡ text.now }
@@ -125,12 +126,19 @@ fn fixed_line(text: &str) -> ArrayString<LINE_ROOM>
     line
 }
 
-/// The line of an error of the base cell table.
+/// The line of a read that failed.
+fn read_line() -> ArrayString<LINE_ROOM>
+    ensures { result.bytes ≡ read_line }
+{
+    fixed_line("fault: read\n")
+}
+
+/// The line of an error of a base cell table.
 fn table_line(error: TableError) -> ArrayString<LINE_ROOM>
     ensures { result.bytes ≡ table_line error }
 {
     match error {
-        TableError::Read => fixed_line("fault: read\n"),
+        TableError::Read => read_line(),
         TableError::Memory => error_line(H3Error::MemoryAlloc),
         TableError::Form(row) => numbered_line("table: form ", row),
         TableError::Range(row) => numbered_line("table: range ", row),

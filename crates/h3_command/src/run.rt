@@ -87,9 +87,9 @@ pub fn report<E: Sink>(err: &mut E, ending: Result<(), Refusal>) -> u8
 /// status: 0 where the answer is written, 1 for an H3 error, out of memory included, 3 for an error
 /// of the base cell table, and 4 for a read or a write that failed.
 ///
-/// A command on a list of cells reads it from `input`, and one on a table reads that from `table`.
-/// The others read neither and take no memory. Where a walk over a table is refused on its way, the
-/// lines of the cells before that stand on `out`.
+/// A command on a list of cells reads it from `input`, and one on a table reads that from `table`,
+/// once its index is a valid cell. The others read neither and take no memory. Where a walk over a
+/// table is refused on its way, the lines of the cells before that stand on `out`.
 pub fn run<R: Source, T: Source, W: Sink, E: Sink>(
     alloc: Global,
     command: &Command,

@@ -1,12 +1,17 @@
 //! H3's grid traversal functions, for the index of a word, `None` where the word has none, and over a
-//! base cell table.
+//! base cell table. Which walks are refused is this library's own.
 //!
 //! Each checks the index first, and then reads the table. Cells are written as they are reached, so
 //! those before a step that is refused are on the output when its error is returned.
+//!
+//! The errors, in this order: `Failed` where there is no index, and `CellInvalid` where no cell has
+//! it: then the table is not read. `Refusal::Read`, `Refusal::Memory` and `Refusal::Table` as
+//! `BaseTable::read` finds them. `Domain` for a negative radius, and `Pentagon` where the walk is
+//! refused, before it begins or on its way. `Refusal::Write` where a push or the flush fails.
 
 ghost use Rattle.std.specs.Prelude.{◌≡◌, false};
 ghost use Rattle.h3_lattice.specs.BaseTable.{link_of};
-ghost use Rattle.h3_command.specs.Answer.{answered, cell_line, reads_table, request, ring_line, walked};
+ghost use Rattle.h3_command.specs.Answer.{answer_or_error, cell_line, reads_table, request, ring_line, walked};
 ghost use Rattle.h3_command.specs.Run.{Ends, SourceUse, Writes, sink_use, source_use};
 ghost use Rattle.h3_command.specs.Walks.{grid_disk_distances_unsafe, grid_disk_unsafe, grid_ring_unsafe};
 ghost use Rattle.h3_command.specs.declared.command.Command.TheVariants.{GridDiskDistancesUnsafe, GridDiskUnsafe, GridRingUnsafe};
@@ -22,7 +27,7 @@ use std::alloc::Global;
 
 /// Writes the cells of a disk.
 fn write_disk<W: Sink>(table: &BaseTable, cell: Cell, k: i32, out: &mut W) -> Result<(), Refusal>
-    ensures { Writes (answered (walked cell_line) (grid_disk_unsafe (link_of table.now) cell k))
+    ensures { Writes (answer_or_error (walked cell_line) (grid_disk_unsafe (link_of table.now) cell k))
         result (sink_use W.taken W.has_failed out.old out.new) }
 {
     match Disk::new(table, cell, k) {
@@ -38,7 +43,7 @@ fn write_disk_distances<W: Sink>(
     k: i32,
     out: &mut W,
 ) -> Result<(), Refusal>
-    ensures { Writes (answered (walked ring_line)
+    ensures { Writes (answer_or_error (walked ring_line)
         (grid_disk_distances_unsafe (link_of table.now) cell k)) result
         (sink_use W.taken W.has_failed out.old out.new) }
 {
@@ -50,7 +55,7 @@ fn write_disk_distances<W: Sink>(
 
 /// Writes the cells of a ring.
 fn write_ring<W: Sink>(table: &BaseTable, cell: Cell, k: i32, out: &mut W) -> Result<(), Refusal>
-    ensures { Writes (answered (walked cell_line) (grid_ring_unsafe (link_of table.now) cell k))
+    ensures { Writes (answer_or_error (walked cell_line) (grid_ring_unsafe (link_of table.now) cell k))
         result (sink_use W.taken W.has_failed out.old out.new) }
 {
     match Ring::new(table, cell, k) {
@@ -59,7 +64,7 @@ fn write_ring<W: Sink>(table: &BaseTable, cell: Cell, k: i32, out: &mut W) -> Re
     }
 }
 
-/// Writes the cells within a radius of a cell, as H3's `gridDiskUnsafe` lists them.
+/// Writes the cells within a radius of a cell, as H3's `gridDiskUnsafe` walks them.
 pub fn grid_disk_unsafe<T: Source, W: Sink>(
     alloc: Global,
     index: Option<u64>,
@@ -79,7 +84,7 @@ pub fn grid_disk_unsafe<T: Source, W: Sink>(
 }
 
 /// Writes the cells within a radius of a cell, each with its ring, as H3's
-/// `gridDiskDistancesUnsafe` lists them.
+/// `gridDiskDistancesUnsafe` walks them.
 pub fn grid_disk_distances_unsafe<T: Source, W: Sink>(
     alloc: Global,
     index: Option<u64>,
@@ -98,7 +103,7 @@ pub fn grid_disk_distances_unsafe<T: Source, W: Sink>(
     write_disk_distances(&table, cell, k, out)
 }
 
-/// Writes the cells of the ring of a radius around a cell, as H3's `gridRingUnsafe` lists them.
+/// Writes the cells of the ring of a radius around a cell, as H3's `gridRingUnsafe` walks them.
 pub fn grid_ring_unsafe<T: Source, W: Sink>(
     alloc: Global,
     index: Option<u64>,

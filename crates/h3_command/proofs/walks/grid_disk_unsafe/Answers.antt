@@ -1,23 +1,23 @@
-use Rattle.std.proofs.Common.{w32, rules, of_z, to_z, ◌≡◌, ℤ, refl, sym}
+use Rattle.std.proofs.Common.{w32, rules, of_z, to_z, ◌≡◌, ℤ, refl}
 use Rattle.std.proofs.KnownBytes.{Keeps-refl}
 use Rattle.std.proofs.lemmas.Int.{to_z-of_z}
 use Rattle.std.proofs.lemmas.Result.{err_from_is_err_and}
 use Rattle.h3_index.specs.Cell.{Address}
 use Rattle.h3_lattice.specs.BaseTable.{link_of}
 use Rattle.h3_lattice.specs.Links.{Links}
-use Rattle.h3_command.specs.Answer.{Answer, answered, cell_line, walked}
+use Rattle.h3_command.specs.Answer.{Answer, answer_or_error, cell_line, walked}
 use Rattle.h3_command.specs.Walks.{grid_disk_unsafe}
-use Rattle.h3_command.proofs.Endings.{cell_refused, table_answered, table_refused_so}
+use Rattle.h3_command.proofs.Endings.{table_answered, table_refused_so, value_refused}
 use Rattle.h3_command.proofs.walks.grid_disk_unsafe.Goals as goal
 
 -- the answer about a cell and the links of a table
 abbrev about : ℤ → Address → Links → Answer
-about k c link = answered (walked cell_line) (grid_disk_unsafe link c k)
+about k c link = answer_or_error (walked cell_line) (grid_disk_unsafe link c k)
 
 pub returns-in_err-cell-clause-ends : goal.returns-in_err-cell-clause-ends
 returns-in_err-cell-clause-ends g c input =
     let p = err_from_is_err_and c.from_residual.result c.from_residual.ensures.1 in
-    rw (p.1, p.2) (cell_refused (about c.args.k) _ _ input _ _ (sym c.in_err-cell.ensures) (Keeps-refl _, refl))
+    rw (p.1, p.2) (value_refused (about c.args.k) _ _ input _ _ c.in_err-cell.ensures (Keeps-refl _, refl))
 
 pub returns-in_err-table-clause-ends : goal.returns-in_err-table-clause-ends
 returns-in_err-table-clause-ends g c input =
@@ -26,6 +26,6 @@ returns-in_err-table-clause-ends g c input =
 
 pub returns-clause-ends : goal.returns-clause-ends
 returns-clause-ends g c input =
-    let (rows, held, short, none, same) = c.in_ok-table.ensures.accepted in
+    let (file, held, short, none, same) = c.in_ok-table.ensures.accepted in
     let read : to_z w32 (of_z w32 c.args.k) ≡ c.args.k = to_z-of_z w32 c.args.k (search rules) in
-    table_answered (about c.args.k) _ _ (link_of c.in_ok-table.table) _ input _ _ c.in_ok-cell.ensures rows held none same (c.in_ok-table.ensures.kept (λ is. cc is)) (rw read at c.write_disk.ensures)
+    table_answered (about c.args.k) _ _ (link_of c.in_ok-table.table) _ input _ _ c.in_ok-cell.ensures file held none same (c.in_ok-table.ensures.kept (λ is. cc is)) (rw read at c.write_disk.ensures)

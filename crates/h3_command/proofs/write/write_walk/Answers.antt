@@ -2,6 +2,8 @@ use Rattle.std.proofs.Common.{◌∙◌, refl}
 use Rattle.std.proofs.KnownBytes.{Appends-kept}
 use Rattle.std.proofs.lemmas.Result.{err_from_is_err_and}
 use Rattle.std.specs.Iterator.{Yields}
+use Rattle.h3_command.specs.Answer.{walked}
+use Rattle.h3_command.specs.Run.{sink_use}
 use Rattle.h3_command.proofs.Walk.{walk_at, walk_ends, walk_refused, walk_torn, walk_unflushed, wrote_line, wrote_nothing}
 use Rattle.h3_command.proofs.Written.{writes_unflushed, writes_whole}
 use Rattle.h3_command.proofs.write.write_walk.Goals as goal
@@ -23,7 +25,8 @@ returns-in_err-write_all-in-Ok g c all e =
     let w = c.loop-item.invariant.written in
     let (rest, is) = walk_at g.L.Line.line_of e _ c.into_iter-item-iterator.ensures.into_iter_gives _ _ so_far _ _ _ c.in-Some.ensures.steps c.in-Ok.is w.done w.so_far in
     let p = err_from_is_err_and c.from_residual.result c.from_residual.ensures.1 in
-    rw (p.1, p.2) (walk_torn _ _ w.done _ _ _ is (rw c.put.ensures.line at c.put.ensures.some) w.grown
+    let out = sink_use g.W.Sink.taken g.W.Sink.has_failed c.args.out.now c.write_all.new.out in
+    rw (p.1, p.2) (walk_torn (walked g.L.Line.line_of all) (walked g.L.Line.line_of rest) w.done (g.L.Line.line_of c.in-Ok.value) (g.W.Sink.taken c.loop-item.out) out is (rw c.put.ensures.line at c.put.ensures.some) w.grown
     (rw (c.as_bytes.ensures.value, c.as_str.ensures.value, c.put.ensures.line) at c.in_err-write_all-in-Ok.ensures.part) c.in_err-write_all-in-Ok.ensures.err)
 
 pub returns-in_err-flush-in-Err : goal.returns-in_err-flush-in-Err
@@ -32,7 +35,8 @@ returns-in_err-flush-in-Err g c all e =
     let w = c.loop-item.invariant.written in
     let (rest, is) = walk_at g.L.Line.line_of e _ c.into_iter-item-iterator.ensures.into_iter_gives _ _ so_far _ _ _ c.in-Some.ensures.steps c.in-Err.is w.done w.so_far in
     let p = err_from_is_err_and c.from_residual-in_err-flush-in-Err.result c.from_residual-in_err-flush-in-Err.ensures.1 in
-    rw (p.1, p.2) (walk_unflushed _ _ w.done _ _ is (w.some c.if-wrote.true) w.grown c.in_err-flush-in-Err.ensures.refused c.in_err-flush-in-Err.ensures.err)
+    let out = sink_use g.W.Sink.taken g.W.Sink.has_failed c.args.out.now c.flush.new.self in
+    rw (p.1, p.2) (walk_unflushed (walked g.L.Line.line_of all) c.in-Err.error w.done (g.W.Sink.taken c.loop-item.out) out is (w.some c.if-wrote.true) w.grown c.in_err-flush-in-Err.ensures.refused c.in_err-flush-in-Err.ensures.err)
 
 pub returns-in-Err : goal.returns-in-Err
 returns-in-Err g c all e =
@@ -40,9 +44,10 @@ returns-in-Err g c all e =
     let w = c.loop-item.invariant.written in
     let same = c.loop-item.invariant.same in
     let (rest, is) = walk_at g.L.Line.line_of e _ c.into_iter-item-iterator.ensures.into_iter_gives _ _ so_far _ _ _ c.in-Some.ensures.steps c.in-Err.is w.done w.so_far in
+    let answer = walked g.L.Line.line_of all in
     elim c.if-wrote.branch [
-      | then-wrote+in_ok-flush-in-Err v ↦ rw v.out-is (walk_refused _ _ w.done _ is (Appends-kept _ _ _ _ w.grown v.in_ok-flush-in-Err.ensures.bytes, v.in_ok-flush-in-Err.ensures.ok ∙ same))
-      | else-wrote v ↦ rw v.out-is (walk_refused _ _ w.done _ is (w.grown, same))
+      | then-wrote+in_ok-flush-in-Err v ↦ rw v.out-is (walk_refused answer c.in-Err.error w.done _ is (Appends-kept _ _ _ _ w.grown v.in_ok-flush-in-Err.ensures.bytes, v.in_ok-flush-in-Err.ensures.ok ∙ same))
+      | else-wrote v ↦ rw v.out-is (walk_refused answer c.in-Err.error w.done _ is (w.grown, same))
     ]
 
 pub returns-in_err-flush : goal.returns-in_err-flush
@@ -51,11 +56,13 @@ returns-in_err-flush g c all e =
     let w = c.loop-item.invariant.written in
     let is = walk_ends g.L.Line.line_of e _ c.into_iter-item-iterator.ensures.into_iter_gives _ _ so_far _ c.in-None.ensures.steps w.done w.so_far in
     let p = err_from_is_err_and c.from_residual-in_err-flush.result c.from_residual-in_err-flush.ensures.1 in
-    rw (p.1, p.2, is) (writes_unflushed _ _ _ w.grown c.in_err-flush.ensures.refused c.in_err-flush.ensures.err)
+    let out = sink_use g.W.Sink.taken g.W.Sink.has_failed c.args.out.now c.flush-2.new.self in
+    rw (p.1, p.2, is) (writes_unflushed w.done (g.W.Sink.taken c.loop-item.out) out w.grown c.in_err-flush.ensures.refused c.in_err-flush.ensures.err)
 
 pub returns : goal.returns
 returns g c all e =
     let so_far : Yields g.I.Iterator.next_gives c.into_iter-item-iterator.result c.loop-item.yielded c.loop-item.item-iterator = c.loop-item.yielded_by in
     let w = c.loop-item.invariant.written in
     let is = walk_ends g.L.Line.line_of e _ c.into_iter-item-iterator.ensures.into_iter_gives _ _ so_far _ c.in-None.ensures.steps w.done w.so_far in
-    rw is (writes_whole _ _ (Appends-kept _ _ _ _ w.grown c.in_ok-flush.ensures.bytes, c.in_ok-flush.ensures.ok ∙ c.loop-item.invariant.same))
+    let out = sink_use g.W.Sink.taken g.W.Sink.has_failed c.args.out.now c.flush-2.new.self in
+    rw is (writes_whole w.done out (Appends-kept _ _ _ _ w.grown c.in_ok-flush.ensures.bytes, c.in_ok-flush.ensures.ok ∙ c.loop-item.invariant.same))
