@@ -105,4 +105,36 @@ pub enum Command {
         cell: Option<u64>,
         k: i32,
     },
+
+    /// Whether two cells are neighbours, over a base cell table.
+    AreNeighborCells {
+        cell: Option<u64>,
+        to: Option<u64>,
+    },
+
+    /// The edge that leaves a cell and leads to another, over a base cell table.
+    CellsToDirectedEdge {
+        cell: Option<u64>,
+        to: Option<u64>,
+    },
+
+    /// Whether an index is a valid directed edge.
+    IsValidDirectedEdge {
+        edge: Option<u64>,
+    },
+
+    /// The cell that an edge leaves.
+    GetDirectedEdgeOrigin {
+        edge: Option<u64>,
+    },
+
+    /// The cell that an edge leads to, over a base cell table.
+    GetDirectedEdgeDestination {
+        edge: Option<u64>,
+    },
+
+    /// The edges that leave a cell.
+    OriginToDirectedEdges {
+        cell: Option<u64>,
+    },
 }

@@ -6,6 +6,7 @@ mod bases;
 mod command;
 mod counted;
 mod disk_cells;
+mod edges;
 #[cfg(test)]
 mod fakes;
 mod hierarchy;
