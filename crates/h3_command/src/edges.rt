@@ -3,9 +3,9 @@
 //!
 //! The errors, in this order: `Failed` where there is no index, and `CellInvalid` or
 //! `DirEdgeInvalid` where no cell or edge has it, for the first word before the second: then no
-//! table is read. `Refusal::Read`, `Refusal::Memory` and `Refusal::Table` as `BaseTable::read` finds
-//! them. The error of the function for those cells or that edge. `Refusal::Write` where a push or
-//! the flush fails.
+//! table is read. `Refusal::Read`, `Refusal::Memory` and `Refusal::Table` as `BaseTable::read`
+//! finds them. The error of the function for those cells or that edge. `Refusal::Write` where a
+//! push or the flush fails.
 
 ghost use Rattle.std.specs.Prelude.{◌≡◌, false};
 ghost use Rattle.std.specs.Iterator.{YieldsFirst};
@@ -101,9 +101,9 @@ pub fn cells_to_directed_edge<T: Source, W: Sink>(
     ensures table_kept { reads_table (request (CellsToDirectedEdge cell to)) ≡ false
         → table.new ≡ table.old }
 {
-    let (cell, to) = cell_pair_from(cell, to)?;
+    let (origin, destination) = cell_pair_from(cell, to)?;
     let table = BaseTable::read(alloc, table)?;
-    write_result(out, edge_between(&table, cell, to))
+    write_result(out, edge_between(&table, origin, destination))
 }
 
 /// Writes the cell that an edge leads to, as H3's `getDirectedEdgeDestination` returns it outside
@@ -124,3 +124,6 @@ pub fn get_directed_edge_destination<T: Source, W: Sink>(
     let table = BaseTable::read(alloc, table)?;
     write_result(out, edge_destination(&table, edge))
 }
+
+#[cfg(test)]
+mod tests;

@@ -17,6 +17,8 @@ mod refusal;
 mod resolutions;
 pub mod run;
 mod sets;
+#[cfg(test)]
+mod table_files;
 mod walks;
 mod write;
 

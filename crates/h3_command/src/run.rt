@@ -108,8 +108,8 @@ pub fn report<E: Sink>(err: &mut E, ending: Result<(), Refusal>) -> u8
 /// of the base cell table, and 4 for a read or a write that failed.
 ///
 /// A command on a list of cells reads it from `input`, and one on a table reads that from `table`,
-/// once the indexes of its words are valid. The others read neither and take no memory. Where a walk over a
-/// table is refused on its way, the lines of the cells before that stand on `out`.
+/// once the indexes of its words are valid. The others read neither and take no memory. Where a
+/// walk over a table is refused on its way, the lines of the cells before that stand on `out`.
 pub fn run<R: Source, T: Source, W: Sink, E: Sink>(
     alloc: Global,
     command: &Command,
