@@ -1,14 +1,18 @@
 -- The answers about neighbours and edges at worked values, by computation.
-use Rattle.std.specs.Prelude.{◌≡◌, ℕ, List, [], ◌∷◌, ◌++◌, map, codes, None, Some, Ok, Err, true, false, refl}
-use Rattle.h3_index.specs.Cell.{Address, number_of}
+use Rattle.std.specs.Prelude.{◌≡◌, ℕ, [], ◌∷◌, ◌++◌, map, codes, None, Some, Err, refl}
+use Rattle.h3_index.specs.Cell.{number_of}
 use Rattle.h3_index.specs.CellNumber.{address_in, cell_in}
 use Rattle.h3_index.specs.Edge.{edge_number}
 use Rattle.h3_index.specs.EdgeNumber.{directed_edge_in, edge_in}
 use Rattle.h3_index.specs.Text.{text_of}
-use Rattle.h3_index.specs.declared.error.H3Error.TheVariants.{CellInvalid, DirEdgeInvalid, Failed}
-use Rattle.h3_grid.specs.DirectedEdges.{edges_from}
+use Rattle.h3_index.specs.declared.error.H3Error.TheVariants.{CellInvalid, DirEdgeInvalid, Failed, NotNeighbors, Pentagon, ResMismatch}
+use Rattle.h3_lattice.specs.Digits.{cell_of}
+use Rattle.h3_lattice.specs.Links.{Links}
+use Rattle.h3_grid.specs.DirectedEdges.{edge_between, edge_refusal, edges_from}
+use Rattle.h3_grid.specs.Neighbours.{are_neighbours, neighbour_refusal}
 use Rattle.h3_command.specs.Answer.{answer, refused, request, written}
 use Rattle.h3_command.specs.Answer.Request.{plain}
+use Rattle.h3_command.specs.Edges.{are_neighbor_cells, cells_to_directed_edge}
 use Rattle.h3_command.specs.declared.command.Command.TheVariants.{AreNeighborCells, CellsToDirectedEdge, GetDirectedEdgeDestination, GetDirectedEdgeOrigin, IsValidDirectedEdge, OriginToDirectedEdges}
 
 -- an edge; direction 1 at a pentagon; a cell
@@ -27,6 +31,14 @@ edges_of_a_pentagon : answer (OriginToDirectedEdges (Some 0x8009fffffffffff)) []
 unfolding edges_from edge_number cell_in address_in number_of text_of
 edges_of_a_pentagon = refl
 
+-- a hexagon has six, in a pentagon base cell too
+edges_of_a_hexagon : answer (OriginToDirectedEdges (Some 0x8108bffffffffff)) [] []
+    ≡ written (codes "11108bffffffffff" ++ 10 ∷ codes "12108bffffffffff" ++ 10 ∷ codes "13108bffffffffff" ++ 10 ∷ codes "14108bffffffffff" ++ 10 ∷ codes "15108bffffffffff" ++ 10 ∷ codes "16108bffffffffff" ++ 10 ∷ [])
+unfolding edges_from edge_number cell_in address_in number_of text_of
+edges_of_a_hexagon = refl
+
+-- ---- which words are refused
+
 -- the first word decides before the second, and no table is read where either is refused
 first_word_first : request (AreNeighborCells (Some 0x81087ffffffffff) None) ≡ plain (refused CellInvalid)
 unfolding cell_in address_in number_of
@@ -39,3 +51,16 @@ second_word = refl
 no_edge : request (GetDirectedEdgeDestination (Some 0x11009fffffffffff)) ≡ plain (refused DirEdgeInvalid)
 unfolding edge_in directed_edge_in edge_number address_in number_of
 no_edge = refl
+
+-- ---- which pairs of cells are refused, over every table
+
+-- cells of two resolutions; one cell given twice, also in a pentagon base cell; two, one of them in a pentagon base cell
+pairs_refused : (link : Links) → map (cells_to_directed_edge link) ((cell_of 20 (0 ∷ []), cell_of 20 []) ∷ (cell_of 20 [], cell_of 20 []) ∷ (cell_of 4 [], cell_of 4 []) ∷ (cell_of 4 [], cell_of 8 []) ∷ [])
+    ≡ Err ResMismatch ∷ Err NotNeighbors ∷ Err NotNeighbors ∷ Err Pentagon ∷ []
+unfolding edge_between edge_refusal number_of
+pairs_refused link = refl
+
+pairs_refused_too : (link : Links) → map (are_neighbor_cells link) ((cell_of 20 (0 ∷ []), cell_of 20 []) ∷ (cell_of 4 [], cell_of 8 []) ∷ [])
+    ≡ Err ResMismatch ∷ Err Pentagon ∷ []
+unfolding are_neighbours neighbour_refusal number_of
+pairs_refused_too link = refl

@@ -30,7 +30,7 @@ cell_pair_of cell to = for_cell (λ a. for_cell (λ b. Ok (a, b)) (cell_of to)) 
 
 -- ---- over the links of a table
 
--- whether a step leads from the one cell to the other
+-- whether a step leads from the one cell to the other; no cell is its own neighbour
 abbrev pub are_neighbor_cells : Links → Address × Address → Result Bool H3Error
 are_neighbor_cells link cells = are_neighbours link cells.0 cells.1
 

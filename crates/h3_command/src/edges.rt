@@ -1,11 +1,10 @@
 //! H3's functions on neighbours and directed edges, for the indexes of words: `None` where a word
 //! has none. Which pairs of cells and which edges are refused is this library's own.
 //!
-//! The errors, in this order: `Failed` where there is no index, and `CellInvalid` or
-//! `DirEdgeInvalid` where no cell or edge has it, for the first word before the second: then no
-//! table is read. `Refusal::Read`, `Refusal::Memory` and `Refusal::Table` as `BaseTable::read`
-//! finds them. The error of the function for those cells or that edge. `Refusal::Write` where a
-//! push or the flush fails.
+//! For each word, the first before the second: `Failed` where it has no index, then `CellInvalid` or
+//! `DirEdgeInvalid` where no cell or edge has it. Then no table is read. The functions over a table
+//! go on with `Refusal::Read`, `Refusal::Memory` and `Refusal::Table` as `BaseTable::read` finds
+//! them, then the errors named at each, and `Refusal::Write` where a push or the flush fails.
 
 ghost use Rattle.std.specs.Prelude.{◌≡◌, false};
 ghost use Rattle.std.specs.Iterator.{YieldsFirst};
@@ -66,8 +65,11 @@ pub fn origin_to_directed_edges(index: Option<u64>) -> Result<Edges, H3Error>
     Ok(edges_of(cell))
 }
 
-/// Writes whether two cells are neighbours, as H3's `areNeighborCells` returns it outside pentagon
-/// base cells.
+/// Writes whether two cells are neighbours, as H3's `areNeighborCells` does, over the links of the
+/// table.
+///
+/// `ResMismatch` where their resolutions differ; then, for different cells, `Pentagon` where either
+/// is in a pentagon base cell.
 pub fn are_neighbor_cells<T: Source, W: Sink>(
     alloc: Global,
     cell: Option<u64>,
@@ -86,8 +88,12 @@ pub fn are_neighbor_cells<T: Source, W: Sink>(
     write_result(out, are_neighbors(&table, cell, to))
 }
 
-/// Writes the edge that leaves a cell and leads to another, as H3's `cellsToDirectedEdge` returns
-/// it outside pentagon base cells.
+/// Writes the edge that leaves a cell and leads to another, as H3's `cellsToDirectedEdge` does, over
+/// the links of the table.
+///
+/// `ResMismatch` where their resolutions differ; then `NotNeighbors` for one cell given twice; then
+/// `Pentagon` where either is in a pentagon base cell; then `NotNeighbors` where no step leads from
+/// the first to the second.
 pub fn cells_to_directed_edge<T: Source, W: Sink>(
     alloc: Global,
     cell: Option<u64>,
@@ -106,8 +112,10 @@ pub fn cells_to_directed_edge<T: Source, W: Sink>(
     write_result(out, edge_between(&table, origin, destination))
 }
 
-/// Writes the cell that an edge leads to, as H3's `getDirectedEdgeDestination` returns it outside
-/// pentagon base cells.
+/// Writes the cell that an edge leads to, as H3's `getDirectedEdgeDestination` does, over the links
+/// of the table.
+///
+/// `Pentagon` where the edge's origin or that cell is in a pentagon base cell.
 pub fn get_directed_edge_destination<T: Source, W: Sink>(
     alloc: Global,
     index: Option<u64>,

@@ -129,43 +129,37 @@ fn pairs_of_cells_are_refused(rt: HostRuntime) -> Result<(), Fail> {
     Ok(())
 }
 
+/// Asserts that over a table an edge leaves a cell and leads to another.
+fn assert_leads(rt: &HostRuntime, file: &str, words: (&str, &str, &str)) -> Result<(), Fail> {
+    let (cell, edge, to) = words;
+    let line = format!(in rt.alloc(); "{edge}\n")?;
+    assert_run(rt, file, edge_between(cell, to), (&line, "", 0));
+    let line = format!(in rt.alloc(); "{to}\n")?;
+    assert_run(rt, file, destination(edge), (&line, "", 0));
+    let line = format!(in rt.alloc(); "{cell}\n")?;
+    assert_plain(rt, origin(edge), &line);
+    Ok(())
+}
+
 #[test]
 fn edges_lead_from_a_cell_to_another(rt: HostRuntime) -> Result<(), Fail> {
     let plain = test_file(&rt, TestTable::Plain)?;
+    let edges = [
+        ("85283473fffffff", "115283473fffffff", "85283477fffffff"),
+        ("813d3ffffffffff", "1413d3ffffffffff", "813ebffffffffff"),
+        ("813ebffffffffff", "1313ebffffffffff", "813d3ffffffffff"),
+    ];
+    for words in edges {
+        assert_leads(&rt, &plain, words)?;
+    }
+    // the way back is not in the opposite direction
     let twisted = test_file(&rt, TestTable::Twisted)?;
     let edges = [
-        (
-            &plain,
-            "85283473fffffff",
-            "115283473fffffff",
-            "85283477fffffff",
-        ),
-        (
-            &plain,
-            "813d3ffffffffff",
-            "1413d3ffffffffff",
-            "813ebffffffffff",
-        ),
-        (
-            &plain,
-            "813ebffffffffff",
-            "1313ebffffffffff",
-            "813d3ffffffffff",
-        ),
-        (
-            &twisted,
-            "813d3ffffffffff",
-            "1413d3ffffffffff",
-            "813efffffffffff",
-        ),
+        ("813d3ffffffffff", "1413d3ffffffffff", "813efffffffffff"),
+        ("813efffffffffff", "1113efffffffffff", "813d3ffffffffff"),
     ];
-    for (file, cell, edge, to) in edges {
-        let line = format!(in rt.alloc(); "{edge}\n")?;
-        assert_run(&rt, file, edge_between(cell, to), (&line, "", 0));
-        let line = format!(in rt.alloc(); "{to}\n")?;
-        assert_run(&rt, file, destination(edge), (&line, "", 0));
-        let line = format!(in rt.alloc(); "{cell}\n")?;
-        assert_plain(&rt, origin(edge), &line);
+    for words in edges {
+        assert_leads(&rt, &twisted, words)?;
     }
     Ok(())
 }
@@ -185,6 +179,7 @@ fn edges_are_tested(rt: HostRuntime) {
         ("115283473fffffff", "true\n"),
         ("0x165283473FFFFFFF", "true\n"),
         ("12009fffffffffff", "true\n"),
+        ("11108bffffffffff", "true\n"),
         ("11009fffffffffff", "false\n"),
         ("85283473fffffff", "false\n"),
         ("105283473fffffff", "false\n"),
@@ -205,6 +200,10 @@ fn the_edges_of_a_cell_are_listed(rt: HostRuntime) {
     let five = "12009fffffffffff\n13009fffffffffff\n14009fffffffffff\n\
                 15009fffffffffff\n16009fffffffffff\n";
     assert_plain(&rt, edges("8009fffffffffff"), five);
+    // a hexagon in a pentagon base cell
+    let six = "11108bffffffffff\n12108bffffffffff\n13108bffffffffff\n\
+               14108bffffffffff\n15108bffffffffff\n16108bffffffffff\n";
+    assert_plain(&rt, edges("8108bffffffffff"), six);
 }
 
 #[test]
