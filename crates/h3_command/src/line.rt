@@ -75,10 +75,10 @@ impl Line for (Cell, u32) {
     #[inline]
     fn put(&self, line: &mut ArrayString<ROOM>) {
         let mut buffer = Buffer::new();
-        line.clear();
-        line.push_str(write_index(self.0.raw()).as_str());
-        line.push_str(" ");
-        line.push_str(buffer.format(self.1));
-        line.push_str("\n");
+        let mut text: ArrayString<ROOM> = ArrayString::new();
+        text.push_str(write_index(self.0.raw()).as_str());
+        text.push_str(" ");
+        text.push_str(buffer.format(self.1));
+        put_text(line, text.as_str());
     }
 }

@@ -102,16 +102,16 @@ pub fn write_lines<W: Sink, L: Line + Drop, I: Iterator<Item = L> + Drop>(
 /// `Refusal::Write` where a push or the flush fails.
 pub fn write_walk<W: Sink, L: Line + Drop, I: Iterator<Item = Result<L, H3Error>> + Drop>(
     out: &mut W,
-    items: I,
+    walk: I,
 ) -> Result<(), Refusal>
-    requires can { I.can_next items }
-    requires ends { IsFinite (I.remaining items) }
-    ensures { (all : List (Result _ H3Error)) → YieldsList I.next_gives (λ x. x) items all →
+    requires can { I.can_next walk }
+    requires ends { IsFinite (I.remaining walk) }
+    ensures { (all : List (Result _ H3Error)) → YieldsList I.next_gives (λ x. x) walk all →
         Writes (walked L.line_of all) result (sink_use W.taken W.has_failed out.old out.new) }
 {
     let mut line = ArrayString::new();
     let mut wrote = false;
-    for item in items {
+    for item in walk {
         match item {
             Ok(value) => {
                 value.put(&mut line);
