@@ -23,7 +23,7 @@ use Rattle.h3_cli.proofs.Lexed.{by_short, given, is_long, is_short, named, named
 use Rattle.h3_cli.specs.Given.{given_by}
 use Rattle.h3_cli.specs.Options.{IsIn, parser_done, id_of, long_name, rule_for, short_name}
 use Rattle.h3_cli.specs.declared.options.CommandOption.{CommandOption}
-use Rattle.h3_cli.specs.declared.options.CommandOption.TheVariants.{Cell, Resolution, Position}
+use Rattle.h3_cli.specs.declared.options.CommandOption.TheVariants.{Cell, Resolution, Radius, Position, Table}
 
 -- ---- small facts
 
@@ -60,12 +60,14 @@ Which q o = (q ≡ o) ⊎ Differs q o
 
 -- all options
 abbrev every_option : List CommandOption
-every_option = Cell ∷ Resolution ∷ Position ∷ []
+every_option = Cell ∷ Resolution ∷ Radius ∷ Position ∷ Table ∷ []
 
 option_found : (o : CommandOption) → find (λ x. bytes_eq (id_of x) (id_of o)) every_option ≡ Some o
 option_found Cell = refl
 option_found Resolution = refl
+option_found Radius = refl
 option_found Position = refl
+option_found Table = refl
 
 -- two options of one id, or of names that differ
 abbrev differ_test : CommandOption → CommandOption → Bool
@@ -314,7 +316,9 @@ pub ascii_short : (q : CommandOption) (y : ℕ) → is_short q y ≡ true → le
 unfolding encode_utf8
 ascii_short Cell y e = let same : 99 ≡ y = grind arith in ap (λ c. length (encode_utf8 c)) (sym same)
 ascii_short Resolution y e = let same : 114 ≡ y = grind arith in ap (λ c. length (encode_utf8 c)) (sym same)
+ascii_short Radius y e = let same : 107 ≡ y = grind arith in ap (λ c. length (encode_utf8 c)) (sym same)
 ascii_short Position y e = cc
+ascii_short Table y e = cc
 
 pub short_is : (o q : CommandOption) (d : Which q o) (word flags : Text) (y : ℕ) → long_of word ≡ None → short_of word ≡ Some flags → slice_get (chars flags) 0 ≡ Some y
     → is_short q y ≡ true → named o word ≡ mine d (attached_value (drop (length (encode_utf8 y)) flags))

@@ -20,7 +20,7 @@ use Rattle.clap.specs.declared.builder.value_parser.ValueParser.TheVariants.{Sig
 use Rattle.clap.specs.declared.error.kind.ErrorKind.TheVariants as kind
 use Rattle.h3_cli.specs.Commands.{command_names, app, word_of, options_of}
 use Rattle.h3_cli.specs.declared.commands.CommandName.{CommandName}
-use Rattle.h3_cli.specs.declared.commands.CommandName.TheVariants.{IsValidCell, GetResolution, GetBaseCellNumber, IsPentagon, IsResClassIII, GetNumCells, GetRes0Cells, GetPentagons, CellToParent, CellToCenterChild, CellToChildren, CellToChildrenSize, CellToChildPos, ChildPosToCell, CompactCells, UncompactCells}
+use Rattle.h3_cli.proofs.Names.{word_named}
 use Rattle.h3_cli.proofs.Top.{app_done, first_met, first_state, keeps_stop, leaf, stopped_at, top_done}
 use Rattle.clap.specs.Faults.{check_fault, defaults_fault, entered_fault, fault_of, given_default_fault, level_fault, other_fault, bundle_fault, bundle_step_fault, flag_word_fault, long_fault, option_fault, short_fault, flags_fault, settle_fault, step_fault, turn_fault, use_fault, walk_fault, word_fault}
 use Rattle.h3_cli.specs.Call.{IsPlainCall, AreUses, IsOneOf, IsPlainValue, Use, names_for, uses_of, words_of}
@@ -28,7 +28,7 @@ use Rattle.h3_cli.proofs.Lexed.{given, is_long, is_short, named, named_by}
 use Rattle.h3_cli.specs.Given.{given_by}
 use Rattle.h3_cli.specs.Options.{IsUpTo, IsIn, number_up_to, id_of, long_name, parser_done, short_name}
 use Rattle.h3_cli.specs.declared.options.CommandOption.{CommandOption}
-use Rattle.h3_cli.specs.declared.options.CommandOption.TheVariants.{Cell, Resolution, Position}
+use Rattle.h3_cli.specs.declared.options.CommandOption.TheVariants.{Cell, Resolution, Radius, Position, Table}
 use Rattle.h3_cli.proofs.Leaf.{Holds, long_is, mine, no_default, short_is, walks, Differs, Which, at_word, bytes_same, differ, done_rule, done_rules, help_done, idle_held, leaf_done, longs_differ, or_false, row_of_option, shorts_differ, used_fresh, value_state, walk_end}
 
 -- how a word names an option
@@ -45,8 +45,12 @@ name_form Cell word (inr (inr e)) = absurd e
 name_form Resolution word (inl e) = subst (NameForm Resolution) (sym e) (short_form 114 refl refl refl refl refl refl refl)
 name_form Resolution word (inr (inl e)) = subst (NameForm Resolution) (sym e) (long_form (codes "resolution") refl refl refl refl)
 name_form Resolution word (inr (inr e)) = absurd e
+name_form Radius word (inl e) = subst (NameForm Radius) (sym e) (short_form 107 refl refl refl refl refl refl refl)
+name_form Radius word (inr e) = absurd e
 name_form Position word (inl e) = subst (NameForm Position) (sym e) (long_form (codes "position") refl refl refl refl)
 name_form Position word (inr e) = absurd e
+name_form Table word (inl e) = subst (NameForm Table) (sym e) (long_form (codes "table") refl refl refl refl)
+name_form Table word (inr e) = absurd e
 
 -- a search that only q passes finds it
 only_found : (p : Rule → Bool) (q : CommandOption) (os : List CommandOption) → IsIn q os → p (done_rule q) ≡ true → ((x : CommandOption) → Differs q x → p (done_rule x) ≡ false)
@@ -310,41 +314,21 @@ and_false : (b : Bool) → (b && false) ≡ false
 and_false true = refl
 and_false false = refl
 
-name_first : (k : CommandName) → find (answers_to (word_of k)) (names_of (app_done command_names)) ≡ Some (label_of (leaf k))
-name_first IsValidCell = refl
-name_first GetResolution = refl
-name_first GetBaseCellNumber = refl
-name_first IsPentagon = refl
-name_first IsResClassIII = refl
-name_first GetNumCells = refl
-name_first GetRes0Cells = refl
-name_first GetPentagons = refl
-name_first CellToParent = refl
-name_first CellToCenterChild = refl
-name_first CellToChildren = refl
-name_first CellToChildrenSize = refl
-name_first CellToChildPos = refl
-name_first ChildPosToCell = refl
-name_first CompactCells = refl
-name_first UncompactCells = refl
+-- a search among what a function makes of the items of a list
+find_map : {X Y : Type 0} (f : X → Y) (p : Y → Bool) (q : X → Bool) → ((x : X) → p (f x) ≡ q x) → (xs : List X) → find p (map f xs) ≡ option_map f (find q xs)
+find_map f p q same [] = refl
+find_map f p q same (x ∷ xs) = ap₂ (λ b later. cond b (Some (f x)) later) (same x) (find_map f p q same xs) ∙ go (q x)
+  where
+    go : (b : Bool) → cond b (Some (f x)) (option_map f (find q xs)) ≡ option_map f (cond b (Some x) (find q xs))
+    go true = refl
+    go false = refl
 
 name_found : (k : CommandName) → find (λ s. answers_to (word_of k) (label_of s)) (map leaf command_names) ≡ Some (leaf k)
-name_found IsValidCell = refl
-name_found GetResolution = refl
-name_found GetBaseCellNumber = refl
-name_found IsPentagon = refl
-name_found IsResClassIII = refl
-name_found GetNumCells = refl
-name_found GetRes0Cells = refl
-name_found GetPentagons = refl
-name_found CellToParent = refl
-name_found CellToCenterChild = refl
-name_found CellToChildren = refl
-name_found CellToChildrenSize = refl
-name_found CellToChildPos = refl
-name_found ChildPosToCell = refl
-name_found CompactCells = refl
-name_found UncompactCells = refl
+name_found k = find_map leaf (λ s. answers_to (word_of k) (label_of s)) (λ x. bytes_eq (word_of x) (word_of k)) (λ x. or_false (bytes_eq (word_of x) (word_of k))) command_names
+    ∙ ap (option_map leaf) (word_named k)
+
+name_first : (k : CommandName) → find (answers_to (word_of k)) (names_of (app_done command_names)) ≡ Some (label_of (leaf k))
+name_first k = find_map label_of (answers_to (word_of k)) (λ s. answers_to (word_of k) (label_of s)) (λ s. refl) (map leaf command_names) ∙ ap (option_map label_of) (name_found k)
 
 stopped_passes : (names : Names) (name : Text) (before words : List Text) → walk_fault top_done names (stopped_at name before) words ≡ []
 unfolding walk_fault walked
@@ -383,5 +367,5 @@ app_passes program k rest f =
 -- where the words are a plain call, no step of the parse fails
 pub call_passes : (words : List Text) → IsPlainCall words → fault_of app words ≡ []
 call_passes words h =
-    ap (fault_of app) h.spelled ∙ app_passes h.program h.name (words_of h.uses) (leaf_passes (word_of h.name) (options_of h.name) h.uses h.uses_options h.once
+    ap (fault_of app) h.words_are ∙ app_passes h.program h.name (words_of h.uses) (leaf_passes (word_of h.name) (options_of h.name) h.uses h.uses_options h.once
     (at_most_once (options_of h.name) h.uses h.uses_options h.once))

@@ -1,6 +1,6 @@
--- From a parse that succeeds to what the words spell.
+-- From a parse that succeeds to what the words ask for.
 use Rattle.std.proofs.Common.{◌≡◌, ◌∙◌, true, false, refl, sym, ap, ap₂, subst, List, [], ◌∷◌, drop, Option, Some, None, inl, inr}
-use Rattle.std.specs.Prelude.{IsNone, Box, find, option_map, option_and_then, slice_get}
+use Rattle.std.specs.Prelude.{Box, option_map, string_bytes, option_and_then, slice_get}
 use Rattle.std.specs.Box.{box_value}
 use Rattle.std.specs.Str.{bytes_eq}
 use Rattle.clap.specs.Kinds.{HasKind, IsAmong}
@@ -17,48 +17,29 @@ use Rattle.clap.specs.declared.parser.matches.ArgMatches.{ArgMatches}
 use Rattle.clap.specs.declared.parser.matches.ArgMatches.TheViews.{out-ArgMatches, out-SubCommand}
 use Rattle.clap.specs.declared.parser.matches.Found.{Found}
 use Rattle.clap.specs.declared.parser.matches.SubCommand.{SubCommand}
-use Rattle.h3_cli.specs.Commands.{command_names, app, name_of_command, word_of, options_of}
-use Rattle.h3_cli.specs.Faults.{IsFaultOf, IsToldAs}
+use Rattle.h3_cli.specs.Commands.{app, name_of_command, word_of, options_of}
+use Rattle.h3_cli.specs.Faults.{IsFaultOf, IsReportedAs}
 use Rattle.h3_cli.specs.Given.{given}
 use Rattle.h3_cli.specs.Options.{IsIn, id_of, parser_done}
-use Rattle.h3_cli.specs.Spelling.{Answers, HasValues, Spells}
+use Rattle.h3_cli.specs.Values.{AreFound, HasTable, HasValues, AsksFor}
 use Rattle.h3_cli.specs.declared.words.Words.{Words}
 use Rattle.h3_cli.specs.declared.words.WordsFault.{WordsFault}
 use Rattle.h3_cli.specs.declared.words.WordsFault.TheVariants.{Help, Usage, Memory}
 use Rattle.h3_cli.specs.declared.options.CommandOption.{CommandOption}
 use Rattle.h3_cli.specs.declared.commands.CommandName.{CommandName}
-use Rattle.h3_cli.specs.declared.commands.CommandName.TheVariants.{IsValidCell, GetResolution, GetBaseCellNumber, IsPentagon, IsResClassIII, GetNumCells, GetRes0Cells, GetPentagons, CellToParent, CellToCenterChild, CellToChildren, CellToChildrenSize, CellToChildPos, ChildPosToCell, CompactCells, UncompactCells}
 use Rattle.h3_cli.proofs.Lexed.{given_same}
 use Rattle.h3_cli.proofs.Leaf.{Reads, leaf_reads}
 use Rattle.h3_cli.proofs.Top.{app_enters, app_is_simple}
 
-pub word_named : (k : CommandName) → find (λ x. bytes_eq (word_of x) (word_of k)) command_names ≡ Some k
-word_named IsValidCell = refl
-word_named GetResolution = refl
-word_named GetBaseCellNumber = refl
-word_named IsPentagon = refl
-word_named IsResClassIII = refl
-word_named GetNumCells = refl
-word_named GetRes0Cells = refl
-word_named GetPentagons = refl
-word_named CellToParent = refl
-word_named CellToCenterChild = refl
-word_named CellToChildren = refl
-word_named CellToChildrenSize = refl
-word_named CellToChildPos = refl
-word_named ChildPosToCell = refl
-word_named CompactCells = refl
-word_named UncompactCells = refl
-
 is_simple_app : is_simple app ≡ true
 is_simple_app = refl
 
--- the fault that is told of an error of the parse
-pub fault_told : (a : App) (ws given_words : List Text) (e : Error) → a ≡ app → given_words ≡ ws → (is_simple_and_free a ≡ true → HasKind (fault_of a given_words) e)
-    → (f : WordsFault) → IsToldAs (kind_of e) f → IsFaultOf (fault_of app ws) f
-fault_told a ws given_words e is same kinds f told = go f told (subst (λ k. HasKind k e) (ap₂ fault_of is same) (kinds (ap is_simple_and_free is ∙ app_is_simple)))
+-- the fault that is reported of an error of the parse
+pub fault_reported : (a : App) (ws given_words : List Text) (e : Error) → a ≡ app → given_words ≡ ws → (is_simple_and_free a ≡ true → HasKind (fault_of a given_words) e)
+    → (f : WordsFault) → IsReportedAs (kind_of e) f → IsFaultOf (fault_of app ws) f
+fault_reported a ws given_words e is same kinds f told = go f told (subst (λ k. HasKind k e) (ap₂ fault_of is same) (kinds (ap is_simple_and_free is ∙ app_is_simple)))
   where
-    go : (f : WordsFault) → IsToldAs (kind_of e) f → HasKind (fault_of app ws) e → IsFaultOf (fault_of app ws) f
+    go : (f : WordsFault) → IsReportedAs (kind_of e) f → HasKind (fault_of app ws) e → IsFaultOf (fault_of app ws) f
     go (Help text) told (inl memory) = let bad : OutOfMemory ≡ DisplayHelp = sym memory ∙ told in cc
     go (Help text) told (inr among) = subst (λ k. IsAmong k (fault_of app ws)) told among
     go (Usage text) told (inl memory) = absurd (told.1 memory)
@@ -81,7 +62,7 @@ passed a ws given_words is same none =
 
 -- the command that the parse met, and what it found
 abbrev pub Met : List Text → Text → Found → Type 0
-Met ws name found = (k : CommandName) × (rest : List Text) × (drop 1 ws ≡ word_of k ∷ rest) × (name ≡ word_of k) × Answers k (λ o. given o rest) found
+Met ws name found = (k : CommandName) × (rest : List Text) × (drop 1 ws ≡ word_of k ∷ rest) × (name ≡ word_of k) × AreFound k (λ o. given o rest) found
 
 pub some_same : {X : Type 0} (x y : X) → Some x ≡ Some y → x ≡ y
 some_same x y e = cc
@@ -96,7 +77,7 @@ name_by_rows : (m : ArgMatches) (name : Text) (rows : List Row) → subcommand_r
 name_by_rows m name rows e = name_rows (out-ArgMatches m).subcommand name rows e
 
 reads_answer : (k : CommandName) (rest : List Text) (found : Found) (rows : List Row) → rows_of found ≡ rows
-    → ((o : CommandOption) → IsIn o (options_of k) → Reads o rest rows) → Answers k (λ o. given o rest) found
+    → ((o : CommandOption) → IsIn o (options_of k) → Reads o rest rows) → AreFound k (λ o. given o rest) found
 reads_answer k rest found rows same reads o is =
     let r = reads o is in (
       r.0,
@@ -125,12 +106,15 @@ second : (ws : List Text) (name : Text) (rest : List Text) → drop 1 ws ≡ nam
 second [] name rest e = cc
 second (program ∷ ws) name rest e = (ap (λ t. slice_get t 0) e, ap (drop 1) e)
 
--- the command that the parse met, with its values, is what the words spell
-pub spells : (ws : List Text) (name : Text) (found : Found) (m : Met ws name found) {k : CommandName} → m.0 ≡ k → (asked : Words) → name_of_command asked.command ≡ k
-    → ((text : CommandOption → Option Text) → Answers k text found → HasValues text asked.command) → IsNone asked.table → Spells ws asked
-spells ws name found m {k} same asked is has none =
-    let two = second ws (word_of m.0) m.1 m.2 in record {
+-- the command that the parse met, with its values, is what the words ask for
+pub asks_for : (ws : List Text) (name : Text) (found : Found) (m : Met ws name found) {k : CommandName} → m.0 ≡ k → (asked : Words) → name_of_command asked.command ≡ k
+    → ((text : CommandOption → Option Text) → AreFound k text found → HasValues text asked.command)
+    → ((text : CommandOption → Option Text) → AreFound k text found → HasTable text k (option_map string_bytes asked.table)) → AsksFor ws asked
+asks_for ws name found m {k} same asked is has opens =
+    let two = second ws (word_of m.0) m.1 m.2 in
+    let answers = subst (λ x. AreFound x (λ o. given o m.1) found) same m.4 in record {
       command = two.0 ∙ ap (λ x. Some (word_of x)) (same ∙ sym is);
-      values = subst (λ rest. HasValues (λ o. given o rest) asked.command) (sym two.1) (has (λ o. given o m.1) (subst (λ x. Answers x (λ o. given o m.1) found) same m.4));
-      table = none;
+      values = subst (λ rest. HasValues (λ o. given o rest) asked.command) (sym two.1) (has (λ o. given o m.1) answers);
+      table = subst (λ rest. HasTable (λ o. given o rest) (name_of_command asked.command) (option_map string_bytes asked.table)) (sym two.1)
+          (subst (λ x. HasTable (λ o. given o m.1) x (option_map string_bytes asked.table)) (sym is) (opens (λ o. given o m.1) answers));
     }

@@ -6,14 +6,16 @@ use Rattle.clap.specs.Words.{Text}
 use Rattle.h3_cli.specs.Commands.{options_of, word_of}
 use Rattle.h3_cli.specs.Options.{IsIn, IsUpTo, id_of, number_up_to}
 use Rattle.h3_cli.specs.declared.options.CommandOption.{CommandOption}
-use Rattle.h3_cli.specs.declared.options.CommandOption.TheVariants.{Cell, Resolution, Position}
+use Rattle.h3_cli.specs.declared.options.CommandOption.TheVariants.{Cell, Resolution, Radius, Position, Table}
 use Rattle.h3_cli.specs.declared.commands.CommandName.{CommandName}
 
 -- the words that name the option
 abbrev pub names_for : CommandOption → List Text
 names_for Cell = codes "-c" ∷ codes "--cell" ∷ []
 names_for Resolution = codes "-r" ∷ codes "--resolution" ∷ []
+names_for Radius = codes "-k" ∷ []
 names_for Position = codes "--position" ∷ []
+names_for Table = codes "--table" ∷ []
 
 -- the word is one of these
 abbrev pub IsOneOf : Text → List Text → Type 0
@@ -58,6 +60,6 @@ pub record IsPlainCall (words : List Text) : Type 0 where
   pub program : Text
   pub name : CommandName
   pub uses : List Use
-  pub spelled : words ≡ program ∷ word_of name ∷ words_of uses
+  pub words_are : words ≡ program ∷ word_of name ∷ words_of uses
   pub uses_options : AreUses (options_of name) uses
   pub once : (o : CommandOption) → IsIn o (options_of name) → uses_of o uses ≡ 1

@@ -1,19 +1,21 @@
--- The commands, and the command line that `clap` is told of.
-use Rattle.std.specs.Prelude.{List, [], ◌∷◌, map, true, false, codes}
+-- The commands, and the command line that is given to `clap`.
+use Rattle.std.specs.Prelude.{Bool, List, [], ◌∷◌, map, true, false, codes}
+use Rattle.std.specs.List.{list_any}
+use Rattle.std.specs.Str.{bytes_eq}
 use Rattle.clap.specs.Words.{App, Shape, Text}
 use Rattle.clap.specs.Simple.{new_shape}
-use Rattle.h3_cli.specs.Options.{rule_for}
+use Rattle.h3_cli.specs.Options.{id_of, rule_for}
 use Rattle.h3_command.specs.declared.command.Command.{Command}
 use Rattle.h3_command.specs.declared.command.Command.TheVariants as command
 use Rattle.h3_cli.specs.declared.options.CommandOption.{CommandOption}
-use Rattle.h3_cli.specs.declared.options.CommandOption.TheVariants.{Cell, Resolution, Position}
+use Rattle.h3_cli.specs.declared.options.CommandOption.TheVariants.{Cell, Resolution, Radius, Position, Table}
 use Rattle.h3_cli.specs.declared.commands.CommandName.{CommandName}
-use Rattle.h3_cli.specs.declared.commands.CommandName.TheVariants.{IsValidCell, GetResolution, GetBaseCellNumber, IsPentagon, IsResClassIII, GetNumCells, GetRes0Cells, GetPentagons, CellToParent, CellToCenterChild, CellToChildren, CellToChildrenSize, CellToChildPos, ChildPosToCell, CompactCells, UncompactCells}
+use Rattle.h3_cli.specs.declared.commands.CommandName.TheVariants.{IsValidCell, GetResolution, GetBaseCellNumber, IsPentagon, IsResClassIII, GetNumCells, GetRes0Cells, GetPentagons, CellToParent, CellToCenterChild, CellToChildren, CellToChildrenSize, CellToChildPos, ChildPosToCell, CompactCells, UncompactCells, GridDiskUnsafe, GridDiskDistancesUnsafe, GridRingUnsafe}
 
 -- all names of commands
 abbrev pub command_names : List CommandName
 command_names =
-    IsValidCell ∷ GetResolution ∷ GetBaseCellNumber ∷ IsPentagon ∷ IsResClassIII ∷ GetNumCells ∷ GetRes0Cells ∷ GetPentagons ∷ CellToParent ∷ CellToCenterChild ∷ CellToChildren ∷ CellToChildrenSize ∷ CellToChildPos ∷ ChildPosToCell ∷ CompactCells ∷ UncompactCells ∷ []
+    IsValidCell ∷ GetResolution ∷ GetBaseCellNumber ∷ IsPentagon ∷ IsResClassIII ∷ GetNumCells ∷ GetRes0Cells ∷ GetPentagons ∷ CellToParent ∷ CellToCenterChild ∷ CellToChildren ∷ CellToChildrenSize ∷ CellToChildPos ∷ ChildPosToCell ∷ CompactCells ∷ UncompactCells ∷ GridDiskUnsafe ∷ GridDiskDistancesUnsafe ∷ GridRingUnsafe ∷ []
 
 -- the word that names the command
 abbrev pub word_of : CommandName → Text
@@ -33,6 +35,9 @@ word_of CellToChildPos = codes "cellToChildPos"
 word_of ChildPosToCell = codes "childPosToCell"
 word_of CompactCells = codes "compactCells"
 word_of UncompactCells = codes "uncompactCells"
+word_of GridDiskUnsafe = codes "gridDiskUnsafe"
+word_of GridDiskDistancesUnsafe = codes "gridDiskDistancesUnsafe"
+word_of GridRingUnsafe = codes "gridRingUnsafe"
 
 -- the options that the command has
 abbrev pub options_of : CommandName → List CommandOption
@@ -52,6 +57,13 @@ options_of CellToChildPos = Cell ∷ Resolution ∷ []
 options_of ChildPosToCell = Position ∷ Cell ∷ Resolution ∷ []
 options_of CompactCells = []
 options_of UncompactCells = Resolution ∷ []
+options_of GridDiskUnsafe = Cell ∷ Radius ∷ Table ∷ []
+options_of GridDiskDistancesUnsafe = Cell ∷ Radius ∷ Table ∷ []
+options_of GridRingUnsafe = Cell ∷ Radius ∷ Table ∷ []
+
+-- the command has the option; options are told apart by their ids
+abbrev pub has_option : CommandName → CommandOption → Bool
+has_option k o = list_any (λ x. bytes_eq (id_of x) (id_of o)) (options_of k)
 
 -- the name of a command with its values
 abbrev pub name_of_command : Command → CommandName
@@ -71,16 +83,19 @@ name_of_command (command.CellToChildPos cell res) = CellToChildPos
 name_of_command (command.ChildPosToCell position cell res) = ChildPosToCell
 name_of_command command.CompactCells = CompactCells
 name_of_command (command.UncompactCells res) = UncompactCells
+name_of_command (command.GridDiskUnsafe cell k) = GridDiskUnsafe
+name_of_command (command.GridDiskDistancesUnsafe cell k) = GridDiskDistancesUnsafe
+name_of_command (command.GridRingUnsafe cell k) = GridRingUnsafe
 
--- a command of this name that takes these options
+-- a command of this name that has these options
 abbrev pub leaf_with : Text → List CommandOption → Shape
 leaf_with name os = record (new_shape name) { rules = map rule_for os }
 
--- the command as `clap` is told of it
+-- the command as it is given to `clap`
 abbrev pub shape_for : CommandName → Shape
 shape_for k = leaf_with (word_of k) (options_of k)
 
--- the whole command line as `clap` is told of it: one of the commands is required
+-- the whole command line as it is given to `clap`: one of the commands is required
 abbrev pub app : App
 app = record {
   top = record (new_shape (codes "h3")) {

@@ -6,14 +6,14 @@ use Rattle.clap.specs.declared.error.kind.ErrorKind.TheVariants.{DisplayHelp, Ou
 use Rattle.h3_cli.specs.declared.words.WordsFault.{WordsFault}
 use Rattle.h3_cli.specs.declared.words.WordsFault.TheVariants.{Help, Usage, Memory}
 
--- what is told of an error of this kind: help only of a question for help, no words of a command only of another
+-- what is reported of an error of this kind: help only of a question for help, no words of a command only of another
 -- fault of the words, and want of memory at any time
-abbrev pub IsToldAs : ErrorKind → WordsFault → Type 0
-IsToldAs kind (Help text) = kind ≡ DisplayHelp
-IsToldAs kind (Usage text) = (kind ≢ DisplayHelp) × (kind ≢ OutOfMemory)
-IsToldAs kind Memory = ⊤
+abbrev pub IsReportedAs : ErrorKind → WordsFault → Type 0
+IsReportedAs kind (Help text) = kind ≡ DisplayHelp
+IsReportedAs kind (Usage text) = (kind ≢ DisplayHelp) × (kind ≢ OutOfMemory)
+IsReportedAs kind Memory = ⊤
 
--- what is told where the first step of a parse that fails gives one of these kinds: help only where it may be a
+-- what is reported where the first step of a parse that fails gives one of these kinds: help only where it may be a
 -- question for help, no words of a command only where it may be another fault, and want of memory at any time
 abbrev pub IsFaultOf : Kinds → WordsFault → Type 0
 IsFaultOf kinds (Help text) = IsAmong DisplayHelp kinds

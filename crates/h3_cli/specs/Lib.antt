@@ -5,4 +5,4 @@ pub mod Given
 pub mod Options
 pub mod PageWriter
 pub mod Program
-pub mod Spelling
+pub mod Values

@@ -1,11 +1,11 @@
 //! The names of the commands, and the command line that `clap` parses.
 
-ghost use Rattle.std.specs.Prelude.{◌≡◌, Option, IfOk, find, false};
+ghost use Rattle.std.specs.Prelude.{◌≡◌, Option, IfOk, find, false, option_map, string_bytes};
 ghost use Rattle.std.specs.Str.{bytes_eq};
 ghost use Rattle.clap.specs.Words.{Text, app_of, found_of, shape_of};
 ghost use Rattle.clap.specs.declared.builder.command.Command.TheViews.{out-Command};
-ghost use Rattle.h3_cli.specs.Commands.{app, command_names, name_of_command, options_of, shape_for, word_of};
-ghost use Rattle.h3_cli.specs.Spelling.{Answers, HasValues};
+ghost use Rattle.h3_cli.specs.Commands.{app, command_names, has_option, name_of_command, options_of, shape_for, word_of};
+ghost use Rattle.h3_cli.specs.Values.{AreFound, HasTable, HasValues};
 ghost use Rattle.h3_cli.specs.declared.options.CommandOption.{CommandOption};
 
 use crate::options::CommandOption;
@@ -32,9 +32,12 @@ pub enum CommandName {
     ChildPosToCell,
     CompactCells,
     UncompactCells,
+    GridDiskUnsafe,
+    GridDiskDistancesUnsafe,
+    GridRingUnsafe,
 }
 
-static COMMAND_NAMES: [CommandName; 16] = [
+static COMMAND_NAMES: [CommandName; 19] = [
     CommandName::IsValidCell,
     CommandName::GetResolution,
     CommandName::GetBaseCellNumber,
@@ -51,6 +54,9 @@ static COMMAND_NAMES: [CommandName; 16] = [
     CommandName::ChildPosToCell,
     CommandName::CompactCells,
     CommandName::UncompactCells,
+    CommandName::GridDiskUnsafe,
+    CommandName::GridDiskDistancesUnsafe,
+    CommandName::GridRingUnsafe,
 ];
 
 static NO_OPTIONS: [CommandOption; 0] = [];
@@ -65,6 +71,12 @@ static POSITION_CELL_RESOLUTION: [CommandOption; 3] = [
     CommandOption::Position,
     CommandOption::Cell,
     CommandOption::Resolution,
+];
+
+static CELL_RADIUS_TABLE: [CommandOption; 3] = [
+    CommandOption::Cell,
+    CommandOption::Radius,
+    CommandOption::Table,
 ];
 
 impl CommandName {
@@ -89,6 +101,9 @@ impl CommandName {
             CommandName::ChildPosToCell => "childPosToCell",
             CommandName::CompactCells => "compactCells",
             CommandName::UncompactCells => "uncompactCells",
+            CommandName::GridDiskUnsafe => "gridDiskUnsafe",
+            CommandName::GridDiskDistancesUnsafe => "gridDiskDistancesUnsafe",
+            CommandName::GridRingUnsafe => "gridRingUnsafe",
         }
     }
 
@@ -123,36 +138,38 @@ impl CommandName {
             CommandName::ChildPosToCell => POSITION_CELL_RESOLUTION.as_slice(),
             CommandName::CompactCells => NO_OPTIONS.as_slice(),
             CommandName::UncompactCells => RESOLUTION.as_slice(),
+            CommandName::GridDiskUnsafe => CELL_RADIUS_TABLE.as_slice(),
+            CommandName::GridDiskDistancesUnsafe => CELL_RADIUS_TABLE.as_slice(),
+            CommandName::GridRingUnsafe => CELL_RADIUS_TABLE.as_slice(),
         }
     }
 
     /// What help says of the command.
     fn about<'a>(self) -> &'a str {
         match self {
-            CommandName::IsValidCell => "Whether an index is a valid cell",
-            CommandName::GetResolution => "The resolution of a cell",
-            CommandName::GetBaseCellNumber => "The base cell of a cell",
-            CommandName::IsPentagon => "Whether a cell is a pentagon",
-            CommandName::IsResClassIII => "Whether the resolution of a cell is Class III",
-            CommandName::GetNumCells => "How many cells a resolution has",
-            CommandName::GetRes0Cells => "The 122 cells of resolution 0",
-            CommandName::GetPentagons => "The twelve pentagons of a resolution",
-            CommandName::CellToParent => "The ancestor of a cell at a resolution",
-            CommandName::CellToCenterChild => "The center descendant of a cell at a resolution",
-            CommandName::CellToChildren => "The descendants of a cell at a resolution, ascending",
-            CommandName::CellToChildrenSize => "How many descendants a cell has at a resolution",
-            CommandName::CellToChildPos => {
-                "The position of a cell among the descendants of its ancestor at a resolution"
+            Self::IsValidCell => "Whether an index is a valid cell",
+            Self::GetResolution => "The resolution of a cell",
+            Self::GetBaseCellNumber => "The base cell of a cell",
+            Self::IsPentagon => "Whether a cell is a pentagon",
+            Self::IsResClassIII => "Whether the resolution of a cell is Class III",
+            Self::GetNumCells => "How many cells a resolution has",
+            Self::GetRes0Cells => "The 122 cells of resolution 0",
+            Self::GetPentagons => "The twelve pentagons of a resolution",
+            Self::CellToParent => "The ancestor of a cell at a resolution",
+            Self::CellToCenterChild => "The center descendant of a cell at a resolution",
+            Self::CellToChildren => "The descendants of a cell at a resolution, ascending",
+            Self::CellToChildrenSize => "How many descendants a cell has at a resolution",
+            Self::CellToChildPos => "The position of a cell among its ancestor's descendants",
+            Self::ChildPosToCell => "The descendant of a cell at a position of a resolution",
+            Self::CompactCells => "The compacted list of the cells on standard input",
+            Self::UncompactCells => "The descendants of each cell listed on standard input",
+            Self::GridDiskUnsafe => {
+                "The cells within k steps; fails where a step meets a pentagon's base cell"
             }
-            CommandName::ChildPosToCell => {
-                "The descendant of a cell that stands at a position among those of a resolution"
+            Self::GridDiskDistancesUnsafe => {
+                "The cells within k steps and their rings; fails as gridDiskUnsafe does"
             }
-            CommandName::CompactCells => {
-                "The compacted list of the cells listed on standard input, ascending"
-            }
-            CommandName::UncompactCells => {
-                "The descendants at a resolution of each cell listed on standard input"
-            }
+            Self::GridRingUnsafe => "The cells exactly k steps away; fails as gridDiskUnsafe does",
         }
     }
 
@@ -171,11 +188,12 @@ impl CommandName {
     /// The command with the values that a parse found.
     pub fn command(self, matches: &ArgMatches<'_>) -> Command
         ensures named { name_of_command result ≡ self }
-        ensures values { (text : CommandOption → Option Text) → Answers self text (found_of matches.now)
+        ensures values { (text : CommandOption → Option Text) → AreFound self text (found_of matches.now)
             → HasValues text result }
     {
         let cell = CommandOption::Cell.index(matches);
         let res = CommandOption::Resolution.whole(matches);
+        let k = CommandOption::Radius.whole(matches);
         let position = CommandOption::Position.position(matches);
         match self {
             CommandName::IsValidCell => Command::IsValidCell { cell },
@@ -198,6 +216,37 @@ impl CommandName {
             },
             CommandName::CompactCells => Command::CompactCells,
             CommandName::UncompactCells => Command::UncompactCells { res },
+            CommandName::GridDiskUnsafe => Command::GridDiskUnsafe { cell, k },
+            CommandName::GridDiskDistancesUnsafe => Command::GridDiskDistancesUnsafe { cell, k },
+            CommandName::GridRingUnsafe => Command::GridRingUnsafe { cell, k },
+        }
+    }
+
+    /// Whether the command has the option.
+    fn has_option(self, option: CommandOption) -> bool
+        ensures { result ≡ has_option self option }
+    {
+        self.options().iter().any(|own| own.id() == option.id())
+    }
+
+    /// The path of the table, where the command has one.
+    ///
+    /// [`AllocError`] where there is no memory for the path.
+    pub fn table_path(
+        self,
+        alloc: Global,
+        matches: &ArgMatches<'_>,
+    ) -> Result<Option<String>, AllocError>
+        ensures { IfOk result (λ path. (text : CommandOption → Option Text) →
+            AreFound self text (found_of matches.now)
+            → HasTable text self (option_map string_bytes path)) }
+    {
+        if !self.has_option(CommandOption::Table) {
+            return Ok(None);
+        }
+        match matches.get_str(CommandOption::Table.id()) {
+            Some(path) => Ok(Some(String::from_str(alloc, path)?)),
+            None => Ok(None),
         }
     }
 }

@@ -5,6 +5,7 @@ mod commands;
 mod options;
 mod page;
 mod program;
+mod table;
 mod words;
 
 use h3_command::Refusal;
@@ -13,9 +14,11 @@ use h3_index::{H3Error, Sink, Source, Streamed};
 use page::PageWriter;
 use program::run_words;
 use std::env;
+use std::fs::File;
 use std::io::ErrorKind;
 use std::process::ExitCode;
-use std::rt::Env;
+use std::rt::{Env, Files};
+use table::TableFile;
 
 /// The words of the command line, where the system gives them.
 fn given_words<R: Env + AllocGlobal>(rt: &R) -> Result<Vec<String>, Refusal> {
@@ -27,9 +30,9 @@ fn given_words<R: Env + AllocGlobal>(rt: &R) -> Result<Vec<String>, Refusal> {
     words.collect(rt.alloc()).map_err(|_| Refusal::Memory)
 }
 
-/// Takes the words from the system, and runs their command over the streams. No command reads a table
-/// yet, so there is an empty one.
-fn start<S: Env + AllocGlobal, R: Source, W: Sink, E: Sink>(
+/// Takes the words from the system, and runs their command over the streams and the table that they
+/// name.
+fn start<S: Env + Files<File = File> + AllocGlobal, R: Source, W: Sink, E: Sink>(
     rt: &S,
     input: &mut R,
     out: &mut W,
@@ -37,7 +40,7 @@ fn start<S: Env + AllocGlobal, R: Source, W: Sink, E: Sink>(
 ) -> u8 {
     match given_words(rt) {
         Ok(words) => {
-            let mut table = Streamed::new(b"".as_slice());
+            let mut table = TableFile::new(rt);
             run_words(rt.alloc(), words, input, &mut table, out, err)
         }
         Err(refusal) => report(err, Err(refusal)),

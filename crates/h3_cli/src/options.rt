@@ -13,6 +13,9 @@ use std::alloc::Global;
 /// The largest number that `-r` takes; which of them are resolutions, the command decides.
 const MOST_RESOLUTION: i64 = 2147483647;
 
+/// The largest number that `-k` takes.
+const MOST_RADIUS: i64 = 2147483647;
+
 /// The largest position that `--position` takes.
 const MOST_POSITION: i64 = 9223372036854775807;
 
@@ -25,19 +28,27 @@ pub enum CommandOption {
     /// `-r` or `--resolution`: a resolution.
     Resolution,
 
+    /// `-k`: a radius.
+    Radius,
+
     /// `--position`: a position, counted from 0.
     Position,
+
+    /// `--table`: the path of a base cell table.
+    Table,
 }
 
 impl CommandOption {
-    /// What `clap` knows the option by.
+    /// The id of the option in `clap`.
     pub fn id<'a>(self) -> &'a str
         ensures { result.now ≡ id_of self }
     {
         match self {
             CommandOption::Cell => "cell",
             CommandOption::Resolution => "resolution",
+            CommandOption::Radius => "k",
             CommandOption::Position => "position",
+            CommandOption::Table => "table",
         }
     }
 
@@ -46,7 +57,9 @@ impl CommandOption {
         match self {
             CommandOption::Cell => "A cell's index in hexadecimal",
             CommandOption::Resolution => "A resolution, 0 to 15",
+            CommandOption::Radius => "A radius in steps of the grid, from 0",
             CommandOption::Position => "A position, from 0",
+            CommandOption::Table => "The path of the file of the base cell table",
         }
     }
 
@@ -62,9 +75,13 @@ impl CommandOption {
                 .short('r')
                 .long("resolution")
                 .value_parser(value_parser!(i64).range(0..=MOST_RESOLUTION)),
+            CommandOption::Radius => argument
+                .short('k')
+                .value_parser(value_parser!(i64).range(0..=MOST_RADIUS)),
             CommandOption::Position => argument
                 .long("position")
                 .value_parser(value_parser!(i64).range(0..=MOST_POSITION)),
+            CommandOption::Table => argument.long("table"),
         }
     }
 

@@ -1,20 +1,56 @@
-//! The whole program but for what only the system can give: words, and the opened streams.
+//! The whole program but for what only the system can give: words, the standard streams, and files.
 
-ghost use Rattle.std.specs.Prelude.{◌≡◌, map, string_bytes, Result};
+ghost use Rattle.std.specs.Prelude.{◌≡◌, map, string_bytes, option_map, Result};
+ghost use Rattle.h3_command.specs.Answer.{request};
 ghost use Rattle.h3_command.specs.Run.{sink_use, source_use};
-ghost use Rattle.h3_cli.specs.Program.{Follows, ParsesAs};
+ghost use Rattle.h3_cli.specs.Program.{Follows, ParsesAs, RunsCommand};
 ghost use Rattle.h3_cli.specs.declared.words.Words.{Words};
 ghost use Rattle.h3_cli.specs.declared.words.WordsFault.{WordsFault};
 
-use crate::words::{WordsFault, read_words};
+use crate::table::OpenTable;
+use crate::words::{Words, WordsFault, read_words};
 use h3_command::run::{report, run};
 use h3_command::{Refusal, write_all, write_answer};
 use h3_index::{Sink, Source};
 use std::alloc::Global;
 
+/// Runs a command, and returns the exit status. Its table is opened first, if it has one; where that
+/// fails, nothing is run.
+fn run_command<R: Source, T: OpenTable, W: Sink, E: Sink>(
+    alloc: Global,
+    words: &Words,
+    input: &mut R,
+    table: &mut T,
+    out: &mut W,
+    err: &mut E,
+) -> u8
+    ensures { RunsCommand (record {
+      opens = T.opens;
+      fails_to_open = T.fails_to_open;
+      as_source = source_use T.left T.has_failed;
+    }) (option_map string_bytes words.now.table) (request words.now.command) result
+        (record { old = input.old; new = input.new }) (record { old = table.old; new = table.new }) (record {
+          input = source_use R.left R.has_failed input.old input.new;
+          table = source_use T.left T.has_failed table.old table.new;
+          out = sink_use W.taken W.has_failed out.old out.new;
+          err = sink_use E.taken E.has_failed err.old err.new;
+        }) }
+{
+    match &words.table {
+        None => run(alloc, &words.command, input, table, out, err),
+        Some(path) => match table.open(path.as_str()) {
+            Ok(()) => run(alloc, &words.command, input, table, out, err),
+            Err(_) => report(err, Err(Refusal::TableOpen)),
+        },
+    }
+}
+
 /// Runs the command that the words of a command line ask for, and returns the exit status. Help goes
 /// to `out`; the text of an invalid command line goes to `err`, with status 2.
-pub fn run_words<R: Source, T: Source, W: Sink, E: Sink>(
+///
+/// The table of a command that has one is opened once the words are parsed, and before anything else
+/// is looked at; where it cannot be opened, the line `table: open` goes to `err`, with status 3.
+pub fn run_words<R: Source, T: OpenTable, W: Sink, E: Sink>(
     alloc: Global,
     words: Vec<String>,
     input: &mut R,
@@ -23,7 +59,12 @@ pub fn run_words<R: Source, T: Source, W: Sink, E: Sink>(
     err: &mut E,
 ) -> u8
     ensures { (parsed : Result Words WordsFault) × ParsesAs (map string_bytes words.items) parsed
-        × Follows parsed result (record {
+        × Follows (record {
+          opens = T.opens;
+          fails_to_open = T.fails_to_open;
+          as_source = source_use T.left T.has_failed;
+        }) parsed result
+        (record { old = input.old; new = input.new }) (record { old = table.old; new = table.new }) (record {
           input = source_use R.left R.has_failed input.old input.new;
           table = source_use T.left T.has_failed table.old table.new;
           out = sink_use W.taken W.has_failed out.old out.new;
@@ -31,7 +72,7 @@ pub fn run_words<R: Source, T: Source, W: Sink, E: Sink>(
         }) }
 {
     match read_words(alloc, words) {
-        Ok(words) => run(alloc, &words.command, input, table, out, err),
+        Ok(words) => run_command(alloc, &words, input, table, out, err),
         Err(WordsFault::Help(text)) => report(err, write_answer(out, text.as_bytes())),
         Err(WordsFault::Usage(text)) => {
             let _ = write_all(err, text.as_bytes());

@@ -4,8 +4,8 @@ ghost use Rattle.std.specs.Prelude.{◌≡◌, [], IfOk, IfErr, OnOk, map, strin
 ghost use Rattle.clap.specs.Words.{fault_of, kind_of};
 ghost use Rattle.h3_cli.specs.Call.{IsPlainCall};
 ghost use Rattle.h3_cli.specs.Commands.{app};
-ghost use Rattle.h3_cli.specs.Faults.{IsFaultOf, IsToldAs};
-ghost use Rattle.h3_cli.specs.Spelling.{Spells};
+ghost use Rattle.h3_cli.specs.Faults.{IsFaultOf, IsReportedAs};
+ghost use Rattle.h3_cli.specs.Values.{AsksFor};
 ghost use Rattle.h3_cli.specs.declared.words.WordsFault.TheVariants.{Memory};
 
 use crate::commands::{CommandName, command_line};
@@ -19,7 +19,7 @@ pub struct Words {
     /// The command with its values.
     pub command: Command,
 
-    /// The path of the table, where the command reads one.
+    /// The path of the table, where the command has one.
     pub table: Option<String>,
 }
 
@@ -47,7 +47,7 @@ impl From<AllocError> for WordsFault {
 impl WordsFault {
     /// The error that `clap` found, with its text.
     fn from_parse(alloc: Global, error: clap::Error) -> WordsFault
-        ensures { IsToldAs (kind_of error) result }
+        ensures { IsReportedAs (kind_of error) result }
     {
         if error.kind() == ErrorKind::OutOfMemory {
             return WordsFault::Memory;
@@ -68,7 +68,7 @@ impl WordsFault {
 /// each of its options once and a value in range, and [`WordsFault::Memory`] where there is no memory
 /// for the parse.
 pub fn read_words(alloc: Global, words: Vec<String>) -> Result<Words, WordsFault>
-    ensures read { IfOk result (Spells (map string_bytes words.items)) }
+    ensures read { IfOk result (AsksFor (map string_bytes words.items)) }
     ensures accepted { OnOk result (fault_of app (map string_bytes words.items) ≡ []) }
     ensures taken { IsPlainCall (map string_bytes words.items) → IfErr result (λ fault. fault ≡ WordsFault.Memory) }
     ensures faults { IfErr result (IsFaultOf (fault_of app (map string_bytes words.items))) }
@@ -86,7 +86,7 @@ pub fn read_words(alloc: Global, words: Vec<String>) -> Result<Words, WordsFault
     };
     Ok(Words {
         command: name.command(inner),
-        table: None,
+        table: name.table_path(alloc, inner)?,
     })
 }
 

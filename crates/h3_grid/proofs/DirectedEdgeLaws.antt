@@ -2,20 +2,21 @@
 use Rattle.std.specs.Cmp.Derive.{both_true}
 use Rattle.std.specs.List.{range_with_len}
 use Rattle.std.specs.Result.{result_err}
-use Rattle.std.proofs.Common.{ℕ, zero, suc, ◌≡◌, ◌≢◌, ◌<◌, ◌≤◌, ◌+◌, ◌-◌, ◌==◌, nat_lt, [], ◌∷◌, map, MatchOption, AllPairs, Contains, Bool, true, false, not, ◌&&◌, ◌||◌, if◌then◌else◌, Some, None, Result, Ok, Err, IfOk, IfErr, refl, arith, sym, ap, ◌∙◌, subst, rules}
+use Rattle.std.proofs.Common.{ℕ, zero, suc, ◌≡◌, ◌≢◌, ◌<◌, ◌≤◌, ◌+◌, ◌-◌, ◌==◌, nat_lt, List, [], ◌∷◌, map, MatchOption, AllPairs, Contains, Bool, true, false, not, ◌&&◌, if◌then◌else◌, Some, None, Result, Ok, Err, IfOk, IfErr, refl, arith, sym, ap, ◌∙◌, subst, rules}
 use Rattle.std.proofs.lemmas.Bool.{false≢true}
 use Rattle.std.proofs.lemmas.Bool.Decides.{nat_tests}
-use Rattle.h3_index.specs.Cell.{Address, IsCell, is_pentagon, is_pentagon_base, resolution}
+use Rattle.h3_index.specs.Cell.{Address, IsCell, is_pentagon, is_pentagon_base}
 use Rattle.h3_index.specs.Edge.{DirectedEdge, IsEdge, direction_refusal, directed_edge, has_edge}
 use Rattle.h3_index.specs.declared.error.H3Error.{H3Error}
-use Rattle.h3_index.specs.declared.error.H3Error.TheVariants.{DirEdgeInvalid, NotNeighbors, Pentagon, ResMismatch}
+use Rattle.h3_index.specs.declared.error.H3Error.TheVariants.{DirEdgeInvalid, NotNeighbors, Pentagon}
 use Rattle.h3_lattice.specs.declared.direction.Direction.{Direction}
 use Rattle.h3_lattice.specs.declared.direction.Direction.TheVariants.{K, J, JK, I, IK, IJ}
 use Rattle.h3_lattice.specs.Direction.{digit_of, direction_of}
 use Rattle.h3_lattice.specs.Links.{Links}
-use Rattle.h3_grid.specs.DirectedEdges.{IsDestination, IsEdgeBetween, ListsEdges, edge_between, edge_destination, edge_directions, edge_refusal, edges_from}
-use Rattle.h3_grid.specs.Neighbours.{AreNeighbours, DirectionsAreFound, direction_to, is_same, neighbour}
+use Rattle.h3_grid.specs.DirectedEdges.{IsDestination, IsEdgeBetween, ListsEdges, edge_between, edge_destination, edge_refusal, edges_from}
+use Rattle.h3_grid.specs.Neighbours.{AreNeighbours, DirectionsAreFound, direction_to, neighbour}
 use Rattle.h3_grid.proofs.ListLaws.{from_map, in_map}
+use Rattle.h3_grid.proofs.NeighbourLaws.{from_hexagon}
 
 -- ---- digits of directions
 
@@ -117,15 +118,23 @@ next_edge c d e h is =
     let fewer : 7 - (d + 1) ≡ 6 - d = omega arith in
     rw (more, fewer, is) refl
 
-pub from_two : (c : Address) → is_pentagon c ≡ true → map (directed_edge c) (range_with_len 2 5) ≡ edges_from c
+-- ---- the list of the edges of a cell
+
+-- the directions of the edges of a hexagon, and of a pentagon
+abbrev edge_directions : Bool → List ℕ
+edge_directions false = 1 ∷ 2 ∷ 3 ∷ 4 ∷ 5 ∷ 6 ∷ []
+edge_directions true = 2 ∷ 3 ∷ 4 ∷ 5 ∷ 6 ∷ []
+
+directions_are : (c : Address) (b : Bool) → is_pentagon c ≡ b → edges_from c ≡ map (directed_edge c) (edge_directions b)
 unfolding edges_from
-from_two c h = rw h refl
+directions_are c true h = rw h refl
+directions_are c false h = rw h refl
+
+pub from_two : (c : Address) → is_pentagon c ≡ true → map (directed_edge c) (range_with_len 2 5) ≡ edges_from c
+from_two c h = sym (directions_are c true h)
 
 pub from_one : (c : Address) → is_pentagon c ≡ false → map (directed_edge c) (range_with_len 1 6) ≡ edges_from c
-unfolding edges_from
-from_one c h = rw h refl
-
--- ---- the list of the edges of a cell
+from_one c h = sym (directions_are c false h)
 
 record IsDirection (p : Bool) (d : ℕ) : Type 0 where
   some : 0 < d
@@ -168,58 +177,40 @@ rising c true = search rules
 rising c false = search rules
 
 pub listed : (c : Address) → IsCell c → ListsEdges c (edges_from c)
-unfolding edges_from
-listed c v = record { each = λ e. (to e, from e); ascending = rising c (is_pentagon c) }
+listed c v = record { each = λ e. (to e, from e); ascending = subst (AllPairs (λ a b. a.direction < b.direction)) (sym is) (rising c (is_pentagon c)) }
   where
-    to : (e : DirectedEdge) → Contains (map (directed_edge c) (edge_directions (is_pentagon c))) e → IsEdge e × (e.origin ≡ c)
+    is : edges_from c ≡ map (directed_edge c) (edge_directions (is_pentagon c))
+    is = directions_are c (is_pentagon c) refl
+
+    to : (e : DirectedEdge) → Contains (edges_from c) e → IsEdge e × (e.origin ≡ c)
     to e m =
-        let at = from_map (directed_edge c) (edge_directions (is_pentagon c)) e m in
+        let at = from_map (directed_edge c) (edge_directions (is_pentagon c)) e (subst (λ l. Contains l e) is m) in
         let d = in_list (is_pentagon c) at.0 at.1 in
         let valid : IsEdge (directed_edge c at.0) = record { origin_cell = v; some_direction = d.some; direction_small = d.small; not_deleted = d.left } in
         (subst IsEdge at.2 valid, sym (ap (λ (x : DirectedEdge). x.origin) at.2))
 
-    from : (e : DirectedEdge) → IsEdge e × (e.origin ≡ c) → Contains (map (directed_edge c) (edge_directions (is_pentagon c))) e
-    from e (h, is) =
-        let left : is_pentagon c ≡ true → e.direction ≢ 1 = subst (λ a. is_pentagon a ≡ true → e.direction ≢ 1) is h.not_deleted in
+    from : (e : DirectedEdge) → IsEdge e × (e.origin ≡ c) → Contains (edges_from c) e
+    from e (h, of) =
+        let left : is_pentagon c ≡ true → e.direction ≢ 1 = subst (λ a. is_pentagon a ≡ true → e.direction ≢ 1) of h.not_deleted in
         let d : IsDirection (is_pentagon c) e.direction = record { some = h.some_direction; small = h.direction_small; left = left } in
-        let same : directed_edge c e.direction ≡ e = λ i. directed_edge (sym is i) e.direction in
-        subst (Contains (map (directed_edge c) (edge_directions (is_pentagon c)))) same (in_map (directed_edge c) (edge_directions (is_pentagon c)) e.direction (to_list (is_pentagon c) e.direction d))
+        let same : directed_edge c e.direction ≡ e = λ i. directed_edge (sym of i) e.direction in
+        subst (λ l. Contains l e) (sym is)
+        (subst (Contains (map (directed_edge c) (edge_directions (is_pentagon c)))) same (in_map (directed_edge c) (edge_directions (is_pentagon c)) e.direction (to_list (is_pentagon c) e.direction d)))
 
 -- ---- which pairs of cells are refused
 
-pub edge_refusal-resolution : (x y : Address) → (resolution x ≡ resolution y → ⊥) → edge_refusal x y ≡ Some ResMismatch
-unfolding edge_refusal
-edge_refusal-resolution x y h =
-    let test : (resolution x == resolution y) ≡ false = grind (arith, nat_tests) in
-    rw test refl
-
-same_resolution : (x y : Address) → resolution x ≡ resolution y → (resolution x == resolution y) ≡ true
-same_resolution x y e = grind (arith, nat_tests)
-
-pub edge_refusal-same : (x y : Address) → resolution x ≡ resolution y → is_same x y ≡ true → edge_refusal x y ≡ Some NotNeighbors
-unfolding edge_refusal
-edge_refusal-same x y e same = rw (same_resolution x y e, same) refl
-
-pub edge_refusal-other : (x y : Address) (b : Bool) → resolution x ≡ resolution y → is_same x y ≡ false → (is_pentagon_base x.base || is_pentagon_base y.base) ≡ b → edge_refusal x y ≡ (if b then Some Pentagon else None)
-unfolding edge_refusal
-edge_refusal-other x y b e other test = rw (same_resolution x y e, other, test) refl
-
--- what is said of a pair that is refused, and of one whose direction was looked for
+-- the error of a pair that is refused, and of one that is not
 abbrev pub Refused : Links → Address → Address → Result DirectedEdge H3Error → Type 0
 Refused link x y r =
     MatchOption (edge_refusal x y) (IfErr r (λ e. (e ≡ NotNeighbors) × (AreNeighbours link x y → ⊥))) (λ e. r ≡ Err e)
 
-pub edge-refused : (link : Links) (x y : Address) (e : H3Error) → edge_refusal x y ≡ Some e → (Err e ≡ edge_between link x y) × Refused link x y (Err e)
+pub edge-refused : (link : Links) (x y : Address) (e : H3Error) → Some e ≡ edge_refusal x y → Err e ≡ edge_between link x y
 unfolding edge_between
-edge-refused link x y e h = (rw h refl, rw h refl)
+edge-refused link x y e h = rw (← h) refl
 
-pub edge-none : (link : Links) (x y : Address) → DirectionsAreFound link → IsCell x → IsCell y → edge_refusal x y ≡ None → None ≡ direction_to link x y → (Err NotNeighbors ≡ edge_between link x y) × Refused link x y (Err NotNeighbors)
+pub edge-none : (link : Links) (x y : Address) → None ≡ edge_refusal x y → None ≡ direction_to link x y → Err NotNeighbors ≡ edge_between link x y
 unfolding edge_between
-edge-none link x y found v u h none =
-    (rw (h, ← none) refl, rw h (refl, λ n. some_none n.direction (sym ((found x y n.direction v u).1 n.leads) ∙ sym none)))
-  where
-    some_none : (d : Direction) → Some d ≡ None → ⊥
-    some_none d e = cc
+edge-none link x y h none = rw (← h, ← none) refl
 
 -- ---- the edge that is made
 
@@ -232,10 +223,6 @@ made : (c : Address) (d : Direction) (r : Result DirectedEdge H3Error) → is_pe
 made c d (Ok e) hex h k = record { is = ap (λ x. Ok x) h.0; valid = subst IsEdge h.0 h.1 }
 made c d (Err e) hex h k =
     absurd (false≢true (sym (refused_test (has_edge c (digit_of d)) e k) ∙ has_edge-true c (digit_of d) (some_digit d) (small_digit d) (λ p. absurd (not_pentagon c hex p))))
-
-either : (a b : Bool) → (a || b) ≡ false → a ≡ false
-either false b h = refl
-either true b h = h
 
 pub record IsFound (link : Links) (x y : Address) (r : Result DirectedEdge H3Error) : Type 0 where
   pub is : r ≡ edge_between link x y
@@ -252,11 +239,12 @@ found_by link x y d r leads h some m =
       refused = rw (h, m.is) tt;
     }
 
-pub edge_found : (link : Links) (x y : Address) (d : Direction) (n : ℕ) (r : Result DirectedEdge H3Error) → DirectionsAreFound link → IsCell x → IsCell y → edge_refusal x y ≡ None → (is_pentagon_base x.base || is_pentagon_base y.base) ≡ false → Some d ≡ direction_to link x y
+pub edge_found : (link : Links) (x y : Address) (d : Direction) (n : ℕ) (r : Result DirectedEdge H3Error) → DirectionsAreFound link → IsCell x → IsCell y → None ≡ edge_refusal x y → Some d ≡ direction_to link x y
     → n ≡ digit_of d → IfOk r (λ e. (e ≡ directed_edge x n) × IsEdge e) → result_err r ≡ direction_refusal x n → IsFound link x y r
-edge_found link x y d n r found v u h hex some is ok refused =
-    found_by link x y d r ((found x y d v u).0 (sym some)) h some
-    (made x d r (either (is_pentagon_base x.base) (is_pentagon_base y.base) hex) (subst (λ k. IfOk r (λ e. (e ≡ directed_edge x k) × IsEdge e)) is ok) (subst (λ k. result_err r ≡ direction_refusal x k) is refused))
+edge_found link x y d n r found v u h some is ok refused =
+    let leads = (found x y d v u).0 (sym some) in
+    let hexagon = (from_hexagon link x y d v leads).hexagon.1 in
+    found_by link x y d r leads (sym h) some (made x d r hexagon (subst (λ k. IfOk r (λ e. (e ≡ directed_edge x k) × IsEdge e)) is ok) (subst (λ k. result_err r ≡ direction_refusal x k) is refused))
 
 -- ---- where an edge leads
 

@@ -1,5 +1,5 @@
 -- Neighbours: the direction that leads to one, the way back, and cells that are refused.
-use Rattle.std.proofs.Common.{ℕ, ◌≡◌, ◌≢◌, ◌<◌, ◌+◌, ◌%◌, ◌==◌, ◌↔◌, List, [], ◌∷◌, length, map, Contains, Bool, true, false, ◌||◌, if◌then◌else◌, Option, Some, None, is_some, Ok, Err, refl, arith, sym, ap, ◌∙◌, subst}
+use Rattle.std.proofs.Common.{ℕ, ◌≡◌, ◌≢◌, ◌<◌, ◌+◌, ◌%◌, ◌==◌, List, [], ◌∷◌, length, map, Contains, Bool, true, false, not, ◌&&◌, ◌||◌, if◌then◌else◌, Option, Some, None, is_some, Result, Ok, Err, refl, arith, sym, ap, ◌∙◌, subst}
 use Rattle.std.specs.List.{find}
 use Rattle.std.proofs.lemmas.List.{length-map}
 use Rattle.std.proofs.lemmas.Bool.Decides.{nat_tests}
@@ -14,7 +14,7 @@ use Rattle.h3_lattice.specs.Direction.{digit_turned, directions, opposite, turne
 use Rattle.h3_lattice.specs.Links.{IsSound, Links}
 use Rattle.h3_lattice.specs.Moved.{IsSum}
 use Rattle.h3_grid.specs.Laws.{IsState, OverSoundLinks, StepsMove, StepsPart}
-use Rattle.h3_grid.specs.Neighbours.{AreNeighbours, BothOrdersAgree, DirectionsAreFound, DirectionsPart, NeighboursAreMutual, NeighboursDiffer, are_neighbours, cell_reached, direction_to, is_same, is_some_same, neighbour, neighbour_refusal}
+use Rattle.h3_grid.specs.Neighbours.{AreNeighbours, BothOrdersAgree, DirectionsAreFound, DirectionsPart, NeighboursAreFound, NeighboursAreMutual, NeighboursDiffer, are_neighbours, cell_reached, direction_to, is_same, is_some_same, neighbour, neighbour_refusal, pair_refusal}
 use Rattle.h3_grid.specs.Search.{step_of}
 use Rattle.h3_grid.specs.Steps.{Leads, State, led_to, state}
 use Rattle.h3_grid.proofs.BackLaws.{crossed_to}
@@ -95,45 +95,62 @@ in_directions I = (3, omega arith, refl)
 in_directions IK = (4, omega arith, refl)
 in_directions IJ = (5, omega arith, refl)
 
-refusal-sym : (x y : Address) → neighbour_refusal x y ≡ neighbour_refusal y x
-unfolding neighbour_refusal
-refusal-sym x y =
-    rw (eq-sym (resolution x) (resolution y), eq-sym (number_of x) (number_of y), or-sym (is_pentagon_base x.base) (is_pentagon_base y.base)) refl
-
 -- ---- refusals
-
-pub refusal-resolution : (x y : Address) → (resolution x ≡ resolution y → ⊥) → neighbour_refusal x y ≡ Some ResMismatch
-unfolding neighbour_refusal
-refusal-resolution x y h =
-    let test : (resolution x == resolution y) ≡ false = grind (arith, nat_tests) in
-    rw test refl
 
 same_resolution : (x y : Address) → resolution x ≡ resolution y → (resolution x == resolution y) ≡ true
 same_resolution x y e = grind (arith, nat_tests)
 
-pub refusal-same : (x y : Address) → resolution x ≡ resolution y → is_same x y ≡ true → neighbour_refusal x y ≡ None
-unfolding neighbour_refusal
-refusal-same x y e same = rw (same_resolution x y e, same) refl
+pub refusal-resolution : (twice : Option H3Error) (x y : Address) → (resolution x ≡ resolution y → ⊥) → pair_refusal twice x y ≡ Some ResMismatch
+unfolding pair_refusal
+refusal-resolution twice x y h =
+    let test : (resolution x == resolution y) ≡ false = grind (arith, nat_tests) in
+    rw test refl
 
-pub refusal-other : (x y : Address) (b : Bool) → resolution x ≡ resolution y → is_same x y ≡ false → (is_pentagon_base x.base || is_pentagon_base y.base) ≡ b → neighbour_refusal x y ≡ (if b then Some Pentagon else None)
-unfolding neighbour_refusal
-refusal-other x y b e other test = rw (same_resolution x y e, other, test) refl
+pub refusal-twice : (twice : Option H3Error) (x y : Address) → resolution x ≡ resolution y → is_same x y ≡ true → pair_refusal twice x y ≡ twice
+unfolding pair_refusal
+refusal-twice twice x y e same = rw (same_resolution x y e, same) refl
 
-pub answer-refused : (link : Links) (x y : Address) (e : H3Error) → neighbour_refusal x y ≡ Some e → are_neighbours link x y ≡ Err e
+pub refusal-other : (twice : Option H3Error) (x y : Address) (b : Bool) → resolution x ≡ resolution y → is_same x y ≡ false → (is_pentagon_base x.base || is_pentagon_base y.base) ≡ b → pair_refusal twice x y ≡ (if b then Some Pentagon else None)
+unfolding pair_refusal
+refusal-other twice x y b e other test = rw (same_resolution x y e, other, test) refl
+
+refusal-sym : (twice : Option H3Error) (x y : Address) → pair_refusal twice x y ≡ pair_refusal twice y x
+unfolding pair_refusal
+refusal-sym twice x y =
+    rw (eq-sym (resolution x) (resolution y), eq-sym (number_of x) (number_of y), or-sym (is_pentagon_base x.base) (is_pentagon_base y.base)) refl
+
+pub result-refused : (link : Links) (x y : Address) (e : H3Error) → neighbour_refusal x y ≡ Some e → are_neighbours link x y ≡ Err e
 unfolding are_neighbours
-answer-refused link x y e h = rw h refl
+result-refused link x y e h = rw h refl
 
-pub answer-told : (link : Links) (x y : Address) → neighbour_refusal x y ≡ None → are_neighbours link x y ≡ Ok (is_some (direction_to link x y))
+pub result-given : (link : Links) (x y : Address) → neighbour_refusal x y ≡ None → are_neighbours link x y ≡ Ok (not (is_same x y) && is_some (direction_to link x y))
 unfolding are_neighbours
-answer-told link x y h = rw h refl
+result-given link x y h = rw h refl
 
--- a cell of the same number is not found
-pub none_same : (link : Links) → DirectionsAreFound link → NeighboursDiffer link → (x y : Address) → IsCell x → IsCell y → is_same x y ≡ true → direction_to link x y ≡ None
-none_same link found differ x y v u same = by_direction (direction_to link x y) refl
+-- a cell and itself
+pub result-same : (link : Links) (x y : Address) → x ≡ y → are_neighbours link x y ≡ Ok false
+result-same link x y e =
+    let same = same_number x y (ap number_of e) in
+    result-given link x y (refusal-twice None x y (ap resolution e) same) ∙ (rw same refl)
+
+-- what is true is not refused
+record IsTrueOf (link : Links) (x y : Address) : Type 0 where
+  other : is_same x y ≡ false
+  some : is_some (direction_to link x y) ≡ true
+
+abbrev truth : Bool → Result Bool H3Error
+truth b = Ok b
+
+true_is : (link : Links) (x y : Address) → are_neighbours link x y ≡ Ok true → IsTrueOf link x y
+true_is link x y e = by_refusal (neighbour_refusal x y) refl
   where
-    by_direction : (o : Option Direction) → direction_to link x y ≡ o → direction_to link x y ≡ None
-    by_direction None is = is
-    by_direction (Some d) is = absurd (differ x y d v ((found x y d v u).0 is) (number_same x y same))
+    by_same : (b c : Bool) → truth (not b && c) ≡ truth true → (b ≡ false) × (c ≡ true)
+    by_same true c h = let no : false ≡ true = cc in absurd (false_true no)
+    by_same false c h = let is : c ≡ true = cc in (refl, is)
+
+    by_refusal : (o : Option H3Error) → neighbour_refusal x y ≡ o → IsTrueOf link x y
+    by_refusal None h = let p = by_same (is_same x y) (is_some (direction_to link x y)) (sym (result-given link x y h) ∙ e) in record { other = p.0; some = p.1 }
+    by_refusal (Some f) h = let no : Err f ≡ Ok true = sym (result-refused link x y f h) ∙ e in cc
 
 -- ---- the neighbour in a direction
 
@@ -182,15 +199,6 @@ same_length sums link x y q d hex st = by_out l.out l.list l.sum l.is
         let c = crossed_is (link x.base u) 0 es (state y q) is in
         ap (λ (s : State). length s.cell.digits) c.is ∙ length-map es (digit_turned (link x.base u).1) ∙ sum.long
 
-to_related : (link : Links) → DirectionsAreFound link → (x y : Address) → IsCell x → IsCell y → is_some (direction_to link x y) ≡ true → AreNeighbours link x y
-to_related link found x y v u e =
-    let s = some_of (direction_to link x y) e in
-    record { direction = s.0; leads = (found x y s.0 v u).0 s.1 }
-
-pub related : (link : Links) → DirectionsAreFound link → (x y : Address) → IsCell x → IsCell y → (is_some (direction_to link x y) ≡ true) ↔ AreNeighbours link x y
-related link found x y v u =
-    (to_related link found x y v u, λ n. ap is_some ((found x y n.direction v u).1 n.leads))
-
 -- ---- over sound links
 
 module _ (w : StepLawsHold) (sums : SumLaws) (link : Links) (sound : IsSound link) where
@@ -236,11 +244,6 @@ module _ (w : StepLawsHold) (sums : SumLaws) (link : Links) (sound : IsSound lin
         let t = step-neighbour link x y e q in
         part link sound (state x 0) (state y s.0) (state y t.0) d e (from_hexagon link x y d v p) s.1 t.1 refl
 
-    pub neighbours_differ : OverSoundLinks StepsMove → NeighboursDiffer link
-    neighbours_differ move_on x y d v p e =
-        let s = step-neighbour link x y d p in
-        move_on link sound (state x 0) (state y s.0) d (from_hexagon link x y d v p) s.1 (sym (tell x y v (neighbour_is x y d v p).valid e))
-
     passes_is : (x y : Address) (d : Direction) → IsCell x → IsCell y → is_some_same y (neighbour link x d) ≡ true → neighbour link x d ≡ Some y
     passes_is x y d v u e = by_neighbour (neighbour link x d) refl e
       where
@@ -255,11 +258,36 @@ module _ (w : StepLawsHold) (sums : SumLaws) (link : Links) (sound : IsSound lin
       λ e. find_one (λ d. is_some_same y (neighbour link x d)) directions d (in_directions d) (is_passes link x y d e) (λ c m t. directions_part x y c d v (passes_is x y c v u t) e),
     )
 
+    -- ---- whether two cells are neighbours
+
+    to_related : (x y : Address) → IsCell x → IsCell y → is_some (direction_to link x y) ≡ true → AreNeighbours link x y
+    to_related x y v u e =
+        let s = some_of (direction_to link x y) e in
+        record { direction = s.0; leads = (directions_found x y s.0 v u).0 s.1 }
+
+    from_related : (x y : Address) → IsCell x → IsCell y → AreNeighbours link x y → is_some (direction_to link x y) ≡ true
+    from_related x y v u n = ap is_some ((directions_found x y n.direction v u).1 n.leads)
+
+    module _ (move_on : OverSoundLinks StepsMove) where
+      pub neighbours_differ : NeighboursDiffer link
+      neighbours_differ x y d v p e =
+          let s = step-neighbour link x y d p in
+          move_on link sound (state x 0) (state y s.0) d (from_hexagon link x y d v p) s.1 e
+
+      true_of_neighbours : (x y : Address) → IsCell x → IsCell y → AreNeighbours link x y → are_neighbours link x y ≡ Ok true
+      true_of_neighbours x y v u n =
+          let i = neighbour_is x y n.direction v n.leads in
+          let other = other_number x y (λ e. neighbours_differ x y n.direction v n.leads (tell y x u v (sym e))) in
+          let hexagons : (is_pentagon_base x.base || is_pentagon_base y.base) ≡ false = rw (i.hexagon, i.hexagon-2) refl in
+          result-given link x y (refusal-other None x y false (sym i.resolution_is) other hexagons) ∙ (rw (other, from_related x y v u n) refl)
+
+      pub neighbours_found : NeighboursAreFound link
+      neighbours_found x y v u =
+          (λ e. to_related x y v u (true_is link x y e).some, true_of_neighbours x y v u)
+
     pub both_agree : BothOrdersAgree link
     unfolding are_neighbours
     both_agree x y v u =
-        let there = related link directions_found x y v u in
-        let back = related link directions_found y x u v in
         let swap = neighbours_mutual x y v u in
-        let same : is_some (direction_to link x y) ≡ is_some (direction_to link y x) = same_truth _ _ (λ e. back.1 (swap.0 (there.0 e))) (λ e. there.1 (swap.1 (back.0 e))) in
-        rw (refusal-sym x y, same) refl
+        let same : is_some (direction_to link x y) ≡ is_some (direction_to link y x) = same_truth _ _ (λ e. from_related y x u v (swap.0 (to_related x y v u e))) (λ e. from_related x y v u (swap.1 (to_related y x u v e))) in
+        rw (refusal-sym None x y, eq-sym (number_of x) (number_of y), same) refl

@@ -2,17 +2,18 @@
 --
 -- H3's directed edges: an edge leaves its origin in one of the six directions, and leads to the neighbour there, its
 -- destination.
-use Rattle.std.specs.Prelude.{ℕ, ◌≡◌, ◌↔◌, ◌<◌, ◌==◌, ◌||◌, List, [], ◌∷◌, map, Bool, true, false, not, if◌then◌else◌, Option, Some, None, Result, Ok, Err, AllPairs, Contains}
-use Rattle.h3_index.specs.Cell.{Address, is_pentagon, is_pentagon_base, resolution}
-use Rattle.h3_index.specs.Edge.{DirectedEdge, IsEdge, directed_edge}
+use Rattle.std.specs.Prelude.{◌≡◌, ◌↔◌, ◌<◌, List, map, Option, Some, None, Result, Ok, Err, AllPairs, Contains}
+use Rattle.std.specs.List.{filter}
+use Rattle.h3_index.specs.Cell.{Address}
+use Rattle.h3_index.specs.Edge.{DirectedEdge, IsEdge, directed_edge, has_edge}
 use Rattle.h3_index.specs.declared.error.H3Error.{H3Error}
-use Rattle.h3_index.specs.declared.error.H3Error.TheVariants.{NotNeighbors, Pentagon, ResMismatch}
+use Rattle.h3_index.specs.declared.error.H3Error.TheVariants.{NotNeighbors, Pentagon}
 use Rattle.h3_lattice.specs.declared.direction.Direction.{Direction}
-use Rattle.h3_lattice.specs.Direction.{digit_of, direction_of}
+use Rattle.h3_lattice.specs.Direction.{digit_of, direction_of, directions}
 use Rattle.h3_lattice.specs.Links.{Links}
-use Rattle.h3_grid.specs.Neighbours.{direction_to, is_same, neighbour, unless_refused}
+use Rattle.h3_grid.specs.Neighbours.{direction_to, neighbour, pair_refusal, unless_refused}
 
--- y is the destination of the edge: the neighbour of its origin by its direction
+-- y is the destination of the edge: the neighbour of its origin in its direction
 pub record IsDestination (link : Links) (e : DirectedEdge) (y : Address) : Type 0 where
   pub direction : Direction
   pub digit_is : e.direction ≡ digit_of direction
@@ -26,14 +27,9 @@ pub record IsEdgeBetween (link : Links) (x y : Address) (e : DirectedEdge) : Typ
 
 -- ---- as functions
 
--- the error with which two cells are refused before a direction is looked for, if they are: first that their resolutions
--- differ, then that they are one cell, then that one of them is in a pentagon base cell
-unfoldable pub edge_refusal : Address → Address → Option H3Error
-edge_refusal x y =
-    if not (resolution x == resolution y) then Some ResMismatch
-    else (if is_same x y then Some NotNeighbors
-    else (if is_pentagon_base x.base || is_pentagon_base y.base then Some Pentagon
-    else None))
+-- the error with which two cells are refused before a direction is looked for, if they are
+abbrev pub edge_refusal : Address → Address → Option H3Error
+edge_refusal x y = pair_refusal (Some NotNeighbors) x y
 
 abbrev pub edge_toward : Address → Option Direction → Result DirectedEdge H3Error
 edge_toward x None = Err NotNeighbors
@@ -57,14 +53,9 @@ edge_destination link e = or_pentagon (neighbour_toward link e.origin (direction
 
 -- ---- the edges of a cell
 
--- the directions of a cell's edges, which is a pentagon or not
-abbrev pub edge_directions : Bool → List ℕ
-edge_directions false = 1 ∷ 2 ∷ 3 ∷ 4 ∷ 5 ∷ 6 ∷ []
-edge_directions true = 2 ∷ 3 ∷ 4 ∷ 5 ∷ 6 ∷ []
-
 -- the edges that leave a cell, in ascending direction
 unfoldable pub edges_from : Address → List DirectedEdge
-edges_from c = map (directed_edge c) (edge_directions (is_pentagon c))
+edges_from c = map (directed_edge c) (filter (has_edge c) (map digit_of directions))
 
 -- the list holds the edges that leave a cell and nothing else, and ascends
 pub record ListsEdges (c : Address) (edges : List DirectedEdge) : Type 0 where

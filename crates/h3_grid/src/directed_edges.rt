@@ -8,14 +8,15 @@ ghost use Rattle.h3_grid.specs.Edges.{edges_left};
 ghost use Rattle.h3_grid.specs.Neighbours.{AreNeighbours, DirectionsAreFound, DirectionsPart};
 
 use crate::iter::Edges;
-use crate::neighbours::{direction_to, either_in_pentagon_base, neighbor, neighbour_is_lawful};
+use crate::neighbours::{direction_to, neighbor, neighbour_is_lawful, pair_refusal};
 use h3_index::{Cell, Edge, H3Error};
 use h3_lattice::{BaseTable, Direction};
 
-/// The edge that leaves one cell and leads to another, as H3's `cellsToDirectedEdge` returns it.
+/// The edge that leaves one cell and leads to another, as H3's `cellsToDirectedEdge` returns it outside pentagon base
+/// cells. Which pairs are refused, and with which error, is this library's own.
 ///
-/// `ResMismatch` where their resolutions differ; then `NotNeighbors` for one cell given twice; then `Pentagon` where one of
-/// them is in a pentagon base cell; then `NotNeighbors` where no step leads from the first to the second.
+/// `ResMismatch` where their resolutions differ; then `NotNeighbors` for one cell given twice; then `Pentagon` where either
+/// is in a pentagon base cell; then `NotNeighbors` where no step leads from the first to the second.
 pub fn edge_between(table: &BaseTable, a: Cell, b: Cell) -> Result<Edge, H3Error>
     ensures is { result ≡ edge_between (link_of table.now) a b }
 
@@ -30,23 +31,17 @@ pub fn edge_between(table: &BaseTable, a: Cell, b: Cell) -> Result<Edge, H3Error
     ensures found { DirectionsAreFound (link_of table.now) }
 {
     neighbour_is_lawful(table);
-    if a.resolution() != b.resolution() {
-        return Err(H3Error::ResMismatch);
-    }
-    if a == b {
-        return Err(H3Error::NotNeighbors);
-    }
-    if either_in_pentagon_base(a, b) {
-        return Err(H3Error::Pentagon);
-    }
-    match direction_to(table, a, b) {
-        None => Err(H3Error::NotNeighbors),
-        Some(direction) => Edge::from_parts(a, direction.digit()),
+    match pair_refusal(Some(H3Error::NotNeighbors), a, b) {
+        Some(error) => Err(error),
+        None => match direction_to(table, a, b) {
+            Some(direction) => Edge::from_parts(a, direction.digit()),
+            None => Err(H3Error::NotNeighbors),
+        },
     }
 }
 
-/// The cell that an edge leads to, as H3's `getDirectedEdgeDestination` returns it: that of the step from its origin, with
-/// rotation 0, in its direction.
+/// The cell that an edge leads to, as H3's `getDirectedEdgeDestination` returns it outside pentagon base cells: that of the
+/// step from its origin, with rotation 0, in its direction. Which edges are refused is this library's own.
 ///
 /// `Pentagon` where the origin or that cell is in a pentagon base cell.
 pub fn edge_destination(table: &BaseTable, edge: Edge) -> Result<Cell, H3Error>
@@ -66,8 +61,8 @@ pub fn edge_destination(table: &BaseTable, edge: Edge) -> Result<Cell, H3Error>
     }
 }
 
-/// The edges that leave a cell, in ascending direction, as H3's `originToDirectedEdges` gives them: six, or five without
-/// direction 1 (K) at a pentagon. No table is needed for them.
+/// The edges that leave a cell, in ascending direction: six, or at a pentagon five, without direction 1 (K). H3's
+/// `originToDirectedEdges` leaves a null there. No table is needed for them.
 pub fn edges_of(cell: Cell) -> Edges
     ensures items { edges_left result ≡ edges_from cell }
     ensures listed { ListsEdges cell (edges_from cell) }

@@ -9,8 +9,8 @@ use h3_index::{Cell, Edge};
 
 /// The edges that leave a cell, in ascending direction.
 ///
-/// An iterator. It takes no memory: it holds the cell and the direction of the next edge.
-#[derive(Clone, Copy)]
+/// An iterator. It takes no memory: it holds the cell and the direction of the next edge, or 7 after the last.
+#[derive(Clone, Copy, Debug)]
 pub struct Edges {
     origin: Cell,
     direction: u8,
@@ -27,7 +27,7 @@ impl Edges {
         ensures items { edges_left result ≡ edges_from origin }
         ensures listed { ListsEdges origin (edges_from origin) }
     {
-        // The proof takes from this that the cell is one.
+        // The proof takes from this that the origin is a valid cell.
         let _resolution = origin.resolution();
         if origin.is_pentagon() {
             return Edges {
@@ -59,5 +59,21 @@ impl Iterator for Edges {
             }
             Err(_) => None,
         }
+    }
+}
+
+#[cfg(test)]
+mod tests {
+    use super::Edges;
+    use h3_index::Cell;
+
+    #[test]
+    fn edges_hold_a_cell_and_a_direction(_rt: HostRuntime) {
+        let parts = |walk: Edges| {
+            let Edges { origin, direction } = walk;
+            let _origin: Cell = origin;
+            let _direction: u8 = direction;
+        };
+        let _parts = parts;
     }
 }

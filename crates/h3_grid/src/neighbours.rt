@@ -1,10 +1,10 @@
-//! Neighbours.
+//! Whether two cells are neighbours, and in which direction.
 
-ghost use Rattle.std.specs.Prelude.{◌≡◌, ◌↔◌, ◌||◌, Ok, Some, None, IsTrue, IfOk, false};
+ghost use Rattle.std.specs.Prelude.{◌≡◌, ◌↔◌, ◌&&◌, not, is_some, Ok, true, false};
 ghost use Rattle.std.specs.Result.{result_err};
-ghost use Rattle.h3_index.specs.Cell.{is_pentagon_base};
+ghost use Rattle.h3_index.specs.Cell.{IsCell};
 ghost use Rattle.h3_lattice.specs.BaseTable.{link_of};
-ghost use Rattle.h3_grid.specs.Neighbours.{AreNeighbours, BothOrdersAgree, DirectionsAreFound, DirectionsPart, NeighboursAreMutual, NeighboursDiffer, are_neighbours, direction_to, is_some_same, neighbour, neighbour_refusal};
+ghost use Rattle.h3_grid.specs.Neighbours.{AreNeighbours, BothOrdersAgree, DirectionsAreFound, DirectionsPart, NeighboursAreFound, NeighboursAreMutual, are_neighbours, direction_to, is_same, is_some_same, neighbour, neighbour_refusal, pair_refusal};
 
 use crate::laws::neighbours_are_lawful;
 use crate::steps::step;
@@ -24,8 +24,8 @@ const DIRECTIONS: [Direction; 6] = [
 /// Laws of the neighbours over the links of a table. It does nothing.
 pub(crate) fn neighbour_is_lawful(table: &BaseTable)
     ensures found { DirectionsAreFound (link_of table.now) }
+    ensures related { NeighboursAreFound (link_of table.now) }
     ensures part { DirectionsPart (link_of table.now) }
-    ensures differ { NeighboursDiffer (link_of table.now) }
     ensures mutual { NeighboursAreMutual (link_of table.now) }
     ensures both { BothOrdersAgree (link_of table.now) }
 {
@@ -64,39 +64,51 @@ pub(crate) fn direction_to(table: &BaseTable, from: Cell, to: Cell) -> Option<Di
         .find(|direction| leads(table, from, *direction, to))
 }
 
-/// Whether one of two cells is in a pentagon base cell.
-pub(crate) fn either_in_pentagon_base(a: Cell, b: Cell) -> bool
-    ensures { result ≡ is_pentagon_base a.base || is_pentagon_base b.base }
+/// The error with which two cells are refused, if they are: first that their resolutions differ; then, for one cell given
+/// twice, the one that is passed; then that either is in a pentagon base cell.
+pub(crate) fn pair_refusal(twice: Option<H3Error>, a: Cell, b: Cell) -> Option<H3Error>
+    ensures is { result ≡ pair_refusal twice a b }
+    ensures cells { IsCell a × IsCell b }
 {
-    a.in_pentagon_base() || b.in_pentagon_base()
+    if a.resolution() != b.resolution() {
+        return Some(H3Error::ResMismatch);
+    }
+    if a == b {
+        return twice;
+    }
+    if a.in_pentagon_base() || b.in_pentagon_base() {
+        return Some(H3Error::Pentagon);
+    }
+    None
 }
 
-/// Whether two cells are neighbours, as H3's `areNeighborCells` returns it: a step leads from the one to the other. No
-/// cell is its own neighbour.
+/// Whether a cell is the neighbour of another in some direction.
+fn is_neighbor(table: &BaseTable, a: Cell, b: Cell) -> bool
+    ensures { result ≡ not (is_same a b) && is_some (direction_to (link_of table.now) a b) }
+{
+    a != b && direction_to(table, a, b).is_some()
+}
+
+/// Whether two cells are neighbours, as H3's `areNeighborCells` returns it outside pentagon base cells: a step leads from
+/// the one to the other. No cell is its own neighbour. Which pairs are refused is this library's own.
 ///
-/// `ResMismatch` where their resolutions differ; then, for different cells, `Pentagon` where one of them is in a pentagon
-/// base cell.
+/// `ResMismatch` where their resolutions differ; then, for different cells, `Pentagon` where either is in a pentagon base
+/// cell.
 pub fn are_neighbors(table: &BaseTable, a: Cell, b: Cell) -> Result<bool, H3Error>
     ensures is { result ≡ are_neighbours (link_of table.now) a b }
 
-    // The same in parts: which pairs are refused, what the truth value means, and that a cell is not its own neighbour.
+    // The same in parts: which pairs are refused, which are neighbours, and that a cell is not its own neighbour.
     ensures refused { result_err result ≡ neighbour_refusal a b }
-    ensures related { IfOk result (λ yes. IsTrue yes ↔ AreNeighbours (link_of table.now) a b) }
+    ensures related { (result ≡ Ok true) ↔ AreNeighbours (link_of table.now) a b }
     ensures same { a ≡ b → result ≡ Ok false }
 
-    // Laws of neighbours over the table: the order of the two cells does not matter, to the errors neither.
+    // Laws of neighbours over the table: the order of the two cells does not matter, for the errors either.
     ensures mutual { NeighboursAreMutual (link_of table.now) }
     ensures both { BothOrdersAgree (link_of table.now) }
 {
     neighbour_is_lawful(table);
-    if a.resolution() != b.resolution() {
-        return Err(H3Error::ResMismatch);
+    match pair_refusal(None, a, b) {
+        Some(error) => Err(error),
+        None => Ok(is_neighbor(table, a, b)),
     }
-    if a == b {
-        return Ok(false);
-    }
-    if either_in_pentagon_base(a, b) {
-        return Err(H3Error::Pentagon);
-    }
-    Ok(direction_to(table, a, b).is_some())
 }

@@ -1,5 +1,5 @@
-use crate::{Disk, Ring, disk_len, step};
-use h3_index::{Cell, H3Error, Streamed, is_pentagon_base};
+use crate::{Disk, Ring, are_neighbors, disk_len, edge_between, edge_destination, edges_of, step};
+use h3_index::{Cell, Edge, H3Error, Streamed, is_pentagon_base};
 use h3_lattice::vectors::{TestTable, link};
 use h3_lattice::{BaseTable, Direction};
 use std::process::Abort;
@@ -384,5 +384,134 @@ fn walks_are_copied(rt: HostRuntime) -> Result<(), Fail> {
     let mut again = copy_of(&walk);
     assert_eq!(&rt; walk.next(), again.next());
     assert_eq!(&rt; walk.next(), again.next());
+    Ok(())
+}
+
+#[test]
+fn neighbours_are_a_step_apart(rt: HostRuntime) -> Result<(), Fail> {
+    let plain = test_table(&rt, TestTable::Plain)?;
+    let table = [
+        (0x8528340ffffffff, 0x85283473fffffff, Ok(true)),
+        (0x85283473fffffff, 0x8528340ffffffff, Ok(true)),
+        (0x8528340ffffffff, 0x8528347bfffffff, Ok(false)),
+        (0x8528340ffffffff, 0x8528340ffffffff, Ok(false)),
+        // also a pentagon is not its own neighbour
+        (0x8009fffffffffff, 0x8009fffffffffff, Ok(false)),
+        (0x8009fffffffffff, 0x8011fffffffffff, Err(H3Error::Pentagon)),
+        (0x8011fffffffffff, 0x8009fffffffffff, Err(H3Error::Pentagon)),
+        (
+            0x85283473fffffff,
+            0x8428347ffffffff,
+            Err(H3Error::ResMismatch),
+        ),
+        (
+            0x8009fffffffffff,
+            0x8108bffffffffff,
+            Err(H3Error::ResMismatch),
+        ),
+    ];
+    for (a, b, expected) in table {
+        let result = are_neighbors(&plain, Cell::new(a)?, Cell::new(b)?);
+        assert_eq!(&rt; result, expected);
+    }
+    Ok(())
+}
+
+#[test]
+fn edges_lead_to_neighbours(rt: HostRuntime) -> Result<(), Fail> {
+    let plain = test_table(&rt, TestTable::Plain)?;
+    let twisted = test_table(&rt, TestTable::Twisted)?;
+    let table = [
+        (
+            &plain,
+            0x85283473fffffff,
+            0x85283477fffffff,
+            0x115283473fffffff,
+        ),
+        (
+            &twisted,
+            0x813d3ffffffffff,
+            0x813efffffffffff,
+            0x1413d3ffffffffff,
+        ),
+        // the way back, in the frame of the other base cell
+        (
+            &twisted,
+            0x813efffffffffff,
+            0x813d3ffffffffff,
+            0x1113efffffffffff,
+        ),
+    ];
+    for (table, a, b, edge) in table {
+        let (origin, destination) = (Cell::new(a)?, Cell::new(b)?);
+        assert_eq!(&rt; edge_between(table, origin, destination)?.raw(), edge);
+        assert_eq!(&rt; edge_destination(table, Edge::new(edge)?)?, destination);
+    }
+    Ok(())
+}
+
+#[test]
+fn edges_between_other_cells_are_refused(rt: HostRuntime) -> Result<(), Fail> {
+    let plain = test_table(&rt, TestTable::Plain)?;
+    let table = [
+        (0x85283473fffffff, 0x8428347ffffffff, H3Error::ResMismatch),
+        (0x8009fffffffffff, 0x8108bffffffffff, H3Error::ResMismatch),
+        (0x85283473fffffff, 0x85283473fffffff, H3Error::NotNeighbors),
+        (0x8009fffffffffff, 0x8009fffffffffff, H3Error::NotNeighbors),
+        (0x8009fffffffffff, 0x8011fffffffffff, H3Error::Pentagon),
+        (0x8011fffffffffff, 0x8009fffffffffff, H3Error::Pentagon),
+        (0x8528340ffffffff, 0x8528347bfffffff, H3Error::NotNeighbors),
+    ];
+    for (a, b, error) in table {
+        let refused = edge_between(&plain, Cell::new(a)?, Cell::new(b)?);
+        assert_eq!(&rt; refused, Err(error));
+    }
+    let into_pentagon = Edge::new(0x11021fffffffffff)?;
+    assert_eq!(&rt;
+        edge_destination(&plain, into_pentagon),
+        Err(H3Error::Pentagon)
+    );
+    let from_pentagon = Edge::new(0x12009fffffffffff)?;
+    assert_eq!(&rt;
+        edge_destination(&plain, from_pentagon),
+        Err(H3Error::Pentagon)
+    );
+    Ok(())
+}
+
+/// Asserts that these edges leave a cell, and no others.
+fn assert_edges(rt: &impl Abort, cell: u64, expected: &[u64]) -> Result<(), Fail> {
+    let mut edges = edges_of(Cell::new(cell)?);
+    for raw in expected {
+        assert_eq!(rt; edges.next(), Some(Edge::new(*raw)?));
+    }
+    assert!(rt; edges.next().is_none());
+    assert!(rt; edges.next().is_none());
+    Ok(())
+}
+
+#[test]
+fn edges_leave_a_cell(rt: HostRuntime) -> Result<(), Fail> {
+    let of_hexagon = [
+        0x115283473fffffff,
+        0x125283473fffffff,
+        0x135283473fffffff,
+        0x145283473fffffff,
+        0x155283473fffffff,
+        0x165283473fffffff,
+    ];
+    assert_edges(&rt, 0x85283473fffffff, &of_hexagon)?;
+    let of_pentagon = [
+        0x12009fffffffffff,
+        0x13009fffffffffff,
+        0x14009fffffffffff,
+        0x15009fffffffffff,
+        0x16009fffffffffff,
+    ];
+    assert_edges(&rt, 0x8009fffffffffff, &of_pentagon)?;
+    let mut edges = edges_of(Cell::new(0x85283473fffffff)?);
+    let mut again = copy_of(&edges);
+    assert_eq!(&rt; edges.next(), again.next());
+    assert_eq!(&rt; edges.next(), again.next());
     Ok(())
 }

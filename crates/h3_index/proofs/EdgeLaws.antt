@@ -1,4 +1,4 @@
--- Directed edges and their numbers: a number tells the edge that it stands for.
+-- Directed edges and their numbers: what the fields of an edge's number say is that edge.
 use Rattle.std.specs.Int.Digits.{number_from_digits}
 use Rattle.std.specs.Cmp.Derive.{both_true}
 use Rattle.std.specs.Result.{result_ok, result_err}
@@ -176,8 +176,8 @@ only_read c d m h s none e valid is =
 abbrev Made : Address → ℕ → Result DirectedEdge H3Error → Type 0
 Made c d r = IfOk r (λ e. (e ≡ directed_edge c d) × IsEdge e)
 
--- of a cell and a direction that are refused no edge is made
-none_refused : (c : Address) (d : ℕ) (e : H3Error) → Some e ≡ direction_refusal c d → (e ≡ DirEdgeInvalid) × (IsEdge (directed_edge c d) → ⊥)
+-- a cell has no edge in a direction that is refused
+pub none_refused : (c : Address) (d : ℕ) (e : H3Error) → Some e ≡ direction_refusal c d → (e ≡ DirEdgeInvalid) × (IsEdge (directed_edge c d) → ⊥)
 none_refused c d e is = by_test (has_edge c d) refl
   where
     by_test : (b : Bool) → has_edge c d ≡ b → (e ≡ DirEdgeInvalid) × (IsEdge (directed_edge c d) → ⊥)

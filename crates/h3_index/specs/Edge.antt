@@ -21,7 +21,7 @@ pub record IsEdge (e : DirectedEdge) : Type 0 where
   pub direction_small : e.direction < 7
   pub not_deleted : IsTrue (is_pentagon e.origin) → e.direction ≢ 1
 
--- whether a cell has an edge in a direction: in each of 1 to 6, but a pentagon in none of 1
+-- whether a cell has an edge in a direction: in each of 1 to 6, except 1 at a pentagon
 abbrev pub has_edge : Address → ℕ → Bool
 has_edge c d = nat_lt 0 d && nat_lt d 7 && not (is_pentagon c && d == 1)
 

@@ -20,7 +20,7 @@ pub record IsEdgeNumber (m : ℕ) : Type 0 where
 abbrev pub is_edge : DirectedEdge → Bool
 is_edge e = is_cell e.origin && has_edge e.origin e.direction
 
--- the edge that a number stands for, where it does for one
+-- the edge with this number, if there is one
 unfoldable pub edge_in : ℕ → Option DirectedEdge
 edge_in m =
     if is_edge (directed_edge_in m) && edge_number (directed_edge_in m) == m then Some (directed_edge_in m) else None

@@ -2,7 +2,7 @@
 
 ghost use Rattle.std.specs.Prelude.{◌≡◌, ◌≢◌, ◌+◌, ◌%◌, ◌^◌, IfOk, IfErr};
 ghost use Rattle.std.specs.Result.{result_ok, result_err};
-ghost use Rattle.h3_index.specs.Edge.{DirectedEdge, IsEdge, direction_refusal, directed_edge, edge_number};
+ghost use Rattle.h3_index.specs.Edge.{DirectedEdge, IsEdge, direction_refusal, directed_edge, edge_number, has_edge};
 ghost use Rattle.h3_index.specs.EdgeNumber.{edge_in};
 
 use crate::cell::Cell;
@@ -14,6 +14,13 @@ fn origin_number(raw: u64) -> u64
     ensures { result ≡ raw % 2 ^ 56 + 2 ^ 59 }
 {
     (raw & 0x00ff_ffff_ffff_ffff) + (1 << 59)
+}
+
+/// Whether a cell has an edge in the direction of a digit: in each of 1 to 6, except 1 (K) at a pentagon.
+fn has_edge(cell: Cell, direction: u8) -> bool
+    ensures { result ≡ has_edge cell direction }
+{
+    direction > 0 && direction < 7 && !(direction == 1 && cell.is_pentagon())
 }
 
 /// A valid H3 directed edge: it leaves its origin, a cell, in one of the six directions. Edges are ordered by their
@@ -55,13 +62,15 @@ impl Edge {
         }
     }
 
-    /// The edge that leaves a cell in the direction of a digit: `DirEdgeInvalid` where the digit is not 1 to 6, and where
-    /// it is 1 (K) at a pentagon.
+    /// The edge that leaves a cell in the direction of a digit; H3 has no public function for it.
+    ///
+    /// `DirEdgeInvalid` where the digit is not 1 to 6, and where it is 1 (K) at a pentagon.
     pub fn from_parts(origin: Cell, direction: u8) -> Result<Edge, H3Error>
         ensures made { IfOk result (λ edge. (edge ≡ directed_edge origin direction) × IsEdge edge) }
         ensures refused { result_err result ≡ direction_refusal origin direction }
+        ensures none { IfErr result (λ _. ¬ IsEdge (directed_edge origin direction)) }
     {
-        if direction == 0 || direction > 6 || direction == 1 && origin.is_pentagon() {
+        if !has_edge(origin, direction) {
             return Err(H3Error::DirEdgeInvalid);
         }
         Ok(Edge {

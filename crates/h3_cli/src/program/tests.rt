@@ -1,9 +1,80 @@
 use super::run_words;
 use crate::page::PageWriter;
+use crate::table::{OpenFault, OpenTable};
 use arrayvec::ArrayVec;
-use h3_index::{Sink, Streamed};
+use h3_index::{Sink, Source, StreamFault, Streamed};
 use std::alloc::{AllocError, Global};
 use std::test::Fail;
+
+/// A table in memory, at one path.
+#[derive(Drop)]
+struct MemoryTable<'a> {
+    path: &'a str,
+    rows: &'a [u8],
+    source: Streamed<&'a [u8]>,
+    /// How often `open` was called.
+    opened: u8,
+}
+
+impl<'a> MemoryTable<'a> {
+    fn new(path: &'a str, rows: &'a str) -> Self {
+        MemoryTable {
+            path,
+            rows: rows.as_bytes(),
+            source: Streamed::new(b"".as_slice()),
+            opened: 0,
+        }
+    }
+}
+
+impl<'a> Source for MemoryTable<'a> {
+    ghost use Rattle.std.specs.Prelude.{Some};
+    ghost use Rattle.h3_index.specs.Streamed.{streamed_failed, streamed_inner};
+
+    ghost left = { λ table. Some (streamed_inner table.source).now };
+
+    ghost has_failed = { λ table. streamed_failed table.source };
+
+    fn pull(&mut self, buf: &mut [u8]) -> Result<usize, StreamFault> {
+        self.source.pull(buf)
+    }
+}
+
+impl<'a> OpenTable for MemoryTable<'a> {
+    ghost use Rattle.std.specs.Prelude.{◌≡◌, ◌≢◌, false};
+    ghost use Rattle.h3_index.specs.Streamed.{streamed_failed, streamed_inner};
+
+    ghost opens = { λ old path new. (old.path.now ≡ path)
+        × ((streamed_inner new.source).now ≡ old.rows.now) × (streamed_failed new.source ≡ false) };
+
+    ghost fails_to_open = { λ old path new. old.path.now ≢ path };
+
+    fn open(&mut self, path: &str) -> Result<(), OpenFault> {
+        self.opened = self.opened.saturating_add(1);
+        if self.path != path {
+            return Err(OpenFault);
+        }
+        self.source = Streamed::new(self.rows);
+        Ok(())
+    }
+}
+
+/// The status of a command line, run over a list, a table and these streams.
+fn status_over<W: Sink, E: Sink>(
+    alloc: Global,
+    line: &str,
+    list: &str,
+    table: &mut MemoryTable<'_>,
+    out: &mut W,
+    err: &mut E,
+) -> Result<u8, AllocError> {
+    let mut words = Vec::new(alloc);
+    for word in line.split_whitespace() {
+        words.push(String::from_str(alloc, word)?)?;
+    }
+    let mut input = Streamed::new(list.as_bytes());
+    Ok(run_words(alloc, words, &mut input, table, out, err))
+}
 
 /// The status of a command line, run over a list and these streams.
 fn status_of<W: Sink, E: Sink>(
@@ -13,13 +84,8 @@ fn status_of<W: Sink, E: Sink>(
     out: &mut W,
     err: &mut E,
 ) -> Result<u8, AllocError> {
-    let mut words = Vec::new(alloc);
-    for word in line.split_whitespace() {
-        words.push(String::from_str(alloc, word)?)?;
-    }
-    let mut input = Streamed::new(list.as_bytes());
-    let mut table = Streamed::new(b"".as_slice());
-    Ok(run_words(alloc, words, &mut input, &mut table, out, err))
+    let mut table = MemoryTable::new("", "");
+    status_over(alloc, line, list, &mut table, out, err)
 }
 
 #[test]
@@ -78,5 +144,50 @@ fn a_list_reaches_what_is_behind_the_page(rt: HostRuntime) -> Result<(), Fail> {
     let mut err = Streamed::new(ArrayVec::<u8, 64>::new());
     assert_eq!(&rt; status_of(rt.alloc(), line, list, &mut page, &mut err)?, 0);
     assert!(&rt; out.as_slice() == list.as_bytes());
+    Ok(())
+}
+
+#[test]
+fn table_that_cannot_be_opened(rt: HostRuntime) -> Result<(), Fail> {
+    for line in [
+        "h3 gridDiskUnsafe -c 85283473fffffff -k 1 --table none.csv",
+        "h3 gridDiskDistancesUnsafe -c xyz -k 1 --table none.csv",
+        "h3 gridRingUnsafe -c 0 -k 1 --table=none.csv",
+    ] {
+        let mut table = MemoryTable::new("plain.csv", "");
+        let mut out = Streamed::new(ArrayVec::<u8, 64>::new());
+        let mut err = Streamed::new(ArrayVec::<u8, 64>::new());
+        let status = status_over(rt.alloc(), line, "", &mut table, &mut out, &mut err)?;
+        assert_eq!(&rt; status, 3, "{line}");
+        assert_eq!(&rt; table.opened, 1, "{line}");
+        assert!(&rt; out.into_inner().is_empty(), "{line}");
+        assert!(&rt;
+            err.into_inner().as_slice() == b"table: open\n".as_slice(),
+            "{line}"
+        );
+    }
+    Ok(())
+}
+
+#[test]
+fn opens_no_table(rt: HostRuntime) -> Result<(), Fail> {
+    let lines = [
+        (
+            "h3 gridDiskUnsafe -c 85283473fffffff -k -1 --table plain.csv",
+            2,
+        ),
+        ("h3 gridDiskUnsafe -c 85283473fffffff -k 1", 2),
+        ("h3 gridDiskUnsafe --table plain.csv --help", 0),
+        ("h3 isValidCell -c 85283473fffffff --table plain.csv", 2),
+        ("h3 isValidCell -c 85283473fffffff", 0),
+    ];
+    for (line, wanted) in lines {
+        let mut table = MemoryTable::new("plain.csv", "");
+        let mut out = Streamed::new(ArrayVec::<u8, 4096>::new());
+        let mut err = Streamed::new(ArrayVec::<u8, 4096>::new());
+        let status = status_over(rt.alloc(), line, "", &mut table, &mut out, &mut err)?;
+        assert_eq!(&rt; status, wanted, "{line}");
+        assert_eq!(&rt; table.opened, 0, "{line}");
+    }
     Ok(())
 }

@@ -19,6 +19,17 @@ fn asks_for(answer: &Result<Words, WordsFault>, command: Command) -> bool {
     }
 }
 
+/// Whether the words ask for a command over the table at a path.
+fn asks_over(answer: &Result<Words, WordsFault>, command: Command, path: &str) -> bool {
+    match answer {
+        Ok(words) => match &words.table {
+            Some(table) => words.command == command && table.as_str() == path,
+            None => false,
+        },
+        Err(_) => false,
+    }
+}
+
 #[test]
 fn reads_commands(rt: HostRuntime) -> Result<(), Fail> {
     let alloc = rt.alloc();
@@ -104,6 +115,80 @@ fn reads_options(rt: HostRuntime) -> Result<(), Fail> {
 }
 
 #[test]
+fn reads_tables(rt: HostRuntime) -> Result<(), Fail> {
+    let alloc = rt.alloc();
+    let cell = Some(0x85283473fffffff);
+    let cases = [
+        (
+            "h3 gridDiskUnsafe -c 85283473fffffff -k 1 --table plain.csv",
+            Command::GridDiskUnsafe { cell, k: 1 },
+            "plain.csv",
+        ),
+        (
+            "h3 gridDiskUnsafe --table plain.csv -k 0 --cell 85283473fffffff",
+            Command::GridDiskUnsafe { cell, k: 0 },
+            "plain.csv",
+        ),
+        (
+            "h3 gridDiskUnsafe -k=+4 -c85283473fffffff --table=/tmp/a=b",
+            Command::GridDiskUnsafe { cell, k: 4 },
+            "/tmp/a=b",
+        ),
+        (
+            "h3 gridDiskUnsafe --table= -k 2147483647 -c xyz",
+            Command::GridDiskUnsafe {
+                cell: None,
+                k: 2147483647,
+            },
+            "",
+        ),
+        (
+            "h3 gridDiskDistancesUnsafe -c 85283473fffffff -k3 --table Tabelle-\u{e4}.csv",
+            Command::GridDiskDistancesUnsafe { cell, k: 3 },
+            "Tabelle-\u{e4}.csv",
+        ),
+        (
+            "h3 gridRingUnsafe -k 7 --table=--table -c=85283473fffffff",
+            Command::GridRingUnsafe { cell, k: 7 },
+            "--table",
+        ),
+        (
+            "h3 gridRingUnsafe --table - -c 0 -k 0",
+            Command::GridRingUnsafe {
+                cell: Some(0),
+                k: 0,
+            },
+            "-",
+        ),
+    ];
+    for (line, command, path) in cases {
+        let answer = read(alloc, line)?;
+        assert!(rt; asks_over(&answer, command, path), "{line}");
+    }
+    Ok(())
+}
+
+#[test]
+fn keeps_a_path_as_it_is(rt: HostRuntime) -> Result<(), Fail> {
+    let alloc = rt.alloc();
+    let path = " ../two words/\t\u{1f5fa}/ ";
+    let words = vec![in alloc;
+        String::from_str(alloc, "h3")?,
+        String::from_str(alloc, "gridDiskUnsafe")?,
+        String::from_str(alloc, "-k")?,
+        String::from_str(alloc, "1")?,
+        String::from_str(alloc, "--table")?,
+        String::from_str(alloc, path)?,
+        String::from_str(alloc, "-c")?,
+        String::from_str(alloc, "85283473fffffff")?,
+    ]?;
+    let cell = Some(0x85283473fffffff);
+    let answer = read_words(alloc, words);
+    assert!(rt; asks_over(&answer, Command::GridDiskUnsafe { cell, k: 1 }, path));
+    Ok(())
+}
+
+#[test]
 fn refuses_other_words(rt: HostRuntime) -> Result<(), Fail> {
     let alloc = rt.alloc();
     let lines = [
@@ -131,6 +216,30 @@ fn refuses_other_words(rt: HostRuntime) -> Result<(), Fail> {
         "h3 compactCells -r 6",
         "h3 compactCells junk",
         "h3 uncompactCells -r 6 junk",
+        "h3 gridDiskUnsafe -c 0 -k 1",
+        "h3 gridDiskUnsafe -c 0 --table t",
+        "h3 gridDiskUnsafe -k 1 --table t",
+        "h3 gridDiskUnsafe -c 0 -k 1 --table",
+        "h3 gridDiskUnsafe -c 0 -k 1 --table t --table t",
+        "h3 gridDiskUnsafe -c 0 -k 1 -k 1 --table t",
+        "h3 gridDiskUnsafe -c 0 -c 0 -k 1 --table t",
+        "h3 gridDiskUnsafe -c 0 -k -1 --table t",
+        "h3 gridDiskUnsafe -c 0 -k=-1 --table t",
+        "h3 gridDiskUnsafe -c 0 -k 2147483648 --table t",
+        "h3 gridDiskUnsafe -c 0 -k one --table t",
+        "h3 gridDiskUnsafe -c 0 -k 1 -r 1 --table t",
+        "h3 gridDiskUnsafe -c 0 -k 1 --table t t",
+        "h3 gridDiskUnsafe -c 0 --k 1 --table t",
+        "h3 gridDiskUnsafe -c 0 -k 1 -t t",
+        "h3 gridDiskDistancesUnsafe -c 0 -k 1",
+        "h3 gridDiskDistancesUnsafe -c 0 -k 2147483648 --table t",
+        "h3 gridDiskDistancesUnsafe -c 0 -k 1 --table t --position 0",
+        "h3 gridRingUnsafe -k 1 --table t",
+        "h3 gridRingUnsafe -c 0 --table t",
+        "h3 gridRingUnsafe -c 0 -k -1 --table t",
+        "h3 gridRingUnsafe -c 0 -k 1 --table t --table=t",
+        "h3 getResolution -c 0 --table t",
+        "h3 uncompactCells -r 6 --table t",
         "h3 --version",
     ];
     for line in lines {
@@ -156,6 +265,9 @@ fn helps(rt: HostRuntime) -> Result<(), Fail> {
         "h3 childPosToCell --help",
         "h3 compactCells --help",
         "h3 uncompactCells -r 6 --help",
+        "h3 gridDiskUnsafe --help",
+        "h3 gridDiskDistancesUnsafe -k 1 --help",
+        "h3 gridRingUnsafe -h",
     ];
     for line in lines {
         assert!(rt;

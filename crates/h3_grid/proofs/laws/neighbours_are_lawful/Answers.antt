@@ -1,6 +1,6 @@
 use Rattle.h3_grid.proofs.InsideLaws.{SumLaws}
 use Rattle.h3_grid.proofs.LatticeLaws.{StepLawsHold}
-use Rattle.h3_grid.proofs.NeighbourLaws.{both_agree, directions_found, directions_part, neighbours_differ, neighbours_mutual}
+use Rattle.h3_grid.proofs.NeighbourLaws.{both_agree, directions_found, directions_part, neighbours_differ, neighbours_found, neighbours_mutual}
 use Rattle.h3_grid.proofs.laws.neighbours_are_lawful.Goals as goal
 
 steps : (c : goal.After-sums_are_lawful) → StepLawsHold
@@ -30,3 +30,7 @@ returns-clause-both c = λ link sound.
 pub returns-clause-differ : goal.returns-clause-differ
 returns-clause-differ c = λ link sound.
     neighbours_differ (steps c) (sums c) link sound c.numbers_tell_cells.ensures c.steps_are_lawful.ensures.part c.steps_are_lawful.ensures.move_on
+
+pub returns-clause-related : goal.returns-clause-related
+returns-clause-related c = λ link sound.
+    neighbours_found (steps c) (sums c) link sound c.numbers_tell_cells.ensures c.steps_are_lawful.ensures.part c.steps_are_lawful.ensures.move_on

@@ -13,5 +13,5 @@ returns-clause-mutual c = c.neighbours_are_lawful.ensures.mutual (link_of c.args
 pub returns-clause-both : goal.returns-clause-both
 returns-clause-both c = c.neighbours_are_lawful.ensures.both (link_of c.args.table.now) c.links_are_sound.ensures
 
-pub returns-clause-differ : goal.returns-clause-differ
-returns-clause-differ c = c.neighbours_are_lawful.ensures.differ (link_of c.args.table.now) c.links_are_sound.ensures
+pub returns-clause-related : goal.returns-clause-related
+returns-clause-related c = c.neighbours_are_lawful.ensures.related (link_of c.args.table.now) c.links_are_sound.ensures
