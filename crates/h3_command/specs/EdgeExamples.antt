@@ -8,8 +8,8 @@ use Rattle.h3_index.specs.Text.{text_of}
 use Rattle.h3_index.specs.declared.error.H3Error.TheVariants.{CellInvalid, DirEdgeInvalid, Failed, NotNeighbors, Pentagon, ResMismatch}
 use Rattle.h3_lattice.specs.Digits.{cell_of}
 use Rattle.h3_lattice.specs.Links.{Links}
-use Rattle.h3_grid.specs.DirectedEdges.{edge_between, edge_refusal, edges_from}
-use Rattle.h3_grid.specs.Neighbours.{are_neighbours, neighbour_refusal}
+use Rattle.h3_grid.specs.DirectedEdges.{edge_between, edges_from}
+use Rattle.h3_grid.specs.Neighbours.{are_neighbours, pair_refusal}
 use Rattle.h3_command.specs.Answer.{answer, refused, request, written}
 use Rattle.h3_command.specs.Answer.Request.{plain}
 use Rattle.h3_command.specs.Edges.{are_neighbor_cells, cells_to_directed_edge}
@@ -57,10 +57,10 @@ no_edge = refl
 -- cells of two resolutions; one cell given twice, also in a pentagon base cell; two, one of them in a pentagon base cell
 pairs_refused : (link : Links) → map (cells_to_directed_edge link) ((cell_of 20 (0 ∷ []), cell_of 20 []) ∷ (cell_of 20 [], cell_of 20 []) ∷ (cell_of 4 [], cell_of 4 []) ∷ (cell_of 4 [], cell_of 8 []) ∷ [])
     ≡ Err ResMismatch ∷ Err NotNeighbors ∷ Err NotNeighbors ∷ Err Pentagon ∷ []
-unfolding edge_between edge_refusal number_of
+unfolding edge_between pair_refusal number_of
 pairs_refused link = refl
 
 pairs_refused_too : (link : Links) → map (are_neighbor_cells link) ((cell_of 20 (0 ∷ []), cell_of 20 []) ∷ (cell_of 4 [], cell_of 8 []) ∷ [])
     ≡ Err ResMismatch ∷ Err Pentagon ∷ []
-unfolding are_neighbours neighbour_refusal number_of
+unfolding are_neighbours pair_refusal number_of
 pairs_refused_too link = refl
