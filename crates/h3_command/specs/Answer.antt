@@ -2,13 +2,14 @@
 use Rattle.std.specs.Prelude.{ℕ, Bool, true, false, List, [], ◌∷◌, ◌++◌, codes, decimal, Option, None, Some, Result, Ok, Err, if◌then◌else◌}
 use Rattle.std.specs.List.{flat_map}
 use Rattle.h3_index.specs.Cell.{Address, number_of}
+use Rattle.h3_index.specs.Edge.{DirectedEdge, edge_number}
 use Rattle.h3_index.specs.Text.{text_of}
 use Rattle.h3_index.specs.declared.error.H3Error.{H3Error}
-use Rattle.h3_index.specs.declared.error.H3Error.TheVariants.{Failed}
 use Rattle.h3_lattice.specs.Fields.{records_of}
 use Rattle.h3_lattice.specs.Links.{Links}
 use Rattle.h3_lattice.specs.Table.{links_of, table_fault}
 use Rattle.h3_lattice.specs.declared.error.TableError.{TableError}
+use Rattle.h3_command.specs.Edges.{are_neighbor_cells, cell_pair_of, cells_to_directed_edge, edge_of, get_directed_edge_destination, get_directed_edge_origin, is_valid_directed_edge, origin_to_directed_edges}
 use Rattle.h3_command.specs.Hierarchy.{cell_to_center_child, cell_to_child_pos, cell_to_children, cell_to_children_size, cell_to_parent, child_pos_to_cell}
 use Rattle.h3_command.specs.Inspection.{cell_of, get_base_cell_number, get_resolution, is_pentagon, is_res_class_iii, is_valid_cell}
 use Rattle.h3_command.specs.List.{listed_cells}
@@ -63,6 +64,14 @@ ring_line item = text_of (number_of item.0) ++ 32 ∷ decimal item.1 ++ 10 ∷ [
 abbrev pub cell_lines : List Address → List ℕ
 cell_lines cells = flat_map cell_line cells
 
+-- the text of the edge's number, and a line feed
+abbrev pub edge_line : DirectedEdge → List ℕ
+edge_line e = text_of (edge_number e) ++ 10 ∷ []
+
+-- a line for each edge
+abbrev pub edge_lines : List DirectedEdge → List ℕ
+edge_lines edges = flat_map edge_line edges
+
 -- the answer about what a function returns, or its error
 abbrev pub answer_or_error : {A : Type 0} → (A → Answer) → Result A H3Error → Answer
 answer_or_error about (Ok value) = about value
@@ -116,12 +125,12 @@ request (UncompactCells res) = of_list (λ cells. printed cell_lines (uncompact_
 request (GridDiskUnsafe cell k) = with_table (λ c link. answer_or_error (walked cell_line) (grid_disk_unsafe link c k)) (cell_of cell)
 request (GridDiskDistancesUnsafe cell k) = with_table (λ c link. answer_or_error (walked ring_line) (grid_disk_distances_unsafe link c k)) (cell_of cell)
 request (GridRingUnsafe cell k) = with_table (λ c link. answer_or_error (walked cell_line) (grid_ring_unsafe link c k)) (cell_of cell)
-request (AreNeighborCells cell to) = plain (printed truth_line (Err Failed))
-request (CellsToDirectedEdge cell to) = plain (printed truth_line (Err Failed))
-request (IsValidDirectedEdge edge) = plain (printed truth_line (Err Failed))
-request (GetDirectedEdgeOrigin edge) = plain (printed truth_line (Err Failed))
-request (GetDirectedEdgeDestination edge) = plain (printed truth_line (Err Failed))
-request (OriginToDirectedEdges cell) = plain (printed truth_line (Err Failed))
+request (AreNeighborCells cell to) = with_table (λ cells link. printed truth_line (are_neighbor_cells link cells)) (cell_pair_of cell to)
+request (CellsToDirectedEdge cell to) = with_table (λ cells link. printed edge_line (cells_to_directed_edge link cells)) (cell_pair_of cell to)
+request (IsValidDirectedEdge edge) = plain (printed truth_line (is_valid_directed_edge edge))
+request (GetDirectedEdgeOrigin edge) = plain (printed cell_line (get_directed_edge_origin edge))
+request (GetDirectedEdgeDestination edge) = with_table (λ e link. printed cell_line (get_directed_edge_destination link e)) (edge_of edge)
+request (OriginToDirectedEdges cell) = plain (printed edge_lines (origin_to_directed_edges cell))
 
 -- the list of cells is read from standard input
 abbrev pub reads_list : Request → Bool

@@ -1,6 +1,8 @@
 pub mod Answer
 pub mod Bases
 pub mod DiskCells
+pub mod EdgeExamples
+pub mod Edges
 pub mod Examples
 pub mod Hierarchy
 pub mod Inspection

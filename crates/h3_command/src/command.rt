@@ -107,13 +107,13 @@ pub enum Command {
         k: i32,
     },
 
-    /// Whether two cells are neighbors, over a base cell table.
+    /// Whether two cells are neighbours, over a base cell table.
     AreNeighborCells {
         cell: Option<u64>,
         to: Option<u64>,
     },
 
-    /// The directed edge from a cell to its neighbor, over a base cell table.
+    /// The edge that leaves a cell and leads to another, over a base cell table.
     CellsToDirectedEdge {
         cell: Option<u64>,
         to: Option<u64>,
@@ -124,17 +124,17 @@ pub enum Command {
         edge: Option<u64>,
     },
 
-    /// The cell that a directed edge starts from.
+    /// The cell that an edge leaves.
     GetDirectedEdgeOrigin {
         edge: Option<u64>,
     },
 
-    /// The cell that a directed edge leads to, over a base cell table.
+    /// The cell that an edge leads to, over a base cell table.
     GetDirectedEdgeDestination {
         edge: Option<u64>,
     },
 
-    /// The directed edges of a cell.
+    /// The edges that leave a cell.
     OriginToDirectedEdges {
         cell: Option<u64>,
     },

@@ -6,6 +6,7 @@ mod bases;
 mod command;
 mod counted;
 mod disk_cells;
+mod edges;
 #[cfg(test)]
 mod fakes;
 mod hierarchy;
@@ -16,6 +17,8 @@ mod refusal;
 mod resolutions;
 pub mod run;
 mod sets;
+#[cfg(test)]
+mod table_files;
 mod walks;
 mod write;
 

@@ -1,10 +1,10 @@
 //! The lines of answers.
 
 ghost use Rattle.std.specs.Prelude.{◌≡◌, ◌<◌, ◌++◌, ◌∷◌, [], ℕ, List, length};
-ghost use Rattle.h3_command.specs.Answer.{cell_line, number_line, ring_line, truth_line};
+ghost use Rattle.h3_command.specs.Answer.{cell_line, edge_line, number_line, ring_line, truth_line};
 
 use arrayvec::ArrayString;
-use h3_index::{Cell, write_index};
+use h3_index::{Cell, Edge, write_index};
 use itoa::Buffer;
 
 /// The room for a line.
@@ -55,6 +55,16 @@ impl Line for Cell {
     #[inline]
     fn put(&self, line: &mut ArrayString<ROOM>) {
         put_text(line, write_index(self.raw()).as_str());
+    }
+}
+
+impl Line for Edge {
+    ghost line_of = { edge_line };
+
+    #[inline]
+    fn put(&self, line: &mut ArrayString<ROOM>) {
+        let text = write_index(self.raw());
+        put_text(line, text.as_str());
     }
 }
 

@@ -1,11 +1,14 @@
 //! Running a command.
 
 ghost use Rattle.std.specs.Prelude.{◌≡◌, false};
-ghost use Rattle.h3_index.specs.declared.error.H3Error.{H3Error};
 ghost use Rattle.h3_command.specs.Answer.{reads_list, reads_table, request};
 ghost use Rattle.h3_command.specs.Run.{Ends, Reports, Runs, sink_use, source_use};
 
 use crate::command::Command;
+use crate::edges::{
+    are_neighbor_cells, cells_to_directed_edge, get_directed_edge_destination,
+    get_directed_edge_origin, is_valid_directed_edge, origin_to_directed_edges,
+};
 use crate::hierarchy::{
     cell_to_center_child, cell_to_child_pos, cell_to_children, cell_to_children_size,
     cell_to_parent, child_pos_to_cell,
@@ -18,14 +21,8 @@ use crate::resolutions::{get_num_cells, get_pentagons, get_res0_cells};
 use crate::sets::{compact_cells, uncompact_cells};
 use crate::walks::{grid_disk_distances_unsafe, grid_disk_unsafe, grid_ring_unsafe};
 use crate::write::{write_all, write_lines, write_result};
-use h3_index::{H3Error, Sink, Source};
+use h3_index::{Sink, Source};
 use std::alloc::Global;
-
-fn no_answer() -> Result<bool, H3Error>
-    ensures { result ≡ Err H3Error.Failed }
-{
-    Err(H3Error::Failed)
-}
 
 /// Does the work of a command, up to the line on standard error.
 fn perform<R: Source, T: Source, W: Sink>(
@@ -71,12 +68,22 @@ fn perform<R: Source, T: Source, W: Sink>(
             grid_disk_distances_unsafe(alloc, *cell, *k, table, out)
         }
         Command::GridRingUnsafe { cell, k } => grid_ring_unsafe(alloc, *cell, *k, table, out),
-        Command::AreNeighborCells { .. } => write_result(out, no_answer()),
-        Command::CellsToDirectedEdge { .. } => write_result(out, no_answer()),
-        Command::IsValidDirectedEdge { .. } => write_result(out, no_answer()),
-        Command::GetDirectedEdgeOrigin { .. } => write_result(out, no_answer()),
-        Command::GetDirectedEdgeDestination { .. } => write_result(out, no_answer()),
-        Command::OriginToDirectedEdges { .. } => write_result(out, no_answer()),
+        Command::AreNeighborCells { cell, to } => {
+            are_neighbor_cells(alloc, *cell, *to, table, out)
+        }
+        Command::CellsToDirectedEdge { cell, to } => {
+            cells_to_directed_edge(alloc, *cell, *to, table, out)
+        }
+        Command::IsValidDirectedEdge { edge } => write_result(out, is_valid_directed_edge(*edge)),
+        Command::GetDirectedEdgeOrigin { edge } => {
+            write_result(out, get_directed_edge_origin(*edge))
+        }
+        Command::GetDirectedEdgeDestination { edge } => {
+            get_directed_edge_destination(alloc, *edge, table, out)
+        }
+        Command::OriginToDirectedEdges { cell } => {
+            write_lines(out, origin_to_directed_edges(*cell)?)
+        }
     }
 }
 
@@ -101,8 +108,8 @@ pub fn report<E: Sink>(err: &mut E, ending: Result<(), Refusal>) -> u8
 /// of the base cell table, and 4 for a read or a write that failed.
 ///
 /// A command on a list of cells reads it from `input`, and one on a table reads that from `table`,
-/// once its index is a valid cell. The others read neither and take no memory. Where a walk over a
-/// table is refused on its way, the lines of the cells before that stand on `out`.
+/// once the indexes of its words are valid. The others read neither and take no memory. Where a
+/// walk over a table is refused on its way, the lines of the cells before that stand on `out`.
 pub fn run<R: Source, T: Source, W: Sink, E: Sink>(
     alloc: Global,
     command: &Command,

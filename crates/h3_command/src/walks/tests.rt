@@ -2,43 +2,10 @@ use crate::command::Command;
 use crate::fakes::{SlowSink, SlowSource};
 use crate::refusal::Refusal;
 use crate::run::{report, run};
+use crate::table_files::{assert_run, assert_unread, file_of, records_of, run_to, test_file};
 use h3_index::{is_pentagon_base, read_index};
-use h3_lattice::Direction;
-use h3_lattice::vectors::{TestTable, link};
-use std::process::Abort;
+use h3_lattice::vectors::TestTable;
 use std::test::Fail;
-
-/// The records of a test table: a base cell, the digit of a direction, the neighbour and the turns.
-fn records_of(rt: &HostRuntime, table: TestTable) -> Result<Vec<[u8; 4]>, Fail> {
-    let mut records = Vec::new(rt.alloc());
-    for base in 0..122u8 {
-        if !is_pentagon_base(base) {
-            for digit in 1..7u8 {
-                let direction = Direction::from_digit(digit).ok_or("no direction")?;
-                let (to, turns) = link(table, base, direction);
-                records.push([base, digit, to, turns])?;
-            }
-        }
-    }
-    Ok(records)
-}
-
-/// The file of a table with these records.
-fn file_of(rt: &HostRuntime, records: &[[u8; 4]]) -> Result<String, Fail> {
-    let mut text = String::new(rt.alloc());
-    text.push_str("base,dir,to,rot\n")?;
-    for [base, digit, to, turns] in records {
-        let line = format!(in rt.alloc(); "{base},{digit},{to},{turns}\n")?;
-        text.push_str(&line)?;
-    }
-    Ok(text)
-}
-
-/// The file of a test table.
-fn test_file(rt: &HostRuntime, table: TestTable) -> Result<String, Fail> {
-    let records = records_of(rt, table)?;
-    file_of(rt, &records)
-}
 
 /// Links along the ring of radius 2 around base cell 0: two out to it in the direction 4 (I), and
 /// the twelve around it. The last of them leads to base cell 16, and not to 2, with which the ring
@@ -100,28 +67,6 @@ fn ring(word: &str, k: i32) -> Command {
     Command::GridRingUnsafe { cell, k }
 }
 
-/// Asserts what a command over a table writes, its line on standard error and its exit status.
-fn assert_walk<R: Abort + AllocGlobal>(
-    rt: &R,
-    file: &str,
-    command: Command,
-    answer: (&str, &str, u8),
-) {
-    let (text, line, expected) = answer;
-    for most in [7, 65536] {
-        let mut input = SlowSource::new(b"", 1, 0);
-        let mut table = SlowSource::new(file.as_bytes(), most, 10000);
-        let mut out: SlowSink<512> = SlowSink::new(64, 100);
-        let mut err: SlowSink<64> = SlowSink::new(64, 100);
-        let alloc = rt.alloc();
-        let status = run(alloc, &command, &mut input, &mut table, &mut out, &mut err);
-        assert_eq!(rt; status, expected, "{command:?}");
-        assert!(rt; out.bytes() == text.as_bytes(), "{command:?}");
-        assert!(rt; err.bytes() == line.as_bytes(), "{command:?}");
-        assert!(rt; !input.failed(), "{command:?}");
-    }
-}
-
 /// The line of a walk that is refused.
 const PENTAGON: &str = "error 9: E_PENTAGON\n";
 
@@ -131,16 +76,16 @@ fn disks_are_written(rt: HostRuntime) -> Result<(), Fail> {
     let twisted = test_file(&rt, TestTable::Twisted)?;
     let inside = "85283473fffffff\n85283447fffffff\n8528347bfffffff\n85283463fffffff\n\
                   85283477fffffff\n8528340ffffffff\n8528340bfffffff\n";
-    assert_walk(&rt, &plain, disk("85283473fffffff", 1), (inside, "", 0));
+    assert_run(&rt, &plain, disk("85283473fffffff", 1), (inside, "", 0));
     let origin = "85283473fffffff\n";
-    assert_walk(&rt, &plain, disk("85283473fffffff", 0), (origin, "", 0));
+    assert_run(&rt, &plain, disk("85283473fffffff", 0), (origin, "", 0));
     let centres = "803dfffffffffff\n8055fffffffffff\n8053fffffffffff\n803bfffffffffff\n\
                    8025fffffffffff\n8027fffffffffff\n803ffffffffffff\n";
-    assert_walk(&rt, &plain, disk("803dfffffffffff", 1), (centres, "", 0));
-    assert_walk(&rt, &twisted, disk("803dfffffffffff", 1), (centres, "", 0));
+    assert_run(&rt, &plain, disk("803dfffffffffff", 1), (centres, "", 0));
+    assert_run(&rt, &twisted, disk("803dfffffffffff", 1), (centres, "", 0));
     let turned = "813d3ffffffffff\n81547ffffffffff\n813dbffffffffff\n813c3ffffffffff\n\
                   813d7ffffffffff\n813e7ffffffffff\n813efffffffffff\n";
-    assert_walk(&rt, &twisted, disk("813d3ffffffffff", 1), (turned, "", 0));
+    assert_run(&rt, &twisted, disk("813d3ffffffffff", 1), (turned, "", 0));
     Ok(())
 }
 
@@ -149,7 +94,7 @@ fn disks_are_written_with_their_rings(rt: HostRuntime) -> Result<(), Fail> {
     let plain = test_file(&rt, TestTable::Plain)?;
     let twisted = test_file(&rt, TestTable::Twisted)?;
     let origin = disk_distances("85283473fffffff", 0);
-    assert_walk(&rt, &plain, origin, ("85283473fffffff 0\n", "", 0));
+    assert_run(&rt, &plain, origin, ("85283473fffffff 0\n", "", 0));
     let centres = "803dfffffffffff 0\n8055fffffffffff 1\n8053fffffffffff 1\n803bfffffffffff 1\n\
                    8025fffffffffff 1\n8027fffffffffff 1\n803ffffffffffff 1\n8057fffffffffff 2\n\
                    806dfffffffffff 2\n806bfffffffffff 2\n8069fffffffffff 2\n8051fffffffffff 2\n\
@@ -157,7 +102,7 @@ fn disks_are_written_with_their_rings(rt: HostRuntime) -> Result<(), Fail> {
                    8011fffffffffff 2\n8029fffffffffff 2\n8041fffffffffff 2\n";
     for file in [&plain, &twisted] {
         let command = disk_distances("803dfffffffffff", 2);
-        assert_walk(&rt, file, command, (centres, "", 0));
+        assert_run(&rt, file, command, (centres, "", 0));
     }
     Ok(())
 }
@@ -168,12 +113,12 @@ fn rings_are_written(rt: HostRuntime) -> Result<(), Fail> {
     let twisted = test_file(&rt, TestTable::Twisted)?;
     let inside = "8528340bfffffff\n85283447fffffff\n8528347bfffffff\n85283463fffffff\n\
                   85283477fffffff\n8528340ffffffff\n";
-    assert_walk(&rt, &plain, ring("85283473fffffff", 1), (inside, "", 0));
+    assert_run(&rt, &plain, ring("85283473fffffff", 1), (inside, "", 0));
     let twelve = "8041fffffffffff\n8057fffffffffff\n806dfffffffffff\n806bfffffffffff\n\
                   8069fffffffffff\n8051fffffffffff\n8039fffffffffff\n8023fffffffffff\n\
                   800dfffffffffff\n800ffffffffffff\n8011fffffffffff\n8029fffffffffff\n";
     for file in [&plain, &twisted] {
-        assert_walk(&rt, file, ring("803dfffffffffff", 2), (twelve, "", 0));
+        assert_run(&rt, file, ring("803dfffffffffff", 2), (twelve, "", 0));
     }
     Ok(())
 }
@@ -184,16 +129,16 @@ fn the_beginning_of_a_refused_walk_is_written(rt: HostRuntime) -> Result<(), Fai
     let begun = "800bfffffffffff\n8023fffffffffff\n8021fffffffffff\n";
     for k in [1, i32::MAX] {
         let command = disk("800bfffffffffff", k);
-        assert_walk(&rt, &plain, command, (begun, PENTAGON, 1));
+        assert_run(&rt, &plain, command, (begun, PENTAGON, 1));
     }
     let begun = "800bfffffffffff 0\n8023fffffffffff 1\n8021fffffffffff 1\n";
     let command = disk_distances("800bfffffffffff", 1);
-    assert_walk(&rt, &plain, command, (begun, PENTAGON, 1));
+    assert_run(&rt, &plain, command, (begun, PENTAGON, 1));
     let begun = "800dfffffffffff\n8023fffffffffff\n8021fffffffffff\n";
     let command = ring("800bfffffffffff", 1);
-    assert_walk(&rt, &plain, command, (begun, PENTAGON, 1));
+    assert_run(&rt, &plain, command, (begun, PENTAGON, 1));
     let command = ring("800bfffffffffff", i32::MAX);
-    assert_walk(&rt, &plain, command, ("", PENTAGON, 1));
+    assert_run(&rt, &plain, command, ("", PENTAGON, 1));
     Ok(())
 }
 
@@ -204,7 +149,7 @@ fn a_ring_that_does_not_close_is_refused_after_its_cells(rt: HostRuntime) -> Res
                   800ffffffffffff\n8011fffffffffff\n8013fffffffffff\n8015fffffffffff\n\
                   8017fffffffffff\n8019fffffffffff\n801bfffffffffff\n801ffffffffffff\n";
     let command = ring("8001fffffffffff", 2);
-    assert_walk(&rt, &open, command, (twelve, PENTAGON, 1));
+    assert_run(&rt, &open, command, (twelve, PENTAGON, 1));
     Ok(())
 }
 
@@ -212,18 +157,18 @@ fn a_ring_that_does_not_close_is_refused_after_its_cells(rt: HostRuntime) -> Res
 fn walks_are_refused_before_they_begin(rt: HostRuntime) -> Result<(), Fail> {
     let plain = test_file(&rt, TestTable::Plain)?;
     let refused = ("", PENTAGON, 1);
-    assert_walk(&rt, &plain, disk("8009fffffffffff", 0), refused);
-    assert_walk(&rt, &plain, disk_distances("8009fffffffffff", 0), refused);
+    assert_run(&rt, &plain, disk("8009fffffffffff", 0), refused);
+    assert_run(&rt, &plain, disk_distances("8009fffffffffff", 0), refused);
     let origin = ("8009fffffffffff\n", "", 0);
-    assert_walk(&rt, &plain, ring("8009fffffffffff", 0), origin);
+    assert_run(&rt, &plain, ring("8009fffffffffff", 0), origin);
     let origin = ("8108bffffffffff\n", "", 0);
-    assert_walk(&rt, &plain, disk("8108bffffffffff", 0), origin);
-    assert_walk(&rt, &plain, disk("8108bffffffffff", 1), refused);
-    assert_walk(&rt, &plain, ring("8108bffffffffff", 1), refused);
+    assert_run(&rt, &plain, disk("8108bffffffffff", 0), origin);
+    assert_run(&rt, &plain, disk("8108bffffffffff", 1), refused);
+    assert_run(&rt, &plain, ring("8108bffffffffff", 1), refused);
     let negative = ("", "error 2: E_DOMAIN\n", 1);
-    assert_walk(&rt, &plain, disk("8009fffffffffff", -1), negative);
-    assert_walk(&rt, &plain, disk_distances("85283473fffffff", -1), negative);
-    assert_walk(&rt, &plain, ring("8009fffffffffff", -1), negative);
+    assert_run(&rt, &plain, disk("8009fffffffffff", -1), negative);
+    assert_run(&rt, &plain, disk_distances("85283473fffffff", -1), negative);
+    assert_run(&rt, &plain, ring("8009fffffffffff", -1), negative);
     Ok(())
 }
 
@@ -233,7 +178,7 @@ fn tables_are_refused(rt: HostRuntime) -> Result<(), Fail> {
     let mut records = records_of(&rt, TestTable::Plain)?;
     let _last = records.pop();
     let file = file_of(&rt, &records)?;
-    assert_walk(&rt, &file, command, ("", "table: missing\n", 3));
+    assert_run(&rt, &file, command, ("", "table: missing\n", 3));
     let mut records = records_of(&rt, TestTable::Plain)?;
     for record in records.iter_mut() {
         if record[0] == 0 && record[1] == 1 {
@@ -241,9 +186,9 @@ fn tables_are_refused(rt: HostRuntime) -> Result<(), Fail> {
         }
     }
     let file = file_of(&rt, &records)?;
-    assert_walk(&rt, &file, command, ("", "table: reversal 0 1\n", 3));
+    assert_run(&rt, &file, command, ("", "table: reversal 0 1\n", 3));
     let file = test_file(&rt, TestTable::Skew)?;
-    assert_walk(&rt, &file, command, ("", "table: corner 0 1\n", 3));
+    assert_run(&rt, &file, command, ("", "table: corner 0 1\n", 3));
     let files = [
         ("base,dir,to,rot\n4,1,0,0\n", "table: range 2\n"),
         ("", "table: form 1\n"),
@@ -253,7 +198,7 @@ fn tables_are_refused(rt: HostRuntime) -> Result<(), Fail> {
         ),
     ];
     for (file, line) in files {
-        assert_walk(&rt, file, command, ("", line, 3));
+        assert_run(&rt, file, command, ("", line, 3));
     }
     let mut records = records_of(&rt, TestTable::Plain)?;
     for record in records.iter_mut() {
@@ -262,7 +207,7 @@ fn tables_are_refused(rt: HostRuntime) -> Result<(), Fail> {
         }
     }
     let file = file_of(&rt, &records)?;
-    assert_walk(&rt, &file, command, ("", "table: neighbours 0\n", 3));
+    assert_run(&rt, &file, command, ("", "table: neighbours 0\n", 3));
     Ok(())
 }
 
@@ -276,9 +221,9 @@ fn a_table_that_cannot_be_opened_is_reported(rt: HostRuntime) {
 #[test]
 fn the_table_is_judged_before_the_walk(rt: HostRuntime) {
     let empty = ("", "table: form 1\n", 3);
-    assert_walk(&rt, "", disk("8009fffffffffff", -1), empty);
-    assert_walk(&rt, "", disk_distances("8009fffffffffff", 0), empty);
-    assert_walk(&rt, "", ring("8108bffffffffff", 1), empty);
+    assert_run(&rt, "", disk("8009fffffffffff", -1), empty);
+    assert_run(&rt, "", disk_distances("8009fffffffffff", 0), empty);
+    assert_run(&rt, "", ring("8108bffffffffff", 1), empty);
 }
 
 #[test]
@@ -289,15 +234,7 @@ fn the_index_is_judged_before_the_table(rt: HostRuntime) {
     ];
     for (word, line) in indexes {
         for command in [disk(word, -1), disk_distances(word, -1), ring(word, -1)] {
-            let mut input = SlowSource::new(b"", 1, 0);
-            let mut table = SlowSource::new(b"", 1, 0);
-            let mut out: SlowSink<64> = SlowSink::new(64, 0);
-            let mut err: SlowSink<64> = SlowSink::new(64, 100);
-            let alloc = rt.alloc();
-            let status = run(alloc, &command, &mut input, &mut table, &mut out, &mut err);
-            assert_eq!(&rt; status, 1, "{command:?}");
-            assert!(&rt; err.bytes() == line.as_bytes(), "{command:?}");
-            assert!(&rt; !table.failed(), "{command:?}");
+            assert_unread(&rt, command, line);
         }
     }
 }
@@ -318,20 +255,6 @@ fn a_read_fault_of_the_table_is_reported(rt: HostRuntime) -> Result<(), Fail> {
         assert!(&rt; err.bytes() == b"fault: read\n".as_slice());
     }
     Ok(())
-}
-
-/// Runs a command over a table, and gives its line on standard error and its exit status.
-fn run_to<const N: usize>(
-    rt: &HostRuntime,
-    file: &str,
-    command: Command,
-    out: &mut SlowSink<N>,
-) -> (SlowSink<64>, u8) {
-    let mut input = SlowSource::new(b"", 1, 0);
-    let mut table = SlowSource::new(file.as_bytes(), 65536, 100);
-    let mut err: SlowSink<64> = SlowSink::new(64, 100);
-    let status = run(rt.alloc(), &command, &mut input, &mut table, out, &mut err);
-    (err, status)
 }
 
 #[test]

@@ -1,0 +1,29 @@
+use Rattle.std.proofs.Common.{refl}
+use Rattle.std.proofs.KnownBytes.{Keeps-refl}
+use Rattle.std.proofs.lemmas.Result.{err_from_is_err_and}
+use Rattle.h3_index.specs.Cell.{Address}
+use Rattle.h3_lattice.specs.BaseTable.{link_of}
+use Rattle.h3_lattice.specs.Links.{Links}
+use Rattle.h3_command.specs.Answer.{Answer, truth_line, printed}
+use Rattle.h3_command.specs.Edges.{are_neighbor_cells}
+use Rattle.h3_command.proofs.Endings.{table_answered, table_refused_so, value_refused}
+use Rattle.h3_command.proofs.edges.are_neighbor_cells.Goals as goal
+
+-- the answer about two cells and the links of a table
+abbrev about : Address × Address → Links → Answer
+about cells link = printed truth_line (are_neighbor_cells link cells)
+
+pub returns-in_err-cell-clause-ends : goal.returns-in_err-cell-clause-ends
+returns-in_err-cell-clause-ends g c input =
+    let p = err_from_is_err_and c.from_residual.result c.from_residual.ensures.1 in
+    rw (p.1, p.2) (value_refused about _ _ input _ _ c.in_err-cell.ensures (Keeps-refl _, refl))
+
+pub returns-in_err-table-clause-ends : goal.returns-in_err-table-clause-ends
+returns-in_err-table-clause-ends g c input =
+    let p = err_from_is_err_and c.from_residual-in_err-table.result c.from_residual-in_err-table.ensures.1 in
+    rw (p.1, p.2) (table_refused_so about _ _ _ input _ _ c.in_ok-cell.ensures c.in_err-table.ensures.refused (λ other. c.in_err-table.ensures.kept (λ is. other (cc is))) (Keeps-refl _, refl))
+
+pub returns-clause-ends : goal.returns-clause-ends
+returns-clause-ends g c input =
+    let (file, held, short, none, same) = c.in_ok-table.ensures.accepted in
+    table_answered about _ _ (link_of c.in_ok-table.table) _ input _ _ c.in_ok-cell.ensures file held none same (c.in_ok-table.ensures.kept (λ is. cc is)) (rw c.are_neighbors.ensures.is at c.write_result.ensures)
