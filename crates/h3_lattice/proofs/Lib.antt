@@ -1,6 +1,7 @@
 pub mod ByteLaws
 pub mod CarryLaws
 pub mod DivisionLaws
+pub mod EntryLaws
 pub mod ExpansionLaws
 pub mod FaultLaws
 pub mod FieldLaws

@@ -2,6 +2,7 @@
 //! cells' neighbours. [`vectors`] has the test tables.
 #![tactic(auto)]
 
+mod carries;
 mod checks;
 mod class;
 mod counted;
