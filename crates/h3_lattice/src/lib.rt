@@ -8,7 +8,6 @@ mod class;
 mod counted;
 mod digits;
 mod direction;
-mod eisenstein;
 mod error;
 mod fields;
 pub mod laws;
