@@ -1,5 +1,5 @@
 -- The carry tables, entry by entry.
-use Rattle.std.proofs.Common.{◌≡◌, ℕ, zero, suc, ◌+◌, ◌-◌, ◌≤◌, ◌<◌, nat_lt, true, ltb-true, refl, arith, sym, ◌∙◌, Option, Some, None, List, [], ◌∷◌, slice_index_or}
+use Rattle.std.proofs.Common.{◌≡◌, ℕ, zero, suc, ◌-◌, ◌≤◌, ◌<◌, nat_lt, true, ltb-true, arith, sym, ◌∙◌, Option, None, List, [], slice_index_or}
 use Rattle.h3_lattice.specs.declared.carries.TheConstants.{CARRIES_THREE, CARRIES_TWO}
 use Rattle.h3_lattice.specs.declared.direction.Direction.{Direction}
 use Rattle.h3_lattice.specs.declared.class.Class.{Class}

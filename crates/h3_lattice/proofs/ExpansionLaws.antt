@@ -1,5 +1,5 @@
 -- Expansions: one at each resolution, and the sum of a place and a unit.
-use Rattle.std.proofs.Common.{◌≡◌, ℕ, zero, suc, ◌+◌, ◌<◌, ◌++◌, refl, arith, sym, ap, ◌∙◌, Option, Some, List, [], ◌∷◌, length, map}
+use Rattle.std.proofs.Common.{◌≡◌, ℕ, zero, suc, ◌+◌, ◌++◌, refl, arith, sym, ap, ◌∙◌, Option, Some, List, [], ◌∷◌, length, map}
 use Rattle.std.proofs.lemmas.List.{length-map}
 use Rattle.std.specs.Int.Digits.{AllBelowBase}
 use Rattle.h3_lattice.specs.declared.direction.Direction.{Direction}

@@ -1,14 +1,9 @@
 -- Linear equations of Eisenstein integers.
-use Rattle.std.proofs.Common.{◌≡◌, ◌+◌, ◌*◌, ◌^◌, ◌≤◌, lit<, ℕ, zero, suc, arith, ap, refl, sym, ◌∙◌, ℤ, pos, ◌-ℤ◌, ◌*ℤ◌}
-use Rattle.std.proofs.Math.Nat.{one-le-pow, pow-le-pow_right}
-use Rattle.std.proofs.lemmas.Nat.{pow-add}
+use Rattle.std.proofs.Common.{◌≡◌, ◌+◌, ◌*◌, ℕ, zero, suc, arith, ap, refl, sym, ◌∙◌, ℤ, pos, ◌-ℤ◌, ◌*ℤ◌}
 use borrow.Author.Differences.{up, down, same_in, same_out, sum_is_lem, neg_is, product_is, le_out, at_most_in}
-use Rattle.h3_lattice.specs.declared.class.Class.{Class}
-use Rattle.h3_lattice.specs.declared.class.Class.TheVariants.{Two, Three}
 use Rattle.h3_lattice.specs.declared.direction.Direction.{Direction}
 use Rattle.h3_lattice.specs.declared.direction.Direction.TheVariants.{K, J, JK, I, IK, IJ}
-use Rattle.h3_lattice.specs.Eisenstein.{Eisenstein, eisenstein, sum_of, product_of}
-use Rattle.h3_lattice.specs.Class.{multiplier}
+use Rattle.h3_lattice.specs.Eisenstein.{Eisenstein, eisenstein, product_of}
 use Rattle.h3_lattice.specs.Direction.{turned, turned_once, turns, unit_of}
 
 pub point_in : (x y : Eisenstein) → (up x.a + down y.a ≡ up y.a + down x.a) × (up x.b + down y.b ≡ up y.b + down x.b) → x ≡ y

@@ -6,7 +6,7 @@
 use crate::direction::Direction;
 
 /// The carries of the odd resolutions.
-pub const CARRIES_THREE: [[(u8, Option<Direction>); 6]; 7] = [
+pub static CARRIES_THREE: [[(u8, Option<Direction>); 6]; 7] = [
     [
         (1, None),
         (2, None),
@@ -66,7 +66,7 @@ pub const CARRIES_THREE: [[(u8, Option<Direction>); 6]; 7] = [
 ];
 
 /// The carries of the even resolutions.
-pub const CARRIES_TWO: [[(u8, Option<Direction>); 6]; 7] = [
+pub static CARRIES_TWO: [[(u8, Option<Direction>); 6]; 7] = [
     [
         (1, None),
         (2, None),

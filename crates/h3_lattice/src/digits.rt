@@ -36,7 +36,7 @@ impl Model for Digits {
 }
 
 /// A row for each number of turns from 0 on, in it each digit turned so often.
-const TURNED: [[u8; 7]; 6] = [
+static TURNED: [[u8; 7]; 6] = [
     [0, 1, 2, 3, 4, 5, 6],
     [0, 5, 3, 1, 6, 4, 2],
     [0, 4, 1, 5, 2, 6, 3],

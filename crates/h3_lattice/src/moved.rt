@@ -33,11 +33,7 @@ fn carried_into(cell: Cell, direction: Direction) -> (Cell, Option<Direction>)
     if resolution == 0 {
         return (cell, Some(direction));
     }
-    let (digit, carried) = carry(
-        Class::at(resolution),
-        cell.digit(resolution),
-        direction,
-    );
+    let (digit, carried) = carry(Class::at(resolution), cell.digit(resolution), direction);
     let coarser = cell.cut(resolution - 1);
     match carried {
         None => (coarser.child(digit), None),

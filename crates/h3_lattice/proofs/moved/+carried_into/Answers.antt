@@ -1,6 +1,5 @@
-use Rattle.std.proofs.Common.{◌≡◌, ◌<◌, ◌-◌, ◌∷◌, [], ◌++◌, false, length, take, arith, ap, sym, subst, ◌∙◌, None}
+use Rattle.std.proofs.Common.{◌<◌, ◌-◌, length, take, arith}
 use Rattle.std.proofs.lemmas.List.{length-take-le}
-use Rattle.h3_index.specs.Cell.{Address, is_pentagon_base}
 use Rattle.h3_lattice.specs.Moved.{IsSum}
 use Rattle.h3_lattice.proofs.SumLaws.{ends_here, goes_on}
 use Rattle.h3_lattice.proofs.moved.+carried_into.Goals as goal

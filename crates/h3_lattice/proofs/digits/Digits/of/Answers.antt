@@ -1,4 +1,3 @@
-use Rattle.std.proofs.Common.{◌∙◌}
 use Rattle.h3_lattice.proofs.PackedLaws.{digits_of_cell, made_is, made_packed, packed-cell}
 use Rattle.h3_lattice.proofs.digits.Digits.of.Goals as goal
 

@@ -1,4 +1,4 @@
-use Rattle.std.proofs.Common.{◌≡◌, ◌+◌, ◌∷◌, [], ◌++◌, length, arith, ap, ◌∙◌, length-append, sym}
+use Rattle.std.proofs.Common.{◌≡◌, ◌+◌, ◌∷◌, [], ◌++◌, length, arith, length-append}
 use Rattle.h3_lattice.specs.Digits.{IsDigits}
 use Rattle.h3_lattice.proofs.PackedLaws.{IsPushForm, digits_push, held_digits, held_is, held_long, made_is, made_packed, push_form}
 use Rattle.h3_lattice.proofs.digits.Digits.push.Goals as goal
