@@ -55,7 +55,7 @@ fn turned_digit(digit: u8, n: u8) -> u8
 
 impl Digits {
     /// The list of no digits, that of resolution 0.
-    pub(crate) fn empty() -> Digits
+    fn empty() -> Digits
         ensures { result ≡ [] }
     {
         Digits {
@@ -76,7 +76,7 @@ impl Digits {
     }
 
     /// The list with one more digit, that of the next finer resolution.
-    pub(crate) fn push(self, digit: u8) -> Digits
+    fn push(self, digit: u8) -> Digits
         requires room { length self < 15 }
         requires small { digit < 7 }
         ensures { result ≡ self ++ digit ∷ [] }
