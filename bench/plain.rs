@@ -1,7 +1,8 @@
 //! The plain Rust programs that the command h3 is measured against: the same work over the same kinds of buffers,
 //! with no proof. `plain valid CELL`, `plain children CELL RES`, `plain uncompact RES` and `plain compact` (cells on
 //! standard input), `plain positions COUNT` (that many positions and back), `plain table` (a table file) and
-//! `plain tables COUNT` (that many readings of the table file on standard input), `plain disk CELL K TABLE` and
+//! `plain tables COUNT` (that many readings of the table file on standard input), `plain steps COUNT` (that many times
+//! round the ring of radius 1000, over the table on standard input), `plain disk CELL K TABLE` and
 //! `plain ring CELL K TABLE`.
 //!
 //! Lists to be compacted: `plain first COUNT CELL RES` (the first children), `plain shuffled CELL RES` (all children in a
@@ -390,6 +391,13 @@ fn main() -> io::Result<()> {
                 sum += u64::from(to) + u64::from(turns);
             }
             writeln!(out, "{sum}")?;
+        }
+        ["steps", rounds] => {
+            let mut text = Vec::new();
+            io::stdin().lock().read_to_end(&mut text)?;
+            let links = read_table(&text).expect("a table");
+            let rounds = rounds.parse().expect("a number");
+            writeln!(out, "{}", walks::rounds(&links, 0x8f2800000000000, rounds))?;
         }
         [shape @ ("disk" | "ring"), cell, k, table] => {
             let links = read_table(&fs::read(table)?).expect("a table");

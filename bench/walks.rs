@@ -86,6 +86,20 @@ pub fn disk(out: &mut impl Write, links: &Links, origin: u64, k: u32) -> io::Res
     Ok(())
 }
 
+/// Goes so many times round the ring of radius 1000 by 6000 steps, and sums the cells.
+pub fn rounds(links: &Links, origin: u64, count: u64) -> u64 {
+    let (mut cell, mut sum) = (origin, 0u64);
+    for _ in 0..count {
+        for side in SIDES {
+            for _ in 0..1000 {
+                cell = step(links, cell, side, 0).expect("a hexagon base cell").0;
+                sum = sum.wrapping_add(cell);
+            }
+        }
+    }
+    sum
+}
+
 pub fn ring(out: &mut impl Write, links: &Links, origin: u64, k: u32) -> io::Result<()> {
     let (mut cell, mut rotation) = (origin, 0);
     for _ in 0..k {

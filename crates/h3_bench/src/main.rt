@@ -1,8 +1,10 @@
 //! Loops over the library for `bench/run`, which measures them against plain Rust. `h3_bench COUNT` goes from so many
-//! positions to their cells and back; `h3_bench COUNT tables` reads the table on standard input so many times. Each
-//! prints a sum of what it found.
+//! positions to their cells and back; `h3_bench COUNT tables` reads the table on standard input so many times;
+//! `h3_bench COUNT steps` reads it once and goes so many times round the ring of radius 1000 by 6000 steps. Each prints
+//! a sum of what it found.
 #![tactic(auto)]
 
+use h3_grid::step;
 use h3_index::{Cell, H3Error, Streamed};
 use h3_lattice::{BaseTable, Direction, TableError};
 use h3_tree::{child_at, child_pos};
@@ -37,6 +39,69 @@ fn read_tables(alloc: Global, bytes: &[u8], count: u64) -> Result<u64, TableErro
     Ok(sum)
 }
 
+/// The directions of the sides of a ring.
+const SIDES: [Direction; 6] = [
+    Direction::J,
+    Direction::JK,
+    Direction::K,
+    Direction::IK,
+    Direction::I,
+    Direction::IJ,
+];
+
+/// Takes a thousand steps in a direction, and adds the cells to a sum.
+fn side(
+    table: &BaseTable,
+    from: Cell,
+    direction: Direction,
+    sum: u64,
+) -> Result<(Cell, u64), H3Error> {
+    let mut cell = from;
+    let mut total = sum;
+    for _step in 0..1000 {
+        let (next, _rotation) = step(table, cell, direction, 0)?;
+        cell = next;
+        total = total.wrapping_add(next.raw());
+    }
+    Ok((cell, total))
+}
+
+/// Goes once round a ring of radius 1000 from a cell on it, and adds the cells to a sum.
+fn round(table: &BaseTable, from: Cell, sum: u64) -> Result<(Cell, u64), H3Error> {
+    let mut cell = from;
+    let mut total = sum;
+    for direction in SIDES {
+        let (next, more) = side(table, cell, direction, total)?;
+        cell = next;
+        total = more;
+    }
+    Ok((cell, total))
+}
+
+/// Goes so many times round the ring.
+fn rounds(table: &BaseTable, count: u64) -> Result<u64, H3Error> {
+    let mut cell = Cell::new(0x8f2800000000000)?;
+    let mut total: u64 = 0;
+    for _round in 0..count {
+        let (next, more) = round(table, cell, total)?;
+        cell = next;
+        total = more;
+    }
+    Ok(total)
+}
+
+/// Goes so many times round the ring, over the table on standard input.
+fn steps(rt: &HostRuntime, count: u64) -> io::Result<()> {
+    let mut source = Streamed::new(rt.stdin());
+    match BaseTable::read(rt.alloc(), &mut source) {
+        Ok(table) => match rounds(&table, count) {
+            Ok(sum) => println!(rt; "{sum}"),
+            Err(error) => println!(rt; "{error}"),
+        },
+        Err(error) => println!(rt; "{error}"),
+    }
+}
+
 /// Reads the table on standard input so many times.
 fn tables(rt: &HostRuntime, count: u64) -> io::Result<()> {
     let mut bytes = Vec::new(rt.alloc());
@@ -62,6 +127,7 @@ fn main(rt: HostRuntime) -> io::Result<()> {
         None => 0,
     };
     match words.next() {
+        Some(word) if word.as_str() == "steps" => steps(&rt, count),
         Some(_) => tables(&rt, count),
         None => positions(&rt, count),
     }

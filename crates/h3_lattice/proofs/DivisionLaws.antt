@@ -5,9 +5,9 @@ use Rattle.h3_lattice.specs.declared.direction.Direction.{Direction}
 use Rattle.h3_lattice.specs.declared.direction.Direction.TheVariants.{K, J, JK, I, IK, IJ}
 use Rattle.h3_lattice.specs.declared.class.Class.{Class}
 use Rattle.h3_lattice.specs.declared.class.Class.TheVariants.{Two, Three}
-use Rattle.h3_lattice.specs.Eisenstein.{Eisenstein, eisenstein, sum_of, product_of, IsWithin}
+use Rattle.h3_lattice.specs.Eisenstein.{Eisenstein, eisenstein, sum_of, product_of}
 use Rattle.h3_lattice.specs.Direction.{digit_or_zero, digit_value, direction_of, value_of}
-use Rattle.h3_lattice.specs.Class.{multiplier, Leaves, LeavesDigit}
+use Rattle.h3_lattice.specs.Class.{multiplier}
 use Rattle.h3_lattice.proofs.LinearLaws.{points}
 
 -- ---- digits and directions
@@ -119,6 +119,14 @@ one_digit c z z' d d' h h' e =
 
 -- ---- a digit and a quotient
 
+-- t leaves r modulo 7
+abbrev Leaves : ℤ → ℕ → Type 0
+Leaves t r = (m : ℤ) × (t ≡ pos 7 *ℤ m +ℤ pos r)
+
+-- z leaves a digit: they differ by a multiple of the multiplier
+abbrev LeavesDigit : Class → Eisenstein → ℕ → Type 0
+LeavesDigit c z digit = (q : Eisenstein) × (z ≡ sum_of (product_of (multiplier c) q) (digit_value digit))
+
 -- the quotient of z, where x is taken off and 7 * m is the form of what is left
 abbrev quotient_at : Class → Eisenstein → ℤ → Eisenstein → Eisenstein
 quotient_at Three z m x = eisenstein (pos 3 *ℤ m -ℤ (z.b -ℤ x.b)) m
@@ -129,7 +137,7 @@ divided Three z x m h = omega (arith, points)
 divided Two z x m h = omega (arith, points)
 
 -- what a digit leaves that has the remainder of z
-pub leaves_digit : (c : Class) (z : Eisenstein) (r : ℕ) → r ≤ 6 → Leaves (remainder_form c z) r → LeavesDigit c z (digit_or_zero (with_remainder c r))
+leaves_digit : (c : Class) (z : Eisenstein) (r : ℕ) → r ≤ 6 → Leaves (remainder_form c z) r → LeavesDigit c z (digit_or_zero (with_remainder c r))
 leaves_digit c z r h (m, e) =
     let x = with_remainder c r in
     let s = remainder_is c x in
@@ -138,7 +146,7 @@ leaves_digit c z r h (m, e) =
     let g : remainder_form c z ≡ pos 7 *ℤ n +ℤ remainder_form c (value_of x) = omega (arith, points, s.form) in
     (quotient_at c z n (value_of x), divided c z (value_of x) n g ∙ ap (λ y. sum_of (product_of (multiplier c) (quotient_at c z n (value_of x))) (value_of y)) (sym (direction_of-digit_or_zero x)))
 
-pub remainder_leaves : (t : ℤ) → Leaves t (nat_abs (int_rem_euclid t (pos 7)))
+remainder_leaves : (t : ℤ) → Leaves t (nat_abs (int_rem_euclid t (pos 7)))
 remainder_leaves (pos n) = (pos (n / 7), omega (arith, points))
 remainder_leaves (negsuc n) = (negsuc (n / 7), omega (arith, points))
 
@@ -158,40 +166,3 @@ division c z =
     let r = nat_abs (int_rem_euclid (remainder_form c z) (pos 7)) in
     let q = leaves_digit c z r (remainder_small (remainder_form c z)) (remainder_leaves (remainder_form c z)) in
     record { digit = digit_or_zero (with_remainder c r); small = digit_or_zero-lt (with_remainder c r); quotient = q.0; is = q.1 }
-
--- ---- sevenths of a multiple
-
-pub times_three : (z : Eisenstein) (x y : ℤ) (q : Eisenstein) → z ≡ product_of (multiplier Three) q → pos 3 *ℤ z.a -ℤ z.b ≡ pos 7 *ℤ x → z.a +ℤ pos 2 *ℤ z.b ≡ pos 7 *ℤ y → z ≡ product_of (multiplier Three) (eisenstein x y)
-times_three z x y q e f g = omega (arith, points)
-
-pub times_two : (z : Eisenstein) (x y : ℤ) (q : Eisenstein) → z ≡ product_of (multiplier Two) q → pos 2 *ℤ z.a +ℤ z.b ≡ pos 7 *ℤ x → pos 3 *ℤ z.b -ℤ z.a ≡ pos 7 *ℤ y → z ≡ product_of (multiplier Two) (eisenstein x y)
-times_two z x y q e f g = omega (arith, points)
-
-pub sevenths_three : (z q : Eisenstein) → z ≡ product_of (multiplier Three) q → (pos 3 *ℤ z.a -ℤ z.b ≡ pos 7 *ℤ q.a) × (z.a +ℤ pos 2 *ℤ z.b ≡ pos 7 *ℤ q.b)
-sevenths_three z q e = (omega (arith, points), omega (arith, points))
-
-pub sevenths_two : (z q : Eisenstein) → z ≡ product_of (multiplier Two) q → (pos 2 *ℤ z.a +ℤ z.b ≡ pos 7 *ℤ q.a) × (pos 3 *ℤ z.b -ℤ z.a ≡ pos 7 *ℤ q.b)
-sevenths_two z q e = (omega (arith, points), omega (arith, points))
-
--- ---- the code's division
-
-pub taken_off : (c : Class) (z y x : Eisenstein) → z ≡ sum_of y x → (q : Eisenstein) × (z ≡ sum_of (product_of (multiplier c) q) x) → (q : Eisenstein) × (y ≡ product_of (multiplier c) q)
-taken_off c z y x e (q, f) = (q, other_part (product_of (multiplier c) q) (sym e ∙ f))
-  where
-    other_part : (p : Eisenstein) → sum_of y x ≡ sum_of p x → y ≡ p
-    other_part p g = omega (arith, points)
-
--- a quotient is nearer to 0
-pub quotient_within : (c : Class) (k : ℕ) (z y x q : Eisenstein) → 2 ≤ k → IsWithin k z → IsWithin 1 x → z ≡ sum_of y x → y ≡ product_of (multiplier c) q → IsWithin k q
-quotient_within Three k z y x q h w v e f = record {
-  a_above = omega (arith, points);
-  a_below = omega (arith, points);
-  b_above = omega (arith, points);
-  b_below = omega (arith, points);
-}
-quotient_within Two k z y x q h w v e f = record {
-  a_above = omega (arith, points);
-  a_below = omega (arith, points);
-  b_above = omega (arith, points);
-  b_below = omega (arith, points);
-}

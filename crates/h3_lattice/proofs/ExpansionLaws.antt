@@ -1,6 +1,5 @@
 -- Expansions: one at each resolution, and the sum of a place and a unit.
-use Rattle.std.proofs.Math.Seq.{drop-cons}
-use Rattle.std.proofs.Common.{◌≡◌, ℕ, zero, suc, ◌+◌, ◌<◌, ◌++◌, drop, get_or, add-one, refl, arith, sym, ap, ◌∙◌, Option, Some, List, [], ◌∷◌, length, map}
+use Rattle.std.proofs.Common.{◌≡◌, ℕ, zero, suc, ◌+◌, ◌++◌, refl, arith, sym, ap, ◌∙◌, Option, Some, List, [], ◌∷◌, length, map}
 use Rattle.std.proofs.lemmas.List.{length-map}
 use Rattle.std.specs.Int.Digits.{AllBelowBase}
 use Rattle.h3_lattice.specs.declared.direction.Direction.{Direction}
@@ -8,11 +7,11 @@ use Rattle.h3_lattice.specs.declared.class.Class.{Class}
 use Rattle.h3_lattice.specs.declared.class.Class.TheVariants.{Two, Three}
 use Rattle.h3_lattice.specs.Eisenstein.{Eisenstein, product_of, sum_of, zero_point}
 use Rattle.h3_lattice.specs.Direction.{digit_or_zero, digit_value, direction_of, unit_of, value_of}
-use Rattle.h3_lattice.specs.Class.{class_at, multiplier, IsCarried}
+use Rattle.h3_lattice.specs.Class.{class_at, multiplier}
 use Rattle.h3_lattice.specs.Expansion.{multiplier_at, place_from, place, scaled, IsExpansion, ExpansionsAreUnique, sum_from, PlacesAreSums}
 use Rattle.h3_lattice.proofs.LinearLaws.{points}
-use Rattle.h3_lattice.proofs.DivisionLaws.{digit_or_zero-lt, direction_of-digit_or_zero, one_digit, one_division, division}
-use Rattle.h3_lattice.proofs.CarryLaws.{carried, carried_is, carried_into, carried_into_is}
+use Rattle.h3_lattice.proofs.DivisionLaws.{digit_or_zero-lt, direction_of-digit_or_zero, one_digit, division}
+use Rattle.h3_lattice.proofs.CarryLaws.{carried_into, carried_into_is}
 
 -- ---- a part that is added at the coarse end
 
@@ -27,7 +26,7 @@ place_from-sum n x y (d ∷ ds) =
     ap (λ z. place_from (n + 1) z ds) (further c x y (digit_value d))
     ∙ place_from-sum (n + 1) (product_of (multiplier c) x) (sum_of (product_of (multiplier c) y) (digit_value d)) ds
 
-sum-zero : (x : Eisenstein) → x ≡ sum_of x zero_point
+pub sum-zero : (x : Eisenstein) → x ≡ sum_of x zero_point
 sum-zero x = omega (arith, points)
 
 pub zero-sum : (x : Eisenstein) → sum_of zero_point x ≡ x
@@ -113,7 +112,7 @@ expansions_are_unique z r =
 -- ---- a place and a unit
 
 -- a carry into the digit d of resolution n + 1
-one_step : (c : Class) (z x p k y : Eisenstein) → sum_of x p ≡ sum_of (product_of (multiplier c) k) y → sum_of (sum_of (product_of (multiplier c) z) x) p ≡ sum_of (product_of (multiplier c) (sum_of z k)) y
+pub one_step : (c : Class) (z x p k y : Eisenstein) → sum_of x p ≡ sum_of (product_of (multiplier c) k) y → sum_of (sum_of (product_of (multiplier c) z) x) p ≡ sum_of (product_of (multiplier c) (sum_of z k)) y
 one_step Three z x p k y e = omega (arith, points)
 one_step Two z x p k y e = omega (arith, points)
 
@@ -178,27 +177,7 @@ length-added_digits ds d =
     let s = added 0 (map direction_of ds) (Some d) in
     length-map s.1 digit_or_zero ∙ length-added 0 (map direction_of ds) (Some d) ∙ length-map ds direction_of
 
--- where a sum of a place and a unit is expanded, the unit of the expansion is 0 or a unit
-pub carried_out : (ds es : List ℕ) (d : Direction) (u : Eisenstein) → length es ≡ length ds → AllBelowBase 7 es → place_from 0 u es ≡ sum_of (place ds) (unit_of d) → IsCarried u
-carried_out ds es d u l a e =
-    let s = added 0 (map direction_of ds) (Some d) in
-    (s.0, (one_list 0 u (value_of s.0) es (map digit_or_zero s.1) (l ∙ sym (length-added_digits ds d)) a (all_small-digits s.1) (e ∙ sym (added_place ds d))).0)
-
--- ---- one carry
-
--- what is carried of a digit and a unit is 0 or a unit
-pub carried_once : (c : Class) (x y : Option Direction) (d : Direction) (q : Eisenstein) → sum_of (value_of x) (unit_of d) ≡ sum_of (product_of (multiplier c) q) (value_of y) → IsCarried q
-carried_once c x y d q e =
-    let one = one_division c q (value_of (carried c x d).1) y (carried c x d).0 (sym e ∙ carried_is c x d) in
-    ((carried c x d).1, one.0)
-
--- ---- along the digits of a list, one by one
-
-pub place_step : (ds : List ℕ) (r : ℕ) (z p v y : Eisenstein) → r < length ds → p ≡ product_of (multiplier_at (r + 1)) z → v ≡ digit_value (get_or ds r 7) → y ≡ sum_of p v → place_from (r + 1) y (drop (r + 1) ds) ≡ place_from r z (drop r ds)
-place_step ds r z p v y h e f g =
-    let all : drop r ds ≡ get_or ds r 7 ∷ drop (r + 1) ds = rw (add-one, drop-cons ds r 7 h) refl in
-    ap (λ x. place_from (r + 1) x (drop (r + 1) ds)) (g ∙ ap (λ x. sum_of x v) e ∙ ap (sum_of (product_of (multiplier_at (r + 1)) z)) f)
-    ∙ sym (ap (place_from r z) all)
+-- ---- one more digit
 
 pub place_from-append : (n : ℕ) (z : Eisenstein) (ds : List ℕ) (d r : ℕ) → r ≡ n + length ds + 1 → place_from n z (ds ++ d ∷ []) ≡ sum_of (product_of (multiplier_at r) (place_from n z ds)) (digit_value d)
 place_from-append n z [] d r e =
@@ -207,12 +186,3 @@ place_from-append n z [] d r e =
 place_from-append n z (x ∷ ds) d r e =
     let next : r ≡ n + 1 + length ds + 1 = omega arith in
     place_from-append (n + 1) (sum_of (product_of (multiplier_at (n + 1)) z) (digit_value x)) ds d r next
-
--- ---- the sum that is expanded
-
-pub expanded_sum : (ds es : List ℕ) (d : Direction) (p v s q : Eisenstein) → p ≡ place ds → v ≡ unit_of d → s ≡ sum_of p v → place_from 0 q es ≡ s → place_from 0 q es ≡ sum_of (place ds) (unit_of d)
-expanded_sum ds es d p v s q e f g h = h ∙ g ∙ ap (λ x. sum_of x v) e ∙ ap (sum_of (place ds)) f
-
-pub sum_expansion : (ds es : List ℕ) (d : Direction) (p v s q u : Eisenstein) → length es ≡ length ds → AllBelowBase 7 es → p ≡ place ds → v ≡ unit_of d → s ≡ sum_of p v → place_from 0 q es ≡ s → q ≡ u → IsExpansion (sum_of (place ds) (unit_of d)) (length ds) u es
-sum_expansion ds es d p v s q u l a e f g h i =
-    along_expansion (sum_of (place ds) (unit_of d)) u (length ds) es l a (ap (λ x. place_from 0 x es) (sym i) ∙ expanded_sum ds es d p v s q e f g h)

@@ -1,6 +1,7 @@
 pub mod ByteLaws
 pub mod CarryLaws
 pub mod DivisionLaws
+pub mod EntryLaws
 pub mod ExpansionLaws
 pub mod FaultLaws
 pub mod FieldLaws
@@ -9,6 +10,7 @@ pub mod FormLaws
 pub mod KindLaws
 pub mod LiftedLaws
 pub mod LinearLaws
+pub mod PackedLaws
 pub mod ReadingLaws
 pub mod RecordLaws
 pub mod SlotLaws

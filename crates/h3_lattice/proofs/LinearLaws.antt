@@ -1,14 +1,9 @@
 -- Linear equations of Eisenstein integers.
-use Rattle.std.proofs.Common.{◌≡◌, ◌+◌, ◌*◌, ◌^◌, ◌≤◌, lit<, ℕ, zero, suc, arith, ap, refl, sym, ◌∙◌, ℤ, pos, ◌-ℤ◌, ◌*ℤ◌}
-use Rattle.std.proofs.Math.Nat.{one-le-pow, pow-le-pow_right}
-use Rattle.std.proofs.lemmas.Nat.{pow-add}
+use Rattle.std.proofs.Common.{◌≡◌, ◌+◌, ◌*◌, ℕ, zero, suc, arith, ap, refl, sym, ◌∙◌, ℤ, pos, ◌-ℤ◌, ◌*ℤ◌}
 use borrow.Author.Differences.{up, down, same_in, same_out, sum_is_lem, neg_is, product_is, le_out, at_most_in}
-use Rattle.h3_lattice.specs.declared.class.Class.{Class}
-use Rattle.h3_lattice.specs.declared.class.Class.TheVariants.{Two, Three}
 use Rattle.h3_lattice.specs.declared.direction.Direction.{Direction}
 use Rattle.h3_lattice.specs.declared.direction.Direction.TheVariants.{K, J, JK, I, IK, IJ}
-use Rattle.h3_lattice.specs.Eisenstein.{Eisenstein, eisenstein, sum_of, product_of, IsWithin}
-use Rattle.h3_lattice.specs.Class.{multiplier}
+use Rattle.h3_lattice.specs.Eisenstein.{Eisenstein, eisenstein, product_of}
 use Rattle.h3_lattice.specs.Direction.{turned, turned_once, turns, unit_of}
 
 pub point_in : (x y : Eisenstein) → (up x.a + down y.a ≡ up y.a + down x.a) × (up x.b + down y.b ≡ up y.b + down x.b) → x ≡ y
@@ -54,31 +49,6 @@ unit_of-turned zero d = one_times_unit d
 unit_of-turned (suc n) d =
     unit_of-turned_once (turned n d) ∙ ap (product_of (eisenstein (pos 1) (pos 1))) (unit_of-turned n d) ∙ turn_times_unit d (turns n)
 
--- ---- coordinates
-
-pub sum_within : (j k l : ℕ) (x y z : Eisenstein) → j + k ≤ l → IsWithin j x → IsWithin k y → z ≡ sum_of x y → IsWithin l z
-sum_within j k l x y z h v w e = record {
-  a_above = omega (arith, points);
-  a_below = omega (arith, points);
-  b_above = omega (arith, points);
-  b_below = omega (arith, points);
-}
-
--- one resolution further
-pub product_within : (c : Class) (k : ℕ) (x y z p : Eisenstein) → 1 ≤ k → IsWithin k x → IsWithin 1 y → p ≡ product_of (multiplier c) x → z ≡ sum_of p y → IsWithin (5 * k) z
-product_within Three k x y z p h v w e f = record {
-  a_above = omega (arith, points);
-  a_below = omega (arith, points);
-  b_above = omega (arith, points);
-  b_below = omega (arith, points);
-}
-product_within Two k x y z p h v w e f = record {
-  a_above = omega (arith, points);
-  a_below = omega (arith, points);
-  b_above = omega (arith, points);
-  b_below = omega (arith, points);
-}
-
 -- ---- a product with 1 + w of a product of any two
 
 three_times : (x y z q : ℕ) → (x + y + z) * q ≡ x * q + y * q + z * q
@@ -103,36 +73,3 @@ once_times p x =
 
 pub turn-product : (p x : Eisenstein) → product_of (eisenstein (pos 1) (pos 1)) (product_of p x) ≡ product_of (product_of (eisenstein (pos 1) (pos 1)) p) x
 turn-product p x = once_times p x ∙ ap (λ q. product_of q x) (sym (once_is p))
-
--- ---- coordinates of places
-
-pub within_more : (j k : ℕ) (z : Eisenstein) → j ≤ k → IsWithin j z → IsWithin k z
-within_more j k z h v = record {
-  a_above = omega (arith, points);
-  a_below = omega (arith, points);
-  b_above = omega (arith, points);
-  b_below = omega (arith, points);
-}
-
-pub multiplied_within : (c : Class) (j k : ℕ) (x p : Eisenstein) → 4 * j ≤ k → IsWithin j x → p ≡ product_of (multiplier c) x → IsWithin k p
-multiplied_within Three j k x p h v e = record {
-  a_above = omega (arith, points);
-  a_below = omega (arith, points);
-  b_above = omega (arith, points);
-  b_below = omega (arith, points);
-}
-multiplied_within Two j k x p h v e = record {
-  a_above = omega (arith, points);
-  a_below = omega (arith, points);
-  b_above = omega (arith, points);
-  b_below = omega (arith, points);
-}
-
-pub power_small : (r : ℕ) → r ≤ 15 → 5 ^ r ≤ 5 ^ 15
-power_small r h = pow-le-pow_right (lit< tt) h
-
-pub power_positive : (r : ℕ) → 1 ≤ 5 ^ r
-power_positive r = one-le-pow r 5 (lit< tt)
-
-pub power_more : (r : ℕ) → 5 ^ (r + 1) ≡ 5 * 5 ^ r
-power_more r = omega (arith, pow-add 5 r 1)

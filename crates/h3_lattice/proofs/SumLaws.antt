@@ -1,20 +1,23 @@
 -- Sums of a digit list and a direction: one sum, its reverse, its turns, and triangles.
-use Rattle.std.proofs.Common.{◌≡◌, ℕ, zero, suc, ◌+◌, refl, arith, sym, ap, subst, ◌∙◌, Option, Some, None, List, [], ◌∷◌, length, map}
-use Rattle.std.proofs.lemmas.List.{length-map}
+use Rattle.std.proofs.Common.{◌≡◌, ◌≢◌, ◌-◌, ◌<◌, ◌≤◌, ◌++◌, take, get_or, length-append, ℕ, zero, suc, ◌+◌, refl, arith, sym, ap, subst, ◌∙◌, Option, Some, None, List, [], ◌∷◌, length, map}
+use Rattle.std.specs.Int.Digits.{AllBelowBase}
+use Rattle.std.proofs.Math.Seq.{take-suc}
+use Rattle.std.proofs.lemmas.List.{length-map, length-take-le, take_all}
 use Rattle.h3_lattice.specs.declared.direction.Direction.{Direction}
 use Rattle.h3_lattice.specs.declared.direction.Direction.TheVariants.{K, J, JK, I, IK, IJ}
 use Rattle.h3_lattice.specs.declared.class.Class.{Class}
 use Rattle.h3_lattice.specs.declared.class.Class.TheVariants.{Two, Three}
 use Rattle.h3_lattice.specs.Eisenstein.{Eisenstein, minus_one, product_of, sum_of, zero_point}
-use Rattle.h3_lattice.specs.Direction.{digit_or_zero, digit_turned, direction_of, opposite, option_turned, turned, turned_once, unit_of, value_of}
-use Rattle.h3_lattice.specs.Class.{class_at, multiplier}
-use Rattle.h3_lattice.specs.Expansion.{multiplier_at, place, scaled}
+use Rattle.h3_lattice.specs.Direction.{digit_or_zero, digit_turned, digit_value, direction_of, opposite, option_turned, turned, turned_once, unit_of, value_of}
+use Rattle.h3_lattice.specs.Class.{class_at, multiplier, IsCarry}
+use Rattle.h3_lattice.specs.Expansion.{multiplier_at, place, place_from, scaled}
 use Rattle.h3_lattice.specs.Moved.{IsSum}
 use Rattle.h3_lattice.specs.Laws.{option_opposite, SumsCloseTriangles, SumsExist, SumsReverse, SumsTurn, SumsAreUnique, Triangle, all_across}
 use Rattle.h3_lattice.proofs.LinearLaws.{points}
 use Rattle.h3_lattice.proofs.DivisionLaws.{one_division}
 use Rattle.h3_lattice.proofs.CarryLaws.{carries_triangle}
-use Rattle.h3_lattice.proofs.ExpansionLaws.{added, added_place, all_small-digits, along_expansion, directions-digits, expansion_along, length-added_digits, one_list}
+use Rattle.h3_lattice.proofs.ExpansionLaws.{added, added_place, all_small-digits, along_expansion, directions-digits, expansion_along, length-added_digits, one_list, one_step, place_from-append, sum-zero}
+use Rattle.h3_lattice.proofs.PackedLaws.{small_push, small_take}
 use Rattle.h3_lattice.proofs.TurnLaws.{all_small-turned, map-turned-suc, once, option_turned-suc, option_turned-zero, place_from-no_turns, place-turned}
 
 -- ---- one sum
@@ -174,3 +177,43 @@ sums_close_triangles ds d u v es fs h k =
       third = subst (IsSum es (turned 2 d) e.0) last third;
       form = subst (λ (w : Option Direction). Triangle u e.0 w) two.0 (subst (λ (w : Option Direction). Triangle w e.0 b.0) one.0 t.form);
     }
+
+-- ---- a sum, digit by digit
+
+-- where k is carried to the coarser digits, and u out of them, the finest digit goes after their sum
+pushed_sum : (ds es : List ℕ) (d : Direction) (k u : Option Direction) (x y n : ℕ) → n ≡ length ds + 1 → length es ≡ length ds → AllBelowBase 7 es → y < 7 → place_from 0 (value_of u) es ≡ sum_of (place ds) (value_of k) → IsCarry (class_at n) x d (value_of k) y → IsSum (ds ++ x ∷ []) d u (es ++ y ∷ [])
+pushed_sum ds es d k u x y n at long all small h e =
+    let first : n ≡ 0 + length ds + 1 = omega arith in
+    let second : n ≡ 0 + length es + 1 = omega arith in
+    along_expansion (sum_of (place (ds ++ x ∷ [])) (unit_of d)) (value_of u) (length (ds ++ x ∷ [])) (es ++ y ∷ []) (omega (arith, length-append ds (x ∷ []), length-append es (y ∷ []))) (small_push es y all small)
+    (place_from-append 0 (value_of u) es y n second
+    ∙ ap (λ z. sum_of (product_of (multiplier_at n) z) (digit_value y)) h
+    ∙ sym (one_step (class_at n) (place ds) (digit_value x) (unit_of d) (value_of k) (digit_value y) e)
+    ∙ ap (λ p. sum_of p (unit_of d)) (sym (place_from-append 0 zero_point ds x n first)))
+
+-- the sum of the digits ds, of which the finest is the r-th, and a direction; y is left of that digit, and k carried
+module _ (ds : List ℕ) (d : Direction) (c : Class) (k : Option Direction) (r x y : ℕ) (small : AllBelowBase 7 ds) (at : r ≡ length ds) (some : r ≢ 0) (class : c ≡ class_at r) (digit : x ≡ get_or ds (r - 1) 7) (left : y ≤ 6) (carry : IsCarry c x d (value_of k) y) where
+  above : suc (r - 1) ≡ r
+  above = omega arith
+
+  abbrev pub coarser : List ℕ
+  coarser = take (r - 1) ds
+
+  whole : ds ≡ coarser ++ x ∷ []
+  whole =
+      sym (take_all r ds (omega arith)) ∙ ap (λ n. take n ds) (sym above) ∙ take-suc ds (r - 1) 7 (omega (arith, above)) ∙ ap (λ v. coarser ++ v ∷ []) (sym digit)
+
+  long : r ≡ length coarser + 1
+  long = omega (arith, length-take-le (r - 1) ds (omega arith), above)
+
+  sum_after : (es : List ℕ) (u : Option Direction) → length es ≡ length coarser → AllBelowBase 7 es → place_from 0 (value_of u) es ≡ sum_of (place coarser) (value_of k) → IsSum ds d u (es ++ y ∷ [])
+  sum_after es u same all h =
+      subst (λ l. IsSum l d u (es ++ y ∷ [])) (sym whole) (pushed_sum coarser es d k u x y r long same all (omega arith) h (subst (λ v. IsCarry v x d (value_of k) y) class carry))
+
+  pub ends_here : k ≡ None → IsSum ds d None (coarser ++ y ∷ [])
+  ends_here none =
+      sum_after coarser None refl (small_take (r - 1) ds small) (sum-zero (place coarser) ∙ ap (λ (o : Option Direction). sum_of (place coarser) (value_of o)) (sym none))
+
+  pub goes_on : (e : Direction) (u : Option Direction) (es : List ℕ) → k ≡ Some e → IsSum coarser e u es → IsSum ds d u (es ++ y ∷ [])
+  goes_on e u es some_e h =
+      sum_after es u h.long h.digits (expansion_along (sum_of (place coarser) (unit_of e)) (value_of u) (length coarser) es h ∙ ap (λ (o : Option Direction). sum_of (place coarser) (value_of o)) (sym some_e))

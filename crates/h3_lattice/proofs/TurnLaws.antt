@@ -1,6 +1,8 @@
 -- Turns of digits, and of the places of digit lists.
-use Rattle.std.proofs.Common.{◌≡◌, ℕ, zero, suc, ◌+◌, ◌*◌, ◌/◌, ◌%◌, ◌<◌, zero-add, suc-add, refl, arith, sym, ap, ◌∙◌, Option, Some, None, List, [], ◌∷◌, map, pos}
+use Rattle.std.proofs.Common.{◌≡◌, ℕ, zero, suc, ◌+◌, ◌*◌, ◌/◌, ◌%◌, ◌<◌, zero-add, suc-add, refl, arith, sym, ap, ◌∙◌, Option, Some, None, List, [], ◌∷◌, map, pos, ◌==◌, true, eqb-true, slice_index_or}
 use Rattle.std.specs.Int.Digits.{AllBelowBase}
+use Rattle.std.proofs.lemmas.Bool.{agree_below_at}
+use Rattle.h3_lattice.specs.declared.digits.TheConstants.{TURNED}
 use Rattle.h3_lattice.specs.declared.direction.Direction.{Direction}
 use Rattle.h3_lattice.specs.declared.direction.Direction.TheVariants.{K, J, JK, I, IK, IJ}
 use Rattle.h3_lattice.specs.declared.class.Class.{Class}
@@ -155,9 +157,29 @@ digit_turns_add m n (d ∷ ds) =
     let others = digit_turns_add m n ds in
     cc
 
+digit_turned-mod : (n d : ℕ) → digit_turned (n % 6) d ≡ digit_turned n d
+digit_turned-mod n d = ap digit_or_zero (option_turned-mod n (direction_of d))
+
 pub six_digit_turns_are_none : SixDigitTurnsAreNone
 six_digit_turns_are_none n [] = refl
 six_digit_turns_are_none n (d ∷ ds) =
-    let first : digit_turned (n % 6) d ≡ digit_turned n d = ap digit_or_zero (option_turned-mod n (direction_of d)) in
+    let first = digit_turned-mod n d in
     let others = six_digit_turns_are_none n ds in
     cc
+
+-- ---- the table of turned digits
+
+abbrev turned_entry : ℕ → ℕ → ℕ
+turned_entry n d = slice_index_or (slice_index_or TURNED n []) d 0
+
+row_is : (n d : ℕ) → n < 6 → d < 7 → turned_entry n d ≡ digit_turned n d
+row_is zero d l h = eqb-true _ _ (agree_below_at (λ d. turned_entry 0 d == digit_turned 0 d) (λ _. true) 7 d refl h)
+row_is (suc zero) d l h = eqb-true _ _ (agree_below_at (λ d. turned_entry 1 d == digit_turned 1 d) (λ _. true) 7 d refl h)
+row_is (suc (suc zero)) d l h = eqb-true _ _ (agree_below_at (λ d. turned_entry 2 d == digit_turned 2 d) (λ _. true) 7 d refl h)
+row_is (suc (suc (suc zero))) d l h = eqb-true _ _ (agree_below_at (λ d. turned_entry 3 d == digit_turned 3 d) (λ _. true) 7 d refl h)
+row_is (suc (suc (suc (suc zero)))) d l h = eqb-true _ _ (agree_below_at (λ d. turned_entry 4 d == digit_turned 4 d) (λ _. true) 7 d refl h)
+row_is (suc (suc (suc (suc (suc zero))))) d l h = eqb-true _ _ (agree_below_at (λ d. turned_entry 5 d == digit_turned 5 d) (λ _. true) 7 d refl h)
+row_is (suc (suc (suc (suc (suc (suc n)))))) d l h = absurd (omega arith)
+
+pub turned_is : (n d : ℕ) → d < 7 → slice_index_or (slice_index_or TURNED (n % 6) []) d 0 ≡ digit_turned n d
+turned_is n d h = row_is (n % 6) d (omega arith) h ∙ digit_turned-mod n d

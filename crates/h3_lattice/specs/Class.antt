@@ -3,11 +3,11 @@
 -- H3's odd resolutions are Class III and its even ones Class II. From one resolution to the next finer one the grid is
 -- multiplied by a number of norm 7: by 2 - w to an odd resolution, as H3's `_downAp7` does, and by 3 + w to an even one,
 -- as its `_downAp7r`. The seven digits are a complete set of remainders for each of the two.
-use Rattle.std.specs.Prelude.{◌≡◌, ℕ, ◌%◌, ◌≤◌, ◌==◌, ℤ, pos, negsuc, ◌+ℤ◌, ◌*ℤ◌, Option, if◌then◌else◌}
+use Rattle.std.specs.Prelude.{◌≡◌, ℕ, ◌%◌, ◌≤◌, ◌==◌, pos, negsuc, if◌then◌else◌}
 use Rattle.h3_lattice.specs.declared.class.Class.{Class}
 use Rattle.h3_lattice.specs.declared.class.Class.TheVariants.{Two, Three}
 use Rattle.h3_lattice.specs.Eisenstein.{Eisenstein, eisenstein, product_of, sum_of}
-use Rattle.h3_lattice.specs.Direction.{digit_value, unit_of, value_of}
+use Rattle.h3_lattice.specs.Direction.{digit_value, unit_of}
 use Rattle.h3_lattice.specs.declared.direction.Direction.{Direction}
 
 -- the class of a resolution
@@ -27,21 +27,3 @@ IsCarry class digit direction carried left =
 abbrev pub IsOnlyCarry : Class → ℕ → Direction → Eisenstein → ℕ → Type 0
 IsOnlyCarry class digit direction carried left =
     (other : Eisenstein) (rest : ℕ) → rest ≤ 6 → IsCarry class digit direction other rest → (other ≡ carried) × (rest ≡ left)
-
--- ---- division by a multiplier
-
--- t leaves r modulo 7
-abbrev pub Leaves : ℤ → ℕ → Type 0
-Leaves t r = (m : ℤ) × (t ≡ pos 7 *ℤ m +ℤ pos r)
-
--- z leaves a digit: they differ by a multiple of the multiplier
-abbrev pub LeavesDigit : Class → Eisenstein → ℕ → Type 0
-LeavesDigit class z digit =
-    (q : Eisenstein) × (z ≡ sum_of (product_of (multiplier class) q) (digit_value digit))
-
-abbrev pub IsMultiple : Class → Eisenstein → Type 0
-IsMultiple class z = (q : Eisenstein) × (z ≡ product_of (multiplier class) q)
-
--- z is 0 or a unit
-abbrev pub IsCarried : Eisenstein → Type 0
-IsCarried z = (d : Option Direction) × (z ≡ value_of d)

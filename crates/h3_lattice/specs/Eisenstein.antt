@@ -2,7 +2,7 @@
 --
 -- H3's aperture 7 grid is a lattice of hexagons. Its points are the numbers a + b*w with whole a and b, where w is a
 -- third of a full turn: w*w = -1 - w.
-use Rattle.std.specs.Prelude.{ℕ, ℤ, pos, negsuc, ◌+ℤ◌, ◌-ℤ◌, ◌*ℤ◌, ◌≤ℤ◌, neg_ℤ}
+use Rattle.std.specs.Prelude.{ℤ, pos, negsuc, ◌+ℤ◌, ◌-ℤ◌, ◌*ℤ◌}
 
 -- a + b*w
 pub record Eisenstein : Type 0 where
@@ -33,10 +33,3 @@ product_of x y =
 -- a*a - a*b + b*b, the square of the distance from 0
 abbrev pub norm : Eisenstein → ℤ
 norm x = (x.a *ℤ x.a -ℤ x.a *ℤ x.b) +ℤ x.b *ℤ x.b
-
--- neither coordinate is further from 0 than k
-pub record IsWithin (k : ℕ) (z : Eisenstein) : Type 0 where
-  pub a_above : neg_ℤ (pos k) ≤ℤ z.a
-  pub a_below : z.a ≤ℤ pos k
-  pub b_above : neg_ℤ (pos k) ≤ℤ z.b
-  pub b_below : z.b ≤ℤ pos k

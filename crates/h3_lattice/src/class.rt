@@ -4,8 +4,8 @@ ghost use Rattle.std.specs.Prelude.{◌≡◌, ◌≤◌};
 ghost use Rattle.h3_lattice.specs.Direction.{value_of};
 ghost use Rattle.h3_lattice.specs.Class.{class_at, IsCarry, IsOnlyCarry};
 
+use crate::carries::{CARRIES_THREE, CARRIES_TWO};
 use crate::direction::Direction;
-use crate::eisenstein::{digit_value, unit};
 
 /// The class of a resolution. It has the multiplier by which the grid of that resolution is finer than the one before.
 #[derive(Clone, Copy, Debug, PartialEq, Eq)]
@@ -38,7 +38,10 @@ pub fn carry(class: Class, digit: u8, direction: Direction) -> (u8, Option<Direc
     ensures sum { IsCarry class digit direction (value_of result.1) result.0 }
     ensures only { IsOnlyCarry class digit direction (value_of result.1) result.0 }
 {
-    let sum = digit_value(digit).plus(unit(direction));
-    let (carried, left) = sum.divided(class);
-    (left, carried.direction())
+    let row = digit as usize;
+    let column = direction.digit() as usize - 1;
+    match class {
+        Class::Three => CARRIES_THREE[row][column],
+        Class::Two => CARRIES_TWO[row][column],
+    }
 }

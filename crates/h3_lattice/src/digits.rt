@@ -7,65 +7,84 @@ ghost use Rattle.h3_lattice.specs.Direction.{digit_turned, turns, AreTurned};
 ghost use Rattle.h3_lattice.specs.Digits.{cell_of, IsDigits};
 ghost use Rattle.h3_lattice.specs.Expansion.{place};
 
-use crate::direction::{Direction, turn};
 use h3_index::Cell;
 use std::marker::Model;
 
 /// The digits of a cell without its base cell: a digit of 0 to 6 for each resolution from 1 up to its own.
+///
+/// They are packed as in a cell's number: fifteen of three bits each, that of resolution 1 the highest, and 7 above the
+/// list's own resolution.
 #[derive(Clone, Copy, Debug, PartialEq, Eq)]
 pub struct Digits {
     resolution: u8,
-    fifteen: [u8; 15],
+    packed: u64,
 }
 
 impl Model for Digits {
-    ghost use Rattle.std.specs.Prelude.{ℕ, List, length, take};
-    ghost use Rattle.h3_lattice.specs.Digits.{IsPadded};
-    ghost use Rattle.h3_index.specs.Cell.{padded};
+    ghost use Rattle.std.specs.Prelude.{ℕ, List, length};
+    ghost use Rattle.h3_lattice.specs.Digits.{IsPacked, digits_in, packed_of};
 
     ghost Value = { List ℕ };
 
-    ghost view = { λ d. take d.resolution d.fifteen };
+    ghost view = { λ d. digits_in d.resolution d.packed };
 
-    ghost invariant = { λ d. IsPadded d.resolution d.fifteen };
+    ghost invariant = { λ d. IsPacked d.resolution d.packed };
 
-    ghost inverse = { λ ds. record { resolution = length ds; fifteen = padded ds } };
+    ghost inverse = { λ ds. record { resolution = length ds; packed = packed_of ds } };
 
-    ghost inverse_ok = { λ d h i. record { resolution = h.long i; fifteen = h.is i } };
+    ghost inverse_ok = { λ d h i. record { resolution = h.long i; packed = h.is i } };
 }
 
-/// A digit turned n times.
+/// A row for each number of turns from 0 on, in it each digit turned so often.
+static TURNED: [[u8; 7]; 6] = [
+    [0, 1, 2, 3, 4, 5, 6],
+    [0, 5, 3, 1, 6, 4, 2],
+    [0, 4, 1, 5, 2, 6, 3],
+    [0, 6, 5, 4, 3, 2, 1],
+    [0, 2, 4, 6, 1, 3, 5],
+    [0, 3, 6, 2, 5, 1, 4],
+];
+
+/// A digit of 0 to 6 turned n times.
 fn turned_digit(digit: u8, n: u8) -> u8
+    requires { digit < 7 }
     ensures { result ≡ digit_turned n digit }
 {
-    match Direction::from_digit(digit) {
-        None => 0,
-        Some(direction) => turn(direction, n).digit(),
-    }
+    TURNED[n as usize % 6][digit as usize]
 }
 
 impl Digits {
     /// The list of no digits, that of resolution 0.
-    pub(crate) fn empty() -> Digits
+    fn empty() -> Digits
         ensures { result ≡ [] }
     {
         Digits {
             resolution: 0,
-            fifteen: [7; 15],
+            packed: 0x1fff_ffff_ffff,
+        }
+    }
+
+    /// The digits of a cell.
+    pub(crate) fn of(cell: Cell) -> Digits
+        ensures is { result ≡ cell.digits }
+        ensures valid { IsDigits result }
+    {
+        Digits {
+            resolution: cell.resolution(),
+            packed: cell.raw() & 0x1fff_ffff_ffff,
         }
     }
 
     /// The list with one more digit, that of the next finer resolution.
-    pub(crate) fn push(self, digit: u8) -> Digits
+    fn push(self, digit: u8) -> Digits
         requires room { length self < 15 }
         requires small { digit < 7 }
         ensures { result ≡ self ++ digit ∷ [] }
     {
-        let mut fifteen = self.fifteen;
-        fifteen[self.resolution as usize] = digit;
+        let places = 3 * (14 - self.resolution);
         Digits {
             resolution: self.resolution + 1,
-            fifteen,
+            packed: self.packed - (u64::from(7 - digit) << places),
         }
     }
 
@@ -83,7 +102,7 @@ impl Digits {
         requires at_most { r ≤ 15 }
         ensures { result ≡ slice_index_or self (r - 1) 7 }
     {
-        self.fifteen[r as usize - 1]
+        (self.packed >> (45 - 3 * r) & 7) as u8
     }
 
     /// Each digit turned n times, each turn 60 degrees counter-clockwise. The digit 0 stays. So the place is multiplied

@@ -2,12 +2,12 @@
 //! cells' neighbours. [`vectors`] has the test tables.
 #![tactic(auto)]
 
+mod carries;
 mod checks;
 mod class;
 mod counted;
 mod digits;
 mod direction;
-mod eisenstein;
 mod error;
 mod fields;
 pub mod laws;

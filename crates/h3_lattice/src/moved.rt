@@ -1,16 +1,13 @@
 //! Sums of a cell and a direction.
 
-ghost use Rattle.std.specs.Prelude.{◌≡◌, ◌^◌, ◌≤◌, length, false};
-ghost use Rattle.h3_index.specs.Cell.{is_pentagon_base};
-ghost use Rattle.h3_lattice.specs.Eisenstein.{eisenstein, IsWithin};
-ghost use Rattle.h3_lattice.specs.Digits.{IsDigits};
-ghost use Rattle.h3_lattice.specs.Expansion.{place, place_from, ExpansionsAreUnique, PlacesAreSums};
-ghost use Rattle.h3_lattice.specs.Moved.{IsMoved};
+ghost use Rattle.std.specs.Prelude.{◌≡◌, false};
+ghost use Rattle.h3_index.specs.Cell.{is_pentagon_base, IsCell};
+ghost use Rattle.h3_lattice.specs.Expansion.{ExpansionsAreUnique, PlacesAreSums};
+ghost use Rattle.h3_lattice.specs.Moved.{IsMoved, IsSum};
 
-use crate::class::Class;
+use crate::class::{Class, carry};
 use crate::digits::Digits;
 use crate::direction::Direction;
-use crate::eisenstein::{Eisenstein, digit_value, unit};
 use h3_index::Cell;
 
 /// Where the sum of a cell and a direction lies.
@@ -24,35 +21,27 @@ pub enum Moved {
     Across(Direction, Digits),
 }
 
-/// The place of a cell in its base cell.
-fn place(cell: Cell) -> Eisenstein
-    ensures is { eisenstein result.a result.b ≡ place cell.digits }
-    ensures within { IsWithin (5 ^ 15) (eisenstein result.a result.b) }
+/// Adds a direction to the digit of the cell's own resolution, and what is carried to the coarser ones, as long as there
+/// is something: the sum in the cell's own base cell, and the direction that is carried out of the digit of resolution 1.
+fn carried_into(cell: Cell, direction: Direction) -> (Cell, Option<Direction>)
+    requires { is_pentagon_base cell.base ≡ false }
+    ensures base { result.0.base ≡ cell.base }
+    ensures is { IsSum cell.digits direction result.1 result.0.digits }
+    ensures valid { IsCell result.0 }
 {
-    let mut z = Eisenstein { a: 0, b: 0 };
-    for r in 0..cell.resolution() {
-        z = z
-            .multiplied(Class::at(r + 1))
-            .plus(digit_value(cell.digit(r + 1)));
-    }
-    z
-}
-
-/// The expansion of a number at a resolution: what is left after the divisions by the multipliers, the finest
-/// first, and the digits.
-fn expansion(z: Eisenstein, resolution: u8) -> (Eisenstein, Digits)
-    requires within { IsWithin (2 ^ 40) (eisenstein z.a z.b) }
-    requires at_most { resolution ≤ 15 }
-    ensures long { length result.1 ≡ resolution }
-    ensures digits { IsDigits result.1 }
-    ensures is { place_from 0 (eisenstein result.0.a result.0.b) result.1 ≡ eisenstein z.a z.b }
-{
+    let resolution = cell.resolution();
     if resolution == 0 {
-        return (z, Digits::empty());
+        return (cell, Some(direction));
     }
-    let (quotient, digit) = z.divided(Class::at(resolution));
-    let (left, digits) = expansion(quotient, resolution - 1);
-    (left, digits.push(digit))
+    let (digit, carried) = carry(Class::at(resolution), cell.digit(resolution), direction);
+    let coarser = cell.cut(resolution - 1);
+    match carried {
+        None => (coarser.child(digit), None),
+        Some(next) => {
+            let (moved, out) = carried_into(coarser, next);
+            (moved.child(digit), out)
+        }
+    }
 }
 
 /// The sum of a cell and a direction, for a cell that is in no pentagon base cell: the direction's unit is added to
@@ -65,10 +54,9 @@ pub fn add(cell: Cell, direction: Direction) -> Moved
     ensures unique { ExpansionsAreUnique }
     ensures places { PlacesAreSums }
 {
-    let sum = place(cell).plus(unit(direction));
-    let (left, digits) = expansion(sum, cell.resolution());
-    match left.direction() {
-        None => Moved::Inside(digits.at(cell.base_cell())),
-        Some(side) => Moved::Across(side, digits),
+    let (moved, out) = carried_into(cell, direction);
+    match out {
+        None => Moved::Inside(moved),
+        Some(side) => Moved::Across(side, Digits::of(moved)),
     }
 }
