@@ -352,6 +352,23 @@ fn compacts_lists(rt: HostRuntime) {
 }
 
 #[test]
+fn compacts_lists_of_mixed_resolutions(rt: HostRuntime) {
+    let compact = Command::CompactCells;
+    let below = "862834707ffffff\n86283470fffffff\n862834717ffffff\n86283471fffffff\n\
+                 862834727ffffff\n86283472fffffff\n862834737ffffff\n85283463fffffff\n\
+                 85283467fffffff\n8528346bfffffff\n8528346ffffffff\n85283477fffffff\n\
+                 8528347bfffffff\n";
+    assert_listed(&rt, compact, below, ("8428347ffffffff\n", "", 0));
+    let apart = "85283473fffffff\n81083ffffffffff\n";
+    let ascending = "81083ffffffffff\n85283473fffffff\n";
+    assert_listed(&rt, compact, apart, (ascending, "", 0));
+    let in_pentagon = "8108bffffffffff\n8108fffffffffff\n81093ffffffffff\n81097ffffffffff\n\
+                       8109bffffffffff\n820807fffffffff\n820817fffffffff\n82081ffffffffff\n\
+                       820827fffffffff\n82082ffffffffff\n820837fffffffff\n";
+    assert_listed(&rt, compact, in_pentagon, ("8009fffffffffff\n", "", 0));
+}
+
+#[test]
 fn refuses_lists_to_compact(rt: HostRuntime) {
     let refused = [
         (
@@ -360,7 +377,15 @@ fn refuses_lists_to_compact(rt: HostRuntime) {
         ),
         (
             "85283473fffffff\n8428347ffffffff\n",
-            "error 12: E_RES_MISMATCH\n",
+            "error 10: E_DUPLICATE_INPUT\n",
+        ),
+        (
+            "8428347ffffffff\n85283473fffffff\n",
+            "error 10: E_DUPLICATE_INPUT\n",
+        ),
+        (
+            "8009fffffffffff\n820837fffffffff\n",
+            "error 10: E_DUPLICATE_INPUT\n",
         ),
         ("85283473fffffff\nxyz\n", "error 1: E_FAILED\n"),
         ("81087ffffffffff\n", "error 5: E_CELL_INVALID\n"),
