@@ -94,7 +94,8 @@ pub enum Command {
         k: i32,
     },
 
-    /// The cells within a radius of a cell, each with the number of its ring, over a base cell table.
+    /// The cells within a radius of a cell, each with the number of its ring, over a base cell
+    /// table.
     GridDiskDistancesUnsafe {
         cell: Option<u64>,
         k: i32,

@@ -1,5 +1,5 @@
-//! H3's grid traversal functions, for the index of a word, `None` where the word has none, and over a
-//! base cell table. Which walks are refused is this library's own.
+//! H3's grid traversal functions, for the index of a word, `None` where the word has none, and over
+//! a base cell table. Which walks are refused is this library's own.
 //!
 //! Each checks the index first, and then reads the table. Cells are written as they are reached, so
 //! those before a step that is refused are on the output when its error is returned.
@@ -27,8 +27,9 @@ use std::alloc::Global;
 
 /// Writes the cells of a disk.
 fn write_disk<W: Sink>(table: &BaseTable, cell: Cell, k: i32, out: &mut W) -> Result<(), Refusal>
-    ensures { Writes (answer_or_error (walked cell_line) (grid_disk_unsafe (link_of table.now) cell k))
-        result (sink_use W.taken W.has_failed out.old out.new) }
+    ensures { Writes (answer_or_error (walked cell_line)
+        (grid_disk_unsafe (link_of table.now) cell k)) result
+        (sink_use W.taken W.has_failed out.old out.new) }
 {
     match Disk::new(table, cell, k) {
         Ok(disk) => write_walk(out, DiskCells { disk }),
@@ -55,8 +56,9 @@ fn write_disk_distances<W: Sink>(
 
 /// Writes the cells of a ring.
 fn write_ring<W: Sink>(table: &BaseTable, cell: Cell, k: i32, out: &mut W) -> Result<(), Refusal>
-    ensures { Writes (answer_or_error (walked cell_line) (grid_ring_unsafe (link_of table.now) cell k))
-        result (sink_use W.taken W.has_failed out.old out.new) }
+    ensures { Writes (answer_or_error (walked cell_line)
+        (grid_ring_unsafe (link_of table.now) cell k)) result
+        (sink_use W.taken W.has_failed out.old out.new) }
 {
     match Ring::new(table, cell, k) {
         Ok(walk) => write_walk(out, walk),

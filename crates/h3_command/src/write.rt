@@ -96,8 +96,8 @@ pub fn write_lines<W: Sink, L: Line + Drop, I: Iterator<Item = L> + Drop>(
     Ok(out.flush()?)
 }
 
-/// Writes a line for each item of a walk up to its first error, which it then returns. No item and no
-/// line is kept. It flushes at the end, and before an error only where a line was written.
+/// Writes a line for each item of a walk up to its first error, which it then returns. No item and
+/// no line is kept. It flushes at the end, and before an error only where a line was written.
 ///
 /// `Refusal::Write` where a push or the flush fails.
 pub fn write_walk<W: Sink, L: Line + Drop, I: Iterator<Item = Result<L, H3Error>> + Drop>(

@@ -7,8 +7,8 @@ use h3_index::{is_pentagon_base, read_index};
 use h3_lattice::vectors::TestTable;
 use std::test::Fail;
 
-/// Links along the ring of radius 2 around base cell 0: two out to it in the direction 4 (I), and the
-/// twelve around it. The last of them leads to base cell 16, and not to 2, with which the ring
+/// Links along the ring of radius 2 around base cell 0: two out to it in the direction 4 (I), and
+/// the twelve around it. The last of them leads to base cell 16, and not to 2, with which the ring
 /// begins. Base cells 1, 2 and 3 are a triangle.
 const OPEN_RING: [[u8; 3]; 15] = [
     [0, 4, 1],
@@ -28,8 +28,8 @@ const OPEN_RING: [[u8; 3]; 15] = [
     [15, 6, 16],
 ];
 
-/// The file of a sound table on which a ring does not close: the links of `OPEN_RING` and those back,
-/// and all others lead to pentagon base cells.
+/// The file of a sound table on which a ring does not close: the links of `OPEN_RING` and those
+/// back, and all others lead to pentagon base cells.
 fn open_file(rt: &HostRuntime) -> Result<String, Fail> {
     const PENTAGONS: [u8; 6] = [4, 14, 24, 38, 49, 58];
     let mut records = Vec::new(rt.alloc());
