@@ -23,7 +23,7 @@ use Rattle.h3_cli.proofs.Lexed.{by_short, given, is_long, is_short, named, named
 use Rattle.h3_cli.specs.Given.{given_by}
 use Rattle.h3_cli.specs.Options.{IsIn, parser_done, id_of, long_name, rule_for, short_name}
 use Rattle.h3_cli.specs.declared.options.CommandOption.{CommandOption}
-use Rattle.h3_cli.specs.declared.options.CommandOption.TheVariants.{Cell, Resolution, Radius, Position, Table}
+use Rattle.h3_cli.specs.declared.options.CommandOption.TheVariants.{Cell, Resolution, Radius, To, Position, Edge, Table}
 
 -- ---- small facts
 
@@ -60,13 +60,15 @@ Which q o = (q ≡ o) ⊎ Differs q o
 
 -- all options
 abbrev every_option : List CommandOption
-every_option = Cell ∷ Resolution ∷ Radius ∷ Position ∷ Table ∷ []
+every_option = Cell ∷ Resolution ∷ Radius ∷ To ∷ Position ∷ Edge ∷ Table ∷ []
 
 option_found : (o : CommandOption) → find (λ x. bytes_eq (id_of x) (id_of o)) every_option ≡ Some o
 option_found Cell = refl
 option_found Resolution = refl
 option_found Radius = refl
+option_found To = refl
 option_found Position = refl
+option_found Edge = refl
 option_found Table = refl
 
 -- two options of one id, or of names that differ
@@ -317,7 +319,9 @@ unfolding encode_utf8
 ascii_short Cell y e = let same : 99 ≡ y = grind arith in ap (λ c. length (encode_utf8 c)) (sym same)
 ascii_short Resolution y e = let same : 114 ≡ y = grind arith in ap (λ c. length (encode_utf8 c)) (sym same)
 ascii_short Radius y e = let same : 107 ≡ y = grind arith in ap (λ c. length (encode_utf8 c)) (sym same)
+ascii_short To y e = cc
 ascii_short Position y e = cc
+ascii_short Edge y e = cc
 ascii_short Table y e = cc
 
 pub short_is : (o q : CommandOption) (d : Which q o) (word flags : Text) (y : ℕ) → long_of word ≡ None → short_of word ≡ Some flags → slice_get (chars flags) 0 ≡ Some y

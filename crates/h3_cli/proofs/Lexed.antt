@@ -12,7 +12,7 @@ use Rattle.h3_cli.specs.Given as own
 use Rattle.h3_cli.specs.Given.{after, by_character, given_by, long_value, short_value}
 use Rattle.h3_cli.specs.Options.{long_name, short_name}
 use Rattle.h3_cli.specs.declared.options.CommandOption.{CommandOption}
-use Rattle.h3_cli.specs.declared.options.CommandOption.TheVariants.{Cell, Resolution, Radius, Position, Table}
+use Rattle.h3_cli.specs.declared.options.CommandOption.TheVariants.{Cell, Resolution, Radius, To, Position, Edge, Table}
 
 -- the option's long name
 abbrev pub is_long : CommandOption → Text → Bool
@@ -207,14 +207,18 @@ plain_long : (o : CommandOption) → PlainLong (long_name o)
 plain_long Cell = refl
 plain_long Resolution = refl
 plain_long Radius = tt
+plain_long To = refl
 plain_long Position = refl
+plain_long Edge = refl
 plain_long Table = refl
 
 plain_short : (o : CommandOption) → PlainShort (short_name o)
 plain_short Cell = refl
 plain_short Resolution = refl
 plain_short Radius = refl
+plain_short To = refl
 plain_short Position = refl
+plain_short Edge = refl
 plain_short Table = refl
 
 -- what the words give, cut so, is what they give

@@ -4,7 +4,7 @@ use Rattle.std.specs.Prelude.{find}
 use Rattle.std.specs.Str.{bytes_eq}
 use Rattle.h3_cli.specs.Commands.{command_names, word_of}
 use Rattle.h3_cli.specs.declared.commands.CommandName.{CommandName}
-use Rattle.h3_cli.specs.declared.commands.CommandName.TheVariants.{IsValidCell, GetResolution, GetBaseCellNumber, IsPentagon, IsResClassIII, GetNumCells, GetRes0Cells, GetPentagons, CellToParent, CellToCenterChild, CellToChildren, CellToChildrenSize, CellToChildPos, ChildPosToCell, CompactCells, UncompactCells, GridDiskUnsafe, GridDiskDistancesUnsafe, GridRingUnsafe}
+use Rattle.h3_cli.specs.declared.commands.CommandName.TheVariants.{IsValidCell, GetResolution, GetBaseCellNumber, IsPentagon, IsResClassIII, GetNumCells, GetRes0Cells, GetPentagons, CellToParent, CellToCenterChild, CellToChildren, CellToChildrenSize, CellToChildPos, ChildPosToCell, CompactCells, UncompactCells, GridDiskUnsafe, GridDiskDistancesUnsafe, GridRingUnsafe, AreNeighborCells, CellsToDirectedEdge, IsValidDirectedEdge, GetDirectedEdgeOrigin, GetDirectedEdgeDestination, OriginToDirectedEdges}
 
 pub word_named : (k : CommandName) → find (λ x. bytes_eq (word_of x) (word_of k)) command_names ≡ Some k
 word_named IsValidCell = refl
@@ -26,3 +26,9 @@ word_named UncompactCells = refl
 word_named GridDiskUnsafe = refl
 word_named GridDiskDistancesUnsafe = refl
 word_named GridRingUnsafe = refl
+word_named AreNeighborCells = refl
+word_named CellsToDirectedEdge = refl
+word_named IsValidDirectedEdge = refl
+word_named GetDirectedEdgeOrigin = refl
+word_named GetDirectedEdgeDestination = refl
+word_named OriginToDirectedEdges = refl

@@ -28,7 +28,7 @@ use Rattle.h3_cli.proofs.Lexed.{given, is_long, is_short, named, named_by}
 use Rattle.h3_cli.specs.Given.{given_by}
 use Rattle.h3_cli.specs.Options.{IsUpTo, IsIn, number_up_to, id_of, long_name, parser_done, short_name}
 use Rattle.h3_cli.specs.declared.options.CommandOption.{CommandOption}
-use Rattle.h3_cli.specs.declared.options.CommandOption.TheVariants.{Cell, Resolution, Radius, Position, Table}
+use Rattle.h3_cli.specs.declared.options.CommandOption.TheVariants.{Cell, Resolution, Radius, To, Position, Edge, Table}
 use Rattle.h3_cli.proofs.Leaf.{Holds, long_is, mine, no_default, short_is, walks, Differs, Which, at_word, bytes_same, differ, done_rule, done_rules, help_done, idle_held, leaf_done, longs_differ, or_false, row_of_option, shorts_differ, used_fresh, value_state, walk_end}
 
 -- how a word names an option
@@ -47,8 +47,12 @@ name_form Resolution word (inr (inl e)) = subst (NameForm Resolution) (sym e) (l
 name_form Resolution word (inr (inr e)) = absurd e
 name_form Radius word (inl e) = subst (NameForm Radius) (sym e) (short_form 107 refl refl refl refl refl refl refl)
 name_form Radius word (inr e) = absurd e
+name_form To word (inl e) = subst (NameForm To) (sym e) (long_form (codes "to") refl refl refl refl)
+name_form To word (inr e) = absurd e
 name_form Position word (inl e) = subst (NameForm Position) (sym e) (long_form (codes "position") refl refl refl refl)
 name_form Position word (inr e) = absurd e
+name_form Edge word (inl e) = subst (NameForm Edge) (sym e) (long_form (codes "edge") refl refl refl refl)
+name_form Edge word (inr e) = absurd e
 name_form Table word (inl e) = subst (NameForm Table) (sym e) (long_form (codes "table") refl refl refl refl)
 name_form Table word (inr e) = absurd e
 

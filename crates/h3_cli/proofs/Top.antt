@@ -13,7 +13,7 @@ use Rattle.h3_cli.specs.Commands.{command_names, app, word_of, options_of}
 use Rattle.h3_cli.specs.Options.{id_of}
 use Rattle.h3_cli.proofs.Leaf.{Turn, alone, attached, dashes, other, at_word, bytes_same, cons_nil, dash_turn, done_rule, done_rules, idle_held, leaf_done, or_false, or_nil}
 use Rattle.h3_cli.specs.declared.options.CommandOption.{CommandOption}
-use Rattle.h3_cli.specs.declared.options.CommandOption.TheVariants.{Cell, Resolution, Radius, Position, Table}
+use Rattle.h3_cli.specs.declared.options.CommandOption.TheVariants.{Cell, Resolution, Radius, To, Position, Edge, Table}
 use Rattle.h3_cli.specs.declared.commands.CommandName.{CommandName}
 
 -- the command as `clap` completes it
@@ -72,7 +72,9 @@ no_option_at_top : (q : CommandOption) â†’ arg_by_id (done_rules []) (id_of q) â
 no_option_at_top Cell e = cc
 no_option_at_top Resolution e = cc
 no_option_at_top Radius e = cc
+no_option_at_top To e = cc
 no_option_at_top Position e = cc
+no_option_at_top Edge e = cc
 no_option_at_top Table e = cc
 
 -- the words name a command of the list, whose words pass

@@ -12,7 +12,7 @@ use Rattle.h3_cli.specs.Options.{IsIn, IsUpTo, id_of, number_up_to, parser_done}
 use Rattle.h3_cli.specs.Commands.{has_option, options_of}
 use Rattle.h3_cli.specs.Values.{AreFound, HasTable, IsIndex, IsNumber, IsText}
 use Rattle.h3_cli.specs.declared.options.CommandOption.{CommandOption}
-use Rattle.h3_cli.specs.declared.options.CommandOption.TheVariants.{Cell, Table}
+use Rattle.h3_cli.specs.declared.options.CommandOption.TheVariants.{Cell, To, Table}
 use Rattle.h3_cli.specs.declared.commands.CommandName.{CommandName}
 use Rattle.h3_cli.proofs.Leaf.{Differs, differ}
 
@@ -66,6 +66,12 @@ pub cell_and_whole : (o : CommandOption) → Ranges o → (f : Found) {self k : 
     → (text : CommandOption → Option Text) → AreFound self text f → IsIndex (text Cell) index × IsNumber o (text o) (to_z w32 (of_z w32 n))
 cell_and_whole o in_range f same reads_cell reads fits is_cell is text answers =
     (index_of Cell f same reads_cell is_cell text answers, whole_of o in_range f same reads fits is text answers)
+
+-- two cells
+pub cell_and_to : (f : Found) {self k : CommandName} {index other : Option ℕ} → self ≡ k → ReadsIndex Cell f index → ReadsIndex To f other → has_option k Cell ≡ true → has_option k To ≡ true
+    → (text : CommandOption → Option Text) → AreFound self text f → IsIndex (text Cell) index × IsIndex (text To) other
+cell_and_to f same reads_cell reads_to is_cell is_to text found =
+    (index_of Cell f same reads_cell is_cell text found, index_of To f same reads_to is_to text found)
 
 -- a command that has no table
 pub no_table : (self : CommandName) → has_option self Table ≡ false → (text : CommandOption → Option Text) → HasTable text self None

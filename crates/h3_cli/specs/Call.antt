@@ -6,7 +6,7 @@ use Rattle.clap.specs.Words.{Text}
 use Rattle.h3_cli.specs.Commands.{options_of, word_of}
 use Rattle.h3_cli.specs.Options.{IsIn, IsUpTo, id_of, number_up_to}
 use Rattle.h3_cli.specs.declared.options.CommandOption.{CommandOption}
-use Rattle.h3_cli.specs.declared.options.CommandOption.TheVariants.{Cell, Resolution, Radius, Position, Table}
+use Rattle.h3_cli.specs.declared.options.CommandOption.TheVariants.{Cell, Resolution, Radius, To, Position, Edge, Table}
 use Rattle.h3_cli.specs.declared.commands.CommandName.{CommandName}
 
 -- the words that name the option
@@ -14,7 +14,9 @@ abbrev pub names_for : CommandOption → List Text
 names_for Cell = codes "-c" ∷ codes "--cell" ∷ []
 names_for Resolution = codes "-r" ∷ codes "--resolution" ∷ []
 names_for Radius = codes "-k" ∷ []
+names_for To = codes "--to" ∷ []
 names_for Position = codes "--position" ∷ []
+names_for Edge = codes "--edge" ∷ []
 names_for Table = codes "--table" ∷ []
 
 -- the word is one of these

@@ -8,14 +8,14 @@ use Rattle.h3_cli.specs.Options.{id_of, rule_for}
 use Rattle.h3_command.specs.declared.command.Command.{Command}
 use Rattle.h3_command.specs.declared.command.Command.TheVariants as command
 use Rattle.h3_cli.specs.declared.options.CommandOption.{CommandOption}
-use Rattle.h3_cli.specs.declared.options.CommandOption.TheVariants.{Cell, Resolution, Radius, Position, Table}
+use Rattle.h3_cli.specs.declared.options.CommandOption.TheVariants.{Cell, Resolution, Radius, To, Position, Edge, Table}
 use Rattle.h3_cli.specs.declared.commands.CommandName.{CommandName}
-use Rattle.h3_cli.specs.declared.commands.CommandName.TheVariants.{IsValidCell, GetResolution, GetBaseCellNumber, IsPentagon, IsResClassIII, GetNumCells, GetRes0Cells, GetPentagons, CellToParent, CellToCenterChild, CellToChildren, CellToChildrenSize, CellToChildPos, ChildPosToCell, CompactCells, UncompactCells, GridDiskUnsafe, GridDiskDistancesUnsafe, GridRingUnsafe}
+use Rattle.h3_cli.specs.declared.commands.CommandName.TheVariants.{IsValidCell, GetResolution, GetBaseCellNumber, IsPentagon, IsResClassIII, GetNumCells, GetRes0Cells, GetPentagons, CellToParent, CellToCenterChild, CellToChildren, CellToChildrenSize, CellToChildPos, ChildPosToCell, CompactCells, UncompactCells, GridDiskUnsafe, GridDiskDistancesUnsafe, GridRingUnsafe, AreNeighborCells, CellsToDirectedEdge, IsValidDirectedEdge, GetDirectedEdgeOrigin, GetDirectedEdgeDestination, OriginToDirectedEdges}
 
 -- all names of commands
 abbrev pub command_names : List CommandName
 command_names =
-    IsValidCell ∷ GetResolution ∷ GetBaseCellNumber ∷ IsPentagon ∷ IsResClassIII ∷ GetNumCells ∷ GetRes0Cells ∷ GetPentagons ∷ CellToParent ∷ CellToCenterChild ∷ CellToChildren ∷ CellToChildrenSize ∷ CellToChildPos ∷ ChildPosToCell ∷ CompactCells ∷ UncompactCells ∷ GridDiskUnsafe ∷ GridDiskDistancesUnsafe ∷ GridRingUnsafe ∷ []
+    IsValidCell ∷ GetResolution ∷ GetBaseCellNumber ∷ IsPentagon ∷ IsResClassIII ∷ GetNumCells ∷ GetRes0Cells ∷ GetPentagons ∷ CellToParent ∷ CellToCenterChild ∷ CellToChildren ∷ CellToChildrenSize ∷ CellToChildPos ∷ ChildPosToCell ∷ CompactCells ∷ UncompactCells ∷ GridDiskUnsafe ∷ GridDiskDistancesUnsafe ∷ GridRingUnsafe ∷ AreNeighborCells ∷ CellsToDirectedEdge ∷ IsValidDirectedEdge ∷ GetDirectedEdgeOrigin ∷ GetDirectedEdgeDestination ∷ OriginToDirectedEdges ∷ []
 
 -- the word that names the command
 abbrev pub word_of : CommandName → Text
@@ -38,6 +38,12 @@ word_of UncompactCells = codes "uncompactCells"
 word_of GridDiskUnsafe = codes "gridDiskUnsafe"
 word_of GridDiskDistancesUnsafe = codes "gridDiskDistancesUnsafe"
 word_of GridRingUnsafe = codes "gridRingUnsafe"
+word_of AreNeighborCells = codes "areNeighborCells"
+word_of CellsToDirectedEdge = codes "cellsToDirectedEdge"
+word_of IsValidDirectedEdge = codes "isValidDirectedEdge"
+word_of GetDirectedEdgeOrigin = codes "getDirectedEdgeOrigin"
+word_of GetDirectedEdgeDestination = codes "getDirectedEdgeDestination"
+word_of OriginToDirectedEdges = codes "originToDirectedEdges"
 
 -- the options that the command has
 abbrev pub options_of : CommandName → List CommandOption
@@ -60,6 +66,12 @@ options_of UncompactCells = Resolution ∷ []
 options_of GridDiskUnsafe = Cell ∷ Radius ∷ Table ∷ []
 options_of GridDiskDistancesUnsafe = Cell ∷ Radius ∷ Table ∷ []
 options_of GridRingUnsafe = Cell ∷ Radius ∷ Table ∷ []
+options_of AreNeighborCells = Cell ∷ To ∷ Table ∷ []
+options_of CellsToDirectedEdge = Cell ∷ To ∷ Table ∷ []
+options_of IsValidDirectedEdge = Edge ∷ []
+options_of GetDirectedEdgeOrigin = Edge ∷ []
+options_of GetDirectedEdgeDestination = Edge ∷ Table ∷ []
+options_of OriginToDirectedEdges = Cell ∷ []
 
 -- the command has the option; options are told apart by their ids
 abbrev pub has_option : CommandName → CommandOption → Bool
@@ -86,6 +98,12 @@ name_of_command (command.UncompactCells res) = UncompactCells
 name_of_command (command.GridDiskUnsafe cell k) = GridDiskUnsafe
 name_of_command (command.GridDiskDistancesUnsafe cell k) = GridDiskDistancesUnsafe
 name_of_command (command.GridRingUnsafe cell k) = GridRingUnsafe
+name_of_command (command.AreNeighborCells cell to) = AreNeighborCells
+name_of_command (command.CellsToDirectedEdge cell to) = CellsToDirectedEdge
+name_of_command (command.IsValidDirectedEdge edge) = IsValidDirectedEdge
+name_of_command (command.GetDirectedEdgeOrigin edge) = GetDirectedEdgeOrigin
+name_of_command (command.GetDirectedEdgeDestination edge) = GetDirectedEdgeDestination
+name_of_command (command.OriginToDirectedEdges cell) = OriginToDirectedEdges
 
 -- a command of this name that has these options
 abbrev pub leaf_with : Text → List CommandOption → Shape

@@ -4,14 +4,16 @@ use Rattle.clap.specs.Words.{IsSignedIn, Rule, Text, new_rule}
 use Rattle.clap.specs.declared.builder.value_parser.ValueParser.{ValueParser}
 use Rattle.clap.specs.declared.builder.value_parser.ValueParser.TheVariants.{Signed, String}
 use Rattle.h3_cli.specs.declared.options.CommandOption.{CommandOption}
-use Rattle.h3_cli.specs.declared.options.CommandOption.TheVariants.{Cell, Resolution, Radius, Position, Table}
+use Rattle.h3_cli.specs.declared.options.CommandOption.TheVariants.{Cell, Resolution, Radius, To, Position, Edge, Table}
 
 -- the option's id in `clap`
 abbrev pub id_of : CommandOption → Text
 id_of Cell = codes "cell"
 id_of Resolution = codes "resolution"
 id_of Radius = codes "k"
+id_of To = codes "to"
 id_of Position = codes "position"
+id_of Edge = codes "edge"
 id_of Table = codes "table"
 
 -- the name after two hyphens, if the option has such a name
@@ -19,7 +21,9 @@ abbrev pub long_name : CommandOption → Option Text
 long_name Cell = Some (codes "cell")
 long_name Resolution = Some (codes "resolution")
 long_name Radius = None
+long_name To = Some (codes "to")
 long_name Position = Some (codes "position")
+long_name Edge = Some (codes "edge")
 long_name Table = Some (codes "table")
 
 -- the character after one hyphen, if the option has such a name
@@ -27,7 +31,9 @@ abbrev pub short_name : CommandOption → Option ℕ
 short_name Cell = Some 99
 short_name Resolution = Some 114
 short_name Radius = Some 107
+short_name To = None
 short_name Position = None
+short_name Edge = None
 short_name Table = None
 
 -- the most that the option's number may be; none where its value is any text
@@ -35,7 +41,9 @@ abbrev pub number_up_to : CommandOption → Option ℕ
 number_up_to Cell = None
 number_up_to Resolution = Some 2147483647
 number_up_to Radius = Some 2147483647
+number_up_to To = None
 number_up_to Position = Some 9223372036854775807
+number_up_to Edge = None
 number_up_to Table = None
 
 -- a whole number from 0 to the most, as an `i64` is read; any text where there is no most

@@ -8,11 +8,11 @@ use Rattle.h3_cli.specs.Options.{IsIn, IsUpTo, id_of, number_up_to, parser_done}
 use Rattle.h3_cli.specs.Commands.{has_option, name_of_command, options_of, word_of}
 use Rattle.h3_cli.specs.Given.{given}
 use Rattle.h3_cli.specs.declared.options.CommandOption.{CommandOption}
-use Rattle.h3_cli.specs.declared.options.CommandOption.TheVariants.{Cell, Resolution, Radius, Position, Table}
+use Rattle.h3_cli.specs.declared.options.CommandOption.TheVariants.{Cell, Resolution, Radius, To, Position, Edge, Table}
 use Rattle.h3_cli.specs.declared.commands.CommandName.{CommandName}
 use Rattle.h3_cli.specs.declared.words.Words.{Words}
 use Rattle.h3_command.specs.declared.command.Command.{Command}
-use Rattle.h3_command.specs.declared.command.Command.TheVariants.{IsValidCell, GetResolution, GetBaseCellNumber, IsPentagon, IsResClassIII, GetNumCells, GetRes0Cells, GetPentagons, CellToParent, CellToCenterChild, CellToChildren, CellToChildrenSize, CellToChildPos, ChildPosToCell, CompactCells, UncompactCells, GridDiskUnsafe, GridDiskDistancesUnsafe, GridRingUnsafe}
+use Rattle.h3_command.specs.declared.command.Command.TheVariants.{IsValidCell, GetResolution, GetBaseCellNumber, IsPentagon, IsResClassIII, GetNumCells, GetRes0Cells, GetPentagons, CellToParent, CellToCenterChild, CellToChildren, CellToChildrenSize, CellToChildPos, ChildPosToCell, CompactCells, UncompactCells, GridDiskUnsafe, GridDiskDistancesUnsafe, GridRingUnsafe, AreNeighborCells, CellsToDirectedEdge, IsValidDirectedEdge, GetDirectedEdgeOrigin, GetDirectedEdgeDestination, OriginToDirectedEdges}
 
 -- there is a text, and this is the index that it parses as, or none where it parses as none
 abbrev pub IsIndex : Option Text → Option ℕ → Type 0
@@ -46,6 +46,12 @@ HasValues text (UncompactCells res) = IsNumber Resolution (text Resolution) res
 HasValues text (GridDiskUnsafe cell k) = IsIndex (text Cell) cell × IsNumber Radius (text Radius) k
 HasValues text (GridDiskDistancesUnsafe cell k) = IsIndex (text Cell) cell × IsNumber Radius (text Radius) k
 HasValues text (GridRingUnsafe cell k) = IsIndex (text Cell) cell × IsNumber Radius (text Radius) k
+HasValues text (AreNeighborCells cell to) = IsIndex (text Cell) cell × IsIndex (text To) to
+HasValues text (CellsToDirectedEdge cell to) = IsIndex (text Cell) cell × IsIndex (text To) to
+HasValues text (IsValidDirectedEdge edge) = IsIndex (text Edge) edge
+HasValues text (GetDirectedEdgeOrigin edge) = IsIndex (text Edge) edge
+HasValues text (GetDirectedEdgeDestination edge) = IsIndex (text Edge) edge
+HasValues text (OriginToDirectedEdges cell) = IsIndex (text Cell) cell
 
 -- there is a text, and this is it
 abbrev pub IsText : Option Text → Option Text → Type 0

@@ -35,9 +35,15 @@ pub enum CommandName {
     GridDiskUnsafe,
     GridDiskDistancesUnsafe,
     GridRingUnsafe,
+    AreNeighborCells,
+    CellsToDirectedEdge,
+    IsValidDirectedEdge,
+    GetDirectedEdgeOrigin,
+    GetDirectedEdgeDestination,
+    OriginToDirectedEdges,
 }
 
-static COMMAND_NAMES: [CommandName; 19] = [
+static COMMAND_NAMES: [CommandName; 25] = [
     CommandName::IsValidCell,
     CommandName::GetResolution,
     CommandName::GetBaseCellNumber,
@@ -57,6 +63,12 @@ static COMMAND_NAMES: [CommandName; 19] = [
     CommandName::GridDiskUnsafe,
     CommandName::GridDiskDistancesUnsafe,
     CommandName::GridRingUnsafe,
+    CommandName::AreNeighborCells,
+    CommandName::CellsToDirectedEdge,
+    CommandName::IsValidDirectedEdge,
+    CommandName::GetDirectedEdgeOrigin,
+    CommandName::GetDirectedEdgeDestination,
+    CommandName::OriginToDirectedEdges,
 ];
 
 static NO_OPTIONS: [CommandOption; 0] = [];
@@ -78,6 +90,16 @@ static CELL_RADIUS_TABLE: [CommandOption; 3] = [
     CommandOption::Radius,
     CommandOption::Table,
 ];
+
+static CELL_TO_TABLE: [CommandOption; 3] = [
+    CommandOption::Cell,
+    CommandOption::To,
+    CommandOption::Table,
+];
+
+static EDGE: [CommandOption; 1] = [CommandOption::Edge];
+
+static EDGE_TABLE: [CommandOption; 2] = [CommandOption::Edge, CommandOption::Table];
 
 impl CommandName {
     /// The word that names the command.
@@ -104,6 +126,12 @@ impl CommandName {
             CommandName::GridDiskUnsafe => "gridDiskUnsafe",
             CommandName::GridDiskDistancesUnsafe => "gridDiskDistancesUnsafe",
             CommandName::GridRingUnsafe => "gridRingUnsafe",
+            CommandName::AreNeighborCells => "areNeighborCells",
+            CommandName::CellsToDirectedEdge => "cellsToDirectedEdge",
+            CommandName::IsValidDirectedEdge => "isValidDirectedEdge",
+            CommandName::GetDirectedEdgeOrigin => "getDirectedEdgeOrigin",
+            CommandName::GetDirectedEdgeDestination => "getDirectedEdgeDestination",
+            CommandName::OriginToDirectedEdges => "originToDirectedEdges",
         }
     }
 
@@ -141,6 +169,12 @@ impl CommandName {
             CommandName::GridDiskUnsafe => CELL_RADIUS_TABLE.as_slice(),
             CommandName::GridDiskDistancesUnsafe => CELL_RADIUS_TABLE.as_slice(),
             CommandName::GridRingUnsafe => CELL_RADIUS_TABLE.as_slice(),
+            CommandName::AreNeighborCells => CELL_TO_TABLE.as_slice(),
+            CommandName::CellsToDirectedEdge => CELL_TO_TABLE.as_slice(),
+            CommandName::IsValidDirectedEdge => EDGE.as_slice(),
+            CommandName::GetDirectedEdgeOrigin => EDGE.as_slice(),
+            CommandName::GetDirectedEdgeDestination => EDGE_TABLE.as_slice(),
+            CommandName::OriginToDirectedEdges => CELL.as_slice(),
         }
     }
 
@@ -170,6 +204,12 @@ impl CommandName {
                 "The cells within k steps and their rings; fails as gridDiskUnsafe does"
             }
             Self::GridRingUnsafe => "The cells exactly k steps away; fails as gridDiskUnsafe does",
+            Self::AreNeighborCells => "Whether two cells are neighbors",
+            Self::CellsToDirectedEdge => "The directed edge from a cell to a neighbor",
+            Self::IsValidDirectedEdge => "Whether an index is a valid directed edge",
+            Self::GetDirectedEdgeOrigin => "The cell that a directed edge starts from",
+            Self::GetDirectedEdgeDestination => "The cell that a directed edge leads to",
+            Self::OriginToDirectedEdges => "The directed edges from a cell to its neighbors",
         }
     }
 
@@ -192,6 +232,8 @@ impl CommandName {
             → HasValues text result }
     {
         let cell = CommandOption::Cell.index(matches);
+        let to = CommandOption::To.index(matches);
+        let edge = CommandOption::Edge.index(matches);
         let res = CommandOption::Resolution.whole(matches);
         let k = CommandOption::Radius.whole(matches);
         let position = CommandOption::Position.position(matches);
@@ -219,6 +261,12 @@ impl CommandName {
             CommandName::GridDiskUnsafe => Command::GridDiskUnsafe { cell, k },
             CommandName::GridDiskDistancesUnsafe => Command::GridDiskDistancesUnsafe { cell, k },
             CommandName::GridRingUnsafe => Command::GridRingUnsafe { cell, k },
+            CommandName::AreNeighborCells => Command::AreNeighborCells { cell, to },
+            CommandName::CellsToDirectedEdge => Command::CellsToDirectedEdge { cell, to },
+            CommandName::IsValidDirectedEdge => Command::IsValidDirectedEdge { edge },
+            CommandName::GetDirectedEdgeOrigin => Command::GetDirectedEdgeOrigin { edge },
+            CommandName::GetDirectedEdgeDestination => Command::GetDirectedEdgeDestination { edge },
+            CommandName::OriginToDirectedEdges => Command::OriginToDirectedEdges { cell },
         }
     }
 

@@ -31,8 +31,14 @@ pub enum CommandOption {
     /// `-k`: a radius.
     Radius,
 
+    /// `--to`: a second cell.
+    To,
+
     /// `--position`: a position, counted from 0.
     Position,
+
+    /// `--edge`: a directed edge.
+    Edge,
 
     /// `--table`: the path of a base cell table.
     Table,
@@ -47,7 +53,9 @@ impl CommandOption {
             CommandOption::Cell => "cell",
             CommandOption::Resolution => "resolution",
             CommandOption::Radius => "k",
+            CommandOption::To => "to",
             CommandOption::Position => "position",
+            CommandOption::Edge => "edge",
             CommandOption::Table => "table",
         }
     }
@@ -58,7 +66,9 @@ impl CommandOption {
             CommandOption::Cell => "A cell's index in hexadecimal",
             CommandOption::Resolution => "A resolution, 0 to 15",
             CommandOption::Radius => "A radius in steps of the grid, from 0",
+            CommandOption::To => "A second cell's index in hexadecimal",
             CommandOption::Position => "A position, from 0",
+            CommandOption::Edge => "A directed edge's index in hexadecimal",
             CommandOption::Table => "The path of the file of the base cell table",
         }
     }
@@ -78,9 +88,11 @@ impl CommandOption {
             CommandOption::Radius => argument
                 .short('k')
                 .value_parser(value_parser!(i64).range(0..=MOST_RADIUS)),
+            CommandOption::To => argument.long("to"),
             CommandOption::Position => argument
                 .long("position")
                 .value_parser(value_parser!(i64).range(0..=MOST_POSITION)),
+            CommandOption::Edge => argument.long("edge"),
             CommandOption::Table => argument.long("table"),
         }
     }

@@ -1,7 +1,7 @@
 use Rattle.std.proofs.Common.{rules, refl}
 use Rattle.clap.specs.Words.{found_of}
-use Rattle.h3_cli.specs.declared.options.CommandOption.TheVariants.{Cell, Resolution, Radius, Position}
-use Rattle.h3_cli.proofs.Values.{cell_and_whole, index_of, number_of, whole_of}
+use Rattle.h3_cli.specs.declared.options.CommandOption.TheVariants.{Cell, Resolution, Radius, To, Position, Edge}
+use Rattle.h3_cli.proofs.Values.{cell_and_to, cell_and_whole, index_of, number_of, whole_of}
 use Rattle.h3_cli.proofs.commands.CommandName.command.Goals as goal
 
 pub returns-in-IsValidCell-clause-values : goal.returns-in-IsValidCell-clause-values
@@ -58,3 +58,21 @@ returns-in-GridDiskDistancesUnsafe-clause-values c = cell_and_whole Radius (λ t
 
 pub returns-in-GridRingUnsafe-clause-values : goal.returns-in-GridRingUnsafe-clause-values
 returns-in-GridRingUnsafe-clause-values c = cell_and_whole Radius (λ t a. a) (found_of c.args.matches.now) c.in-GridRingUnsafe.is c.index-cell.ensures c.whole-k.ensures (search rules) refl refl
+
+pub returns-in-AreNeighborCells-clause-values : goal.returns-in-AreNeighborCells-clause-values
+returns-in-AreNeighborCells-clause-values c = cell_and_to (found_of c.args.matches.now) c.in-AreNeighborCells.is c.index-cell.ensures c.index-to.ensures refl refl
+
+pub returns-in-CellsToDirectedEdge-clause-values : goal.returns-in-CellsToDirectedEdge-clause-values
+returns-in-CellsToDirectedEdge-clause-values c = cell_and_to (found_of c.args.matches.now) c.in-CellsToDirectedEdge.is c.index-cell.ensures c.index-to.ensures refl refl
+
+pub returns-in-IsValidDirectedEdge-clause-values : goal.returns-in-IsValidDirectedEdge-clause-values
+returns-in-IsValidDirectedEdge-clause-values c = index_of Edge (found_of c.args.matches.now) c.in-IsValidDirectedEdge.is c.index-edge.ensures refl
+
+pub returns-in-GetDirectedEdgeOrigin-clause-values : goal.returns-in-GetDirectedEdgeOrigin-clause-values
+returns-in-GetDirectedEdgeOrigin-clause-values c = index_of Edge (found_of c.args.matches.now) c.in-GetDirectedEdgeOrigin.is c.index-edge.ensures refl
+
+pub returns-in-GetDirectedEdgeDestination-clause-values : goal.returns-in-GetDirectedEdgeDestination-clause-values
+returns-in-GetDirectedEdgeDestination-clause-values c = index_of Edge (found_of c.args.matches.now) c.in-GetDirectedEdgeDestination.is c.index-edge.ensures refl
+
+pub returns-in-OriginToDirectedEdges-clause-values : goal.returns-in-OriginToDirectedEdges-clause-values
+returns-in-OriginToDirectedEdges-clause-values c = index_of Cell (found_of c.args.matches.now) c.in-OriginToDirectedEdges.is c.index-cell.ensures refl
