@@ -195,15 +195,19 @@ impl CommandName {
             Self::CellToChildrenSize => "How many descendants a cell has at a resolution",
             Self::CellToChildPos => "The position of a cell among its ancestor's descendants",
             Self::ChildPosToCell => "The descendant of a cell at a position of a resolution",
-            Self::CompactCells => "The compacted list of the cells on standard input",
+            Self::CompactCells => {
+                "The compacted list of the cells on standard input, of any resolutions; no two may overlap"
+            }
             Self::UncompactCells => "The descendants of each cell listed on standard input",
             Self::GridDiskUnsafe => {
-                "The cells within k steps; fails where a step meets a pentagon's base cell"
+                "The cells within k steps of a cell; fails where it meets a pentagon's base cell"
             }
             Self::GridDiskDistancesUnsafe => {
-                "The cells within k steps and their rings; fails as gridDiskUnsafe does"
+                "The cells within k steps of a cell and their rings; fails as gridDiskUnsafe does"
             }
-            Self::GridRingUnsafe => "The cells exactly k steps away; fails as gridDiskUnsafe does",
+            Self::GridRingUnsafe => {
+                "The cells exactly k steps from a cell; fails as gridDiskUnsafe does"
+            }
             Self::AreNeighborCells => "Whether two cells are neighbors",
             Self::CellsToDirectedEdge => "The directed edge from a cell to a neighbor",
             Self::IsValidDirectedEdge => "Whether an index is a valid directed edge",

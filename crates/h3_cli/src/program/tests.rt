@@ -2,7 +2,7 @@ use super::run_words;
 use crate::page::PageWriter;
 use crate::table::{OpenFault, OpenTable};
 use arrayvec::ArrayVec;
-use h3_index::{Sink, Source, StreamFault, Streamed};
+use h3_index::{Sink, Source, StreamFault, Streamed, is_pentagon_base};
 use std::alloc::{AllocError, Global};
 use std::test::Fail;
 
@@ -153,6 +153,9 @@ fn table_that_cannot_be_opened(rt: HostRuntime) -> Result<(), Fail> {
         "h3 gridDiskUnsafe -c 85283473fffffff -k 1 --table none.csv",
         "h3 gridDiskDistancesUnsafe -c xyz -k 1 --table none.csv",
         "h3 gridRingUnsafe -c 0 -k 1 --table=none.csv",
+        "h3 areNeighborCells -c 0 --to 0 --table none.csv",
+        "h3 cellsToDirectedEdge -c xyz --to xyz --table none.csv",
+        "h3 getDirectedEdgeDestination --edge 0 --table none.csv",
     ] {
         let mut table = MemoryTable::new("plain.csv", "");
         let mut out = Streamed::new(ArrayVec::<u8, 64>::new());
@@ -178,6 +181,10 @@ fn opens_no_table(rt: HostRuntime) -> Result<(), Fail> {
         ),
         ("h3 gridDiskUnsafe -c 85283473fffffff -k 1", 2),
         ("h3 gridDiskUnsafe --table plain.csv --help", 0),
+        (
+            "h3 areNeighborCells -c 85283473fffffff --table plain.csv",
+            2,
+        ),
         ("h3 isValidCell -c 85283473fffffff --table plain.csv", 2),
         ("h3 isValidCell -c 85283473fffffff", 0),
     ];
@@ -188,6 +195,86 @@ fn opens_no_table(rt: HostRuntime) -> Result<(), Fail> {
         let status = status_over(rt.alloc(), line, "", &mut table, &mut out, &mut err)?;
         assert_eq!(&rt; status, wanted, "{line}");
         assert_eq!(&rt; table.opened, 0, "{line}");
+    }
+    Ok(())
+}
+
+/// The rows of a table: the base cell in direction d is the one whose number is greater by d's step,
+/// around 122, and no digit is turned.
+fn plain_rows(alloc: Global) -> Result<String, AllocError> {
+    let steps = [(1, 110), (2, 11), (3, 121), (4, 1), (5, 111), (6, 12)];
+    let mut rows = String::from_str(alloc, "base,dir,to,rot\n")?;
+    for base in 0..122u8 {
+        for (direction, step) in steps {
+            if !is_pentagon_base(base) {
+                let to = (u16::from(base) + step) % 122;
+                rows.push_str(format!(in alloc; "{base},{direction},{to},0\n")?.as_str())?;
+            }
+        }
+    }
+    Ok(rows)
+}
+
+#[test]
+fn runs_over_the_table_that_is_opened(rt: HostRuntime) -> Result<(), Fail> {
+    let rows = plain_rows(rt.alloc())?;
+    let disk = "85283473fffffff\n85283447fffffff\n8528347bfffffff\n85283463fffffff\n\
+                85283477fffffff\n8528340ffffffff\n8528340bfffffff\n";
+    let ring = "8528340bfffffff\n85283447fffffff\n8528347bfffffff\n85283463fffffff\n\
+                85283477fffffff\n8528340ffffffff\n";
+    let cases = [
+        ("h3 gridDiskUnsafe -c 85283473fffffff -k 1 --table t", disk),
+        (
+            "h3 gridDiskUnsafe --table t -k 0 -c 85283473fffffff",
+            "85283473fffffff\n",
+        ),
+        (
+            "h3 gridDiskDistancesUnsafe -k 0 -c 85283473fffffff --table t",
+            "85283473fffffff 0\n",
+        ),
+        ("h3 gridRingUnsafe -c 85283473fffffff -k 1 --table t", ring),
+    ];
+    for (line, wanted) in cases {
+        let mut table = MemoryTable::new("t", rows.as_str());
+        let mut out = Streamed::new(ArrayVec::<u8, 4096>::new());
+        let mut err = Streamed::new(ArrayVec::<u8, 64>::new());
+        let status = status_over(rt.alloc(), line, "", &mut table, &mut out, &mut err)?;
+        assert_eq!(&rt; status, 0, "{line}");
+        assert_eq!(&rt; table.opened, 1, "{line}");
+        assert!(&rt; out.into_inner().as_slice() == wanted.as_bytes(), "{line}");
+        assert!(&rt; err.into_inner().is_empty(), "{line}");
+    }
+    Ok(())
+}
+
+#[test]
+fn errors_after_the_opening(rt: HostRuntime) -> Result<(), Fail> {
+    let cases = [
+        (
+            "h3 gridDiskUnsafe -c xyz -k 1 --table t",
+            1,
+            "error 1: E_FAILED\n",
+        ),
+        (
+            "h3 gridRingUnsafe -c 81087ffffffffff -k 1 --table t",
+            1,
+            "error 5: E_CELL_INVALID\n",
+        ),
+        (
+            "h3 gridDiskUnsafe -c 85283473fffffff -k 1 --table t",
+            3,
+            "table: form 1\n",
+        ),
+    ];
+    for (line, wanted, text) in cases {
+        let mut table = MemoryTable::new("t", "");
+        let mut out = Streamed::new(ArrayVec::<u8, 64>::new());
+        let mut err = Streamed::new(ArrayVec::<u8, 64>::new());
+        let status = status_over(rt.alloc(), line, "", &mut table, &mut out, &mut err)?;
+        assert_eq!(&rt; status, wanted, "{line}");
+        assert_eq!(&rt; table.opened, 1, "{line}");
+        assert!(&rt; out.into_inner().is_empty(), "{line}");
+        assert!(&rt; err.into_inner().as_slice() == text.as_bytes(), "{line}");
     }
     Ok(())
 }

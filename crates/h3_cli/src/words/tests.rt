@@ -104,6 +104,26 @@ fn reads_options(rt: HostRuntime) -> Result<(), Fail> {
                 res: 5,
             },
         ),
+        (
+            "h3 isValidDirectedEdge --edge 115283473fffffff",
+            Command::IsValidDirectedEdge {
+                edge: Some(0x115283473fffffff),
+            },
+        ),
+        (
+            "h3 isValidDirectedEdge --edge=xyz",
+            Command::IsValidDirectedEdge { edge: None },
+        ),
+        (
+            "h3 getDirectedEdgeOrigin --edge 0X115283473FFFFFFF",
+            Command::GetDirectedEdgeOrigin {
+                edge: Some(0x115283473fffffff),
+            },
+        ),
+        (
+            "h3 originToDirectedEdges --cell=85283473fffffff",
+            Command::OriginToDirectedEdges { cell },
+        ),
         ("h3 compactCells", Command::CompactCells),
         ("h3 uncompactCells -r 6", Command::UncompactCells { res: 6 }),
     ];
@@ -164,6 +184,49 @@ fn reads_tables(rt: HostRuntime) -> Result<(), Fail> {
     for (line, command, path) in cases {
         let answer = read(alloc, line)?;
         assert!(rt; asks_over(&answer, command, path), "{line}");
+    }
+    Ok(())
+}
+
+#[test]
+fn reads_two_cells_and_edges(rt: HostRuntime) -> Result<(), Fail> {
+    let alloc = rt.alloc();
+    let cell = Some(0x85283473fffffff);
+    let to = Some(0x85283477fffffff);
+    let edge = Some(0x115283473fffffff);
+    let cases = [
+        (
+            "h3 areNeighborCells -c 85283473fffffff --to 85283477fffffff --table t",
+            Command::AreNeighborCells { cell, to },
+        ),
+        (
+            "h3 areNeighborCells --table t --to=85283477fffffff -c85283473fffffff",
+            Command::AreNeighborCells { cell, to },
+        ),
+        (
+            "h3 areNeighborCells --to 85283473fffffff --table t -c 85283477fffffff",
+            Command::AreNeighborCells { cell: to, to: cell },
+        ),
+        (
+            "h3 cellsToDirectedEdge --to 85283477fffffff -c 85283473fffffff --table=t",
+            Command::CellsToDirectedEdge { cell, to },
+        ),
+        (
+            "h3 cellsToDirectedEdge --to xyz --table t -c 85283473fffffff",
+            Command::CellsToDirectedEdge { cell, to: None },
+        ),
+        (
+            "h3 getDirectedEdgeDestination --edge 115283473fffffff --table t",
+            Command::GetDirectedEdgeDestination { edge },
+        ),
+        (
+            "h3 getDirectedEdgeDestination --table t --edge=",
+            Command::GetDirectedEdgeDestination { edge: None },
+        ),
+    ];
+    for (line, command) in cases {
+        let answer = read(alloc, line)?;
+        assert!(rt; asks_over(&answer, command, "t"), "{line}");
     }
     Ok(())
 }
@@ -238,6 +301,30 @@ fn refuses_other_words(rt: HostRuntime) -> Result<(), Fail> {
         "h3 gridRingUnsafe -c 0 --table t",
         "h3 gridRingUnsafe -c 0 -k -1 --table t",
         "h3 gridRingUnsafe -c 0 -k 1 --table t --table=t",
+        "h3 areNeighborCells -c 0 --to 0",
+        "h3 areNeighborCells -c 0 --table t",
+        "h3 areNeighborCells --to 0 --table t",
+        "h3 areNeighborCells -c 0 --to 0 --to 0 --table t",
+        "h3 areNeighborCells -c 0 --to --table t",
+        "h3 areNeighborCells -c 0 --to 0 -k 1 --table t",
+        "h3 cellsToDirectedEdge -c 0 --to 0",
+        "h3 cellsToDirectedEdge -c 0 --edge 0 --table t",
+        "h3 cellsToDirectedEdge -c 0 -t 0 --table t",
+        "h3 isValidDirectedEdge",
+        "h3 isValidDirectedEdge -c 0",
+        "h3 isValidDirectedEdge -e 0",
+        "h3 isValidDirectedEdge --edge",
+        "h3 isValidDirectedEdge --edge 0 --edge 0",
+        "h3 isValidDirectedEdge --edge 0 --table t",
+        "h3 getDirectedEdgeOrigin",
+        "h3 getDirectedEdgeOrigin --edge 0 --table t",
+        "h3 getDirectedEdgeDestination --edge 0",
+        "h3 getDirectedEdgeDestination --table t",
+        "h3 getDirectedEdgeDestination --edge 0 --table t --table t",
+        "h3 originToDirectedEdges",
+        "h3 originToDirectedEdges --edge 0",
+        "h3 originToDirectedEdges -c 0 --to 0",
+        "h3 originToDirectedEdges -c 0 --table t",
         "h3 getResolution -c 0 --table t",
         "h3 uncompactCells -r 6 --table t",
         "h3 --version",
@@ -268,12 +355,61 @@ fn helps(rt: HostRuntime) -> Result<(), Fail> {
         "h3 gridDiskUnsafe --help",
         "h3 gridDiskDistancesUnsafe -k 1 --help",
         "h3 gridRingUnsafe -h",
+        "h3 areNeighborCells --help",
+        "h3 cellsToDirectedEdge -c 0 --help",
+        "h3 isValidDirectedEdge --help",
+        "h3 getDirectedEdgeOrigin -h",
+        "h3 getDirectedEdgeDestination --edge 0 --help",
+        "h3 originToDirectedEdges --help",
     ];
     for line in lines {
         assert!(rt;
             matches!(read(alloc, line)?, Err(WordsFault::Help(_))),
             "{line}"
         );
+    }
+    Ok(())
+}
+
+#[test]
+fn help_lists_the_commands(rt: HostRuntime) -> Result<(), Fail> {
+    let words = [
+        "isValidCell",
+        "getResolution",
+        "getBaseCellNumber",
+        "isPentagon",
+        "isResClassIII",
+        "getNumCells",
+        "getRes0Cells",
+        "getPentagons",
+        "cellToParent",
+        "cellToCenterChild",
+        "cellToChildren",
+        "cellToChildrenSize",
+        "cellToChildPos",
+        "childPosToCell",
+        "compactCells",
+        "uncompactCells",
+        "gridDiskUnsafe",
+        "gridDiskDistancesUnsafe",
+        "gridRingUnsafe",
+        "areNeighborCells",
+        "cellsToDirectedEdge",
+        "isValidDirectedEdge",
+        "getDirectedEdgeOrigin",
+        "getDirectedEdgeDestination",
+        "originToDirectedEdges",
+    ];
+    let answer = read(rt.alloc(), "h3 --help")?;
+    let text = match &answer {
+        Err(WordsFault::Help(text)) => text.as_str(),
+        _ => "",
+    };
+    for word in words {
+        let listed = text
+            .lines()
+            .any(|line| line.split_whitespace().next() == Some(word));
+        assert!(rt; listed, "{word}");
     }
     Ok(())
 }

@@ -130,7 +130,11 @@ fn pairs_of_cells_are_refused(rt: HostRuntime) -> Result<(), Fail> {
 }
 
 /// Asserts that over a table an edge leaves a cell and leads to another.
-fn assert_leads(rt: &HostRuntime, file: &str, words: (&str, &str, &str)) -> Result<(), Fail> {
+fn assert_leads<R: Abort + AllocGlobal>(
+    rt: &R,
+    file: &str,
+    words: (&str, &str, &str),
+) -> Result<(), Fail> {
     let (cell, edge, to) = words;
     let line = format!(in rt.alloc(); "{edge}\n")?;
     assert_run(rt, file, edge_between(cell, to), (&line, "", 0));
