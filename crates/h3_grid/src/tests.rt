@@ -1,3 +1,5 @@
+mod chart;
+
 use crate::{Disk, Ring, are_neighbors, disk_len, edge_between, edge_destination, edges_of, step};
 use h3_index::{Cell, Edge, H3Error, Streamed, is_pentagon_base};
 use h3_lattice::vectors::{TestTable, link};
