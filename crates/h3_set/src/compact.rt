@@ -6,7 +6,7 @@ ghost use Rattle.std.specs.Result.{result_err};
 ghost use Rattle.h3_index.specs.Cell.{Address, resolution};
 ghost use Rattle.h3_set.specs.Compacted.{compacted, HoldsOnce, IsCompacted, IsTop};
 ghost use Rattle.h3_set.specs.Coverage.{finest, IsCovered};
-ghost use Rattle.h3_set.specs.Laws.{CompactedListsAreUnique, RepeatsAreFound};
+ghost use Rattle.h3_set.specs.Laws.{CompactedListsAreUnique, ListsCompactInParts, OverlapsAreFound};
 ghost use Rattle.h3_set.specs.Refusals.{compaction_refusal};
 ghost use Rattle.h3_set.specs.Uncompaction.{uncompacted};
 
@@ -19,11 +19,15 @@ use h3_tree::laws::cells_form_trees;
 /// returns how many cells it has: the one ascending list of cells, of which no two overlap, that
 /// covers exactly the cells given and holds no complete set of siblings. It allocates nothing.
 ///
+/// Beyond H3's function, the cells may have any resolutions, so lists that are compacted can be
+/// compacted together: a list may be cut into parts in any way, each part compacted, and what that
+/// gives compacted again.
+///
 /// There must be at least as many slots as cells, n. The slots after the first n stay as they are;
 /// those of the first n that are after the list may hold any cells.
 ///
-/// `ResMismatch` where the cells have two resolutions: no slot is written. Else `DuplicateInput`
-/// where a cell is listed twice: the first n slots hold the cells in some order.
+/// `DuplicateInput` where cells at two places overlap, so where a cell is listed twice or with one
+/// that stands above it: the first n slots hold the cells in some order.
 pub fn compact_cells(cells: &[Cell], slots: &mut [Cell]) -> Result<usize, H3Error>
     requires { length cells.now ≤ length slots.old }
     ensures compacted { IfOk result (λ m. IsCompacted
@@ -31,8 +35,7 @@ pub fn compact_cells(cells: &[Cell], slots: &mut [Cell]) -> Result<usize, H3Erro
     ensures is { IfOk result (λ m. take m slots.new ≡ compacted cells.now) }
     ensures fewer { IfOk result (λ m. m ≤ length cells.now) }
     ensures refused { result_err result ≡ compaction_refusal cells.now }
-    ensures mismatch { result ≡ Err H3Error.ResMismatch → slots.new ≡ slots.old }
-    ensures repeated { result ≡ Err H3Error.DuplicateInput
+    ensures overlapping { result ≡ Err H3Error.DuplicateInput
         → IsPermutation cells.now (take (length cells.now) slots.new) }
     ensures others { drop (length cells.now) slots.new ≡ drop (length cells.now) slots.old }
 
@@ -51,7 +54,8 @@ pub fn compact_cells(cells: &[Cell], slots: &mut [Cell]) -> Result<usize, H3Erro
 
     // Laws, whatever the cells.
     ensures unique { CompactedListsAreUnique }
-    ensures repeats { RepeatsAreFound }
+    ensures parts { ListsCompactInParts }
+    ensures overlaps { OverlapsAreFound }
 {
     cells_form_trees();
     numbers_tell_cells();
