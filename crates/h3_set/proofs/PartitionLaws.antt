@@ -79,6 +79,12 @@ apart_append (x ∷ xs) ys p q out =
     ])
     (apart_append xs ys (λ i j d l lj. p (suc i) (suc j) d (omega (arith, l)) (omega (arith, lj))) q (λ a b m n. out a b (contains_tail x a xs m) n))
 
+parts_each : (parts : List (List Address)) → IsApart (joined parts) → All IsApart parts
+parts_each [] h k d lt = absurd (omega (arith, lt))
+parts_each (p ∷ parts) h zero d lt = apart_first p (joined parts) h
+parts_each (p ∷ parts) h (suc k) d lt =
+    parts_each parts (apart_second p (joined parts) h) k d (omega (arith, lt))
+
 module _ (tree : CellsFormTrees) (all_cells : CellsUpToAreListed) where
   -- two lists cover the same cells of a resolution
   abbrev Alike : ℕ → List Address → List Address → Type 0
@@ -236,11 +242,14 @@ module _ (tree : CellsFormTrees) (all_cells : CellsUpToAreListed) where
       let le : (c : Address) → Contains (joined parts) c → resolution c ≤ finest cells = λ c m. no_finer cells c ((same c).1 m) in
       let fine = fine_within cells v in
       let alike = parts_alike (finest cells) parts h le in
-      let w = parts_valid parts h in (
-        parts_apart (finest cells) parts fine h le (apart_permuted cells (joined parts) cut_up apart),
-        one_list cells (flat_map compacted parts) v w (finest_within (finest cells) (flat_map compacted parts) (parts_coarse (finest cells) parts h le))
-            (λ x. (
-              (λ c. (alike x).0 (record { by = c.by; member = (same c.by).0 c.member; below = c.below })),
-              (λ c. (let d = (alike x).1 c in record { by = d.by; member = (same d.by).1 d.member; below = d.below })),
-            )),
-      )
+      let w = parts_valid parts h in
+      let all_apart = apart_permuted cells (joined parts) cut_up apart in
+      record {
+        each = parts_each parts all_apart;
+        apart = parts_apart (finest cells) parts fine h le all_apart;
+        same = one_list cells (flat_map compacted parts) v w (finest_within (finest cells) (flat_map compacted parts) (parts_coarse (finest cells) parts h le))
+        (λ x. (
+          (λ c. (alike x).0 (record { by = c.by; member = (same c.by).0 c.member; below = c.below })),
+          (λ c. (let d = (alike x).1 c in record { by = d.by; member = (same d.by).1 d.member; below = d.below })),
+        ));
+      }

@@ -1,7 +1,7 @@
 //! The order of the slots between rounds: each cell right after its descendants, so that one sort
 //! serves all rounds. In order of their numbers, each merge would move a cell to the front.
 
-ghost use Rattle.std.specs.Prelude.{◌≡◌, ◌-◌, ◌^◌, true, All, AllPairs, IsPermutation};
+ghost use Rattle.std.specs.Prelude.{◌≡◌, ◌-◌, ◌^◌, ◌≤◌, true, All, AllPairs, IsPermutation};
 ghost use Rattle.h3_index.specs.Cell.{IsCell, resolution};
 ghost use Rattle.h3_set.specs.Order.{IsInOrder, IsNear};
 ghost use Rattle.h3_set.specs.Refusals.{has_overlap};
@@ -29,7 +29,8 @@ pub(crate) fn put_in_order(cells: &mut [Cell])
 
 /// How many keys the interval has that is kept for a cell and the cells below it.
 pub(crate) fn keys_below(cell: Cell) -> u64
-    ensures { result ≡ 8 ^ (15 - resolution cell) }
+    ensures is { result ≡ 8 ^ (15 - resolution cell) }
+    ensures at_most { result ≤ 2 ^ 45 }
 {
     1 << (3 * (15 - cell.resolution()))
 }
@@ -42,8 +43,10 @@ fn has_overlap(cells: &[Cell]) -> bool
     cells_form_intervals();
     are_cells(cells);
     for i in 1..cells.len() {
-        // one before it that is not before the interval of its keys lies within it
-        if post_order_key(cells[i]) < post_order_key(cells[i - 1]) + keys_below(cells[i]) {
+        let before = cells[i - 1];
+        let cell = cells[i];
+        // in order the one before is no later, so here it is in the interval of the cell's keys
+        if post_order_key(cell) < post_order_key(before) + keys_below(cell) {
             return true;
         }
     }
