@@ -1,6 +1,6 @@
 -- Keys: the cells below a cell are an interval that ends at its own, so in order the siblings of a complete set stand
 -- together.
-use Rattle.std.proofs.Common.{ℕ, zero, suc, ◌≡◌, ◌+◌, ◌-◌, ◌*◌, ◌%◌, ◌^◌, ◌<◌, ◌≤◌, ◌⊎◌, List, length, refl, All, AllPairs, Contains, arith, sym, ap, subst, get_or, inl, inr}
+use Rattle.std.proofs.Common.{ℕ, zero, suc, ◌≡◌, ◌+◌, ◌-◌, ◌*◌, ◌%◌, ◌^◌, ◌<◌, ◌≤◌, ◌⊎◌, List, length, refl, All, AllPairs, Contains, arith, sym, subst, get_or, inl, inr}
 use Rattle.std.proofs.Math.Nat.{pow-suc, pow-le-pow_right}
 use Rattle.std.proofs.lemmas.Nat.{mod_below, pow-add}
 use Rattle.std.proofs.lemmas.List.Elements.{Contains-get_or}

@@ -248,8 +248,8 @@ module _ (tree : CellsFormTrees) (all_cells : CellsUpToAreListed) where
         each = parts_each parts all_apart;
         apart = parts_apart (finest cells) parts fine h le all_apart;
         same = one_list cells (flat_map compacted parts) v w (finest_within (finest cells) (flat_map compacted parts) (parts_coarse (finest cells) parts h le))
-        (λ x. (
-          (λ c. (alike x).0 (record { by = c.by; member = (same c.by).0 c.member; below = c.below })),
-          (λ c. (let d = (alike x).1 c in record { by = d.by; member = (same d.by).1 d.member; below = d.below })),
-        ));
+            (λ x. (
+              (λ c. (alike x).0 (record { by = c.by; member = (same c.by).0 c.member; below = c.below })),
+              (λ c. (let d = (alike x).1 c in record { by = d.by; member = (same d.by).1 d.member; below = d.below })),
+            ));
       }

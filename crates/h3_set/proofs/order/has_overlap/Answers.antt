@@ -1,7 +1,6 @@
-use Rattle.std.proofs.Common.{◌≡◌, ◌+◌, ◌-◌, ◌^◌, ◌<◌, length, get_or, arith, ◌∙◌, sym, ap, subst, inl, inr}
+use Rattle.std.proofs.Common.{◌≡◌, ◌-◌, ◌<◌, length, get_or, arith, ◌∙◌, sym, inl, inr}
 use Rattle.std.proofs.lemmas.Bool.{cases_lt}
-use Rattle.h3_index.specs.Cell.{Address, resolution}
-use Rattle.h3_tree.specs.PostOrder.{post_order_key as key}
+use Rattle.h3_index.specs.Cell.{Address}
 use Rattle.h3_set.specs.Order.{IsNear}
 use Rattle.h3_set.proofs.KeyLaws.{key_small}
 use Rattle.h3_set.proofs.OverlapLaws.{near_overlaps, neighbours_tell, none_where, overlap_at}

@@ -1,5 +1,4 @@
 use Rattle.std.proofs.Common.{◌-◌, ◌^◌, arith, ap, ◌∙◌}
-use Rattle.h3_index.specs.Cell.{resolution}
 use Rattle.h3_set.proofs.KeyLaws.{block, block_small}
 use Rattle.h3_set.proofs.order.keys_below.Goals as goal
 
