@@ -1,4 +1,4 @@
--- Which lists have cells that overlap, and that in order neighbours tell.
+-- Which lists have cells that overlap; in a list in order two neighbours do where any two cells do.
 use Rattle.std.specs.Bool.{Decides}
 use Rattle.std.specs.List.{list_any, AllWithin}
 use Rattle.std.specs.List.Sorted.{IsPermutation}
@@ -9,10 +9,12 @@ use Rattle.std.proofs.lemmas.Bool.Decides.{Decides-like, Decides-or, nat_tests}
 use Rattle.std.proofs.lemmas.List.Folds.{list_any_at, list_any_none}
 use Rattle.std.proofs.lemmas.List.Sorted.{IsPermutation-sym}
 use Rattle.h3_index.specs.Cell.{Address, IsCell}
+use Rattle.h3_index.specs.Descendants.{IsAncestor}
+use Rattle.h3_tree.specs.Laws.{CellsFormTrees}
 use Rattle.h3_tree.specs.PostOrder.{post_order_key as key, CellsFormIntervals}
 use Rattle.h3_set.specs.Coverage.{is_ancestor, IsApart, Overlap}
-use Rattle.h3_set.specs.Laws.{OverlapsAreFound}
-use Rattle.h3_set.specs.Order.{IsInOrder, IsNear}
+use Rattle.h3_set.specs.Laws.{OneResolutionIsApart, OverlapsAreFound}
+use Rattle.h3_set.specs.Order.{IsBefore, IsInOrder}
 use Rattle.h3_set.specs.Refusals.{has_overlap, overlaps}
 use Rattle.h3_set.proofs.KeyLaws.{inside, within}
 use Rattle.h3_set.proofs.PermutedLaws.{apart_permuted}
@@ -53,6 +55,18 @@ none_where (c ∷ cells) h =
 pub overlaps_found : OverlapsAreFound
 overlaps_found cells = (apart_where cells, none_where cells)
 
+-- cells of one resolution overlap only where they are one
+pub one_resolution : (tree : CellsFormTrees) → OneResolutionIsApart
+one_resolution tree cells r level = (
+  (λ apart i j d lt lj e. apart i j d lt lj (inl (subst (IsAncestor (get_or cells i d)) e (tree.own (get_or cells i d))))),
+  (λ once i j d lt lj o.
+      let a = get_or cells i d in
+      let b = get_or cells j d in
+      let at_a : length a.digits ≡ r = level i d (omega (arith, lt, lj)) in
+      let at_b : length b.digits ≡ r = level j d lj in
+      once i j d lt lj (elim o [ inl above ↦ sym (tree.same a b above (omega (arith, at_a, at_b))) | inr above ↦ tree.same b a above (omega (arith, at_a, at_b)) ])),
+)
+
 found_by : (cells : List Address) (i j : ℕ) (d : Address) → i < j → j < length cells → Overlap (get_or cells i d) (get_or cells j d) → (b : Bool) → has_overlap cells ≡ b → b ≡ true
 found_by cells i j d lt lj o true h = refl
 found_by cells i j d lt lj o false h = absurd (apart_where cells h i j d lt lj o)
@@ -71,8 +85,8 @@ one_answer xs ys p true false e f =
 pub overlap_permuted : (xs ys : List Address) → IsPermutation xs ys → has_overlap xs ≡ has_overlap ys
 overlap_permuted xs ys p = one_answer xs ys p _ _ refl refl
 
-pub near_overlaps : (intervals : CellsFormIntervals) (a b : Address) → IsCell a → IsCell b → key a ≤ key b → IsNear a b → Overlap a b
-near_overlaps intervals a b ha hb le near = inr (inside intervals b a hb ha le near)
+pub not_before : (intervals : CellsFormIntervals) (a b : Address) → IsCell a → IsCell b → key a ≤ key b → key b < key a + 8 ^ (15 - length b.digits) → Overlap a b
+not_before intervals a b ha hb le near = inr (inside intervals b a hb ha le near)
 
 module _ (intervals : CellsFormIntervals) (cells : List Address) (valid : All IsCell cells) (order : IsInOrder cells) where
   up_to : (i j : ℕ) (d : Address) → i ≤ j → j < length cells → key (get_or cells i d) ≤ key (get_or cells j d)
@@ -83,22 +97,19 @@ module _ (intervals : CellsFormIntervals) (cells : List Address) (valid : All Is
       ]
 
   -- where no neighbours overlap, no two cells do
-  pub neighbours_tell : ((k : ℕ) (d : Address) → 0 < k → k < length cells → ¬ IsNear (get_or cells (k - 1) d) (get_or cells k d)) → IsApart cells
-  neighbours_tell h i j d lt lj o =
+  pub by_neighbours : ((k : ℕ) (d : Address) → 0 < k → k < length cells → IsBefore (get_or cells (k - 1) d) (get_or cells k d)) → IsApart cells
+  by_neighbours h i j d lt lj o =
       let a = get_or cells i d in
       let b = get_or cells j d in
       let ha = valid i d (omega (arith, lt, lj)) in
       let hb = valid j d lj in
       let low = up_to i (j - 1) d (omega (arith, lt)) (omega (arith, lj)) in
       let high = up_to (j - 1) j d (omega arith) lj in
+      let before = h j d (omega (arith, lt)) lj in
+      let some : 1 ≤ 8 ^ (15 - length b.digits) = one-le-pow (15 - length b.digits) 8 (omega arith) in
       elim o [
-        | inr under ↦
-            let w = within intervals b a hb ha under in
-            h j d (omega (arith, lt)) lj (omega (arith, w.1, low))
-        | inl over ↦
-            let w = within intervals a b ha hb over in
-            let some : 1 ≤ 8 ^ (15 - length b.digits) = one-le-pow (15 - length b.digits) 8 (omega arith) in
-            h j d (omega (arith, lt)) lj (omega (arith, w.0, low, high, some))
+        | inr under ↦ let w = within intervals b a hb ha under in omega (arith, w.1, low, before)
+        | inl over ↦ let w = within intervals a b ha hb over in omega (arith, w.0, low, high, some, before)
       ]
 
 -- ---- one more cell of a list that is read
@@ -110,9 +121,9 @@ within_more P cells i x lt is h p k d low l =
       | inr not ↦ let e : k ≡ i = omega (arith, l, not) in rw e (subst P (is ∙ any_default cells i x d lt) p)
     ]
 
--- no two of the first i cells are near, and their keys are below an end
+-- of the first i cells each comes before those after it, and their keys are below an end
 abbrev pub Rises : List Address → ℕ → ℕ → Type 0
-Rises cells i end = ((a b : ℕ) (d : Address) → a < b → b < i → ¬ IsNear (get_or cells a d) (get_or cells b d)) × ((a : ℕ) (d : Address) → a < i → key (get_or cells a d) < end)
+Rises cells i end = ((a b : ℕ) (d : Address) → a < b → b < i → IsBefore (get_or cells a d) (get_or cells b d)) × ((a : ℕ) (d : Address) → a < i → key (get_or cells a d) < end)
 
 both : (a b : Bool) → (a && b) ≡ true → (a ≡ true) × (b ≡ true)
 both true b h = (refl, h)
@@ -128,13 +139,12 @@ rise_more cells i end next p x rises size lt is at h t =
     let up : end + 8 ^ (15 - length x.digits) ≤ next = rw size at (at_most (end + p) next two.1) in
     let some : 1 ≤ 8 ^ (15 - length x.digits) = one-le-pow (15 - length x.digits) 8 (omega arith) in
     let here : (d : Address) → get_or cells i d ≡ x = λ d. any_default cells i d x lt ∙ sym is in (
-      λ a b d la lb near. elim (cases_lt b i) [
-        | inl below ↦ r.0 a b d la below near
+      λ a b d la lb. elim (cases_lt b i) [
+        | inl below ↦ r.0 a b d la below
         | inr not ↦
             let e : b ≡ i = omega (arith, lb, not) in
             let low = r.1 a d (omega (arith, la, e)) in
-            let near' : key x < key (get_or cells a d) + 8 ^ (15 - length x.digits) = rw (e, here d) at near in
-            omega (arith, low, up, at, near')
+            rw (e, here d) (omega (arith, low, up, at))
       ],
       λ a d la. elim (cases_lt a i) [
         | inl below ↦ let low = r.1 a d below in omega (arith, low, up, at, some)
@@ -142,26 +152,10 @@ rise_more cells i end next p x rises size lt is at h t =
       ],
     )
 
-module _ (intervals : CellsFormIntervals) (cells : List Address) (valid : All IsCell cells) (rises : AllPairs (λ a b. ¬ IsNear a b) cells) where
-  apart_by : (i j : ℕ) (d : Address) → i < j → j < length cells → key (get_or cells i d) + 8 ^ (15 - length (get_or cells j d).digits) ≤ key (get_or cells j d)
-  apart_by i j d lt lj =
-      elim (cases_lt (key (get_or cells j d)) (key (get_or cells i d) + 8 ^ (15 - length (get_or cells j d).digits))) [
-        | inl near ↦ absurd (rises i j d lt lj near)
-        | inr far ↦ far
-      ]
-
+module _ (intervals : CellsFormIntervals) (cells : List Address) (valid : All IsCell cells) (rises : AllPairs IsBefore cells) where
   pub rising_order : IsInOrder cells
-  rising_order i j d lt lj = let h = apart_by i j d lt lj in omega (arith, h)
+  rising_order i j d lt lj = let h = rises i j d lt lj in omega (arith, h)
 
   pub rising_apart : IsApart cells
-  rising_apart i j d lt lj o =
-      let a = get_or cells i d in
-      let b = get_or cells j d in
-      let ha = valid i d (omega (arith, lt, lj)) in
-      let hb = valid j d lj in
-      let h = apart_by i j d lt lj in
-      let some : 1 ≤ 8 ^ (15 - length (get_or cells j d).digits) = one-le-pow (15 - length (get_or cells j d).digits) 8 (omega arith) in
-      elim o [
-        | inr under ↦ let w = within intervals b a hb ha under in omega (arith, h, w.1)
-        | inl over ↦ let w = within intervals a b ha hb over in omega (arith, h, w.0, some)
-      ]
+  rising_apart =
+      by_neighbours intervals cells valid rising_order (λ k d pos lt. rises (k - 1) k d (omega (arith, pos)) lt)

@@ -3,6 +3,7 @@ use Rattle.std.specs.List.{flat_map}
 use Rattle.std.proofs.Common.{ℕ, zero, suc, ◌≡◌, ◌≤◌, ◌↔◌, ◌⊎◌, List, [], ◌∷◌, ◌++◌, length, All, Contains, arith, sym, subst, inl, inr, get_or}
 use Rattle.std.proofs.lemmas.Bool.{cases_lt}
 use Rattle.std.proofs.lemmas.List.Elements.{All-contains, Contains-append_cases, Contains-append_left, Contains-append_right, Contains-get_or}
+use Rattle.std.proofs.lemmas.List.Sorted.{IsPermutation-sym}
 use Rattle.h3_index.specs.Cell.{Address, IsCell, resolution}
 use Rattle.h3_index.specs.Count.{CellsUpToAreListed}
 use Rattle.h3_index.specs.Descendants.{center_at, cut, IsAncestor, IsDescendant}
@@ -234,8 +235,32 @@ module _ (tree : CellsFormTrees) (all_cells : CellsUpToAreListed) where
         | inr above ↦ across_one r (flat_map compacted parts) (compacted p) fine u ul (λ x d c. out x c d) b a n m above
       ])
 
+  -- members of a part and of the others overlap only where what they give does
+  parts_across : (r : ℕ) (p : List Address) (parts : List (List Address)) → r ≤ 15 → ((c : Address) → Contains (p ++ joined parts) c → IsCell c) → ((c : Address) → Contains (p ++ joined parts) c → resolution c ≤ r) → IsApart (compacted p ++ flat_map compacted parts) → (a b : Address) → Contains p a → Contains (joined parts) b → ¬ Overlap a b
+  parts_across r p parts fine h le apart a b m n o =
+      let v : (c : Address) → Contains p c → IsCell c = λ c i. h c (Contains-append_left p (joined parts) c i) in
+      let vl : (c : Address) → Contains p c → resolution c ≤ r = λ c i. le c (Contains-append_left p (joined parts) c i) in
+      let w : (c : Address) → Contains (joined parts) c → IsCell c = λ c i. h c (Contains-append_right p (joined parts) c i) in
+      let wl : (c : Address) → Contains (joined parts) c → resolution c ≤ r = λ c i. le c (Contains-append_right p (joined parts) c i) in
+      let first = made_alike p r v (finest_within r p vl) in
+      let rest = parts_alike r parts w wl in
+      let out : (x : Address) → IsCovered p r x → ¬ IsCovered (joined parts) r x =
+      λ x c d. meet (compacted p) (flat_map compacted parts) r x (apart_across (compacted p) (flat_map compacted parts) apart) ((first x).0 c) ((rest x).0 d) in
+      elim o [
+        | inl above ↦ across_one r p (joined parts) fine w wl out a b m n above
+        | inr above ↦ across_one r (joined parts) p fine v vl (λ x d c. out x c d) b a n m above
+      ]
+
+  -- no two members of the whole overlap where none do in any part and in what the parts give
+  whole_apart : (r : ℕ) (parts : List (List Address)) → r ≤ 15 → ((c : Address) → Contains (joined parts) c → IsCell c) → ((c : Address) → Contains (joined parts) c → resolution c ≤ r) → All IsApart parts → IsApart (flat_map compacted parts) → IsApart (joined parts)
+  whole_apart r [] fine h le each apart = apart
+  whole_apart r (p ∷ parts) fine h le each apart =
+      apart_append p (joined parts) (each 0 p (omega arith))
+      (whole_apart r parts fine (λ c i. h c (Contains-append_right p (joined parts) c i)) (λ c i. le c (Contains-append_right p (joined parts) c i)) (λ k d lt. each (suc k) d (omega (arith, lt))) (apart_second (compacted p) (flat_map compacted parts) apart))
+      (parts_across r p parts fine h le apart)
+
   pub in_parts : ListsCompactInParts
-  in_parts cells parts valid apart cut_up =
+  in_parts cells parts valid cut_up =
       let same = members_permuted cells (joined parts) cut_up in
       let v : (c : Address) → Contains cells c → IsCell c = λ c m. All-contains IsCell cells c valid m in
       let h : (c : Address) → Contains (joined parts) c → IsCell c = λ c m. v c ((same c).1 m) in
@@ -243,10 +268,13 @@ module _ (tree : CellsFormTrees) (all_cells : CellsUpToAreListed) where
       let fine = fine_within cells v in
       let alike = parts_alike (finest cells) parts h le in
       let w = parts_valid parts h in
-      let all_apart = apart_permuted cells (joined parts) cut_up apart in
       record {
-        each = parts_each parts all_apart;
-        apart = parts_apart (finest cells) parts fine h le all_apart;
+        apart = (
+          (λ apart.
+              let all_apart = apart_permuted cells (joined parts) cut_up apart in
+              (parts_each parts all_apart, parts_apart (finest cells) parts fine h le all_apart)),
+          (λ both. apart_permuted (joined parts) cells (IsPermutation-sym cells (joined parts) cut_up) (whole_apart (finest cells) parts fine h le both.0 both.1)),
+        );
         same = one_list cells (flat_map compacted parts) v w (finest_within (finest cells) (flat_map compacted parts) (parts_coarse (finest cells) parts h le))
             (λ x. (
               (λ c. (alike x).0 (record { by = c.by; member = (same c.by).0 c.member; below = c.below })),

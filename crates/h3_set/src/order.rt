@@ -3,7 +3,7 @@
 
 ghost use Rattle.std.specs.Prelude.{◌≡◌, ◌-◌, ◌^◌, ◌≤◌, true, All, AllPairs, IsPermutation};
 ghost use Rattle.h3_index.specs.Cell.{IsCell, resolution};
-ghost use Rattle.h3_set.specs.Order.{IsInOrder, IsNear};
+ghost use Rattle.h3_set.specs.Order.{IsInOrder, IsBefore};
 ghost use Rattle.h3_set.specs.Refusals.{has_overlap};
 
 use h3_index::Cell;
@@ -27,7 +27,8 @@ pub(crate) fn put_in_order(cells: &mut [Cell])
     cells.sort_unstable_by_key(|c: &Cell| post_order_key(*c));
 }
 
-/// How many keys the interval has that is kept for a cell and the cells below it.
+/// How many keys there are for a cell and the cells below it: an interval of that length ends at the
+/// cell's own key.
 pub(crate) fn keys_below(cell: Cell) -> u64
     ensures is { result ≡ 8 ^ (15 - resolution cell) }
     ensures at_most { result ≤ 2 ^ 45 }
@@ -45,7 +46,7 @@ fn has_overlap(cells: &[Cell]) -> bool
     for i in 1..cells.len() {
         let before = cells[i - 1];
         let cell = cells[i];
-        // in order the one before is no later, so here it is in the interval of the cell's keys
+        // one that stands before a cell in order, but not before all cells below it, is below it
         if post_order_key(cell) < post_order_key(before) + keys_below(cell) {
             return true;
         }
@@ -56,7 +57,7 @@ fn has_overlap(cells: &[Cell]) -> bool
 /// Puts cells in order, and returns whether cells at two places overlap. Where they are known to be
 /// in order with no two that overlap, nothing is to be done.
 pub(crate) fn sort_and_find_overlap(cells: &mut [Cell], rises: bool) -> bool
-    requires { rises ≡ true → AllPairs (λ a b. ¬ IsNear a b) cells.old }
+    requires { rises ≡ true → AllPairs IsBefore cells.old }
     ensures same { IsPermutation cells.old cells.new }
     ensures in_order { IsInOrder cells.new }
     ensures overlap { result ≡ has_overlap cells.old }

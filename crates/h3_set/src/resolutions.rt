@@ -3,7 +3,7 @@
 ghost use Rattle.std.specs.Prelude.{◌≡◌, ◌<◌, ◌≤◌, true, All, AllPairs};
 ghost use Rattle.h3_index.specs.Cell.{IsCell, resolution};
 ghost use Rattle.h3_set.specs.Coverage.{finest};
-ghost use Rattle.h3_set.specs.Order.{IsNear};
+ghost use Rattle.h3_set.specs.Order.{IsBefore};
 
 use crate::order::keys_below;
 use h3_index::Cell;
@@ -15,7 +15,7 @@ pub(crate) fn survey(cells: &[Cell]) -> (u8, bool)
     ensures finest { result.0 ≡ finest cells.now }
     ensures at_most_fifteen { result.0 ≤ 15 }
     ensures valid { All IsCell cells.now }
-    ensures rises { result.1 ≡ true → AllPairs (λ a b. ¬ IsNear a b) cells.now }
+    ensures rises { result.1 ≡ true → AllPairs IsBefore cells.now }
 {
     let mut finest: u8 = 0;
     let mut rises = true;
@@ -23,7 +23,7 @@ pub(crate) fn survey(cells: &[Cell]) -> (u8, bool)
     for cell in cells {
         finest = finest.max(cell.resolution());
         let next = post_order_key(*cell) + 1;
-        // without a branch: the keys of this cell and those below it come after the last cell's
+        // without a branch: the last cell comes before this one and all cells below it
         rises = rises & (end + keys_below(*cell) <= next);
         end = next;
     }

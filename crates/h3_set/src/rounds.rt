@@ -5,7 +5,7 @@ ghost use Rattle.std.specs.Result.{result_err};
 ghost use Rattle.h3_index.specs.Cell.{Address, number_of};
 ghost use Rattle.h3_set.specs.Compaction.{level_of, slots_in_use};
 ghost use Rattle.h3_set.specs.Coverage.{finest, IsApart, IsCompactable};
-ghost use Rattle.h3_set.specs.Laws.{OverlapsAreFound, RoundsReachTheTop};
+ghost use Rattle.h3_set.specs.Laws.{OneResolutionIsApart, OverlapsAreFound, RoundsReachTheTop};
 ghost use Rattle.h3_set.specs.Order.{IsInOrder};
 ghost use Rattle.h3_set.specs.Refusals.{compaction_refusal};
 ghost use Rattle.h3_set.specs.Rounds.{InPart, InRound};
@@ -30,8 +30,8 @@ impl Compaction {
     /// Puts the cells, of any resolutions, into the first slots. There must be at least as many
     /// slots as cells, n; the slots after the first n stay as they are.
     ///
-    /// `DuplicateInput` where cells at two places overlap, so where a cell is listed twice or with
-    /// one that stands above it: the first n slots hold the cells in some order.
+    /// `DuplicateInput` where cells at two places overlap: a cell is listed twice, or together with
+    /// an ancestor of it. The first n slots then hold the cells in some order.
     pub fn start(cells: &[Cell], slots: &mut [Cell]) -> Result<Compaction, H3Error>
         requires { length cells.now ≤ length slots.old }
         ensures refused { result_err result ≡ compaction_refusal cells.now }
@@ -49,10 +49,11 @@ impl Compaction {
             → Contains (take (slots_in_use c) slots.new) x
             ↔ InPart cells.now (level_of c) (level_of c) x) }
 
-        // At level 0, where no round is left, these are the top cells; refused are the lists with
-        // two cells that overlap.
+        // At level 0, where no round is left, these are the top cells. The test of the refusal finds
+        // the cells that overlap; those of one resolution do so only where one is listed twice.
         ensures last { RoundsReachTheTop }
         ensures overlaps { OverlapsAreFound }
+        ensures repeats { OneResolutionIsApart }
     {
         Compaction::start_in_order(cells, slots)
     }
@@ -75,10 +76,11 @@ impl Compaction {
             → Contains (take (slots_in_use c) slots.new) x
             ↔ InPart cells.now (level_of c) (level_of c) x) }
 
-        // At level 0, where no round is left, these are the top cells; refused are the lists with
-        // two cells that overlap.
+        // At level 0, where no round is left, these are the top cells. The test of the refusal finds
+        // the cells that overlap; those of one resolution do so only where one is listed twice.
         ensures last { RoundsReachTheTop }
         ensures overlaps { OverlapsAreFound }
+        ensures repeats { OneResolutionIsApart }
         ensures in_order { IfOk result (λ c. IsInOrder (take (slots_in_use c) slots.new)) }
     {
         cells_form_trees();

@@ -4,7 +4,7 @@ use Rattle.h3_set.specs.Compaction.{level_of, slots_in_use}
 use Rattle.h3_set.specs.Coverage.{finest, IsCovered}
 use Rattle.h3_set.specs.Rounds.{InPart}
 use Rattle.h3_set.proofs.CompactLaws.{compacts, cover_themselves, drop_later}
-use Rattle.h3_set.proofs.OverlapLaws.{overlaps_found}
+use Rattle.h3_set.proofs.OverlapLaws.{one_resolution, overlaps_found}
 use Rattle.h3_set.proofs.PartitionLaws.{in_parts}
 use Rattle.h3_set.proofs.SetLaws.{member_top, one_compacted, top_member}
 use Rattle.h3_set.proofs.StreamLaws.{streams_once}
@@ -82,3 +82,9 @@ returns-in_err-compaction-clause-overlaps c = overlaps_found
 
 pub returns-clause-overlaps : goal.returns-clause-overlaps
 returns-clause-overlaps c = overlaps_found
+
+pub returns-in_err-compaction-clause-repeats : goal.returns-in_err-compaction-clause-repeats
+returns-in_err-compaction-clause-repeats c = one_resolution c.cells_form_trees.ensures
+
+pub returns-clause-repeats : goal.returns-clause-repeats
+returns-clause-repeats c = one_resolution c.cells_form_trees.ensures

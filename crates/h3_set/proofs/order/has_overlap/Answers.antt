@@ -1,9 +1,9 @@
-use Rattle.std.proofs.Common.{◌≡◌, ◌-◌, ◌<◌, length, get_or, arith, ◌∙◌, sym, inl, inr}
+use Rattle.std.proofs.Common.{◌≡◌, ◌+◌, ◌-◌, ◌^◌, ◌<◌, length, get_or, arith, ◌∙◌, sym, inl, inr}
 use Rattle.std.proofs.lemmas.Bool.{cases_lt}
-use Rattle.h3_index.specs.Cell.{Address}
-use Rattle.h3_set.specs.Order.{IsNear}
+use Rattle.h3_index.specs.Cell.{Address, resolution}
+use Rattle.h3_tree.specs.PostOrder.{post_order_key as key}
 use Rattle.h3_set.proofs.KeyLaws.{key_small}
-use Rattle.h3_set.proofs.OverlapLaws.{near_overlaps, neighbours_tell, none_where, overlap_at}
+use Rattle.h3_set.proofs.OverlapLaws.{by_neighbours, none_where, not_before, overlap_at}
 use Rattle.h3_set.proofs.TreeLaws.{any_default}
 use Rattle.h3_set.proofs.order.has_overlap.Goals as goal
 use Rattle.h3_set.proofs.order.has_overlap.Goals.{After-keys_below}
@@ -30,21 +30,19 @@ returns-then-post_order_key-keys_below c =
     let d = c.index-cells-i.result in
     let lt : c.loop-i.i < length c.args.cells.now = omega arith in
     let back : c.loop-i.i - 1 < length c.args.cells.now = omega (arith, lt) in
-    let near : IsNear c.index-cells-i.result c.index-cells-i-in-loop-i.result =
-    omega (arith, c.if-post_order_key-keys_below.true, c.post_order_key.ensures.is, c.post_order_key-in-loop-i.ensures.is, c.keys_below.ensures.is) in
-    let at : IsNear (get_or c.args.cells.now (c.loop-i.i - 1) d) (get_or c.args.cells.now c.loop-i.i d) = rw (before c.before d, here c.before d) near in
-    sym (overlap_at cells (i - 1) i d (omega arith) lt (near_overlaps c.cells_form_intervals.ensures _ _ (c.are_cells.ensures (i - 1) d back) (c.are_cells.ensures i d lt) (c.requires (i - 1) i d (omega arith) lt) at))
+    let key_is : key (get_or c.args.cells.now c.loop-i.i d) < key (get_or c.args.cells.now (c.loop-i.i - 1) d) + 8 ^ (15 - resolution (get_or c.args.cells.now c.loop-i.i d)) =
+    rw (before c.before d, here c.before d) (omega (arith, c.if-post_order_key-keys_below.true, c.post_order_key.ensures.is, c.post_order_key-in-loop-i.ensures.is, c.keys_below.ensures.is)) in
+    sym (overlap_at cells (i - 1) i d (omega arith) lt (not_before c.cells_form_intervals.ensures _ _ (c.are_cells.ensures (i - 1) d back) (c.are_cells.ensures i d lt) (c.requires (i - 1) i d (omega arith) lt) key_is))
 
 pub loop-i-preserved : goal.loop-i-preserved
-loop-i-preserved c = λ k d pos lt near.
+loop-i-preserved c = λ k d pos lt.
     elim (cases_lt k c.loop-i.i) [
-      | inl less ↦ c.loop-i.invariant k d pos less near
+      | inl less ↦ c.loop-i.invariant k d pos less
       | inr not ↦
           let is : k ≡ c.loop-i.i = omega (arith, lt, not) in
-          let at : IsNear c.index-cells-i.result c.index-cells-i-in-loop-i.result = rw (is, before c.before d, here c.before d) at near in
-          omega (arith, at, c.if-post_order_key-keys_below.false, c.post_order_key.ensures.is, c.post_order_key-in-loop-i.ensures.is, c.keys_below.ensures.is)
+          rw (is, before c.before d, here c.before d) (omega (arith, c.if-post_order_key-keys_below.false, c.post_order_key.ensures.is, c.post_order_key-in-loop-i.ensures.is, c.keys_below.ensures.is))
     ]
 
 pub returns : goal.returns
 returns c =
-    sym (none_where c.args.cells.now (neighbours_tell c.cells_form_intervals.ensures c.args.cells.now c.are_cells.ensures c.requires (λ k d pos lt. c.loop-i.invariant k d pos (omega (arith, lt)))))
+    sym (none_where c.args.cells.now (by_neighbours c.cells_form_intervals.ensures c.args.cells.now c.are_cells.ensures c.requires (λ k d pos lt. c.loop-i.invariant k d pos (omega (arith, lt)))))

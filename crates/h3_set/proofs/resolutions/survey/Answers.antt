@@ -28,3 +28,7 @@ loop-cell-preserved c =
       end_small = omega (arith, c.post_order_key-next.ensures.is, key_small x);
       rise = rise_more cells i c.loop-cell.end (c.post_order_key-next.result + 1) c.keys_below.result x c.loop-cell.rises c.keys_below.ensures.is c.loop-cell-test.true c.cell-item.is (ap (λ n. n + 1) c.post_order_key-next.ensures.is) before.rise;
     }
+
+pub returns-clause-rises : goal.returns-clause-rises
+returns-clause-rises c = λ t i j d lt lj.
+    (c.loop-cell.invariant.rise t).0 i j d lt (omega (arith, lj))

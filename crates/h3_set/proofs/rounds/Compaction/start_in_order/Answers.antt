@@ -1,9 +1,10 @@
-use Rattle.std.proofs.Common.{◌≡◌, ◌++◌, ◌↔◌, List, [], length, take, drop, Contains, IsPermutation, arith, sym, ap, subst, ◌∙◌}
+use Rattle.std.proofs.Common.{◌≡◌, ◌++◌, ◌↔◌, List, [], length, take, drop, AllPairs, Contains, IsPermutation, arith, sym, ap, subst, ◌∙◌}
 use Rattle.h3_index.specs.Cell.{Address}
 use Rattle.h3_set.specs.Coverage.{IsApart}
+use Rattle.h3_set.specs.Order.{IsBefore}
 use Rattle.h3_set.specs.Refusals.{has_overlap}
 use Rattle.h3_set.specs.Rounds.{InPart}
-use Rattle.h3_set.proofs.OverlapLaws.{apart_where, overlaps_found}
+use Rattle.h3_set.proofs.OverlapLaws.{apart_where, one_resolution, overlaps_found}
 use Rattle.h3_set.proofs.PartLaws.{reached, starts}
 use Rattle.h3_set.proofs.PermutedLaws.{apart_permuted, copied_front, members_permuted, reordered, reordered_front}
 use Rattle.h3_set.proofs.ResolutionLaws.{none_finer}
@@ -21,6 +22,10 @@ front c = reordered_front c.args.cells.now c.copy_from_slice.new.self c.sort_and
 
 told : (c : After-sort_and_find_overlap) → has_overlap c.args.cells.now ≡ c.sort_and_find_overlap.result
 told c = ap has_overlap (sym (copied_front c.args.cells.now c.copy_from_slice.new.self (drop (length c.args.cells.now) c.args.slots.now) c.copy_from_slice.ensures.after)) ∙ sym c.sort_and_find_overlap.ensures.overlap
+
+pub sort_and_find_overlap-requires : goal.sort_and_find_overlap-requires
+sort_and_find_overlap-requires c = λ t.
+    subst (AllPairs IsBefore) (sym (copied_front c.args.cells.now c.copy_from_slice.new.self _ c.copy_from_slice.ensures.after)) (c.survey-level.ensures.rises t)
 
 pub returns-then-sort_and_find_overlap-clause-last : goal.returns-then-sort_and_find_overlap-clause-last
 returns-then-sort_and_find_overlap-clause-last c = reached c.cells_form_trees.ensures
@@ -53,3 +58,10 @@ returns-then-sort_and_find_overlap-clause-overlaps c = overlaps_found
 
 pub returns-clause-overlaps : goal.returns-clause-overlaps
 returns-clause-overlaps c = overlaps_found
+
+pub returns-then-sort_and_find_overlap-clause-repeats :
+    goal.returns-then-sort_and_find_overlap-clause-repeats
+returns-then-sort_and_find_overlap-clause-repeats c = one_resolution c.cells_form_trees.ensures
+
+pub returns-clause-repeats : goal.returns-clause-repeats
+returns-clause-repeats c = one_resolution c.cells_form_trees.ensures
