@@ -6,7 +6,9 @@
 //! `plain ring CELL K TABLE`.
 //!
 //! Lists to be compacted: `plain first COUNT CELL RES` (the first children), `plain shuffled CELL RES` (all children in a
-//! random order, always the same) and `plain lone CELL RES` (one child of each parent).
+//! random order, always the same), `plain lone CELL RES` (one child of each parent) and `plain mixed CELL RES` (the
+//! compacted list of the children but one of 160, in a random way that is always the same, with the children one level
+//! down in place of every tenth cell).
 
 mod walks;
 
@@ -190,33 +192,41 @@ fn merge(cells: &mut [u64], level: u64) -> usize {
     written
 }
 
-/// The compacted list of cells of one resolution: one sort, and a pass a level while there is something to merge.
+/// Whether a cell comes before another one and all cells below that.
+fn is_before(cell: u64, other: u64) -> bool {
+    post_order_key(cell) + (1 << (3 * (15 - resolution(other)))) <= post_order_key(other)
+}
+
+/// The compacted list of cells of which no two overlap: one sort, and a pass for each resolution that some cell has.
 fn compact(cells: &mut Vec<u64>) {
-    let Some(first) = cells.first() else {
-        return;
-    };
-    let res = resolution(*first);
-    assert!(cells.iter().all(|cell| resolution(*cell) == res), "cells of two resolutions");
     cells.sort_unstable_by_key(|cell| post_order_key(*cell));
-    assert!(cells.windows(2).all(|pair| pair[0] != pair[1]), "a cell is listed twice");
-    for level in (1..=res).rev() {
-        let count = merge(cells, level);
-        if count == cells.len() {
-            break;
+    assert!(cells.windows(2).all(|pair| is_before(pair[0], pair[1])), "two cells overlap");
+    let mut used = cells.iter().fold(0u16, |used, cell| used | 1 << resolution(*cell));
+    for level in (1..=15).rev() {
+        if used >> level & 1 == 0 {
+            continue;
         }
-        cells.truncate(count);
+        let count = merge(cells, level);
+        if count < cells.len() {
+            used |= 1 << (level - 1);
+            cells.truncate(count);
+        }
     }
     cells.sort_unstable();
+}
+
+fn random(state: &mut u64) -> u64 {
+    *state ^= *state << 13;
+    *state ^= *state >> 7;
+    *state ^= *state << 17;
+    *state
 }
 
 /// Puts the cells into a random order, always the same.
 fn shuffle(cells: &mut [u64]) {
     let mut state = 0x9e37_79b9_7f4a_7c15u64;
     for i in (1..cells.len()).rev() {
-        state ^= state << 13;
-        state ^= state >> 7;
-        state ^= state << 17;
-        cells.swap(i, (state % (i as u64 + 1)) as usize);
+        cells.swap(i, (random(&mut state) % (i as u64 + 1)) as usize);
     }
 }
 
@@ -350,6 +360,17 @@ fn main() -> io::Result<()> {
         ["lone", cell, res] => {
             let level = res.parse().expect("a resolution");
             write_cells(&mut out, children(cell, res).filter(|child| digit(*child, level) == 3))?
+        }
+        ["mixed", cell, res] => {
+            let mut state = 1;
+            let mut cells: Vec<u64> = children(cell, res)
+                .filter(|_| random(&mut state) % 160 > 0)
+                .collect();
+            compact(&mut cells);
+            for (i, cell) in cells.into_iter().enumerate() {
+                let res = resolution(cell) + u64::from(i % 10 == 0);
+                write_cells(&mut out, Children::of(cell, res))?
+            }
         }
         ["compact"] => {
             let mut cells = read_cells()?;

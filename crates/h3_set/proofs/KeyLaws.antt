@@ -1,7 +1,8 @@
 -- Keys: the cells below a cell are an interval that ends at its own, so in order the siblings of a complete set stand
 -- together.
-use Rattle.std.proofs.Common.{ℕ, ◌≡◌, ◌+◌, ◌-◌, ◌%◌, ◌^◌, ◌<◌, ◌≤◌, ◌⊎◌, List, length, refl, All, AllPairs, Contains, arith, sym, ap, subst, get_or, inl, inr}
-use Rattle.std.proofs.Math.Nat.{one-le-pow}
+use Rattle.std.proofs.Common.{ℕ, zero, suc, ◌≡◌, ◌+◌, ◌-◌, ◌*◌, ◌%◌, ◌^◌, ◌<◌, ◌≤◌, ◌⊎◌, List, length, refl, All, AllPairs, Contains, arith, sym, subst, get_or, inl, inr}
+use Rattle.std.proofs.Math.Nat.{pow-suc, pow-le-pow_right}
+use Rattle.std.proofs.lemmas.Nat.{mod_below, pow-add}
 use Rattle.std.proofs.lemmas.List.Elements.{Contains-get_or}
 use Rattle.std.proofs.lemmas.Bool.{cases_lt}
 use Rattle.h3_index.specs.Cell.{Address, number_of, IsCell}
@@ -14,10 +15,28 @@ use Rattle.h3_set.specs.Order.{IsInOrder}
 use Rattle.h3_set.proofs.RoundLaws.{one_of}
 use Rattle.h3_set.proofs.TreeLaws.{step_down, IsChild}
 
--- cells of one number have one key
-pub same_key : (a b : Address) → number_of a ≡ number_of b → key a ≡ key b
+-- the interval that is kept for a cell and those below it has a power of eight of keys
+eights : (k : ℕ) → 2 ^ (3 * k) ≡ 8 ^ k
+eights zero = refl
+eights (suc k) =
+    let next : 3 * suc k ≡ 3 * k + 3 = omega arith in
+    rw (next, pow-add 2 (3 * k) 3, eights k, pow-suc 8 k) refl
+
+power_small : (k : ℕ) → k ≤ 15 → 8 ^ k ≤ 2 ^ 45
+power_small k h = (let p : 8 ^ k ≤ 8 ^ 15 = pow-le-pow_right (omega arith) h in p)
+
+pub block : (r : ℕ) → 1 * 2 ^ (3 * (15 - r)) % 2 ^ 64 ≡ 8 ^ (15 - r)
+block r =
+    let small = power_small (15 - r) (omega arith) in
+    rw (eights (15 - r)) (omega (arith, small))
+
+pub block_small : (r : ℕ) → 8 ^ (15 - r) ≤ 2 ^ 45
+block_small r = power_small (15 - r) (omega arith)
+
+-- keys are below 2^52
+pub key_small : (c : Address) → key c < 2 ^ 52
 unfolding key
-same_key a b e = ap (λ n. n % 2 ^ 52) e
+key_small c = mod_below (number_of c) (2 ^ 52) (omega arith)
 
 module _ (intervals : CellsFormIntervals) where
   -- a key within a cell's interval is that of a cell below it
@@ -64,12 +83,3 @@ module _ (tree : CellsFormTrees) (intervals : CellsFormIntervals) where
               let over : IsAncestor (get_or L m d) (get_or L i d) = subst (λ v. IsAncestor v (get_or L i d)) (sym is) hx.under in
               absurd (apart i m d lt lm (inr over))
         ]
-
-  -- cells of one key are one
-  pub key_tells : (a b : Address) → IsCell a → IsCell b → key a ≡ key b → a ≡ b
-  key_tells a b ha hb e =
-      let some : 1 ≤ 8 ^ (15 - length a.digits) = one-le-pow (15 - length a.digits) 8 (omega arith) in
-      let more : 1 ≤ 8 ^ (15 - length b.digits) = one-le-pow (15 - length b.digits) 8 (omega arith) in
-      let over : IsAncestor a b = inside intervals a b ha hb (omega (arith, e)) (omega (arith, e, some)) in
-      let under : IsAncestor b a = inside intervals b a hb ha (omega (arith, e)) (omega (arith, e, more)) in
-      sym (tree.same a b over (tree.no_finer b a under))

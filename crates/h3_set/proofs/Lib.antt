@@ -4,10 +4,10 @@ pub mod CompactLaws
 pub mod IdleLaws
 pub mod KeyLaws
 pub mod MergeLaws
-pub mod OrderLaws
+pub mod OverlapLaws
 pub mod PartLaws
+pub mod PartitionLaws
 pub mod PermutedLaws
-pub mod RepeatLaws
 pub mod ResolutionLaws
 pub mod RoundLaws
 pub mod RunLaws

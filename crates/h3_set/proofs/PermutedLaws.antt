@@ -1,15 +1,13 @@
 -- What another order of a list keeps.
 use Rattle.std.specs.List.{swap}
 use Rattle.std.specs.List.Sorted.{IsPermutation}
-use Rattle.std.proofs.Common.{ℕ, ◌≡◌, ◌≢◌, ◌<◌, ◌↔◌, List, ◌++◌, length, take, refl, AllPairs, Contains, Bool, true, false, arith, ◌∙◌, sym, ap, subst, inl, inr, get_or}
+use Rattle.std.proofs.Common.{ℕ, ◌≡◌, ◌≢◌, ◌<◌, ◌↔◌, List, ◌++◌, length, take, refl, AllPairs, Contains, arith, ◌∙◌, sym, ap, subst, inl, inr, get_or}
 use Rattle.std.proofs.lemmas.Bool.{cases_eq, cases_lt}
 use Rattle.std.proofs.lemmas.List.{take_at}
 use Rattle.std.proofs.lemmas.List.Edits.{swapped_from_swap}
 use Rattle.std.proofs.lemmas.List.Sorted.{Contains-permutation, IsPermutation-keeps, IsPermutation-sym, length_permutation, IsPermutation-swap}
-use Rattle.h3_index.specs.Cell.{Address, number_of}
+use Rattle.h3_index.specs.Cell.{Address}
 use Rattle.h3_set.specs.Coverage.{IsApart, Overlap}
-use Rattle.h3_set.specs.Refusals.{has_repeat}
-use Rattle.h3_set.proofs.RepeatLaws.{no_repeat_from, numbers_differ}
 
 -- a relation between any two elements that does not tell their order
 module _ (R : Address → Address → Type 0) (turned : (a b : Address) → R a b → R b a) where
@@ -56,19 +54,6 @@ apart_permuted xs ys p h =
 pub members_permuted : (xs ys : List Address) → IsPermutation xs ys → (x : Address) → Contains xs x ↔ Contains ys x
 members_permuted xs ys p x =
     ((λ m. Contains-permutation xs ys x p m), (λ m. Contains-permutation ys xs x (IsPermutation-sym xs ys p) m))
-
-repeat_stays : (xs ys : List Address) → IsPermutation xs ys → has_repeat xs ≡ false → has_repeat ys ≡ false
-repeat_stays xs ys p h =
-    no_repeat_from ys (pairs_permuted (λ a b. number_of a ≢ number_of b) (λ a b n e. n (sym e)) xs ys p (numbers_differ xs h))
-
-one_answer : (xs ys : List Address) → IsPermutation xs ys → (a b : Bool) → has_repeat xs ≡ a → has_repeat ys ≡ b → a ≡ b
-one_answer xs ys p true true e f = refl
-one_answer xs ys p false false e f = refl
-one_answer xs ys p false true e f = let g = repeat_stays xs ys p e in cc
-one_answer xs ys p true false e f = let g = repeat_stays ys xs (IsPermutation-sym xs ys p) f in cc
-
-pub repeat_permuted : (xs ys : List Address) → IsPermutation xs ys → has_repeat xs ≡ has_repeat ys
-repeat_permuted xs ys p = one_answer xs ys p _ _ refl refl
 
 -- cells are copied into the first slots
 pub copied_front : (cells copied rest : List Address) → copied ≡ cells → take (length cells) (copied ++ rest) ≡ cells

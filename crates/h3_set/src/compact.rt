@@ -6,7 +6,7 @@ ghost use Rattle.std.specs.Result.{result_err};
 ghost use Rattle.h3_index.specs.Cell.{Address, resolution};
 ghost use Rattle.h3_set.specs.Compacted.{compacted, HoldsOnce, IsCompacted, IsTop};
 ghost use Rattle.h3_set.specs.Coverage.{finest, IsCovered};
-ghost use Rattle.h3_set.specs.Laws.{CompactedListsAreUnique, RepeatsAreFound};
+ghost use Rattle.h3_set.specs.Laws.{CompactedListsAreUnique, ListsCompactInParts, OneResolutionIsApart, OverlapsAreFound};
 ghost use Rattle.h3_set.specs.Refusals.{compaction_refusal};
 ghost use Rattle.h3_set.specs.Uncompaction.{uncompacted};
 
@@ -15,15 +15,20 @@ use h3_index::laws::{cells_are_listed, numbers_tell_cells};
 use h3_index::{Cell, H3Error};
 use h3_tree::laws::cells_form_trees;
 
-/// Puts the compacted list of the cells into the first slots, as H3's `compactCells` does, and
-/// returns how many cells it has: the one ascending list of cells, of which no two overlap, that
-/// covers exactly the cells given and holds no complete set of siblings. It allocates nothing.
+/// Puts the compacted list of the cells into the first slots and returns how many cells it has: the
+/// one ascending list of cells, of which no two overlap, that covers exactly the cells given and
+/// holds no complete set of siblings. It allocates nothing.
+///
+/// H3's `compactCells` takes cells of one resolution. Here they may have any, so lists that were
+/// compacted before can be compacted together. A list may be divided into parts in any way:
+/// compacting each part, and then what this gives, one list after the other, gives the compacted
+/// list of the whole.
 ///
 /// There must be at least as many slots as cells, n. The slots after the first n stay as they are;
 /// those of the first n that are after the list may hold any cells.
 ///
-/// `ResMismatch` where the cells have two resolutions: no slot is written. Else `DuplicateInput`
-/// where a cell is listed twice: the first n slots hold the cells in some order.
+/// `DuplicateInput` where cells at two places overlap: a cell is listed twice, or together with an
+/// ancestor of it. The first n slots then hold the cells in some order.
 pub fn compact_cells(cells: &[Cell], slots: &mut [Cell]) -> Result<usize, H3Error>
     requires { length cells.now ≤ length slots.old }
     ensures compacted { IfOk result (λ m. IsCompacted
@@ -31,8 +36,7 @@ pub fn compact_cells(cells: &[Cell], slots: &mut [Cell]) -> Result<usize, H3Erro
     ensures is { IfOk result (λ m. take m slots.new ≡ compacted cells.now) }
     ensures fewer { IfOk result (λ m. m ≤ length cells.now) }
     ensures refused { result_err result ≡ compaction_refusal cells.now }
-    ensures mismatch { result ≡ Err H3Error.ResMismatch → slots.new ≡ slots.old }
-    ensures repeated { result ≡ Err H3Error.DuplicateInput
+    ensures overlapping { result ≡ Err H3Error.DuplicateInput
         → IsPermutation cells.now (take (length cells.now) slots.new) }
     ensures others { drop (length cells.now) slots.new ≡ drop (length cells.now) slots.old }
 
@@ -51,7 +55,9 @@ pub fn compact_cells(cells: &[Cell], slots: &mut [Cell]) -> Result<usize, H3Erro
 
     // Laws, whatever the cells.
     ensures unique { CompactedListsAreUnique }
-    ensures repeats { RepeatsAreFound }
+    ensures parts { ListsCompactInParts }
+    ensures overlaps { OverlapsAreFound }
+    ensures repeats { OneResolutionIsApart }
 {
     cells_form_trees();
     numbers_tell_cells();

@@ -1,15 +1,13 @@
 //! The order of the slots between rounds: each cell right after its descendants, so that one sort
 //! serves all rounds. In order of their numbers, each merge would move a cell to the front.
 
-ghost use Rattle.std.specs.Prelude.{◌≡◌, ◌<◌, true, All, AllPairs, IsPermutation};
-ghost use Rattle.h3_index.specs.Cell.{IsCell};
-ghost use Rattle.h3_set.specs.Order.{IsInOrder};
-ghost use Rattle.h3_set.specs.Refusals.{has_repeat};
-ghost use Rattle.h3_tree.specs.PostOrder.{post_order_key};
+ghost use Rattle.std.specs.Prelude.{◌≡◌, ◌-◌, ◌^◌, ◌≤◌, true, All, AllPairs, IsPermutation};
+ghost use Rattle.h3_index.specs.Cell.{IsCell, resolution};
+ghost use Rattle.h3_set.specs.Order.{IsInOrder, IsBefore};
+ghost use Rattle.h3_set.specs.Refusals.{has_overlap};
 
 use h3_index::Cell;
-use h3_index::laws::numbers_tell_cells;
-use h3_tree::laws::{cells_form_intervals, cells_form_trees};
+use h3_tree::laws::cells_form_intervals;
 use h3_tree::post_order_key;
 
 /// Ensures that the cells of a list are valid ones; it only reads them.
@@ -29,34 +27,46 @@ pub(crate) fn put_in_order(cells: &mut [Cell])
     cells.sort_unstable_by_key(|c: &Cell| post_order_key(*c));
 }
 
-/// Whether a cell stands twice in a list in order: then it stands at two neighbouring places.
-fn has_repeat(cells: &[Cell]) -> bool
-    requires { IsInOrder cells.now }
-    ensures { result ≡ has_repeat cells.now }
+/// How many keys there are for a cell and the cells below it: an interval of that length ends at the
+/// cell's own key.
+pub(crate) fn keys_below(cell: Cell) -> u64
+    ensures is { result ≡ 8 ^ (15 - resolution cell) }
+    ensures at_most { result ≤ 2 ^ 45 }
 {
-    cells_form_trees();
+    1 << (3 * (15 - cell.resolution()))
+}
+
+/// Whether cells at two places of a list in order overlap: then two neighbouring ones do.
+fn has_overlap(cells: &[Cell]) -> bool
+    requires { IsInOrder cells.now }
+    ensures { result ≡ has_overlap cells.now }
+{
     cells_form_intervals();
-    numbers_tell_cells();
     are_cells(cells);
     for i in 1..cells.len() {
-        if cells[i].raw() == cells[i - 1].raw() {
+        let before = cells[i - 1];
+        let cell = cells[i];
+        // one that stands before a cell in order, but not before all cells below it, is below it
+        if post_order_key(cell) < post_order_key(before) + keys_below(cell) {
             return true;
         }
     }
     false
 }
 
-/// Puts cells in order, and returns whether one of them stands twice. Where they are known to be in
-/// order, each once, nothing is to be done.
-pub(crate) fn sort_and_find_repeat(cells: &mut [Cell], rises: bool) -> bool
-    requires { rises ≡ true → AllPairs (λ a b. post_order_key a < post_order_key b) cells.old }
+/// Puts cells in order, and returns whether cells at two places overlap. Where they are known to be
+/// in order with no two that overlap, nothing is to be done.
+pub(crate) fn sort_and_find_overlap(cells: &mut [Cell], rises: bool) -> bool
+    requires { rises ≡ true → AllPairs IsBefore cells.old }
     ensures same { IsPermutation cells.old cells.new }
     ensures in_order { IsInOrder cells.new }
-    ensures repeat { result ≡ has_repeat cells.old }
+    ensures overlap { result ≡ has_overlap cells.old }
 {
     if rises {
+        cells_form_intervals();
+        are_cells(cells);
         return false;
     }
     put_in_order(cells);
-    has_repeat(cells)
+    has_overlap(cells)
 }

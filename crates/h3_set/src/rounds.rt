@@ -5,15 +5,14 @@ ghost use Rattle.std.specs.Result.{result_err};
 ghost use Rattle.h3_index.specs.Cell.{Address, number_of};
 ghost use Rattle.h3_set.specs.Compaction.{level_of, slots_in_use};
 ghost use Rattle.h3_set.specs.Coverage.{finest, IsApart, IsCompactable};
-ghost use Rattle.h3_set.specs.Laws.{RepeatsAreFound, RoundsReachTheTop};
+ghost use Rattle.h3_set.specs.Laws.{OneResolutionIsApart, OverlapsAreFound, RoundsReachTheTop};
 ghost use Rattle.h3_set.specs.Order.{IsInOrder};
 ghost use Rattle.h3_set.specs.Refusals.{compaction_refusal};
 ghost use Rattle.h3_set.specs.Rounds.{InPart, InRound};
 
 use crate::merge::{merge, merge_runs};
-use crate::order::{are_cells, sort_and_find_repeat};
+use crate::order::{are_cells, sort_and_find_overlap};
 use crate::resolutions::{finest_up_to, survey};
-use h3_index::laws::numbers_tell_cells;
 use h3_index::{Cell, H3Error};
 use h3_tree::laws::cells_form_trees;
 
@@ -28,21 +27,19 @@ pub struct Compaction {
 }
 
 impl Compaction {
-    /// Puts the cells into the first slots. There must be at least as many slots as cells, n; the
-    /// slots after the first n stay as they are.
+    /// Puts the cells, of any resolutions, into the first slots. There must be at least as many
+    /// slots as cells, n; the slots after the first n stay as they are.
     ///
-    /// `ResMismatch` where the cells have two resolutions: no slot is written. Else
-    /// `DuplicateInput` where a cell is listed twice: the first n slots hold the cells in some
-    /// order.
+    /// `DuplicateInput` where cells at two places overlap: a cell is listed twice, or together with
+    /// an ancestor of it. The first n slots then hold the cells in some order.
     pub fn start(cells: &[Cell], slots: &mut [Cell]) -> Result<Compaction, H3Error>
         requires { length cells.now ≤ length slots.old }
         ensures refused { result_err result ≡ compaction_refusal cells.now }
-        ensures mismatch { result ≡ Err H3Error.ResMismatch → slots.new ≡ slots.old }
-        ensures input { result ≢ Err H3Error.ResMismatch
-            → IsPermutation cells.now (take (length cells.now) slots.new) }
+        ensures input { IsPermutation cells.now (take (length cells.now) slots.new) }
         ensures others { drop (length cells.now) slots.new ≡ drop (length cells.now) slots.old }
 
-        // The rounds begin at the cells' resolution, with the cells, of which no two overlap.
+        // The rounds begin at the cells' finest resolution, with the cells, of which no two
+        // overlap.
         ensures in_use { IfOk result (λ c. slots_in_use c ≡ length cells.now) }
         ensures level { IfOk result (λ c. level_of c ≡ finest cells.now) }
         ensures at_most_fifteen { IfOk result (λ c. level_of c ≤ 15) }
@@ -52,10 +49,11 @@ impl Compaction {
             → Contains (take (slots_in_use c) slots.new) x
             ↔ InPart cells.now (level_of c) (level_of c) x) }
 
-        // At level 0, where no round is left, these are the top cells; a repeat is a cell listed
-        // twice.
+        // At level 0, where no round is left, these are the top cells. The test of the refusal finds
+        // the cells that overlap; those of one resolution do so only where one is listed twice.
         ensures last { RoundsReachTheTop }
-        ensures repeats { RepeatsAreFound }
+        ensures overlaps { OverlapsAreFound }
+        ensures repeats { OneResolutionIsApart }
     {
         Compaction::start_in_order(cells, slots)
     }
@@ -64,12 +62,11 @@ impl Compaction {
     pub(crate) fn start_in_order(cells: &[Cell], slots: &mut [Cell]) -> Result<Compaction, H3Error>
         requires { length cells.now ≤ length slots.old }
         ensures refused { result_err result ≡ compaction_refusal cells.now }
-        ensures mismatch { result ≡ Err H3Error.ResMismatch → slots.new ≡ slots.old }
-        ensures input { result ≢ Err H3Error.ResMismatch
-            → IsPermutation cells.now (take (length cells.now) slots.new) }
+        ensures input { IsPermutation cells.now (take (length cells.now) slots.new) }
         ensures others { drop (length cells.now) slots.new ≡ drop (length cells.now) slots.old }
 
-        // The rounds begin at the cells' resolution, with the cells, of which no two overlap.
+        // The rounds begin at the cells' finest resolution, with the cells, of which no two
+        // overlap.
         ensures in_use { IfOk result (λ c. slots_in_use c ≡ length cells.now) }
         ensures level { IfOk result (λ c. level_of c ≡ finest cells.now) }
         ensures at_most_fifteen { IfOk result (λ c. level_of c ≤ 15) }
@@ -79,18 +76,18 @@ impl Compaction {
             → Contains (take (slots_in_use c) slots.new) x
             ↔ InPart cells.now (level_of c) (level_of c) x) }
 
-        // At level 0, where no round is left, these are the top cells; a repeat is a cell listed
-        // twice.
+        // At level 0, where no round is left, these are the top cells. The test of the refusal finds
+        // the cells that overlap; those of one resolution do so only where one is listed twice.
         ensures last { RoundsReachTheTop }
-        ensures repeats { RepeatsAreFound }
+        ensures overlaps { OverlapsAreFound }
+        ensures repeats { OneResolutionIsApart }
         ensures in_order { IfOk result (λ c. IsInOrder (take (slots_in_use c) slots.new)) }
     {
         cells_form_trees();
-        numbers_tell_cells();
-        let (level, rises) = survey(cells)?;
+        let (level, rises) = survey(cells);
         let count = cells.len();
         slots[..count].copy_from_slice(cells);
-        if sort_and_find_repeat(&mut slots[..count], rises) {
+        if sort_and_find_overlap(&mut slots[..count], rises) {
             return Err(H3Error::DuplicateInput);
         }
         Ok(Compaction { len: count, level })

@@ -1,7 +1,7 @@
 use crate::{Compaction, compact_cells, uncompact};
 use h3_index::{Cell, H3Error};
 use h3_tree::children;
-use std::alloc::Global;
+use std::alloc::{AllocGlobal, Global};
 use std::process::Abort;
 use std::test::Fail;
 
@@ -180,22 +180,41 @@ fn no_cells_are_compacted(rt: HostRuntime) -> Result<(), Fail> {
     Ok(())
 }
 
-#[test]
-fn compactions_are_refused(rt: HostRuntime) -> Result<(), Fail> {
+/// Asserts that a list of two cells, which overlap, is refused, and that the first two of four slots
+/// hold these then.
+fn assert_refused(rt: &impl Abort, first: Cell, second: Cell) -> Result<(), Fail> {
     let other = Cell::new(0x80f3fffffffffff)?;
+    let refused = Err(H3Error::DuplicateInput);
+    let mut slots = [other; 4];
+    assert_eq!(rt; compact_cells(&[first, second], &mut slots), refused);
+    let is_same = slots == [first, second, other, other];
+    assert!(rt; is_same || slots == [second, first, other, other]);
+    Ok(())
+}
+
+#[test]
+fn cells_that_overlap_are_refused(rt: HostRuntime) -> Result<(), Fail> {
     let fine = Cell::new(0x85283473fffffff)?;
     let coarse = Cell::new(0x8428347ffffffff)?;
-    let mut slots = [other; 4];
-    assert_eq!(rt;
-        compact_cells(&[fine, coarse, fine], &mut slots),
-        Err(H3Error::ResMismatch)
-    );
-    assert_eq!(rt; slots, [other; 4]);
-    assert_eq!(rt;
-        compact_cells(&[fine, fine], &mut slots),
-        Err(H3Error::DuplicateInput)
-    );
-    assert_eq!(rt; slots, [fine, fine, other, other]);
+    assert_refused(&rt, fine, fine)?;
+    assert_refused(&rt, fine, coarse)?;
+    assert_refused(&rt, coarse, fine)?;
+    let pentagon = Cell::new(0x8009fffffffffff)?;
+    assert_refused(&rt, pentagon, Cell::new(0x820837fffffffff)?)
+}
+
+#[test]
+fn a_distant_ancestor_is_refused(rt: HostRuntime) -> Result<(), Fail> {
+    // the cells below the first six children of base cell 20, then base cell 20
+    let mut cells = descendants(rt.alloc(), 0x8029fffffffffff, 2)?;
+    cells.truncate(42);
+    cells.push(Cell::new(0x8029fffffffffff)?)?;
+    let mut slots = [Cell::new(0x80f3fffffffffff)?; 64];
+    assert!(rt; cells.len() <= 64);
+    let refused = Err(H3Error::DuplicateInput);
+    assert_eq!(rt; compact_cells(&cells, &mut slots), refused);
+    cells.reverse();
+    assert_eq!(rt; compact_cells(&cells, &mut slots), refused);
     Ok(())
 }
 
@@ -266,4 +285,103 @@ fn siblings_of_two_parents_are_not_one_set(rt: HostRuntime) -> Result<(), Fail> 
         0x862834777ffffff,
     ];
     assert_compacted(&rt, &cells, &expected)
+}
+
+#[test]
+fn cells_of_several_resolutions_are_compacted(rt: HostRuntime) -> Result<(), Fail> {
+    let mut cells = descendants(rt.alloc(), 0x85283473fffffff, 6)?;
+    for raw in [
+        0x85283463fffffff,
+        0x85283467fffffff,
+        0x8528346bfffffff,
+        0x8528346ffffffff,
+        0x85283477fffffff,
+        0x8528347bfffffff,
+    ] {
+        cells.push(Cell::new(raw)?)?;
+    }
+    assert_compacted(&rt, &cells, &[0x8428347ffffffff])?;
+    cells.reverse();
+    assert_compacted(&rt, &cells, &[0x8428347ffffffff])?;
+    let mut slots = [Cell::new(0x80f3fffffffffff)?; 64];
+    assert!(rt; cells.len() <= 64);
+    let first = Compaction::start(&cells, &mut slots)?;
+    assert_eq!(rt; first.level(), 6);
+    assert_eq!(rt; first.len(), 13);
+    let two = [Cell::new(0x85283473fffffff)?, Cell::new(0x81083ffffffffff)?];
+    assert_compacted(&rt, &two, &[0x81083ffffffffff, 0x85283473fffffff])
+}
+
+#[test]
+fn cells_of_two_resolutions_below_a_pentagon_are_compacted(rt: HostRuntime) -> Result<(), Fail> {
+    let mut cells = Vec::new(rt.alloc());
+    for raw in [
+        0x8108bffffffffff,
+        0x8108fffffffffff,
+        0x81093ffffffffff,
+        0x81097ffffffffff,
+        0x8109bffffffffff,
+        0x820807fffffffff,
+        0x820817fffffffff,
+        0x82081ffffffffff,
+        0x820827fffffffff,
+        0x82082ffffffffff,
+        0x820837fffffffff,
+    ] {
+        cells.push(Cell::new(raw)?)?;
+    }
+    assert_compacted(&rt, &cells, &[0x8009fffffffffff])
+}
+
+/// The compacted list of a list of cells.
+fn compacted<R: Abort + AllocGlobal>(rt: &R, cells: &[Cell]) -> Result<Vec<Cell>, Fail> {
+    let mut slots = Vec::new(rt.alloc());
+    for cell in cells {
+        slots.push(*cell)?;
+    }
+    assert!(rt; cells.len() <= slots.len());
+    let count = compact_cells(cells, &mut slots)?;
+    slots.truncate(count);
+    Ok(slots)
+}
+
+/// The compacted lists of the parts of a list of cells, one after the other. It is cut at places
+/// that look random and are always the same, into parts of up to 1024 cells.
+fn compacted_parts<R: Abort + AllocGlobal>(rt: &R, cells: &[Cell]) -> Result<Vec<Cell>, Fail> {
+    let mut joined = Vec::new(rt.alloc());
+    let mut rest = cells;
+    let mut state: u64 = 1;
+    for _ in 0..cells.len() {
+        state = state.wrapping_mul(0x5851_f42d_4c95_7f2d).wrapping_add(1);
+        let size = 1 + (state >> 54) as usize;
+        let (part, others) = rest.split_at(size.min(rest.len()));
+        rest = others;
+        for cell in &compacted(rt, part)? {
+            joined.push(*cell)?;
+        }
+    }
+    assert!(rt; rest.is_empty());
+    Ok(joined)
+}
+
+/// Asserts that the compacted lists of the parts of a list of cells are shorter than the list, have
+/// cells of several resolutions, and compact to what the whole list does.
+fn assert_compacts_in_parts<R: Abort + AllocGlobal>(rt: &R, cells: &[Cell]) -> Result<(), Fail> {
+    let joined = compacted_parts(rt, cells)?;
+    assert!(rt; joined.len() < cells.len());
+    let first = joined.first().ok_or("no cells")?.resolution();
+    assert!(rt; joined.iter().any(|cell| cell.resolution() != first));
+    assert!(rt; *compacted(rt, &joined)? == *compacted(rt, cells)?);
+    Ok(())
+}
+
+#[test]
+fn a_list_is_compacted_in_parts(rt: HostRuntime) -> Result<(), Fail> {
+    let mut cells = descendants(rt.alloc(), 0x8029fffffffffff, 5)?;
+    assert_eq!(rt; cells.len(), 16807);
+    assert_compacts_in_parts(&rt, &cells)?;
+    cells.reverse();
+    assert_compacts_in_parts(&rt, &cells)?;
+    let _ = cells.pop();
+    assert_compacts_in_parts(&rt, &cells)
 }

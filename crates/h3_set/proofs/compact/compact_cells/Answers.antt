@@ -4,7 +4,8 @@ use Rattle.h3_set.specs.Compaction.{level_of, slots_in_use}
 use Rattle.h3_set.specs.Coverage.{finest, IsCovered}
 use Rattle.h3_set.specs.Rounds.{InPart}
 use Rattle.h3_set.proofs.CompactLaws.{compacts, cover_themselves, drop_later}
-use Rattle.h3_set.proofs.RepeatLaws.{repeats_found}
+use Rattle.h3_set.proofs.OverlapLaws.{one_resolution, overlaps_found}
+use Rattle.h3_set.proofs.PartitionLaws.{in_parts}
 use Rattle.h3_set.proofs.SetLaws.{member_top, one_compacted, top_member}
 use Rattle.h3_set.proofs.StreamLaws.{streams_once}
 use Rattle.h3_set.proofs.TestLaws.{computes}
@@ -70,8 +71,20 @@ pub returns-clause-unique : goal.returns-clause-unique
 returns-clause-unique c = λ cells r a b le p q.
     one_compacted c.cells_form_trees.ensures (IsCovered cells r) r a b (omega (arith, le)) p q
 
+pub returns-in_err-compaction-clause-parts : goal.returns-in_err-compaction-clause-parts
+returns-in_err-compaction-clause-parts c = in_parts c.cells_form_trees.ensures c.cells_are_listed.ensures
+
+pub returns-clause-parts : goal.returns-clause-parts
+returns-clause-parts c = in_parts c.cells_form_trees.ensures c.cells_are_listed.ensures
+
+pub returns-in_err-compaction-clause-overlaps : goal.returns-in_err-compaction-clause-overlaps
+returns-in_err-compaction-clause-overlaps c = overlaps_found
+
+pub returns-clause-overlaps : goal.returns-clause-overlaps
+returns-clause-overlaps c = overlaps_found
+
 pub returns-in_err-compaction-clause-repeats : goal.returns-in_err-compaction-clause-repeats
-returns-in_err-compaction-clause-repeats c = repeats_found c.numbers_tell_cells.ensures
+returns-in_err-compaction-clause-repeats c = one_resolution c.cells_form_trees.ensures
 
 pub returns-clause-repeats : goal.returns-clause-repeats
-returns-clause-repeats c = repeats_found c.numbers_tell_cells.ensures
+returns-clause-repeats c = one_resolution c.cells_form_trees.ensures
