@@ -193,27 +193,29 @@ impl CommandName {
             Self::CellToCenterChild => "The center descendant of a cell at a resolution",
             Self::CellToChildren => "The descendants of a cell at a resolution, ascending",
             Self::CellToChildrenSize => "How many descendants a cell has at a resolution",
-            Self::CellToChildPos => "The position of a cell among its ancestor's descendants",
-            Self::ChildPosToCell => "The descendant of a cell at a position of a resolution",
+            Self::CellToChildPos => {
+                "The position of a cell among the descendants of its ancestor at a resolution"
+            }
+            Self::ChildPosToCell => {
+                "The descendant of a cell that stands at a position among those of a resolution"
+            }
             Self::CompactCells => {
-                "The compacted list of the cells on standard input, of any resolutions; no two may overlap"
+                "The compacted list of the cells, of any resolutions, listed on standard input, ascending"
             }
-            Self::UncompactCells => "The descendants of each cell listed on standard input",
-            Self::GridDiskUnsafe => {
-                "The cells within k steps of a cell; fails where it meets a pentagon's base cell"
+            Self::UncompactCells => {
+                "The descendants at a resolution of each cell listed on standard input"
             }
+            Self::GridDiskUnsafe => "The cells within a radius of a cell, ring by ring",
             Self::GridDiskDistancesUnsafe => {
-                "The cells within k steps of a cell and their rings; fails as gridDiskUnsafe does"
+                "The cells within a radius of a cell, each with the number of its ring"
             }
-            Self::GridRingUnsafe => {
-                "The cells exactly k steps from a cell; fails as gridDiskUnsafe does"
-            }
+            Self::GridRingUnsafe => "The cells of the ring of a radius around a cell",
             Self::AreNeighborCells => "Whether two cells are neighbors",
-            Self::CellsToDirectedEdge => "The directed edge from a cell to a neighbor",
+            Self::CellsToDirectedEdge => "The directed edge from a cell to its neighbor",
             Self::IsValidDirectedEdge => "Whether an index is a valid directed edge",
-            Self::GetDirectedEdgeOrigin => "The cell that a directed edge starts from",
+            Self::GetDirectedEdgeOrigin => "The cell that a directed edge leaves",
             Self::GetDirectedEdgeDestination => "The cell that a directed edge leads to",
-            Self::OriginToDirectedEdges => "The directed edges from a cell to its neighbors",
+            Self::OriginToDirectedEdges => "The directed edges that leave a cell",
         }
     }
 

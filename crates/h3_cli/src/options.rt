@@ -65,11 +65,11 @@ impl CommandOption {
         match self {
             CommandOption::Cell => "A cell's index in hexadecimal",
             CommandOption::Resolution => "A resolution, 0 to 15",
-            CommandOption::Radius => "A radius in steps of the grid, from 0",
+            CommandOption::Radius => "A radius, from 0: how many steps of the grid",
             CommandOption::To => "A second cell's index in hexadecimal",
             CommandOption::Position => "A position, from 0",
             CommandOption::Edge => "A directed edge's index in hexadecimal",
-            CommandOption::Table => "The path of the file of the base cell table",
+            CommandOption::Table => "The file of the table of base cells",
         }
     }
 
