@@ -55,13 +55,12 @@ fn unit(direction: Direction) -> (i32, i32) {
     }
 }
 
-/// A cell of a walk, the rotation there, and what the moves so far add up to.
+/// A cell of a walk, the rotation there, which is below 6, and what the moves so far add up to.
 #[derive(Clone, Copy)]
 struct Visit {
     cell: Cell,
     rotation: u8,
     place: (i32, i32),
-    ghost turned: { rotation < 6 },
 }
 
 /// The place beside another in a direction.
@@ -71,8 +70,8 @@ fn place_beside(place: (i32, i32), direction: Direction) -> (i32, i32) {
 }
 
 /// Where a move leads.
-fn moved(table: &BaseTable, at: Visit, direction: Direction) -> Result<Visit, Fail> {
-    let (cell, rotation) = step(table, at.cell, direction, at.rotation)?;
+fn moved(table: &BaseTable, at: &Visit, direction: Direction) -> Result<Visit, Fail> {
+    let (cell, rotation) = step(table, at.cell, direction, at.rotation % 6)?;
     Ok(Visit {
         cell,
         rotation,
@@ -95,7 +94,7 @@ fn visits(
     let mut all = Vec::new(alloc);
     all.push(at)?;
     for (direction, writes) in moves {
-        at = moved(table, at, *direction)?;
+        at = moved(table, &at, *direction)?;
         if *writes {
             all.push(at)?;
         }
@@ -137,13 +136,13 @@ fn assert_beside(
     rt: &impl Abort,
     table: &BaseTable,
     all: &[Visit],
-    from: Visit,
+    from: &Visit,
     direction: Direction,
 ) -> bool {
     let place = place_beside(from.place, direction);
     for to in all {
         if to.place == place {
-            let reached = step(table, from.cell, direction, from.rotation);
+            let reached = step(table, from.cell, direction, from.rotation % 6);
             assert_eq!(rt; reached, Ok((to.cell, to.rotation)));
             return true;
         }
@@ -152,7 +151,7 @@ fn assert_beside(
 }
 
 /// Asserts the same in each direction; in how many the disk has a place.
-fn assert_around(rt: &impl Abort, table: &BaseTable, all: &[Visit], from: Visit) -> u32 {
+fn assert_around(rt: &impl Abort, table: &BaseTable, all: &[Visit], from: &Visit) -> u32 {
     let mut count: u32 = 0;
     for direction in DIRECTIONS {
         if assert_beside(rt, table, all, from, direction) {
@@ -166,7 +165,7 @@ fn assert_around(rt: &impl Abort, table: &BaseTable, all: &[Visit], from: Visit)
 fn assert_chart(rt: &impl Abort, table: &BaseTable, all: &[Visit]) -> u32 {
     let mut count: u32 = 0;
     for from in all {
-        count = count.saturating_add(assert_around(rt, table, all, *from));
+        count = count.saturating_add(assert_around(rt, table, all, from));
     }
     count
 }
