@@ -342,6 +342,22 @@ fn read_table(text: &[u8]) -> Option<Links> {
     are_good.then_some(links)
 }
 
+fn plain_neighbor(base: u8, direction: usize) -> u8 {
+    ((u16::from(base) + u16::from(STEPS[direction])) % 122) as u8
+}
+
+/// A table file with these links.
+fn write_table(out: &mut impl Write, link: impl Fn(u8, usize) -> (u8, u8)) -> io::Result<()> {
+    writeln!(out, "base,dir,to,rot")?;
+    for base in (0..122).filter(|b| is_hexagon(*b)) {
+        for d in 0..6 {
+            let (to, turns) = link(base, d);
+            writeln!(out, "{base},{},{to},{turns}", d + 1)?;
+        }
+    }
+    Ok(())
+}
+
 fn main() -> io::Result<()> {
     let words: Vec<String> = env::args().skip(1).collect();
     let words: Vec<&str> = words.iter().map(String::as_str).collect();
@@ -394,14 +410,11 @@ fn main() -> io::Result<()> {
             }
             writeln!(out, "{sum}")?;
         }
-        ["table"] => {
-            writeln!(out, "base,dir,to,rot")?;
-            for base in (0..122).filter(|b| is_hexagon(*b)) {
-                for (d, step) in STEPS.iter().enumerate() {
-                    writeln!(out, "{base},{},{},0", d + 1, (base + step) % 122)?;
-                }
-            }
-        }
+        ["table"] => write_table(&mut out, |base, d| (plain_neighbor(base, d), 0))?,
+        ["table", "twisted"] => write_table(&mut out, |base, d| {
+            let to = plain_neighbor(base, turned(d, 6 - base % 6));
+            (to, (to % 6 + 6 - base % 6) % 6)
+        })?,
         ["tables", count] => {
             let mut text = Vec::new();
             io::stdin().lock().read_to_end(&mut text)?;
