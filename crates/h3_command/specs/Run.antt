@@ -13,7 +13,7 @@ use Rattle.h3_command.specs.Refusal.{ending_line, ending_status}
 
 -- ---- streams
 
--- a source over a call: the bytes that it had left, where they are told, and whether it had failed before and has after
+-- a source over a call: the bytes that it had left, where they are known, and whether it had failed before and has after
 pub record SourceUse : Type 0 where
   pub left : Option (List ℕ)
   pub had_failed : Bool
@@ -22,7 +22,7 @@ pub record SourceUse : Type 0 where
 abbrev pub source_use : {S : Type 0} → (S → Option (List ℕ)) → (S → Bool) → S → S → SourceUse
 source_use left failed old new = record { left = left old; had_failed = failed old; has_failed = failed new }
 
--- a sink over a call: the bytes that it had taken and has taken, where they are told, and whether it had failed and has
+-- a sink over a call: the bytes that it had taken and has taken, where they are known, and whether it had failed and has
 pub record SinkUse : Type 0 where
   pub before : Option (List ℕ)
   pub after : Option (List ℕ)
@@ -67,13 +67,13 @@ pub record SomeBeginning (P : List ℕ → Type 0) (bytes : List ℕ) : Type 0 w
 abbrev pub AppendsPart : Option (List ℕ) → Option (List ℕ) → List ℕ → Type 0
 AppendsPart old new bytes = SomeBeginning (Appends old new) bytes
 
--- where the bytes are told before and after, they grew by these
+-- where the bytes are known before and after, they grew by these
 abbrev pub AppendsOrHides : Option (List ℕ) → Option (List ℕ) → List ℕ → Type 0
 AppendsOrHides None new bytes = ⊤
 AppendsOrHides (Some xs) None bytes = ⊤
 AppendsOrHides (Some xs) (Some ys) bytes = ys ≡ xs ++ bytes
 
--- a call of the sink failed, and it took a beginning of the bytes, or tells its bytes no more
+-- a call of the sink failed, and it took a beginning of the bytes, or its bytes are no longer known
 abbrev pub TakesPart : SinkUse → List ℕ → Type 0
 TakesPart sink bytes = SomeBeginning (AppendsOrHides sink.before sink.after) bytes × (sink.has_failed ≡ true)
 
@@ -100,7 +100,8 @@ WritesReading a bytes source (Err Memory) out = IsSound source × IsLeft out
 WritesReading a bytes source (Err Read) out = ReadFails source bytes × IsLeft out
 WritesReading a bytes source ending out = IsSound source × Writes a ending out
 
--- there are bytes of the list, those that the source tells, and the answer about the cells in them is written
+-- there are bytes of the list, those left in the source where these are known, and the answer about the cells in them
+-- is written
 abbrev pub WritesOfList : (List Address → Answer) → SourceUse → Result (Unit {0}) Refusal → SinkUse → Type 0
 WritesOfList about input ending out =
     (list : List ℕ) × HasLeft input.left list × WritesReading (answer_or_error about (listed_cells list)) list input ending out
@@ -135,8 +136,8 @@ pub record Gives (a : Answer) (status : ℕ) (s : Streams) : Type 0 where
   pub output : Takes s.out a.output
   pub report : Reports a.ending status s.err
 
--- there are bytes of the list and of the table, those that the sources tell, and where nothing fails the answer to
--- them is given, or out of memory where memory is taken
+-- there are bytes of the list and of the table, those left in the sources where these are known, and where nothing fails
+-- the answer to them is given, or out of memory where memory is taken
 pub record Answers (r : Request) (status : ℕ) (s : Streams) : Type 0 where
   pub list : List ℕ
   pub file : List ℕ

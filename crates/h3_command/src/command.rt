@@ -1,8 +1,8 @@
 //! The commands.
 
-/// A command with what its words spell: one variant a command, named as H3's functions are.
+/// A command with what its words parse as: one variant a command, named as H3's functions are.
 ///
-/// An index is `None` where its word spells none.
+/// An index is `None` where its word parses as none.
 #[derive(Clone, Copy, Debug, PartialEq, Eq)]
 pub enum Command {
     /// Whether an index is a valid cell.

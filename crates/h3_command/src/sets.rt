@@ -24,7 +24,8 @@ fn write_compacted<W: Sink>(cells: &[Cell], slots: &mut [Cell], out: &mut W) -> 
     }
 }
 
-/// Writes the compacted list of the cells listed on the input, as H3's `compactCells` computes it.
+/// Writes the compacted list of the cells listed on the input. H3's `compactCells` takes cells of
+/// one resolution; here they may have any.
 pub fn compact_cells<R: Source, W: Sink>(
     alloc: Global,
     input: &mut R,

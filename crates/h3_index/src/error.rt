@@ -31,7 +31,7 @@ pub enum H3Error {
     #[error("a pentagon was met")]
     Pentagon,
 
-    /// A cell is listed twice.
+    /// A cell is listed twice, or together with an ancestor of it.
     #[error("a cell is listed twice")]
     DuplicateInput,
 

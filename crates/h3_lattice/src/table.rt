@@ -60,7 +60,7 @@ impl BaseTable {
     /// the first faulty record, a missing record, and the first check that fails, by ascending base cell and direction.
     /// [`TableError::Memory`] where there is no memory for the file or a record.
     pub fn read<R: Source>(alloc: Global, source: &mut R) -> Result<BaseTable, TableError>
-        // The bytes of the file are those that the source tells, where it tells them.
+        // The bytes of the file are those left in the source, where it is known which they are.
         ensures accepted { IfOk result (λ table. (bytes : List ℕ) × HasLeft (R.left source.old) bytes ×
             (length bytes + 4096 ≤ 2 ^ 40 * 4096) ×
             (table_fault (records_of bytes) ≡ None) × (link_of table ≡ links_of (records_of bytes))) }
