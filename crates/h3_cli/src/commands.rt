@@ -200,7 +200,7 @@ impl CommandName {
                 "The descendant of a cell that stands at a position among those of a resolution"
             }
             Self::CompactCells => {
-                "The compacted list of the cells on standard input; error 10 where two of them overlap"
+                "The compacted list of the cells, of any resolutions, on standard input; error 10 where two overlap"
             }
             Self::UncompactCells => {
                 "The descendants at a resolution of each cell listed on standard input"
