@@ -1,7 +1,7 @@
 use super::run;
 use crate::command::Command;
-use crate::fakes::{SlowSink, SlowSource};
 use arrayvec::ArrayVec;
+use h3_fakes::{SlowSink, SlowSource};
 use h3_index::{Sink, Source, Streamed, read_index};
 use std::process::Abort;
 

@@ -1,10 +1,10 @@
 use crate::command::Command;
-use crate::fakes::{SlowSink, SlowSource};
-use crate::refusal::Refusal;
-use crate::run::{report, run};
+use crate::run::run;
 use crate::table_files::{assert_run, assert_unread, file_of, records_of, run_to, test_file};
+use h3_fakes::{SlowSink, SlowSource};
 use h3_index::{is_pentagon_base, read_index};
 use h3_lattice::vectors::TestTable;
+use h3_lines::{Refusal, report};
 use std::test::Fail;
 
 /// Links along the ring of radius 2 around base cell 0: two out to it in the direction 4 (I), and
