@@ -1,6 +1,6 @@
 -- The numbers of the cells that differ from a cell in one field, as the moves make them.
 use Rattle.std.specs.Int.Digits.{number_from_digits, AllBelowBase}
-use Rattle.std.proofs.Common.{ℕ, zero, suc, ◌≡◌, ◌+◌, ◌-◌, ◌*◌, ◌%◌, ◌^◌, ◌<◌, ◌≤◌, List, [], ◌∷◌, ◌++◌, length, take, drop, replicate, false, true, refl, arith, length-append, ◌∙◌, sym, ap, subst, get_or, set}
+use Rattle.std.proofs.Common.{ℕ, zero, suc, ◌≡◌, ◌+◌, ◌-◌, ◌*◌, ◌%◌, ◌^◌, ◌<◌, ◌≤◌, List, [], ◌∷◌, ◌++◌, length, take, drop, replicate, false, arith, length-append, ◌∙◌, sym, ap, subst, get_or, set}
 use Rattle.std.proofs.Math.ListN.{length-replicate}
 use Rattle.std.proofs.lemmas.Bool.{false≢true}
 use Rattle.std.proofs.lemmas.List.{append_assoc, length-drop, length-set, set-get_or, set_split}
