@@ -205,10 +205,12 @@ pub record IsUnderway (ds : List ℕ) (direction : Direction) (r : ℕ) (d : Dir
   pub whole : (u : Option Direction) (es : List ℕ) → IsSum (take r ms) d u es → IsSum ds direction u (es ++ drop r ms)
 
 pub begins : (ds : List ℕ) (d : Direction) (r : ℕ) → r ≡ length ds → IsUnderway ds d r d ds
-begins ds d r at = record { whole = λ u es h.
-  let first : take r ds ≡ ds = take_all r ds (omega arith) in
-  let none : drop r ds ≡ [] = drop_of_length-le ds (omega arith) in
-  rw (none, append-nil) (rw first at h) }
+begins ds d r at = record {
+  whole = λ u es h.
+      let first : take r ds ≡ ds = take_all r ds (omega arith) in
+      let none : drop r ds ≡ [] = drop_of_length-le ds (omega arith) in
+      rw (none, append-nil) (rw first at h);
+}
 
 nothing-sum : (x : Eisenstein) → sum_of zero_point x ≡ sum_of x zero_point
 nothing-sum x = omega (arith, points)
@@ -252,10 +254,12 @@ module _ (ms : List ℕ) (d : Direction) (c : Class) (k : Option Direction) (r x
       subst (IsSum ds direction None) (list ∙ sym split) (h.whole None (coarser ++ y ∷ []) (ends_here none))
 
   pub next_sum : (ds : List ℕ) (direction e : Direction) → IsUnderway ds direction r d ms → k ≡ Some e → IsUnderway ds direction (r - 1) e (set ms (r - 1) y)
-  next_sum ds direction e h some_e = record { whole = λ u es g.
-    let next : r - 1 + 1 ≡ r = omega arith in
-    let same : take (r - 1) (set ms (r - 1) y) ≡ coarser = take-set ms (r - 1) y in
-    let tail : drop (r - 1) (set ms (r - 1) y) ≡ y ∷ drop r ms = rw next at (drop-set ms (r - 1) y (omega (arith, above))) in
-    let list = append_assoc es (y ∷ []) (drop r ms) in
-    let own : IsSum coarser e u es = rw same at g in
-    subst (IsSum ds direction u) (list ∙ ap (λ l. es ++ l) (sym tail)) (h.whole u (es ++ y ∷ []) (goes_on e u es some_e own)) }
+  next_sum ds direction e h some_e = record {
+    whole = λ u es g.
+        let next : r - 1 + 1 ≡ r = omega arith in
+        let same : take (r - 1) (set ms (r - 1) y) ≡ coarser = take-set ms (r - 1) y in
+        let tail : drop (r - 1) (set ms (r - 1) y) ≡ y ∷ drop r ms = rw next at (drop-set ms (r - 1) y (omega (arith, above))) in
+        let list = append_assoc es (y ∷ []) (drop r ms) in
+        let own : IsSum coarser e u es = rw same at g in
+        subst (IsSum ds direction u) (list ∙ ap (λ l. es ++ l) (sym tail)) (h.whole u (es ++ y ∷ []) (goes_on e u es some_e own));
+  }
