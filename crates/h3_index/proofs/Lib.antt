@@ -11,5 +11,6 @@ pub mod EdgeOrderLaws
 pub mod MoveLaws
 pub mod OrderLaws
 pub mod PathLaws
+pub mod ReplaceLaws
 pub mod TextLaws
 pub mod WriteLaws

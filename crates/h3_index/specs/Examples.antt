@@ -6,6 +6,7 @@ use Rattle.h3_index.specs.Count.{base_cell, pentagons}
 use Rattle.h3_index.specs.Descendants.{cut}
 use Rattle.h3_index.specs.Edge.{directed_edge, edge_number}
 use Rattle.h3_index.specs.EdgeNumber.{directed_edge_in, edge_in}
+use Rattle.h3_index.specs.Moves.{with_base, with_digit}
 use Rattle.h3_index.specs.Text.{spelled_index, text_of}
 
 -- ---- cells
@@ -25,6 +26,15 @@ hexagon_read = refl
 hexagon_cut : number_of (cut hexagon 4) ≡ 0x8428347ffffffff
 unfolding number_of
 hexagon_cut = refl
+
+-- the digit of resolution 5 is 4, that of resolution 1 is 0
+hexagon_digits : map (λ c. number_of c) (with_digit hexagon 5 3 ∷ with_digit hexagon 5 0 ∷ with_digit hexagon 1 6 ∷ []) ≡ 0x8528346ffffffff ∷ 0x85283463fffffff ∷ 0x8529b473fffffff ∷ []
+unfolding number_of
+hexagon_digits = refl
+
+hexagon_bases : map (λ c. number_of c) (with_base hexagon 0 ∷ with_base hexagon 121 ∷ []) ≡ 0x85003473fffffff ∷ 0x85f23473fffffff ∷ []
+unfolding number_of
+hexagon_bases = refl
 
 first_and_last_base_cells : map (λ b. number_of (base_cell b)) (0 ∷ 121 ∷ []) ≡ 0x8001fffffffffff ∷ 0x80f3fffffffffff ∷ []
 unfolding number_of

@@ -9,6 +9,7 @@ pub mod EdgeNumber
 pub mod Error
 pub mod Examples
 pub mod Laws
+pub mod Moves
 pub mod Paths
 pub mod Stream
 pub mod Streamed

@@ -24,6 +24,23 @@ fn a_cell_has_the_fields_of_its_number(rt: HostRuntime) -> Result<(), Fail> {
 }
 
 #[test]
+fn a_cell_gets_another_digit_or_base_cell(rt: HostRuntime) -> Result<(), Fail> {
+    let cell = Cell::new(0x85283473fffffff)?;
+    for (r, digit, raw) in [
+        (5, 3, 0x8528346ffffffff),
+        (5, 0, 0x85283463fffffff),
+        (5, 4, 0x85283473fffffff),
+        (1, 6, 0x8529b473fffffff),
+    ] {
+        assert_eq!(rt; cell.with_digit(r, digit), Cell::new(raw)?, "digit {r}");
+    }
+    for (base, raw) in [(0, 0x85003473fffffff), (121, 0x85f23473fffffff)] {
+        assert_eq!(rt; cell.with_base(base), Cell::new(raw)?, "base cell {base}");
+    }
+    Ok(())
+}
+
+#[test]
 fn other_numbers_are_no_cells(rt: HostRuntime) {
     let refused = [
         0x81087ffffffffff,

@@ -10,7 +10,6 @@ pub mod FormLaws
 pub mod KindLaws
 pub mod LiftedLaws
 pub mod LinearLaws
-pub mod PackedLaws
 pub mod ReadingLaws
 pub mod RecordLaws
 pub mod SlotLaws

@@ -1,8 +1,9 @@
 -- Sums of a digit list and a direction: one sum, its reverse, its turns, and triangles.
-use Rattle.std.proofs.Common.{◌≡◌, ◌≢◌, ◌-◌, ◌<◌, ◌≤◌, ◌++◌, take, get_or, length-append, ℕ, zero, suc, ◌+◌, refl, arith, sym, ap, subst, ◌∙◌, Option, Some, None, List, [], ◌∷◌, length, map}
+use Rattle.std.proofs.Common.{◌≡◌, ◌-◌, ◌<◌, ◌≤◌, ◌++◌, take, get_or, length-append, ℕ, zero, suc, ◌+◌, refl, arith, sym, ap, subst, ◌∙◌, Option, Some, None, List, [], ◌∷◌, length, map, drop, set}
 use Rattle.std.specs.Int.Digits.{AllBelowBase}
+use Rattle.std.proofs.Math.ListN.{drop_of_length-le}
 use Rattle.std.proofs.Math.Seq.{take-suc}
-use Rattle.std.proofs.lemmas.List.{length-map, length-take-le, take_all}
+use Rattle.std.proofs.lemmas.List.{append-nil, append_assoc, drop-set, length-map, length-take-le, set_split, take-set, take_all}
 use Rattle.h3_lattice.specs.declared.direction.Direction.{Direction}
 use Rattle.h3_lattice.specs.declared.direction.Direction.TheVariants.{K, J, JK, I, IK, IJ}
 use Rattle.h3_lattice.specs.declared.class.Class.{Class}
@@ -17,7 +18,6 @@ use Rattle.h3_lattice.proofs.LinearLaws.{points}
 use Rattle.h3_lattice.proofs.DivisionLaws.{one_division}
 use Rattle.h3_lattice.proofs.CarryLaws.{carries_triangle}
 use Rattle.h3_lattice.proofs.ExpansionLaws.{added, added_place, all_small-digits, along_expansion, directions-digits, expansion_along, length-added_digits, one_list, one_step, place_from-append, sum-zero}
-use Rattle.h3_lattice.proofs.PackedLaws.{small_push, small_take}
 use Rattle.h3_lattice.proofs.TurnLaws.{all_small-turned, map-turned-suc, once, option_turned-suc, option_turned-zero, place_from-no_turns, place-turned}
 
 -- ---- one sum
@@ -180,6 +180,15 @@ sums_close_triangles ds d u v es fs h k =
 
 -- ---- a sum, digit by digit
 
+small_push : (ds : List ℕ) (d : ℕ) → AllBelowBase 7 ds → d < 7 → AllBelowBase 7 (ds ++ d ∷ [])
+small_push [] d all small = (small, tt)
+small_push (x ∷ ds) d all small = (all.0, small_push ds d all.1 small)
+
+small_take : (n : ℕ) (ds : List ℕ) → AllBelowBase 7 ds → AllBelowBase 7 (take n ds)
+small_take zero ds all = tt
+small_take (suc n) [] all = tt
+small_take (suc n) (d ∷ ds) all = (all.0, small_take n ds all.1)
+
 -- where k is carried to the coarser digits, and u out of them, the finest digit goes after their sum
 pushed_sum : (ds es : List ℕ) (d : Direction) (k u : Option Direction) (x y n : ℕ) → n ≡ length ds + 1 → length es ≡ length ds → AllBelowBase 7 es → y < 7 → place_from 0 (value_of u) es ≡ sum_of (place ds) (value_of k) → IsCarry (class_at n) x d (value_of k) y → IsSum (ds ++ x ∷ []) d u (es ++ y ∷ [])
 pushed_sum ds es d k u x y n at long all small h e =
@@ -191,29 +200,66 @@ pushed_sum ds es d k u x y n at long all small h e =
     ∙ sym (one_step (class_at n) (place ds) (digit_value x) (unit_of d) (value_of k) (digit_value y) e)
     ∙ ap (λ p. sum_of p (unit_of d)) (sym (place_from-append 0 zero_point ds x n first)))
 
--- the sum of the digits ds, of which the finest is the r-th, and a direction; y is left of that digit, and k carried
-module _ (ds : List ℕ) (d : Direction) (c : Class) (k : Option Direction) (r x y : ℕ) (small : AllBelowBase 7 ds) (at : r ≡ length ds) (some : r ≢ 0) (class : c ≡ class_at r) (digit : x ≡ get_or ds (r - 1) 7) (left : y ≤ 6) (carry : IsCarry c x d (value_of k) y) where
+-- what is added to the first r of the digits ms, and the others after that: the whole sum
+pub record IsUnderway (ds : List ℕ) (direction : Direction) (r : ℕ) (d : Direction) (ms : List ℕ) : Type 0 where
+  pub whole : (u : Option Direction) (es : List ℕ) → IsSum (take r ms) d u es → IsSum ds direction u (es ++ drop r ms)
+
+pub begins : (ds : List ℕ) (d : Direction) (r : ℕ) → r ≡ length ds → IsUnderway ds d r d ds
+begins ds d r at = record {
+  whole = λ u es h.
+      let first : take r ds ≡ ds = take_all r ds (omega arith) in
+      let none : drop r ds ≡ [] = drop_of_length-le ds (omega arith) in
+      rw (none, append-nil) (rw first at h);
+}
+
+nothing-sum : (x : Eisenstein) → sum_of zero_point x ≡ sum_of x zero_point
+nothing-sum x = omega (arith, points)
+
+pub ends : (ds : List ℕ) (direction : Direction) (d : Direction) (ms : List ℕ) → IsUnderway ds direction 0 d ms → IsSum ds direction (Some d) ms
+ends ds direction d ms h =
+    h.whole (Some d) [] (record { long = refl; digits = tt; sum = nothing-sum (unit_of d) })
+
+-- the r-th of the digits ms is x; it and a direction leave y, and k is carried
+module _ (ms : List ℕ) (d : Direction) (c : Class) (k : Option Direction) (r x y : ℕ) (small : AllBelowBase 7 ms) (most : r ≤ length ms) (some : 1 ≤ r) (class : c ≡ class_at r) (digit : x ≡ get_or ms (r - 1) 7) (left : y ≤ 6) (carry : IsCarry c x d (value_of k) y) where
   above : suc (r - 1) ≡ r
   above = omega arith
 
-  abbrev pub coarser : List ℕ
-  coarser = take (r - 1) ds
+  abbrev coarser : List ℕ
+  coarser = take (r - 1) ms
 
-  whole : ds ≡ coarser ++ x ∷ []
-  whole =
-      sym (take_all r ds (omega arith)) ∙ ap (λ n. take n ds) (sym above) ∙ take-suc ds (r - 1) 7 (omega (arith, above)) ∙ ap (λ v. coarser ++ v ∷ []) (sym digit)
+  finest : take r ms ≡ coarser ++ x ∷ []
+  finest =
+      ap (λ n. take n ms) (sym above) ∙ take-suc ms (r - 1) 7 (omega (arith, above)) ∙ ap (λ v. coarser ++ v ∷ []) (sym digit)
 
   long : r ≡ length coarser + 1
-  long = omega (arith, length-take-le (r - 1) ds (omega arith), above)
+  long = omega (arith, length-take-le (r - 1) ms (omega arith), above)
 
-  sum_after : (es : List ℕ) (u : Option Direction) → length es ≡ length coarser → AllBelowBase 7 es → place_from 0 (value_of u) es ≡ sum_of (place coarser) (value_of k) → IsSum ds d u (es ++ y ∷ [])
+  sum_after : (es : List ℕ) (u : Option Direction) → length es ≡ length coarser → AllBelowBase 7 es → place_from 0 (value_of u) es ≡ sum_of (place coarser) (value_of k) → IsSum (take r ms) d u (es ++ y ∷ [])
   sum_after es u same all h =
-      subst (λ l. IsSum l d u (es ++ y ∷ [])) (sym whole) (pushed_sum coarser es d k u x y r long same all (omega arith) h (subst (λ v. IsCarry v x d (value_of k) y) class carry))
+      subst (λ l. IsSum l d u (es ++ y ∷ [])) (sym finest) (pushed_sum coarser es d k u x y r long same all (omega arith) h (subst (λ v. IsCarry v x d (value_of k) y) class carry))
 
-  pub ends_here : k ≡ None → IsSum ds d None (coarser ++ y ∷ [])
+  ends_here : k ≡ None → IsSum (take r ms) d None (coarser ++ y ∷ [])
   ends_here none =
-      sum_after coarser None refl (small_take (r - 1) ds small) (sum-zero (place coarser) ∙ ap (λ (o : Option Direction). sum_of (place coarser) (value_of o)) (sym none))
+      sum_after coarser None refl (small_take (r - 1) ms small) (sum-zero (place coarser) ∙ ap (λ (o : Option Direction). sum_of (place coarser) (value_of o)) (sym none))
 
-  pub goes_on : (e : Direction) (u : Option Direction) (es : List ℕ) → k ≡ Some e → IsSum coarser e u es → IsSum ds d u (es ++ y ∷ [])
+  goes_on : (e : Direction) (u : Option Direction) (es : List ℕ) → k ≡ Some e → IsSum coarser e u es → IsSum (take r ms) d u (es ++ y ∷ [])
   goes_on e u es some_e h =
       sum_after es u h.long h.digits (expansion_along (sum_of (place coarser) (unit_of e)) (value_of u) (length coarser) es h ∙ ap (λ (o : Option Direction). sum_of (place coarser) (value_of o)) (sym some_e))
+
+  -- nothing is carried: the coarser digits stay
+  pub last_sum : (ds : List ℕ) (direction : Direction) → IsUnderway ds direction r d ms → k ≡ None → IsSum ds direction None (set ms (r - 1) y)
+  last_sum ds direction h none =
+      let split : set ms (r - 1) y ≡ coarser ++ y ∷ drop r ms = rw above at (set_split ms (r - 1) y (omega (arith, above))) in
+      let list = append_assoc coarser (y ∷ []) (drop r ms) in
+      subst (IsSum ds direction None) (list ∙ sym split) (h.whole None (coarser ++ y ∷ []) (ends_here none))
+
+  pub next_sum : (ds : List ℕ) (direction e : Direction) → IsUnderway ds direction r d ms → k ≡ Some e → IsUnderway ds direction (r - 1) e (set ms (r - 1) y)
+  next_sum ds direction e h some_e = record {
+    whole = λ u es g.
+        let next : r - 1 + 1 ≡ r = omega arith in
+        let same : take (r - 1) (set ms (r - 1) y) ≡ coarser = take-set ms (r - 1) y in
+        let tail : drop (r - 1) (set ms (r - 1) y) ≡ y ∷ drop r ms = rw next at (drop-set ms (r - 1) y (omega (arith, above))) in
+        let list = append_assoc es (y ∷ []) (drop r ms) in
+        let own : IsSum coarser e u es = rw same at g in
+        subst (IsSum ds direction u) (list ∙ ap (λ l. es ++ l) (sym tail)) (h.whole u (es ++ y ∷ []) (goes_on e u es some_e own));
+  }

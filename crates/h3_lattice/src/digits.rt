@@ -12,27 +12,26 @@ use std::marker::Model;
 
 /// The digits of a cell without its base cell: a digit of 0 to 6 for each resolution from 1 up to its own.
 ///
-/// They are packed as in a cell's number: fifteen of three bits each, that of resolution 1 the highest, and 7 above the
-/// list's own resolution.
+/// They are held in one number, that of the cell in base cell 0 that has them. It is no pentagon, so every list of
+/// digits is that of a cell there.
 #[derive(Clone, Copy, Debug, PartialEq, Eq)]
 pub struct Digits {
-    resolution: u8,
-    packed: u64,
+    cell: Cell,
 }
 
 impl Model for Digits {
-    ghost use Rattle.std.specs.Prelude.{ℕ, List, length};
-    ghost use Rattle.h3_lattice.specs.Digits.{IsPacked, digits_in, packed_of};
+    ghost use Rattle.std.specs.Prelude.{◌≡◌, ℕ, List};
+    ghost use Rattle.h3_lattice.specs.Digits.{cell_of};
 
     ghost Value = { List ℕ };
 
-    ghost view = { λ d. digits_in d.resolution d.packed };
+    ghost view = { λ d. d.cell.digits };
 
-    ghost invariant = { λ d. IsPacked d.resolution d.packed };
+    ghost invariant = { λ d. 0 ≡ d.cell.base };
 
-    ghost inverse = { λ ds. record { resolution = length ds; packed = packed_of ds } };
+    ghost inverse = { λ ds. record { cell = cell_of 0 ds } };
 
-    ghost inverse_ok = { λ d h i. record { resolution = h.long i; packed = h.is i } };
+    ghost inverse_ok = { λ d h i. record { cell = record { base = h i; digits = d.cell.digits } } };
 }
 
 /// A row for each number of turns from 0 on, in it each digit turned so often.
@@ -54,37 +53,13 @@ fn turned_digit(digit: u8, n: u8) -> u8
 }
 
 impl Digits {
-    /// The list of no digits, that of resolution 0.
-    fn empty() -> Digits
-        ensures { result ≡ [] }
-    {
-        Digits {
-            resolution: 0,
-            packed: 0x1fff_ffff_ffff,
-        }
-    }
-
     /// The digits of a cell.
     pub(crate) fn of(cell: Cell) -> Digits
         ensures is { result ≡ cell.digits }
         ensures valid { IsDigits result }
     {
         Digits {
-            resolution: cell.resolution(),
-            packed: cell.raw() & 0x1fff_ffff_ffff,
-        }
-    }
-
-    /// The list with one more digit, that of the next finer resolution.
-    fn push(self, digit: u8) -> Digits
-        requires room { length self < 15 }
-        requires small { digit < 7 }
-        ensures { result ≡ self ++ digit ∷ [] }
-    {
-        let places = 3 * (14 - self.resolution);
-        Digits {
-            resolution: self.resolution + 1,
-            packed: self.packed - (u64::from(7 - digit) << places),
+            cell: cell.with_base(0),
         }
     }
 
@@ -93,7 +68,7 @@ impl Digits {
         ensures number { result ≡ length self }
         ensures valid { IsDigits self }
     {
-        self.resolution
+        self.cell.resolution()
     }
 
     /// The digit of a resolution from 1 to 15: 0 to 6, or 7 above the list's own resolution.
@@ -102,7 +77,7 @@ impl Digits {
         requires at_most { r ≤ 15 }
         ensures { result ≡ slice_index_or self (r - 1) 7 }
     {
-        (self.packed >> (45 - 3 * r) & 7) as u8
+        self.cell.digit(r)
     }
 
     /// Each digit turned n times, each turn 60 degrees counter-clockwise. The digit 0 stays. So the place is multiplied
@@ -113,11 +88,11 @@ impl Digits {
         ensures place { place result ≡ product_of (turns n) (place self) }
         ensures valid { IsDigits result }
     {
-        let mut turned = Digits::empty();
-        for r in 0..self.resolution() {
-            turned = turned.push(turned_digit(self.digit(r + 1), n));
+        let mut turned = self.cell;
+        for r in 1..self.resolution() + 1 {
+            turned = turned.with_digit(r, turned_digit(self.digit(r), n));
         }
-        turned
+        Digits { cell: turned }
     }
 
     /// The cell of a base cell that has these digits. The base cell is 0 to 121 and no pentagon, so that no digits are
@@ -128,10 +103,6 @@ impl Digits {
         ensures is { result ≡ cell_of base self }
         ensures valid { IsCell result }
     {
-        let mut cell = Cell::in_base(base);
-        for r in 0..self.resolution() {
-            cell = cell.child(self.digit(r + 1));
-        }
-        cell
+        self.cell.with_base(base)
     }
 }

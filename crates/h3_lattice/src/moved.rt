@@ -21,29 +21,6 @@ pub enum Moved {
     Across(Direction, Digits),
 }
 
-/// Adds a direction to the digit of the cell's own resolution, and what is carried to the coarser ones, as long as there
-/// is something: the sum in the cell's own base cell, and the direction that is carried out of the digit of resolution 1.
-fn carried_into(cell: Cell, direction: Direction) -> (Cell, Option<Direction>)
-    requires { is_pentagon_base cell.base ≡ false }
-    ensures base { result.0.base ≡ cell.base }
-    ensures is { IsSum cell.digits direction result.1 result.0.digits }
-    ensures valid { IsCell result.0 }
-{
-    let resolution = cell.resolution();
-    if resolution == 0 {
-        return (cell, Some(direction));
-    }
-    let (digit, carried) = carry(Class::at(resolution), cell.digit(resolution), direction);
-    let coarser = cell.cut(resolution - 1);
-    match carried {
-        None => (coarser.child(digit), None),
-        Some(next) => {
-            let (moved, out) = carried_into(coarser, next);
-            (moved.child(digit), out)
-        }
-    }
-}
-
 /// The sum of a cell and a direction, for a cell that is in no pentagon base cell: the direction's unit is added to
 /// the cell's place. It is the part of H3's `h3NeighborRotations` before the crossing into another base cell.
 pub fn add(cell: Cell, direction: Direction) -> Moved
@@ -54,9 +31,18 @@ pub fn add(cell: Cell, direction: Direction) -> Moved
     ensures unique { ExpansionsAreUnique }
     ensures places { PlacesAreSums }
 {
-    let (moved, out) = carried_into(cell, direction);
-    match out {
-        None => Moved::Inside(moved),
-        Some(side) => Moved::Across(side, Digits::of(moved)),
+    let resolution = cell.resolution();
+    let mut moved = cell;
+    let mut carried = direction;
+    // from the finest digit on towards that of resolution 1, while something is carried
+    for done in 0..resolution {
+        let r = resolution - done;
+        let (digit, next) = carry(Class::at(r), moved.digit(r), carried);
+        moved = moved.with_digit(r, digit);
+        match next {
+            None => return Moved::Inside(moved),
+            Some(coarser) => carried = coarser,
+        }
     }
+    Moved::Across(carried, Digits::of(moved))
 }

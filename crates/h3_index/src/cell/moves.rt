@@ -1,9 +1,10 @@
-//! Moves up and down the hierarchy of cells.
+//! Moves from a cell to another: up and down the hierarchy, and at its own resolution.
 
-ghost use Rattle.std.specs.Prelude.{◌≡◌, ◌≢◌, ◌<◌, ◌≤◌, length, true};
-ghost use Rattle.h3_index.specs.Cell.{IsCell, is_pentagon};
+ghost use Rattle.std.specs.Prelude.{◌≡◌, ◌≢◌, ◌<◌, ◌≤◌, length, true, false};
+ghost use Rattle.h3_index.specs.Cell.{IsCell, is_pentagon, is_pentagon_base};
 ghost use Rattle.h3_index.specs.Count.{base_cell};
 ghost use Rattle.h3_index.specs.Descendants.{center_at, child, cut};
+ghost use Rattle.h3_index.specs.Moves.{with_base, with_digit};
 
 use super::Cell;
 
@@ -58,6 +59,36 @@ impl Cell {
         let ones: u64 = 1 << (3 * (15 - r));
         Cell {
             raw: self.raw + finer + ones - (1 << places),
+        }
+    }
+
+    /// The cell with another digit, 0 to 6, at a resolution from 1 up to its own. Its base cell is no pentagon, so that
+    /// no digits are deleted there.
+    pub fn with_digit(self, r: u8, digit: u8) -> Cell
+        requires some { 1 ≤ r }
+        requires at_most { r ≤ length self.digits }
+        requires at_most_six { digit < 7 }
+        requires hexagon { is_pentagon_base self.base ≡ false }
+        ensures is { result ≡ with_digit self r digit }
+        ensures valid { IsCell result }
+    {
+        let places = 45 - 3 * r;
+        let old = u64::from(self.digit(r)) << places;
+        Cell {
+            raw: self.raw - old + (u64::from(digit) << places),
+        }
+    }
+
+    /// The cell of the same digits in another base cell, 0 to 121, that is no pentagon.
+    pub fn with_base(self, base: u8) -> Cell
+        requires small { base < 122 }
+        requires hexagon { is_pentagon_base base ≡ false }
+        ensures is { result ≡ with_base self base }
+        ensures valid { IsCell result }
+    {
+        let old = u64::from(self.base_cell()) << 45;
+        Cell {
+            raw: self.raw - old + (u64::from(base) << 45),
         }
     }
 }
