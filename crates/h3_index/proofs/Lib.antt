@@ -11,5 +11,8 @@ pub mod EdgeOrderLaws
 pub mod MoveLaws
 pub mod OrderLaws
 pub mod PathLaws
+pub mod PlainLaws
+pub mod RaiseLaws
+pub mod SpreadLaws
 pub mod TextLaws
 pub mod WriteLaws
