@@ -4,6 +4,7 @@ pub mod CellTestLaws
 pub mod ChainLaws
 pub mod CountLaws
 pub mod DescendantLaws
+pub mod DigitBitLaws
 pub mod DigitsLaws
 pub mod DigitTestLaws
 pub mod EdgeLaws

@@ -5,13 +5,13 @@ use Rattle.std.specs.Int.{w64, to_be_bytes, from_be_bytes}
 use Rattle.std.specs.Int.Digits.{number_from_digits, AllBelowBase}
 use Rattle.std.specs.Str.{IsAscii}
 use Rattle.std.proofs.Common.{ℕ, zero, suc, ◌≡◌, ◌+◌, ◌-◌, ◌*◌, ◌/◌, ◌%◌, ◌^◌, ◌<◌, ◌==◌, nat_lt, List, [], ◌∷◌, ◌++◌, get_or, map, true, refl, arith, sym, ap, ◌∙◌, lit<, eqb-true}
-use Rattle.std.proofs.Math.Nat.{div-div-eq-div-mul, pow-suc, pow-zero, mod-eq_of_lt}
+use Rattle.std.proofs.Math.Nat.{div-div-eq-div-mul, pow-suc, mod-eq_of_lt}
 use Rattle.std.proofs.lemmas.Bool.{agree_below_at, ltb-true}
 use Rattle.std.proofs.lemmas.Int.Digits.{number_push}
-use Rattle.std.proofs.lemmas.List.{map-append, append-nil, append_assoc}
-use Rattle.std.proofs.lemmas.Nat.{and_block, or_block, and_mask, mod_below, or_lt, pow_pos, shr_split, div_below, be_bytes_8, field_of, mod-pow-add, mod_low}
+use Rattle.std.proofs.lemmas.List.{map-append}
+use Rattle.std.proofs.lemmas.Nat.{and_block, or_block, and_mask, mod_below, or_lt, pow_pos, shr_split, div_below, be_bytes_8}
 use Rattle.h3_index.specs.Digits.{last_digits}
-use Rattle.h3_index.proofs.DigitsLaws.{below-last_digits, shifted}
+use Rattle.h3_index.proofs.DigitsLaws.{below-last_digits, last_digits-cut, low-last_digits, sixteens}
 
 -- ---- what the bytes hold
 
@@ -213,24 +213,10 @@ word_bytes v = be_bytes_8 (map digit_char (last_digits 16 8 v)) _ refl
 
 -- ---- halves
 
-pub last_digits-cut : (n m v : ℕ) → last_digits 16 (n + m) v ≡ last_digits 16 n (v / 16 ^ m) ++ last_digits 16 m v
-last_digits-cut n zero v =
-    let same : n + 0 ≡ n = omega arith in
-    let one : v / 1 ≡ v = omega arith in
-    rw (same, pow-zero 16, one, append-nil) refl
-last_digits-cut n (suc m) v =
-    let next : n + suc m ≡ suc (n + m) = omega arith in
-    rw (next, last_digits-cut n m (v / 16), shifted 16 v m, append_assoc) refl
-
 pub low_digits : (m v : ℕ) → last_digits 16 m (v % 2 ^ (4 * m)) ≡ last_digits 16 m v
-low_digits zero v = refl
-low_digits (suc m) v =
-    let next : 4 * suc m ≡ 4 * m + 4 = omega arith in
-    let high : v % 2 ^ (4 * m + 4) / 16 ≡ v / 16 % 2 ^ (4 * m) = field_of v (4 * m) 4 in
-    let low : v % 2 ^ (4 * m + 4) % 16 ≡ v % 16 = ap (λ n. n % 16) (mod-pow-add v (4 * m) 4) ∙ mod_low (v / 16 % 2 ^ (4 * m)) 4 (v % 16) (mod_below v 16 (lit< tt)) in
-    rw (next, high, low, low_digits m (v / 16)) refl
+low_digits m v = rw (sixteens m) (low-last_digits 16 m v (lit< tt))
 
 pub halves_are : (v : ℕ) → map digit_char (last_digits 16 8 (v / 2 ^ 32)) ++ map digit_char (last_digits 16 8 (v % 2 ^ 32)) ≡ map digit_char (last_digits 16 16 v)
 halves_are v =
     ap (λ ds. map digit_char (last_digits 16 8 (v / 2 ^ 32)) ++ map digit_char ds) (low_digits 8 v)
-    ∙ sym (map-append digit_char (last_digits 16 8 (v / 2 ^ 32)) (last_digits 16 8 v)) ∙ ap (map digit_char) (sym (last_digits-cut 8 8 v))
+    ∙ sym (map-append digit_char (last_digits 16 8 (v / 2 ^ 32)) (last_digits 16 8 v)) ∙ ap (map digit_char) (sym (last_digits-cut 16 8 8 v))
