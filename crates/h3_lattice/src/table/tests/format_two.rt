@@ -28,10 +28,9 @@ fn records(rt: &HostRuntime, table: TestTable) -> Result<Vec<[u8; 13]>, Fail> {
 
 /// The text of a record.
 fn line(rt: &HostRuntime, record: &[u8; 13]) -> Result<String, Fail> {
-    let [base, numbers @ ..] = record;
-    let mut line = format!(in rt.alloc(); "{base}")?;
-    for number in numbers {
-        let field = format!(in rt.alloc(); ",{number}")?;
+    let mut line = format!(in rt.alloc(); "{}", record[0])?;
+    for i in 1..13 {
+        let field = format!(in rt.alloc(); ",{}", record[i])?;
         line.push_str(&field)?;
     }
     Ok(line)
@@ -89,11 +88,11 @@ fn marks_quotes_and_zeros_are_let_through(rt: HostRuntime) -> Result<(), Fail> {
     let mut written = String::new(rt.alloc());
     written.push_str("\u{feff}")?;
     written.push_str(HEADER)?;
-    for [base, numbers @ ..] in &records(&rt, TestTable::Plain)? {
-        let field = format!(in rt.alloc(); "\"{base:03}\"")?;
+    for record in &records(&rt, TestTable::Plain)? {
+        let field = format!(in rt.alloc(); "\"{:03}\"", record[0])?;
         written.push_str(&field)?;
-        for number in numbers {
-            let field = format!(in rt.alloc(); ",{number:03}")?;
+        for i in 1..13 {
+            let field = format!(in rt.alloc(); ",{:03}", record[i])?;
             written.push_str(&field)?;
         }
         written.push_str("\n")?;
