@@ -1,7 +1,7 @@
 //! The plain Rust programs that the command h3 is measured against: the same work over the same kinds of buffers,
 //! with no proof. `plain valid CELL`, `plain children CELL RES`, `plain uncompact RES` and `plain compact` (cells on
-//! standard input), `plain positions COUNT` (that many positions and back), `plain table` (a table file) and
-//! `plain tables COUNT` (that many readings of the table file on standard input), `plain steps COUNT` (that many times
+//! standard input), `plain positions COUNT` (that many positions and back), `plain table` (a table file; `table twisted`
+//! and `table bases` are others, the last of format 2) and `plain tables COUNT` (that many readings of the table file on standard input), `plain steps COUNT` (that many times
 //! round the ring of radius 1000, over the table on standard input), `plain disk CELL K TABLE` and
 //! `plain ring CELL K TABLE`.
 //!
@@ -301,9 +301,38 @@ fn number(field: &[u8]) -> Option<u16> {
     field.iter().try_fold(0, |n, b| b.is_ascii_digit().then(|| n * 10 + u16::from(b - b'0')))
 }
 
+const BASES_HEADER: &str = "base,k,j,jk,i,ik,ij,rk,rj,rjk,ri,rik,rij";
+
+/// The links in the records of format 2.
+fn read_bases<'a>(lines: impl Iterator<Item = &'a [u8]>) -> Option<Links> {
+    let mut links = [[None; 6]; 122];
+    for line in lines {
+        let mut fields = line.split(|b| *b == b',').map(number);
+        let base = fields.next()??;
+        if base > 121 || !is_hexagon(base as u8) || links[base as usize][0].is_some() {
+            return None;
+        }
+        let mut numbers = [0; 12];
+        for number in &mut numbers {
+            *number = fields.next()??;
+        }
+        if fields.next().is_some() || numbers[..6].iter().any(|to| *to > 121) || numbers[6..].iter().any(|turns| *turns > 5) {
+            return None;
+        }
+        for (d, slot) in links[base as usize].iter_mut().enumerate() {
+            *slot = Some((numbers[d] as u8, numbers[6 + d] as u8));
+        }
+    }
+    Some(links)
+}
+
 fn read_records(text: &[u8]) -> Option<Links> {
     let mut lines = text.split(|b| *b == b'\n').filter(|line| !line.is_empty());
-    if lines.next()? != b"base,dir,to,rot" {
+    let header = lines.next()?;
+    if header == BASES_HEADER.as_bytes() {
+        return read_bases(lines);
+    }
+    if header != b"base,dir,to,rot" {
         return None;
     }
     let mut links = [[None; 6]; 122];
@@ -354,6 +383,18 @@ fn write_table(out: &mut impl Write, link: impl Fn(u8, usize) -> (u8, u8)) -> io
             let (to, turns) = link(base, d);
             writeln!(out, "{base},{},{to},{turns}", d + 1)?;
         }
+    }
+    Ok(())
+}
+
+/// A table file of format 2 with these links.
+fn write_bases(out: &mut impl Write, link: impl Fn(u8, usize) -> (u8, u8)) -> io::Result<()> {
+    writeln!(out, "{BASES_HEADER}")?;
+    for base in (0..122).filter(|b| is_hexagon(*b)) {
+        write!(out, "{base}")?;
+        (0..6).try_for_each(|d| write!(out, ",{}", link(base, d).0))?;
+        (0..6).try_for_each(|d| write!(out, ",{}", link(base, d).1))?;
+        writeln!(out)?;
     }
     Ok(())
 }
@@ -411,6 +452,7 @@ fn main() -> io::Result<()> {
             writeln!(out, "{sum}")?;
         }
         ["table"] => write_table(&mut out, |base, d| (plain_neighbor(base, d), 0))?,
+        ["table", "bases"] => write_bases(&mut out, |base, d| (plain_neighbor(base, d), 0))?,
         ["table", "twisted"] => write_table(&mut out, |base, d| {
             let to = plain_neighbor(base, turned(d, 6 - base % 6));
             (to, (to % 6 + 6 - base % 6) % 6)

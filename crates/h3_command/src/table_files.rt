@@ -41,6 +41,44 @@ pub fn test_file(rt: &HostRuntime, table: TestTable) -> Result<String, Fail> {
     file_of(rt, &records)
 }
 
+/// The records of a test table in format 2: a base cell, six neighbours and six numbers of turns.
+pub fn base_records_of(rt: &HostRuntime, table: TestTable) -> Result<Vec<[u8; 13]>, Fail> {
+    let mut records = Vec::new(rt.alloc());
+    for base in 0..122u8 {
+        if !is_pentagon_base(base) {
+            let mut record = [base; 13];
+            for digit in 1..7u8 {
+                let direction = Direction::from_digit(digit).ok_or("no direction")?;
+                let (to, turns) = link(table, base, direction);
+                record[digit as usize] = to;
+                record[6 + digit as usize] = turns;
+            }
+            records.push(record)?;
+        }
+    }
+    Ok(records)
+}
+
+/// The file of a table with these records of format 2.
+pub fn bases_file_of(rt: &HostRuntime, records: &[[u8; 13]]) -> Result<String, Fail> {
+    let mut text = String::new(rt.alloc());
+    text.push_str("base,k,j,jk,i,ik,ij,rk,rj,rjk,ri,rik,rij\n")?;
+    for record in records {
+        for i in 0..13 {
+            let end = if i < 12 { "," } else { "\n" };
+            let field = format!(in rt.alloc(); "{}{end}", record[i])?;
+            text.push_str(&field)?;
+        }
+    }
+    Ok(text)
+}
+
+/// The file of a test table in format 2.
+pub fn bases_test_file(rt: &HostRuntime, table: TestTable) -> Result<String, Fail> {
+    let records = base_records_of(rt, table)?;
+    bases_file_of(rt, &records)
+}
+
 /// Asserts what a command over a table writes, its line on standard error and its exit status.
 pub fn assert_run<R: Abort + AllocGlobal>(
     rt: &R,
@@ -90,3 +128,5 @@ pub fn run_to<const N: usize>(
     let status = run(rt.alloc(), &command, &mut input, &mut table, out, &mut err);
     (err, status)
 }
+
+mod format_two;

@@ -12,7 +12,7 @@ use Rattle.h3_lattice.specs.Fields.{Record}
 use Rattle.h3_lattice.specs.First.{AreGood, FailsFirst, FaultsAreFirst, HoldsEverywhere, IsApart, IsBefore, IsClosed, IsFirstFault, IsFirstFaulty, IsMissing, IsReversed}
 use Rattle.h3_lattice.specs.Links.{IsHexagonBase, Links, is_hexagon_base}
 use Rattle.h3_lattice.specs.Checks.{at_places, closes, fault_at, fault_of_links, from_base, in_directions, is_apart, reverses, unless}
-use Rattle.h3_lattice.specs.Records.{body_of, fault_of, fault_of_records, first_fault, spelled_link}
+use Rattle.h3_lattice.specs.Records.{body_of, fault_of, fault_of_records, first_fault, format_of, spelled_link}
 use Rattle.h3_lattice.specs.Table.{IsOfForm, links_of, missing_of, table_fault}
 use Rattle.h3_lattice.proofs.FormLaws.{form_of, no_fault_of, none_missing}
 use Rattle.h3_lattice.proofs.KindLaws.{IsKind, checks-kind, is_kind, kind, missing-kind, records-kind}
@@ -336,22 +336,22 @@ missing_is (fault.Corner b d) k = absurd (omega arith)
 missing-first : (records : List Record) → IsMissing records → at_places (missing_of records) ≡ Some fault.Missing
 missing-first records m = by (at_places (missing_of records)) refl (missing-kind records)
   where
-    named : is_some (spelled_link m.base (digit_of m.direction) (body_of records)) ≡ true → ⊥
+    named : is_some (spelled_link (format_of records) m.base (digit_of m.direction) (body_of records)) ≡ true → ⊥
     named h =
-        let none : is_some (spelled_link m.base (digit_of m.direction) (body_of records)) ≡ false = rw m.none refl in
-        both_ways (is_some (spelled_link m.base (digit_of m.direction) (body_of records))) h none
+        let none : is_some (spelled_link (format_of records) m.base (digit_of m.direction) (body_of records)) ≡ false = rw m.none refl in
+        both_ways (is_some (spelled_link (format_of records) m.base (digit_of m.direction) (body_of records))) h none
 
     by : (o : Option TableError) → at_places (missing_of records) ≡ o → IsKind 2 o → o ≡ Some fault.Missing
     by None is k =
-        absurd (named (no_fault (is_some (spelled_link m.base (digit_of m.direction) (body_of records))) fault.Missing
+        absurd (named (no_fault (is_some (spelled_link (format_of records) m.base (digit_of m.direction) (body_of records))) fault.Missing
         (no_fault_at (missing_of records) m.base m.direction is (is_hexagon_of m.base m.hexagon))))
     by (Some x) is k = ap Some (missing_is x k)
 
 first-missing : (records : List Record) (e : TableError) → at_places (missing_of records) ≡ Some e → IsMissing records × (fault.Missing ≡ e)
 first-missing records e is =
     let (b, d, p) = found_first (missing_of records) e is in
-    let here = unless-some (is_some (spelled_link b (digit_of d) (body_of records))) fault.Missing e p.there in
-    (record { base = b; direction = d; hexagon = p.hexagon; none = no_link (spelled_link b (digit_of d) (body_of records)) here.0 }, here.1)
+    let here = unless-some (is_some (spelled_link (format_of records) b (digit_of d) (body_of records))) fault.Missing e p.there in
+    (record { base = b; direction = d; hexagon = p.hexagon; none = no_link (spelled_link (format_of records) b (digit_of d) (body_of records)) here.0 }, here.1)
 
 -- an error of a record
 record_error : (records : List Record) (e : TableError) → kind e ≡ 1 → fault_of_records records ≡ Some e → IsFirstFault records e

@@ -8,10 +8,12 @@ use Rattle.h3_lattice.specs.declared.error.TableError.TheVariants as fault
 use Rattle.h3_lattice.specs.declared.checks.Check.{Check}
 use Rattle.h3_lattice.specs.declared.checks.Check.TheVariants as check
 use Rattle.h3_lattice.specs.Direction.{digit_of, directions}
-use Rattle.h3_lattice.specs.Fields.{Record, header, numbers_in, same_fields}
+use Rattle.h3_lattice.specs.declared.format.Format.{Format}
+use Rattle.h3_lattice.specs.Fields.{Record, numbers_in}
+use Rattle.h3_lattice.specs.Format.{first_digit, format_told, format_under, in_range, width}
 use Rattle.h3_lattice.specs.Links.{Links, is_hexagon_base}
 use Rattle.h3_lattice.specs.Checks.{at_places, closes, fault_at, fault_of_links, from_base, in_directions, is_apart, reverses}
-use Rattle.h3_lattice.specs.Records.{body_of, fault_in, fault_of, fault_of_records, first_fault, in_range, spelled_link}
+use Rattle.h3_lattice.specs.Records.{body_of, fault_in, fault_of, fault_of_records, first_fault, format_of, spelled_link}
 use Rattle.h3_lattice.specs.Table.{links_of, missing_of, table_fault}
 
 -- 1 for errors of one record, then a number for each later part, and 0 for what is no error of the table
@@ -61,15 +63,16 @@ fault_at-kind check.Neighbours link b d = if_kind 3 (is_apart link b d) None (So
 fault_at-kind check.Reversal link b d = if_kind 4 (reverses link b d) None (Some (fault.Reversal b d)) tt refl
 fault_at-kind check.Corner link b d = if_kind 5 (closes link b d) None (Some (fault.Corner b d)) tt refl
 
-fault_in-kind : (row : ℕ) (known : ℕ → ℕ → Option (ℕ × ℕ)) (o : Option (List ℕ)) → IsKind 1 (fault_in row known o)
-fault_in-kind row known None = refl
-fault_in-kind row known (Some ns) =
-    if_kind 1 (not (in_range ns)) (Some (fault.Range row)) (if is_some (known (slice_index ns 0) (slice_index ns 1)) then Some (fault.Repeated row) else None) refl
-    (if_kind 1 (is_some (known (slice_index ns 0) (slice_index ns 1))) (Some (fault.Repeated row)) None refl tt)
+fault_in-kind : (format : Format) (row : ℕ) (known : ℕ → ℕ → Option (ℕ × ℕ)) (o : Option (List ℕ)) → IsKind 1 (fault_in format row known o)
+fault_in-kind format row known None = refl
+fault_in-kind format row known (Some ns) =
+    if_kind 1 (not (in_range format ns)) (Some (fault.Range row)) (if is_some (known (slice_index ns 0) (first_digit format ns)) then Some (fault.Repeated row) else None) refl
+    (if_kind 1 (is_some (known (slice_index ns 0) (first_digit format ns))) (Some (fault.Repeated row)) None refl tt)
 
 fault_of-kind : (before : List Record) (r : Record) → IsKind 1 (fault_of before r)
-fault_of-kind [] r = if_kind 1 (same_fields r header) None (Some (fault.Form 1)) tt refl
-fault_of-kind (front ∷ body) r = fault_in-kind (length body + 2) (λ b d. spelled_link b d body) (numbers_in 4 r)
+fault_of-kind [] r = if_kind 1 (is_some (format_told r)) None (Some (fault.Form 1)) tt refl
+fault_of-kind (front ∷ body) r =
+    fault_in-kind (format_under front) (length body + 2) (λ b d. spelled_link (format_under front) b d body) (numbers_in (width (format_under front)) r)
 
 first_fault-kind : (before rest : List Record) → IsKind 1 (first_fault before rest)
 unfolding first_fault
@@ -85,7 +88,7 @@ records-kind (front ∷ body) = first_fault-kind [] (front ∷ body)
 
 pub missing-kind : (records : List Record) → IsKind 2 (at_places (missing_of records))
 missing-kind records =
-    from_base-kind 2 (missing_of records) 0 122 (λ b d. if_kind 2 (is_some (spelled_link b (digit_of d) (body_of records))) None (Some fault.Missing) tt refl)
+    from_base-kind 2 (missing_of records) 0 122 (λ b d. if_kind 2 (is_some (spelled_link (format_of records) b (digit_of d) (body_of records))) None (Some fault.Missing) tt refl)
 
 pub checks-kind : (c : Check) (link : Links) → IsKind (kind_of c) (at_places (fault_at c link))
 checks-kind c link = from_base-kind (kind_of c) (fault_at c link) 0 122 (fault_at-kind c link)

@@ -1,15 +1,24 @@
 -- The slots hold the links of the records
-use Rattle.std.proofs.Common.{◌≡◌, ◌≢◌, ◌<◌, ℕ, zero, suc, Bool, true, false, not, Option, Some, None, List, [], ◌∷◌, ◌++◌, length, replicate, refl, arith, sym, ◌∙◌, slice_index_or, slice_index, slice_set}
+use Rattle.std.proofs.Common.{◌≡◌, ◌≢◌, ◌<◌, ◌+◌, ap, ℕ, zero, suc, Bool, true, false, not, Option, Some, None, List, [], ◌∷◌, ◌++◌, length, replicate, refl, arith, sym, ◌∙◌, slice_index_or, slice_index, slice_set}
 use Rattle.std.proofs.lemmas.List.{length-set, get_or-set_same, get_or-set_other, length-replicate}
 use Rattle.std.proofs.lemmas.Bool.Decides.{nat_tests}
-use Rattle.std.specs.Prelude.{is_some, if◌then◌else◌, ◌==◌, ◌&&◌}
-use Rattle.std.specs.Option.{option_or}
+use Rattle.std.specs.Prelude.{is_some, if◌then◌else◌, ◌==◌, ◌&&◌, ◌||◌, nat_lt}
+use Rattle.std.specs.List.{list_all}
+use Rattle.std.specs.Option.{option_and_then, option_or}
 use Rattle.h3_lattice.specs.declared.error.TableError.TheVariants as fault
+use Rattle.h3_lattice.specs.declared.direction.Direction.{Direction}
+use Rattle.h3_lattice.specs.declared.direction.Direction.TheVariants.{K, J, JK, I, IK, IJ}
+use Rattle.h3_lattice.specs.declared.format.Format.{Format}
+use Rattle.h3_lattice.specs.declared.format.Format.TheVariants.{One, Two}
+use Rattle.h3_lattice.specs.Direction.{digit_of, directions}
 use Rattle.h3_lattice.specs.Fields.{Record, numbers_in}
-use Rattle.h3_lattice.specs.Links.{is_hexagon_base, place_of}
-use Rattle.h3_lattice.specs.Records.{fault_in, in_range, link_in, spelled_link}
-use Rattle.h3_lattice.specs.Slots.{Holds, IsInRange}
-use Rattle.h3_lattice.proofs.SoundLaws.{eqb-eq}
+use Rattle.h3_lattice.specs.Format.{first_digit, in_range, link_in, width}
+use Rattle.h3_lattice.specs.FormatOne.{in_range_one, link_one}
+use Rattle.h3_lattice.specs.FormatTwo.{in_range_two, is_link_two, link_at_digit, link_two}
+use Rattle.h3_lattice.specs.Links.{IsLink, is_hexagon_base, place_of}
+use Rattle.h3_lattice.specs.Records.{fault_in, record_link, spelled_link}
+use Rattle.h3_lattice.specs.Slots.{Holds, IsInRangeOne, IsInRangeTwo, Takes}
+use Rattle.h3_lattice.proofs.SoundLaws.{and_both, direction_below, eqb-eq, nth_direction, true-nat_lt}
 
 or_none : (o : Option (ℕ × ℕ)) → option_or o None ≡ o
 or_none None = refl
@@ -18,39 +27,71 @@ or_none (Some p) = refl
 eqb-ne : (m n : ℕ) → (m == n) ≡ false → m ≢ n
 eqb-ne m n e = grind (arith, nat_tests)
 
-pub spelled_link-append : (b d : ℕ) (body : List Record) (r : Record) → spelled_link b d (body ++ (r ∷ [])) ≡ option_or (spelled_link b d body) (link_in b d (numbers_in 4 r))
+pub spelled_link-append : (format : Format) (b d : ℕ) (body : List Record) (r : Record) → spelled_link format b d (body ++ (r ∷ [])) ≡ option_or (spelled_link format b d body) (record_link format b d r)
 unfolding spelled_link
-spelled_link-append b d [] r = or_none (link_in b d (numbers_in 4 r))
-spelled_link-append b d (x ∷ body) r = rw (spelled_link-append b d body r) (or_assoc (link_in b d (numbers_in 4 x)) (spelled_link b d body) (link_in b d (numbers_in 4 r)))
+spelled_link-append format b d [] r = or_none (record_link format b d r)
+spelled_link-append format b d (x ∷ body) r = rw (spelled_link-append format b d body r) (or_assoc (record_link format b d x) (spelled_link format b d body) (record_link format b d r))
   where
     or_assoc : (o p q : Option (ℕ × ℕ)) → option_or o (option_or p q) ≡ option_or (option_or o p) q
     or_assoc None p q = refl
     or_assoc (Some x) p q = refl
 
-pub spelled_link-none : (b d : ℕ) → spelled_link b d [] ≡ None
+pub spelled_link-none : (format : Format) (b d : ℕ) → spelled_link format b d [] ≡ None
 unfolding spelled_link
-spelled_link-none b d = refl
+spelled_link-none format b d = refl
 
--- the links in the slots are those of the records
-same_if : (known other : ℕ → ℕ → Option (ℕ × ℕ)) (row : ℕ) (ns : List ℕ) (b : Bool) → (b ≡ true → known (slice_index ns 0) (slice_index ns 1) ≡ other (slice_index ns 0) (slice_index ns 1))
-    → (if not b then Some (fault.Range row) else if is_some (known (slice_index ns 0) (slice_index ns 1)) then Some (fault.Repeated row) else None)
-    ≡ (if not b then Some (fault.Range row) else if is_some (other (slice_index ns 0) (slice_index ns 1)) then Some (fault.Repeated row) else None)
-same_if known other row ns true h = rw (h refl) refl
-same_if known other row ns false h = refl
+-- ---- numbers in range
 
-pub fault-same : (known other : ℕ → ℕ → Option (ℕ × ℕ)) (row : ℕ) (o : Option (List ℕ))
-    → ((ns : List ℕ) → in_range ns ≡ true → known (slice_index ns 0) (slice_index ns 1) ≡ other (slice_index ns 0) (slice_index ns 1)) → fault_in row known o ≡ fault_in row other o
-fault-same known other row None h = refl
-fault-same known other row (Some ns) h = same_if known other row ns (in_range ns) (h ns)
-
-pub in_range-true : (ns : List ℕ) → in_range ns ≡ true → IsInRange ns
+pub in_range_one-true : (ns : List ℕ) → in_range_one ns ≡ true → IsInRangeOne ns
 unfolding is_hexagon_base
-in_range-true ns e = grind (arith, nat_tests)
+in_range_one-true ns e = grind (arith, nat_tests)
 
-pub fault-held : (slots : List (Option (ℕ × ℕ))) (body : List Record) (row : ℕ) (o : Option (List ℕ)) → Holds slots body
-    → fault_in row (λ b d. slice_index_or slots (place_of b d) None) o ≡ fault_in row (λ b d. spelled_link b d body) o
-fault-held slots body row o h = fault-same (λ b d. slice_index_or slots (place_of b d) None) (λ b d. spelled_link b d body) row o
-    (λ ns e. let k = in_range-true ns e in h.same (slice_index ns 0) (slice_index ns 1) k.1 k.2)
+hexagon_below : (b : ℕ) → is_hexagon_base b ≡ true → b < 122
+unfolding is_hexagon_base
+hexagon_below b e = grind (arith, nat_tests)
+
+pub each-direction : (p : Direction → Bool) (d : Direction) → list_all p directions ≡ true → p d ≡ true
+each-direction p K e = (and_both (p K) _ e).0
+each-direction p J e = (and_both (p J) _ (and_both (p K) _ e).1).0
+each-direction p JK e = (and_both (p JK) _ (and_both (p J) _ (and_both (p K) _ e).1).1).0
+each-direction p I e = (and_both (p I) _ (and_both (p JK) _ (and_both (p J) _ (and_both (p K) _ e).1).1).1).0
+each-direction p IK e = (and_both (p IK) _ (and_both (p I) _ (and_both (p JK) _ (and_both (p J) _ (and_both (p K) _ e).1).1).1).1).0
+each-direction p IJ e = (and_both (p IJ) _ (and_both (p IK) _ (and_both (p I) _ (and_both (p JK) _ (and_both (p J) _ (and_both (p K) _ e).1).1).1).1).1).0
+
+link_two-within : (ns : List ℕ) (d : Direction) → is_link_two ns d ≡ true → IsLink (link_at_digit (digit_of d) ns)
+link_two-within ns d e = let two = and_both (nat_lt (link_at_digit (digit_of d) ns).0 122) (nat_lt (link_at_digit (digit_of d) ns).1 6) e in (true-nat_lt (link_at_digit (digit_of d) ns).0 122 two.0, true-nat_lt (link_at_digit (digit_of d) ns).1 6 two.1)
+
+pub in_range_two-true : (ns : List ℕ) → in_range_two ns ≡ true → IsInRangeTwo ns
+in_range_two-true ns e =
+    let two = and_both (is_hexagon_base (slice_index ns 0)) (list_all (is_link_two ns) directions) e in (
+      hexagon_below (slice_index ns 0) two.0,
+      λ d low high.
+          let is = direction_below d low high in
+          rw is at (link_two-within ns (nth_direction d) (each-direction (is_link_two ns) (nth_direction d) two.1)),
+    )
+
+-- what all formats have of numbers in range: a hexagon base cell, and a first digit
+pub first_place : (format : Format) (ns : List ℕ) → in_range format ns ≡ true → (slice_index ns 0 < 122) × (0 < first_digit format ns) × (first_digit format ns < 7)
+first_place One ns e = let k = in_range_one-true ns e in (k.0, k.1, k.2)
+first_place Two ns e = ((in_range_two-true ns e).0, omega arith, omega arith)
+
+-- ---- the links in the slots are those of the records
+
+same_if : (known other : Option (ℕ × ℕ)) (row : ℕ) (b : Bool) → (b ≡ true → known ≡ other)
+    → (if not b then Some (fault.Range row) else if is_some known then Some (fault.Repeated row) else None)
+    ≡ (if not b then Some (fault.Range row) else if is_some other then Some (fault.Repeated row) else None)
+same_if known other row true h = rw (h refl) refl
+same_if known other row false h = refl
+
+pub fault-same : (format : Format) (known other : ℕ → ℕ → Option (ℕ × ℕ)) (row : ℕ) (o : Option (List ℕ))
+    → ((ns : List ℕ) → in_range format ns ≡ true → known (slice_index ns 0) (first_digit format ns) ≡ other (slice_index ns 0) (first_digit format ns)) → fault_in format row known o ≡ fault_in format row other o
+fault-same format known other row None h = refl
+fault-same format known other row (Some ns) h = same_if (known (slice_index ns 0) (first_digit format ns)) (other (slice_index ns 0) (first_digit format ns)) row (in_range format ns) (h ns)
+
+pub fault-held : (format : Format) (slots : List (Option (ℕ × ℕ))) (body : List Record) (row : ℕ) (o : Option (List ℕ)) → Holds format slots body
+    → fault_in format row (λ b d. slice_index_or slots (place_of b d) None) o ≡ fault_in format row (λ b d. spelled_link format b d body) o
+fault-held format slots body row o h = fault-same format (λ b d. slice_index_or slots (place_of b d) None) (λ b d. spelled_link format b d body) row o
+    (λ ns e. let k = first_place format ns e in h.same (slice_index ns 0) (first_digit format ns) k.1 k.2)
 
 -- no slot is known before the first record
 none_known : (n i : ℕ) → slice_index_or {A = Option (ℕ × ℕ)} (replicate n None) i None ≡ None
@@ -58,10 +99,10 @@ none_known zero i = refl
 none_known (suc n) zero = refl
 none_known (suc n) (suc i) = none_known n i
 
-pub holds-none : Holds (replicate 732 None) []
-holds-none = record {
+pub holds-none : (format : Format) → Holds format (replicate 732 None) []
+holds-none format = record {
   long = length-replicate {A = Option (ℕ × ℕ)} 732 None;
-  same = λ b d k l. none_known 732 (place_of b d) ∙ sym (spelled_link-none b d);
+  same = λ b d k l. none_known 732 (place_of b d) ∙ sym (spelled_link-none format b d);
 }
 
 -- numbers without a fault are in range, and their slot is free
@@ -70,38 +111,147 @@ range_free row o false e = cc e
 range_free row None true e = (refl, refl)
 range_free row (Some p) true e = cc e
 
-pub free-slot : (row : ℕ) (known : ℕ → ℕ → Option (ℕ × ℕ)) (ns : List ℕ) → fault_in row known (Some ns) ≡ None → (in_range ns ≡ true) × (known (slice_index ns 0) (slice_index ns 1) ≡ None)
-free-slot row known ns e = range_free row (known (slice_index ns 0) (slice_index ns 1)) (in_range ns) e
+pub free-slot : (format : Format) (row : ℕ) (known : ℕ → ℕ → Option (ℕ × ℕ)) (ns : List ℕ) → fault_in format row known (Some ns) ≡ None
+    → (in_range format ns ≡ true) × (known (slice_index ns 0) (first_digit format ns) ≡ None)
+free-slot format row known ns e = range_free row (known (slice_index ns 0) (first_digit format ns)) (in_range format ns) e
 
--- the link of a place after one more record
-held_at : (slots : List (Option (ℕ × ℕ))) (b d : ℕ) (ns : List ℕ) (o : Option (ℕ × ℕ)) → length slots ≡ 732 → IsInRange ns → 0 < d → d < 7
-    → slice_index_or slots (place_of b d) None ≡ o → slice_index_or slots (place_of (slice_index ns 0) (slice_index ns 1)) None ≡ None
-    → (p q : Bool) → p ≡ (slice_index ns 0 == b) → q ≡ (slice_index ns 1 == d)
-    → slice_index_or (slice_set slots (place_of (slice_index ns 0) (slice_index ns 1)) (Some (slice_index ns 2, slice_index ns 3))) (place_of b d) None ≡ option_or o (if p && q then Some (slice_index ns 2, slice_index ns 3) else None)
-held_at slots b d ns o len r hd kd e free true true x y =
-    let same0 : slice_index ns 0 ≡ b = eqb-eq _ _ (sym x) in
-    let same1 : slice_index ns 1 ≡ d = eqb-eq _ _ (sym y) in
-    let low : slice_index ns 0 < 122 = r.0 in
-    let place : place_of (slice_index ns 0) (slice_index ns 1) ≡ place_of b d = ap2 same0 same1 in
-    let free' : o ≡ None = sym e ∙ rw place at free in
-    rw (free', place) (get_or-set_same slots (place_of b d) (Some (slice_index ns 2, slice_index ns 3)) None (omega arith))
-  where
-    ap2 : slice_index ns 0 ≡ b → slice_index ns 1 ≡ d → place_of (slice_index ns 0) (slice_index ns 1) ≡ place_of b d
-    ap2 p q = rw (p, q) refl
-held_at slots b d ns o len r hd kd e free true false x y =
-    let other : slice_index ns 1 ≢ d = eqb-ne _ _ (sym y) in
-    get_or-set_other slots (place_of (slice_index ns 0) (slice_index ns 1)) (place_of b d) _ None (λ k. other (omega (arith, r))) ∙ e ∙ sym (or_none o)
-held_at slots b d ns o len r hd kd e free false q x y =
-    let other : slice_index ns 0 ≢ b = eqb-ne _ _ (sym x) in
-    get_or-set_other slots (place_of (slice_index ns 0) (slice_index ns 1)) (place_of b d) _ None (λ k. other (omega (arith, r))) ∙ e ∙ sym (or_none o)
+-- ---- a record's links come together
 
-pub holds-more : (slots : List (Option (ℕ × ℕ))) (body : List Record) (r : Record) (ns : List ℕ) (row : ℕ) → Holds slots body → numbers_in 4 r ≡ Some ns
-    → fault_in row (λ b d. slice_index_or slots (place_of b d) None) (Some ns) ≡ None
-    → Holds (slice_set slots (place_of (slice_index ns 0) (slice_index ns 1)) (Some (slice_index ns 2, slice_index ns 3))) (body ++ (r ∷ []))
-holds-more slots body r ns row h e f =
-    let free = free-slot row (λ b d. slice_index_or slots (place_of b d) None) ns f in
-    let k = in_range-true ns free.0 in
+if_some : (c : Bool) (p : ℕ × ℕ) → is_some {T = ℕ × ℕ} (if c then Some p else None) ≡ true → c ≡ true
+if_some true p e = refl
+if_some false p e = cc e
+
+-- numbers that have a link have it for their base cell, and in format 1 for their direction
+pub link_one-named : (b d : ℕ) (ns : List ℕ) → is_some (link_one b d ns) ≡ true → (slice_index ns 0 ≡ b) × (slice_index ns 1 ≡ d)
+link_one-named b d ns e = let two = and_both _ _ (if_some ((slice_index ns 0 == b) && (slice_index ns 1 == d)) (slice_index ns 2, slice_index ns 3) e) in (eqb-eq _ _ two.0, eqb-eq _ _ two.1)
+
+pub link_two-named : (b d : ℕ) (ns : List ℕ) → is_some (link_two b d ns) ≡ true → slice_index ns 0 ≡ b
+link_two-named b d ns e = let two = and_both (slice_index ns 0 == b) _ (if_some ((slice_index ns 0 == b) && (nat_lt 0 d && nat_lt d 7)) (link_at_digit d ns) e) in eqb-eq _ _ two.0
+
+-- in format 2, a record with no link in the first direction has none in any
+none_of_both : (x y : ℕ × ℕ) (p r q : Bool) → r ≡ true → (if p && r then Some x else None) ≡ None → (if p && q then Some y else None) ≡ None
+none_of_both x y true true q t e = cc e
+none_of_both x y true false q t e = cc t
+none_of_both x y false r q t e = refl
+
+record_link-first : (b d : ℕ) (r : Record) (o : Option (List ℕ)) → option_and_then (link_two b 1) o ≡ None → option_and_then (link_two b d) o ≡ None
+record_link-first b d r None e = refl
+record_link-first b d r (Some ns) e = none_of_both (link_at_digit 1 ns) (link_at_digit d ns) (slice_index ns 0 == b) (nat_lt 0 1 && nat_lt 1 7) (nat_lt 0 d && nat_lt d 7) refl e
+
+or_nones : (o p : Option (ℕ × ℕ)) → option_or o p ≡ None → (o ≡ None) × (p ≡ None)
+or_nones None p e = (refl, e)
+or_nones (Some x) p e = cc e
+
+none_or : (o p : Option (ℕ × ℕ)) → o ≡ None → p ≡ None → option_or o p ≡ None
+none_or o p e f = rw e f
+
+spelled_two-first : (b d : ℕ) (body : List Record) → spelled_link Two b 1 body ≡ None → spelled_link Two b d body ≡ None
+unfolding spelled_link
+spelled_two-first b d [] e = refl
+spelled_two-first b d (r ∷ body) e =
+    let two = or_nones (record_link Two b 1 r) (spelled_link Two b 1 body) e in
+    none_or (record_link Two b d r) (spelled_link Two b d body) (record_link-first b d r (numbers_in 13 r) two.0) (spelled_two-first b d body two.1)
+
+-- no record before has a link that numbers without a fault have
+pub free-links : (format : Format) (b d : ℕ) (ns : List ℕ) (body : List Record) → spelled_link format (slice_index ns 0) (first_digit format ns) body ≡ None
+    → is_some (link_in format b d ns) ≡ true → spelled_link format b d body ≡ None
+free-links One b d ns body free named = let same = link_one-named b d ns named in rw (same.0, same.1) at free
+free-links Two b d ns body free named = let same = link_two-named b d ns named in spelled_two-first b d body (rw same at free)
+
+either_first : (o p : Option (ℕ × ℕ)) → (is_some p ≡ true → o ≡ None) → option_or p o ≡ option_or o p
+either_first None None h = refl
+either_first (Some x) None h = refl
+either_first None (Some y) h = refl
+either_first (Some x) (Some y) h = cc (h refl)
+
+pub holds-more : (format : Format) (slots new : List (Option (ℕ × ℕ))) (body : List Record) (r : Record) (ns : List ℕ) (row : ℕ) → Holds format slots body → numbers_in (width format) r ≡ Some ns
+    → fault_in format row (λ b d. slice_index_or slots (place_of b d) None) (Some ns) ≡ None → Takes format ns slots new → Holds format new (body ++ (r ∷ []))
+holds-more format slots new body r ns row h e f t =
+    let free = free-slot format row (λ b d. slice_index_or slots (place_of b d) None) ns f in
+    let k = first_place format ns free.0 in
+    let first : spelled_link format (slice_index ns 0) (first_digit format ns) body ≡ None = sym (h.same (slice_index ns 0) (first_digit format ns) k.1 k.2) ∙ free.1 in
     record {
-      long = rw length-set h.long;
-      same = λ b d hd kd. rw (spelled_link-append b d body r, e) (held_at slots b d ns (spelled_link b d body) h.long k hd kd (h.same b d hd kd) free.1 (slice_index ns 0 == b) (slice_index ns 1 == d) refl refl);
+      long = t.long ∙ h.long;
+      same = λ b d low high.
+          let here : record_link format b d r ≡ link_in format b d ns = rw e refl in
+          let before = h.same b d low high in
+          rw (spelled_link-append format b d body r, here, t.each b d low high, before) (either_first (spelled_link format b d body) (link_in format b d ns) (free-links format b d ns body first));
     }
+
+-- ---- one place is set
+
+pub link-set : (slots : List (Option (ℕ × ℕ))) (a c b d : ℕ) (link : ℕ × ℕ) → length slots ≡ 732 → a < 122 → 0 < c → c < 7 → 0 < d → d < 7 → (p q : Bool) → p ≡ (a == b) → q ≡ (c == d)
+    → slice_index_or (slice_set slots (place_of a c) (Some link)) (place_of b d) None ≡ (if p && q then Some link else slice_index_or slots (place_of b d) None)
+link-set slots a c b d link len high c0 c7 d0 d7 true true x y =
+    let same0 : a ≡ b = eqb-eq _ _ (sym x) in
+    let same1 : c ≡ d = eqb-eq _ _ (sym y) in
+    rw (same0, same1) (get_or-set_same slots (place_of b d) (Some link) None (let low : b < 122 = rw same0 at high in omega arith))
+link-set slots a c b d link len high c0 c7 d0 d7 true false x y =
+    let other : c ≢ d = eqb-ne _ _ (sym y) in
+    get_or-set_other slots (place_of a c) (place_of b d) _ None (λ k. other (omega arith))
+link-set slots a c b d link len high c0 c7 d0 d7 false q x y =
+    let other : a ≢ b = eqb-ne _ _ (sym x) in
+    get_or-set_other slots (place_of a c) (place_of b d) _ None (λ k. other (omega arith))
+
+else_or : (c : Bool) (link : ℕ × ℕ) (o : Option (ℕ × ℕ)) → (if c then Some link else o) ≡ option_or (if c then Some link else None) o
+else_or true link o = refl
+else_or false link o = refl
+
+-- a record of format 1 sets one
+pub takes_one : (slots : List (Option (ℕ × ℕ))) (ns : List ℕ) → length slots ≡ 732 → IsInRangeOne ns
+    → Takes One ns slots (slice_set slots (place_of (slice_index ns 0) (slice_index ns 1)) (Some (slice_index ns 2, slice_index ns 3)))
+takes_one slots ns len r = record {
+  long = length-set slots (place_of (slice_index ns 0) (slice_index ns 1)) (Some (slice_index ns 2, slice_index ns 3));
+  each = λ b d low high.
+      link-set slots (slice_index ns 0) (slice_index ns 1) b d (slice_index ns 2, slice_index ns 3) len r.0 r.1 r.2 low high (slice_index ns 0 == b) (slice_index ns 1 == d) refl refl
+      ∙ else_or ((slice_index ns 0 == b) && (slice_index ns 1 == d)) (slice_index ns 2, slice_index ns 3) (slice_index_or slots (place_of b d) None);
+}
+
+-- of a record of format 2, the links in directions of digits below n are set
+pub record Kept (ns : List ℕ) (n : ℕ) (old new : List (Option (ℕ × ℕ))) : Type 0 where
+  pub long : length new ≡ length old
+  pub each : (b d : ℕ) → 0 < d → d < 7
+      → slice_index_or new (place_of b d) None ≡ option_or (if (slice_index ns 0 == b) && (nat_lt 0 d && nat_lt d n) then Some (link_at_digit d ns) else None) (slice_index_or old (place_of b d) None)
+
+none_kept : (p : Bool) (d : ℕ) (q : Bool) (x : ℕ × ℕ) (o : Option (ℕ × ℕ)) → q ≡ false → o ≡ option_or (if p && q then Some x else None) o
+none_kept true d true x o e = cc e
+none_kept true d false x o e = refl
+none_kept false d q x o e = refl
+
+below_one : (d : ℕ) → 0 < d → (nat_lt 0 d && nat_lt d 1) ≡ false
+below_one d h = grind (arith, nat_tests)
+
+pub kept-start : (ns : List ℕ) (slots : List (Option (ℕ × ℕ))) → Kept ns 1 slots slots
+kept-start ns slots = record {
+  long = refl;
+  each = λ b d low high. none_kept (slice_index ns 0 == b) d (nat_lt 0 d && nat_lt d 1) (link_at_digit d ns) (slice_index_or slots (place_of b d) None) (below_one d low);
+}
+
+-- one more
+kept_at : (p q r s : Bool) (x y : ℕ × ℕ) (o : Option (ℕ × ℕ)) → (q ≡ true → x ≡ y) → (s ≡ (q || r))
+    → (if p && q then Some x else option_or (if p && r then Some y else None) o) ≡ option_or (if p && s then Some y else None) o
+kept_at false q r s x y o same e = refl
+kept_at true true r true x y o same e = let k = same refl in rw k refl
+kept_at true true r false x y o same e = cc e
+kept_at true false true true x y o same e = refl
+kept_at true false true false x y o same e = cc e
+kept_at true false false true x y o same e = cc e
+kept_at true false false false x y o same e = refl
+
+below_next : (d n : ℕ) → 0 < d → (nat_lt 0 d && nat_lt d (n + 1)) ≡ ((n == d) || (nat_lt 0 d && nat_lt d n))
+below_next d n h = grind (arith, nat_tests)
+
+pub kept-more : (ns : List ℕ) (n : ℕ) (old new : List (Option (ℕ × ℕ))) → Kept ns n old new → length old ≡ 732 → slice_index ns 0 < 122 → 0 < n → n < 7
+    → Kept ns (n + 1) old (slice_set new (place_of (slice_index ns 0) n) (Some (link_at_digit n ns)))
+kept-more ns n old new k len low some high = record {
+  long = rw length-set k.long;
+  each = λ b d d0 d7.
+      let long : length new ≡ 732 = k.long ∙ len in
+      link-set new (slice_index ns 0) n b d (link_at_digit n ns) long low some high d0 d7 (slice_index ns 0 == b) (n == d) refl refl
+      ∙ ap (λ o. if (slice_index ns 0 == b) && (n == d) then Some (link_at_digit n ns) else o) (k.each b d d0 d7)
+      ∙ kept_at (slice_index ns 0 == b) (n == d) (nat_lt 0 d && nat_lt d n) (nat_lt 0 d && nat_lt d (n + 1)) (link_at_digit n ns) (link_at_digit d ns) (slice_index_or old (place_of b d) None)
+      (λ e. let same : n ≡ d = eqb-eq _ _ e in rw same refl) (below_next d n d0);
+}
+
+pub kept-all : (ns : List ℕ) (old new : List (Option (ℕ × ℕ))) → Kept ns 7 old new → Takes Two ns old new
+kept-all ns old new k = record { long = k.long; each = k.each }

@@ -88,7 +88,7 @@ and_both false b e = cc e
 nat_lt-true : (m n : ℕ) → m < n → nat_lt m n ≡ true
 nat_lt-true m n h = grind (arith, nat_tests)
 
-true-nat_lt : (m n : ℕ) → nat_lt m n ≡ true → m < n
+pub true-nat_lt : (m n : ℕ) → nat_lt m n ≡ true → m < n
 true-nat_lt m n h = grind (arith, nat_tests)
 
 -- the test of hexagon base cells says what it should

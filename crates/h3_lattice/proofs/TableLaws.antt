@@ -8,7 +8,7 @@ use Rattle.h3_lattice.specs.Direction.{digit_of}
 use Rattle.h3_lattice.specs.Fields.{Record, records_of}
 use Rattle.h3_lattice.specs.Links.{Links, links_in, place_of}
 use Rattle.h3_lattice.specs.Checks.{at_places, fault_of_links, unless}
-use Rattle.h3_lattice.specs.Records.{body_of, fault_of_records}
+use Rattle.h3_lattice.specs.Records.{body_of, fault_of_records, format_of}
 use Rattle.h3_lattice.specs.Slots.{Holds, IsFaultOrMemory, StopsReading, missing_at}
 use Rattle.h3_lattice.specs.Table.{RefusesTable, links_of, missing_of, table_fault}
 use Rattle.h3_lattice.proofs.KindLaws.{kind, table_fault-kind}
@@ -34,11 +34,11 @@ refuses_file fails records e is = refuses_kind fails (table_fault records) e (ta
 
 -- ---- the slots hold the links of the records
 
-missing-same : (slots : List (Option (ℕ × ℕ))) (records : List Record) → Holds slots (body_of records) → at_places (missing_at slots) ≡ at_places (missing_of records)
+missing-same : (slots : List (Option (ℕ × ℕ))) (records : List Record) → Holds (format_of records) slots (body_of records) → at_places (missing_at slots) ≡ at_places (missing_of records)
 missing-same slots records h =
     ap at_places (λ i b d. ap (λ (o : Option (ℕ × ℕ)). unless (is_some o) fault.Missing) (h.same b (digit_of d) (digit_of-gt d) (digit_of-lt d)) i)
 
-pub links-same : (slots : List (Option (ℕ × ℕ))) (links : List (ℕ × ℕ)) (records : List Record) → Holds slots (body_of records) → AreFilled slots links → links_in links ≡ links_of records
+pub links-same : (slots : List (Option (ℕ × ℕ))) (links : List (ℕ × ℕ)) (records : List Record) → Holds (format_of records) slots (body_of records) → AreFilled slots links → links_in links ≡ links_of records
 unfolding links_in
 links-same slots links records h same =
     λ i b d. (same (place_of b (digit_of d)) ∙ ap (λ (o : Option (ℕ × ℕ)). unwrap_or o (0, 0)) (h.same b (digit_of d) (digit_of-gt d) (digit_of-lt d))) i
@@ -70,7 +70,7 @@ refuses_records fails text bytes e same (inr is) =
 
 -- the records of the text that was read are good, and the slots hold their links
 abbrev pub IsGood : List (Option (ℕ × ℕ)) → List ℕ → Type 0
-IsGood slots text = (fault_of_records (records_of text) ≡ None) × Holds slots (body_of (records_of text))
+IsGood slots text = (fault_of_records (records_of text) ≡ None) × Holds (format_of (records_of text)) slots (body_of (records_of text))
 
 pub refuses_missing : (fails : Type 0) (slots : List (Option (ℕ × ℕ))) (text bytes : List ℕ) (o : Option TableError) (e : TableError) → text ≡ bytes → IsGood slots text
     → o ≡ at_places (missing_at slots) → o ≡ Some e → RefusesTable fails (table_fault (records_of bytes)) e
@@ -80,7 +80,7 @@ refuses_missing fails slots text bytes o e same good first is =
     (table_fault-missing (records_of bytes) (Some e) good'.0 (sym (missing-same slots (records_of bytes) good'.1) ∙ sym first ∙ is))
 
 -- the error of the filled slots is that of the file
-table_fault-links : (slots : List (Option (ℕ × ℕ))) (links : List (ℕ × ℕ)) (records : List Record) (o p : Option TableError) → fault_of_records records ≡ None → Holds slots (body_of records)
+table_fault-links : (slots : List (Option (ℕ × ℕ))) (links : List (ℕ × ℕ)) (records : List Record) (o p : Option TableError) → fault_of_records records ≡ None → Holds (format_of records) slots (body_of records)
     → o ≡ at_places (missing_at slots) → o ≡ None
     → AreFilled slots links
     → fault_of_links (links_in links) ≡ p → table_fault records ≡ p

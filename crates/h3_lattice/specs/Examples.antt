@@ -7,11 +7,14 @@ use Rattle.h3_lattice.specs.declared.class.Class.{Class}
 use Rattle.h3_lattice.specs.declared.class.Class.TheVariants.{Two, Three}
 use Rattle.h3_lattice.specs.declared.error.TableError.TheVariants.{Corner, Form, Range, Repeated}
 use Rattle.h3_lattice.specs.declared.vectors.TestTable.TheVariants.{Plain, Skew, Twisted}
+use Rattle.h3_lattice.specs.declared.format.Format.TheVariants as format
 use Rattle.h3_lattice.specs.Eisenstein.{Eisenstein, eisenstein, minus_one, norm, one, product_of, sum_of, zero_point}
 use Rattle.h3_lattice.specs.Direction.{digit_of, digit_turned, digit_value, direction_of, directions, opposite, turned, turns, unit_of, value_of}
 use Rattle.h3_lattice.specs.Class.{class_at, multiplier}
 use Rattle.h3_lattice.specs.Expansion.{place, scaled, sum_from}
-use Rattle.h3_lattice.specs.Fields.{Record, all_numbers, header, number_from, number_in, same_fields}
+use Rattle.h3_lattice.specs.Fields.{Record, all_numbers, number_from, number_in, same_fields}
+use Rattle.h3_lattice.specs.FormatOne.{header_one}
+use Rattle.h3_lattice.specs.FormatTwo.{header_two}
 use Rattle.h3_lattice.specs.Links.{is_hexagon_base}
 use Rattle.h3_lattice.specs.Checks.{fault_of_links, from_base, in_directions}
 use Rattle.h3_lattice.specs.Records.{fault_of_records, first_fault, spelled_link}
@@ -129,7 +132,7 @@ numbers = refl
 abbrev fields : List ℕ → List ℕ → List ℕ → List ℕ → Record
 fields base dir to rot = base ∷ dir ∷ to ∷ rot ∷ []
 
-faults : map (λ body. fault_of_records (header ∷ body))
+faults : map (λ body. fault_of_records (header_one ∷ body))
     (
     []
     ∷ (fields (codes "4") (codes "1") (codes "0") (codes "0") ∷ [])
@@ -144,6 +147,39 @@ faults = refl
 
 no_header : fault_of_records [] ≡ Some (Form 1)
 no_header = refl
+
+-- a record of format 2: a base cell, six neighbours and no turns
+abbrev base_record : List ℕ → List ℕ → List ℕ → Record
+base_record base k last =
+    base ∷ k ∷ codes "11" ∷ codes "121" ∷ codes "1" ∷ codes "111" ∷ codes "12" ∷ codes "0" ∷ codes "0" ∷ codes "0" ∷ codes "0" ∷ codes "0" ∷ last ∷ []
+
+abbrev plain_base : Record
+plain_base = base_record (codes "0") (codes "110") (codes "0")
+
+base_links : map (λ d. spelled_link format.Two 0 (digit_of d) (plain_base ∷ [])) directions ≡ map (λ d. Some (test_link Plain 0 d)) directions
+unfolding number_from all_numbers spelled_link
+base_links = refl
+
+base_faults : map (λ body. fault_of_records (header_two ∷ body))
+    (
+    []
+    ∷ (plain_base ∷ [])
+    ∷ (fields (codes "0") (codes "1") (codes "110") (codes "0") ∷ [])
+    ∷ (base_record (codes "4") (codes "110") (codes "0") ∷ [])
+    ∷ (base_record (codes "122") (codes "110") (codes "0") ∷ [])
+    ∷ (base_record (codes "0") (codes "122") (codes "0") ∷ [])
+    ∷ (base_record (codes "0") (codes "110") (codes "6") ∷ [])
+    ∷ (plain_base ∷ base_record (codes "0") (codes "109") (codes "0") ∷ [])
+    ∷ []
+    )
+    ≡ None ∷ None ∷ Some (Form 2) ∷ Some (Range 2) ∷ Some (Range 2) ∷ Some (Range 2) ∷ Some (Range 2) ∷ Some (Repeated 3) ∷ []
+unfolding number_from all_numbers same_fields first_fault spelled_link is_hexagon_base
+base_faults = refl
+
+-- each header wants its own records
+other_records : fault_of_records (header_one ∷ plain_base ∷ []) ≡ Some (Form 2)
+unfolding same_fields first_fault
+other_records = refl
 
 -- ---- tables for tests
 

@@ -1,5 +1,5 @@
 -- The records of a table file, and the numbers in their fields.
-use Rattle.std.specs.Prelude.{ℕ, ◌+◌, ◌-◌, ◌*◌, Bool, true, false, ◌==◌, ◌&&◌, nat_lt, nat_le, if◌then◌else◌, List, [], ◌∷◌, length, Option, Some, None, option_map, codes, bytes_eq}
+use Rattle.std.specs.Prelude.{ℕ, ◌+◌, ◌-◌, ◌*◌, Bool, true, false, ◌==◌, ◌&&◌, nat_lt, nat_le, if◌then◌else◌, List, [], ◌∷◌, length, Option, Some, None, option_map, bytes_eq}
 use Rattle.csv.specs.Reading.{default_config, records, strip_bom}
 use Rattle.std.specs.Char.{is_ascii_digit}
 
@@ -11,10 +11,6 @@ Record = List (List ℕ)
 -- one byte order mark in front
 abbrev pub records_of : List ℕ → List Record
 records_of bytes = records default_config (strip_bom bytes)
-
--- the header
-abbrev pub header : Record
-header = codes "base" ∷ codes "dir" ∷ codes "to" ∷ codes "rot" ∷ []
 
 -- two records have the same fields
 unfoldable pub same_fields : Record → Record → Bool

@@ -8,7 +8,7 @@ use Rattle.h3_lattice.specs.declared.error.TableError.TheVariants as fault
 use Rattle.h3_lattice.specs.Direction.{digit_of, opposite, turned, turned_once}
 use Rattle.h3_lattice.specs.Fields.{Record}
 use Rattle.h3_lattice.specs.Links.{IsHexagonBase, Links}
-use Rattle.h3_lattice.specs.Records.{body_of, fault_of, spelled_link}
+use Rattle.h3_lattice.specs.Records.{body_of, fault_of, format_of, spelled_link}
 use Rattle.h3_lattice.specs.Table.{IsOfForm, links_of, table_fault}
 
 -- ---- records
@@ -31,7 +31,7 @@ pub record IsMissing (records : List Record) : Type 0 where
   pub base : ℕ
   pub direction : Direction
   pub hexagon : IsHexagonBase base
-  pub none : spelled_link base (digit_of direction) (body_of records) ≡ None
+  pub none : spelled_link (format_of records) base (digit_of direction) (body_of records) ≡ None
 
 -- ---- checks
 

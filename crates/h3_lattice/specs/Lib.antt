@@ -8,6 +8,9 @@ pub mod Examples
 pub mod Expansion
 pub mod Fields
 pub mod First
+pub mod Format
+pub mod FormatOne
+pub mod FormatTwo
 pub mod Laws
 pub mod Lifted
 pub mod Links

@@ -1,22 +1,35 @@
 -- A table that is not read whole yet: what the functions inside promise each other.
 use Rattle.std.specs.Prelude.{◌≡◌, ◌⊎◌, ℕ, ◌<◌, is_some, List, length, Option, Some, None, slice_index, slice_index_or}
+use Rattle.std.specs.Option.{option_or}
 use Rattle.h3_lattice.specs.declared.direction.Direction.{Direction}
 use Rattle.h3_lattice.specs.declared.error.TableError.{TableError}
 use Rattle.h3_lattice.specs.declared.error.TableError.TheVariants as fault
 use Rattle.h3_lattice.specs.Direction.{digit_of}
+use Rattle.h3_lattice.specs.declared.format.Format.{Format}
 use Rattle.h3_lattice.specs.Fields.{Record}
-use Rattle.h3_lattice.specs.Links.{place_of}
+use Rattle.h3_lattice.specs.Format.{link_in}
+use Rattle.h3_lattice.specs.FormatTwo.{link_at_digit}
+use Rattle.h3_lattice.specs.Links.{IsLink, place_of}
 use Rattle.h3_lattice.specs.Checks.{unless}
 use Rattle.h3_lattice.specs.Records.{spelled_link}
 
--- the bounds of numbers that are in range
-abbrev pub IsInRange : List ℕ → Type 0
-IsInRange ns = (slice_index ns 0 < 122) × (0 < slice_index ns 1) × (slice_index ns 1 < 7) × (slice_index ns 2 < 122) × (slice_index ns 3 < 6)
+-- the bounds of numbers that are in range, in format 1
+abbrev pub IsInRangeOne : List ℕ → Type 0
+IsInRangeOne ns = (slice_index ns 0 < 122) × (0 < slice_index ns 1) × (slice_index ns 1 < 7) × (slice_index ns 2 < 122) × (slice_index ns 3 < 6)
+
+-- and in format 2
+abbrev pub IsInRangeTwo : List ℕ → Type 0
+IsInRangeTwo ns = (slice_index ns 0 < 122) × ((d : ℕ) → 0 < d → d < 7 → IsLink (link_at_digit d ns))
+
+-- slots keep the links in a record's numbers, and for all other base cells and directions what they had
+pub record Takes (format : Format) (ns : List ℕ) (old new : List (Option (ℕ × ℕ))) : Type 0 where
+  pub long : length new ≡ length old
+  pub each : (b d : ℕ) → 0 < d → d < 7 → slice_index_or new (place_of b d) None ≡ option_or (link_in format b d ns) (slice_index_or old (place_of b d) None)
 
 -- the slots hold the links of these records
-pub record Holds (slots : List (Option (ℕ × ℕ))) (body : List Record) : Type 0 where
+pub record Holds (format : Format) (slots : List (Option (ℕ × ℕ))) (body : List Record) : Type 0 where
   pub long : length slots ≡ 732
-  pub same : (b d : ℕ) → 0 < d → d < 7 → slice_index_or slots (place_of b d) None ≡ spelled_link b d body
+  pub same : (b d : ℕ) → 0 < d → d < 7 → slice_index_or slots (place_of b d) None ≡ spelled_link format b d body
 
 -- no link stands in the slot of this base cell and direction
 abbrev pub missing_at : List (Option (ℕ × ℕ)) → ℕ → Direction → Option TableError

@@ -6,18 +6,20 @@ use Rattle.h3_lattice.specs.declared.direction.Direction.{Direction}
 use Rattle.h3_lattice.specs.declared.error.TableError.{TableError}
 use Rattle.h3_lattice.specs.declared.error.TableError.TheVariants as fault
 use Rattle.h3_lattice.specs.Direction.{digit_of}
-use Rattle.h3_lattice.specs.Fields.{Record, header, numbers_in}
+use Rattle.h3_lattice.specs.declared.format.Format.{Format}
+use Rattle.h3_lattice.specs.Fields.{Record, numbers_in}
+use Rattle.h3_lattice.specs.Format.{header, in_range, width}
 use Rattle.h3_lattice.specs.Links.{IsHexagonBase, IsLink, IsSound, Links}
 use Rattle.h3_lattice.specs.Checks.{at_places, fault_of_links, unless}
-use Rattle.h3_lattice.specs.Records.{body_of, fault_of_records, in_range, link_in, spelled_link}
+use Rattle.h3_lattice.specs.Records.{body_of, fault_of_records, format_of, record_link, spelled_link}
 
 -- the table of these records
 abbrev pub links_of : List Record → Links
-links_of records b d = unwrap_or (spelled_link b (digit_of d) (body_of records)) (0, 0)
+links_of records b d = unwrap_or (spelled_link (format_of records) b (digit_of d) (body_of records)) (0, 0)
 
 -- no record has the link of this base cell and direction
 abbrev pub missing_of : List Record → ℕ → Direction → Option TableError
-missing_of records b d = unless (is_some (spelled_link b (digit_of d) (body_of records))) fault.Missing
+missing_of records b d = unless (is_some (spelled_link (format_of records) b (digit_of d) (body_of records))) fault.Missing
 
 -- why a table file is refused: its first faulty record, or else a missing one, or else the first check that fails
 abbrev pub table_fault : List Record → Option TableError
@@ -37,21 +39,23 @@ abbrev pub ChecksMeanSound : Type 0
 ChecksMeanSound =
     (link : Links) → ((b : ℕ) (d : Direction) → IsHexagonBase b → IsLink (link b d)) → (fault_of_links link ≡ None) ↔ IsSound link
 
--- a record names this base cell and direction
-abbrev pub names : ℕ → ℕ → Record → Bool
-names b d r = is_some (link_in b d (numbers_in 4 r))
+-- a record has a link for this base cell and direction
+abbrev pub names : Format → ℕ → ℕ → Record → Bool
+names format b d r = is_some (record_link format b d r)
 
 -- the numbers of a record's fields are in their ranges
-pub record IsLinkRecord (r : Record) : Type 0 where
+pub record IsLinkRecord (format : Format) (r : Record) : Type 0 where
   pub numbers : List ℕ
-  pub spelled : numbers_in 4 r ≡ Some numbers
-  pub ranges : in_range numbers ≡ true
+  pub spelled : numbers_in (width format) r ≡ Some numbers
+  pub ranges : in_range format numbers ≡ true
 
--- the form of a table file: the header, and then, in any order, one record for each hexagon base cell and direction
+-- the form of a table file: the header of one of the formats, and then, in any order, records of which one has the link
+-- of each hexagon base cell and direction
 pub record IsOfForm (records : List Record) : Type 0 where
-  pub front : records ≡ header ∷ body_of records
-  pub each : All IsLinkRecord (body_of records)
-  pub once : (b : ℕ) (d : Direction) → IsHexagonBase b → count_by (names b (digit_of d)) (body_of records) ≡ 1
+  pub format : Format
+  pub front : records ≡ header format ∷ body_of records
+  pub each : All (IsLinkRecord format) (body_of records)
+  pub once : (b : ℕ) (d : Direction) → IsHexagonBase b → count_by (names format b (digit_of d)) (body_of records) ≡ 1
 
 -- a file has no error exactly where it is of the form and its links are sound
 abbrev pub SoundFilesAreAccepted : Type 0

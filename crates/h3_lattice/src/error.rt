@@ -15,7 +15,7 @@ pub enum TableError {
     #[error("out of memory")]
     Memory,
 
-    /// The first record is not the header, or a later one is not four fields of 1 to 3 digits.
+    /// The first record is no header, or a later one is not as many fields as the header, each of 1 to 3 digits.
     #[error("record {0} is malformed")]
     Form(u64),
 
@@ -24,11 +24,11 @@ pub enum TableError {
     #[error("record {0} has a number out of range")]
     Range(u64),
 
-    /// An earlier record has the same base cell and direction.
+    /// An earlier record has the same base cell and, in format 1, the same direction.
     #[error("record {0} repeats the base cell and direction of an earlier one")]
     Repeated(u64),
 
-    /// A hexagon base cell and a direction have no record.
+    /// No record has the link of some hexagon base cell and direction.
     #[error("a base cell and direction have no record")]
     Missing,
 

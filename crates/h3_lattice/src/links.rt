@@ -25,6 +25,15 @@ pub fn is_hexagon_base(base: u8) -> bool
     base < 122 && !is_pentagon_base(base)
 }
 
+/// The same of any number.
+#[tactic(auto, unfolding(crate::specs::Links::is_hexagon_base))]
+pub fn is_hexagon_number(number: u16) -> bool
+    ensures is { result ≡ is_hexagon_base number }
+    ensures below { result ≡ true → number < 122 }
+{
+    number < 122 && is_hexagon_base(number as u8)
+}
+
 /// The link of a base cell in a direction.
 pub fn link_at(links: &Links, base: u8, direction: Direction) -> (u8, u8)
     requires { base < 122 }

@@ -52,9 +52,15 @@ impl BaseTable {
 
     /// Reads a table file to its end and checks it.
     ///
-    /// The file is CSV: a header `base,dir,to,rot`, and then a record for each hexagon base cell and direction, in any
-    /// order. In the frame of the base cell `base`, the base cell `to` lies in the direction of the digit `dir`, and each
-    /// digit is turned `rot` times on crossing. Numbers have 1 to 3 digits.
+    /// The file is CSV, in one of two formats, which the header tells. Numbers have 1 to 3 digits, and records come in
+    /// any order.
+    ///
+    /// - Format 1: the header is `base,dir,to,rot`, and then comes a record for each hexagon base cell and direction. In
+    ///   the frame of the base cell `base`, the base cell `to` lies in the direction of the digit `dir`, and each digit
+    ///   is turned `rot` times on crossing.
+    /// - Format 2: the header is `base,k,j,jk,i,ik,ij,rk,rj,rjk,ri,rik,rij`, and then comes a record for each hexagon
+    ///   base cell. In its frame, the base cell `k` lies in the direction [`Direction::K`], and each digit is turned `rk`
+    ///   times on crossing, and so on.
     ///
     /// The errors, in this order: [`TableError::Read`] where the reader fails or is not at its end within 2^40 reads,
     /// the first faulty record, a missing record, and the first check that fails, by ascending base cell and direction.

@@ -5,6 +5,8 @@ use crate::vectors::{TestTable, link};
 use h3_index::{Source, StreamFault, Streamed, is_pentagon_base};
 use std::test::Fail;
 
+mod format_two;
+
 const HEADER: &str = "base,dir,to,rot\n";
 
 /// The records of a table: a base cell, the digit of a direction, the neighbour and the turns.

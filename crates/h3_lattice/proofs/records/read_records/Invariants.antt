@@ -1,4 +1,4 @@
-use Rattle.std.proofs.Common.{◌≡◌, ◌<◌, ℕ, List, Some}
+use Rattle.std.proofs.Common.{◌≡◌, ◌+◌, ◌-◌, ℕ, List, Some, length}
 use Rattle.std.specs.Prelude.{All, IfSome}
 use Rattle.csv.specs.Reading.{Ready, default_config, source_of}
 use Rattle.csv.specs.declared.reader.Trim.TheVariants as trim
@@ -6,8 +6,11 @@ use Rattle.h3_lattice.specs.Links.{IsLink}
 use Rattle.h3_lattice.proofs.ReadingLaws.{IsRead}
 use Rattle.h3_lattice.proofs.records.read_records.Given as goal
 
-abbrev pub invariant-loop-row : goal.invariant-loop-row
-invariant-loop-row l = (l.row-iterator.rdr.trim ≡ trim.None) × Ready l.row-iterator.rdr × (0 < l.row-iterator.left) × (l.row-iterator.rdr.config ≡ default_config)
-    × (y : List ℕ) × (source_of (λ s. Some s.now) l.row-iterator.rdr ≡ Some y)
-    × IsRead l.fn.text l.number l.slots l.row-iterator.rdr.state y
+abbrev pub invariant-loop-found : goal.invariant-loop-found
+invariant-loop-found l = (l.reader.trim ≡ trim.None) × Ready l.reader × (l.reader.config ≡ default_config)
+    × (y : List ℕ) × (source_of (λ s. Some s.now) l.reader ≡ Some y)
+    × IsRead l.fn.text l.format l.number l.slots l.reader.state y
     × All (λ slot. IfSome slot IsLink) l.slots
+
+abbrev pub decreases-loop-found : goal.decreases-loop-found
+decreases-loop-found l = length l.fn.text + 1 - l.number

@@ -1,0 +1,39 @@
+-- The two formats of a table file, side by side.
+use Rattle.std.specs.Prelude.{ℕ, Bool, if◌then◌else◌, List, Option, Some, None, slice_index, unwrap_or}
+use Rattle.h3_lattice.specs.declared.format.Format.{Format}
+use Rattle.h3_lattice.specs.declared.format.Format.TheVariants.{One, Two}
+use Rattle.h3_lattice.specs.Fields.{Record, same_fields}
+use Rattle.h3_lattice.specs.FormatOne.{header_one, in_range_one, link_one}
+use Rattle.h3_lattice.specs.FormatTwo.{header_two, in_range_two, link_two}
+
+abbrev pub header : Format → Record
+header One = header_one
+header Two = header_two
+
+-- how many fields a record has
+abbrev pub width : Format → ℕ
+width One = 4
+width Two = 13
+
+-- a record's numbers are in their ranges
+abbrev pub in_range : Format → List ℕ → Bool
+in_range One ns = in_range_one ns
+in_range Two ns = in_range_two ns
+
+-- the link in a record's numbers for a base cell and the direction of a digit
+abbrev pub link_in : Format → ℕ → ℕ → List ℕ → Option (ℕ × ℕ)
+link_in One b d ns = link_one b d ns
+link_in Two b d ns = link_two b d ns
+
+-- the digit of the first direction that a record has a link for: in format 2 it has one for each
+abbrev pub first_digit : Format → List ℕ → ℕ
+first_digit One ns = slice_index ns 1
+first_digit Two ns = 1
+
+-- the format that a file's first record tells, if it is one of the headers
+abbrev pub format_told : Record → Option Format
+format_told first = if same_fields first header_one then Some One else (if same_fields first header_two then Some Two else None)
+
+-- the format of the records under a first record, format 1 where that is no header
+abbrev pub format_under : Record → Format
+format_under first = unwrap_or (format_told first) One

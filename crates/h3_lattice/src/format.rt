@@ -1,0 +1,56 @@
+//! The formats of table files, and the records that tell them apart.
+
+ghost use Rattle.std.specs.Prelude.{◌≡◌, None, Some, slice_index_or, IfOk, IfErr, IfSome, All};
+ghost use Rattle.csv.specs.Records.{fields_of};
+ghost use Rattle.h3_lattice.specs.Format.{format_told, width};
+ghost use Rattle.h3_lattice.specs.Fields.{numbers_in};
+ghost use Rattle.h3_lattice.specs.Links.{IsLink, place_of};
+ghost use Rattle.h3_lattice.specs.Records.{fault_in};
+ghost use Rattle.h3_lattice.specs.Slots.{Takes};
+
+use crate::error::TableError;
+use crate::fields::{has_fields, numbers_in};
+use crate::links::Slots;
+use crate::{format_one, format_two};
+use csv::ByteRecord;
+
+/// What the records of a table file are of.
+#[derive(Clone, Copy, Debug, PartialEq, Eq)]
+pub enum Format {
+    /// Each record is of a base cell and a direction.
+    One,
+
+    /// Each record is of a base cell.
+    Two,
+}
+
+/// The format that a file's first record tells: none where it is no header.
+pub fn format_told(first: &ByteRecord) -> Option<Format>
+    ensures { result ≡ format_told (fields_of first.now) }
+{
+    if has_fields(first, &format_one::HEADER) {
+        return Some(Format::One);
+    }
+    if has_fields(first, &format_two::HEADER) {
+        return Some(Format::Two);
+    }
+    None
+}
+
+/// Judges a record of a file of this format, and keeps its links.
+pub fn take(
+    format: Format,
+    slots: &mut Slots,
+    row: u64,
+    fields: &ByteRecord,
+) -> Result<(), TableError>
+    ensures refused { IfErr result (λ e. fault_in format row (λ b d. slice_index_or slots.old (place_of b d) None) (numbers_in (width format) (fields_of fields.now)) ≡ Some e) }
+    ensures taken { IfOk result (λ _. (fault_in format row (λ b d. slice_index_or slots.old (place_of b d) None) (numbers_in (width format) (fields_of fields.now)) ≡ None)
+        × IfSome (numbers_in (width format) (fields_of fields.now)) (λ ns. Takes format ns slots.old slots.new)) }
+    ensures within { All (λ slot. IfSome slot IsLink) slots.old → All (λ slot. IfSome slot IsLink) slots.new }
+{
+    match format {
+        Format::One => format_one::take(slots, row, numbers_in(fields)),
+        Format::Two => format_two::take(slots, row, numbers_in(fields)),
+    }
+}
