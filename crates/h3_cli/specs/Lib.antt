@@ -5,4 +5,5 @@ pub mod Given
 pub mod Options
 pub mod PageWriter
 pub mod Program
+pub mod Retried
 pub mod Values

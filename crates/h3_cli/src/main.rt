@@ -5,6 +5,7 @@ mod commands;
 mod options;
 mod page;
 mod program;
+mod retried;
 mod table;
 mod words;
 
@@ -12,6 +13,7 @@ use h3_index::{H3Error, Sink, Source, Streamed};
 use h3_lines::{Refusal, report};
 use page::PageWriter;
 use program::run_words;
+use retried::Retried;
 use std::env;
 use std::fs::File;
 use std::io::ErrorKind;
@@ -47,8 +49,8 @@ fn start<S: Env + Files<File = File> + AllocGlobal, R: Source, W: Sink, E: Sink>
 }
 
 fn main(rt: HostRuntime) -> ExitCode {
-    let mut input = Streamed::new(rt.stdin());
-    let mut out = Streamed::new(PageWriter::new(rt.stdout()));
-    let mut err = Streamed::new(rt.stderr());
+    let mut input = Streamed::new(Retried::new(rt.stdin()));
+    let mut out = Streamed::new(PageWriter::new(Retried::new(rt.stdout())));
+    let mut err = Streamed::new(Retried::new(rt.stderr()));
     ExitCode::from(start(&rt, &mut input, &mut out, &mut err))
 }

@@ -1,7 +1,8 @@
 //! The base cell table, which is opened by its path.
 
-ghost use Rattle.std.specs.Prelude.{◌≡◌, List, ℕ, None, IsSome, OnOk, OnErr};
+ghost use Rattle.std.specs.Prelude.{◌≡◌, List, ℕ, None, false, IsSome, OnOk, OnErr};
 
+use crate::retried::Retried;
 use h3_index::{Source, StreamFault};
 use std::io::{ErrorKind, Read};
 use std::rt::Files;
@@ -33,13 +34,17 @@ pub trait OpenTable: Source {
 #[derive(Drop)]
 pub struct TableFile<'a, R: Files> {
     files: &'a R,
-    file: Option<R::File>,
+    file: Option<Retried<R::File>>,
     failed: bool,
 }
 
 impl<'a, R: Files> TableFile<'a, R> {
-    /// The table, not opened yet.
-    pub fn new(files: &'a R) -> Self {
+    /// The table in a file of this file system. It is not opened yet, and has not failed.
+    pub fn new(files: &'a R) -> Self
+        ensures files { result.files.now ≡ files.now }
+        ensures unopened { result.file ≡ None }
+        ensures failed { result.failed ≡ false }
+    {
         TableFile {
             files,
             file: None,
@@ -69,14 +74,14 @@ impl<'a, R: Files> Source for TableFile<'a, R> {
 }
 
 impl<'a, R: Files> OpenTable for TableFile<'a, R> {
-    ghost opens = { λ _ _ table. IsSome table.file };
+    ghost opens = { λ old _ new. IsSome new.file × (new.failed ≡ old.failed) };
 
     ghost fails_to_open = { λ old _ new. new ≡ old };
 
     fn open(&mut self, path: &str) -> Result<(), OpenFault> {
         match fs::open(self.files, path) {
             Ok(file) => {
-                self.file = Some(file);
+                self.file = Some(Retried::new(file));
                 Ok(())
             }
             Err(_) => Err(OpenFault),
