@@ -1,5 +1,7 @@
+pub mod Blocks
+pub mod Lengths
 pub mod Lines
 pub mod ListLines
 pub mod Pages
-pub mod Walk
+pub mod PlainLines
 pub mod Written

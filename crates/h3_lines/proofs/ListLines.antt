@@ -107,10 +107,6 @@ pub last_refused : (cells : List Address) (line whole : List ℕ) → whole ≡ 
 last_refused cells line whole is h e refused =
     subst (λ list. RefusesList ⊥ list e) (sym (listed_at_end cells line h ∙ ap (λ l. cells_before cells (said_before (said_by l) (Ok []))) (sym is))) (refused (Ok []))
 
-pub empty_from_test : (l : List ℕ) (b : Bool) → b ≡ (length l == 0) → b ≡ true → l ≡ []
-empty_from_test [] b is h = refl
-empty_from_test (x ∷ xs) b is h = absurd (grind (arith, nat_tests))
-
 -- ---- the first line feed
 
 negated : (b : Bool) → (b ≡ true → ⊥) → not b ≡ true

@@ -36,6 +36,12 @@ pub record SomeBeginning (P : List ℕ → Type 0) (bytes : List ℕ) : Type 0 w
 abbrev pub AppendsPart : Option (List ℕ) → Option (List ℕ) → List ℕ → Type 0
 AppendsPart old new bytes = SomeBeginning (Appends old new) bytes
 
+-- a beginning of the bytes was appended, and these are the rest of them. Private contracts and proofs alone cite it.
+pub record AppendsUpTo (old new : Option (List ℕ)) (bytes rest : List ℕ) : Type 0 where
+  pub part : List ℕ
+  pub split : bytes ≡ part ++ rest
+  pub grown : Appends old new part
+
 -- where the bytes are known before and after, they grew by these
 abbrev pub AppendsOrHides : Option (List ℕ) → Option (List ℕ) → List ℕ → Type 0
 AppendsOrHides None new bytes = ⊤

@@ -1,70 +1,81 @@
 //! The lines of answers.
 
-ghost use Rattle.std.specs.Prelude.{◌≡◌, ◌<◌, ◌++◌, ◌∷◌, [], ℕ, List, length};
+ghost use Rattle.std.specs.Prelude.{◌≡◌, ◌+◌, ◌<◌, ◌≤◌, ◌++◌, ◌∷◌, [], ℕ, List, length, take};
 ghost use Rattle.h3_lines.specs.Answer.{cell_line, edge_line, number_line, ring_line, truth_line};
 
-use arrayvec::ArrayString;
-use h3_index::{Cell, Edge, write_index};
+use h3_index::{Cell, Edge, index_bytes};
 use itoa::Buffer;
 
-/// The room for a line.
-const ROOM: usize = 32;
+/// The room that a line may take.
+pub const ROOM: usize = 32;
+
+/// The bytes of a block of lines.
+pub const BLOCK: usize = 4096;
 
 /// What is written as a line.
 pub trait Line {
     /// The line, ended by a line feed.
     ghost line_of: { Self → List ℕ };
 
-    /// Puts the line in place of the text of a buffer.
-    fn put(&self, line: &mut ArrayString<ROOM>)
-        ensures line { line.new.bytes ≡ line_of self.now }
-        ensures some { 0 < length line.new.bytes };
+    /// Puts the line at a place of a block, and returns where it ends. The bytes after it may change
+    /// too.
+    fn put(&self, block: &mut [u8; BLOCK], at: usize) -> usize
+        requires room { at + 32 ≤ 4096 }
+        ensures end { result ≤ at + 32 }
+        ensures some { at < result }
+        ensures line { take result block.new ≡ take at block.old ++ line_of self.now };
 }
 
-/// Puts the text and a line feed in place of the text of a buffer.
-#[inline]
-fn put_text(line: &mut ArrayString<ROOM>, text: &str)
-    requires { length text.now < 32 }
-    ensures { line.new.bytes ≡ text.now ++ 10 ∷ [] }
+/// Puts the first `count` bytes and one more at a place of a block, and returns where they end. All of
+/// the bytes are copied, since that is fast where their number is known to the compiler.
+#[inline(always)]
+fn put_ended(block: &mut [u8; BLOCK], at: usize, bytes: &[u8], count: usize, end: u8) -> usize
+    requires within { count ≤ length bytes.now }
+    requires room { at + length bytes.now < 4096 }
+    ensures end { result ≡ at + count + 1 }
+    ensures line { take result block.new ≡ take at block.old ++ (take count bytes.now ++ end ∷ []) }
 {
-    line.clear();
-    line.push_str(text);
-    line.push_str("\n");
+    block[at..at + bytes.len()].copy_from_slice(bytes);
+    block[at + count] = end;
+    at + count + 1
 }
 
 impl Line for bool {
     ghost line_of = { truth_line };
 
-    fn put(&self, line: &mut ArrayString<ROOM>) {
-        put_text(line, if *self { "true" } else { "false" });
+    fn put(&self, block: &mut [u8; BLOCK], at: usize) -> usize {
+        let text = if *self { "true" } else { "false" };
+        put_ended(block, at, text.as_bytes(), text.len(), b'\n')
     }
 }
 
 impl Line for u64 {
     ghost line_of = { number_line };
 
-    fn put(&self, line: &mut ArrayString<ROOM>) {
+    fn put(&self, block: &mut [u8; BLOCK], at: usize) -> usize {
         let mut buffer = Buffer::new();
-        put_text(line, buffer.format(*self));
+        let text = buffer.format(*self);
+        put_ended(block, at, text.as_bytes(), text.len(), b'\n')
     }
 }
 
 impl Line for Cell {
     ghost line_of = { cell_line };
 
-    #[inline]
-    fn put(&self, line: &mut ArrayString<ROOM>) {
-        put_text(line, write_index(self.raw()).as_str());
+    #[inline(always)]
+    fn put(&self, block: &mut [u8; BLOCK], at: usize) -> usize {
+        let (bytes, count) = index_bytes(self.raw());
+        put_ended(block, at, &bytes, count, b'\n')
     }
 }
 
 impl Line for Edge {
     ghost line_of = { edge_line };
 
-    #[inline]
-    fn put(&self, line: &mut ArrayString<ROOM>) {
-        let text = write_index(self.raw());
-        put_text(line, text.as_str());
+    #[inline(always)]
+    fn put(&self, block: &mut [u8; BLOCK], at: usize) -> usize {
+        let (text, count) = index_bytes(self.raw());
+        put_ended(block, at, &text, count, b'\n')
     }
 }
 
@@ -72,13 +83,12 @@ impl Line for Edge {
 impl Line for (Cell, u32) {
     ghost line_of = { ring_line };
 
-    #[inline]
-    fn put(&self, line: &mut ArrayString<ROOM>) {
+    #[inline(always)]
+    fn put(&self, block: &mut [u8; BLOCK], at: usize) -> usize {
+        let (bytes, count) = index_bytes(self.0.raw());
+        let after_cell = put_ended(block, at, &bytes, count, b' ');
         let mut buffer = Buffer::new();
-        let mut text: ArrayString<ROOM> = ArrayString::new();
-        text.push_str(write_index(self.0.raw()).as_str());
-        text.push_str(" ");
-        text.push_str(buffer.format(self.1));
-        put_text(line, text.as_str());
+        let ring = buffer.format(self.1);
+        put_ended(block, after_cell, ring.as_bytes(), ring.len(), b'\n')
     }
 }

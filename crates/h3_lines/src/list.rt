@@ -2,26 +2,39 @@
 
 ghost use Rattle.std.specs.Prelude.{◌≡◌, ◌≤◌, ◌<◌, ◌+◌, ◌*◌, ◌^◌, ◌⊎◌, ℕ, true, List, [], ◌∷◌, ◌++◌, length, Some, Result, Ok, IfOk, IfErr, IfSome, IfNone, OnOk, OnErr, IsErrOf};
 ghost use Rattle.h3_index.specs.Cell.{Address};
+ghost use Rattle.h3_index.specs.CellNumber.{cell_in};
 ghost use Rattle.h3_index.specs.Stream.{HasLeft};
 ghost use Rattle.h3_index.specs.declared.error.H3Error.{H3Error};
-ghost use Rattle.h3_lines.specs.List.{RefusesList, listed_cells, said_before, said_by};
-ghost use Rattle.h3_lines.specs.Reading.{cells_before, is_unended, listed_after};
+ghost use Rattle.h3_lines.specs.List.{RefusesList, listed_cells, said_before, said_by, said_by_cell};
+ghost use Rattle.h3_lines.specs.Reading.{IsPlainLine, cells_before, is_unended, listed_after};
 
 use crate::counted::CountedReader;
 use crate::refusal::Refusal;
 use arrayvec::ArrayVec;
-use h3_index::{Cell, H3Error, Source, is_blank_text, read_index};
+use h3_index::{Cell, H3Error, Source, is_blank_text, read_index, read_plain};
 use memchr::memchr;
 use std::alloc::Global;
 
 /// The bytes that a line may have.
 const LONGEST_LINE: usize = 64;
 
+/// The digits of a plain line: those of a cell's index.
+const PLAIN: usize = 15;
+
 /// The bytes that are read at once.
 const PAGE: usize = 65536;
 
 /// The reads that a list may take.
 const READS: u64 = 1 << 40;
+
+/// The cell with an index, or the error where no cell has it.
+#[inline(always)]
+fn cell_with(index: u64) -> Result<Option<Cell>, H3Error>
+    ensures { result ≡ said_by_cell (cell_in index) }
+{
+    let cell = Cell::new(index)?;
+    Ok(Some(cell))
+}
 
 /// The cell of a line, nothing where it is blank, or the error of a faulty line.
 fn read_line(line: &[u8]) -> Result<Option<Cell>, H3Error>
@@ -30,12 +43,27 @@ fn read_line(line: &[u8]) -> Result<Option<Cell>, H3Error>
     if line.len() > LONGEST_LINE {
         return Err(H3Error::Failed);
     }
-    if is_blank_text(line) {
-        return Ok(None);
+    match read_index(line) {
+        Ok(index) => cell_with(index),
+        Err(_) if is_blank_text(line) => Ok(None),
+        Err(error) => Err(error),
     }
-    let index = read_index(line)?;
-    let cell = Cell::new(index)?;
-    Ok(Some(cell))
+}
+
+/// Adds the cell that a line says, if it says one, to the cells.
+#[inline(always)]
+fn take_said(cells: &mut Vec<Cell>, said: Result<Option<Cell>, H3Error>) -> Result<(), Refusal>
+    ensures ok { OnOk result ((later : Result (List Address) H3Error) →
+        cells_before cells.old.items (said_before said later)
+        ≡ cells_before cells.new.items later) }
+    ensures err { IfErr result (λ e. (later : Result (List Address) H3Error) →
+        RefusesList ⊥ (cells_before cells.old.items (said_before said later)) e) }
+{
+    match said {
+        Ok(None) => Ok(()),
+        Ok(Some(cell)) => cells.push(cell).map_err(|_| Refusal::Memory),
+        Err(error) => Err(Refusal::Error(error)),
+    }
 }
 
 /// Adds the cell of a line, if it has one, to the cells.
@@ -46,11 +74,20 @@ fn take_line(cells: &mut Vec<Cell>, line: &[u8]) -> Result<(), Refusal>
     ensures err { IfErr result (λ e. (later : Result (List Address) H3Error) →
         RefusesList ⊥ (cells_before cells.old.items (said_before (said_by line.now) later)) e) }
 {
-    match read_line(line) {
-        Ok(None) => Ok(()),
-        Ok(Some(cell)) => cells.push(cell).map_err(|_| Refusal::Memory),
-        Err(error) => Err(Refusal::Error(error)),
+    take_said(cells, read_line(line))
+}
+
+/// The index of the plain line that bytes begin with, fifteen digits in lower case and a line feed, and
+/// the bytes after it.
+#[inline(always)]
+fn plain_line(bytes: &[u8]) -> Option<(u64, &[u8])>
+    ensures { IfSome result (λ p. IsPlainLine bytes.now p.0 p.1.now) }
+{
+    if bytes.len() <= PLAIN || bytes[PLAIN] != b'\n' {
+        return None;
     }
+    let index = read_plain(&bytes[..PLAIN])?;
+    Some((index, &bytes[PLAIN + 1..]))
 }
 
 /// The bytes before the first line feed, and those after it.
@@ -116,6 +153,29 @@ impl ListReader {
         Ok(())
     }
 
+    /// Takes the plain lines that a page begins with, unless a line is begun, and returns the bytes
+    /// after them. They are neither copied nor searched for their end.
+    #[inline(always)]
+    fn take_plain<'b>(&mut self, page: &'b [u8]) -> Result<&'b [u8], Refusal>
+        ensures ok { IfOk result (λ left. (rest : List ℕ) →
+            listed_after self.old.cells.items self.old.line.items (page.now ++ rest)
+            ≡ listed_after self.new.cells.items self.new.line.items (left.now ++ rest)) }
+        ensures fewer { IfOk result (λ left. length left.now ≤ length page.now) }
+        ensures err { IfErr result (λ e. (rest : List ℕ) →
+            RefusesList ⊥
+            (listed_after self.old.cells.items self.old.line.items (page.now ++ rest)) e) }
+    {
+        let mut bytes = page;
+        let at_start = self.line.is_empty();
+        if at_start {
+            while let Some((index, after)) = plain_line(bytes) {
+                take_said(&mut self.cells, cell_with(index))?;
+                bytes = after;
+            }
+        }
+        Ok(bytes)
+    }
+
     /// Takes the lines that end in a page, and keeps the beginning of the next one.
     fn take(&mut self, page: &[u8]) -> Result<(), Refusal>
         ensures ok { OnOk result ((rest : List ℕ) →
@@ -125,10 +185,10 @@ impl ListReader {
             RefusesList ⊥
             (listed_after self.old.cells.items self.old.line.items (page.now ++ rest)) e) }
     {
-        let mut bytes = page;
+        let mut bytes = self.take_plain(page)?;
         while let Some((line, after)) = split_line(bytes) {
             self.end_line(line)?;
-            bytes = after;
+            bytes = self.take_plain(after)?;
         }
         self.keep(bytes)
     }

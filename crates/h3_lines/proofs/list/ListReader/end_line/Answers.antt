@@ -1,6 +1,7 @@
 use Rattle.std.proofs.Common.{◌++◌, ◌∙◌, ap, sym, refl}
 use Rattle.std.proofs.lemmas.Result.{err_from_is_err_and, on_ok_weaker, IfErr-weaker}
-use Rattle.h3_lines.proofs.ListLines.{empty_from_test, line_taken, line_refused}
+use Rattle.h3_lines.proofs.Lengths.{empty_from_test}
+use Rattle.h3_lines.proofs.ListLines.{line_taken, line_refused}
 use Rattle.h3_lines.proofs.list.ListReader.end_line.Goals as goal
 
 pub returns-then-is_empty-clause-ok : goal.returns-then-is_empty-clause-ok

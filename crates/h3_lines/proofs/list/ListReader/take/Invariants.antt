@@ -4,7 +4,7 @@ use Rattle.h3_lines.proofs.list.ListReader.take.Given as goal
 
 abbrev pub invariant-loop-line : goal.invariant-loop-line
 invariant-loop-line l = (rest : List ℕ) →
-    listed_after l.initial.self.cells.items l.initial.self.line.items (l.page ++ rest)
+    listed_after l.fn.self.cells.items l.fn.self.line.items (l.page ++ rest)
     ≡ listed_after l.self.cells.items l.self.line.items (l.bytes ++ rest)
 
 abbrev pub decreases-loop-line : goal.decreases-loop-line
