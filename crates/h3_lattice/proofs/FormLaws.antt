@@ -13,7 +13,7 @@ use Rattle.h3_lattice.specs.Direction.{digit_of, directions}
 use Rattle.h3_lattice.specs.declared.format.Format.{Format}
 use Rattle.h3_lattice.specs.declared.format.Format.TheVariants.{One, Two}
 use Rattle.h3_lattice.specs.Fields.{Record, numbers_in, same_fields}
-use Rattle.h3_lattice.specs.Format.{first_digit, format_told, format_under, header, in_range, link_in, width}
+use Rattle.h3_lattice.specs.Format.{first_digit, header_format, format_after, header, in_range, link_in, width}
 use Rattle.h3_lattice.specs.FormatOne.{header_one}
 use Rattle.h3_lattice.specs.FormatTwo.{header_two, is_link_two, link_at_digit}
 use Rattle.h3_lattice.specs.Links.{IsHexagonBase, IsLink, IsSound, is_hexagon_base}
@@ -132,13 +132,13 @@ record IsRest (format : Format) (before rest : List Record) : Type 0 where
   pub each : All (IsLinkRecord format) rest
   pub most : (b d : ℕ) → count format b d rest + one_if (is_some (spelled_link format b d before)) ≤ 1
 
-rest_of : (front : Record) (before rest : List Record) → first_fault (front ∷ before) rest ≡ None → IsRest (format_under front) before rest
+rest_of : (front : Record) (before rest : List Record) → first_fault (front ∷ before) rest ≡ None → IsRest (format_after front) before rest
 unfolding first_fault
 rest_of front before [] e =
-    let format = format_under front in
+    let format = format_after front in
     record { each = All-nil (IsLinkRecord format); most = λ b d. let none = count-none format b d in let le = one_if-le (is_some (spelled_link format b d before)) in omega arith }
 rest_of front before (r ∷ rest) e =
-    let format = format_under front in
+    let format = format_after front in
     let two = both (fault_of (front ∷ before) r) (first_fault (front ∷ (before ++ r ∷ [])) rest) e in
     let here = free_of format (length before + 2) before r (numbers_in (width format) r) refl two.0 in
     let later = rest_of front (before ++ r ∷ []) rest two.1 in
@@ -190,11 +190,11 @@ in_range-hexagon Two ns h = hexagon_of (slice_index ns 0) (and_both (is_hexagon_
 AtMostOnce : Format → List Record → List Record → Type 0
 AtMostOnce format before rest = (b d : ℕ) → IsHexagonBase b → 0 < d → d < 7 → count format b d rest + one_if (is_some (spelled_link format b d before)) ≤ 1
 
-first_fault-none : (front : Record) (before rest : List Record) → All (IsLinkRecord (format_under front)) rest → AtMostOnce (format_under front) before rest → first_fault (front ∷ before) rest ≡ None
+first_fault-none : (front : Record) (before rest : List Record) → All (IsLinkRecord (format_after front)) rest → AtMostOnce (format_after front) before rest → first_fault (front ∷ before) rest ≡ None
 unfolding first_fault AtMostOnce
 first_fault-none front before [] each most = refl
 first_fault-none front before (r ∷ rest) each most =
-    let format = format_under front in
+    let format = format_after front in
     let k = All-head (IsLinkRecord format) r rest each in
     let base = slice_index k.numbers 0 in
     let digit = first_digit format k.numbers in
@@ -237,21 +237,21 @@ spelled_link-within format b d (r ∷ body) each =
 
 -- ---- files
 
--- a header tells its format
+-- a header is that of its format
 told_true : (p q : Bool) (format : Format) → (if p then Some One else (if q then Some Two else None)) ≡ Some format
     → ((p ≡ true) × (format ≡ One)) ⊎ ((q ≡ true) × (format ≡ Two))
 told_true true q format e = inl (refl, cc e)
 told_true false true format e = inr (refl, cc e)
 told_true false false format e = cc e
 
-told_header : (front : Record) (format : Format) → format_told front ≡ Some format → front ≡ header format
+told_header : (front : Record) (format : Format) → header_format front ≡ Some format → front ≡ header format
 told_header front format e =
     elim (told_true (same_fields front header_one) (same_fields front header_two) format e) [
       | inl one ↦ rw one.1 (same_fields-true front header_one one.0)
       | inr two ↦ rw two.1 (same_fields-true front header_two two.0)
     ]
 
-header_tells : (format : Format) → format_told (header format) ≡ Some format
+header_tells : (format : Format) → header_format (header format) ≡ Some format
 unfolding same_fields
 header_tells One = refl
 header_tells Two = refl
@@ -268,10 +268,10 @@ pub form_of : (records : List Record) → fault_of_records records ≡ None → 
 unfolding first_fault
 form_of [] e full = cc e
 form_of (front ∷ body) e full =
-    let format = format_under front in
+    let format = format_after front in
     let two = both (fault_of [] front) (first_fault (front ∷ []) body) e in
     let rest = rest_of front [] body two.1 in
-    let same : front ≡ header format = told_header front format (some_told (format_told front) two.0) in
+    let same : front ≡ header format = told_header front format (some_told (header_format front) two.0) in
     record {
       format = format;
       front = ap (λ (r : Record). r ∷ body) same;
@@ -303,7 +303,7 @@ begin_with_header format body e = nones (fault_of [] (header format)) (first_fau
 
 pub no_fault_of : (records : List Record) → IsOfForm records → fault_of_records records ≡ None
 no_fault_of records f =
-    let under : format_under (header f.format) ≡ f.format = told-under (header f.format) f.format (header_tells f.format) in
+    let under : format_after (header f.format) ≡ f.format = told-under (header f.format) f.format (header_tells f.format) in
     subst (λ records. fault_of_records records ≡ None) (sym f.front)
     (begin_with_header f.format (body_of records) (first_fault-none (header f.format) [] (body_of records) (rw under f.each) (rw under (at_most_once records f))))
 

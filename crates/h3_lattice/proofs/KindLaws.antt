@@ -10,7 +10,7 @@ use Rattle.h3_lattice.specs.declared.checks.Check.TheVariants as check
 use Rattle.h3_lattice.specs.Direction.{digit_of, directions}
 use Rattle.h3_lattice.specs.declared.format.Format.{Format}
 use Rattle.h3_lattice.specs.Fields.{Record, numbers_in}
-use Rattle.h3_lattice.specs.Format.{first_digit, format_told, format_under, in_range, width}
+use Rattle.h3_lattice.specs.Format.{first_digit, header_format, format_after, in_range, width}
 use Rattle.h3_lattice.specs.Links.{Links, is_hexagon_base}
 use Rattle.h3_lattice.specs.Checks.{at_places, closes, fault_at, fault_of_links, from_base, in_directions, is_apart, reverses}
 use Rattle.h3_lattice.specs.Records.{body_of, fault_in, fault_of, fault_of_records, first_fault, format_of, spelled_link}
@@ -70,9 +70,9 @@ fault_in-kind format row known (Some ns) =
     (if_kind 1 (is_some (known (slice_index ns 0) (first_digit format ns))) (Some (fault.Repeated row)) None refl tt)
 
 fault_of-kind : (before : List Record) (r : Record) → IsKind 1 (fault_of before r)
-fault_of-kind [] r = if_kind 1 (is_some (format_told r)) None (Some (fault.Form 1)) tt refl
+fault_of-kind [] r = if_kind 1 (is_some (header_format r)) None (Some (fault.Form 1)) tt refl
 fault_of-kind (front ∷ body) r =
-    fault_in-kind (format_under front) (length body + 2) (λ b d. spelled_link (format_under front) b d body) (numbers_in (width (format_under front)) r)
+    fault_in-kind (format_after front) (length body + 2) (λ b d. spelled_link (format_after front) b d body) (numbers_in (width (format_after front)) r)
 
 first_fault-kind : (before rest : List Record) → IsKind 1 (first_fault before rest)
 unfolding first_fault

@@ -8,7 +8,7 @@ use Rattle.h3_lattice.specs.declared.error.TableError.{TableError}
 use Rattle.h3_lattice.specs.declared.error.TableError.TheVariants as fault
 use Rattle.h3_lattice.specs.declared.format.Format.{Format}
 use Rattle.h3_lattice.specs.Fields.{Record, records_of}
-use Rattle.h3_lattice.specs.Format.{format_told, format_under}
+use Rattle.h3_lattice.specs.Format.{header_format, format_after}
 use Rattle.h3_lattice.specs.Records.{body_of, fault_of, fault_of_records, first_fault, format_of}
 use Rattle.h3_lattice.specs.Slots.{Holds}
 use Rattle.h3_lattice.proofs.RecordLaws.{all-front, none-after}
@@ -16,14 +16,14 @@ use Rattle.h3_lattice.proofs.RecordLaws.{all-front, none-after}
 -- a front of the file was read: the header of this format and these records, none faulty, and the slots hold their links
 pub record IsRead (text : List ℕ) (format : Format) (number : ℕ) (slots : List (Option (ℕ × ℕ))) (s : State) (y : List ℕ) : Type 0 where
   pub front : Record
-  pub told : format_told front ≡ Some format
+  pub told : header_format front ≡ Some format
   pub body : List Record
   pub reached : Reached default_config st.StartRecord (strip_bom text) (front ∷ body) s y
   pub counted : length body + 1 ≡ number
   pub holds : Holds format slots body
   pub good : (rest : List Record) → first_fault [] ((front ∷ body) ++ rest) ≡ first_fault (front ∷ body) rest
 
-pub told-under : (front : Record) (format : Format) → format_told front ≡ Some format → format_under front ≡ format
+pub told-under : (front : Record) (format : Format) → header_format front ≡ Some format → format_after front ≡ format
 told-under front format e = rw e refl
 
 -- a record that isn't faulty is passed over
@@ -41,7 +41,7 @@ first-none before = refl
 
 -- the first record isn't the header
 pub header-faulty : (text : List ℕ) (front : Record) (s : State) (y : List ℕ) → Reached default_config st.StartRecord (strip_bom text) (front ∷ []) s y
-    → format_told front ≡ None → fault_of_records (records_of text) ≡ Some (fault.Form 1)
+    → header_format front ≡ None → fault_of_records (records_of text) ≡ Some (fault.Form 1)
 header-faulty text front s y h e =
     let all = all-front text (front ∷ []) s y h in
     rw all (fault-told [] _ front (fault.Form 1) (rw e refl))
@@ -52,7 +52,7 @@ no-header text e =
     rw all refl
 
 pub read-start : (text : List ℕ) (format : Format) (front : Record) (slots : List (Option (ℕ × ℕ))) (s : State) (y : List ℕ)
-    → Reached default_config st.StartRecord (strip_bom text) (front ∷ []) s y → format_told front ≡ Some format → Holds format slots [] → IsRead text format 1 slots s y
+    → Reached default_config st.StartRecord (strip_bom text) (front ∷ []) s y → header_format front ≡ Some format → Holds format slots [] → IsRead text format 1 slots s y
 read-start text format front slots s y h e k = record {
   front = front;
   told = e;
@@ -91,5 +91,5 @@ read-end text format number slots s y w e =
     let all = all-front text (w.front ∷ w.body) s y w.reached in
     let none = none-after default_config (length (strip_bom text) + 1 - length (w.front ∷ w.body)) s y e in
     let same : records_of text ≡ (w.front ∷ w.body) ++ [] = all ∙ ap (λ (t : List Record). (w.front ∷ w.body) ++ t) none in
-    let under : format_under w.front ≡ format = told-under w.front format w.told in
+    let under : format_after w.front ≡ format = told-under w.front format w.told in
     (rw same (w.good [] ∙ first-none (w.front ∷ w.body)), rw (same, append-nil w.body, under) w.holds)

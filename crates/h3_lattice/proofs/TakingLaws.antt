@@ -7,7 +7,7 @@ use Rattle.csv.specs.declared.parser.State.TheVariants as st
 use Rattle.h3_lattice.specs.declared.error.TableError.{TableError}
 use Rattle.h3_lattice.specs.declared.format.Format.{Format}
 use Rattle.h3_lattice.specs.Fields.{Record, numbers_in, records_of}
-use Rattle.h3_lattice.specs.Format.{format_told, format_under, width}
+use Rattle.h3_lattice.specs.Format.{header_format, format_after, width}
 use Rattle.h3_lattice.specs.Links.{place_of}
 use Rattle.h3_lattice.specs.Records.{fault_in, fault_of, fault_of_records}
 use Rattle.h3_lattice.specs.Slots.{Holds, Takes}
@@ -21,11 +21,11 @@ taken-holds : (format : Format) (slots new : List (Option (ℕ × ℕ))) (body :
 taken-holds format slots new body r row None h e f k = cc f
 taken-holds format slots new body r row (Some ns) h e f k = holds-more format slots new body r ns row h (sym e) f k
 
-fault-is : (format : Format) (slots : List (Option (ℕ × ℕ))) (front r : Record) (body : List Record) (number : ℕ) → format_told front ≡ Some format → Holds format slots body → length body + 1 ≡ number
+fault-is : (format : Format) (slots : List (Option (ℕ × ℕ))) (front r : Record) (body : List Record) (number : ℕ) → header_format front ≡ Some format → Holds format slots body → length body + 1 ≡ number
     → fault_of (front ∷ body) r ≡ fault_in format (number + 1) (λ b d. slice_index_or slots (place_of b d) None) (numbers_in (width format) r)
 fault-is format slots front r body number t h c =
     let n : length body + 2 ≡ number + 1 = omega arith in
-    let under : format_under front ≡ format = told-under front format t in
+    let under : format_after front ≡ format = told-under front format t in
     rw (under, n) (sym (fault-held format slots body (number + 1) (numbers_in (width format) r) h))
 
 pub step-good : (text : List ℕ) (format : Format) (number : ℕ) (slots new : List (Option (ℕ × ℕ))) (s s2 : State) (y z : List ℕ) (w : IsRead text format number slots s y) (r : Record)

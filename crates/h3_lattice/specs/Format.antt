@@ -30,10 +30,10 @@ abbrev pub first_digit : Format → List ℕ → ℕ
 first_digit One ns = slice_index ns 1
 first_digit Two ns = 1
 
--- the format that a file's first record tells, if it is one of the headers
-abbrev pub format_told : Record → Option Format
-format_told first = if same_fields first header_one then Some One else (if same_fields first header_two then Some Two else None)
+-- the format whose header a record is
+abbrev pub header_format : Record → Option Format
+header_format first = if same_fields first header_one then Some One else (if same_fields first header_two then Some Two else None)
 
--- the format of the records under a first record, format 1 where that is no header
-abbrev pub format_under : Record → Format
-format_under first = unwrap_or (format_told first) One
+-- the format of the records after a first record, format 1 where that is no header
+abbrev pub format_after : Record → Format
+format_after first = unwrap_or (header_format first) One

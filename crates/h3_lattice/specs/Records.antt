@@ -6,7 +6,7 @@ use Rattle.h3_lattice.specs.declared.error.TableError.TheVariants as fault
 use Rattle.h3_lattice.specs.declared.format.Format.{Format}
 use Rattle.h3_lattice.specs.declared.format.Format.TheVariants.{One}
 use Rattle.h3_lattice.specs.Fields.{Record, numbers_in}
-use Rattle.h3_lattice.specs.Format.{first_digit, format_told, format_under, in_range, link_in, width}
+use Rattle.h3_lattice.specs.Format.{first_digit, header_format, format_after, in_range, link_in, width}
 
 -- the records under the header
 abbrev pub body_of : List Record → List Record
@@ -16,7 +16,7 @@ body_of (front ∷ body) = body
 -- their format
 abbrev pub format_of : List Record → Format
 format_of [] = One
-format_of (front ∷ body) = format_under front
+format_of (front ∷ body) = format_after front
 
 -- ---- links
 
@@ -41,9 +41,9 @@ fault_in format row known (Some ns) =
 
 -- the fault of a record, after the records before it: the first has to be a header
 abbrev pub fault_of : List Record → Record → Option TableError
-fault_of [] r = if is_some (format_told r) then None else Some (fault.Form 1)
+fault_of [] r = if is_some (header_format r) then None else Some (fault.Form 1)
 fault_of (front ∷ body) r =
-    fault_in (format_under front) (length body + 2) (λ b d. spelled_link (format_under front) b d body) (numbers_in (width (format_under front)) r)
+    fault_in (format_after front) (length body + 2) (λ b d. spelled_link (format_after front) b d body) (numbers_in (width (format_after front)) r)
 
 -- the first fault of records that come after others
 unfoldable pub first_fault : List Record → List Record → Option TableError

@@ -1,8 +1,8 @@
-//! The formats of table files, and the records that tell them apart.
+//! The formats of table files, which differ in their headers and records.
 
 ghost use Rattle.std.specs.Prelude.{◌≡◌, None, Some, slice_index_or, IfOk, IfErr, IfSome, All};
 ghost use Rattle.csv.specs.Records.{fields_of};
-ghost use Rattle.h3_lattice.specs.Format.{format_told, width};
+ghost use Rattle.h3_lattice.specs.Format.{header_format, width};
 ghost use Rattle.h3_lattice.specs.Fields.{numbers_in};
 ghost use Rattle.h3_lattice.specs.Links.{IsLink, place_of};
 ghost use Rattle.h3_lattice.specs.Records.{fault_in};
@@ -24,9 +24,9 @@ pub enum Format {
     Two,
 }
 
-/// The format that a file's first record tells: none where it is no header.
-pub fn format_told(first: &ByteRecord) -> Option<Format>
-    ensures { result ≡ format_told (fields_of first.now) }
+/// The format whose header a file's first record is: none where it is no header.
+pub fn header_format(first: &ByteRecord) -> Option<Format>
+    ensures { result ≡ header_format (fields_of first.now) }
 {
     if has_fields(first, &format_one::HEADER) {
         return Some(Format::One);

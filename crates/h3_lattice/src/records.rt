@@ -7,7 +7,7 @@ ghost use Rattle.h3_lattice.specs.Records.{body_of, fault_of_records, format_of}
 ghost use Rattle.h3_lattice.specs.Slots.{Holds, IsFaultOrMemory};
 
 use crate::error::TableError;
-use crate::format::{format_told, take};
+use crate::format::{header_format, take};
 use crate::links::Slots;
 use csv::{ByteRecord, ReaderBuilder};
 use std::alloc::Global;
@@ -36,7 +36,7 @@ pub fn read_records(alloc: Global, text: &[u8]) -> Result<Slots, TableError>
     if !found {
         return Err(TableError::Form(1));
     }
-    let Some(format) = format_told(&record) else {
+    let Some(format) = header_format(&record) else {
         return Err(TableError::Form(1));
     };
     // The proof takes from this that the number of a record fits.

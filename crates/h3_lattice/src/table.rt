@@ -52,7 +52,7 @@ impl BaseTable {
 
     /// Reads a table file to its end and checks it.
     ///
-    /// The file is CSV, in one of two formats, which the header tells. Numbers have 1 to 3 digits, and records come in
+    /// The file is CSV, in one of two formats, each with its own header. Numbers have 1 to 3 digits, and records come in
     /// any order.
     ///
     /// - Format 1: the header is `base,dir,to,rot`, and then comes a record for each hexagon base cell and direction. In

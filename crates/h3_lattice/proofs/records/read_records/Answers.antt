@@ -20,16 +20,16 @@ returns-then-not-found-clause-refused c =
     let read = rw c.if-not-found.true at ((rw c.in-Ok.is at c.read_byte_record.ensures.reads) trim (inr (inr (headers, fr.headers)))) in
     inr (no-header c.args.text.now (rw fr.state at (rows-end (λ (s : Bor (List ℕ)). Some s.now) c.from_reader-reader.result c.read_byte_record.new.self (fields_of c.read_byte_record.new.row) default_config (strip_bom c.args.text.now) config fr.source read)))
 
-pub returns-in_default-format_told-clause-refused : goal.returns-in_default-format_told-clause-refused
+pub returns-in_default-header_format-clause-refused : goal.returns-in_default-header_format-clause-refused
 unfolding Reached
-returns-in_default-format_told-clause-refused c =
+returns-in_default-header_format-clause-refused c =
     let fr = c.from_reader-reader.ensures in
     let config = (rw (c.flexible.ensures, c.has_headers.ensures) at fr.config) ∙ c.new.ensures.config in
     let trim = (rw (c.flexible.ensures, c.has_headers.ensures) at fr.trim) ∙ c.new.ensures.trim in
     let headers = rw (c.flexible.ensures, c.has_headers.ensures) at fr.has_headers in
     let read = rw c.if-not-found.false at ((rw c.in-Ok.is at c.read_byte_record.ensures.reads) trim (inr (inr (headers, fr.headers)))) in
     let m = rows-more (λ (s : Bor (List ℕ)). Some s.now) c.from_reader-reader.result c.read_byte_record.new.self (fields_of c.read_byte_record.new.row) default_config st.StartRecord (strip_bom c.args.text.now) (strip_bom c.args.text.now) [] config fr.source (sym fr.state, refl) read in
-    inr (header-faulty c.args.text.now (fields_of c.read_byte_record.new.row) c.read_byte_record.new.self.state m.0 m.2 (sym c.format_told.ensures ∙ c.in_default-format_told.is))
+    inr (header-faulty c.args.text.now (fields_of c.read_byte_record.new.row) c.read_byte_record.new.self.state m.0 m.2 (sym c.header_format.ensures ∙ c.in_default-header_format.is))
 
 pub loop-found-init : goal.loop-found-init
 unfolding Reached
@@ -46,7 +46,7 @@ loop-found-init c =
       read.2 ∙ config,
       m.0,
       m.1,
-      read-start c.args.text.now c.in-Some.format (fields_of c.read_byte_record.new.row) _ c.read_byte_record.new.self.state m.0 m.2 (sym c.format_told.ensures ∙ c.in-Some.is) (holds-none c.in-Some.format),
+      read-start c.args.text.now c.in-Some.format (fields_of c.read_byte_record.new.row) _ c.read_byte_record.new.self.state m.0 m.2 (sym c.header_format.ensures ∙ c.in-Some.is) (holds-none c.in-Some.format),
       All-replicate (λ (slot : Option (ℕ × ℕ)). IfSome slot IsLink) 732 None tt,
     )
 
