@@ -1,5 +1,5 @@
 -- How a run ends that reads a list or a table, and what a run does whose ending is known.
-use Rattle.std.proofs.Common.{◌≡◌, ℕ, ◌⊎◌, Bool, true, false, List, Option, None, Some, Result, Ok, Err, IsTrue, [], sym, subst, refl, inl, inr}
+use Rattle.std.proofs.Common.{◌≡◌, ℕ, ◌⊎◌, Bool, true, false, List, Option, None, Some, Result, Ok, Err, IsOk, IsTrue, [], sym, subst, refl, inl, inr}
 use Rattle.h3_index.specs.Cell.{Address}
 use Rattle.h3_index.specs.Stream.{HasLeft}
 use Rattle.h3_index.specs.declared.error.H3Error.{H3Error}
@@ -9,34 +9,39 @@ use Rattle.h3_lattice.specs.Table.{RefusesTable, links_of, table_fault}
 use Rattle.h3_lattice.specs.declared.error.TableError.{TableError}
 use Rattle.h3_lattice.specs.declared.error.TableError.TheVariants as fault
 use Rattle.h3_lines.specs.Answer.{Answer, answer_or_error, out_of_memory}
-use Rattle.h3_command.specs.Answer.{Request, about_table, with_table, unless_faulty}
-use Rattle.h3_command.specs.Answer.Request.{of_list, of_table, plain}
 use Rattle.h3_lines.specs.List.{RefusesList, listed_cells}
 use Rattle.h3_lines.specs.Refusal.{table_refusal}
 use Rattle.h3_lines.specs.declared.refusal.Refusal.{Refusal}
 use Rattle.h3_lines.specs.declared.refusal.Refusal.TheVariants.{Error, Memory, Read, Write, Table, TableOpen}
 use Rattle.h3_lines.specs.Writing.{IsLeft, Reports, SinkUse, Writes}
-use Rattle.h3_command.specs.Run.{Answers, Ends, Gives, IsSound, ReadFails, Runs, SourceUse, Streams, WritesReading}
+use Rattle.h3_command.specs.Answer.{Request, about_table, with_table, unless_faulty}
+use Rattle.h3_command.specs.Answer.Request.{of_list, of_table, plain}
+use Rattle.h3_command.specs.Run.{Answers, Ends, Gives, IsReadAsList, IsSound, IsWithinReads, ReadFails, Runs, SourceUse, Streams, WritesReading}
 use Rattle.h3_command.proofs.Written.{nothing, writes_refused}
 
 -- an answer to what was read is written, and no read failed
-reading_written : (a : Answer) (bytes : List ℕ) (source : SourceUse) (ending : Result (Unit {0}) Refusal) (out : SinkUse) → IsSound source → Writes a ending out → WritesReading a bytes source ending out
+reading_written : (a : Answer) (bytes : List ℕ) (was_read : Type 0) (source : SourceUse) (ending : Result (Unit {0}) Refusal) (out : SinkUse) → was_read → IsSound source → Writes a ending out
+    → WritesReading a bytes was_read source ending out
 unfolding Writes
-reading_written a bytes source (Ok u) out sound writes = (sound, writes)
-reading_written a bytes source (Err (Error e)) out sound writes = (sound, writes)
-reading_written a bytes source (Err (Table e)) out sound writes = (sound, writes)
-reading_written a bytes source (Err TableOpen) out sound never = absurd never
-reading_written a bytes source (Err Memory) out sound never = absurd never
-reading_written a bytes source (Err Read) out sound never = absurd never
-reading_written a bytes source (Err Write) out sound writes = (sound, writes)
+reading_written a bytes was_read source (Ok u) out all sound writes = (all, sound, writes)
+reading_written a bytes was_read source (Err (Error e)) out all sound writes = (all, sound, writes)
+reading_written a bytes was_read source (Err (Table e)) out all sound writes = (all, sound, writes)
+reading_written a bytes was_read source (Err TableOpen) out all sound never = absurd never
+reading_written a bytes was_read source (Err Memory) out all sound never = absurd never
+reading_written a bytes was_read source (Err Read) out all sound never = absurd never
+reading_written a bytes was_read source (Err Write) out all sound writes = (all, sound, writes)
 
 -- ---- a list
 
+no_error : {A E : Type 0} {r : Result A E} {e : E} → IsOk r → r ≡ Err e → ⊥
+no_error {r = Ok a} ok is = cc is
+no_error {r = Err d} ok is = cc ok
+
 -- the list is refused
 pub list_refused : (about : List Address → Answer) (list : List ℕ) (input : SourceUse) (e : Refusal) (out : SinkUse) → RefusesList (ReadFails input list) (listed_cells list) e
-    → ((e ≡ Read → ⊥) → IsSound input) → IsLeft out → WritesReading (answer_or_error about (listed_cells list)) list input (Err e) out
+    → ((e ≡ Read → ⊥) → IsSound input) → IsLeft out → WritesReading (answer_or_error about (listed_cells list)) list (IsReadAsList list) input (Err e) out
 list_refused about list input (Error d) out is sound left =
-    (sound (λ never. cc never), subst (λ cells. Writes (answer_or_error about cells) (Err (Error d)) out) (sym is) (writes_refused d out left))
+    (λ ok. absurd (no_error ok is), sound (λ never. cc never), subst (λ cells. Writes (answer_or_error about cells) (Err (Error d)) out) (sym is) (writes_refused d out left))
 list_refused about list input Memory out is sound left = (sound (λ never. cc never), left)
 list_refused about list input Read out fails sound left = (fails, left)
 list_refused about list input Write out never sound left = absurd never
@@ -45,9 +50,9 @@ list_refused about list input TableOpen out never sound left = absurd never
 
 -- the list is read, and the answer about its cells is written
 pub list_written : (about : List Address → Answer) (list : List ℕ) (cells : List Address) (input : SourceUse) (ending : Result (Unit {0}) Refusal) (out : SinkUse) → listed_cells list ≡ Ok cells
-    → IsSound input → Writes (about cells) ending out → WritesReading (answer_or_error about (listed_cells list)) list input ending out
-list_written about list cells input ending out is sound writes =
-    reading_written _ list input ending out sound (subst (λ read. Writes (answer_or_error about read) ending out) (sym is) writes)
+    → IsWithinReads 65536 list → IsSound input → Writes (about cells) ending out → WritesReading (answer_or_error about (listed_cells list)) list (IsReadAsList list) input ending out
+list_written about list cells input ending out is short sound writes =
+    reading_written _ list _ input ending out (λ ok. short) sound (subst (λ read. Writes (answer_or_error about read) ending out) (sym is) writes)
 
 -- ---- a table
 
@@ -58,39 +63,40 @@ value_refused about value e input table out is left =
     subst (λ c. Ends (with_table about c) input table (Err (Error e)) out) is (writes_refused e out left)
 
 -- an error of the table stands in place of an answer
-table_error : (a : Answer) (first : Option TableError) (e : TableError) (file : List ℕ) (table : SourceUse) (out : SinkUse) → first ≡ Some e → ((e ≡ fault.Read → ⊥) → IsSound table) → IsLeft out → (e ≡ fault.Read → ⊥)
-    → WritesReading (unless_faulty first a) file table (Err (Table e)) out
+table_error : (a : Answer) (first : Option TableError) (e : TableError) (file : List ℕ) (table : SourceUse) (out : SinkUse) → first ≡ Some e → (was_read : Type 0) → ((e ≡ fault.Read → ⊥) → (e ≡ fault.Memory → ⊥) → was_read)
+    → ((e ≡ fault.Read → ⊥) → IsSound table) → IsLeft out → (e ≡ fault.Read → ⊥) → (e ≡ fault.Memory → ⊥) → WritesReading (unless_faulty first a) file was_read table (Err (Table e)) out
 unfolding Writes
-table_error a first e file table out is sound left other =
-    (sound other, subst (λ f. Writes (unless_faulty f a) (Err (Table e)) out) (sym is) (refl, (nothing _ _ left.0, left.1)))
+table_error a first e file table out is was_read all sound left other memory =
+    (all other memory, sound other, subst (λ f. Writes (unless_faulty f a) (Err (Table e)) out) (sym is) (refl, (nothing _ _ left.0, left.1)))
 
-table_refuses : (a : Answer) (first : Option TableError) (e : TableError) (file : List ℕ) (table : SourceUse) (out : SinkUse) → RefusesTable (ReadFails table file) first e → ((e ≡ fault.Read → ⊥) → IsSound table) → IsLeft out
-    → WritesReading (unless_faulty first a) file table (Err (table_refusal e)) out
-table_refuses a first fault.Read file table out fails sound left = (fails, left)
-table_refuses a first fault.Memory file table out any sound left = (sound (λ never. cc never), left)
-table_refuses a first (fault.Form row) file table out is sound left = table_error a first _ file table out is sound left (λ never. cc never)
-table_refuses a first (fault.Range row) file table out is sound left = table_error a first _ file table out is sound left (λ never. cc never)
-table_refuses a first (fault.Repeated row) file table out is sound left = table_error a first _ file table out is sound left (λ never. cc never)
-table_refuses a first fault.Missing file table out is sound left = table_error a first _ file table out is sound left (λ never. cc never)
-table_refuses a first (fault.Neighbours b) file table out is sound left = table_error a first _ file table out is sound left (λ never. cc never)
-table_refuses a first (fault.Reversal b d) file table out is sound left = table_error a first _ file table out is sound left (λ never. cc never)
-table_refuses a first (fault.Corner b d) file table out is sound left = table_error a first _ file table out is sound left (λ never. cc never)
+table_refuses : (a : Answer) (first : Option TableError) (e : TableError) (file : List ℕ) (table : SourceUse) (out : SinkUse) → RefusesTable (ReadFails table file) first e → (was_read : Type 0)
+    → ((e ≡ fault.Read → ⊥) → (e ≡ fault.Memory → ⊥) → was_read) → ((e ≡ fault.Read → ⊥) → IsSound table) → IsLeft out → WritesReading (unless_faulty first a) file was_read table (Err (table_refusal e)) out
+table_refuses a first fault.Read file table out fails was_read all sound left = (fails, left)
+table_refuses a first fault.Memory file table out any was_read all sound left = (sound (λ never. cc never), left)
+table_refuses a first (fault.Form row) file table out is was_read all sound left = table_error a first _ file table out is was_read all sound left (λ never. cc never) (λ never. cc never)
+table_refuses a first (fault.Range row) file table out is was_read all sound left = table_error a first _ file table out is was_read all sound left (λ never. cc never) (λ never. cc never)
+table_refuses a first (fault.Repeated row) file table out is was_read all sound left = table_error a first _ file table out is was_read all sound left (λ never. cc never) (λ never. cc never)
+table_refuses a first fault.Missing file table out is was_read all sound left = table_error a first _ file table out is was_read all sound left (λ never. cc never) (λ never. cc never)
+table_refuses a first (fault.Neighbours b) file table out is was_read all sound left = table_error a first _ file table out is was_read all sound left (λ never. cc never) (λ never. cc never)
+table_refuses a first (fault.Reversal b d) file table out is was_read all sound left = table_error a first _ file table out is was_read all sound left (λ never. cc never) (λ never. cc never)
+table_refuses a first (fault.Corner b d) file table out is was_read all sound left = table_error a first _ file table out is was_read all sound left (λ never. cc never) (λ never. cc never)
 
 -- the table is refused
 pub table_refused_so : {A : Type 0} (about : A → Links → Answer) (read : Result A H3Error) (value : A) (e : TableError) (input table : SourceUse) (out : SinkUse) → Ok value ≡ read
-    → (file : List ℕ) × HasLeft table.left file × RefusesTable (ReadFails table file) (table_fault (records_of file)) e → ((e ≡ fault.Read → ⊥) → IsSound table) → IsLeft out
+    → (file : List ℕ) × HasLeft table.left file × RefusesTable (ReadFails table file) (table_fault (records_of file)) e × ((e ≡ fault.Read → ⊥) → (e ≡ fault.Memory → ⊥) → IsWithinReads 4096 file)
+    → ((e ≡ fault.Read → ⊥) → IsSound table) → IsLeft out
     → Ends (with_table about read) input table (Err (table_refusal e)) out
-table_refused_so about read value e input table out is (file, held, refuses) sound left =
-    subst (λ c. Ends (with_table about c) input table (Err (table_refusal e)) out) is (file, held, table_refuses _ _ e file table out refuses sound left)
+table_refused_so about read value e input table out is (file, held, refuses, all) sound left =
+    subst (λ c. Ends (with_table about c) input table (Err (table_refusal e)) out) is (file, held, table_refuses _ _ e file table out refuses _ all sound left)
 
 -- the table is read, and the answer about its links is written
 pub table_answered : {A : Type 0} (about : A → Links → Answer) (read : Result A H3Error) (value : A) (links : Links) (ending : Result (Unit {0}) Refusal) (input table : SourceUse) (out : SinkUse) → Ok value ≡ read
-    → (file : List ℕ) → HasLeft table.left file → table_fault (records_of file) ≡ None → links ≡ links_of (records_of file) → IsSound table → Writes (about value links) ending out
+    → (file : List ℕ) → HasLeft table.left file → IsWithinReads 4096 file → table_fault (records_of file) ≡ None → links ≡ links_of (records_of file) → IsSound table → Writes (about value links) ending out
     → Ends (with_table about read) input table ending out
-table_answered about read value links ending input table out is file held none same sound writes =
+table_answered about read value links ending input table out is file held short none same sound writes =
     let about_file : Writes (about_table (about value) file) ending out =
     subst (λ f. Writes (unless_faulty f (about value (links_of (records_of file)))) ending out) (sym none) (subst (λ l. Writes (about value l) ending out) same writes) in
-    subst (λ c. Ends (with_table about c) input table ending out) is (file, held, reading_written _ file table ending out sound about_file)
+    subst (λ c. Ends (with_table about c) input table ending out) is (file, held, reading_written _ file _ table ending out short sound about_file)
 
 -- ---- a run
 
@@ -111,16 +117,16 @@ gives_written a (Err TableOpen) status s never w reports = absurd never
 gives_written a (Err Write) status s writes w reports = let failed : s.out.has_failed ≡ true = writes.1.1 in cc
 
 -- the same of an answer to what was read
-gives_reading : (a : Answer) (bytes : List ℕ) (source : SourceUse) (ending : Result (Unit {0}) Refusal) (status : ℕ) (s : Streams) → WritesReading a bytes source ending s.out
+gives_reading : (a : Answer) (bytes : List ℕ) (was_read : Type 0) (source : SourceUse) (ending : Result (Unit {0}) Refusal) (status : ℕ) (s : Streams) → WritesReading a bytes was_read source ending s.out
     → (ReadFails source bytes → ⊥) → s.out.has_failed ≡ false → Reports ending status s.err → Gives a status s ⊎ Gives out_of_memory status s
-gives_reading a bytes source (Ok u) status s writes r w reports = inl (gives_written a (Ok u) status s writes.1 w reports)
-gives_reading a bytes source (Err (Error e)) status s writes r w reports = inl (gives_written a (Err (Error e)) status s writes.1 w reports)
-gives_reading a bytes source (Err (Table e)) status s writes r w reports = inl (gives_written a (Err (Table e)) status s writes.1 w reports)
-gives_reading a bytes source (Err TableOpen) status s writes r w reports = inl (gives_written a (Err TableOpen) status s writes.1 w reports)
-gives_reading a bytes source (Err Memory) status s writes r w reports =
+gives_reading a bytes was_read source (Ok u) status s writes r w reports = inl (gives_written a (Ok u) status s writes.2 w reports)
+gives_reading a bytes was_read source (Err (Error e)) status s writes r w reports = inl (gives_written a (Err (Error e)) status s writes.2 w reports)
+gives_reading a bytes was_read source (Err (Table e)) status s writes r w reports = inl (gives_written a (Err (Table e)) status s writes.2 w reports)
+gives_reading a bytes was_read source (Err TableOpen) status s writes r w reports = inl (gives_written a (Err TableOpen) status s writes.2 w reports)
+gives_reading a bytes was_read source (Err Memory) status s writes r w reports =
     inr (record { output = (nothing _ _ writes.1.0, writes.1.1); report = reports })
-gives_reading a bytes source (Err Read) status s writes r w reports = absurd (r writes.0)
-gives_reading a bytes source (Err Write) status s writes r w reports = inl (gives_written a (Err Write) status s writes.1 w reports)
+gives_reading a bytes was_read source (Err Read) status s writes r w reports = absurd (r writes.0)
+gives_reading a bytes was_read source (Err Write) status s writes r w reports = inl (gives_written a (Err Write) status s writes.2 w reports)
 
 with_memory : {A B : Type 0} (memory : Bool) → IsTrue memory → A ⊎ B → A ⊎ (IsTrue memory × B)
 with_memory memory takes (inl a) = inl a
@@ -138,7 +144,7 @@ answers (of_list about) ending status s (list, held, writes) reports =
       file = file;
       list_told = held;
       file_told = kept;
-      given = λ none. with_memory true refl (gives_reading _ list s.input ending status s writes (none.list_read refl) none.answer_written reports);
+      given = λ none. with_memory true refl (gives_reading _ list _ s.input ending status s writes (none.list_read refl) none.answer_written reports);
     }
 answers (of_table about) ending status s (file, held, writes) reports =
     let (list, kept) = some_held s.input.left in
@@ -147,7 +153,7 @@ answers (of_table about) ending status s (file, held, writes) reports =
       file = file;
       list_told = kept;
       file_told = held;
-      given = λ none. with_memory true refl (gives_reading _ file s.table ending status s writes (none.table_read refl) none.answer_written reports);
+      given = λ none. with_memory true refl (gives_reading _ file _ s.table ending status s writes (none.table_read refl) none.answer_written reports);
     }
 
 -- a run ends so, and reports it

@@ -1,15 +1,15 @@
 -- What a run does with its streams.
-use Rattle.std.specs.Prelude.{◌≡◌, ℕ, ◌≤◌, ◌^◌, ◌⊎◌, Bool, true, false, List, length, Option, Result, Err, IsTrue}
+use Rattle.std.specs.Prelude.{◌≡◌, ℕ, ◌+◌, ◌≤◌, ◌*◌, ◌^◌, ◌⊎◌, Bool, true, false, List, length, Option, Result, Err, IsOk, IsTrue}
 use Rattle.h3_index.specs.Cell.{Address}
 use Rattle.h3_index.specs.Stream.{HasLeft}
 use Rattle.h3_lattice.specs.Links.{Links}
 use Rattle.h3_lines.specs.declared.refusal.Refusal.{Refusal}
 use Rattle.h3_lines.specs.declared.refusal.Refusal.TheVariants.{Memory, Read}
 use Rattle.h3_lines.specs.Answer.{Answer, answer_or_error, out_of_memory}
-use Rattle.h3_command.specs.Answer.{Request, about_table, answer_to, reads_list, reads_table, takes_memory}
 use Rattle.h3_lines.specs.Writing.{IsLeft, Reports, SinkUse, Takes, Writes}
-use Rattle.h3_command.specs.Answer.Request.{plain, of_list, of_table}
 use Rattle.h3_lines.specs.List.{listed_cells}
+use Rattle.h3_command.specs.Answer.{Request, about_table, answer_to, reads_list, reads_table, takes_memory}
+use Rattle.h3_command.specs.Answer.Request.{plain, of_list, of_table}
 
 -- ---- streams
 
@@ -37,25 +37,33 @@ IsSound source = source.has_failed ≡ source.had_failed
 abbrev pub ReadFails : SourceUse → List ℕ → Type 0
 ReadFails source bytes = (source.has_failed ≡ true) ⊎ (2 ^ 40 ≤ length bytes)
 
+-- the bytes were read to their end, in pages of this size: 2^40 reads at most, of which the last finds the end
+abbrev pub IsWithinReads : ℕ → List ℕ → Type 0
+IsWithinReads page bytes = length bytes + page ≤ 2 ^ 40 * page
+
 -- ---- how a run ends
 
--- The answer to these bytes of a source is written, and no read fails. Or there is no memory, or a read fails, and
--- then nothing is written.
-abbrev pub WritesReading : Answer → List ℕ → SourceUse → Result (Unit {0}) Refusal → SinkUse → Type 0
-WritesReading a bytes source (Err Memory) out = IsSound source × IsLeft out
-WritesReading a bytes source (Err Read) out = ReadFails source bytes × IsLeft out
-WritesReading a bytes source ending out = IsSound source × Writes a ending out
+-- The answer to these bytes of a source is written, and no read fails: then this was read. Or there is no memory, or a
+-- read fails, and then nothing is written.
+abbrev pub WritesReading : Answer → List ℕ → Type 0 → SourceUse → Result (Unit {0}) Refusal → SinkUse → Type 0
+WritesReading a bytes was_read source (Err Memory) out = IsSound source × IsLeft out
+WritesReading a bytes was_read source (Err Read) out = ReadFails source bytes × IsLeft out
+WritesReading a bytes was_read source ending out = was_read × IsSound source × Writes a ending out
+
+-- a list with no faulty line is read to its end
+abbrev pub IsReadAsList : List ℕ → Type 0
+IsReadAsList list = IsOk (listed_cells list) → IsWithinReads 65536 list
 
 -- there are bytes of the list, those left in the source where these are known, and the answer about the cells in them
 -- is written
 abbrev pub WritesOfList : (List Address → Answer) → SourceUse → Result (Unit {0}) Refusal → SinkUse → Type 0
 WritesOfList about input ending out =
-    (list : List ℕ) × HasLeft input.left list × WritesReading (answer_or_error about (listed_cells list)) list input ending out
+    (list : List ℕ) × HasLeft input.left list × WritesReading (answer_or_error about (listed_cells list)) list (IsReadAsList list) input ending out
 
--- the same of a table, and the answer about its links
+-- the same of a table, which is read to its end, and the answer about its links
 abbrev pub WritesOfTable : (Links → Answer) → SourceUse → Result (Unit {0}) Refusal → SinkUse → Type 0
 WritesOfTable about table ending out =
-    (file : List ℕ) × HasLeft table.left file × WritesReading (about_table about file) file table ending out
+    (file : List ℕ) × HasLeft table.left file × WritesReading (about_table about file) file (IsWithinReads 4096 file) table ending out
 
 -- how a run ends, by what it asks for
 abbrev pub Ends : Request → SourceUse → SourceUse → Result (Unit {0}) Refusal → SinkUse → Type 0

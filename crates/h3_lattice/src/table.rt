@@ -65,18 +65,17 @@ impl BaseTable {
             (length bytes + 4096 ≤ 2 ^ 40 * 4096) ×
             (table_fault (records_of bytes) ≡ None) × (link_of table ≡ links_of (records_of bytes))) }
         ensures refused { IfErr result (λ e. (bytes : List ℕ) × HasLeft (R.left source.old) bytes ×
-            RefusesTable ((R.has_failed source.new ≡ true) ⊎ (2 ^ 40 ≤ length bytes)) (table_fault (records_of bytes)) e) }
+            RefusesTable ((R.has_failed source.new ≡ true) ⊎ (2 ^ 40 ≤ length bytes)) (table_fault (records_of bytes)) e ×
+            (e ≢ TableError.Read → e ≢ TableError.Memory → length bytes + 4096 ≤ 2 ^ 40 * 4096)) }
         ensures sound { IfOk result (λ table. IsSound (link_of table)) }
 
         // A read that fails is never passed over.
         ensures kept { result ≢ Err TableError.Read → R.has_failed source.new ≡ R.has_failed source.old }
 
-        // A table is accepted or refused for what is in it only after all of it was read, in 2^40 reads of a page,
-        // of which the last finds the end.
+        // A table is accepted or refused for what is in it only after all of it was read: in 2^40 reads of a page, of
+        // which the last finds the end.
         ensures whole { result ≢ Err TableError.Read → result ≢ Err TableError.Memory →
             (bytes : List ℕ) → R.left source.old ≡ Some bytes → R.left source.new ≡ Some [] }
-        ensures limited { result ≢ Err TableError.Read → result ≢ Err TableError.Memory →
-            (bytes : List ℕ) → R.left source.old ≡ Some bytes → length bytes + 4096 ≤ 2 ^ 40 * 4096 }
 
         // Laws of the definitions above: which files have no fault, and which fault is the first.
         ensures exact { SoundFilesAreAccepted }

@@ -26,4 +26,4 @@ returns-in_err-table-clause-ends g c input =
 pub returns-clause-ends : goal.returns-clause-ends
 returns-clause-ends g c input =
     let (file, held, short, none, same) = c.in_ok-table.ensures.accepted in
-    table_answered about _ _ (link_of c.in_ok-table.table) _ input _ _ c.in_ok-origin.ensures file held none same (c.in_ok-table.ensures.kept (λ is. cc is)) (rw c.edge_between.ensures.is at c.write_result.ensures)
+    table_answered about _ _ (link_of c.in_ok-table.table) _ input _ _ c.in_ok-origin.ensures file held short none same (c.in_ok-table.ensures.kept (λ is. cc is)) (rw c.edge_between.ensures.is at c.write_result.ensures)

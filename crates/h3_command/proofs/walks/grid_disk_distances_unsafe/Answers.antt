@@ -28,4 +28,4 @@ pub returns-clause-ends : goal.returns-clause-ends
 returns-clause-ends g c input =
     let (file, held, short, none, same) = c.in_ok-table.ensures.accepted in
     let read : to_z w32 (of_z w32 c.args.k) ≡ c.args.k = to_z-of_z w32 c.args.k (search rules) in
-    table_answered (about c.args.k) _ _ (link_of c.in_ok-table.table) _ input _ _ c.in_ok-cell.ensures file held none same (c.in_ok-table.ensures.kept (λ is. cc is)) (rw read at c.write_disk_distances.ensures)
+    table_answered (about c.args.k) _ _ (link_of c.in_ok-table.table) _ input _ _ c.in_ok-cell.ensures file held short none same (c.in_ok-table.ensures.kept (λ is. cc is)) (rw read at c.write_disk_distances.ensures)

@@ -11,18 +11,29 @@ pub returns-in_err-text-clause-refused : goal.returns-in_err-text-clause-refused
 returns-in_err-text-clause-refused g c =
     let p = err_from_is_err_and c.from_residual.result c.from_residual.ensures.1 in
     let (bytes, left, why) = c.in_err-text.ensures.refused in
-    rw (p.1, p.2) (bytes, left, stops _ _ _ why)
+    rw (p.1, p.2) (
+      bytes,
+      left,
+      stops _ _ _ why,
+      λ read memory. elim why [ inl out_of_memory ↦ absurd (memory out_of_memory) | inr failed ↦ absurd (read failed.0) ],
+    )
 
 pub returns-in_err-slots-clause-refused : goal.returns-in_err-slots-clause-refused
 returns-in_err-slots-clause-refused g c =
     let p = err_from_is_err_and c.from_residual-in_err-slots.result c.from_residual-in_err-slots.ensures.1 in
-    rw (p.1, p.2) (c.in_ok-text.text.items, c.in_ok-text.ensures.bytes.0, refuses_records _ c.as_slice.result.now _ _ c.as_slice.ensures.value c.in_err-slots.ensures.refused)
+    rw (p.1, p.2) (
+      c.in_ok-text.text.items,
+      c.in_ok-text.ensures.bytes.0,
+      refuses_records _ c.as_slice.result.now _ _ c.as_slice.ensures.value c.in_err-slots.ensures.refused,
+      λ read memory. c.in_ok-text.ensures.bytes.1,
+    )
 
 pub returns-in-Some-clause-refused : goal.returns-in-Some-clause-refused
 returns-in-Some-clause-refused g c = (
   c.in_ok-text.text.items,
   c.in_ok-text.ensures.bytes.0,
   refuses_missing _ c.in_ok-slots.slots c.as_slice.result.now _ c.first_missing.result c.in-Some.fault c.as_slice.ensures.value c.in_ok-slots.ensures.read c.first_missing.ensures c.in-Some.is,
+  λ read memory. c.in_ok-text.ensures.bytes.1,
 )
 
 pub returns-clause-accepted : goal.returns-clause-accepted
@@ -39,6 +50,7 @@ returns-clause-refused g c = IfErr-weaker c.new.result _ _
       c.in_ok-text.ensures.bytes.0,
       refuses_links _ c.in_ok-slots.slots c.filled.result c.as_slice.result.now _ c.first_missing.result e c.as_slice.ensures.value
           c.in_ok-slots.ensures.read c.first_missing.ensures c.in-None.is c.filled.ensures.same done,
+      λ read memory. c.in_ok-text.ensures.bytes.1,
     )) c.new.ensures.refused
 
 pub returns-in_err-text-clause-exact : goal.returns-in_err-text-clause-exact
