@@ -3,11 +3,11 @@ use Rattle.std.specs.Prelude.{◌≡◌, ◌⊎◌, ℕ, false, List, [], Option
 use Rattle.clap.specs.Words.{Text, fault_of}
 use Rattle.std.specs.Io.KnownBytes.{Appends}
 use Rattle.h3_lines.specs.Answer.{written}
-use Rattle.h3_command.specs.Answer.{Request, reads_list, reads_table, request}
 use Rattle.h3_lines.specs.Writing.{AppendsPart, IsLeft, Reports, Writes}
-use Rattle.h3_command.specs.Run.{Runs, SourceUse, Streams}
 use Rattle.h3_lines.specs.declared.refusal.Refusal.{Refusal}
 use Rattle.h3_lines.specs.declared.refusal.Refusal.TheVariants as refusal
+use Rattle.h3_command.specs.Answer.{Request, reads_list, reads_table, request}
+use Rattle.h3_command.specs.Run.{Runs, SourceUse, Streams}
 use Rattle.h3_cli.specs.Call.{IsPlainCall}
 use Rattle.h3_cli.specs.Commands.{app}
 use Rattle.h3_cli.specs.Faults.{IsFaultOf}

@@ -1,8 +1,8 @@
 //! The whole program but for what only the system can give: words, the standard streams, and files.
 
 ghost use Rattle.std.specs.Prelude.{◌≡◌, map, string_bytes, option_map, Result};
-ghost use Rattle.h3_command.specs.Answer.{request};
 ghost use Rattle.h3_lines.specs.Writing.{sink_use};
+ghost use Rattle.h3_command.specs.Answer.{request};
 ghost use Rattle.h3_command.specs.Run.{source_use};
 ghost use Rattle.h3_cli.specs.Program.{Follows, ParsesAs, RunsCommand};
 ghost use Rattle.h3_cli.specs.declared.words.Words.{Words};

@@ -1,5 +1,5 @@
 -- How a run ends that reads a list or a table, and what a run does whose ending is known.
-use Rattle.std.proofs.Common.{◌≡◌, ℕ, ◌⊎◌, Bool, true, false, List, Option, None, Some, Result, Ok, Err, IsOk, IsTrue, OnOk, OnErr, [], append-nil, sym, subst, refl, inl, inr}
+use Rattle.std.proofs.Common.{◌≡◌, ℕ, ◌⊎◌, Bool, true, false, List, Option, None, Some, Result, Ok, Err, IsOk, IsTrue, [], sym, subst, refl, inl, inr}
 use Rattle.h3_index.specs.Cell.{Address}
 use Rattle.h3_index.specs.Stream.{HasLeft}
 use Rattle.h3_index.specs.declared.error.H3Error.{H3Error}
@@ -9,13 +9,13 @@ use Rattle.h3_lattice.specs.Table.{RefusesTable, links_of, table_fault}
 use Rattle.h3_lattice.specs.declared.error.TableError.{TableError}
 use Rattle.h3_lattice.specs.declared.error.TableError.TheVariants as fault
 use Rattle.h3_lines.specs.Answer.{Answer, answer_or_error, out_of_memory}
-use Rattle.h3_command.specs.Answer.{Request, about_table, with_table, unless_faulty}
-use Rattle.h3_command.specs.Answer.Request.{of_list, of_table, plain}
 use Rattle.h3_lines.specs.List.{RefusesList, listed_cells}
 use Rattle.h3_lines.specs.Refusal.{table_refusal}
 use Rattle.h3_lines.specs.declared.refusal.Refusal.{Refusal}
 use Rattle.h3_lines.specs.declared.refusal.Refusal.TheVariants.{Error, Memory, Read, Write, Table, TableOpen}
 use Rattle.h3_lines.specs.Writing.{IsLeft, Reports, SinkUse, Writes}
+use Rattle.h3_command.specs.Answer.{Request, about_table, with_table, unless_faulty}
+use Rattle.h3_command.specs.Answer.Request.{of_list, of_table, plain}
 use Rattle.h3_command.specs.Run.{Answers, Ends, Gives, IsReadAsList, IsSound, IsWithinReads, ReadFails, Runs, SourceUse, Streams, WritesReading}
 use Rattle.h3_command.proofs.Written.{nothing, writes_refused}
 

@@ -7,10 +7,10 @@ use Rattle.h3_lattice.specs.Links.{Links}
 use Rattle.h3_lattice.specs.Table.{links_of, table_fault}
 use Rattle.h3_lattice.specs.declared.error.TableError.{TableError}
 use Rattle.h3_lines.specs.Answer.{Answer, answer_or_error, cell_line, cell_lines, edge_line, edge_lines, number_line, printed, refused, ring_line, table_refused, truth_line, walked, written}
+use Rattle.h3_lines.specs.List.{listed_cells}
 use Rattle.h3_command.specs.Edges.{are_neighbor_cells, cell_pair_of, cells_to_directed_edge, edge_of, get_directed_edge_destination, get_directed_edge_origin, is_valid_directed_edge, origin_to_directed_edges}
 use Rattle.h3_command.specs.Hierarchy.{cell_to_center_child, cell_to_child_pos, cell_to_children, cell_to_children_size, cell_to_parent, child_pos_to_cell}
 use Rattle.h3_command.specs.Inspection.{cell_of, get_base_cell_number, get_resolution, is_pentagon, is_res_class_iii, is_valid_cell}
-use Rattle.h3_lines.specs.List.{listed_cells}
 use Rattle.h3_command.specs.Resolutions.{get_num_cells, get_pentagons, get_res0_cells}
 use Rattle.h3_command.specs.Sets.{compact_cells, uncompact_cells}
 use Rattle.h3_command.specs.Walks.{grid_disk_distances_unsafe, grid_disk_unsafe, grid_ring_unsafe}

@@ -6,10 +6,10 @@ use Rattle.h3_lattice.specs.Links.{Links}
 use Rattle.h3_lines.specs.declared.refusal.Refusal.{Refusal}
 use Rattle.h3_lines.specs.declared.refusal.Refusal.TheVariants.{Memory, Read}
 use Rattle.h3_lines.specs.Answer.{Answer, answer_or_error, out_of_memory}
-use Rattle.h3_command.specs.Answer.{Request, about_table, answer_to, reads_list, reads_table, takes_memory}
 use Rattle.h3_lines.specs.Writing.{IsLeft, Reports, SinkUse, Takes, Writes}
-use Rattle.h3_command.specs.Answer.Request.{plain, of_list, of_table}
 use Rattle.h3_lines.specs.List.{listed_cells}
+use Rattle.h3_command.specs.Answer.{Request, about_table, answer_to, reads_list, reads_table, takes_memory}
+use Rattle.h3_command.specs.Answer.Request.{plain, of_list, of_table}
 
 -- ---- streams
 

@@ -11,37 +11,20 @@ use std::process::Abort;
 /// The line of a write fault.
 const WRITE_FAULT: &str = "fault: write\n";
 
-/// The pushes of a line, at most so many bytes each.
-fn pushes_of(line: &str, most: u64) -> u64 {
-    let length = line.len() as u64;
-    length.saturating_add(1).div_ceil(most.max(1))
-}
-
-/// The pushes and flushes that an answer takes: each line goes out by pushes of its own, and the
+/// The pushes and flushes that an answer takes: it goes out as one block, since it is short, and the
 /// end, or an error after lines, is flushed.
 fn calls_of(case: &Case<'_>, most: u64) -> u64 {
-    let mut calls = 0u64;
-    for line in case.output.lines() {
-        calls = calls.saturating_add(pushes_of(line, most));
-    }
-    if case.status == 0 || calls > 0 {
-        calls.saturating_add(1)
+    let pushes = (case.output.len() as u64).div_ceil(most.max(1));
+    if case.status == 0 || pushes > 0 {
+        pushes.saturating_add(1)
     } else {
-        calls
+        pushes
     }
 }
 
 /// The bytes that so many calls write.
 fn bytes_after(case: &Case<'_>, most: u64, calls: u64) -> u64 {
-    let mut left = calls;
-    let mut written = 0u64;
-    for line in case.output.lines() {
-        let length = line.len() as u64;
-        let pushed = left.saturating_mul(most).min(length.saturating_add(1));
-        written = written.saturating_add(pushed);
-        left = left.saturating_sub(pushes_of(line, most));
-    }
-    written
+    calls.saturating_mul(most).min(case.output.len() as u64)
 }
 
 /// Asserts that the whole answer is given, by so many pushes, and one flush or none.
