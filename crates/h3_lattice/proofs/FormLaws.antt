@@ -13,15 +13,15 @@ use Rattle.h3_lattice.specs.Direction.{digit_of, directions}
 use Rattle.h3_lattice.specs.declared.format.Format.{Format}
 use Rattle.h3_lattice.specs.declared.format.Format.TheVariants.{One, Two}
 use Rattle.h3_lattice.specs.Fields.{Record, numbers_in, same_fields}
-use Rattle.h3_lattice.specs.Format.{first_digit, header_format, format_after, header, in_range, link_in, width}
+use Rattle.h3_lattice.specs.Format.{own_digit, header_format, format_after, header, in_range, link_in, width}
 use Rattle.h3_lattice.specs.FormatOne.{header_one}
 use Rattle.h3_lattice.specs.FormatTwo.{header_two, is_link_two, link_at_digit}
 use Rattle.h3_lattice.specs.Links.{IsHexagonBase, IsLink, IsSound, is_hexagon_base}
 use Rattle.h3_lattice.specs.Checks.{at_places, fault_of_links}
 use Rattle.h3_lattice.specs.Records.{body_of, fault_in, fault_of, fault_of_records, first_fault, format_of, record_link, spelled_link}
-use Rattle.h3_lattice.specs.Table.{IsLinkRecord, IsOfForm, SoundFilesAreAccepted, links_of, missing_of, names, table_fault}
+use Rattle.h3_lattice.specs.Table.{IsLinkRecord, IsOfForm, SoundFilesAreAccepted, has_link, links_of, missing_of, table_fault}
 use Rattle.h3_lattice.proofs.ReadingLaws.{told-under}
-use Rattle.h3_lattice.proofs.SlotLaws.{first_place, free-links, free-slot, in_range_one-true, in_range_two-true, spelled_link-append}
+use Rattle.h3_lattice.proofs.SlotLaws.{first_place, free-links, free-slot, in_range_one-parts, in_range_one-true, in_range_two-true, spelled_link-append}
 use Rattle.h3_lattice.proofs.SoundLaws.{and_both, both, checks_mean_sound, direction_below, from_base-none, hexagon_of, is_hexagon_of, no_fault, no_fault_at, nones, nth_direction, true-nat_lt, unless-none}
 
 -- ---- fields
@@ -63,17 +63,17 @@ cond_is false n = refl
 
 -- how many records name a base cell and a direction
 count : Format → ℕ → ℕ → List Record → ℕ
-count format b d body = count_by (names format b d) body
+count format b d body = count_by (has_link format b d) body
 
 count-none : (format : Format) (b d : ℕ) → count format b d [] ≡ 0
 unfolding count
 count-none format b d = refl
 
-count-cons : (format : Format) (b d : ℕ) (r : Record) (body : List Record) → count format b d (r ∷ body) ≡ one_if (names format b d r) + count format b d body
+count-cons : (format : Format) (b d : ℕ) (r : Record) (body : List Record) → count format b d (r ∷ body) ≡ one_if (has_link format b d r) + count format b d body
 unfolding count
-count-cons format b d r body = sum_by-cons _ r body ∙ cond_is (names format b d r) (count_by (names format b d) body)
+count-cons format b d r body = sum_by-cons _ r body ∙ cond_is (has_link format b d r) (count_by (has_link format b d) body)
 
--- there is a link where some record names the place
+-- there is a link where some record has one for the place
 one_or_more : (o p : Option (ℕ × ℕ)) (n : ℕ) → (is_some p ≡ true → 1 ≤ n) → is_some (option_or o p) ≡ true → 1 ≤ one_if (is_some o) + n
 unfolding one_if
 one_or_more None p n h e = let k = h e in omega arith
@@ -98,7 +98,7 @@ counts-spelled format b d (r ∷ body) e =
 
 -- ---- records without a fault
 
--- at most one record names a place, where one more without a fault comes after others
+-- at most one record has a link for a place, where one more without a fault comes after others
 more-room : (b d : ℕ) (before : Option (ℕ × ℕ)) (here : Option (ℕ × ℕ)) (n : ℕ) → (is_some here ≡ true → before ≡ None)
     → n + one_if (is_some (option_or before here)) ≤ 1 → one_if (is_some here) + n + one_if (is_some before) ≤ 1
 unfolding one_if
@@ -113,10 +113,10 @@ less-room None None n h = omega arith
 less-room None (Some x) n h = omega arith
 less-room (Some y) here n h = let k = one_if-le (is_some here) in omega arith
 
--- the numbers of a record without a fault are in their ranges, and no record before it names its place
+-- the numbers of a record without a fault are in their ranges, and no record before it has a link for its place
 record IsFree (format : Format) (before : List Record) (r : Record) : Type 0 where
   pub link : IsLinkRecord format r
-  pub free : (b d : ℕ) → names format b d r ≡ true → spelled_link format b d before ≡ None
+  pub free : (b d : ℕ) → has_link format b d r ≡ true → spelled_link format b d before ≡ None
 
 free_of : (format : Format) (row : ℕ) (before : List Record) (r : Record) (o : Option (List ℕ)) → numbers_in (width format) r ≡ o
     → fault_in format row (λ b d. spelled_link format b d before) o ≡ None → IsFree format before r
@@ -151,11 +151,11 @@ rest_of front before (r ∷ rest) e =
 -- ---- records of the form have no fault
 
 fault_in-none : (format : Format) (row : ℕ) (before : List Record) (r : Record) (k : IsLinkRecord format r)
-    → is_some (spelled_link format (slice_index k.numbers 0) (first_digit format k.numbers) before) ≡ false
+    → is_some (spelled_link format (slice_index k.numbers 0) (own_digit format k.numbers) before) ≡ false
     → fault_in format row (λ b d. spelled_link format b d before) (numbers_in (width format) r) ≡ None
 fault_in-none format row before r k e = rw (k.spelled, k.ranges, e) refl
 
-own_link : (format : Format) (ns : List ℕ) → is_some (link_in format (slice_index ns 0) (first_digit format ns) ns) ≡ true
+own_link : (format : Format) (ns : List ℕ) → is_some (link_in format (slice_index ns 0) (own_digit format ns) ns) ≡ true
 own_link One ns =
     let first : (slice_index ns 0 == slice_index ns 0) ≡ true = grind (arith, nat_tests) in
     let second : (slice_index ns 1 == slice_index ns 1) ≡ true = grind (arith, nat_tests) in
@@ -164,7 +164,7 @@ own_link Two ns =
     let first : (slice_index ns 0 == slice_index ns 0) ≡ true = grind (arith, nat_tests) in
     rw first refl
 
-names-own : (format : Format) (r : Record) (k : IsLinkRecord format r) → names format (slice_index k.numbers 0) (first_digit format k.numbers) r ≡ true
+names-own : (format : Format) (r : Record) (k : IsLinkRecord format r) → has_link format (slice_index k.numbers 0) (own_digit format k.numbers) r ≡ true
 names-own format r k = rw k.spelled (own_link format k.numbers)
 
 none_before : (b : Bool) (n m : ℕ) → n ≡ 1 → n + m + one_if b ≤ 1 → b ≡ false
@@ -177,14 +177,8 @@ unfolding one_if
 one_if-true true e = refl
 one_if-true false e = cc e
 
-first_of : (a b c d e : Bool) → a && b && c && d && e ≡ true → a ≡ true
-first_of true b c d e h = refl
-first_of false b c d e h = cc h
-
 in_range-hexagon : (format : Format) (ns : List ℕ) → in_range format ns ≡ true → IsHexagonBase (slice_index ns 0)
-in_range-hexagon One ns h =
-    hexagon_of (slice_index ns 0)
-    (first_of (is_hexagon_base (slice_index ns 0)) (nat_lt 0 (slice_index ns 1)) (nat_lt (slice_index ns 1) 7) (nat_lt (slice_index ns 2) 122) (nat_lt (slice_index ns 3) 6) h)
+in_range-hexagon One ns h = hexagon_of (slice_index ns 0) (in_range_one-parts ns h).0
 in_range-hexagon Two ns h = hexagon_of (slice_index ns 0) (and_both (is_hexagon_base (slice_index ns 0)) (list_all (is_link_two ns) directions) h).0
 
 AtMostOnce : Format → List Record → List Record → Type 0
@@ -197,11 +191,11 @@ first_fault-none front before (r ∷ rest) each most =
     let format = format_after front in
     let k = All-head (IsLinkRecord format) r rest each in
     let base = slice_index k.numbers 0 in
-    let digit = first_digit format k.numbers in
+    let digit = own_digit format k.numbers in
     let range = first_place format k.numbers k.ranges in
     let hexagon : IsHexagonBase base = in_range-hexagon format k.numbers k.ranges in
     let room = rw (count-cons format base digit r rest) at (most base digit hexagon range.1 range.2) in
-    let none = none_before (is_some (spelled_link format base digit before)) _ (count format base digit rest) (one_if-true (names format base digit r) (names-own format r k)) room in
+    let none = none_before (is_some (spelled_link format base digit before)) _ (count format base digit rest) (one_if-true (has_link format base digit r) (names-own format r k)) room in
     nones (fault_of (front ∷ before) r) (first_fault (front ∷ (before ++ r ∷ [])) rest) (fault_in-none format (length before + 2) before r k none)
     (first_fault-none front (before ++ r ∷ []) rest (All-tail (IsLinkRecord format) r rest each)
     (λ b d h low high. rw (spelled_link-append format b d before r)
@@ -260,7 +254,7 @@ some_told : (o : Option Format) → (if is_some o then None else Some (fault.For
 some_told None e = cc e
 some_told (Some x) e = refl
 
-one_of : (format : Format) (b d : ℕ) (body : List Record) (more : ℕ) → 1 ≤ count format b d body → count format b d body + more ≤ 1 → count_by (names format b d) body ≡ 1
+one_of : (format : Format) (b d : ℕ) (body : List Record) (more : ℕ) → 1 ≤ count format b d body → count format b d body + more ≤ 1 → count_by (has_link format b d) body ≡ 1
 unfolding count
 one_of format b d body more h k = omega arith
 
@@ -295,7 +289,7 @@ at_most_once : (records : List Record) (f : IsOfForm records) → AtMostOnce f.f
 unfolding AtMostOnce count
 at_most_once records f b d h low high =
     let is = direction_below d low high in
-    none_more f.format b d (count_by (names f.format b d) (body_of records)) (rw is at (f.once b (nth_direction d) h))
+    none_more f.format b d (count_by (has_link f.format b d) (body_of records)) (rw is at (f.once b (nth_direction d) h))
 
 begin_with_header : (format : Format) (body : List Record) → first_fault (header format ∷ []) body ≡ None → first_fault [] (header format ∷ body) ≡ None
 unfolding first_fault

@@ -10,7 +10,7 @@ use Rattle.h3_lattice.specs.declared.checks.Check.TheVariants as check
 use Rattle.h3_lattice.specs.Direction.{digit_of, directions}
 use Rattle.h3_lattice.specs.declared.format.Format.{Format}
 use Rattle.h3_lattice.specs.Fields.{Record, numbers_in}
-use Rattle.h3_lattice.specs.Format.{first_digit, header_format, format_after, in_range, width}
+use Rattle.h3_lattice.specs.Format.{own_digit, header_format, format_after, in_range, width}
 use Rattle.h3_lattice.specs.Links.{Links, is_hexagon_base}
 use Rattle.h3_lattice.specs.Checks.{at_places, closes, fault_at, fault_of_links, from_base, in_directions, is_apart, reverses}
 use Rattle.h3_lattice.specs.Records.{body_of, fault_in, fault_of, fault_of_records, first_fault, format_of, spelled_link}
@@ -66,8 +66,8 @@ fault_at-kind check.Corner link b d = if_kind 5 (closes link b d) None (Some (fa
 fault_in-kind : (format : Format) (row : ℕ) (known : ℕ → ℕ → Option (ℕ × ℕ)) (o : Option (List ℕ)) → IsKind 1 (fault_in format row known o)
 fault_in-kind format row known None = refl
 fault_in-kind format row known (Some ns) =
-    if_kind 1 (not (in_range format ns)) (Some (fault.Range row)) (if is_some (known (slice_index ns 0) (first_digit format ns)) then Some (fault.Repeated row) else None) refl
-    (if_kind 1 (is_some (known (slice_index ns 0) (first_digit format ns))) (Some (fault.Repeated row)) None refl tt)
+    if_kind 1 (not (in_range format ns)) (Some (fault.Range row)) (if is_some (known (slice_index ns 0) (own_digit format ns)) then Some (fault.Repeated row) else None) refl
+    (if_kind 1 (is_some (known (slice_index ns 0) (own_digit format ns))) (Some (fault.Repeated row)) None refl tt)
 
 fault_of-kind : (before : List Record) (r : Record) → IsKind 1 (fault_of before r)
 fault_of-kind [] r = if_kind 1 (is_some (header_format r)) None (Some (fault.Form 1)) tt refl

@@ -12,10 +12,10 @@ use Rattle.h3_lattice.specs.declared.format.Format.{Format}
 use Rattle.h3_lattice.specs.declared.format.Format.TheVariants.{One, Two}
 use Rattle.h3_lattice.specs.Direction.{digit_of, directions}
 use Rattle.h3_lattice.specs.Fields.{Record, numbers_in}
-use Rattle.h3_lattice.specs.Format.{first_digit, in_range, link_in, width}
+use Rattle.h3_lattice.specs.Format.{own_digit, in_range, link_in, width}
 use Rattle.h3_lattice.specs.FormatOne.{in_range_one, link_one}
 use Rattle.h3_lattice.specs.FormatTwo.{in_range_two, is_link_two, link_at_digit, link_two}
-use Rattle.h3_lattice.specs.Links.{IsLink, is_hexagon_base, place_of}
+use Rattle.h3_lattice.specs.Links.{IsLink, is_hexagon_base, is_link, place_of}
 use Rattle.h3_lattice.specs.Records.{fault_in, record_link, spelled_link}
 use Rattle.h3_lattice.specs.Slots.{Holds, IsInRangeOne, IsInRangeTwo, Takes}
 use Rattle.h3_lattice.proofs.SoundLaws.{and_both, direction_below, eqb-eq, nth_direction, true-nat_lt}
@@ -42,13 +42,27 @@ spelled_link-none format b d = refl
 
 -- ---- numbers in range
 
-pub in_range_one-true : (ns : List ℕ) → in_range_one ns ≡ true → IsInRangeOne ns
-unfolding is_hexagon_base
-in_range_one-true ns e = grind (arith, nat_tests)
-
 hexagon_below : (b : ℕ) → is_hexagon_base b ≡ true → b < 122
 unfolding is_hexagon_base
 hexagon_below b e = grind (arith, nat_tests)
+
+-- numbers in range in format 1, test by test
+pub in_range_one-parts : (ns : List ℕ) → in_range_one ns ≡ true
+    → (is_hexagon_base (slice_index ns 0) ≡ true) × (nat_lt 0 (slice_index ns 1) ≡ true) × (nat_lt (slice_index ns 1) 7 ≡ true) × (is_link (slice_index ns 2, slice_index ns 3) ≡ true)
+in_range_one-parts ns e =
+    let last = and_both (is_hexagon_base (slice_index ns 0) && nat_lt 0 (slice_index ns 1) && nat_lt (slice_index ns 1) 7) (is_link (slice_index ns 2, slice_index ns 3)) e in
+    let third = and_both (is_hexagon_base (slice_index ns 0) && nat_lt 0 (slice_index ns 1)) (nat_lt (slice_index ns 1) 7) last.0 in
+    let second = and_both (is_hexagon_base (slice_index ns 0)) (nat_lt 0 (slice_index ns 1)) third.0 in
+    (second.0, second.1, third.1, last.1)
+
+link-true : (link : ℕ × ℕ) → is_link link ≡ true → IsLink link
+link-true link e = let two = and_both (nat_lt link.0 122) (nat_lt link.1 6) e in (true-nat_lt link.0 122 two.0, true-nat_lt link.1 6 two.1)
+
+pub in_range_one-true : (ns : List ℕ) → in_range_one ns ≡ true → IsInRangeOne ns
+in_range_one-true ns e =
+    let p = in_range_one-parts ns e in
+    let link = link-true (slice_index ns 2, slice_index ns 3) p.3 in
+    (hexagon_below (slice_index ns 0) p.0, true-nat_lt 0 (slice_index ns 1) p.1, true-nat_lt (slice_index ns 1) 7 p.2, link.0, link.1)
 
 pub each-direction : (p : Direction → Bool) (d : Direction) → list_all p directions ≡ true → p d ≡ true
 each-direction p K e = (and_both (p K) _ e).0
@@ -58,20 +72,17 @@ each-direction p I e = (and_both (p I) _ (and_both (p JK) _ (and_both (p J) _ (a
 each-direction p IK e = (and_both (p IK) _ (and_both (p I) _ (and_both (p JK) _ (and_both (p J) _ (and_both (p K) _ e).1).1).1).1).0
 each-direction p IJ e = (and_both (p IJ) _ (and_both (p IK) _ (and_both (p I) _ (and_both (p JK) _ (and_both (p J) _ (and_both (p K) _ e).1).1).1).1).1).0
 
-link_two-within : (ns : List ℕ) (d : Direction) → is_link_two ns d ≡ true → IsLink (link_at_digit (digit_of d) ns)
-link_two-within ns d e = let two = and_both (nat_lt (link_at_digit (digit_of d) ns).0 122) (nat_lt (link_at_digit (digit_of d) ns).1 6) e in (true-nat_lt (link_at_digit (digit_of d) ns).0 122 two.0, true-nat_lt (link_at_digit (digit_of d) ns).1 6 two.1)
-
 pub in_range_two-true : (ns : List ℕ) → in_range_two ns ≡ true → IsInRangeTwo ns
 in_range_two-true ns e =
     let two = and_both (is_hexagon_base (slice_index ns 0)) (list_all (is_link_two ns) directions) e in (
       hexagon_below (slice_index ns 0) two.0,
       λ d low high.
           let is = direction_below d low high in
-          rw is at (link_two-within ns (nth_direction d) (each-direction (is_link_two ns) (nth_direction d) two.1)),
+          rw is at (link-true (link_at_digit (digit_of (nth_direction d)) ns) (each-direction (is_link_two ns) (nth_direction d) two.1)),
     )
 
 -- what all formats have of numbers in range: a hexagon base cell, and a first digit
-pub first_place : (format : Format) (ns : List ℕ) → in_range format ns ≡ true → (slice_index ns 0 < 122) × (0 < first_digit format ns) × (first_digit format ns < 7)
+pub first_place : (format : Format) (ns : List ℕ) → in_range format ns ≡ true → (slice_index ns 0 < 122) × (0 < own_digit format ns) × (own_digit format ns < 7)
 first_place One ns e = let k = in_range_one-true ns e in (k.0, k.1, k.2)
 first_place Two ns e = ((in_range_two-true ns e).0, omega arith, omega arith)
 
@@ -84,14 +95,14 @@ same_if known other row true h = rw (h refl) refl
 same_if known other row false h = refl
 
 pub fault-same : (format : Format) (known other : ℕ → ℕ → Option (ℕ × ℕ)) (row : ℕ) (o : Option (List ℕ))
-    → ((ns : List ℕ) → in_range format ns ≡ true → known (slice_index ns 0) (first_digit format ns) ≡ other (slice_index ns 0) (first_digit format ns)) → fault_in format row known o ≡ fault_in format row other o
+    → ((ns : List ℕ) → in_range format ns ≡ true → known (slice_index ns 0) (own_digit format ns) ≡ other (slice_index ns 0) (own_digit format ns)) → fault_in format row known o ≡ fault_in format row other o
 fault-same format known other row None h = refl
-fault-same format known other row (Some ns) h = same_if (known (slice_index ns 0) (first_digit format ns)) (other (slice_index ns 0) (first_digit format ns)) row (in_range format ns) (h ns)
+fault-same format known other row (Some ns) h = same_if (known (slice_index ns 0) (own_digit format ns)) (other (slice_index ns 0) (own_digit format ns)) row (in_range format ns) (h ns)
 
 pub fault-held : (format : Format) (slots : List (Option (ℕ × ℕ))) (body : List Record) (row : ℕ) (o : Option (List ℕ)) → Holds format slots body
     → fault_in format row (λ b d. slice_index_or slots (place_of b d) None) o ≡ fault_in format row (λ b d. spelled_link format b d body) o
 fault-held format slots body row o h = fault-same format (λ b d. slice_index_or slots (place_of b d) None) (λ b d. spelled_link format b d body) row o
-    (λ ns e. let k = first_place format ns e in h.same (slice_index ns 0) (first_digit format ns) k.1 k.2)
+    (λ ns e. let k = first_place format ns e in h.same (slice_index ns 0) (own_digit format ns) k.1 k.2)
 
 -- no slot is known before the first record
 none_known : (n i : ℕ) → slice_index_or {A = Option (ℕ × ℕ)} (replicate n None) i None ≡ None
@@ -112,8 +123,8 @@ range_free row None true e = (refl, refl)
 range_free row (Some p) true e = cc e
 
 pub free-slot : (format : Format) (row : ℕ) (known : ℕ → ℕ → Option (ℕ × ℕ)) (ns : List ℕ) → fault_in format row known (Some ns) ≡ None
-    → (in_range format ns ≡ true) × (known (slice_index ns 0) (first_digit format ns) ≡ None)
-free-slot format row known ns e = range_free row (known (slice_index ns 0) (first_digit format ns)) (in_range format ns) e
+    → (in_range format ns ≡ true) × (known (slice_index ns 0) (own_digit format ns) ≡ None)
+free-slot format row known ns e = range_free row (known (slice_index ns 0) (own_digit format ns)) (in_range format ns) e
 
 -- ---- a record's links come together
 
@@ -153,7 +164,7 @@ spelled_two-first b d (r ∷ body) e =
     none_or (record_link Two b d r) (spelled_link Two b d body) (record_link-first b d r (numbers_in 13 r) two.0) (spelled_two-first b d body two.1)
 
 -- no record before has a link that numbers without a fault have
-pub free-links : (format : Format) (b d : ℕ) (ns : List ℕ) (body : List Record) → spelled_link format (slice_index ns 0) (first_digit format ns) body ≡ None
+pub free-links : (format : Format) (b d : ℕ) (ns : List ℕ) (body : List Record) → spelled_link format (slice_index ns 0) (own_digit format ns) body ≡ None
     → is_some (link_in format b d ns) ≡ true → spelled_link format b d body ≡ None
 free-links One b d ns body free named = let same = link_one-named b d ns named in rw (same.0, same.1) at free
 free-links Two b d ns body free named = let same = link_two-named b d ns named in spelled_two-first b d body (rw same at free)
@@ -169,7 +180,7 @@ pub holds-more : (format : Format) (slots new : List (Option (ℕ × ℕ))) (bod
 holds-more format slots new body r ns row h e f t =
     let free = free-slot format row (λ b d. slice_index_or slots (place_of b d) None) ns f in
     let k = first_place format ns free.0 in
-    let first : spelled_link format (slice_index ns 0) (first_digit format ns) body ≡ None = sym (h.same (slice_index ns 0) (first_digit format ns) k.1 k.2) ∙ free.1 in
+    let first : spelled_link format (slice_index ns 0) (own_digit format ns) body ≡ None = sym (h.same (slice_index ns 0) (own_digit format ns) k.1 k.2) ∙ free.1 in
     record {
       long = t.long ∙ h.long;
       same = λ b d low high.

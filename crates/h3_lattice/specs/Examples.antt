@@ -148,7 +148,8 @@ faults = refl
 no_header : fault_of_records [] ≡ Some (Form 1)
 no_header = refl
 
--- a record of format 2: a base cell, six neighbours and no turns
+-- the record of the base cell 0 of a test table in format 2, with this base cell, neighbour in the direction K and number
+-- of turns in the direction IJ in their places
 abbrev base_record : List ℕ → List ℕ → List ℕ → Record
 base_record base k last =
     base ∷ k ∷ codes "11" ∷ codes "121" ∷ codes "1" ∷ codes "111" ∷ codes "12" ∷ codes "0" ∷ codes "0" ∷ codes "0" ∷ codes "0" ∷ codes "0" ∷ last ∷ []
@@ -159,6 +160,16 @@ plain_base = base_record (codes "0") (codes "110") (codes "0")
 base_links : map (λ d. spelled_link format.Two 0 (digit_of d) (plain_base ∷ [])) directions ≡ map (λ d. Some (test_link Plain 0 d)) directions
 unfolding number_from all_numbers spelled_link
 base_links = refl
+
+-- the record of the base cell 30 of another, in which digits are turned
+abbrev twisted_base : Record
+twisted_base =
+    codes "30" ∷ codes "18" ∷ codes "41" ∷ codes "29" ∷ codes "31" ∷ codes "19" ∷ codes "42"
+    ∷ codes "0" ∷ codes "5" ∷ codes "5" ∷ codes "1" ∷ codes "1" ∷ codes "0" ∷ []
+
+turned_links : map (λ d. spelled_link format.Two 30 (digit_of d) (twisted_base ∷ [])) directions ≡ map (λ d. Some (test_link Twisted 30 d)) directions
+unfolding number_from all_numbers spelled_link
+turned_links = refl
 
 base_faults : map (λ body. fault_of_records (header_two ∷ body))
     (
@@ -175,6 +186,11 @@ base_faults : map (λ body. fault_of_records (header_two ∷ body))
     ≡ None ∷ None ∷ Some (Form 2) ∷ Some (Range 2) ∷ Some (Range 2) ∷ Some (Range 2) ∷ Some (Range 2) ∷ Some (Repeated 3) ∷ []
 unfolding number_from all_numbers same_fields first_fault spelled_link is_hexagon_base
 base_faults = refl
+
+-- a first record that is no header
+other_headers : map fault_of_records ((plain_base ∷ []) ∷ ((codes "base" ∷ codes "k" ∷ []) ∷ []) ∷ []) ≡ Some (Form 1) ∷ Some (Form 1) ∷ []
+unfolding same_fields first_fault
+other_headers = refl
 
 -- each header wants its own records
 other_records : fault_of_records (header_one ∷ plain_base ∷ []) ≡ Some (Form 2)

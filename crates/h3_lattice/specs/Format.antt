@@ -25,15 +25,16 @@ abbrev pub link_in : Format → ℕ → ℕ → List ℕ → Option (ℕ × ℕ)
 link_in One b d ns = link_one b d ns
 link_in Two b d ns = link_two b d ns
 
--- the digit of the first direction that a record has a link for: in format 2 it has one for each
-abbrev pub first_digit : Format → List ℕ → ℕ
-first_digit One ns = slice_index ns 1
-first_digit Two ns = 1
+-- the digit of a direction that a record has a link for: where this link is known, the record repeats an earlier one,
+-- since a record of format 2 has a link in each direction
+abbrev pub own_digit : Format → List ℕ → ℕ
+own_digit One ns = slice_index ns 1
+own_digit Two ns = 1
 
--- the format whose header a record is
+-- the format whose header a file's first record is
 abbrev pub header_format : Record → Option Format
-header_format first = if same_fields first header_one then Some One else (if same_fields first header_two then Some Two else None)
+header_format front = if same_fields front (header One) then Some One else (if same_fields front (header Two) then Some Two else None)
 
--- the format of the records after a first record, format 1 where that is no header
+-- the format of the records after it, format 1 where it is no header
 abbrev pub format_after : Record → Format
-format_after first = unwrap_or (header_format first) One
+format_after front = unwrap_or (header_format front) One

@@ -7,7 +7,7 @@ use Rattle.std.specs.List.{list_all}
 use Rattle.h3_lattice.specs.declared.direction.Direction.{Direction}
 use Rattle.h3_lattice.specs.Direction.{digit_of, directions}
 use Rattle.h3_lattice.specs.Fields.{Record}
-use Rattle.h3_lattice.specs.Links.{is_hexagon_base}
+use Rattle.h3_lattice.specs.Links.{is_hexagon_base, is_link}
 
 -- the header
 abbrev pub header_two : Record
@@ -20,9 +20,9 @@ header_two =
 abbrev pub link_at_digit : ℕ → List ℕ → ℕ × ℕ
 link_at_digit d ns = (slice_index ns d, slice_index ns (6 + d))
 
--- in this direction, a base cell and a number of turns
+-- in this direction, a link
 abbrev pub is_link_two : List ℕ → Direction → Bool
-is_link_two ns d = nat_lt (link_at_digit (digit_of d) ns).0 122 && nat_lt (link_at_digit (digit_of d) ns).1 6
+is_link_two ns d = is_link (link_at_digit (digit_of d) ns)
 
 -- a hexagon base cell, and links in all directions
 abbrev pub in_range_two : List ℕ → Bool

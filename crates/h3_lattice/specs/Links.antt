@@ -19,6 +19,10 @@ is_hexagon_base b = nat_lt b 122 && not (is_pentagon_base b)
 abbrev pub IsLink : ℕ × ℕ → Type 0
 IsLink link = (link.0 < 122) × (link.1 < 6)
 
+-- the same as a test
+abbrev pub is_link : ℕ × ℕ → Bool
+is_link link = nat_lt link.0 122 && nat_lt link.1 6
+
 -- the link of each base cell and direction
 abbrev pub Links : Type 0
 Links = ℕ → Direction → ℕ × ℕ

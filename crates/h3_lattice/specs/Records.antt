@@ -6,14 +6,14 @@ use Rattle.h3_lattice.specs.declared.error.TableError.TheVariants as fault
 use Rattle.h3_lattice.specs.declared.format.Format.{Format}
 use Rattle.h3_lattice.specs.declared.format.Format.TheVariants.{One}
 use Rattle.h3_lattice.specs.Fields.{Record, numbers_in}
-use Rattle.h3_lattice.specs.Format.{first_digit, header_format, format_after, in_range, link_in, width}
+use Rattle.h3_lattice.specs.Format.{own_digit, header_format, format_after, in_range, link_in, width}
 
 -- the records under the header
 abbrev pub body_of : List Record → List Record
 body_of [] = []
 body_of (front ∷ body) = body
 
--- their format
+-- their format, format 1 where there is no header
 abbrev pub format_of : List Record → Format
 format_of [] = One
 format_of (front ∷ body) = format_after front
@@ -24,7 +24,7 @@ format_of (front ∷ body) = format_after front
 abbrev pub record_link : Format → ℕ → ℕ → Record → Option (ℕ × ℕ)
 record_link format b d r = option_and_then (link_in format b d) (numbers_in (width format) r)
 
--- the link in the first of these records that names the base cell and the direction
+-- the link in the first of these records that has one for the base cell and the direction
 unfoldable pub spelled_link : Format → ℕ → ℕ → List Record → Option (ℕ × ℕ)
 spelled_link format b d [] = None
 spelled_link format b d (r ∷ rest) = option_or (record_link format b d r) (spelled_link format b d rest)
@@ -36,7 +36,7 @@ abbrev pub fault_in : Format → ℕ → (ℕ → ℕ → Option (ℕ × ℕ)) �
 fault_in format row known None = Some (fault.Form row)
 fault_in format row known (Some ns) =
     if not (in_range format ns) then Some (fault.Range row)
-    else (if is_some (known (slice_index ns 0) (first_digit format ns)) then Some (fault.Repeated row)
+    else (if is_some (known (slice_index ns 0) (own_digit format ns)) then Some (fault.Repeated row)
     else None)
 
 -- the fault of a record, after the records before it: the first has to be a header

@@ -40,8 +40,8 @@ ChecksMeanSound =
     (link : Links) → ((b : ℕ) (d : Direction) → IsHexagonBase b → IsLink (link b d)) → (fault_of_links link ≡ None) ↔ IsSound link
 
 -- a record has a link for this base cell and direction
-abbrev pub names : Format → ℕ → ℕ → Record → Bool
-names format b d r = is_some (record_link format b d r)
+abbrev pub has_link : Format → ℕ → ℕ → Record → Bool
+has_link format b d r = is_some (record_link format b d r)
 
 -- the numbers of a record's fields are in their ranges
 pub record IsLinkRecord (format : Format) (r : Record) : Type 0 where
@@ -49,13 +49,14 @@ pub record IsLinkRecord (format : Format) (r : Record) : Type 0 where
   pub spelled : numbers_in (width format) r ≡ Some numbers
   pub ranges : in_range format numbers ≡ true
 
--- the form of a table file: the header of one of the formats, and then, in any order, records of which one has the link
--- of each hexagon base cell and direction
+-- the form of a table file: the header of one of the formats, and then, in any order, records in their ranges, of which
+-- for each hexagon base cell and direction exactly one has the link: so there is one record for each of both in format 1,
+-- and one for each hexagon base cell in format 2
 pub record IsOfForm (records : List Record) : Type 0 where
   pub format : Format
   pub front : records ≡ header format ∷ body_of records
   pub each : All (IsLinkRecord format) (body_of records)
-  pub once : (b : ℕ) (d : Direction) → IsHexagonBase b → count_by (names format b (digit_of d)) (body_of records) ≡ 1
+  pub once : (b : ℕ) (d : Direction) → IsHexagonBase b → count_by (has_link format b (digit_of d)) (body_of records) ≡ 1
 
 -- a file has no error exactly where it is of the form and its links are sound
 abbrev pub SoundFilesAreAccepted : Type 0

@@ -15,21 +15,22 @@ pub enum TableError {
     #[error("out of memory")]
     Memory,
 
-    /// The first record is no header, or a later one is not as many fields as the header, each of 1 to 3 digits.
+    /// The first record is no header, or a later one has not as many fields as the header, or one that
+    /// is not 1 to 3 digits.
     #[error("record {0} is malformed")]
     Form(u64),
 
-    /// A record has a base cell above 121 or a pentagon one, a direction outside 1 to 6, a neighbour above 121, or
-    /// more than 5 turns.
+    /// A record has a base cell above 121 or a pentagon one, in format 1 a direction outside 1 to 6, a
+    /// neighbour above 121, or more than 5 turns.
     #[error("record {0} has a number out of range")]
     Range(u64),
 
     /// An earlier record has the same base cell and, in format 1, the same direction.
-    #[error("record {0} repeats the base cell and direction of an earlier one")]
+    #[error("record {0} repeats an earlier one")]
     Repeated(u64),
 
     /// No record has the link of some hexagon base cell and direction.
-    #[error("a base cell and direction have no record")]
+    #[error("a base cell and direction have no link")]
     Missing,
 
     /// The neighbours of the base cell do not differ from each other and from it.
@@ -61,13 +62,10 @@ mod tests {
                 TableError::Range(661),
                 "record 661 has a number out of range",
             ),
-            (
-                TableError::Repeated(3),
-                "record 3 repeats the base cell and direction of an earlier one",
-            ),
+            (TableError::Repeated(3), "record 3 repeats an earlier one"),
             (
                 TableError::Missing,
-                "a base cell and direction have no record",
+                "a base cell and direction have no link",
             ),
             (
                 TableError::Neighbours(121),

@@ -14,24 +14,24 @@ use crate::links::Slots;
 use crate::{format_one, format_two};
 use csv::ByteRecord;
 
-/// What the records of a table file are of.
+/// The format of a table file, which its header says.
 #[derive(Clone, Copy, Debug, PartialEq, Eq)]
 pub enum Format {
-    /// Each record is of a base cell and a direction.
+    /// A record for each hexagon base cell and direction.
     One,
 
-    /// Each record is of a base cell.
+    /// A record for each hexagon base cell.
     Two,
 }
 
 /// The format whose header a file's first record is: none where it is no header.
-pub fn header_format(first: &ByteRecord) -> Option<Format>
-    ensures { result ≡ header_format (fields_of first.now) }
+pub fn header_format(front: &ByteRecord) -> Option<Format>
+    ensures { result ≡ header_format (fields_of front.now) }
 {
-    if has_fields(first, &format_one::HEADER) {
+    if has_fields(front, &format_one::HEADER) {
         return Some(Format::One);
     }
-    if has_fields(first, &format_two::HEADER) {
+    if has_fields(front, &format_two::HEADER) {
         return Some(Format::Two);
     }
     None

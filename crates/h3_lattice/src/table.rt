@@ -52,15 +52,16 @@ impl BaseTable {
 
     /// Reads a table file to its end and checks it.
     ///
-    /// The file is CSV, in one of two formats, each with its own header. Numbers have 1 to 3 digits, and records come in
-    /// any order.
+    /// The file is CSV, in one of two formats, each with its own header. Numbers have 1 to 3 digits, and
+    /// records come in any order.
     ///
-    /// - Format 1: the header is `base,dir,to,rot`, and then comes a record for each hexagon base cell and direction. In
-    ///   the frame of the base cell `base`, the base cell `to` lies in the direction of the digit `dir`, and each digit
-    ///   is turned `rot` times on crossing.
-    /// - Format 2: the header is `base,k,j,jk,i,ik,ij,rk,rj,rjk,ri,rik,rij`, and then comes a record for each hexagon
-    ///   base cell. In its frame, the base cell `k` lies in the direction [`Direction::K`], and each digit is turned `rk`
-    ///   times on crossing, and so on.
+    /// - Format 1: the header is `base,dir,to,rot`, and then comes exactly one record for each hexagon
+    ///   base cell and direction. In the frame of the base cell `base`, the base cell `to` lies in the
+    ///   direction of the digit `dir`, and each digit is turned `rot` times on crossing.
+    /// - Format 2: the header is `base,k,j,jk,i,ik,ij,rk,rj,rjk,ri,rik,rij`, and then comes exactly one
+    ///   record for each hexagon base cell. In its frame, the base cells `k`, `j`, `jk`, `i`, `ik` and
+    ///   `ij` lie in the directions of these names, and each digit is turned `rk`, `rj`, `rjk`, `ri`,
+    ///   `rik` and `rij` times on crossing into them.
     ///
     /// The errors, in this order: [`TableError::Read`] where the reader fails or is not at its end within 2^40 reads,
     /// the first faulty record, a missing record, and the first check that fails, by ascending base cell and direction.
