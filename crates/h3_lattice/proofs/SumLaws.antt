@@ -1,9 +1,8 @@
 -- Sums of a digit list and a direction: one sum, its reverse, its turns, and triangles.
 use Rattle.std.proofs.Common.{◌≡◌, ◌-◌, ◌<◌, ◌≤◌, ◌++◌, take, get_or, length-append, ℕ, zero, suc, ◌+◌, refl, arith, sym, ap, subst, ◌∙◌, Option, Some, None, List, [], ◌∷◌, length, map, drop, set}
 use Rattle.std.specs.Int.Digits.{AllBelowBase}
-use Rattle.std.proofs.Math.ListN.{drop_of_length-le}
 use Rattle.std.proofs.Math.Seq.{take-suc}
-use Rattle.std.proofs.lemmas.List.{append-nil, append_assoc, drop-set, length-map, length-take-le, set_split, take-set, take_all}
+use Rattle.std.proofs.lemmas.List.{append_assoc, drop-set, length-map, length-take-le, set_split, take-set}
 use Rattle.h3_lattice.specs.declared.direction.Direction.{Direction}
 use Rattle.h3_lattice.specs.declared.direction.Direction.TheVariants.{K, J, JK, I, IK, IJ}
 use Rattle.h3_lattice.specs.declared.class.Class.{Class}
@@ -203,14 +202,6 @@ pushed_sum ds es d k u x y n at long all small h e =
 -- what is added to the first r of the digits ms, and the others after that: the whole sum
 pub record IsUnderway (ds : List ℕ) (direction : Direction) (r : ℕ) (d : Direction) (ms : List ℕ) : Type 0 where
   pub whole : (u : Option Direction) (es : List ℕ) → IsSum (take r ms) d u es → IsSum ds direction u (es ++ drop r ms)
-
-pub begins : (ds : List ℕ) (d : Direction) (r : ℕ) → r ≡ length ds → IsUnderway ds d r d ds
-begins ds d r at = record {
-  whole = λ u es h.
-      let first : take r ds ≡ ds = take_all r ds (omega arith) in
-      let none : drop r ds ≡ [] = drop_of_length-le ds (omega arith) in
-      rw (none, append-nil) (rw first at h);
-}
 
 nothing-sum : (x : Eisenstein) → sum_of zero_point x ≡ sum_of x zero_point
 nothing-sum x = omega (arith, points)
