@@ -132,6 +132,3 @@ pub fn get_directed_edge_destination<T: Source, W: Sink>(
     let table = BaseTable::read(alloc, table)?;
     write_result(out, edge_destination(&table, edge))
 }
-
-#[cfg(test)]
-mod tests;

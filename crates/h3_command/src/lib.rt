@@ -10,8 +10,6 @@ mod inspection;
 mod resolutions;
 pub mod run;
 mod sets;
-#[cfg(test)]
-mod table_files;
 mod walks;
 
 pub use command::Command;

@@ -118,6 +118,3 @@ pub fn run<R: Source, T: Source, W: Sink, E: Sink>(
     let ending = perform(alloc, command, input, table, out);
     report(err, ending)
 }
-
-#[cfg(test)]
-mod tests;

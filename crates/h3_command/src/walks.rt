@@ -124,6 +124,3 @@ pub fn grid_ring_unsafe<T: Source, W: Sink>(
     let table = BaseTable::read(alloc, table)?;
     write_ring(&table, cell, k, out)
 }
-
-#[cfg(test)]
-mod tests;

@@ -44,13 +44,13 @@ impl<'a, R: Source> CountedReader<'a, R> {
 mod tests {
     use super::CountedReader;
     use crate::refusal::Refusal;
-    use h3_fakes::SlowSource;
+    use h3_fakes::{Faults, FaultySource};
     use h3_index::Source;
 
     #[test]
     fn a_read_past_the_limit_is_not_made(rt: HostRuntime) {
         let mut page = [0; 8];
-        let mut source = SlowSource::new(b"abcd", 1, 4);
+        let mut source = FaultySource::new(b"abcd", 1, Faults::From(4));
         let mut reader = CountedReader {
             source: &mut source,
             reads_left: 3,

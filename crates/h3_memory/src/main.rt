@@ -6,7 +6,7 @@
 use arrayvec::ArrayVec;
 use h3_command::Command;
 use h3_command::run::run;
-use h3_faults::table_file;
+use h3_fakes::table_file;
 use h3_index::Streamed;
 use h3_lattice::vectors::TestTable;
 use itoa::Buffer;

@@ -1,6 +1,6 @@
 use super::{read_cells, read_list};
 use crate::refusal::Refusal;
-use h3_fakes::SlowSource;
+use h3_fakes::{Faults, FaultySource};
 use h3_index::{Cell, H3Error};
 use std::test::Fail;
 
@@ -9,7 +9,7 @@ const PIECES: [usize; 6] = [1, 2, 63, 64, 65, 100000];
 
 /// Reads a list that a source hands out by so many bytes; it fails at the pull after `calls` pulls.
 fn read(rt: &HostRuntime, bytes: &[u8], most: usize, calls: u64) -> Result<Vec<Cell>, Refusal> {
-    let mut source = SlowSource::new(bytes, most.max(1), calls);
+    let mut source = FaultySource::new(bytes, most.max(1), Faults::From(calls));
     read_cells(rt.alloc(), &mut source)
 }
 
@@ -101,7 +101,7 @@ fn a_list_of_many_pages_is_read(rt: HostRuntime) -> Result<(), Fail> {
     for _ in 0..10000 {
         text.extend_from_slice(b"85283473fffffff\r\n")?;
     }
-    let mut source = SlowSource::new(&text, 1000000, 4);
+    let mut source = FaultySource::new(&text, 1000000, Faults::From(4));
     let Ok(cells) = read_cells(rt.alloc(), &mut source) else {
         panic!(&rt; "refused");
     };
@@ -136,9 +136,9 @@ fn a_read_fault_counts_before_a_faulty_line(rt: HostRuntime) -> Result<(), Fail>
 #[test]
 fn reads_past_the_limit_are_read_faults(rt: HostRuntime) -> Result<(), Fail> {
     let mut page = [0];
-    let mut source = SlowSource::new(b"\n\n", 1, 100);
+    let mut source = FaultySource::new(b"\n\n", 1, Faults::From(100));
     assert!(&rt; read_list(rt.alloc(), &mut source, 3, &mut page).is_ok());
-    let mut source = SlowSource::new(b"\n\n\n", 1, 100);
+    let mut source = FaultySource::new(b"\n\n\n", 1, Faults::From(100));
     let read = read_list(rt.alloc(), &mut source, 3, &mut page);
     assert_eq!(&rt; read.err(), Some(Refusal::Read));
     Ok(())

@@ -1,9 +1,8 @@
 //! Commands over a writer that fails.
 
 use crate::cases::{Case, NO_FAULT, list_cases, plain_cases, table_cases};
-use crate::streams::{Faults, FaultySink};
-use crate::tables::table_file;
 use arrayvec::ArrayVec;
+use h3_fakes::{Faults, FaultySink, table_file};
 use h3_index::Streamed;
 use h3_lattice::vectors::TestTable;
 use std::process::Abort;

@@ -1,7 +1,7 @@
-use crate::command::Command;
-use crate::run::run;
-use crate::table_files::{assert_run, assert_unread, file_of, records_of, run_to, test_file};
-use h3_fakes::{SlowSink, SlowSource};
+use crate::table_files::{assert_run, assert_unread, file_of, records_of, run_to};
+use h3_command::Command;
+use h3_command::run::run;
+use h3_fakes::{Faults, FaultySink, FaultySource, table_file};
 use h3_index::{is_pentagon_base, read_index};
 use h3_lattice::vectors::TestTable;
 use h3_lines::{Refusal, report};
@@ -71,9 +71,9 @@ fn ring(word: &str, k: i32) -> Command {
 const PENTAGON: &str = "error 9: E_PENTAGON\n";
 
 #[test]
-fn disks_are_written(rt: HostRuntime) -> Result<(), Fail> {
-    let plain = test_file(&rt, TestTable::Plain)?;
-    let twisted = test_file(&rt, TestTable::Twisted)?;
+fn disks_are_written(rt: HostRuntime) {
+    let plain = table_file(TestTable::Plain);
+    let twisted = table_file(TestTable::Twisted);
     let inside = "85283473fffffff\n85283447fffffff\n8528347bfffffff\n85283463fffffff\n\
                   85283477fffffff\n8528340ffffffff\n8528340bfffffff\n";
     assert_run(&rt, &plain, disk("85283473fffffff", 1), (inside, "", 0));
@@ -86,13 +86,12 @@ fn disks_are_written(rt: HostRuntime) -> Result<(), Fail> {
     let turned = "813d3ffffffffff\n81547ffffffffff\n813dbffffffffff\n813c3ffffffffff\n\
                   813d7ffffffffff\n813e7ffffffffff\n813efffffffffff\n";
     assert_run(&rt, &twisted, disk("813d3ffffffffff", 1), (turned, "", 0));
-    Ok(())
 }
 
 #[test]
-fn disks_are_written_with_their_rings(rt: HostRuntime) -> Result<(), Fail> {
-    let plain = test_file(&rt, TestTable::Plain)?;
-    let twisted = test_file(&rt, TestTable::Twisted)?;
+fn disks_are_written_with_their_rings(rt: HostRuntime) {
+    let plain = table_file(TestTable::Plain);
+    let twisted = table_file(TestTable::Twisted);
     let origin = disk_distances("85283473fffffff", 0);
     assert_run(&rt, &plain, origin, ("85283473fffffff 0\n", "", 0));
     let centres = "803dfffffffffff 0\n8055fffffffffff 1\n8053fffffffffff 1\n803bfffffffffff 1\n\
@@ -104,13 +103,12 @@ fn disks_are_written_with_their_rings(rt: HostRuntime) -> Result<(), Fail> {
         let command = disk_distances("803dfffffffffff", 2);
         assert_run(&rt, file, command, (centres, "", 0));
     }
-    Ok(())
 }
 
 #[test]
-fn rings_are_written(rt: HostRuntime) -> Result<(), Fail> {
-    let plain = test_file(&rt, TestTable::Plain)?;
-    let twisted = test_file(&rt, TestTable::Twisted)?;
+fn rings_are_written(rt: HostRuntime) {
+    let plain = table_file(TestTable::Plain);
+    let twisted = table_file(TestTable::Twisted);
     let inside = "8528340bfffffff\n85283447fffffff\n8528347bfffffff\n85283463fffffff\n\
                   85283477fffffff\n8528340ffffffff\n";
     assert_run(&rt, &plain, ring("85283473fffffff", 1), (inside, "", 0));
@@ -120,12 +118,11 @@ fn rings_are_written(rt: HostRuntime) -> Result<(), Fail> {
     for file in [&plain, &twisted] {
         assert_run(&rt, file, ring("803dfffffffffff", 2), (twelve, "", 0));
     }
-    Ok(())
 }
 
 #[test]
-fn the_beginning_of_a_refused_walk_is_written(rt: HostRuntime) -> Result<(), Fail> {
-    let plain = test_file(&rt, TestTable::Plain)?;
+fn the_beginning_of_a_refused_walk_is_written(rt: HostRuntime) {
+    let plain = table_file(TestTable::Plain);
     let begun = "800bfffffffffff\n8023fffffffffff\n8021fffffffffff\n";
     for k in [1, i32::MAX] {
         let command = disk("800bfffffffffff", k);
@@ -139,7 +136,6 @@ fn the_beginning_of_a_refused_walk_is_written(rt: HostRuntime) -> Result<(), Fai
     assert_run(&rt, &plain, command, (begun, PENTAGON, 1));
     let command = ring("800bfffffffffff", i32::MAX);
     assert_run(&rt, &plain, command, ("", PENTAGON, 1));
-    Ok(())
 }
 
 #[test]
@@ -154,8 +150,8 @@ fn a_ring_that_does_not_close_is_refused_after_its_cells(rt: HostRuntime) -> Res
 }
 
 #[test]
-fn walks_are_refused_before_they_begin(rt: HostRuntime) -> Result<(), Fail> {
-    let plain = test_file(&rt, TestTable::Plain)?;
+fn walks_are_refused_before_they_begin(rt: HostRuntime) {
+    let plain = table_file(TestTable::Plain);
     let refused = ("", PENTAGON, 1);
     assert_run(&rt, &plain, disk("8009fffffffffff", 0), refused);
     assert_run(&rt, &plain, disk_distances("8009fffffffffff", 0), refused);
@@ -169,7 +165,6 @@ fn walks_are_refused_before_they_begin(rt: HostRuntime) -> Result<(), Fail> {
     assert_run(&rt, &plain, disk("8009fffffffffff", -1), negative);
     assert_run(&rt, &plain, disk_distances("85283473fffffff", -1), negative);
     assert_run(&rt, &plain, ring("8009fffffffffff", -1), negative);
-    Ok(())
 }
 
 #[test]
@@ -187,7 +182,7 @@ fn tables_are_refused(rt: HostRuntime) -> Result<(), Fail> {
     }
     let file = file_of(&rt, &records)?;
     assert_run(&rt, &file, command, ("", "table: reversal 0 1\n", 3));
-    let file = test_file(&rt, TestTable::Skew)?;
+    let file = table_file(TestTable::Skew);
     assert_run(&rt, &file, command, ("", "table: corner 0 1\n", 3));
     let files = [
         ("base,dir,to,rot\n4,1,0,0\n", "table: range 2\n"),
@@ -213,7 +208,7 @@ fn tables_are_refused(rt: HostRuntime) -> Result<(), Fail> {
 
 #[test]
 fn a_table_that_cannot_be_opened_is_reported(rt: HostRuntime) {
-    let mut err: SlowSink<64> = SlowSink::new(64, 100);
+    let mut err: FaultySink<64> = FaultySink::new(64, Faults::From(100));
     assert_eq!(&rt; report(&mut err, Err(Refusal::TableOpen)), 3);
     assert!(&rt; err.bytes() == b"table: open\n".as_slice());
 }
@@ -240,43 +235,41 @@ fn the_index_is_judged_before_the_table(rt: HostRuntime) {
 }
 
 #[test]
-fn a_read_fault_of_the_table_is_reported(rt: HostRuntime) -> Result<(), Fail> {
-    let plain = test_file(&rt, TestTable::Plain)?;
+fn a_read_fault_of_the_table_is_reported(rt: HostRuntime) {
+    let plain = table_file(TestTable::Plain);
     let command = disk("85283473fffffff", 1);
     for (most, calls) in [(1, 0), (4096, 1), (65536, 2)] {
-        let mut input = SlowSource::new(b"", 1, 0);
-        let mut table = SlowSource::new(plain.as_bytes(), most, calls);
-        let mut out: SlowSink<128> = SlowSink::new(64, 0);
-        let mut err: SlowSink<64> = SlowSink::new(64, 100);
+        let mut input = FaultySource::new(b"", 1, Faults::From(0));
+        let mut table = FaultySource::new(plain.as_bytes(), most, Faults::From(calls));
+        let mut out: FaultySink<128> = FaultySink::new(64, Faults::From(0));
+        let mut err: FaultySink<64> = FaultySink::new(64, Faults::From(100));
         let alloc = rt.alloc();
         let status = run(alloc, &command, &mut input, &mut table, &mut out, &mut err);
         assert_eq!(&rt; status, 4);
         assert!(&rt; out.bytes().is_empty());
         assert!(&rt; err.bytes() == b"fault: read\n".as_slice());
     }
-    Ok(())
 }
 
 #[test]
-fn a_write_fault_in_a_walk_leaves_a_beginning(rt: HostRuntime) -> Result<(), Fail> {
-    let plain = test_file(&rt, TestTable::Plain)?;
-    let mut out: SlowSink<20> = SlowSink::new(64, 100);
+fn a_write_fault_in_a_walk_leaves_a_beginning(rt: HostRuntime) {
+    let plain = table_file(TestTable::Plain);
+    let mut out: FaultySink<20> = FaultySink::new(64, Faults::From(100));
     let (err, status) = run_to(&rt, &plain, disk("85283473fffffff", 1), &mut out);
     assert_eq!(&rt; status, 4);
     assert!(&rt; out.bytes() == b"85283473fffffff\n8528".as_slice());
     assert!(&rt; err.bytes() == b"fault: write\n".as_slice());
-    let mut out: SlowSink<20> = SlowSink::new(64, 100);
+    let mut out: FaultySink<20> = FaultySink::new(64, Faults::From(100));
     let command = disk_distances("85283473fffffff", 1);
     let (err, status) = run_to(&rt, &plain, command, &mut out);
     assert_eq!(&rt; status, 4);
     assert!(&rt; out.bytes() == b"85283473fffffff 0\n85".as_slice());
     assert!(&rt; err.bytes() == b"fault: write\n".as_slice());
-    Ok(())
 }
 
 #[test]
 fn a_walk_is_flushed_once(rt: HostRuntime) -> Result<(), Fail> {
-    let plain = test_file(&rt, TestTable::Plain)?;
+    let plain = table_file(TestTable::Plain);
     // the command, its lines, its line on standard error and its exit status
     let walks = [
         (disk("85283473fffffff", 1), 7, "", 0),
@@ -286,13 +279,13 @@ fn a_walk_is_flushed_once(rt: HostRuntime) -> Result<(), Fail> {
     ];
     for (command, lines, line, expected) in walks {
         // a push takes a line, and then comes a flush
-        let mut out: SlowSink<128> = SlowSink::new(16, lines + 1);
+        let mut out: FaultySink<128> = FaultySink::new(16, Faults::From(lines + 1));
         let (err, status) = run_to(&rt, &plain, command, &mut out);
         assert_eq!(&rt; status, expected, "{command:?}");
         assert!(&rt; err.bytes() == line.as_bytes(), "{command:?}");
         assert_eq!(&rt; out.bytes().len() as u64, 16 * lines, "{command:?}");
         // the flush fails, and is reported in place of the error
-        let mut out: SlowSink<128> = SlowSink::new(16, lines);
+        let mut out: FaultySink<128> = FaultySink::new(16, Faults::From(lines));
         let (err, status) = run_to(&rt, &plain, command, &mut out);
         assert_eq!(&rt; status, 4, "{command:?}");
         assert!(&rt; err.bytes() == b"fault: write\n".as_slice(), "{command:?}");
@@ -305,12 +298,12 @@ fn a_walk_is_flushed_once(rt: HostRuntime) -> Result<(), Fail> {
 fn nothing_is_flushed_before_an_error_where_nothing_was_written(
     rt: HostRuntime,
 ) -> Result<(), Fail> {
-    let plain = test_file(&rt, TestTable::Plain)?;
+    let plain = table_file(TestTable::Plain);
     for command in [
         disk("8009fffffffffff", 0),
         ring("800bfffffffffff", i32::MAX),
     ] {
-        let mut out: SlowSink<64> = SlowSink::new(64, 0);
+        let mut out: FaultySink<64> = FaultySink::new(64, Faults::From(0));
         let (err, status) = run_to(&rt, &plain, command, &mut out);
         assert_eq!(&rt; status, 1, "{command:?}");
         assert!(&rt; err.bytes() == PENTAGON.as_bytes(), "{command:?}");

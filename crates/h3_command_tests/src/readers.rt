@@ -1,9 +1,8 @@
 //! Commands over a reader that fails.
 
 use crate::cases::{Case, NO_FAULT, Reads, list_cases, plain_cases, table_cases};
-use crate::streams::Faults;
-use crate::tables::table_file;
 use h3_command::Command;
+use h3_fakes::{Faults, table_file};
 use h3_index::read_index;
 use h3_lattice::vectors::TestTable;
 use std::process::Abort;

@@ -1,7 +1,7 @@
-use super::run;
-use crate::command::Command;
 use arrayvec::ArrayVec;
-use h3_fakes::{SlowSink, SlowSource};
+use h3_command::Command;
+use h3_command::run::run;
+use h3_fakes::{Faults, FaultySink, FaultySource};
 use h3_index::{Sink, Source, Streamed, read_index};
 use std::process::Abort;
 
@@ -12,8 +12,8 @@ fn run_alone<R: AllocGlobal, W: Sink, E: Sink>(
     out: &mut W,
     err: &mut E,
 ) -> u8 {
-    let mut input = SlowSource::new(b"", 1, 0);
-    let mut table = SlowSource::new(b"", 1, 0);
+    let mut input = FaultySource::new(b"", 1, Faults::From(0));
+    let mut table = FaultySource::new(b"", 1, Faults::From(0));
     run(rt.alloc(), command, &mut input, &mut table, out, err)
 }
 
@@ -259,8 +259,8 @@ fn assert_listed<R: Abort + AllocGlobal>(
 ) {
     let (text, line, expected) = answer;
     for most in [1, 2, 63, 64, 65, 65536] {
-        let mut input = SlowSource::new(list.as_bytes(), most, 1000);
-        let mut table = SlowSource::new(b"", 1, 0);
+        let mut input = FaultySource::new(list.as_bytes(), most, Faults::From(1000));
+        let mut table = FaultySource::new(b"", 1, Faults::From(0));
         let mut out = Streamed::new(ArrayVec::<u8, 256>::new());
         let mut err = Streamed::new(ArrayVec::<u8, 64>::new());
         let alloc = rt.alloc();
@@ -397,10 +397,10 @@ fn refuses_lists_to_compact(rt: HostRuntime) {
 
 #[test]
 fn a_read_fault_is_told(rt: HostRuntime) {
-    let mut input = SlowSource::new(b"85283473fffffff\n", 4, 3);
-    let mut table = SlowSource::new(b"", 1, 0);
-    let mut out: SlowSink<64> = SlowSink::new(64, 100);
-    let mut err: SlowSink<64> = SlowSink::new(64, 100);
+    let mut input = FaultySource::new(b"85283473fffffff\n", 4, Faults::From(3));
+    let mut table = FaultySource::new(b"", 1, Faults::From(0));
+    let mut out: FaultySink<64> = FaultySink::new(64, Faults::From(100));
+    let mut err: FaultySink<64> = FaultySink::new(64, Faults::From(100));
     let command = Command::UncompactCells { res: 6 };
     let alloc = rt.alloc();
     let status = run(alloc, &command, &mut input, &mut table, &mut out, &mut err);
@@ -414,8 +414,8 @@ const IS_CELL: Command = Command::IsValidCell { cell: HEXAGON };
 
 #[test]
 fn writes_in_as_many_pushes_as_it_takes(rt: HostRuntime) {
-    let mut out: SlowSink<64> = SlowSink::new(1, 6);
-    let mut err: SlowSink<64> = SlowSink::new(64, 0);
+    let mut out: FaultySink<64> = FaultySink::new(1, Faults::From(6));
+    let mut err: FaultySink<64> = FaultySink::new(64, Faults::From(0));
     let status = run_alone(&rt, &IS_CELL, &mut out, &mut err);
     assert_eq!(&rt; status, 0);
     assert!(&rt; out.bytes() == b"true\n".as_slice());
@@ -424,8 +424,8 @@ fn writes_in_as_many_pushes_as_it_takes(rt: HostRuntime) {
 
 #[test]
 fn a_write_fault_leaves_a_beginning(rt: HostRuntime) {
-    let mut out: SlowSink<3> = SlowSink::new(2, 100);
-    let mut err: SlowSink<64> = SlowSink::new(5, 100);
+    let mut out: FaultySink<3> = FaultySink::new(2, Faults::From(100));
+    let mut err: FaultySink<64> = FaultySink::new(5, Faults::From(100));
     let status = run_alone(&rt, &IS_CELL, &mut out, &mut err);
     assert_eq!(&rt; status, 4);
     assert!(&rt; out.bytes() == b"tru".as_slice());
@@ -438,8 +438,8 @@ fn a_write_fault_between_lines_leaves_a_beginning(rt: HostRuntime) {
         cell: HEXAGON,
         res: 6,
     };
-    let mut out: SlowSink<20> = SlowSink::new(64, 100);
-    let mut err: SlowSink<64> = SlowSink::new(64, 100);
+    let mut out: FaultySink<20> = FaultySink::new(64, Faults::From(100));
+    let mut err: FaultySink<64> = FaultySink::new(64, Faults::From(100));
     let status = run_alone(&rt, &command, &mut out, &mut err);
     assert_eq!(&rt; status, 4);
     assert!(&rt; out.bytes() == b"862834707ffffff\n8628".as_slice());
@@ -449,8 +449,8 @@ fn a_write_fault_between_lines_leaves_a_beginning(rt: HostRuntime) {
 #[test]
 fn a_long_list_is_written_from_the_start(rt: HostRuntime) {
     let cell = index_of("8001fffffffffff");
-    let mut out: SlowSink<40> = SlowSink::new(64, 100);
-    let mut err: SlowSink<64> = SlowSink::new(64, 100);
+    let mut out: FaultySink<40> = FaultySink::new(64, Faults::From(100));
+    let mut err: FaultySink<64> = FaultySink::new(64, Faults::From(100));
     let command = Command::CellToChildren { cell, res: 15 };
     let status = run_alone(&rt, &command, &mut out, &mut err);
     assert_eq!(&rt; status, 4);
@@ -459,8 +459,8 @@ fn a_long_list_is_written_from_the_start(rt: HostRuntime) {
 
 #[test]
 fn a_refused_flush_is_a_write_fault(rt: HostRuntime) {
-    let mut out: SlowSink<64> = SlowSink::new(64, 1);
-    let mut err: SlowSink<64> = SlowSink::new(64, 100);
+    let mut out: FaultySink<64> = FaultySink::new(64, Faults::From(1));
+    let mut err: FaultySink<64> = FaultySink::new(64, Faults::From(100));
     let status = run_alone(&rt, &IS_CELL, &mut out, &mut err);
     assert_eq!(&rt; status, 4);
     assert!(&rt; out.bytes() == b"true\n".as_slice());
@@ -474,11 +474,11 @@ fn a_list_is_flushed_once(rt: HostRuntime) {
         res: 6,
     };
     // seven lines in two pushes, and a flush
-    let mut out: SlowSink<128> = SlowSink::new(64, 3);
-    let mut err: SlowSink<64> = SlowSink::new(64, 100);
+    let mut out: FaultySink<128> = FaultySink::new(64, Faults::From(3));
+    let mut err: FaultySink<64> = FaultySink::new(64, Faults::From(100));
     assert_eq!(&rt; run_alone(&rt, &command, &mut out, &mut err), 0);
     assert_eq!(&rt; out.bytes().len(), 7 * 16);
-    let mut out: SlowSink<128> = SlowSink::new(64, 2);
+    let mut out: FaultySink<128> = FaultySink::new(64, Faults::From(2));
     assert_eq!(&rt; run_alone(&rt, &command, &mut out, &mut err), 4);
     assert_eq!(&rt; out.bytes().len(), 7 * 16);
     assert!(&rt; err.bytes() == b"fault: write\n".as_slice());
@@ -492,8 +492,8 @@ fn nothing_is_written_after_a_fault_that_passes(rt: HostRuntime) {
     };
     // seven lines, of which a push takes one, and a flush
     for calls in 0..8 {
-        let mut out: SlowSink<128> = SlowSink::failing_once(16, calls);
-        let mut err: SlowSink<64> = SlowSink::new(64, 100);
+        let mut out: FaultySink<128> = FaultySink::new(16, Faults::Once(calls));
+        let mut err: FaultySink<64> = FaultySink::new(64, Faults::From(100));
         assert_eq!(&rt; run_alone(&rt, &command, &mut out, &mut err), 4);
         assert_eq!(&rt; out.bytes().len() as u64, 16 * calls);
         assert!(&rt; err.bytes() == b"fault: write\n".as_slice());
@@ -501,8 +501,8 @@ fn nothing_is_written_after_a_fault_that_passes(rt: HostRuntime) {
     // one line a byte a push, and a flush
     let lengths = [(0, 0), (1, 1), (4, 4), (5, 5)];
     for (calls, length) in lengths {
-        let mut out: SlowSink<64> = SlowSink::failing_once(1, calls);
-        let mut err: SlowSink<64> = SlowSink::new(64, 100);
+        let mut out: FaultySink<64> = FaultySink::new(1, Faults::Once(calls));
+        let mut err: FaultySink<64> = FaultySink::new(64, Faults::From(100));
         assert_eq!(&rt; run_alone(&rt, &IS_CELL, &mut out, &mut err), 4);
         assert!(&rt; out.bytes() == &b"true\n"[..length]);
     }
@@ -521,26 +521,26 @@ fn no_more_is_read_than_is_needed(rt: HostRuntime) {
         ("85283473fffffff\n81087ffffffffff\n85283473fffffff\n", 8, 4),
     ];
     for (list, most, pulls) in reads {
-        let mut input = SlowSource::new(list.as_bytes(), most, 100);
-        let mut table = SlowSource::new(b"", 1, 0);
-        let mut out: SlowSink<128> = SlowSink::new(64, 100);
-        let mut err: SlowSink<64> = SlowSink::new(64, 100);
+        let mut input = FaultySource::new(list.as_bytes(), most, Faults::From(100));
+        let mut table = FaultySource::new(b"", 1, Faults::From(0));
+        let mut out: FaultySink<128> = FaultySink::new(64, Faults::From(100));
+        let mut err: FaultySink<64> = FaultySink::new(64, Faults::From(100));
         let command = Command::UncompactCells { res: 6 };
         let alloc = rt.alloc();
         let status = run(alloc, &command, &mut input, &mut table, &mut out, &mut err);
         assert!(&rt; status < 4, "{list}");
-        assert_eq!(&rt; input.calls_left(), 100 - pulls, "{list}");
+        assert_eq!(&rt; input.pulls(), pulls, "{list}");
         assert!(&rt; !input.failed() && !table.failed(), "{list}");
     }
 }
 
 #[test]
 fn a_standard_error_that_fails_changes_no_status(rt: HostRuntime) {
-    let mut err: SlowSink<64> = SlowSink::new(64, 0);
-    let mut out: SlowSink<64> = SlowSink::new(64, 100);
+    let mut err: FaultySink<64> = FaultySink::new(64, Faults::From(0));
+    let mut out: FaultySink<64> = FaultySink::new(64, Faults::From(100));
     let command = Command::IsValidCell { cell: None };
     assert_eq!(&rt; run_alone(&rt, &command, &mut out, &mut err), 1);
-    let mut out: SlowSink<64> = SlowSink::new(64, 0);
+    let mut out: FaultySink<64> = FaultySink::new(64, Faults::From(0));
     assert_eq!(&rt; run_alone(&rt, &IS_CELL, &mut out, &mut err), 4);
     assert!(&rt; err.bytes().is_empty());
 }

@@ -1,10 +1,9 @@
 //! Lists whose lines are long, or cut by a reader that fails; and walks far beyond what is written.
 
 use crate::cases::{Case, NO_FAULT, Reads};
-use crate::streams::Faults;
-use crate::tables::table_file;
 use arrayvec::ArrayString;
 use h3_command::Command;
+use h3_fakes::{Faults, table_file};
 use h3_index::read_index;
 use h3_lattice::vectors::TestTable;
 use std::process::Abort;

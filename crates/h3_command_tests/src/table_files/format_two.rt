@@ -1,7 +1,7 @@
 //! Commands over tables in format 2.
 
 use super::{assert_run, base_records_of, bases_file_of, bases_test_file};
-use crate::command::Command;
+use h3_command::Command;
 use h3_grid::step;
 use h3_index::{Cell, Streamed, read_index};
 use h3_lattice::vectors::TestTable;

@@ -58,6 +58,11 @@ impl<'a> FaultySource<'a> {
     pub fn pulls(&self) -> u64 {
         self.pulls
     }
+
+    /// Whether a pull failed.
+    pub fn failed(&self) -> bool {
+        self.failed
+    }
 }
 
 impl Source for FaultySource<'_> {

@@ -1,7 +1,7 @@
-use crate::command::Command;
-use crate::run::run;
-use crate::table_files::{assert_run, assert_unread, run_to, test_file};
-use h3_fakes::{SlowSink, SlowSource};
+use crate::table_files::{assert_run, assert_unread, run_to};
+use h3_command::Command;
+use h3_command::run::run;
+use h3_fakes::{Faults, FaultySink, FaultySource, table_file};
 use h3_index::read_index;
 use h3_lattice::vectors::TestTable;
 use std::process::Abort;
@@ -51,10 +51,10 @@ fn edges(cell: &str) -> Command {
 
 /// Asserts what a command writes that reads neither a list nor a table.
 fn assert_plain<R: Abort + AllocGlobal>(rt: &R, command: Command, text: &str) {
-    let mut input = SlowSource::new(b"", 1, 0);
-    let mut table = SlowSource::new(b"", 1, 0);
-    let mut out: SlowSink<128> = SlowSink::new(64, 100);
-    let mut err: SlowSink<64> = SlowSink::new(64, 100);
+    let mut input = FaultySource::new(b"", 1, Faults::From(0));
+    let mut table = FaultySource::new(b"", 1, Faults::From(0));
+    let mut out: FaultySink<128> = FaultySink::new(64, Faults::From(100));
+    let mut err: FaultySink<64> = FaultySink::new(64, Faults::From(100));
     let alloc = rt.alloc();
     let status = run(alloc, &command, &mut input, &mut table, &mut out, &mut err);
     assert_eq!(rt; status, 0, "{command:?}");
@@ -77,8 +77,8 @@ const NOT_NEIGHBORS: &str = "error 11: E_NOT_NEIGHBORS\n";
 const RES_MISMATCH: &str = "error 12: E_RES_MISMATCH\n";
 
 #[test]
-fn neighbors_are_found(rt: HostRuntime) -> Result<(), Fail> {
-    let plain = test_file(&rt, TestTable::Plain)?;
+fn neighbors_are_found(rt: HostRuntime) {
+    let plain = table_file(TestTable::Plain);
     let pairs = [
         ("8528340ffffffff", "85283473fffffff", "true\n"),
         ("85283473fffffff", "8528340ffffffff", "true\n"),
@@ -92,7 +92,7 @@ fn neighbors_are_found(rt: HostRuntime) -> Result<(), Fail> {
     for (cell, to, text) in pairs {
         assert_run(&rt, &plain, neighbors(cell, to), (text, "", 0));
     }
-    let twisted = test_file(&rt, TestTable::Twisted)?;
+    let twisted = table_file(TestTable::Twisted);
     let pairs = [
         ("813d3ffffffffff", "813efffffffffff", "true\n"),
         ("813efffffffffff", "813d3ffffffffff", "true\n"),
@@ -101,12 +101,11 @@ fn neighbors_are_found(rt: HostRuntime) -> Result<(), Fail> {
     for (cell, to, text) in pairs {
         assert_run(&rt, &twisted, neighbors(cell, to), (text, "", 0));
     }
-    Ok(())
 }
 
 #[test]
-fn pairs_of_cells_are_refused(rt: HostRuntime) -> Result<(), Fail> {
-    let plain = test_file(&rt, TestTable::Plain)?;
+fn pairs_of_cells_are_refused(rt: HostRuntime) {
+    let plain = table_file(TestTable::Plain);
     let pairs = [
         ("85283473fffffff", "8428347ffffffff", RES_MISMATCH),
         ("8009fffffffffff", "8428347ffffffff", RES_MISMATCH),
@@ -126,7 +125,6 @@ fn pairs_of_cells_are_refused(rt: HostRuntime) -> Result<(), Fail> {
         let refused = ("", NOT_NEIGHBORS, 1);
         assert_run(&rt, &plain, edge_between(cell, to), refused);
     }
-    Ok(())
 }
 
 /// Asserts that over a table an edge leaves a cell and leads to another.
@@ -147,7 +145,7 @@ fn assert_leads<R: Abort + AllocGlobal>(
 
 #[test]
 fn edges_lead_from_a_cell_to_another(rt: HostRuntime) -> Result<(), Fail> {
-    let plain = test_file(&rt, TestTable::Plain)?;
+    let plain = table_file(TestTable::Plain);
     let edges = [
         ("85283473fffffff", "115283473fffffff", "85283477fffffff"),
         ("813d3ffffffffff", "1413d3ffffffffff", "813ebffffffffff"),
@@ -157,7 +155,7 @@ fn edges_lead_from_a_cell_to_another(rt: HostRuntime) -> Result<(), Fail> {
         assert_leads(&rt, &plain, words)?;
     }
     // the way back is not in the opposite direction
-    let twisted = test_file(&rt, TestTable::Twisted)?;
+    let twisted = table_file(TestTable::Twisted);
     let edges = [
         ("813d3ffffffffff", "1413d3ffffffffff", "813efffffffffff"),
         ("813efffffffffff", "1113efffffffffff", "813d3ffffffffff"),
@@ -169,12 +167,11 @@ fn edges_lead_from_a_cell_to_another(rt: HostRuntime) -> Result<(), Fail> {
 }
 
 #[test]
-fn an_edge_into_a_pentagon_base_cell_has_no_destination(rt: HostRuntime) -> Result<(), Fail> {
-    let plain = test_file(&rt, TestTable::Plain)?;
+fn an_edge_into_a_pentagon_base_cell_has_no_destination(rt: HostRuntime) {
+    let plain = table_file(TestTable::Plain);
     let refused = ("", PENTAGON, 1);
     assert_run(&rt, &plain, destination("11021fffffffffff"), refused);
     assert_run(&rt, &plain, destination("12009fffffffffff"), refused);
-    Ok(())
 }
 
 #[test]
@@ -267,10 +264,10 @@ fn a_read_fault_of_the_table_is_reported(rt: HostRuntime) -> Result<(), Fail> {
         edge_between("85283473fffffff", "85283477fffffff"),
         destination("115283473fffffff"),
     ] {
-        let mut input = SlowSource::new(b"", 1, 0);
-        let mut table = SlowSource::new(b"base,dir,to,rot\n", 4, 2);
-        let mut out: SlowSink<64> = SlowSink::new(64, 0);
-        let mut err: SlowSink<64> = SlowSink::new(64, 100);
+        let mut input = FaultySource::new(b"", 1, Faults::From(0));
+        let mut table = FaultySource::new(b"base,dir,to,rot\n", 4, Faults::From(2));
+        let mut out: FaultySink<64> = FaultySink::new(64, Faults::From(0));
+        let mut err: FaultySink<64> = FaultySink::new(64, Faults::From(100));
         let alloc = rt.alloc();
         let status = run(alloc, &command, &mut input, &mut table, &mut out, &mut err);
         assert_eq!(&rt; status, 4, "{command:?}");
@@ -281,7 +278,7 @@ fn a_read_fault_of_the_table_is_reported(rt: HostRuntime) -> Result<(), Fail> {
 
 #[test]
 fn a_write_fault_leaves_a_beginning(rt: HostRuntime) -> Result<(), Fail> {
-    let plain = test_file(&rt, TestTable::Plain)?;
+    let plain = table_file(TestTable::Plain);
     // the first has no room for its second line, and the second fails at its flush
     let edge = edge_between("85283473fffffff", "85283477fffffff");
     let runs = [
@@ -289,7 +286,7 @@ fn a_write_fault_leaves_a_beginning(rt: HostRuntime) -> Result<(), Fail> {
         (edge, 1, "115283473fffffff\n"),
     ];
     for (command, calls, text) in runs {
-        let mut out: SlowSink<20> = SlowSink::new(64, calls);
+        let mut out: FaultySink<20> = FaultySink::new(64, Faults::From(calls));
         let (err, status) = run_to(&rt, &plain, command, &mut out);
         assert_eq!(&rt; status, 4, "{command:?}");
         assert!(&rt; out.bytes() == text.as_bytes(), "{command:?}");

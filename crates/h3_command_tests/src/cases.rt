@@ -1,8 +1,8 @@
 //! Commands and their answers, for tests over streams that fail.
 
-use crate::streams::{Faults, FaultySink, FaultySource};
 use h3_command::Command;
 use h3_command::run::run;
+use h3_fakes::{Faults, FaultySink, FaultySource};
 use h3_index::{Sink, read_index};
 
 /// No call fails.

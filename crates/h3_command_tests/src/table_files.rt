@@ -1,8 +1,8 @@
 //! Table files for tests, and runs over them.
 
-use crate::command::Command;
-use crate::run::run;
-use h3_fakes::{SlowSink, SlowSource};
+use h3_command::Command;
+use h3_command::run::run;
+use h3_fakes::{Faults, FaultySink, FaultySource};
 use h3_index::is_pentagon_base;
 use h3_lattice::Direction;
 use h3_lattice::vectors::{TestTable, link};
@@ -33,12 +33,6 @@ pub fn file_of(rt: &HostRuntime, records: &[[u8; 4]]) -> Result<String, Fail> {
         text.push_str(&line)?;
     }
     Ok(text)
-}
-
-/// The file of a test table.
-pub fn test_file(rt: &HostRuntime, table: TestTable) -> Result<String, Fail> {
-    let records = records_of(rt, table)?;
-    file_of(rt, &records)
 }
 
 /// The records of a test table in format 2: a base cell, six neighbours and six numbers of turns.
@@ -88,10 +82,10 @@ pub fn assert_run<R: Abort + AllocGlobal>(
 ) {
     let (text, line, expected) = answer;
     for most in [7, 65536] {
-        let mut input = SlowSource::new(b"", 1, 0);
-        let mut table = SlowSource::new(file.as_bytes(), most, 10000);
-        let mut out: SlowSink<512> = SlowSink::new(64, 100);
-        let mut err: SlowSink<64> = SlowSink::new(64, 100);
+        let mut input = FaultySource::new(b"", 1, Faults::From(0));
+        let mut table = FaultySource::new(file.as_bytes(), most, Faults::From(10000));
+        let mut out: FaultySink<512> = FaultySink::new(64, Faults::From(100));
+        let mut err: FaultySink<64> = FaultySink::new(64, Faults::From(100));
         let alloc = rt.alloc();
         let status = run(alloc, &command, &mut input, &mut table, &mut out, &mut err);
         assert_eq!(rt; status, expected, "{command:?}");
@@ -103,10 +97,10 @@ pub fn assert_run<R: Abort + AllocGlobal>(
 
 /// Asserts that a command ends with this line of an H3 error, and reads neither a list nor a table.
 pub fn assert_unread<R: Abort + AllocGlobal>(rt: &R, command: Command, line: &str) {
-    let mut input = SlowSource::new(b"", 1, 0);
-    let mut table = SlowSource::new(b"", 1, 0);
-    let mut out: SlowSink<64> = SlowSink::new(64, 0);
-    let mut err: SlowSink<64> = SlowSink::new(64, 100);
+    let mut input = FaultySource::new(b"", 1, Faults::From(0));
+    let mut table = FaultySource::new(b"", 1, Faults::From(0));
+    let mut out: FaultySink<64> = FaultySink::new(64, Faults::From(0));
+    let mut err: FaultySink<64> = FaultySink::new(64, Faults::From(100));
     let alloc = rt.alloc();
     let status = run(alloc, &command, &mut input, &mut table, &mut out, &mut err);
     assert_eq!(rt; status, 1, "{command:?}");
@@ -120,11 +114,11 @@ pub fn run_to<const N: usize>(
     rt: &HostRuntime,
     file: &str,
     command: Command,
-    out: &mut SlowSink<N>,
-) -> (SlowSink<64>, u8) {
-    let mut input = SlowSource::new(b"", 1, 0);
-    let mut table = SlowSource::new(file.as_bytes(), 65536, 100);
-    let mut err: SlowSink<64> = SlowSink::new(64, 100);
+    out: &mut FaultySink<N>,
+) -> (FaultySink<64>, u8) {
+    let mut input = FaultySource::new(b"", 1, Faults::From(0));
+    let mut table = FaultySource::new(file.as_bytes(), 65536, Faults::From(100));
+    let mut err: FaultySink<64> = FaultySink::new(64, Faults::From(100));
     let status = run(rt.alloc(), &command, &mut input, &mut table, out, &mut err);
     (err, status)
 }

@@ -1,0 +1,19 @@
+//! The tests of the commands of `h3_command`: their answers, and their runs over streams that fail.
+#![tactic(auto)]
+
+#[cfg(test)]
+mod cases;
+#[cfg(test)]
+mod edges;
+#[cfg(test)]
+mod lists;
+#[cfg(test)]
+mod readers;
+#[cfg(test)]
+mod runs;
+#[cfg(test)]
+mod table_files;
+#[cfg(test)]
+mod walks;
+#[cfg(test)]
+mod writers;
