@@ -143,3 +143,35 @@ fn reads_past_the_limit_are_read_faults(rt: HostRuntime) -> Result<(), Fail> {
     assert_eq!(&rt; read.err(), Some(Refusal::Read));
     Ok(())
 }
+
+#[test]
+fn plain_lines_stand_among_others(rt: HostRuntime) {
+    let two = [0x85283473fffffff, 0x8029fffffffffff];
+    for text in [
+        "85283473fffffff\n8029FFFFFFFFFFF\n",
+        "85283473FFFFFFF\n8029fffffffffff\n",
+        "085283473fffffff\n8029fffffffffff\r\n",
+        " 85283473fffffff\n8029fffffffffff\n \n",
+        "0x85283473fffffff\n8029fffffffffff",
+    ] {
+        assert!(&rt; lists(&rt, text.as_bytes(), &two), "at {text}");
+    }
+    for text in [
+        "85283473fffffff\n8029ffffffffff\x10\n",
+        "85283473fffffff\n8029ffffffffffg\n",
+        "85283473fffffff\n8029fff ffffff\n",
+        "85283473fffffff8029fffffffffff\n",
+    ] {
+        assert!(&rt; refuses(&rt, text.as_bytes(), H3Error::Failed), "at {text}");
+    }
+    for text in [
+        "85283473fffffff\nfffffffffffffff\n",
+        "85283473fffffff\n8029ffffffffff\n",
+        "85283473fffffff\n000000000000000\n",
+    ] {
+        assert!(&rt;
+            refuses(&rt, text.as_bytes(), H3Error::CellInvalid),
+            "at {text}"
+        );
+    }
+}
