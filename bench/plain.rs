@@ -10,11 +10,13 @@
 //! compacted list of the children but one of 160, in a random way that is always the same, with the children one level
 //! down in place of every tenth cell).
 
+mod texts;
 mod walks;
 
 use std::env;
 use std::fs;
-use std::io::{self, BufWriter, Read, Write};
+use std::io::{self, Read, Write};
+use texts::{Page, read_index, read_plain};
 
 const PENTAGONS: [u64; 12] = [4, 14, 24, 38, 49, 58, 63, 72, 83, 97, 107, 117];
 
@@ -34,37 +36,27 @@ fn with_digit(cell: u64, r: u64, digit: u64) -> u64 {
     cell & !(7 << (45 - 3 * r)) | digit << (45 - 3 * r)
 }
 
+/// Whether a number is a cell's: all digits are tested at once.
 fn is_valid(cell: u64) -> bool {
     if cell >> 56 != 8 || base(cell) > 121 {
         return false;
     }
-    let mut in_pentagon = PENTAGONS.contains(&base(cell));
-    for r in 1..=15 {
-        let d = digit(cell, r);
-        if r > resolution(cell) {
-            if d != 7 {
-                return false;
-            }
-        } else {
-            if d == 7 || in_pentagon && d == 1 {
-                return false;
-            }
-            in_pentagon &= d == 0;
-        }
-    }
-    true
+    let places = 3 * (15 - resolution(cell));
+    let unused = (1 << places) - 1;
+    let digits = (cell & (1 << 45) - 1) >> places;
+    let sevens = digits & digits >> 1 & digits >> 2 & 0o111_111_111_111_111;
+    // the first digit that is not 0 is 1 where its highest bit is the lowest of three
+    let leads_with_one = digits.leading_zeros() % 3 == 0;
+    cell & unused == unused && sevens == 0 && !(leads_with_one && PENTAGONS.contains(&base(cell)))
 }
 
 fn is_pentagon(cell: u64) -> bool {
-    PENTAGONS.contains(&base(cell)) && (1..=resolution(cell)).all(|r| digit(cell, r) == 0)
+    (cell & (1 << 45) - 1) >> (3 * (15 - resolution(cell))) == 0 && PENTAGONS.contains(&base(cell))
 }
 
 fn center(cell: u64, res: u64) -> u64 {
-    let mut child = cell & !(15 << 52) | res << 52;
-    for r in resolution(cell) + 1..=res {
-        child = with_digit(child, r, 0);
-    }
-    child
+    let finer = res - resolution(cell) << 52;
+    cell + finer + (1 << (3 * (15 - res))) - (1 << (3 * (15 - resolution(cell))))
 }
 
 fn count(pentagon: bool, levels: u64) -> u64 {
@@ -72,9 +64,11 @@ fn count(pentagon: bool, levels: u64) -> u64 {
     if pentagon { 1 + 5 * (sevens - 1) / 6 } else { sevens }
 }
 
+/// The children of a cell: the next, how many are left, and what one more in the last digit adds to a number.
 struct Children {
     next: u64,
     left: u64,
+    unit: u64,
 }
 
 impl Children {
@@ -82,52 +76,51 @@ impl Children {
         Children {
             next: center(cell, res),
             left: count(is_pentagon(cell), res - resolution(cell)),
+            unit: 1 << (3 * (15 - res)),
         }
     }
+}
+
+/// The next cell where it has another parent, or the one between is deleted.
+fn next_cousin(cell: u64) -> u64 {
+    let mut r = resolution(cell);
+    let mut next = cell;
+    while digit(next, r) == 6 {
+        next = with_digit(next, r, 0);
+        r -= 1;
+    }
+    let d = digit(next, r);
+    // the digit 1 is deleted below a pentagon
+    let skips = d == 0
+        && PENTAGONS.contains(&base(cell))
+        && (1..r).all(|above| digit(cell, above) == 0);
+    with_digit(next, r, if skips { 2 } else { d + 1 })
 }
 
 impl Iterator for Children {
     type Item = u64;
 
+    #[inline(always)]
     fn next(&mut self) -> Option<u64> {
         if self.left == 0 {
             return None;
         }
         self.left -= 1;
         let cell = self.next;
-        let mut r = resolution(cell);
-        let mut next = cell;
-        while r > 0 && digit(next, r) == 6 {
-            next = with_digit(next, r, 0);
-            r -= 1;
+        if self.left > 0 {
+            let last = cell & 7 * self.unit;
+            self.next = if last == 6 * self.unit || last == 0 && is_pentagon(cell) {
+                next_cousin(cell)
+            } else {
+                cell + self.unit
+            };
         }
-        if r > 0 {
-            let d = digit(next, r);
-            // the digit 1 is deleted below a pentagon
-            let skips = d == 0
-                && PENTAGONS.contains(&base(cell))
-                && (1..r).all(|above| digit(cell, above) == 0);
-            next = with_digit(next, r, if skips { 2 } else { d + 1 });
-        }
-        self.next = next;
         Some(cell)
     }
 }
 
-fn write_line(out: &mut impl Write, cell: u64) -> io::Result<()> {
-    let mut line = [b'\n'; 17];
-    let digits = 16 - cell.leading_zeros() as usize / 4;
-    for (i, byte) in line[..digits].iter_mut().enumerate() {
-        *byte = b"0123456789abcdef"[(cell >> (4 * (digits - 1 - i)) & 15) as usize];
-    }
-    out.write_all(&line[..=digits])
-}
-
 fn read_cell(line: &[u8]) -> Option<u64> {
-    let text = std::str::from_utf8(line.trim_ascii()).ok()?;
-    let text = text.strip_prefix("0x").unwrap_or(text);
-    let cell = u64::from_str_radix(text, 16).ok()?;
-    is_valid(cell).then_some(cell)
+    read_index(line).filter(|cell| is_valid(*cell))
 }
 
 fn read_cells() -> io::Result<Vec<u64>> {
@@ -139,7 +132,18 @@ fn read_cells() -> io::Result<Vec<u64>> {
         let count = input.read(&mut page[held..])?;
         let end = held + count;
         let mut start = 0;
-        while let Some(length) = page[start..end].iter().position(|b| *b == b'\n') {
+        loop {
+            // lines of fifteen digits, one after another
+            while start + 16 <= end
+                && page[start + 15] == b'\n'
+                && let Some(cell) = read_plain(&page[start..start + 15])
+            {
+                cells.push(Some(cell).filter(|cell| is_valid(*cell)).expect("a cell"));
+                start += 16;
+            }
+            let Some(length) = page[start..end].iter().position(|b| *b == b'\n') else {
+                break;
+            };
             let line = &page[start..start + length];
             if !line.trim_ascii().is_empty() {
                 cells.push(read_cell(line).expect("a cell"));
@@ -230,9 +234,9 @@ fn shuffle(cells: &mut [u64]) {
     }
 }
 
-fn write_cells(out: &mut impl Write, cells: impl Iterator<Item = u64>) -> io::Result<()> {
+fn write_cells(out: &mut Page<impl Write>, cells: impl Iterator<Item = u64>) -> io::Result<()> {
     for cell in cells {
-        write_line(out, cell)?;
+        out.put(cell)?;
     }
     Ok(())
 }
@@ -361,7 +365,7 @@ fn write_table(out: &mut impl Write, link: impl Fn(u8, usize) -> (u8, u8)) -> io
 fn main() -> io::Result<()> {
     let words: Vec<String> = env::args().skip(1).collect();
     let words: Vec<&str> = words.iter().map(String::as_str).collect();
-    let mut out = BufWriter::with_capacity(65536, io::stdout().lock());
+    let mut out = Page::new(io::stdout().lock());
     match words[..] {
         ["valid", cell] => writeln!(out, "{}", u64::from_str_radix(cell, 16).is_ok_and(is_valid))?,
         ["children", cell, res] => write_cells(&mut out, children(cell, res))?,
@@ -397,7 +401,7 @@ fn main() -> io::Result<()> {
             let res = res.parse().expect("a resolution");
             for cell in read_cells()? {
                 for child in Children::of(cell, res) {
-                    write_line(&mut out, child)?;
+                    out.put(child)?;
                 }
             }
         }

@@ -1,6 +1,7 @@
 //! Steps, disks and rings over a table of base cells, by carry tables on a cell's packed digits.
 
-use super::{Links, TURNED, base, digit, is_hexagon, resolution, with_digit, write_line};
+use super::{Links, TURNED, base, digit, is_hexagon, resolution, with_digit};
+use crate::texts::Page;
 use std::io::{self, Write};
 
 /// The digit that a digit and a direction give, and the direction that is carried, 0 for none: for even and for odd
@@ -71,15 +72,15 @@ fn step(links: &Links, cell: u64, direction: usize, rotation: u8) -> Option<(u64
 /// The directions of the sides of a ring: J, JK, K, IK, I and IJ.
 const SIDES: [usize; 6] = [2, 3, 1, 5, 4, 6];
 
-pub fn disk(out: &mut impl Write, links: &Links, origin: u64, k: u32) -> io::Result<()> {
+pub fn disk(out: &mut Page<impl Write>, links: &Links, origin: u64, k: u32) -> io::Result<()> {
     let (mut cell, mut rotation) = (origin, 0);
-    write_line(out, cell)?;
+    out.put(cell)?;
     for ring in 1..=k {
         (cell, rotation) = step(links, cell, 4, rotation).expect("a hexagon base cell");
         for side in SIDES {
             for _ in 0..ring {
                 (cell, rotation) = step(links, cell, side, rotation).expect("a hexagon base cell");
-                write_line(out, cell)?;
+                out.put(cell)?;
             }
         }
     }
@@ -100,7 +101,7 @@ pub fn rounds(links: &Links, origin: u64, count: u64) -> u64 {
     sum
 }
 
-pub fn ring(out: &mut impl Write, links: &Links, origin: u64, k: u32) -> io::Result<()> {
+pub fn ring(out: &mut Page<impl Write>, links: &Links, origin: u64, k: u32) -> io::Result<()> {
     let (mut cell, mut rotation) = (origin, 0);
     for _ in 0..k {
         (cell, rotation) = step(links, cell, 4, rotation).expect("a hexagon base cell");
@@ -108,7 +109,7 @@ pub fn ring(out: &mut impl Write, links: &Links, origin: u64, k: u32) -> io::Res
     let first = cell;
     for side in SIDES {
         for _ in 0..k {
-            write_line(out, cell)?;
+            out.put(cell)?;
             (cell, rotation) = step(links, cell, side, rotation).expect("a hexagon base cell");
         }
     }

@@ -1,11 +1,13 @@
 -- What the words of a command line lead to.
-use Rattle.std.specs.Prelude.{◌≡◌, ◌⊎◌, ℕ, false, List, [], Option, Some, None, option_map, map, string_bytes, Result, Ok, Err, IfOk, IfErr, OnOk}
+use Rattle.std.specs.Prelude.{◌≡◌, ◌⊎◌, ℕ, false, List, [], Option, Some, None, option_map, string_bytes, Result, Ok, Err, IfOk, IfErr, OnOk}
 use Rattle.clap.specs.Words.{Text, fault_of}
 use Rattle.std.specs.Io.KnownBytes.{Appends}
-use Rattle.h3_command.specs.Answer.{Request, reads_list, reads_table, request, written}
-use Rattle.h3_command.specs.Run.{AppendsPart, IsLeft, Reports, Runs, SourceUse, Streams, Writes}
-use Rattle.h3_command.specs.declared.refusal.Refusal.{Refusal}
-use Rattle.h3_command.specs.declared.refusal.Refusal.TheVariants as refusal
+use Rattle.h3_lines.specs.Answer.{written}
+use Rattle.h3_lines.specs.Writing.{AppendsPart, IsLeft, Reports, Writes}
+use Rattle.h3_lines.specs.declared.refusal.Refusal.{Refusal}
+use Rattle.h3_lines.specs.declared.refusal.Refusal.TheVariants as refusal
+use Rattle.h3_command.specs.Answer.{Request, reads_list, reads_table, request}
+use Rattle.h3_command.specs.Run.{Runs, SourceUse, Streams}
 use Rattle.h3_cli.specs.Call.{IsPlainCall}
 use Rattle.h3_cli.specs.Commands.{app}
 use Rattle.h3_cli.specs.Faults.{IsFaultOf}

@@ -8,9 +8,8 @@ mod program;
 mod table;
 mod words;
 
-use h3_command::Refusal;
-use h3_command::run::report;
 use h3_index::{H3Error, Sink, Source, Streamed};
+use h3_lines::{Refusal, report};
 use page::PageWriter;
 use program::run_words;
 use std::env;

@@ -1,17 +1,18 @@
 //! The whole program but for what only the system can give: words, the standard streams, and files.
 
 ghost use Rattle.std.specs.Prelude.{◌≡◌, map, string_bytes, option_map, Result};
+ghost use Rattle.h3_lines.specs.Writing.{sink_use};
 ghost use Rattle.h3_command.specs.Answer.{request};
-ghost use Rattle.h3_command.specs.Run.{sink_use, source_use};
+ghost use Rattle.h3_command.specs.Run.{source_use};
 ghost use Rattle.h3_cli.specs.Program.{Follows, ParsesAs, RunsCommand};
 ghost use Rattle.h3_cli.specs.declared.words.Words.{Words};
 ghost use Rattle.h3_cli.specs.declared.words.WordsFault.{WordsFault};
 
 use crate::table::OpenTable;
 use crate::words::{Words, WordsFault, read_words};
-use h3_command::run::{report, run};
-use h3_command::{Refusal, write_all, write_answer};
+use h3_command::run::run;
 use h3_index::{Sink, Source};
+use h3_lines::{Refusal, report, write_all, write_answer};
 use std::alloc::Global;
 
 /// Runs a command, and returns the exit status. Its table is opened first, if it has one; where that

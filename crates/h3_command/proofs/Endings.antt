@@ -1,24 +1,22 @@
 -- How a run ends that reads a list or a table, and what a run does whose ending is known.
-use Rattle.std.proofs.Common.{◌≡◌, ℕ, ◌⊎◌, Bool, true, false, List, Option, None, Some, Result, Ok, Err, IsOk, IsTrue, OnOk, OnErr, [], append-nil, sym, subst, refl, inl, inr}
+use Rattle.std.proofs.Common.{◌≡◌, ℕ, ◌⊎◌, Bool, true, false, List, Option, None, Some, Result, Ok, Err, IsOk, IsTrue, [], sym, subst, refl, inl, inr}
 use Rattle.h3_index.specs.Cell.{Address}
 use Rattle.h3_index.specs.Stream.{HasLeft}
-use Rattle.std.specs.Io.KnownBytes.{Appends}
-use Rattle.h3_index.specs.declared.stream.StreamFault.{StreamFault}
 use Rattle.h3_index.specs.declared.error.H3Error.{H3Error}
 use Rattle.h3_lattice.specs.Fields.{records_of}
 use Rattle.h3_lattice.specs.Links.{Links}
 use Rattle.h3_lattice.specs.Table.{RefusesTable, links_of, table_fault}
 use Rattle.h3_lattice.specs.declared.error.TableError.{TableError}
 use Rattle.h3_lattice.specs.declared.error.TableError.TheVariants as fault
-use Rattle.h3_command.specs.Answer.{Answer, Request, about_table, answer_or_error, with_table, out_of_memory, unless_faulty}
+use Rattle.h3_lines.specs.Answer.{Answer, answer_or_error, out_of_memory}
+use Rattle.h3_lines.specs.List.{RefusesList, listed_cells}
+use Rattle.h3_lines.specs.Refusal.{table_refusal}
+use Rattle.h3_lines.specs.declared.refusal.Refusal.{Refusal}
+use Rattle.h3_lines.specs.declared.refusal.Refusal.TheVariants.{Error, Memory, Read, Write, Table, TableOpen}
+use Rattle.h3_lines.specs.Writing.{IsLeft, Reports, SinkUse, Writes}
+use Rattle.h3_command.specs.Answer.{Request, about_table, with_table, unless_faulty}
 use Rattle.h3_command.specs.Answer.Request.{of_list, of_table, plain}
-use Rattle.h3_command.specs.List.{listed_cells}
-use Rattle.h3_command.specs.Reading.{RefusesList}
-use Rattle.h3_command.specs.Refusal.{refusal_line, refusal_status, table_refusal}
-use Rattle.h3_command.specs.declared.refusal.Refusal.{Refusal}
-use Rattle.h3_command.specs.declared.refusal.Refusal.TheVariants.{Error, Memory, Read, Write, Table, TableOpen}
-use Rattle.h3_command.specs.Run.{Answers, AppendsPart, Ends, Gives, IsLeft, IsReadAsList, IsSound, IsWithinReads, ReadFails, Reports, Runs, SinkUse, SourceUse, Streams, Writes, WritesReading}
-use Rattle.h3_command.proofs.Pages.{some_held}
+use Rattle.h3_command.specs.Run.{Answers, Ends, Gives, IsReadAsList, IsSound, IsWithinReads, ReadFails, Runs, SourceUse, Streams, WritesReading}
 use Rattle.h3_command.proofs.Written.{nothing, writes_refused}
 
 -- an answer to what was read is written, and no read failed
@@ -102,6 +100,11 @@ table_answered about read value links ending input table out is file held short 
 
 -- ---- a run
 
+-- a source has some bytes left
+some_held : (told : Option (List ℕ)) → (bytes : List ℕ) × HasLeft told bytes
+some_held None = ([], tt)
+some_held (Some xs) = (xs, refl)
+
 -- an answer that was written, where no write failed, is given
 gives_written : (a : Answer) (ending : Result (Unit {0}) Refusal) (status : ℕ) (s : Streams) → Writes a ending s.out → s.out.has_failed ≡ false → Reports ending status s.err → Gives a status s
 unfolding Writes
@@ -157,14 +160,3 @@ answers (of_table about) ending status s (file, held, writes) reports =
 pub runs_so : (r : Request) (ending : Result (Unit {0}) Refusal) (status : ℕ) (s : Streams) → Ends r s.input s.table ending s.out → Reports ending status s.err → Runs r status s
 runs_so r ending status s ends reports =
     record { answers = answers r ending status s ends reports; ending = ending; ends = ends; reports = reports }
-
--- ---- standard error
-
--- the line of a refusal was pushed, or a part of it
-pub refusal_reported : (refusal : Refusal) (status : ℕ) (bytes : List ℕ) (pushed : Result (Unit {0}) StreamFault) (err : SinkUse) → status ≡ refusal_status refusal → bytes ≡ refusal_line refusal
-    → OnOk pushed (Appends err.before err.after bytes) → OnErr pushed (AppendsPart err.before err.after bytes) → OnErr pushed (err.has_failed ≡ true) → Reports (Err refusal) status err
-refusal_reported refusal status bytes (Ok u) err told is whole part failed =
-    let grown : Appends err.before err.after (refusal_line refusal) = subst (Appends err.before err.after) is whole in
-    record { status_is = told; line = λ ok. grown; part = record { part = refusal_line refusal; rest = []; split = sym (append-nil (refusal_line refusal)); holds = grown } }
-refusal_reported refusal status bytes (Err e) err told is whole part failed =
-    record { status_is = told; line = λ ok. absurd (cc (ok, failed)); part = subst (AppendsPart err.before err.after) is part }

@@ -1,7 +1,3 @@
 pub mod BasesLaws
 pub mod Endings
-pub mod Lines
-pub mod ListLines
-pub mod Pages
-pub mod Walk
 pub mod Written

@@ -1,57 +1,24 @@
--- What is written in part, and what a flush leaves.
-use Rattle.std.proofs.Common.{◌≡◌, ℕ, List, [], Option, None, Some, true, Result, Ok, Err, IsErr, sym, ap, ◌∙◌, subst, refl, append-nil}
+-- What a command's writing is where an error stands in place of its answer, or where it has items.
+use Rattle.std.proofs.Common.{◌≡◌, ℕ, ℤ, List, [], Option, None, Some, Result, Ok, Err, sym, ap, ◌∙◌, subst, refl, append-nil}
 use Rattle.std.specs.Io.KnownBytes.{Appends, Keeps}
 use Rattle.std.specs.Prelude.{IfOk}
 use Rattle.std.specs.Iterator.{YieldsFirst}
 use Rattle.std.specs.Result.{result_err}
+use Rattle.std.proofs.lemmas.Iterator.{YieldsList}
 use Rattle.std.proofs.lemmas.Iterator.Consumers.{YieldsList-from_first}
-use Rattle.h3_index.specs.Stream.{KeepsOrHides}
 use Rattle.h3_index.specs.declared.error.H3Error.{H3Error}
-use Rattle.h3_command.specs.Answer.{Answer, answer_or_error, refused, written}
+use Rattle.h3_lines.specs.Answer.{Answer, answer_or_error, refused, walked}
+use Rattle.h3_lines.specs.Writing.{IsLeft, SinkUse, Writes}
+use Rattle.h3_lines.specs.declared.refusal.Refusal.{Refusal}
+use Rattle.h3_lines.specs.declared.refusal.Refusal.TheVariants.{Error}
 use Rattle.h3_command.specs.Hierarchy.{unless}
-use Rattle.h3_command.specs.declared.refusal.Refusal.{Refusal}
-use Rattle.h3_command.specs.declared.refusal.Refusal.TheVariants.{Error, Write}
 use Rattle.h3_command.specs.Items.{Lists}
-use Rattle.h3_command.specs.Run.{AppendsOrHides, AppendsPart, IsLeft, IsErrorAlone, SinkUse, Takes, Writes}
-
-pub hides : (old mid new : Option (List ℕ)) (bs : List ℕ) → Appends old mid bs → KeepsOrHides mid new → AppendsOrHides old new bs
-hides None mid new bs grown kept = tt
-hides (Some xs) None new bs grown kept = absurd grown
-hides (Some xs) (Some ys) None bs grown kept = tt
-hides (Some xs) (Some ys) (Some zs) bs grown kept = kept ∙ grown
-
--- what is appended may be told no more
-pub appended_hides : (old new : Option (List ℕ)) (bs : List ℕ) → Appends old new bs → AppendsOrHides old new bs
-appended_hides None new bs grown = tt
-appended_hides (Some xs) None bs grown = absurd grown
-appended_hides (Some xs) (Some ys) bs grown = grown
 
 -- nothing was appended
 pub nothing : (old new : Option (List ℕ)) → Keeps old new → Appends old new []
 nothing None new kept = tt
 nothing (Some xs) None kept = absurd kept
 nothing (Some xs) (Some ys) kept = kept ∙ sym (append-nil xs)
-
--- ---- `Writes`, by how a run ends
-
-pub writes_whole : (bytes : List ℕ) (out : SinkUse) → Takes out bytes → Writes (written bytes) (Ok tt) out
-unfolding Writes
-writes_whole bytes out takes = (refl, takes)
-
--- an answer that is written to its end has no error
-whole_is_no_error : (bytes : List ℕ) → IsErrorAlone (written bytes) → ⊥
-whole_is_no_error bytes r = let never : IsErr (written bytes).ending = r.1 in cc
-
--- a push failed
-pub writes_part : (bytes : List ℕ) (out : SinkUse) → AppendsPart out.before out.after bytes → out.has_failed ≡ true → Writes (written bytes) (Err Write) out
-unfolding Writes
-writes_part bytes out p failed = (whole_is_no_error bytes, (record { part = p.part; rest = p.rest; split = p.split; holds = appended_hides _ _ _ p.holds }, failed))
-
--- all was pushed, and the flush then failed
-pub writes_unflushed : (bytes : List ℕ) (mid : Option (List ℕ)) (out : SinkUse) → Appends out.before mid bytes → KeepsOrHides mid out.after → out.has_failed ≡ true → Writes (written bytes) (Err Write) out
-unfolding Writes
-writes_unflushed bytes mid out grown kept failed =
-    (whole_is_no_error bytes, (record { part = bytes; rest = []; split = sym (append-nil bytes); holds = hides _ mid _ bytes grown kept }, failed))
 
 -- there is an error, and nothing is written
 pub writes_refused : (e : H3Error) (out : SinkUse) → IsLeft out → Writes (refused e) (Err (Error e)) out
@@ -85,3 +52,17 @@ pub lists_first : {S A : Type 0} (rest : S → List A) (items : Result S H3Error
 lists_first rest (Ok s) error all refused left =
     subst (λ e. Lists (YieldsFirst rest) (Ok s) (unless e all)) refused (YieldsList-from_first (λ x. x) rest all left)
 lists_first rest (Err e) error all refused left = subst (λ d. Lists (YieldsFirst rest) (Err e) (unless d all)) refused refl
+
+-- ---- a walk
+
+-- the walk begins, and what it has left is written
+pub walk_written : {S A : Type 0} (line : A → List ℕ) (rest : S → List (Result A H3Error)) (error : ℤ → Option H3Error) (items : ℤ → List (Result A H3Error)) {s : S} (k read : ℤ) (ending : Result (Unit {0}) Refusal) (out : SinkUse)
+    → read ≡ k → None ≡ error read → rest s ≡ items read → ((all : List (Result A H3Error)) → YieldsList (YieldsFirst rest) (λ x. x) s all → Writes (walked line all) ending out)
+    → Writes (answer_or_error (walked line) (unless (error k) (items k))) ending out
+walk_written line rest error items k read ending out same fits left writes =
+    answered_value (walked line) (error k) (items k) (items read) ending out (ap items same) (fits ∙ ap error same) (writes (items read) (YieldsList-from_first (λ x. x) rest (items read) left))
+
+-- the walk does not begin
+pub walk_unbegun : {A : Type 0} (line : A → List ℕ) (error : ℤ → Option H3Error) (items : List (Result A H3Error)) (k read : ℤ) (e : H3Error) (out : SinkUse)
+    → read ≡ k → Some e ≡ error read → IsLeft out → Writes (answer_or_error (walked line) (unless (error k) items)) (Err (Error e)) out
+walk_unbegun line error items k read e out same is left = answered_unless (walked line) (error k) items e out (is ∙ ap error same) left

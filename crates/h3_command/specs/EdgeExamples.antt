@@ -10,7 +10,8 @@ use Rattle.h3_lattice.specs.Digits.{cell_of}
 use Rattle.h3_lattice.specs.Links.{Links}
 use Rattle.h3_grid.specs.DirectedEdges.{edge_between, edges_from}
 use Rattle.h3_grid.specs.Neighbours.{are_neighbours, pair_refusal}
-use Rattle.h3_command.specs.Answer.{answer, refused, request, written}
+use Rattle.h3_lines.specs.Answer.{refused, written}
+use Rattle.h3_command.specs.Answer.{answer, request}
 use Rattle.h3_command.specs.Answer.Request.{plain}
 use Rattle.h3_command.specs.Edges.{are_neighbor_cells, cells_to_directed_edge}
 use Rattle.h3_command.specs.declared.command.Command.TheVariants.{AreNeighborCells, CellsToDirectedEdge, GetDirectedEdgeDestination, GetDirectedEdgeOrigin, IsValidDirectedEdge, OriginToDirectedEdges}

@@ -7,9 +7,6 @@ pub mod Examples
 pub mod Hierarchy
 pub mod Inspection
 pub mod Items
-pub mod List
-pub mod Reading
-pub mod Refusal
 pub mod Resolutions
 pub mod Run
 pub mod Sets

@@ -1,15 +1,15 @@
 -- What a run does with its streams.
-use Rattle.std.specs.Prelude.{◌≡◌, ℕ, ◌+◌, ◌≤◌, ◌*◌, ◌^◌, ◌⊎◌, Bool, true, false, List, [], ◌++◌, length, ⊤, Option, None, Some, Result, Ok, Err, IsErr, IsOk, IsTrue}
-use Rattle.std.specs.Io.KnownBytes.{Appends, Keeps}
+use Rattle.std.specs.Prelude.{◌≡◌, ℕ, ◌+◌, ◌≤◌, ◌*◌, ◌^◌, ◌⊎◌, Bool, true, false, List, length, Option, Result, Err, IsOk, IsTrue}
 use Rattle.h3_index.specs.Cell.{Address}
 use Rattle.h3_index.specs.Stream.{HasLeft}
 use Rattle.h3_lattice.specs.Links.{Links}
-use Rattle.h3_command.specs.declared.refusal.Refusal.{Refusal}
-use Rattle.h3_command.specs.declared.refusal.Refusal.TheVariants.{Error, Memory, Read, Write, Table, TableOpen}
-use Rattle.h3_command.specs.Answer.{Answer, Request, about_table, answer_to, answer_or_error, out_of_memory, reads_list, reads_table, takes_memory}
+use Rattle.h3_lines.specs.declared.refusal.Refusal.{Refusal}
+use Rattle.h3_lines.specs.declared.refusal.Refusal.TheVariants.{Memory, Read}
+use Rattle.h3_lines.specs.Answer.{Answer, answer_or_error, out_of_memory}
+use Rattle.h3_lines.specs.Writing.{IsLeft, Reports, SinkUse, Takes, Writes}
+use Rattle.h3_lines.specs.List.{listed_cells}
+use Rattle.h3_command.specs.Answer.{Request, about_table, answer_to, reads_list, reads_table, takes_memory}
 use Rattle.h3_command.specs.Answer.Request.{plain, of_list, of_table}
-use Rattle.h3_command.specs.List.{listed_cells}
-use Rattle.h3_command.specs.Refusal.{ending_line, ending_status}
 
 -- ---- streams
 
@@ -21,17 +21,6 @@ pub record SourceUse : Type 0 where
 
 abbrev pub source_use : {S : Type 0} → (S → Option (List ℕ)) → (S → Bool) → S → S → SourceUse
 source_use left failed old new = record { left = left old; had_failed = failed old; has_failed = failed new }
-
--- a sink over a call: the bytes that it had taken and has taken, where they are known, and whether it had failed and has
-pub record SinkUse : Type 0 where
-  pub before : Option (List ℕ)
-  pub after : Option (List ℕ)
-  pub had_failed : Bool
-  pub has_failed : Bool
-
-abbrev pub sink_use : {S : Type 0} → (S → Option (List ℕ)) → (S → Bool) → S → S → SinkUse
-sink_use taken failed old new =
-    record { before = taken old; after = taken new; had_failed = failed old; has_failed = failed new }
 
 -- the streams of a run
 pub record Streams : Type 0 where
@@ -52,50 +41,7 @@ ReadFails source bytes = (source.has_failed ≡ true) ⊎ (2 ^ 40 ≤ length byt
 abbrev pub IsWithinReads : ℕ → List ℕ → Type 0
 IsWithinReads page bytes = length bytes + page ≤ 2 ^ 40 * page
 
--- the sink took nothing, and no call of it failed
-abbrev pub IsLeft : SinkUse → Type 0
-IsLeft sink = Keeps sink.before sink.after × (sink.has_failed ≡ sink.had_failed)
-
--- the sink took these bytes, and no call of it failed
-abbrev pub Takes : SinkUse → List ℕ → Type 0
-Takes sink bytes = Appends sink.before sink.after bytes × (sink.has_failed ≡ sink.had_failed)
-
--- some beginning of the bytes has the property
-pub record SomeBeginning (P : List ℕ → Type 0) (bytes : List ℕ) : Type 0 where
-  pub part : List ℕ
-  pub rest : List ℕ
-  pub split : bytes ≡ part ++ rest
-  pub holds : P part
-
--- a beginning of the bytes was appended, and the rest of them was not
-abbrev pub AppendsPart : Option (List ℕ) → Option (List ℕ) → List ℕ → Type 0
-AppendsPart old new bytes = SomeBeginning (Appends old new) bytes
-
--- where the bytes are known before and after, they grew by these
-abbrev pub AppendsOrHides : Option (List ℕ) → Option (List ℕ) → List ℕ → Type 0
-AppendsOrHides None new bytes = ⊤
-AppendsOrHides (Some xs) None bytes = ⊤
-AppendsOrHides (Some xs) (Some ys) bytes = ys ≡ xs ++ bytes
-
--- a call of the sink failed, and it took a beginning of the bytes, or its bytes are no longer known
-abbrev pub TakesPart : SinkUse → List ℕ → Type 0
-TakesPart sink bytes = SomeBeginning (AppendsOrHides sink.before sink.after) bytes × (sink.has_failed ≡ true)
-
 -- ---- how a run ends
-
--- an answer that is an error and no output: no write fault comes in its place, so nothing is flushed for it that could fail
-abbrev pub IsErrorAlone : Answer → Type 0
-IsErrorAlone a = (a.output ≡ []) × IsErr a.ending
-
--- the answer is written: all of its output, and then the run ends as the answer does, or a part of it and a write fault
-unfoldable pub Writes : Answer → Result (Unit {0}) Refusal → SinkUse → Type 0
-Writes a (Ok u) out = (a.ending ≡ Ok u) × Takes out a.output
-Writes a (Err (Error e)) out = (a.ending ≡ Err (Error e)) × Takes out a.output
-Writes a (Err (Table e)) out = (a.ending ≡ Err (Table e)) × Takes out a.output
-Writes a (Err Memory) out = ⊥
-Writes a (Err Read) out = ⊥
-Writes a (Err TableOpen) out = ⊥
-Writes a (Err Write) out = (¬ IsErrorAlone a) × TakesPart out a.output
 
 -- The answer to these bytes of a source is written, and no read fails: then this was read. Or there is no memory, or a
 -- read fails, and then nothing is written.
@@ -124,12 +70,6 @@ abbrev pub Ends : Request → SourceUse → SourceUse → Result (Unit {0}) Refu
 Ends (plain a) input table ending out = Writes a ending out
 Ends (of_list about) input table ending out = WritesOfList about input ending out
 Ends (of_table about) input table ending out = WritesOfTable about table ending out
-
--- the status is that of this ending, and standard error has its line, or a beginning of it where it failed
-pub record Reports (ending : Result (Unit {0}) Refusal) (status : ℕ) (err : SinkUse) : Type 0 where
-  pub status_is : status ≡ ending_status ending
-  pub line : err.has_failed ≡ false → Appends err.before err.after (ending_line ending)
-  pub part : AppendsPart err.before err.after (ending_line ending)
 
 -- ---- where nothing fails
 

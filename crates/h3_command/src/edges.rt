@@ -9,18 +9,18 @@
 ghost use Rattle.std.specs.Prelude.{◌≡◌, false};
 ghost use Rattle.std.specs.Iterator.{YieldsFirst};
 ghost use Rattle.h3_grid.specs.Edges.{edges_left};
+ghost use Rattle.h3_lines.specs.Writing.{sink_use};
 ghost use Rattle.h3_command.specs.Answer.{reads_table, request};
 ghost use Rattle.h3_command.specs.Edges.{cell_pair_of, edge_of, get_directed_edge_origin, is_valid_directed_edge, origin_to_directed_edges};
 ghost use Rattle.h3_command.specs.Items.{Lists};
-ghost use Rattle.h3_command.specs.Run.{Ends, SourceUse, sink_use, source_use};
+ghost use Rattle.h3_command.specs.Run.{Ends, SourceUse, source_use};
 ghost use Rattle.h3_command.specs.declared.command.Command.TheVariants.{AreNeighborCells, CellsToDirectedEdge, GetDirectedEdgeDestination};
 
 use crate::inspection::cell_from;
-use crate::refusal::Refusal;
-use crate::write::write_result;
 use h3_grid::{Edges, are_neighbors, edge_between, edge_destination, edges_of};
 use h3_index::{Cell, Edge, H3Error, Sink, Source};
 use h3_lattice::BaseTable;
+use h3_lines::{Refusal, write_result};
 use std::alloc::Global;
 
 /// The edge with an index.

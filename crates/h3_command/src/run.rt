@@ -1,8 +1,9 @@
 //! Running a command.
 
 ghost use Rattle.std.specs.Prelude.{◌≡◌, false};
+ghost use Rattle.h3_lines.specs.Writing.{Reports, sink_use};
 ghost use Rattle.h3_command.specs.Answer.{reads_list, reads_table, request};
-ghost use Rattle.h3_command.specs.Run.{Ends, Reports, Runs, sink_use, source_use};
+ghost use Rattle.h3_command.specs.Run.{Ends, Runs, source_use};
 
 use crate::command::Command;
 use crate::edges::{
@@ -16,12 +17,11 @@ use crate::hierarchy::{
 use crate::inspection::{
     get_base_cell_number, get_resolution, is_pentagon, is_res_class_iii, is_valid_cell,
 };
-use crate::refusal::Refusal;
 use crate::resolutions::{get_num_cells, get_pentagons, get_res0_cells};
 use crate::sets::{compact_cells, uncompact_cells};
 use crate::walks::{grid_disk_distances_unsafe, grid_disk_unsafe, grid_ring_unsafe};
-use crate::write::{write_all, write_lines, write_result};
 use h3_index::{Sink, Source};
+use h3_lines::{Refusal, report, write_lines, write_result};
 use std::alloc::Global;
 
 /// Does the work of a command, up to the line on standard error.
@@ -83,22 +83,6 @@ fn perform<R: Source, T: Source, W: Sink>(
         }
         Command::OriginToDirectedEdges { cell } => {
             write_lines(out, origin_to_directed_edges(*cell)?)
-        }
-    }
-}
-
-/// Writes the error line of an ending, if it has one, and returns the exit status. A standard error
-/// that fails changes no status.
-pub fn report<E: Sink>(err: &mut E, ending: Result<(), Refusal>) -> u8
-    ensures reported { Reports ending result (sink_use E.taken E.has_failed err.old err.new) }
-    ensures err_kept { result ≡ 0 → err.new ≡ err.old }
-{
-    match ending {
-        Ok(()) => 0,
-        Err(refusal) => {
-            let line = refusal.line();
-            let _ = write_all(err, line.as_str().as_bytes());
-            refusal.status()
         }
     }
 }

@@ -1,14 +1,13 @@
 //! H3's functions on lists of cells.
 
 ghost use Rattle.std.specs.Prelude.{◌≡◌, ◌≤◌, length};
-ghost use Rattle.h3_command.specs.Answer.{cell_lines, printed};
-ghost use Rattle.h3_command.specs.Run.{Writes, WritesOfList, sink_use, source_use};
+ghost use Rattle.h3_lines.specs.Answer.{cell_lines, printed};
+ghost use Rattle.h3_lines.specs.Writing.{Writes, sink_use};
+ghost use Rattle.h3_command.specs.Run.{WritesOfList, source_use};
 ghost use Rattle.h3_command.specs.Sets.{compact_cells, uncompact_cells};
 
-use crate::list::read_cells;
-use crate::refusal::Refusal;
-use crate::write::write_lines;
 use h3_index::{Cell, Sink, Source};
+use h3_lines::{Refusal, read_cells, write_lines};
 use h3_set::{compact_cells as compact, uncompact};
 use std::alloc::Global;
 

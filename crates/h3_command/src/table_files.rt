@@ -1,8 +1,8 @@
 //! Table files for tests, and runs over them.
 
 use crate::command::Command;
-use crate::fakes::{SlowSink, SlowSource};
 use crate::run::run;
+use h3_fakes::{SlowSink, SlowSource};
 use h3_index::is_pentagon_base;
 use h3_lattice::Direction;
 use h3_lattice::vectors::{TestTable, link};

@@ -11,18 +11,19 @@
 
 ghost use Rattle.std.specs.Prelude.{◌≡◌, false};
 ghost use Rattle.h3_lattice.specs.BaseTable.{link_of};
-ghost use Rattle.h3_command.specs.Answer.{answer_or_error, cell_line, reads_table, request, ring_line, walked};
-ghost use Rattle.h3_command.specs.Run.{Ends, SourceUse, Writes, sink_use, source_use};
+ghost use Rattle.h3_lines.specs.Answer.{answer_or_error, cell_line, ring_line, walked};
+ghost use Rattle.h3_lines.specs.Writing.{Writes, sink_use};
+ghost use Rattle.h3_command.specs.Answer.{reads_table, request};
+ghost use Rattle.h3_command.specs.Run.{Ends, SourceUse, source_use};
 ghost use Rattle.h3_command.specs.Walks.{grid_disk_distances_unsafe, grid_disk_unsafe, grid_ring_unsafe};
 ghost use Rattle.h3_command.specs.declared.command.Command.TheVariants.{GridDiskDistancesUnsafe, GridDiskUnsafe, GridRingUnsafe};
 
 use crate::disk_cells::DiskCells;
 use crate::inspection::cell_from;
-use crate::refusal::Refusal;
-use crate::write::write_walk;
 use h3_grid::{Disk, Ring};
 use h3_index::{Cell, Sink, Source};
 use h3_lattice::BaseTable;
+use h3_lines::{Refusal, write_walk};
 use std::alloc::Global;
 
 /// Writes the cells of a disk.

@@ -50,7 +50,7 @@ pub below_append : (xs ys : List ℕ) → AllBelowBase 7 xs → AllBelowBase 7 y
 below_append [] ys p q = q
 below_append (x ∷ xs) ys p q = (p.0, below_append xs ys p.1 q)
 
-leading_zeros : (k : ℕ) → leading (replicate k 0) ≡ 0
+pub leading_zeros : (k : ℕ) → leading (replicate k 0) ≡ 0
 leading_zeros zero = refl
 leading_zeros (suc k) = leading_zeros k
 

@@ -1,7 +1,6 @@
 -- The test of a number's digits decides whether the number is a cell's.
 use Rattle.std.specs.Int.Digits.{AllBelowBase}
-use Rattle.std.proofs.Common.{ℕ, zero, suc, ◌≡◌, ◌≢◌, ◌+◌, ◌-◌, ◌*◌, ◌/◌, ◌%◌, ◌^◌, ◌<◌, ◌≤◌, ◌==◌, List, [], ◌∷◌, ◌++◌, length, take, drop, replicate, Bool, true, false, cond, not, nat_lt, ◌&&◌, if◌then◌else◌, refl, arith, ◌∙◌, sym, ap, lit<, get_or}
-use Rattle.std.proofs.Math.Seq.{drop-cons}
+use Rattle.std.proofs.Common.{ℕ, zero, suc, ◌≡◌, ◌≢◌, ◌-◌, ◌/◌, ◌^◌, ◌<◌, ◌≤◌, ◌==◌, List, [], ◌∷◌, ◌++◌, length, take, drop, replicate, Bool, true, false, cond, not, nat_lt, ◌&&◌, if◌then◌else◌, refl, arith, ◌∙◌, sym, ap, lit<}
 use Rattle.std.proofs.lemmas.Bool.Decides.{nat_tests}
 use Rattle.std.specs.List.{list_all}
 use Rattle.std.proofs.lemmas.Nat.{mod_below}
@@ -10,7 +9,7 @@ use Rattle.h3_index.specs.Cell.{Address, is_pentagon_base, number_of, padded, Is
 use Rattle.h3_index.specs.CellNumber.{address_in, base_in, resolution_in, digits_in, IsCellNumber}
 use Rattle.h3_index.specs.Digits.{last_digits}
 use Rattle.h3_index.specs.DigitTest.{are_digits}
-use Rattle.h3_index.proofs.DigitsLaws.{get_or-last_digits, length-last_digits, number-last_digits, below-last_digits, eights}
+use Rattle.h3_index.proofs.DigitsLaws.{length-last_digits, number-last_digits, below-last_digits}
 use Rattle.h3_index.proofs.CellLaws.{digits-number_of, base-number_of, resolution-number_of, mode-number_of}
 
 -- the test digit by digit, from the first on; p: the cell above these digits is a pentagon
@@ -76,76 +75,8 @@ below-digits_in m = below-last_digits 8 15 m (lit< tt)
 pub number_pass : (p : Bool) (r m : ℕ) → digits_pass p r (digits_in m) ≡ are_digits p r (digits_in m)
 number_pass p r m = pass_is p r (digits_in m) (below-digits_in m)
 
-abbrev pub digit_read : ℕ → ℕ → ℕ
-digit_read m r = m / 2 ^ (45 - 3 * r) % 8
-
--- what the shift and the mask read
-pub digit_at : (m r : ℕ) → 1 ≤ r → r < 16 → digit_read m r ≡ get_or (digits_in m) (r - 1) 0
-unfolding digits_in
-digit_at m r low high =
-    let shift : 45 - 3 * r ≡ 3 * (15 - r) = omega arith in
-    rw (shift, eights (15 - r)) (sym (get_or-last_digits 8 15 m (r - 1) (15 - r) 0 (omega arith)))
-
-length-digits_in : (m : ℕ) → length (digits_in m) ≡ 15
-unfolding digits_in
-length-digits_in m = length-last_digits 8 15 m
-
-cons : (m r : ℕ) → 1 ≤ r → r < 16 → drop (r - 1) (digits_in m) ≡ digit_read m r ∷ drop (r + 1 - 1) (digits_in m)
-cons m r low high =
-    let next : suc (r - 1) ≡ r = omega arith in
-    let same : r + 1 - 1 ≡ r = omega arith in
-    rw (digit_at m r low high, same) (rw next at (drop-cons (digits_in m) (r - 1) 0 (omega (arith, length-digits_in m))))
-
 no_eq : (d k : ℕ) → d ≢ k → (d == k) ≡ false
 no_eq d k h = grind (arith, nat_tests)
-
-module _ (res m r d : ℕ) (is : d ≡ digit_read m r) (low : 1 ≤ r) (high : r < 16) where
-  past : (p : Bool) → res < r → digits_pass p (res + 1 - r) (drop (r - 1) (digits_in m)) ≡ cond (d == 7) (digits_pass p (res + 1 - (r + 1)) (drop (r + 1 - 1) (digits_in m))) false
-  past p out =
-      let count : res + 1 - r ≡ 0 = omega arith in
-      let count-2 : res + 1 - (r + 1) ≡ 0 = omega arith in
-      rw (count, count-2, cons m r low high, is) refl
-
-  hex : r ≤ res → digits_pass false (res + 1 - r) (drop (r - 1) (digits_in m)) ≡ cond (d == 7) false (digits_pass false (res + 1 - (r + 1)) (drop (r + 1 - 1) (digits_in m)))
-  hex out =
-      let count : res + 1 - r ≡ suc (res + 1 - (r + 1)) = omega arith in
-      rw (count, cons m r low high, is) refl
-
-  pent : r ≤ res → digits_pass true (res + 1 - r) (drop (r - 1) (digits_in m)) ≡ cond (d == 7) false (cond (d == 1) false (digits_pass (d == 0) (res + 1 - (r + 1)) (drop (r + 1 - 1) (digits_in m))))
-  pent out =
-      let count : res + 1 - r ≡ suc (res + 1 - (r + 1)) = omega arith in
-      rw (count, cons m r low high, is) refl
-
-  pub bad_past : (p : Bool) → res < r → d ≢ 7 → digits_pass p (res + 1 - r) (drop (r - 1) (digits_in m)) ≡ false
-  bad_past p out h = rw (past p out, no_eq d 7 h) refl
-
-  pub good_past : (p : Bool) → res < r → d ≡ 7 → digits_pass p (res + 1 - (r + 1)) (drop (r + 1 - 1) (digits_in m)) ≡ digits_pass p (res + 1 - r) (drop (r - 1) (digits_in m))
-  good_past p out h = rw (past p out, h) refl
-
-  pub bad_seven : (p : Bool) → r ≤ res → d ≡ 7 → digits_pass p (res + 1 - r) (drop (r - 1) (digits_in m)) ≡ false
-  bad_seven false out h = rw (hex out, h) refl
-  bad_seven true out h = rw (pent out, h) refl
-
-  pub good_hex : r ≤ res → d ≢ 7 → digits_pass false (res + 1 - (r + 1)) (drop (r + 1 - 1) (digits_in m)) ≡ digits_pass false (res + 1 - r) (drop (r - 1) (digits_in m))
-  good_hex out h = rw (hex out, no_eq d 7 h) refl
-
-  pub bad_one : r ≤ res → d ≡ 1 → digits_pass true (res + 1 - r) (drop (r - 1) (digits_in m)) ≡ false
-  bad_one out h = rw (pent out, h) refl
-
-  pub good_pent : r ≤ res → d ≢ 7 → d ≢ 1 → digits_pass (d == 0) (res + 1 - (r + 1)) (drop (r + 1 - 1) (digits_in m)) ≡ digits_pass true (res + 1 - r) (drop (r - 1) (digits_in m))
-  good_pent out h h' = rw (pent out, no_eq d 7 h, no_eq d 1 h') refl
-
-drop_all : (n : ℕ) (xs : List ℕ) → length xs ≤ n → drop n xs ≡ []
-drop_all zero [] h = refl
-drop_all zero (x ∷ xs) h = absurd (omega (arith, h))
-drop_all (suc n) [] h = refl
-drop_all (suc n) (x ∷ xs) h = drop_all n xs (omega (arith, h))
-
-nothing : (p : Bool) (k : ℕ) → digits_pass p k [] ≡ true
-nothing p k = refl
-
-pub no_digits_left : (p : Bool) (k m r : ℕ) → 15 ≤ r - 1 → digits_pass p k (drop (r - 1) (digits_in m)) ≡ true
-no_digits_left p k m r h = rw (drop_all (r - 1) (digits_in m) (omega (arith, length-digits_in m))) (nothing p k)
 
 both : (b x : Bool) → cond b x false ≡ true → (b ≡ true) × (x ≡ true)
 both true x h = (refl, h)

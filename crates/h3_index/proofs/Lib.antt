@@ -4,6 +4,7 @@ pub mod CellTestLaws
 pub mod ChainLaws
 pub mod CountLaws
 pub mod DescendantLaws
+pub mod DigitBitLaws
 pub mod DigitsLaws
 pub mod DigitTestLaws
 pub mod EdgeLaws
@@ -11,5 +12,8 @@ pub mod EdgeOrderLaws
 pub mod MoveLaws
 pub mod OrderLaws
 pub mod PathLaws
+pub mod PlainLaws
+pub mod RaiseLaws
+pub mod SpreadLaws
 pub mod TextLaws
 pub mod WriteLaws

@@ -1,9 +1,11 @@
 //! Cells, each a base cell and a digit for each resolution up to its own.
 
-ghost use Rattle.std.specs.Prelude.{◌≡◌, ◌≢◌, ◌-◌, ◌<◌, ◌≤◌, length, IfOk, IfErr, slice_index_or};
+ghost use Rattle.std.specs.Prelude.{◌≡◌, ◌≢◌, ◌-◌, ◌^◌, ◌<◌, ◌≤◌, ◌==◌, nat_lt, length, IfOk, IfErr, slice_index_or};
+ghost use Rattle.std.specs.List.{list_all};
 ghost use Rattle.std.specs.Result.{result_ok};
-ghost use Rattle.h3_index.specs.Cell.{Address, IsCell, is_class_iii, is_pentagon, is_pentagon_base, number_of};
+ghost use Rattle.h3_index.specs.Cell.{Address, IsCell, is_class_iii, is_pentagon, is_pentagon_base, leading, number_of};
 ghost use Rattle.h3_index.specs.CellNumber.{address_in, cell_in, digits_in, IsCellNumber};
+ghost use Rattle.h3_index.specs.Digits.{last_digits};
 ghost use Rattle.h3_index.specs.DigitTest.{are_digits};
 
 mod moves;
@@ -21,32 +23,36 @@ pub fn is_pentagon_base(b: u8) -> bool
     )
 }
 
+/// Whether none of the last fifteen octal digits of a number is 7.
+#[inline(always)]
+fn has_no_seven(digits: u64) -> bool
+    ensures { result ≡ list_all (λ d. nat_lt d 7) (last_digits 8 15 digits) }
+{
+    // A digit is 7 where its three bits are all set.
+    digits & digits >> 1 & digits >> 2 & 0o111_111_111_111_111 == 0
+}
+
+/// Whether the first octal digit that is not 0 of a number of fifteen digits is 1.
+#[inline(always)]
+fn leads_with_one(digits: u64) -> bool
+    requires { digits < 2 ^ 45 }
+    ensures { result ≡ (leading (last_digits 8 15 digits) == 1) }
+{
+    // Then whole digits follow the highest set bit, and 63 bits are whole digits too.
+    digits.leading_zeros() % 3 == 0
+}
+
 /// Whether the fifteen digits of a number are those of a cell: 0 to 6 up to the resolution, and 7 above. In a
 /// pentagon base cell the first that is not 0 is not 1.
+#[inline(always)]
 fn has_valid_digits(raw: u64, resolution: u64, pentagon_base: bool) -> bool
     requires { resolution < 16 }
     ensures { result ≡ are_digits pentagon_base resolution (digits_in raw) }
 {
-    let mut in_pentagon = pentagon_base;
-    for r in 1..16u64 {
-        let digit = raw >> (45 - 3 * r) & 7;
-        if r > resolution {
-            if digit != 7 {
-                return false;
-            }
-        } else {
-            if digit == 7 {
-                return false;
-            }
-            if in_pentagon {
-                if digit == 1 {
-                    return false;
-                }
-                in_pentagon = digit == 0;
-            }
-        }
-    }
-    true
+    let places = 3 * (15 - resolution);
+    let sevens: u64 = (1 << places) - 1;
+    let digits = (raw & 0x1fff_ffff_ffff) >> places;
+    raw & sevens == sevens && has_no_seven(digits) && !(pentagon_base && leads_with_one(digits))
 }
 
 /// A valid H3 cell. Cells are ordered by their numbers: by resolution, then base cell, then digits.

@@ -14,7 +14,7 @@ pub use count::{num_cells, pentagon, res0_cell};
 pub use edge::Edge;
 pub use error::H3Error;
 pub use stream::{Sink, Source, StreamFault, Streamed};
-pub use text::{is_blank_text, read_index, write_index};
+pub use text::{index_bytes, is_blank_text, read_index, read_plain, write_index};
 
 #[cfg(test)]
 mod tests;

@@ -1,8 +1,8 @@
 ghost use Rattle.std.specs.Prelude.{◌≤◌, IfOk};
 
 use crate::{
-    Cell, Edge, H3Error, Sink, Source, StreamFault, Streamed, is_pentagon_base, num_cells,
-    pentagon, read_index, res0_cell, write_index,
+    Cell, Edge, H3Error, Sink, Source, StreamFault, Streamed, index_bytes, is_pentagon_base,
+    num_cells, pentagon, read_index, read_plain, res0_cell, write_index,
 };
 use std::cmp::Ordering;
 use std::io::{self, Read, Write};
@@ -32,10 +32,25 @@ fn other_numbers_are_no_cells(rt: HostRuntime) {
         0x885283473fffffff,
         0x115283473fffffff,
         0,
+        // an unused digit that is not 7, a used one that is, and the deleted subsequence in a second digit
+        0x85283473ffffff8,
+        0x85283473fffefff,
+        0x8528347ffffffff,
+        0x8529f473fffffff,
+        0x82080ffffffffff,
     ];
     for raw in refused {
         assert_eq!(rt; Cell::new(raw), Err(H3Error::CellInvalid), "{raw:x}");
     }
+}
+
+#[test]
+fn digits_beside_the_deleted_subsequence_are_accepted(rt: HostRuntime) -> Result<(), Fail> {
+    // In base cell 4, a pentagon: the digits 0 2, and 2 1.
+    for raw in [0x820817fffffffff, 0x82088ffffffffff] {
+        assert_eq!(rt; Cell::new(raw)?.raw(), raw);
+    }
+    Ok(())
 }
 
 #[test]
@@ -85,6 +100,80 @@ fn texts_are_read(rt: HostRuntime) {
     ];
     for text in refused {
         assert_eq!(rt; read_index(text), Err(H3Error::Failed));
+    }
+}
+
+#[test]
+fn one_to_sixteen_digits_are_read(rt: HostRuntime) {
+    let text = b"fedcba9876543210f";
+    let numbers = [
+        0xf,
+        0xfe,
+        0xfed,
+        0xfedc,
+        0xfedcb,
+        0xfedcba,
+        0xfedcba9,
+        0xfedcba98,
+        0xfedcba987,
+        0xfedcba9876,
+        0xfedcba98765,
+        0xfedcba987654,
+        0xfedcba9876543,
+        0xfedcba98765432,
+        0xfedcba987654321,
+        0xfedcba9876543210,
+    ];
+    for (i, number) in numbers.into_iter().enumerate() {
+        let digits = &text[..i + 1];
+        assert_eq!(rt; read_index(digits), Ok(number), "{number:x}");
+        assert_eq!(rt;
+            read_plain(digits),
+            (i + 1 >= 8).then_some(number),
+            "{number:x}"
+        );
+        let (bytes, length) = index_bytes(number);
+        assert_eq!(rt; length, i + 1);
+        assert_eq!(rt; &bytes[..length], digits);
+    }
+    assert_eq!(rt; read_index(text), Err(H3Error::Failed));
+    assert_eq!(rt; read_plain(text), None);
+    assert_eq!(rt; read_plain(b""), None);
+    assert_eq!(rt; read_plain(b"0000000f"), Some(15));
+    assert_eq!(rt; index_bytes(0).1, 1);
+}
+
+#[test]
+fn only_lower_case_digits_are_plain(rt: HostRuntime) {
+    let texts: [&[u8]; 5] = [
+        b"85283473FFFFFFF",
+        b"0x85283473ffff",
+        b"85283473fffffff\r",
+        b" 85283473ffffff",
+        b"85283473 ffffff",
+    ];
+    for text in texts {
+        assert_eq!(rt; read_plain(text), None);
+    }
+    assert_eq!(rt; read_index(b"85283473FFFFFFF"), Ok(0x85283473fffffff));
+    assert_eq!(rt; read_index(b"85283473fFfFfFf"), Ok(0x85283473fffffff));
+}
+
+#[test]
+fn bytes_beside_the_digits_are_refused(rt: HostRuntime) {
+    // The bytes right below and above the digits, and those that differ from a digit in one bit.
+    let others = b"\x10\x11\x12\x13\x14\x15\x16\x17\x18\x19/:@G`gpqrstuvwxy\xb0\xb9\xe1\xe6";
+    for place in 0..15usize {
+        for other in others {
+            let mut text = *b"85283473fffffff";
+            text[place] = *other;
+            assert_eq!(rt; read_plain(&text), None, "{other} at {place}");
+            assert_eq!(rt;
+                read_index(&text),
+                Err(H3Error::Failed),
+                "{other} at {place}"
+            );
+        }
     }
 }
 

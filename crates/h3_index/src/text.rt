@@ -1,13 +1,18 @@
 //! The texts of indexes.
 
-ghost use Rattle.std.specs.Prelude.{◌≡◌, ◌==◌, ◌-◌, ◌^◌, ◌<◌, ◌≤◌, ℕ, List, length, map, IfErr, IsAscii};
+ghost use Rattle.std.specs.Prelude.{◌≡◌, ◌==◌, ◌-◌, ◌^◌, ◌<◌, ◌≤◌, ℕ, List, length, map, take, IfErr, IsAscii};
 ghost use Rattle.std.specs.Char.{digit_char};
 ghost use Rattle.std.specs.Result.{result_ok};
 ghost use Rattle.h3_index.specs.Digits.{last_digits};
 ghost use Rattle.h3_index.specs.Text.{without_leading_zeros, is_blank, without_leading_blanks, without_trailing_blanks, without_prefix, number_spelled, spelled_index, text_of, trimmed};
 
+mod halves;
+mod plain;
+
 use crate::error::H3Error;
 use arrayvec::ArrayString;
+use halves::characters;
+pub use plain::read_plain;
 use std::str;
 
 /// Whether a byte is a space, a tab or a carriage return.
@@ -86,35 +91,26 @@ pub fn read_index(bytes: &[u8]) -> Result<u64, H3Error>
     ensures spelled { result_ok result ≡ spelled_index bytes.now }
     ensures refused { IfErr result (λ e. e ≡ H3Error.Failed) }
 {
+    if let Some(index) = read_plain(bytes) {
+        return Ok(index);
+    }
     let text = without_trailing_blanks(without_leading_blanks(bytes));
     read_digits(without_prefix(text)).ok_or(H3Error::Failed)
 }
 
-/// The two hexadecimal digits of each byte, in lower case.
-const PAIRS: [u8; 512] = *b"\
-    000102030405060708090a0b0c0d0e0f101112131415161718191a1b1c1d1e1f\
-    202122232425262728292a2b2c2d2e2f303132333435363738393a3b3c3d3e3f\
-    404142434445464748494a4b4c4d4e4f505152535455565758595a5b5c5d5e5f\
-    606162636465666768696a6b6c6d6e6f707172737475767778797a7b7c7d7e7f\
-    808182838485868788898a8b8c8d8e8f909192939495969798999a9b9c9d9e9f\
-    a0a1a2a3a4a5a6a7a8a9aaabacadaeafb0b1b2b3b4b5b6b7b8b9babbbcbdbebf\
-    c0c1c2c3c4c5c6c7c8c9cacbcccdcecfd0d1d2d3d4d5d6d7d8d9dadbdcdddedf\
-    e0e1e2e3e4e5e6e7e8e9eaebecedeeeff0f1f2f3f4f5f6f7f8f9fafbfcfdfeff";
-
 /// The sixteen hexadecimal digits of an index, in lower case.
+#[inline(always)]
 fn digits_of(index: u64) -> [u8; 16]
     ensures { result ≡ map digit_char (last_digits 16 16 index) }
 {
     let mut digits = [b'0'; 16];
-    for pair in 0..8 {
-        let byte = (index >> (56 - 8 * pair) & 255) as usize;
-        digits[2 * pair] = PAIRS[2 * byte];
-        digits[2 * pair + 1] = PAIRS[2 * byte + 1];
-    }
+    digits[..8].copy_from_slice(&characters(index >> 32).to_be_bytes());
+    digits[8..].copy_from_slice(&characters(index & 0xffff_ffff).to_be_bytes());
     digits
 }
 
 /// How many of the sixteen digits of an index are zeros in front of another digit.
+#[inline(always)]
 fn zeros_in_front(index: u64) -> u32
     ensures few { result ≤ 15 }
     ensures small { index < 16 ^ (16 - result) }
@@ -138,14 +134,26 @@ fn text_from(bytes: &[u8; 16]) -> ArrayString<16>
     text
 }
 
+/// Sixteen bytes that begin with the text of an index, and the length of the text, 1 to 16.
+#[inline(always)]
+pub fn index_bytes(index: u64) -> ([u8; 16], usize)
+    ensures some { 0 < result.1 }
+    ensures within { result.1 ≤ 16 }
+    ensures text { take result.1 result.0 ≡ text_of index }
+    ensures ascii { IsAscii result.0 }
+{
+    let zeros = zeros_in_front(index);
+    // The zeros are shifted out and all sixteen digits put at once, which is faster than a copy of some.
+    (digits_of(index << (4 * zeros)), 16 - zeros as usize)
+}
+
 /// The text of an index, as H3's `h3ToString` writes it: lower-case hexadecimal without leading zeros, `0` for 0.
 pub fn write_index(index: u64) -> ArrayString<16>
     ensures text { result.bytes ≡ text_of index }
     ensures spells { spelled_index (text_of index) ≡ Some index }
 {
-    let zeros = zeros_in_front(index);
-    // The zeros are shifted out and all sixteen digits put at once, which is faster than a copy of some.
-    let mut text = text_from(&digits_of(index << (4 * zeros)));
-    text.truncate(16 - zeros as usize);
+    let (bytes, count) = index_bytes(index);
+    let mut text = text_from(&bytes);
+    text.truncate(count);
     text
 }

@@ -1,6 +1,6 @@
 //! The iterator over the descendants of a cell.
 
-ghost use Rattle.std.specs.Prelude.{◌≡◌, ◌≤◌, length};
+ghost use Rattle.std.specs.Prelude.{◌≡◌, ◌≤◌, IfSome, length};
 ghost use Rattle.std.specs.Iterator.{YieldsFirst, item_count};
 ghost use Rattle.h3_index.specs.Cell.{IsCell};
 ghost use Rattle.h3_index.specs.Descendants.{descendants};
@@ -11,11 +11,32 @@ use crate::descendants::size_at;
 use h3_index::Cell;
 use h3_index::laws::{descendants_are_listed, paths_are_chains};
 
+/// The next cell of the same base cell and resolution where it has the same parent, which is so for six children in
+/// seven.
+#[inline(always)]
+fn next_sibling(cell: Cell) -> Option<Cell>
+    ensures { IfSome result (λ next. next ≡ following cell) }
+{
+    let resolution = cell.resolution();
+    if resolution == 0 {
+        return None;
+    }
+    let digit = cell.digit(resolution);
+    // The child of digit 1 is deleted below a pentagon.
+    if digit == 6 || digit == 0 && cell.is_pentagon() {
+        return None;
+    }
+    Some(cell.raised())
+}
+
 /// The next cell of the same base cell and resolution. The last is its own.
 #[inline(always)]
 fn following(cell: Cell) -> Cell
     ensures { result ≡ following cell }
 {
+    if let Some(next) = next_sibling(cell) {
+        return next;
+    }
     let resolution = cell.resolution();
     let mut r = resolution;
     while r > 0 {
@@ -72,7 +93,10 @@ impl Iterator for Children {
         }
         let cell = self.next;
         self.left -= 1;
-        self.next = following(cell);
+        // After the last cell none is asked for: a list of one cell is common.
+        if self.left > 0 {
+            self.next = following(cell);
+        }
         Some(cell)
     }
 }

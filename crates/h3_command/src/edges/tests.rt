@@ -1,7 +1,7 @@
 use crate::command::Command;
-use crate::fakes::{SlowSink, SlowSource};
 use crate::run::run;
 use crate::table_files::{assert_run, assert_unread, run_to, test_file};
+use h3_fakes::{SlowSink, SlowSource};
 use h3_index::read_index;
 use h3_lattice::vectors::TestTable;
 use std::process::Abort;

@@ -1,7 +1,7 @@
 use super::run;
 use crate::command::Command;
-use crate::fakes::{SlowSink, SlowSource};
 use arrayvec::ArrayVec;
+use h3_fakes::{SlowSink, SlowSource};
 use h3_index::{Sink, Source, Streamed, read_index};
 use std::process::Abort;
 
@@ -473,12 +473,12 @@ fn a_list_is_flushed_once(rt: HostRuntime) {
         cell: HEXAGON,
         res: 6,
     };
-    // seven lines and a flush
-    let mut out: SlowSink<128> = SlowSink::new(64, 8);
+    // seven lines in two pushes, and a flush
+    let mut out: SlowSink<128> = SlowSink::new(64, 3);
     let mut err: SlowSink<64> = SlowSink::new(64, 100);
     assert_eq!(&rt; run_alone(&rt, &command, &mut out, &mut err), 0);
     assert_eq!(&rt; out.bytes().len(), 7 * 16);
-    let mut out: SlowSink<128> = SlowSink::new(64, 7);
+    let mut out: SlowSink<128> = SlowSink::new(64, 2);
     assert_eq!(&rt; run_alone(&rt, &command, &mut out, &mut err), 4);
     assert_eq!(&rt; out.bytes().len(), 7 * 16);
     assert!(&rt; err.bytes() == b"fault: write\n".as_slice());
@@ -490,9 +490,9 @@ fn nothing_is_written_after_a_fault_that_passes(rt: HostRuntime) {
         cell: HEXAGON,
         res: 6,
     };
-    // seven lines and a flush
+    // seven lines, of which a push takes one, and a flush
     for calls in 0..8 {
-        let mut out: SlowSink<128> = SlowSink::failing_once(64, calls);
+        let mut out: SlowSink<128> = SlowSink::failing_once(16, calls);
         let mut err: SlowSink<64> = SlowSink::new(64, 100);
         assert_eq!(&rt; run_alone(&rt, &command, &mut out, &mut err), 4);
         assert_eq!(&rt; out.bytes().len() as u64, 16 * calls);

@@ -1,10 +1,10 @@
 use crate::command::Command;
-use crate::fakes::{SlowSink, SlowSource};
-use crate::refusal::Refusal;
-use crate::run::{report, run};
+use crate::run::run;
 use crate::table_files::{assert_run, assert_unread, file_of, records_of, run_to, test_file};
+use h3_fakes::{SlowSink, SlowSource};
 use h3_index::{is_pentagon_base, read_index};
 use h3_lattice::vectors::TestTable;
+use h3_lines::{Refusal, report};
 use std::test::Fail;
 
 /// Links along the ring of radius 2 around base cell 0: two out to it in the direction 4 (I), and
@@ -285,14 +285,14 @@ fn a_walk_is_flushed_once(rt: HostRuntime) -> Result<(), Fail> {
         (ring("800bfffffffffff", 1), 3, PENTAGON, 1),
     ];
     for (command, lines, line, expected) in walks {
-        // a push for each line, and a flush
-        let mut out: SlowSink<128> = SlowSink::new(64, lines + 1);
+        // a push takes a line, and then comes a flush
+        let mut out: SlowSink<128> = SlowSink::new(16, lines + 1);
         let (err, status) = run_to(&rt, &plain, command, &mut out);
         assert_eq!(&rt; status, expected, "{command:?}");
         assert!(&rt; err.bytes() == line.as_bytes(), "{command:?}");
         assert_eq!(&rt; out.bytes().len() as u64, 16 * lines, "{command:?}");
         // the flush fails, and is reported in place of the error
-        let mut out: SlowSink<128> = SlowSink::new(64, lines);
+        let mut out: SlowSink<128> = SlowSink::new(16, lines);
         let (err, status) = run_to(&rt, &plain, command, &mut out);
         assert_eq!(&rt; status, 4, "{command:?}");
         assert!(&rt; err.bytes() == b"fault: write\n".as_slice(), "{command:?}");

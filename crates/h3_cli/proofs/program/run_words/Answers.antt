@@ -2,7 +2,7 @@ use Rattle.std.proofs.Common.{rules, ◌≡◌, ℕ, List, [], Option, Bool, tru
 use Rattle.std.specs.Prelude.{Result, Ok, Err, OnOk, OnErr}
 use Rattle.std.specs.Io.KnownBytes.{Appends}
 use Rattle.h3_index.specs.declared.stream.StreamFault.{StreamFault}
-use Rattle.h3_command.specs.Run.{AppendsPart}
+use Rattle.h3_lines.specs.Writing.{AppendsPart}
 use Rattle.h3_cli.specs.declared.words.WordsFault.TheVariants.{Usage}
 use Rattle.h3_cli.proofs.program.run_words.Goals as goal
 

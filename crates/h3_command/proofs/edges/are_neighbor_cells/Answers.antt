@@ -4,7 +4,7 @@ use Rattle.std.proofs.lemmas.Result.{err_from_is_err_and}
 use Rattle.h3_index.specs.Cell.{Address}
 use Rattle.h3_lattice.specs.BaseTable.{link_of}
 use Rattle.h3_lattice.specs.Links.{Links}
-use Rattle.h3_command.specs.Answer.{Answer, truth_line, printed}
+use Rattle.h3_lines.specs.Answer.{Answer, truth_line, printed}
 use Rattle.h3_command.specs.Edges.{are_neighbor_cells}
 use Rattle.h3_command.proofs.Endings.{table_answered, table_refused_so, value_refused}
 use Rattle.h3_command.proofs.edges.are_neighbor_cells.Goals as goal

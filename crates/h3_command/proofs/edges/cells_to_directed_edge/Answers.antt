@@ -4,7 +4,7 @@ use Rattle.std.proofs.lemmas.Result.{err_from_is_err_and}
 use Rattle.h3_index.specs.Cell.{Address}
 use Rattle.h3_lattice.specs.BaseTable.{link_of}
 use Rattle.h3_lattice.specs.Links.{Links}
-use Rattle.h3_command.specs.Answer.{Answer, edge_line, printed}
+use Rattle.h3_lines.specs.Answer.{Answer, edge_line, printed}
 use Rattle.h3_command.specs.Edges.{cells_to_directed_edge}
 use Rattle.h3_command.proofs.Endings.{table_answered, table_refused_so, value_refused}
 use Rattle.h3_command.proofs.edges.cells_to_directed_edge.Goals as goal

@@ -4,7 +4,7 @@ use Rattle.std.proofs.lemmas.Result.{err_from_is_err_and}
 use Rattle.h3_index.specs.Edge.{DirectedEdge}
 use Rattle.h3_lattice.specs.BaseTable.{link_of}
 use Rattle.h3_lattice.specs.Links.{Links}
-use Rattle.h3_command.specs.Answer.{Answer, cell_line, printed}
+use Rattle.h3_lines.specs.Answer.{Answer, cell_line, printed}
 use Rattle.h3_command.specs.Edges.{get_directed_edge_destination}
 use Rattle.h3_command.proofs.Endings.{table_answered, table_refused_so, value_refused}
 use Rattle.h3_command.proofs.edges.get_directed_edge_destination.Goals as goal

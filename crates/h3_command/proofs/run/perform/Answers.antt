@@ -6,7 +6,7 @@ use Rattle.std.proofs.lemmas.Iterator.Consumers.{YieldsList-from_first}
 use Rattle.std.proofs.lemmas.Result.{err_from_is_err_and}
 use Rattle.h3_tree.specs.Children.{children_left}
 use Rattle.h3_grid.specs.Edges.{edges_left}
-use Rattle.h3_command.specs.Answer.{cell_lines, edge_lines, written}
+use Rattle.h3_lines.specs.Answer.{cell_lines, edge_lines, written}
 use Rattle.h3_command.specs.Bases.{base_cells_left, pentagons_left}
 use Rattle.h3_command.specs.Hierarchy.{cell_to_children}
 use Rattle.h3_command.specs.Resolutions.{get_pentagons}

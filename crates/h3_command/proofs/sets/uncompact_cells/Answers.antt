@@ -2,7 +2,8 @@ use Rattle.std.proofs.Common.{w32, rules, refl}
 use Rattle.std.proofs.lemmas.Int.{to_z-of_z}
 use Rattle.std.proofs.KnownBytes.{Keeps-refl}
 use Rattle.std.proofs.lemmas.Result.{err_from_is_err_and}
-use Rattle.h3_command.specs.Run.{sink_use, source_use}
+use Rattle.h3_lines.specs.Writing.{sink_use}
+use Rattle.h3_command.specs.Run.{source_use}
 use Rattle.h3_command.proofs.Endings.{list_refused, list_written}
 use Rattle.h3_command.proofs.sets.uncompact_cells.Goals as goal
 

@@ -2,7 +2,7 @@ use Rattle.std.proofs.Common.{rules, refl}
 use Rattle.std.proofs.KnownBytes.{Keeps-refl}
 use Rattle.std.proofs.lemmas.Iterator.{YieldsList-from_slice}
 use Rattle.std.proofs.lemmas.Iterator.Consumers.{YieldsList-from_copied}
-use Rattle.h3_command.specs.Answer.{cell_lines, written}
+use Rattle.h3_lines.specs.Answer.{cell_lines, written}
 use Rattle.h3_command.proofs.Written.{answered_unless, answered_value}
 use Rattle.h3_command.proofs.sets.write_compacted.Goals as goal
 

@@ -5,7 +5,7 @@ use Rattle.std.proofs.lemmas.Int.{to_z-of_z}
 use Rattle.std.proofs.lemmas.Iterator.Consumers.{YieldsList-from_first}
 use Rattle.h3_set.specs.Uncompact.{cells_left}
 use Rattle.h3_set.specs.Uncompaction.{uncompacted, uncompact_refusal}
-use Rattle.h3_command.specs.Answer.{cell_lines, written}
+use Rattle.h3_lines.specs.Answer.{cell_lines, written}
 use Rattle.h3_command.proofs.Written.{answered_unless, answered_value}
 use Rattle.h3_command.proofs.sets.write_uncompacted.Goals as goal
 

@@ -5,7 +5,7 @@ use Rattle.std.proofs.lemmas.Result.{err_from_is_err_and}
 use Rattle.h3_index.specs.Cell.{Address}
 use Rattle.h3_lattice.specs.BaseTable.{link_of}
 use Rattle.h3_lattice.specs.Links.{Links}
-use Rattle.h3_command.specs.Answer.{Answer, answer_or_error, cell_line, walked}
+use Rattle.h3_lines.specs.Answer.{Answer, answer_or_error, cell_line, walked}
 use Rattle.h3_command.specs.Walks.{grid_disk_unsafe}
 use Rattle.h3_command.proofs.Endings.{table_answered, table_refused_so, value_refused}
 use Rattle.h3_command.proofs.walks.grid_disk_unsafe.Goals as goal

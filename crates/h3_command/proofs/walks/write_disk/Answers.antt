@@ -5,10 +5,10 @@ use Rattle.std.proofs.lemmas.Int.{to_z-of_z}
 use Rattle.h3_grid.specs.Refusals.{disk_refusal}
 use Rattle.h3_grid.specs.Walks.{disk}
 use Rattle.h3_lattice.specs.BaseTable.{link_of}
+use Rattle.h3_lines.specs.Answer.{cell_line}
 use Rattle.h3_command.specs.DiskCells.{disk_cells_left}
 use Rattle.h3_command.specs.Walks.{without_ring}
-use Rattle.h3_command.specs.Answer.{cell_line}
-use Rattle.h3_command.proofs.Walk.{walk_unbegun, walk_written}
+use Rattle.h3_command.proofs.Written.{walk_unbegun, walk_written}
 use Rattle.h3_command.proofs.walks.write_disk.Goals as goal
 
 pub returns-in-Ok : goal.returns-in-Ok

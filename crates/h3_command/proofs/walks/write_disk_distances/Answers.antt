@@ -6,8 +6,8 @@ use Rattle.h3_grid.specs.Refusals.{disk_refusal}
 use Rattle.h3_grid.specs.Walks.{disk}
 use Rattle.h3_lattice.specs.BaseTable.{link_of}
 use Rattle.h3_grid.specs.Disk.{disk_left}
-use Rattle.h3_command.specs.Answer.{ring_line}
-use Rattle.h3_command.proofs.Walk.{walk_unbegun, walk_written}
+use Rattle.h3_lines.specs.Answer.{ring_line}
+use Rattle.h3_command.proofs.Written.{walk_unbegun, walk_written}
 use Rattle.h3_command.proofs.walks.write_disk_distances.Goals as goal
 
 pub returns-in-Ok : goal.returns-in-Ok

@@ -6,8 +6,8 @@ use Rattle.h3_grid.specs.Refusals.{ring_refusal}
 use Rattle.h3_grid.specs.Walks.{ring}
 use Rattle.h3_lattice.specs.BaseTable.{link_of}
 use Rattle.h3_grid.specs.Ring.{ring_left}
-use Rattle.h3_command.specs.Answer.{cell_line}
-use Rattle.h3_command.proofs.Walk.{walk_unbegun, walk_written}
+use Rattle.h3_lines.specs.Answer.{cell_line}
+use Rattle.h3_command.proofs.Written.{walk_unbegun, walk_written}
 use Rattle.h3_command.proofs.walks.write_ring.Goals as goal
 
 pub returns-in-Ok : goal.returns-in-Ok

@@ -1,36 +1,55 @@
-use Rattle.std.proofs.Common.{◌≡◌, ◌+◌, ◌-◌, ◌*◌, ◌/◌, ◌^◌, sym, ◌∙◌, arith, bit_and, ℕ}
-use Rattle.std.proofs.lemmas.Nat.{and_mask}
-use Rattle.h3_index.proofs.DigitTestLaws.{digit_read, bad_past, good_past, bad_seven, good_hex, bad_one, good_pent, no_digits_left, number_pass}
+use Rattle.std.specs.List.{list_all}
+use Rattle.std.proofs.Common.{◌≡◌, ◌-◌, ◌*◌, ◌%◌, ◌^◌, ◌<◌, ◌≢◌, ◌==◌, lit<, ◌&&◌, nat_lt, true, false, Bool, ℕ, ap, sym, ◌∙◌, arith, bit_and, take, drop}
+use Rattle.std.proofs.lemmas.Bool.Decides.{nat_tests}
+use Rattle.std.proofs.lemmas.Nat.{shl_whole}
+use Rattle.h3_index.specs.Cell.{leading}
+use Rattle.h3_index.specs.CellNumber.{digits_in}
+use Rattle.h3_index.proofs.DigitBitLaws.{and-false, digits_lead, digits_sevens, digits_small, test_fails, test_passes}
 use Rattle.h3_index.proofs.cell.has_valid_digits.Goals as goal
-use Rattle.h3_index.proofs.cell.has_valid_digits.Goals.{then-r-resolution+else-digit-ne7, else-r-resolution+else-digit-eq7+then-in_pentagon+else-digit-eq1, else-r-resolution+else-digit-eq7+else-in_pentagon}
+use Rattle.h3_index.proofs.cell.has_valid_digits.Goals.{then-raw-sevens, else-raw-sevens, then-pentagon_base, else-pentagon_base}
 
-digit : (m r : ℕ) → bit_and (m / 2 ^ (45 - 3 * r)) 7 ≡ digit_read m r
-digit m r = and_mask (m / 2 ^ (45 - 3 * r)) 3
+-- the mask of the digits above the resolution
+mask : (r : ℕ) → r < 16 → 1 * 2 ^ (3 * (15 - r)) % 2 ^ 64 ≡ 2 ^ (3 * (15 - r))
+mask r less =
+    let one : 1 * 2 ^ (3 * (15 - r)) ≡ 2 ^ (3 * (15 - r)) = omega arith in
+    shl_whole 1 1 (3 * (15 - r)) 64 (lit< tt) (omega arith) ∙ one
 
-pub returns-then-digit-ne7 : goal.returns-then-digit-ne7
-returns-then-digit-ne7 c =
-    sym (bad_past c.args.resolution c.args.raw c.loop-r.r _ (digit c.args.raw c.loop-r.r) (omega arith) (omega arith) c.loop-r.in_pentagon (omega arith) c.if-digit-ne7.true) ∙ c.loop-r.invariant
+-- what the comparison with the mask shows
+rest_is : (r m : ℕ) (b : Bool) → r < 16 → (bit_and m (1 * 2 ^ (3 * (15 - r)) % 2 ^ 64 - 1) == 1 * 2 ^ (3 * (15 - r)) % 2 ^ 64 - 1) ≡ b → list_all (λ d. d == 7) (drop r (digits_in m)) ≡ b
+rest_is r m b less e = sym (digits_sevens r m less) ∙ (rw (mask r less) at e)
 
-pub returns-then-digit-eq7 : goal.returns-then-digit-eq7
-returns-then-digit-eq7 c =
-    sym (bad_seven c.args.resolution c.args.raw c.loop-r.r _ (digit c.args.raw c.loop-r.r) (omega arith) (omega arith) c.loop-r.in_pentagon (omega arith) c.if-digit-eq7.true) ∙ c.loop-r.invariant
+same_test : (x y : ℕ) → x ≡ y → (x == y) ≡ true
+same_test x y e = grind (arith, nat_tests)
 
-pub returns-then-digit-eq1 : goal.returns-then-digit-eq1
-returns-then-digit-eq1 c =
-    sym (bad_one c.args.resolution c.args.raw c.loop-r.r _ (digit c.args.raw c.loop-r.r) (omega arith) (omega arith) (omega arith) c.if-digit-eq1.true) ∙ (rw c.if-in_pentagon.true at c.loop-r.invariant)
+other_test : (x y : ℕ) → x ≢ y → (x == y) ≡ false
+other_test x y e = grind (arith, nat_tests)
 
-pub loop-r-init : goal.loop-r-init
-loop-r-init c =
-    let all : c.args.resolution + 1 - 1 ≡ c.args.resolution = omega arith in
-    rw all (number_pass c.args.pentagon_base c.args.resolution c.args.raw)
+pub returns-after-pentagon_base : goal.returns-after-pentagon_base
+returns-after-pentagon_base c =
+    let r = c.args.resolution in
+    let m = c.args.raw in
+    let small = list_all (λ d. nat_lt d 7) (take r (digits_in m)) in
+    let rest = list_all (λ d. d == 7) (drop r (digits_in m)) in
+    let lead = leading (take r (digits_in m)) == 1 in
+    let passed : (rest ≡ true) × (small ≡ true) = elim c.if-raw-sevens.branch [
+      | then-raw-sevens w ↦ (rest_is r m true c.requires (same_test _ _ w.if-raw-sevens.true), sym (w.has_no_seven.ensures ∙ digits_small r m c.requires) ∙ sym w.value-is ∙ c.if-has_no_seven.true)
+      | else-raw-sevens w ↦ absurd (let f : c.if-raw-sevens.value ≡ false = w.value-is ∙ other_test _ _ w.if-raw-sevens.false in let t = c.if-has_no_seven.true in cc)
+    ] in
+    let first : c.if-pentagon_base.result ≡ c.args.pentagon_base && lead = elim c.if-pentagon_base.branch [
+      | then-pentagon_base w ↦ w.result-is ∙ w.leads_with_one.ensures ∙ ap (λ n. n == 1) (digits_lead r m c.requires) ∙ sym (ap (λ b. b && lead) w.if-pentagon_base.true)
+      | else-pentagon_base w ↦ w.result-is ∙ w.if-pentagon_base.false ∙ sym (ap (λ b. b && lead) w.if-pentagon_base.false)
+    ] in
+    test_passes rest small (c.args.pentagon_base && lead) c.if-pentagon_base.result passed.0 passed.1 first
 
-pub loop-r-preserved : goal.loop-r-preserved
-loop-r-preserved c =
-    elim c.if-r-resolution.branch [
-      | then-r-resolution+else-digit-ne7 w ↦ rw w.in_pentagon-is (good_past c.args.resolution c.args.raw c.loop-r.r _ (digit c.args.raw c.loop-r.r) (omega arith) (omega arith) c.loop-r.in_pentagon (omega arith) w.if-digit-ne7.false ∙ c.loop-r.invariant)
-      | else-r-resolution+else-digit-eq7+then-in_pentagon+else-digit-eq1 w ↦ rw w.in_pentagon-is (good_pent c.args.resolution c.args.raw c.loop-r.r _ (digit c.args.raw c.loop-r.r) (omega arith) (omega arith) (omega arith) w.if-digit-eq7.false w.if-digit-eq1.false ∙ (rw w.if-in_pentagon.true at c.loop-r.invariant))
-      | else-r-resolution+else-digit-eq7+else-in_pentagon w ↦ rw (w.in_pentagon-is, w.if-in_pentagon.false) (good_hex c.args.resolution c.args.raw c.loop-r.r _ (digit c.args.raw c.loop-r.r) (omega arith) (omega arith) (omega arith) w.if-digit-eq7.false ∙ (rw w.if-in_pentagon.false at c.loop-r.invariant))
-    ]
-
-pub returns : goal.returns
-returns c = sym (no_digits_left c.loop-r.in_pentagon _ c.args.raw _ (omega arith)) ∙ c.loop-r.invariant
+pub returns-else-has_no_seven : goal.returns-else-has_no_seven
+returns-else-has_no_seven c =
+    let r = c.args.resolution in
+    let m = c.args.raw in
+    let small = list_all (λ d. nat_lt d 7) (take r (digits_in m)) in
+    let rest = list_all (λ d. d == 7) (drop r (digits_in m)) in
+    let lead = leading (take r (digits_in m)) == 1 in
+    let failed : small && rest ≡ false = elim c.if-raw-sevens.branch [
+      | then-raw-sevens w ↦ ap (λ b. b && rest) (sym (w.has_no_seven.ensures ∙ digits_small r m c.requires) ∙ sym w.value-is ∙ c.if-has_no_seven.false)
+      | else-raw-sevens w ↦ ap (λ b. small && b) (rest_is r m false c.requires (other_test _ _ w.if-raw-sevens.false)) ∙ and-false small
+    ] in
+    c.if-has_no_seven.false ∙ test_fails rest small (c.args.pentagon_base && lead) failed

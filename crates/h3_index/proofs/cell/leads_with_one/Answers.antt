@@ -1,0 +1,5 @@
+use Rattle.h3_index.proofs.DigitBitLaws.{leads_with_one_is}
+use Rattle.h3_index.proofs.cell.leads_with_one.Goals as goal
+
+pub returns : goal.returns
+returns c = leads_with_one_is c.args.digits c.requires

@@ -1,0 +1,54 @@
+//! Eight hexadecimal digits at once: each byte of a word holds one of them.
+
+ghost use Rattle.std.specs.Prelude.{◌≡◌, ◌^◌, ◌<◌, ℕ, List, length, map};
+ghost use Rattle.std.specs.Char.{digit_char};
+ghost use Rattle.std.specs.Int.{w64, from_be_bytes};
+ghost use Rattle.std.specs.Int.Digits.{number_from_digits};
+ghost use Rattle.h3_index.specs.Digits.{last_digits};
+
+/// The values of the eight hexadecimal digits of half an index, each in a byte, the highest first.
+#[inline(always)]
+fn spread(half: u64) -> u64
+    requires { half < 2 ^ 32 }
+    ensures { result ≡ number_from_digits 256 (last_digits 16 8 half) }
+{
+    // Sixteen bits move apart, then eight, then four; the masks drop what lies between.
+    let quarters = (half | half << 16) & 0x0000_ffff_0000_ffff;
+    let bytes = (quarters | quarters << 8) & 0x00ff_00ff_00ff_00ff;
+    (bytes | bytes << 4) & 0x0f0f_0f0f_0f0f_0f0f
+}
+
+/// The eight hexadecimal digits of half an index in lower case, each in a byte.
+#[inline(always)]
+pub fn characters(half: u64) -> u64
+    requires { half < 2 ^ 32 }
+    ensures { result ≡ number_from_digits 256 (map digit_char (last_digits 16 8 half)) }
+{
+    let digits = spread(half);
+    // A byte each for the digits from ten on, which are letters: 6 more carries those to 16 and up.
+    let letters = digits + 0x0606_0606_0606_0606 >> 4 & 0x0101_0101_0101_0101;
+    digits + 0x3030_3030_3030_3030 + 39 * letters
+}
+
+/// The half of an index whose eight hexadecimal digits a word holds; some number for a word of other bytes.
+#[inline(always)]
+pub fn gathered(word: u64) -> u64
+    ensures { result < 2 ^ 32 }
+{
+    let letters = word >> 6 & 0x0101_0101_0101_0101;
+    let digits = (word & 0x0f0f_0f0f_0f0f_0f0f).wrapping_add(letters.wrapping_mul(9));
+    let bytes = (digits | digits >> 4) & 0x00ff_00ff_00ff_00ff;
+    let quarters = (bytes | bytes >> 8) & 0x0000_ffff_0000_ffff;
+    (quarters | quarters >> 16) & 0xffff_ffff
+}
+
+/// Eight bytes as a word, the first the highest.
+#[inline(always)]
+pub fn word_of(bytes: &[u8]) -> u64
+    requires { length bytes.now ≡ 8 }
+    ensures { result ≡ from_be_bytes w64 bytes.now }
+{
+    let mut word = [0; 8];
+    word.copy_from_slice(bytes);
+    u64::from_be_bytes(word)
+}

@@ -1,0 +1,32 @@
+//! Indexes in the plain form, read at once.
+
+ghost use Rattle.std.specs.Prelude.{◌≡◌, length, true, Some, IfSome};
+ghost use Rattle.std.specs.Char.{is_digit};
+ghost use Rattle.std.specs.List.{list_all};
+ghost use Rattle.h3_index.specs.Text.{spelled_index};
+
+use super::halves::{characters, gathered, word_of};
+
+/// The index that 8 to 16 digits in lower case parse as. `None` says nothing: the text may be of another form.
+#[inline(always)]
+pub fn read_plain(bytes: &[u8]) -> Option<u64>
+    ensures spelled { IfSome result (λ index. spelled_index bytes.now ≡ Some index) }
+    ensures digits { IfSome result (λ _. list_all (λ b. is_digit b 16) bytes.now ≡ true) }
+{
+    if bytes.len() < 8 || bytes.len() > 16 {
+        return None;
+    }
+    let more = bytes.len() - 8;
+    let first = word_of(&bytes[..8]);
+    let last = word_of(&bytes[more..]);
+    // Both words hold the digits in the middle.
+    let index = gathered(first) << (4 * more) | gathered(last);
+    // Whatever was gathered, it is the index of this text where it is written as these bytes.
+    let head = characters(index >> (4 * more));
+    let tail = characters(index & 0xffff_ffff);
+    if head == first && tail == last {
+        Some(index)
+    } else {
+        None
+    }
+}

@@ -1,0 +1,7 @@
+pub mod Blocks
+pub mod Lengths
+pub mod Lines
+pub mod ListLines
+pub mod Pages
+pub mod PlainLines
+pub mod Written

@@ -1,0 +1,76 @@
+-- What a loop over items has written and holds back, of the answer that the items make.
+use Rattle.std.proofs.Common.{◌≡◌, ℕ, ◌+◌, Bool, List, [], ◌∷◌, ◌++◌, length, take, drop, map, Option, None, Some, Result, sym, ap, ◌∙◌, refl, subst, append-nil, append_assoc, take-append-drop}
+use Rattle.std.proofs.lemmas.List.{drop_more}
+use Rattle.std.proofs.KnownBytes.{Appends-nil, Appends-trans}
+use Rattle.std.specs.Iterator.{Yields}
+use Rattle.std.specs.Io.KnownBytes.{Appends}
+use Rattle.std.proofs.lemmas.Iterator.{YieldsList}
+use Rattle.std.proofs.lemmas.Iterator.Consumers.{YieldsList-so_far, YieldsList-turn, YieldsList-end}
+use Rattle.h3_lines.specs.Answer.{Answer, before}
+use Rattle.h3_lines.specs.Writing.{AppendsUpTo, Writes}
+use Rattle.h3_lines.specs.declared.refusal.Refusal.{Refusal}
+use Rattle.h3_lines.proofs.Written.{writes_after}
+
+-- ---- all items: from is the iterator that the loop made of s
+
+map_same : {A : Type 0} (xs : List A) → map (λ x. x) xs ≡ xs
+map_same [] = refl
+map_same (x ∷ xs) = ap (λ l. x ∷ l) (map_same xs)
+
+-- where a call gives x after xs, these stand so in the list of all
+pub split_at : {S A : Type 0} {steps : S → Option A → S → Type 0} {s : S} {all : List A} → YieldsList steps (λ x. x) s all → (from : S) → from ≡ s → (xs : List A) (t : S) → Yields steps from xs t
+    → (u : S) (x : A) → steps t (Some x) u → all ≡ xs ++ x ∷ drop (length xs + 1) all
+split_at {steps = steps} {all = all} e from begins xs t y u x st =
+    let e' : YieldsList steps (λ x. x) from all = subst (λ z. YieldsList steps (λ x. x) z all) (sym begins) e in
+    let (less, here) = YieldsList-turn e' xs t y (Some x) u x refl st in
+    let front : xs ≡ take (length xs) all = sym (map_same xs) ∙ YieldsList-so_far e' xs t y in
+    let rest : drop (length xs) all ≡ x ∷ drop (length xs + 1) all = drop_more all (length xs) x less ∙ ap (λ z. z ∷ drop (length xs + 1) all) (sym here) in
+    sym (take-append-drop (length xs) all) ∙ ap (λ l. l ++ drop (length xs) all) (sym front) ∙ ap (λ l. xs ++ l) rest
+
+-- where it ends after xs, these are all
+pub whole_at : {S A : Type 0} {steps : S → Option A → S → Type 0} {s : S} {all : List A} → YieldsList steps (λ x. x) s all → (from : S) → from ≡ s → (xs : List A) (t : S) → Yields steps from xs t
+    → (u : S) → steps t None u → all ≡ xs ++ []
+whole_at {steps = steps} {all = all} e from begins xs t y u st =
+    let e' : YieldsList steps (λ x. x) from all = subst (λ z. YieldsList steps (λ x. x) z all) (sym begins) e in
+    let whole : xs ≡ all = sym (map_same xs) ∙ (YieldsList-end e' xs t y None u refl st).0 in
+    sym whole ∙ sym (append-nil xs)
+
+-- ---- the answer so far
+
+before_before : (xs ys : List ℕ) (a : Answer) → before xs (before ys a) ≡ before (xs ++ ys) a
+before_before xs ys a = ap (λ l. record { output = l; ending = a.ending }) (sym (append_assoc xs ys a.output))
+
+module _ {I : Type 0} (answer : List I → Answer) where
+  -- the answer to these items and more begins with these bytes, and then comes the answer to those that are more
+  abbrev pub SoFar : List I → List ℕ → Type 0
+  SoFar items bytes = (more : List I) → answer (items ++ more) ≡ before bytes (answer more)
+
+  -- a stream took bytes, and others are held back; together they are those of the items so far
+  pub record Held (items : List I) (old new : Option (List ℕ)) (held : List ℕ) : Type 0 where
+    pub done : List ℕ
+    pub grown : Appends old new done
+    pub so_far : SoFar items (done ++ held)
+
+  pub held_none : (out : Option (List ℕ)) → Held [] out out []
+  held_none out = record { done = []; grown = Appends-nil out; so_far = λ more. refl }
+
+  -- the text of an item more, put after what is left of the bytes held back
+  pub held_more : {items : List I} {old mid new : Option (List ℕ)} {held rest : List ℕ} → Held items old mid held → (item : I) (text held' : List ℕ)
+      → ((more : List I) → answer (item ∷ more) ≡ before text (answer more)) → AppendsUpTo mid new held rest → held' ≡ rest ++ text → Held (items ++ item ∷ []) old new held'
+  held_more {items} {old} {mid} {new} {held} {rest} h item text held' begins p is = record {
+    done = h.done ++ p.part;
+    grown = Appends-trans old mid new h.done p.part h.grown p.grown;
+    so_far = λ more. (
+        let bytes : (h.done ++ held) ++ text ≡ (h.done ++ p.part) ++ held' =
+        ap (λ l. l ++ text) (ap (λ l. h.done ++ l) p.split ∙ sym (append_assoc h.done p.part rest)) ∙ append_assoc (h.done ++ p.part) rest text ∙ ap (λ l. (h.done ++ p.part) ++ l) (sym is) in
+        ap answer (append_assoc items (item ∷ []) more) ∙ h.so_far (item ∷ more) ∙ ap (before (h.done ++ held)) (begins more) ∙ before_before (h.done ++ held) text (answer more) ∙ ap (λ l. before l (answer more)) bytes);
+  }
+
+  -- the answer to all items is written, where what is held back and the answer to the others are
+  pub held_ends : {items : List I} {old mid : Option (List ℕ)} {held : List ℕ} → Held items old mid held → (all rest : List I) → all ≡ items ++ rest
+      → (new : Option (List ℕ)) (had_failed have_failed has_failed : Bool) → have_failed ≡ had_failed → (ending : Result (Unit {0}) Refusal)
+      → Writes (before held (answer rest)) ending (record { before = mid; after = new; had_failed = have_failed; has_failed = has_failed })
+      → Writes (answer all) ending (record { before = old; after = new; had_failed = had_failed; has_failed = has_failed })
+  held_ends {items} {old} {mid} {held} h all rest split new had_failed have_failed has_failed same ending writes =
+      let is : answer all ≡ before h.done (before held (answer rest)) = ap answer split ∙ h.so_far rest ∙ sym (before_before h.done held (answer rest)) in
+      rw is (writes_after (before held (answer rest)) h.done old had_failed ending (record { before = mid; after = new; had_failed = have_failed; has_failed = has_failed }) h.grown same writes)

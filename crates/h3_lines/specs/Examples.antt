@@ -1,0 +1,58 @@
+-- The definitions at worked values, by computation.
+use Rattle.std.specs.Prelude.{◌≡◌, ℕ, List, [], ◌∷◌, ◌++◌, map, replicate, codes, None, Ok, Err, refl}
+use Rattle.std.specs.Fmt.{digits}
+use Rattle.h3_index.specs.Cell.{number_of}
+use Rattle.h3_index.specs.CellNumber.{address_in, cell_in}
+use Rattle.h3_index.specs.Count.{base_cell}
+use Rattle.h3_index.specs.Text.{spelled_index, text_of}
+use Rattle.h3_index.specs.declared.error.H3Error.TheVariants.{CellInvalid, Failed, Pentagon}
+use Rattle.h3_lattice.specs.declared.direction.Direction.TheVariants.{I, K}
+use Rattle.h3_lattice.specs.declared.error.TableError.TheVariants as fault
+use Rattle.h3_lines.specs.Answer.{before, cell_line, refused, ring_line, walked}
+use Rattle.h3_lines.specs.List.{lines_of, listed_cells, said_by}
+use Rattle.h3_lines.specs.Refusal.{refusal_line, refusal_status}
+use Rattle.h3_lines.specs.declared.refusal.Refusal.TheVariants.{Table, TableOpen}
+
+-- ---- lists
+
+-- what follows the last line feed is a line too; a carriage return is a byte like others
+three_lines : lines_of (codes "a" ++ 10 ∷ 13 ∷ 10 ∷ codes "b") ≡ codes "a" ∷ (13 ∷ []) ∷ codes "b" ∷ []
+three_lines = refl
+
+-- 64 spaces are skipped, 65 are faulty
+spaces : map (λ n. said_by (replicate n 32)) (64 ∷ 65 ∷ []) ≡ Ok None ∷ Err Failed ∷ []
+spaces = refl
+
+one_cell : listed_cells (10 ∷ codes " 0x8029fffffffffff" ++ 13 ∷ 10 ∷ []) ≡ Ok (base_cell 20 ∷ [])
+unfolding spelled_index cell_in address_in number_of
+one_cell = refl
+
+-- the first faulty line decides
+faulty : listed_cells (codes "81087ffffffffff" ++ 10 ∷ codes "xyz") ≡ Err CellInvalid
+unfolding spelled_index cell_in address_in number_of
+faulty = refl
+
+-- ---- lines
+
+-- words, and a line feed
+abbrev line : List ℕ → List ℕ
+line words = words ++ 10 ∷ []
+
+origin_alone : ring_line (base_cell 20, 0) ≡ line (codes "8029fffffffffff 0")
+unfolding number_of text_of digits
+origin_alone = refl
+
+-- the lines of the items before the first error are written, and none after it
+cut_short : walked cell_line (Ok (base_cell 20) ∷ Err Pentagon ∷ Ok (base_cell 20) ∷ []) ≡ before (line (codes "8029fffffffffff")) (refused Pentagon)
+unfolding number_of text_of
+cut_short = refl
+
+-- ---- lines on standard error
+
+faults_of_tables : map refusal_line (map Table (fault.Form 5 ∷ fault.Missing ∷ fault.Neighbours 30 ∷ fault.Reversal 30 I ∷ fault.Corner 0 K ∷ []))
+    ≡ map line (codes "table: form 5" ∷ codes "table: missing" ∷ codes "table: neighbours 30" ∷ codes "table: reversal 30 4" ∷ codes "table: corner 0 1" ∷ [])
+unfolding digits
+faults_of_tables = refl
+
+statuses : map refusal_status (Table fault.Missing ∷ Table fault.Read ∷ TableOpen ∷ []) ≡ 3 ∷ 4 ∷ 3 ∷ []
+statuses = refl

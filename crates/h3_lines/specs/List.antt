@@ -1,0 +1,66 @@
+-- The list of cells in the bytes of an input, one cell a line.
+use Rattle.std.specs.Prelude.{◌≡◌, ℕ, ◌==◌, nat_lt, List, [], ◌∷◌, length, ⊤, Option, None, Some, Result, Ok, Err, if◌then◌else◌}
+use Rattle.h3_index.specs.Cell.{Address}
+use Rattle.h3_index.specs.CellNumber.{cell_in}
+use Rattle.h3_index.specs.Text.{spelled_index, trimmed}
+use Rattle.h3_index.specs.declared.error.H3Error.{H3Error}
+use Rattle.h3_index.specs.declared.error.H3Error.TheVariants.{Failed, CellInvalid}
+use Rattle.h3_lines.specs.declared.refusal.Refusal.{Refusal}
+use Rattle.h3_lines.specs.declared.refusal.Refusal.TheVariants.{Error, Memory, Read, Write, Table, TableOpen}
+
+-- ---- lines
+
+-- lines, the first with one byte more in front
+abbrev pub with_first : ℕ → List (List ℕ) → List (List ℕ)
+with_first b [] = (b ∷ []) ∷ []
+with_first b (line ∷ lines) = (b ∷ line) ∷ lines
+
+-- the bytes split at each line feed: what follows the last one is a line too, if an empty one
+abbrev pub lines_of : List ℕ → List (List ℕ)
+lines_of [] = [] ∷ []
+lines_of (b ∷ bs) = if b == 10 then [] ∷ lines_of bs else with_first b (lines_of bs)
+
+-- ---- what a line says: a cell, or nothing, or why it is faulty
+
+abbrev pub said_by_cell : Option Address → Result (Option Address) H3Error
+said_by_cell None = Err CellInvalid
+said_by_cell (Some cell) = Ok (Some cell)
+
+abbrev pub said_by_index : Option ℕ → Result (Option Address) H3Error
+said_by_index None = Err Failed
+said_by_index (Some index) = said_by_cell (cell_in index)
+
+-- a line of more than 64 bytes is faulty whatever it holds; any other of blanks alone is skipped
+abbrev pub said_by : List ℕ → Result (Option Address) H3Error
+said_by line =
+    if nat_lt 64 (length line) then Err Failed else if length (trimmed line) == 0 then Ok None else said_by_index (spelled_index line)
+
+-- ---- the list
+
+-- what a line says, before what the lines after it say
+abbrev pub said_before : Result (Option Address) H3Error → Result (List Address) H3Error → Result (List Address) H3Error
+said_before (Err e) later = Err e
+said_before (Ok None) later = later
+said_before (Ok (Some cell)) (Ok cells) = Ok (cell ∷ cells)
+said_before (Ok (Some cell)) (Err e) = Err e
+
+-- the cells of the lines; the first faulty line decides
+abbrev pub cells_said : List (List ℕ) → Result (List Address) H3Error
+cells_said [] = Ok []
+cells_said (line ∷ lines) = said_before (said_by line) (cells_said lines)
+
+-- the list in these bytes
+abbrev pub listed_cells : List ℕ → Result (List Address) H3Error
+listed_cells bytes = cells_said (lines_of bytes)
+
+-- ---- why it is not read
+
+-- a refusal fits the list: an error is the list's own, out of memory says nothing of it, and a read fault comes only
+-- where reads fail
+abbrev pub RefusesList : Type 0 → Result (List Address) H3Error → Refusal → Type 0
+RefusesList read_fails list (Error e) = list ≡ Err e
+RefusesList read_fails list Memory = ⊤
+RefusesList read_fails list Read = read_fails
+RefusesList read_fails list Write = ⊥
+RefusesList read_fails list (Table e) = ⊥
+RefusesList read_fails list TableOpen = ⊥

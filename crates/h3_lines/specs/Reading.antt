@@ -1,0 +1,27 @@
+-- A list that is read page by page. Private contracts and proofs alone cite this file.
+use Rattle.std.specs.Prelude.{ℕ, ◌≡◌, ◌==◌, Bool, true, not, List, ◌∷◌, ◌++◌, Result, Ok, Err}
+use Rattle.std.specs.List.{list_all}
+use Rattle.h3_index.specs.Cell.{Address}
+use Rattle.h3_index.specs.declared.error.H3Error.{H3Error}
+use Rattle.h3_index.specs.CellNumber.{cell_in}
+use Rattle.h3_lines.specs.List.{listed_cells, said_by, said_by_cell}
+
+-- these cells, before those of a list
+abbrev pub cells_before : List Address → Result (List Address) H3Error → Result (List Address) H3Error
+cells_before cells (Ok later) = Ok (cells ++ later)
+cells_before cells (Err e) = Err e
+
+-- the list, where these cells were read before, and this is the line so far
+abbrev pub listed_after : List Address → List ℕ → List ℕ → Result (List Address) H3Error
+listed_after cells line rest = cells_before cells (listed_cells (line ++ rest))
+
+-- no byte is a line feed
+abbrev pub is_unended : List ℕ → Bool
+is_unended = list_all (λ b. not (b == 10))
+
+-- the bytes begin with a line that says what this index says, and after it come these bytes
+pub record IsPlainLine (bytes : List ℕ) (index : ℕ) (after : List ℕ) : Type 0 where
+  pub line : List ℕ
+  pub unended : is_unended line ≡ true
+  pub split : bytes ≡ line ++ 10 ∷ after
+  pub says : said_by line ≡ said_by_cell (cell_in index)

@@ -1,0 +1,94 @@
+//! The lines of answers.
+
+ghost use Rattle.std.specs.Prelude.{◌≡◌, ◌+◌, ◌<◌, ◌≤◌, ◌++◌, ◌∷◌, [], ℕ, List, length, take};
+ghost use Rattle.h3_lines.specs.Answer.{cell_line, edge_line, number_line, ring_line, truth_line};
+
+use h3_index::{Cell, Edge, index_bytes};
+use itoa::Buffer;
+
+/// The room that a line may take.
+pub const ROOM: usize = 32;
+
+/// The bytes of a block of lines.
+pub const BLOCK: usize = 4096;
+
+/// What is written as a line.
+pub trait Line {
+    /// The line, ended by a line feed.
+    ghost line_of: { Self → List ℕ };
+
+    /// Puts the line at a place of a block, and returns where it ends. The bytes after it may change
+    /// too.
+    fn put(&self, block: &mut [u8; BLOCK], at: usize) -> usize
+        requires room { at + 32 ≤ 4096 }
+        ensures end { result ≤ at + 32 }
+        ensures some { at < result }
+        ensures line { take result block.new ≡ take at block.old ++ line_of self.now };
+}
+
+/// Puts the first `count` bytes and one more at a place of a block, and returns where they end. All of
+/// the bytes are copied, since that is fast where their number is known to the compiler.
+#[inline(always)]
+fn put_ended(block: &mut [u8; BLOCK], at: usize, bytes: &[u8], count: usize, end: u8) -> usize
+    requires within { count ≤ length bytes.now }
+    requires room { at + length bytes.now < 4096 }
+    ensures end { result ≡ at + count + 1 }
+    ensures line { take result block.new ≡ take at block.old ++ (take count bytes.now ++ end ∷ []) }
+{
+    block[at..at + bytes.len()].copy_from_slice(bytes);
+    block[at + count] = end;
+    at + count + 1
+}
+
+impl Line for bool {
+    ghost line_of = { truth_line };
+
+    fn put(&self, block: &mut [u8; BLOCK], at: usize) -> usize {
+        let text = if *self { "true" } else { "false" };
+        put_ended(block, at, text.as_bytes(), text.len(), b'\n')
+    }
+}
+
+impl Line for u64 {
+    ghost line_of = { number_line };
+
+    fn put(&self, block: &mut [u8; BLOCK], at: usize) -> usize {
+        let mut buffer = Buffer::new();
+        let text = buffer.format(*self);
+        put_ended(block, at, text.as_bytes(), text.len(), b'\n')
+    }
+}
+
+impl Line for Cell {
+    ghost line_of = { cell_line };
+
+    #[inline(always)]
+    fn put(&self, block: &mut [u8; BLOCK], at: usize) -> usize {
+        let (bytes, count) = index_bytes(self.raw());
+        put_ended(block, at, &bytes, count, b'\n')
+    }
+}
+
+impl Line for Edge {
+    ghost line_of = { edge_line };
+
+    #[inline(always)]
+    fn put(&self, block: &mut [u8; BLOCK], at: usize) -> usize {
+        let (text, count) = index_bytes(self.raw());
+        put_ended(block, at, &text, count, b'\n')
+    }
+}
+
+/// A cell with its ring.
+impl Line for (Cell, u32) {
+    ghost line_of = { ring_line };
+
+    #[inline(always)]
+    fn put(&self, block: &mut [u8; BLOCK], at: usize) -> usize {
+        let (bytes, count) = index_bytes(self.0.raw());
+        let after_cell = put_ended(block, at, &bytes, count, b' ');
+        let mut buffer = Buffer::new();
+        let ring = buffer.format(self.1);
+        put_ended(block, after_cell, ring.as_bytes(), ring.len(), b'\n')
+    }
+}

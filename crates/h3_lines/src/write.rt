@@ -1,0 +1,139 @@
+//! Writing to a sink.
+
+ghost use Rattle.std.specs.Prelude.{◌≡◌, ◌+◌, ◌<◌, ◌≤◌, List, length, take, true, IfOk, OnOk, OnErr, Result};
+ghost use Rattle.std.specs.Io.KnownBytes.{Appends};
+ghost use Rattle.std.specs.Iterator.{IsFinite};
+ghost use Rattle.std.specs.List.{flat_map};
+ghost use Rattle.std.proofs.lemmas.Iterator.{YieldsList};
+ghost use Rattle.h3_index.specs.declared.error.H3Error.{H3Error};
+ghost use Rattle.h3_lines.specs.Answer.{before, printed, refused, walked, written};
+ghost use Rattle.h3_lines.specs.Writing.{AppendsPart, AppendsUpTo, Writes, sink_use};
+
+use crate::line::{BLOCK, Line, ROOM};
+use crate::refusal::Refusal;
+use h3_index::{H3Error, Sink, StreamFault};
+
+/// Writes all of the bytes, in as many pushes as it takes.
+///
+/// `StreamFault` where a push fails: then a beginning of the bytes has been written, and no push is
+/// made after it.
+#[inline]
+pub fn write_all<W: Sink>(out: &mut W, bytes: &[u8]) -> Result<(), StreamFault>
+    ensures written { OnOk result (Appends (W.taken out.old) (W.taken out.new) bytes.now) }
+    ensures ok { OnOk result (W.has_failed out.new ≡ W.has_failed out.old) }
+    ensures part { OnErr result (AppendsPart (W.taken out.old) (W.taken out.new) bytes.now) }
+    ensures err { OnErr result (W.has_failed out.new ≡ true) }
+{
+    let mut rest = bytes;
+    while !rest.is_empty() {
+        let count = out.push(rest)?;
+        rest = &rest[count..];
+    }
+    Ok(())
+}
+
+/// Writes all of the bytes, and flushes. `Refusal::Write` where a push or the flush fails.
+pub fn write_answer<W: Sink>(out: &mut W, answer: &[u8]) -> Result<(), Refusal>
+    ensures { Writes (written answer.now) result (sink_use W.taken W.has_failed out.old out.new) }
+{
+    write_all(out, answer)?;
+    out.flush()?;
+    Ok(())
+}
+
+/// Writes the line of a result's value and flushes, or returns the result's error.
+///
+/// `Refusal::Write` where a push or the flush fails.
+pub fn write_result<W: Sink, L: Line + Drop>(
+    out: &mut W,
+    value: Result<L, H3Error>,
+) -> Result<(), Refusal>
+    ensures { Writes (printed L.line_of value) result
+        (sink_use W.taken W.has_failed out.old out.new) }
+{
+    let mut block = [0; BLOCK];
+    let end = value?.put(&mut block, 0);
+    write_answer(out, &block[..end])
+}
+
+/// Makes room for a line in a block of lines that ends at `end`: where too little is left, the block is
+/// written, and begins anew. Returns where the line may begin.
+#[inline(always)]
+fn make_room<W: Sink>(out: &mut W, block: &[u8; BLOCK], end: usize) -> Result<usize, StreamFault>
+    requires { end ≤ 4096 }
+    ensures room { IfOk result (λ at. at + 32 ≤ 4096) }
+    ensures written { IfOk result (λ at.
+        AppendsUpTo (W.taken out.old) (W.taken out.new) (take end block.now) (take at block.now)) }
+    ensures ok { OnOk result (W.has_failed out.new ≡ W.has_failed out.old) }
+    ensures part { OnErr result
+        (AppendsPart (W.taken out.old) (W.taken out.new) (take end block.now)) }
+    ensures err { OnErr result (W.has_failed out.new ≡ true) }
+    ensures some { OnErr result (0 < length (take end block.now)) }
+{
+    if end <= BLOCK - ROOM {
+        return Ok(end);
+    }
+    write_all(out, &block[..end])?;
+    Ok(0)
+}
+
+/// Writes a line for each item, and flushes. No item is kept, and no more lines than a block has.
+///
+/// `Refusal::Write` where a push or the flush fails.
+pub fn write_lines<W: Sink, L: Line + Drop, I: Iterator<Item = L> + Drop>(
+    out: &mut W,
+    items: I,
+) -> Result<(), Refusal>
+    requires can { I.can_next items }
+    requires ends { IsFinite (I.remaining items) }
+    ensures { (all : List _) → YieldsList I.next_gives (λ x. x) items all →
+        Writes (written (flat_map L.line_of all)) result
+        (sink_use W.taken W.has_failed out.old out.new) }
+{
+    let mut block = [0; BLOCK];
+    let mut end = 0;
+    for item in items {
+        end = make_room(out, &block, end)?;
+        end = item.put(&mut block, end);
+    }
+    write_answer(out, &block[..end])
+}
+
+/// Writes the bytes and flushes, if there are any, and then returns the error.
+fn write_refused<W: Sink>(out: &mut W, bytes: &[u8], error: H3Error) -> Result<(), Refusal>
+    ensures { Writes (before bytes.now (refused error)) result
+        (sink_use W.taken W.has_failed out.old out.new) }
+{
+    if !bytes.is_empty() {
+        write_answer(out, bytes)?;
+    }
+    Err(Refusal::Error(error))
+}
+
+/// Writes a line for each item of a walk up to its first error, which it then returns. No item is kept,
+/// and no more lines than a block has. It flushes at the end, and before an error only where a line was
+/// written.
+///
+/// `Refusal::Write` where a push or the flush fails.
+pub fn write_walk<W: Sink, L: Line + Drop, I: Iterator<Item = Result<L, H3Error>> + Drop>(
+    out: &mut W,
+    walk: I,
+) -> Result<(), Refusal>
+    requires can { I.can_next walk }
+    requires ends { IsFinite (I.remaining walk) }
+    ensures { (all : List (Result _ H3Error)) → YieldsList I.next_gives (λ x. x) walk all →
+        Writes (walked L.line_of all) result (sink_use W.taken W.has_failed out.old out.new) }
+{
+    let mut block = [0; BLOCK];
+    let mut end = 0;
+    for item in walk {
+        match item {
+            Ok(value) => {
+                end = make_room(out, &block, end)?;
+                end = value.put(&mut block, end);
+            }
+            Err(error) => return write_refused(out, &block[..end], error),
+        }
+    }
+    write_answer(out, &block[..end])
+}
