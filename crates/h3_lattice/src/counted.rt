@@ -99,9 +99,10 @@ mod tests {
     use h3_index::{Source, StreamFault, Streamed};
     use std::test::Fail;
 
-    /// A source whose first pull fails.
+    /// A source of one byte a pull, which fails after so many.
     #[derive(Drop)]
     struct TornSource {
+        pulls_left: u64,
         failed: bool,
     }
 
@@ -112,9 +113,13 @@ mod tests {
 
         ghost has_failed = { λ s. s.failed };
 
-        fn pull(&mut self, _buf: &mut [u8]) -> Result<usize, StreamFault> {
-            self.failed = true;
-            Err(StreamFault)
+        fn pull(&mut self, buf: &mut [u8]) -> Result<usize, StreamFault> {
+            if self.pulls_left == 0 || buf.is_empty() {
+                self.failed = true;
+                return Err(StreamFault);
+            }
+            self.pulls_left -= 1;
+            Ok(1)
         }
     }
 
@@ -139,10 +144,17 @@ mod tests {
     }
 
     #[test]
-    fn a_reader_that_fails_is_a_read_fault(rt: HostRuntime) {
+    fn a_reader_that_fails_below_the_limit_is_a_read_fault(rt: HostRuntime) {
         let mut page = [0; 1];
-        let mut source = TornSource { failed: false };
-        let read = read_bytes(rt.alloc(), &mut source, 3, &mut page);
-        assert!(rt; matches!(read, Err(TableError::Read)));
+        for pulls_left in 0..4u64 {
+            let mut source = TornSource {
+                pulls_left,
+                failed: false,
+            };
+            let read = read_bytes(rt.alloc(), &mut source, 3, &mut page);
+            assert!(rt; matches!(read, Err(TableError::Read)));
+            // the fourth read is past the limit, and not made
+            assert_eq!(rt; source.failed, pulls_left < 3);
+        }
     }
 }

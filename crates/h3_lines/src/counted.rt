@@ -62,4 +62,21 @@ mod tests {
         assert_eq!(&rt; source.pull(&mut page), Ok(1));
         assert_eq!(&rt; page[0], b'd');
     }
+
+    #[test]
+    fn a_read_that_fails_below_the_limit_is_a_read_fault(rt: HostRuntime) {
+        let mut page = [0; 8];
+        for good in 0..3u64 {
+            let mut source = SlowSource::new(b"abcd", 1, good);
+            let mut reader = CountedReader {
+                source: &mut source,
+                reads_left: 3,
+            };
+            for _ in 0..good {
+                assert_eq!(&rt; reader.read(&mut page), Ok(1));
+            }
+            assert_eq!(&rt; reader.read(&mut page), Err(Refusal::Read));
+            assert_eq!(&rt; reader.reads_left, 2u64.saturating_sub(good));
+        }
+    }
 }
