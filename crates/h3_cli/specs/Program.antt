@@ -1,5 +1,5 @@
 -- What the words of a command line lead to.
-use Rattle.std.specs.Prelude.{◌≡◌, ◌⊎◌, ℕ, false, List, [], Option, Some, None, option_map, map, string_bytes, Result, Ok, Err, IfOk, IfErr, OnOk}
+use Rattle.std.specs.Prelude.{◌≡◌, ◌⊎◌, ℕ, false, List, [], Option, Some, None, option_map, string_bytes, Result, Ok, Err, IfOk, IfErr, OnOk}
 use Rattle.clap.specs.Words.{Text, fault_of}
 use Rattle.std.specs.Io.KnownBytes.{Appends}
 use Rattle.h3_command.specs.Answer.{Request, reads_list, reads_table, request, written}
