@@ -21,7 +21,8 @@ use Rattle.clap.specs.Values.{refused_kind}
 use Rattle.clap.specs.declared.parser.matches.ValueSource.TheVariants.{CommandLine}
 use Rattle.h3_cli.proofs.Lexed.{by_short, given, is_long, is_short, named, named_by}
 use Rattle.h3_cli.specs.Given.{given_by}
-use Rattle.h3_cli.specs.Options.{IsIn, parser_done, id_of, long_name, rule_for, short_name}
+use Rattle.h3_cli.proofs.Uses.{IsListed}
+use Rattle.h3_cli.specs.Options.{parser_done, id_of, long_name, rule_for, short_name}
 use Rattle.h3_cli.specs.declared.options.CommandOption.{CommandOption}
 use Rattle.h3_cli.specs.declared.options.CommandOption.TheVariants.{Cell, Resolution, Radius, To, Position, Edge, Table}
 
@@ -550,12 +551,12 @@ no_default (x ∷ os) rs = ap (λ r. fold with_default r (done_rules os)) (go (h
     go true = refl
     go false = refl
 
-wanted : (o : CommandOption) (os : List CommandOption) (rs : List Row) → IsIn o os → list_any (λ a. a.required && not (is_given a.id rs)) (done_rules os) ≡ false → is_given (id_of o) rs ≡ true
+wanted : (o : CommandOption) (os : List CommandOption) (rs : List Row) → IsListed o os → list_any (λ a. a.required && not (is_given a.id rs)) (done_rules os) ≡ false → is_given (id_of o) rs ≡ true
 wanted o [] rs none e = absurd none
 wanted o (x ∷ os) rs is e = go (is_given (id_of x) rs) refl is (wanted o os rs) e
   where
-    go : (b : Bool) → is_given (id_of x) rs ≡ b → (x ≡ o) ⊎ IsIn o os
-        → (IsIn o os → list_any (λ a. a.required && not (is_given a.id rs)) (done_rules os) ≡ false → is_given (id_of o) rs ≡ true)
+    go : (b : Bool) → is_given (id_of x) rs ≡ b → (x ≡ o) ⊎ IsListed o os
+        → (IsListed o os → list_any (λ a. a.required && not (is_given a.id rs)) (done_rules os) ≡ false → is_given (id_of o) rs ≡ true)
         → (not b || list_any (λ a. a.required && not (is_given a.id rs)) (done_rules os)) ≡ false → is_given (id_of o) rs ≡ true
     go true at (inl same) later e2 = subst (λ y. is_given (id_of y) rs ≡ true) same at
     go true at (inr is2) later e2 = later is2 e2
@@ -578,7 +579,7 @@ row_there o words rs (Some v) is h e = (v, is, h.1, h.0)
 
 -- where no step of the parse fails, each option of the command has a value that its parser accepts, and its row has it
 pub leaf_reads : (name : Text) (os : List CommandOption) (words : List Text) → level_fault (leaf_done name os) [] nothing_held words false [] ≡ []
-    → (o : CommandOption) → IsIn o os → Reads o words (rows_after (done_rules os) [] words)
+    → (o : CommandOption) → IsListed o os → Reads o words (rows_after (done_rules os) [] words)
 leaf_reads name os words f o is =
     let end = walk_end os (at_word (idle_held [] None) idle) words in
     let a = or_nil (walk_fault (leaf_done name os) [] (at_word (idle_held [] None) idle) words) _ f in

@@ -23,10 +23,11 @@ use Rattle.h3_cli.specs.declared.commands.CommandName.{CommandName}
 use Rattle.h3_cli.proofs.Names.{word_named}
 use Rattle.h3_cli.proofs.Top.{app_done, first_met, first_state, keeps_stop, leaf, stopped_at, top_done}
 use Rattle.clap.specs.Faults.{check_fault, defaults_fault, entered_fault, fault_of, given_default_fault, level_fault, other_fault, bundle_fault, bundle_step_fault, flag_word_fault, long_fault, option_fault, short_fault, flags_fault, settle_fault, step_fault, turn_fault, use_fault, walk_fault, word_fault}
-use Rattle.h3_cli.specs.Call.{IsPlainCall, AreUses, IsOneOf, IsPlainValue, Use, names_for, uses_of, words_of}
+use Rattle.h3_cli.specs.Call.{IsPlainCall, IsPlainValue, Use, names_for, words_of}
+use Rattle.h3_cli.proofs.Uses.{AreUses, IsListed, are_uses, contains, uses_in, uses_in-uses_of}
 use Rattle.h3_cli.proofs.Lexed.{given, is_long, is_short, named, named_by}
 use Rattle.h3_cli.specs.Given.{given_by}
-use Rattle.h3_cli.specs.Options.{IsUpTo, IsIn, number_up_to, id_of, long_name, parser_done, short_name}
+use Rattle.h3_cli.specs.Options.{IsUpTo, number_up_to, id_of, long_name, parser_done, short_name}
 use Rattle.h3_cli.specs.declared.options.CommandOption.{CommandOption}
 use Rattle.h3_cli.specs.declared.options.CommandOption.TheVariants.{Cell, Resolution, Radius, To, Position, Edge, Table}
 use Rattle.h3_cli.proofs.Leaf.{Holds, long_is, mine, no_default, short_is, walks, Differs, Which, at_word, bytes_same, differ, done_rule, done_rules, help_done, idle_held, leaf_done, longs_differ, or_false, row_of_option, shorts_differ, used_fresh, value_state, walk_end}
@@ -37,32 +38,32 @@ data NameForm (q : CommandOption) (word : Text) : Type 0 where
   short_form : (y : ℕ) → long_of word ≡ None → short_of word ≡ Some (y ∷ []) → slice_get (chars (y ∷ [])) 0 ≡ Some y → drop (length (encode_utf8 y)) (y ∷ []) ≡ []
       → is_short q y ≡ true → has_short help_done y ≡ false → bytes_eq word (45 ∷ 45 ∷ []) ≡ false → NameForm q word
 
-name_form : (q : CommandOption) (word : Text) → IsOneOf word (names_for q) → NameForm q word
+name_form : (q : CommandOption) (word : Text) → IsListed word (names_for q) → NameForm q word
 unfolding chars encode_utf8
-name_form Cell word (inl e) = subst (NameForm Cell) (sym e) (short_form 99 refl refl refl refl refl refl refl)
-name_form Cell word (inr (inl e)) = subst (NameForm Cell) (sym e) (long_form (codes "cell") refl refl refl refl)
+name_form Cell word (inl e) = subst (NameForm Cell) e (short_form 99 refl refl refl refl refl refl refl)
+name_form Cell word (inr (inl e)) = subst (NameForm Cell) e (long_form (codes "cell") refl refl refl refl)
 name_form Cell word (inr (inr e)) = absurd e
-name_form Resolution word (inl e) = subst (NameForm Resolution) (sym e) (short_form 114 refl refl refl refl refl refl refl)
-name_form Resolution word (inr (inl e)) = subst (NameForm Resolution) (sym e) (long_form (codes "resolution") refl refl refl refl)
+name_form Resolution word (inl e) = subst (NameForm Resolution) e (short_form 114 refl refl refl refl refl refl refl)
+name_form Resolution word (inr (inl e)) = subst (NameForm Resolution) e (long_form (codes "resolution") refl refl refl refl)
 name_form Resolution word (inr (inr e)) = absurd e
-name_form Radius word (inl e) = subst (NameForm Radius) (sym e) (short_form 107 refl refl refl refl refl refl refl)
+name_form Radius word (inl e) = subst (NameForm Radius) e (short_form 107 refl refl refl refl refl refl refl)
 name_form Radius word (inr e) = absurd e
-name_form To word (inl e) = subst (NameForm To) (sym e) (long_form (codes "to") refl refl refl refl)
+name_form To word (inl e) = subst (NameForm To) e (long_form (codes "to") refl refl refl refl)
 name_form To word (inr e) = absurd e
-name_form Position word (inl e) = subst (NameForm Position) (sym e) (long_form (codes "position") refl refl refl refl)
+name_form Position word (inl e) = subst (NameForm Position) e (long_form (codes "position") refl refl refl refl)
 name_form Position word (inr e) = absurd e
-name_form Edge word (inl e) = subst (NameForm Edge) (sym e) (long_form (codes "edge") refl refl refl refl)
+name_form Edge word (inl e) = subst (NameForm Edge) e (long_form (codes "edge") refl refl refl refl)
 name_form Edge word (inr e) = absurd e
-name_form Table word (inl e) = subst (NameForm Table) (sym e) (long_form (codes "table") refl refl refl refl)
+name_form Table word (inl e) = subst (NameForm Table) e (long_form (codes "table") refl refl refl refl)
 name_form Table word (inr e) = absurd e
 
 -- a search that only q passes finds it
-only_found : (p : Rule → Bool) (q : CommandOption) (os : List CommandOption) → IsIn q os → p (done_rule q) ≡ true → ((x : CommandOption) → Differs q x → p (done_rule x) ≡ false)
+only_found : (p : Rule → Bool) (q : CommandOption) (os : List CommandOption) → IsListed q os → p (done_rule q) ≡ true → ((x : CommandOption) → Differs q x → p (done_rule x) ≡ false)
     → find p (done_rules os) ≡ Some (done_rule q)
 only_found p q [] none hit misses = absurd none
 only_found p q (x ∷ os) is hit misses = go (differ q x) is (only_found p q os)
   where
-    go : Which q x → (x ≡ q) ⊎ IsIn q os → (IsIn q os → p (done_rule q) ≡ true → ((y : CommandOption) → Differs q y → p (done_rule y) ≡ false) → find p (done_rules os) ≡ Some (done_rule q))
+    go : Which q x → (x ≡ q) ⊎ IsListed q os → (IsListed q os → p (done_rule q) ≡ true → ((y : CommandOption) → Differs q y → p (done_rule y) ≡ false) → find p (done_rules os) ≡ Some (done_rule q))
         → find p (done_rules (x ∷ os)) ≡ Some (done_rule q)
     go (inl same) is2 later = ap (λ y. cond (p (done_rule y)) (Some (done_rule y)) (find p (done_rules os))) (sym same)
         ∙ ap (λ b. cond b (Some (done_rule q)) (find p (done_rules os))) hit
@@ -74,14 +75,14 @@ flip_id : (x w : CommandOption) → Which x w → Differs w x → bytes_eq (id_o
 flip_id x w (inl same) d = absurd (true≢false (sym (ap (λ y. bytes_eq (id_of w) (id_of y)) same ∙ bytes_same (id_of w)) ∙ d.0))
 flip_id x w (inr d2) d = d2.0
 
-by_id_of : (q : CommandOption) (os : List CommandOption) → IsIn q os → arg_by_id (done_rules os) (id_of q) ≡ Some (done_rule q)
+by_id_of : (q : CommandOption) (os : List CommandOption) → IsListed q os → arg_by_id (done_rules os) (id_of q) ≡ Some (done_rule q)
 by_id_of q os is = only_found (λ a. bytes_eq a.id (id_of q)) q os is (bytes_same (id_of q)) (λ x d. flip_id x q (differ x q) d)
 
-by_long_of : (q : CommandOption) (n : Text) (os : List CommandOption) → IsIn q os → is_long q n ≡ true → arg_by_long (done_rules os) n ≡ Some (done_rule q)
+by_long_of : (q : CommandOption) (n : Text) (os : List CommandOption) → IsListed q os → is_long q n ≡ true → arg_by_long (done_rules os) n ≡ Some (done_rule q)
 by_long_of q n os is hit = only_found (λ a. not (is_some a.index) && has_long a n) q os is (or_false (is_long q n) ∙ hit)
     (λ x d. or_false (is_long x n) ∙ longs_differ (long_name x) (long_name q) n d.1 hit)
 
-by_short_of : (q : CommandOption) (y : ℕ) (os : List CommandOption) → IsIn q os → is_short q y ≡ true → arg_by_short (done_rules os) y ≡ Some (done_rule q)
+by_short_of : (q : CommandOption) (y : ℕ) (os : List CommandOption) → IsListed q os → is_short q y ≡ true → arg_by_short (done_rules os) y ≡ Some (done_rule q)
 by_short_of q y os is hit = only_found (λ a. not (is_some a.index) && has_short a y) q os is (or_false (is_short q y) ∙ hit)
     (λ x d. or_false (is_short x y) ∙ shorts_differ (short_name x) (short_name q) y d.2 hit)
 
@@ -91,7 +92,7 @@ by_short_of q y os is hit = only_found (λ a. not (is_some a.index) && has_short
 abbrev waiting_held : List CommandOption → CommandOption → List Row → Option (Text × List Text) → Held
 waiting_held os q rows p = record (settled (done_rules os) (idle_held rows p)) { pending = Some (id_of q, []) }
 
-name_fault : (name : Text) (os : List CommandOption) (q : CommandOption) (word : Text) (rows : List Row) (p : Option (Text × List Text)) → IsIn q os → NameForm q word
+name_fault : (name : Text) (os : List CommandOption) (q : CommandOption) (word : Text) (rows : List Row) (p : Option (Text × List Text)) → IsListed q os → NameForm q word
     → settle_fault (done_rules os) false (idle_held rows p) ≡ [] → word_fault (leaf_done name os) [] false idle word (idle_held rows p) ≡ []
 unfolding flags_fault
 name_fault name os q word rows p is (long_form n e hit none no_dash) settles =
@@ -104,7 +105,7 @@ name_fault name os q word rows p is (short_form y no_long flags first rest hit n
     ∙ ap (λ r. short_fault (done_rules os) false r (drop (length (encode_utf8 y)) (y ∷ [])) (idle_held rows p) (flags_fault (done_rules os) false 0 (drop (length (encode_utf8 y)) (y ∷ [])) 0)) (by_short_of q y os is hit)
     ∙ ap (λ t. option_fault (done_rules os) false (done_rule q) (attached_value t) (idle_held rows p)) rest ∙ settles
 
-name_met : (os : List CommandOption) (q : CommandOption) (word : Text) (rows : List Row) (p : Option (Text × List Text)) → IsIn q os → NameForm q word
+name_met : (os : List CommandOption) (q : CommandOption) (word : Text) (rows : List Row) (p : Option (Text × List Text)) → IsListed q os → NameForm q word
     → word_met (done_rules os) [] false idle 1 word (idle_held rows p) ≡ (waiting_held os q rows p, next (option (id_of q)))
 unfolding bundle_met
 name_met os q word rows p is (long_form n e hit none no_dash) =
@@ -168,13 +169,13 @@ passes_on name os w after word rest turn is passing = (
 
 -- each option is used at most once, and not again once it has an entry
 abbrev Fresh : List Row → List Use → Type 0
-Fresh rows us = (o : CommandOption) → (has_row (id_of o) rows ≡ true → uses_of o us ≡ 0) × (uses_of o us ≤ 1)
+Fresh rows us = (o : CommandOption) → (has_row (id_of o) rows ≡ true → uses_in o us ≡ 0) × (uses_in o us ≤ 1)
 
 not_yet : (rows : List Row) (u : Use) (us : List Use) → Fresh rows (u ∷ us) → has_row (id_of u.option) rows ≡ false
 not_yet rows u us fresh = go (has_row (id_of u.option) rows) (fresh u.option).0
   where
-    go : (b : Bool) → (b ≡ true → uses_of u.option (u ∷ us) ≡ 0) → b ≡ false
-    go true h = let bad : 1 + uses_of u.option us ≡ 0 = sym (ap (λ b. cond b 1 0 + uses_of u.option us) (bytes_same (id_of u.option))) ∙ h refl in absurd (omega arith)
+    go : (b : Bool) → (b ≡ true → uses_in u.option (u ∷ us) ≡ 0) → b ≡ false
+    go true h = let bad : 1 + uses_in u.option us ≡ 0 = sym (ap (λ b. cond b 1 0 + uses_in u.option us) (bytes_same (id_of u.option))) ∙ h refl in absurd (omega arith)
     go false h = refl
 
 has_row_added : (id : Text) (rows : List Row) (r : Row) → has_row id (rows ++ r ∷ []) ≡ (has_row id rows || bytes_eq r.id id)
@@ -188,12 +189,12 @@ has_row_added id (x ∷ rows) r = go (bytes_eq x.id id) (has_row_added id rows r
 fresh_after : (rows : List Row) (u : Use) (us : List Use) → Fresh rows (u ∷ us) → Fresh (rows ++ row_of_option u.option u.value ∷ []) us
 fresh_after rows u us fresh o = go (bytes_eq (id_of u.option) (id_of o)) (has_row (id_of o) rows) (fresh o) (has_row_added (id_of o) rows (row_of_option u.option u.value))
   where
-    go : (b r : Bool) → (r ≡ true → cond b 1 0 + uses_of o us ≡ 0) × (cond b 1 0 + uses_of o us ≤ 1)
+    go : (b r : Bool) → (r ≡ true → cond b 1 0 + uses_in o us ≡ 0) × (cond b 1 0 + uses_in o us ≤ 1)
         → has_row (id_of o) (rows ++ row_of_option u.option u.value ∷ []) ≡ (r || b)
-        → (has_row (id_of o) (rows ++ row_of_option u.option u.value ∷ []) ≡ true → uses_of o us ≡ 0) × (uses_of o us ≤ 1)
-    go true r f e = let le : 1 + uses_of o us ≤ 1 = f.1 in (λ _. omega arith, omega arith)
-    go false true f e = let none : 0 + uses_of o us ≡ 0 = f.0 refl in (λ _. omega arith, omega arith)
-    go false false f e = let le : 0 + uses_of o us ≤ 1 = f.1 in (λ t. absurd (true≢false (sym t ∙ e)), omega arith)
+        → (has_row (id_of o) (rows ++ row_of_option u.option u.value ∷ []) ≡ true → uses_in o us ≡ 0) × (uses_in o us ≤ 1)
+    go true r f e = let le : 1 + uses_in o us ≤ 1 = f.1 in (λ _. omega arith, omega arith)
+    go false true f e = let none : 0 + uses_in o us ≡ 0 = f.0 refl in (λ _. omega arith, omega arith)
+    go false false f e = let le : 0 + uses_in o us ≤ 1 = f.1 in (λ t. absurd (true≢false (sym t ∙ e)), omega arith)
 
 -- a value in the range passes the parser
 in_range : (most : Option ℕ) (v : Text) → IsUpTo most v → accepts false (unwrap_or (option_map (λ m. Signed (pos 0) (pos m)) most) String) v ≡ true
@@ -243,7 +244,7 @@ no_default_fault (x ∷ os) rs =
     ap₂ (λ b r. or_else (cond b [] (given_default_fault (done_rule x) [])) (defaults_fault r (done_rules os))) (or_true (has_row (id_of x) rs)) (same_rows (has_row (id_of x) rs) rs)
     ∙ no_default_fault os rs
 
-none_missing : (os : List CommandOption) (rs : List Row) → ((o : CommandOption) → IsIn o os → is_given (id_of o) rs ≡ true) → list_any (λ a. a.required && not (is_given a.id rs)) (done_rules os) ≡ false
+none_missing : (os : List CommandOption) (rs : List Row) → ((o : CommandOption) → IsListed o os → is_given (id_of o) rs ≡ true) → list_any (λ a. a.required && not (is_given a.id rs)) (done_rules os) ≡ false
 none_missing [] rs given_all = refl
 none_missing (x ∷ os) rs given_all = ap (λ b. not b || list_any (λ a. a.required && not (is_given a.id rs)) (done_rules os)) (given_all x (inl refl))
     ∙ none_missing os rs (λ o is. given_all o (inr is))
@@ -256,22 +257,22 @@ form_named o q d word (short_form y no_long flags first rest hit none no_dash) =
 plain_named : (o : CommandOption) (v : Text) → IsPlainValue v → named o v ≡ None
 plain_named o v is = let e = no_dashes v is in ap₂ (named_by o) e.0 e.1
 
-given_once : (os : List CommandOption) (o : CommandOption) (us : List Use) → AreUses os us → uses_of o us ≡ 1 → is_some (given o (words_of us)) ≡ true
+given_once : (os : List CommandOption) (o : CommandOption) (us : List Use) → AreUses os us → uses_in o us ≡ 1 → is_some (given o (words_of us)) ≡ true
 given_once os o [] fits once = cc
 given_once os o (u ∷ us) fits once = go (differ u.option o) (form_named o u.option (differ u.option o) u.name (name_form u.option u.name fits.0.named)) (given_once os o us fits.1)
   where
-    go : (d : Which u.option o) → named o u.name ≡ mine d None → (uses_of o us ≡ 1 → is_some (given o (words_of us)) ≡ true) → is_some (given o (words_of (u ∷ us))) ≡ true
+    go : (d : Which u.option o) → named o u.name ≡ mine d None → (uses_in o us ≡ 1 → is_some (given o (words_of us)) ≡ true) → is_some (given o (words_of (u ∷ us))) ≡ true
     go (inl same) is later = ap (λ n. is_some (given_by n (u.value ∷ words_of us) (given o (u.value ∷ words_of us)))) is
     go (inr d) is later = ap (λ n. is_some (given_by n (u.value ∷ words_of us) (given o (u.value ∷ words_of us)))) is
         ∙ ap (λ n. is_some (given_by n (words_of us) (given o (words_of us)))) (plain_named o u.value fits.0.plain)
-        ∙ (let e : 0 + uses_of o us ≡ 1 = sym (ap (λ b. cond b 1 0 + uses_of o us) d.0) ∙ once in later (omega arith))
+        ∙ (let e : 0 + uses_in o us ≡ 1 = sym (ap (λ b. cond b 1 0 + uses_in o us) d.0) ∙ once in later (omega arith))
 
 some_given : (o : CommandOption) (rs : List Row) (s : Option Text) → is_some s ≡ true → Holds o rs s → is_given (id_of o) rs ≡ true
 some_given o rs None e h = absurd (true≢false (sym e))
 some_given o rs (Some v) e h = ap (λ r. option_map_or (λ (x : Row). explicit_source x.source) r false) h.0
 
 -- the words of a plain call pass their command
-pub leaf_passes : (name : Text) (os : List CommandOption) (us : List Use) → AreUses os us → ((o : CommandOption) → IsIn o os → uses_of o us ≡ 1) → ((o : CommandOption) → uses_of o us ≤ 1)
+pub leaf_passes : (name : Text) (os : List CommandOption) (us : List Use) → AreUses os us → ((o : CommandOption) → IsListed o os → uses_in o us ≡ 1) → ((o : CommandOption) → uses_in o us ≤ 1)
     → level_fault (leaf_done name os) [] nothing_held (words_of us) false [] ≡ []
 leaf_passes name os us fits once most =
     let words = words_of us in
@@ -286,19 +287,19 @@ leaf_passes name os us fits once most =
     (ap (λ b. cond b (kind.MissingRequiredArgument ∷ []) []) all_given)))
 
 -- an option that the command lacks is not used
-pub used_in : (os : List CommandOption) (o : CommandOption) (us : List Use) → AreUses os us → (IsIn o os → ⊥) → uses_of o us ≡ 0
+pub used_in : (os : List CommandOption) (o : CommandOption) (us : List Use) → AreUses os us → (IsListed o os → ⊥) → uses_in o us ≡ 0
 used_in os o [] fits not_in = refl
 used_in os o (u ∷ us) fits not_in = go (differ u.option o) (used_in os o us fits.1 not_in)
   where
-    go : Which u.option o → uses_of o us ≡ 0 → uses_of o (u ∷ us) ≡ 0
-    go (inl same) later = absurd (not_in (subst (λ x. IsIn x os) same fits.0.listed))
-    go (inr d) later = let e : uses_of o (u ∷ us) ≡ 0 + uses_of o us = ap (λ b. cond b 1 0 + uses_of o us) d.0 in e ∙ omega (arith, later)
+    go : Which u.option o → uses_in o us ≡ 0 → uses_in o (u ∷ us) ≡ 0
+    go (inl same) later = absurd (not_in (subst (λ x. IsListed x os) same fits.0.listed))
+    go (inr d) later = let e : uses_in o (u ∷ us) ≡ 0 + uses_in o us = ap (λ b. cond b 1 0 + uses_in o us) d.0 in e ∙ omega (arith, later)
 
-is_in_or_not : (o : CommandOption) (os : List CommandOption) → IsIn o os ⊎ (IsIn o os → ⊥)
+is_in_or_not : (o : CommandOption) (os : List CommandOption) → IsListed o os ⊎ (IsListed o os → ⊥)
 is_in_or_not o [] = inr (λ none. none)
 is_in_or_not o (x ∷ os) = go (differ x o) (is_in_or_not o os)
   where
-    go : Which x o → IsIn o os ⊎ (IsIn o os → ⊥) → ((x ≡ o) ⊎ IsIn o os) ⊎ (((x ≡ o) ⊎ IsIn o os) → ⊥)
+    go : Which x o → IsListed o os ⊎ (IsListed o os → ⊥) → ((x ≡ o) ⊎ IsListed o os) ⊎ (((x ≡ o) ⊎ IsListed o os) → ⊥)
     go (inl same) later = inl (inl same)
     go (inr d) (inl is) = inl (inr is)
     go (inr d) (inr not_in) = inr (λ either. elim either [
@@ -306,7 +307,7 @@ is_in_or_not o (x ∷ os) = go (differ x o) (is_in_or_not o os)
       | inr is ↦ not_in is
     ])
 
-pub at_most_once : (os : List CommandOption) (us : List Use) → AreUses os us → ((o : CommandOption) → IsIn o os → uses_of o us ≡ 1) → (o : CommandOption) → uses_of o us ≤ 1
+pub at_most_once : (os : List CommandOption) (us : List Use) → AreUses os us → ((o : CommandOption) → IsListed o os → uses_in o us ≡ 1) → (o : CommandOption) → uses_in o us ≤ 1
 at_most_once os us fits once o = elim (is_in_or_not o os) [
   | inl is ↦ let e = once o is in omega arith
   | inr not_in ↦ let e = used_in os o us fits not_in in omega arith
@@ -371,5 +372,8 @@ app_passes program k rest f =
 -- where the words are a plain call, no step of the parse fails
 pub call_passes : (words : List Text) → IsPlainCall words → fault_of app words ≡ []
 call_passes words h =
-    ap (fault_of app) h.words_are ∙ app_passes h.program h.name (words_of h.uses) (leaf_passes (word_of h.name) (options_of h.name) h.uses h.uses_options h.once
-    (at_most_once (options_of h.name) h.uses h.uses_options h.once))
+    let os = options_of h.name in
+    let uses = are_uses os h.uses h.uses_options in
+    let once : (o : CommandOption) → IsListed o os → uses_in o h.uses ≡ 1 = λ o is. uses_in-uses_of o h.uses ∙ h.once o (contains os o is) in
+    ap (fault_of app) h.words_are
+    ∙ app_passes h.program h.name (words_of h.uses) (leaf_passes (word_of h.name) os h.uses uses once (at_most_once os h.uses uses once))

@@ -2,7 +2,6 @@
 use Rattle.std.proofs.Common.{◌≡◌, ◌∙◌, true, false, refl, sym, ap, ap₂, subst, List, [], ◌∷◌, drop, Option, Some, None, inl, inr}
 use Rattle.std.specs.Prelude.{Box, option_map, string_bytes, option_and_then, slice_get}
 use Rattle.std.specs.Box.{box_value}
-use Rattle.std.specs.Str.{bytes_eq}
 use Rattle.clap.specs.Kinds.{HasKind, IsAmong}
 use Rattle.clap.specs.Matches.{subcommand_name_of}
 use Rattle.clap.specs.Simple.{App, HasMatchesOf, is_simple, subcommand_of, subcommand_rows, subcommand_rows_of}
@@ -20,7 +19,8 @@ use Rattle.clap.specs.declared.parser.matches.SubCommand.{SubCommand}
 use Rattle.h3_cli.specs.Commands.{app, name_of_command, word_of, options_of}
 use Rattle.h3_cli.specs.Faults.{IsFaultOf, IsReportedAs}
 use Rattle.h3_cli.specs.Given.{given}
-use Rattle.h3_cli.specs.Options.{IsIn, id_of, parser_done}
+use Rattle.h3_cli.proofs.Uses.{IsListed, listed_of}
+use Rattle.h3_cli.specs.Options.{id_of, parser_done}
 use Rattle.h3_cli.specs.Values.{AreFound, HasTable, HasValues, AsksFor}
 use Rattle.h3_cli.specs.declared.words.Words.{Words}
 use Rattle.h3_cli.specs.declared.words.WordsFault.{WordsFault}
@@ -77,9 +77,9 @@ name_by_rows : (m : ArgMatches) (name : Text) (rows : List Row) → subcommand_r
 name_by_rows m name rows e = name_rows (out-ArgMatches m).subcommand name rows e
 
 reads_answer : (k : CommandName) (rest : List Text) (found : Found) (rows : List Row) → rows_of found ≡ rows
-    → ((o : CommandOption) → IsIn o (options_of k) → Reads o rest rows) → AreFound k (λ o. given o rest) found
+    → ((o : CommandOption) → IsListed o (options_of k) → Reads o rest rows) → AreFound k (λ o. given o rest) found
 reads_answer k rest found rows same reads o is =
-    let r = reads o is in (
+    let r = reads o (listed_of (options_of k) o is) in (
       r.0,
       given_same o rest ∙ r.1,
       first_value-rows found (id_of o) ∙ ap (first_of (id_of o)) same ∙ ap (option_and_then (λ (x : Row). slice_get x.values 0)) r.3,

@@ -1,6 +1,6 @@
 -- What a parse found for the options of a command is the command's values.
 use Rattle.std.proofs.lemmas.Int.{to_z-of_z}
-use Rattle.std.proofs.Common.{w32, to_z, of_z, SFits, ◌≡◌, ◌⊎◌, ◌∙◌, ◌||◌, ℕ, ℤ, Bool, true, false, List, [], ◌∷◌, Option, Some, None, refl, sym, ap, subst, inl, inr, true≢false}
+use Rattle.std.proofs.Common.{w32, to_z, of_z, SFits, ◌≡◌, ◌⊎◌, ◌∙◌, ◌||◌, ℕ, ℤ, true, false, List, [], ◌∷◌, Option, Some, None, refl, sym, ap, subst, inl, inr, true≢false}
 use Rattle.std.specs.Prelude.{MatchBool}
 use Rattle.std.specs.List.{list_any}
 use Rattle.std.specs.Str.{bytes_eq}
@@ -8,7 +8,8 @@ use Rattle.std.specs.Str.Parse.{signed_digits_value}
 use Rattle.clap.specs.Words.{Accepts, Text, first_value}
 use Rattle.clap.specs.declared.parser.matches.Found.{Found}
 use Rattle.h3_index.specs.Text.{spelled_index}
-use Rattle.h3_cli.specs.Options.{IsIn, IsUpTo, id_of, number_up_to, parser_done}
+use Rattle.h3_cli.proofs.Uses.{IsListed, contains}
+use Rattle.h3_cli.specs.Options.{IsUpTo, id_of, number_up_to, parser_done}
 use Rattle.h3_cli.specs.Commands.{has_option, options_of}
 use Rattle.h3_cli.specs.Values.{AreFound, HasTable, IsIndex, IsNumber, IsText}
 use Rattle.h3_cli.specs.declared.options.CommandOption.{CommandOption}
@@ -16,18 +17,18 @@ use Rattle.h3_cli.specs.declared.options.CommandOption.TheVariants.{Cell, To, Ta
 use Rattle.h3_cli.specs.declared.commands.CommandName.{CommandName}
 use Rattle.h3_cli.proofs.Leaf.{Differs, differ}
 
-is_in : (o : CommandOption) (os : List CommandOption) → list_any (λ x. bytes_eq (id_of x) (id_of o)) os ≡ true → IsIn o os
+is_in : (o : CommandOption) (os : List CommandOption) → list_any (λ x. bytes_eq (id_of x) (id_of o)) os ≡ true → IsListed o os
 is_in o [] e = absurd (true≢false (sym e))
 is_in o (x ∷ os) e = go (differ x o) (is_in o os) e
   where
-    go : (x ≡ o) ⊎ Differs x o → (list_any (λ y. bytes_eq (id_of y) (id_of o)) os ≡ true → IsIn o os) → list_any (λ y. bytes_eq (id_of y) (id_of o)) (x ∷ os) ≡ true → IsIn o (x ∷ os)
+    go : (x ≡ o) ⊎ Differs x o → (list_any (λ y. bytes_eq (id_of y) (id_of o)) os ≡ true → IsListed o os) → list_any (λ y. bytes_eq (id_of y) (id_of o)) (x ∷ os) ≡ true → IsListed o (x ∷ os)
     go (inl same) later e2 = inl same
     go (inr d) later e2 = inr (later (sym (ap (λ b. b || list_any (λ y. bytes_eq (id_of y) (id_of o)) os) d.0) ∙ e2))
 
 -- what a parse found for one of the command's options
 found_for : (o : CommandOption) (self k : CommandName) → self ≡ k → has_option k o ≡ true → (f : Found) (text : CommandOption → Option Text) → AreFound self text f
     → (v : Text) × (text o ≡ Some v) × (first_value f (id_of o) ≡ Some v) × Accepts false (parser_done o) v
-found_for o self k same is f text answers = answers o (subst (λ x. IsIn o (options_of x)) (sym same) (is_in o (options_of k) is))
+found_for o self k same is f text answers = answers o (contains (options_of self) o (subst (λ x. IsListed o (options_of x)) (sym same) (is_in o (options_of k) is)))
 
 -- this index is read for the option
 abbrev pub ReadsIndex : CommandOption → Found → Option ℕ → Type 0

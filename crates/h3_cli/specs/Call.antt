@@ -1,10 +1,10 @@
 -- A plain call: the program's name, a command's name, and then each option of the command once, in any order,
 -- its name and its value in two words.
-use Rattle.std.specs.Prelude.{⊤, ◌⊎◌, ◌≡◌, ◌≢◌, ◌∷◌, ◌+◌, ℕ, List, [], codes, if◌then◌else◌}
+use Rattle.std.specs.Prelude.{◌≡◌, ◌≢◌, ◌∷◌, ℕ, List, [], codes, All, Contains, count_by}
 use Rattle.std.specs.Str.{bytes_eq}
 use Rattle.clap.specs.Words.{Text}
 use Rattle.h3_cli.specs.Commands.{options_of, word_of}
-use Rattle.h3_cli.specs.Options.{IsIn, IsUpTo, id_of, number_up_to}
+use Rattle.h3_cli.specs.Options.{IsUpTo, id_of, number_up_to}
 use Rattle.h3_cli.specs.declared.options.CommandOption.{CommandOption}
 use Rattle.h3_cli.specs.declared.options.CommandOption.TheVariants.{Cell, Resolution, Radius, To, Position, Edge, Table}
 use Rattle.h3_cli.specs.declared.commands.CommandName.{CommandName}
@@ -18,11 +18,6 @@ names_for To = codes "--to" ∷ []
 names_for Position = codes "--position" ∷ []
 names_for Edge = codes "--edge" ∷ []
 names_for Table = codes "--table" ∷ []
-
--- the word is one of these
-abbrev pub IsOneOf : Text → List Text → Type 0
-IsOneOf word [] = ⊥
-IsOneOf word (x ∷ xs) = (word ≡ x) ⊎ IsOneOf word xs
 
 -- not empty, and not beginning with `-` (45)
 abbrev pub IsPlainValue : Text → Type 0
@@ -40,22 +35,16 @@ abbrev pub words_of : List Use → List Text
 words_of [] = []
 words_of (u ∷ us) = u.name ∷ u.value ∷ words_of us
 
--- how often the option is used
+-- how often the option is used; options are compared by their ids
 abbrev pub uses_of : CommandOption → List Use → ℕ
-uses_of o [] = 0
-uses_of o (u ∷ us) = (if bytes_eq (id_of u.option) (id_of o) then 1 else 0) + uses_of o us
+uses_of o uses = count_by (λ u. bytes_eq (id_of u.option) (id_of o)) uses
 
 -- the use is of one of these options, by one of its names, with a plain value in the option's range
 pub record IsUse (os : List CommandOption) (u : Use) : Type 0 where
-  pub listed : IsIn u.option os
-  pub named : IsOneOf u.name (names_for u.option)
+  pub listed : Contains os u.option
+  pub named : Contains (names_for u.option) u.name
   pub plain : IsPlainValue u.value
   pub in_range : IsUpTo (number_up_to u.option) u.value
-
--- each is a use of one of these options
-abbrev pub AreUses : List CommandOption → List Use → Type 0
-AreUses os [] = ⊤
-AreUses os (u ∷ us) = IsUse os u × AreUses os us
 
 -- a program's name, a command's name, and the command's options, each used once, in any order
 pub record IsPlainCall (words : List Text) : Type 0 where
@@ -63,5 +52,5 @@ pub record IsPlainCall (words : List Text) : Type 0 where
   pub name : CommandName
   pub uses : List Use
   pub words_are : words ≡ program ∷ word_of name ∷ words_of uses
-  pub uses_options : AreUses (options_of name) uses
-  pub once : (o : CommandOption) → IsIn o (options_of name) → uses_of o uses ≡ 1
+  pub uses_options : All (IsUse (options_of name)) uses
+  pub once : (o : CommandOption) → Contains (options_of name) o → uses_of o uses ≡ 1

@@ -73,7 +73,7 @@ options_of GetDirectedEdgeOrigin = Edge ∷ []
 options_of GetDirectedEdgeDestination = Edge ∷ Table ∷ []
 options_of OriginToDirectedEdges = Cell ∷ []
 
--- the command has the option; options are told apart by their ids
+-- the command has the option; options are compared by their ids
 abbrev pub has_option : CommandName → CommandOption → Bool
 has_option k o = list_any (λ x. bytes_eq (id_of x) (id_of o)) (options_of k)
 

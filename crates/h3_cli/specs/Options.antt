@@ -1,5 +1,5 @@
 -- The options of the commands, and how `clap` takes each.
-use Rattle.std.specs.Prelude.{⊤, ◌≡◌, ◌⊎◌, ℕ, List, [], ◌∷◌, Option, Some, None, true, codes, pos, option_map, unwrap_or}
+use Rattle.std.specs.Prelude.{⊤, ℕ, Option, Some, None, true, codes, pos, option_map, unwrap_or}
 use Rattle.clap.specs.Words.{IsSignedIn, Rule, Text, new_rule}
 use Rattle.clap.specs.declared.builder.value_parser.ValueParser.{ValueParser}
 use Rattle.clap.specs.declared.builder.value_parser.ValueParser.TheVariants.{Signed, String}
@@ -67,8 +67,3 @@ rule_for o = record (new_rule (id_of o)) {
   parser = parser_for o;
   required = true;
 }
-
--- the option is in the list
-abbrev pub IsIn : CommandOption → List CommandOption → Type 0
-IsIn o [] = ⊥
-IsIn o (x ∷ xs) = (x ≡ o) ⊎ IsIn o xs

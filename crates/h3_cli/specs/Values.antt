@@ -1,10 +1,10 @@
 -- What the words of a command line ask for.
-use Rattle.std.specs.Prelude.{⊤, ◌≡◌, ℕ, ℤ, pos, List, Option, Some, None, drop, option_map, slice_get, string_bytes, false, MatchBool}
+use Rattle.std.specs.Prelude.{Contains, ⊤, ◌≡◌, ℕ, ℤ, pos, List, Option, Some, None, drop, option_map, slice_get, string_bytes, false, MatchBool}
 use Rattle.std.specs.Str.Parse.{signed_digits_value}
 use Rattle.clap.specs.Words.{Accepts, Text, first_value}
 use Rattle.clap.specs.declared.parser.matches.Found.{Found}
 use Rattle.h3_index.specs.Text.{spelled_index}
-use Rattle.h3_cli.specs.Options.{IsIn, IsUpTo, id_of, number_up_to, parser_done}
+use Rattle.h3_cli.specs.Options.{IsUpTo, id_of, number_up_to, parser_done}
 use Rattle.h3_cli.specs.Commands.{has_option, name_of_command, options_of, word_of}
 use Rattle.h3_cli.specs.Given.{given}
 use Rattle.h3_cli.specs.declared.options.CommandOption.{CommandOption}
@@ -64,7 +64,7 @@ HasTable text k path = MatchBool (has_option k Table) (IsText (text Table) path)
 
 -- each option of the command has its text in what a parse found, and its parser let it through
 abbrev pub AreFound : CommandName → (CommandOption → Option Text) → Found → Type 0
-AreFound k text found = (o : CommandOption) → IsIn o (options_of k)
+AreFound k text found = (o : CommandOption) → Contains (options_of k) o
     → (v : Text) × (text o ≡ Some v) × (first_value found (id_of o) ≡ Some v) × Accepts false (parser_done o) v
 
 -- the word after the program's name is the command's name, and the words after it give the command's values and the

@@ -1,6 +1,7 @@
 //! The base cell table, which is opened by its path.
 
-ghost use Rattle.std.specs.Prelude.{◌≡◌, List, ℕ, None, false, IsSome, OnOk, OnErr};
+ghost use Rattle.std.specs.Prelude.{◌≡◌, ◌≤◌, List, ℕ, None, true, false, length, IsSome, IsErr, IfOk, OnOk, OnErr};
+ghost use Rattle.h3_index.specs.Stream.{Pulls};
 
 use crate::retried::Retried;
 use h3_index::{Source, StreamFault};
@@ -58,7 +59,13 @@ impl<'a, R: Files> Source for TableFile<'a, R> {
 
     ghost has_failed = { λ table. table.failed };
 
-    fn pull(&mut self, buf: &mut [u8]) -> Result<usize, StreamFault> {
+    fn pull(&mut self, buf: &mut [u8]) -> Result<usize, StreamFault>
+        ensures bound { IfOk result (λ n. n ≤ length buf.new) }
+        ensures bytes { IfOk result (λ n. Pulls None None buf.new n) }
+        ensures ok { OnOk result (self.new.failed ≡ self.old.failed) }
+        ensures err { OnErr result (self.new.failed ≡ true) }
+        ensures unopened { self.old.file ≡ None → IsErr result }
+    {
         let read = match &mut self.file {
             Some(file) => file.read(buf),
             None => Err(io::Error::from(ErrorKind::NotFound)),

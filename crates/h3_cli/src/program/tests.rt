@@ -89,7 +89,7 @@ fn status_of<W: Sink, E: Sink>(
 }
 
 #[test]
-fn faults_of_words_are_told_on_standard_error(rt: HostRuntime) -> Result<(), Fail> {
+fn invalid_command_lines_are_reported_on_standard_error(rt: HostRuntime) -> Result<(), Fail> {
     for line in [
         "h3",
         "h3 nothing",

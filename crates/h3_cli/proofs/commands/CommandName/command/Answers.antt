@@ -1,6 +1,6 @@
 use Rattle.std.proofs.Common.{rules, refl}
 use Rattle.clap.specs.Words.{found_of}
-use Rattle.h3_cli.specs.declared.options.CommandOption.TheVariants.{Cell, Resolution, Radius, To, Position, Edge}
+use Rattle.h3_cli.specs.declared.options.CommandOption.TheVariants.{Cell, Resolution, Radius, Position, Edge}
 use Rattle.h3_cli.proofs.Values.{cell_and_to, cell_and_whole, index_of, number_of, whole_of}
 use Rattle.h3_cli.proofs.commands.CommandName.command.Goals as goal
 
