@@ -24,7 +24,7 @@ fn a_cell_has_the_fields_of_its_number(rt: HostRuntime) -> Result<(), Fail> {
 }
 
 #[test]
-fn a_cell_gets_another_digit_or_base_cell(rt: HostRuntime) -> Result<(), Fail> {
+fn a_digit_or_the_base_cell_is_replaced(rt: HostRuntime) -> Result<(), Fail> {
     let cell = Cell::new(0x85283473fffffff)?;
     for (r, digit, raw) in [
         (5, 3, 0x8528346ffffffff),
@@ -37,6 +37,8 @@ fn a_cell_gets_another_digit_or_base_cell(rt: HostRuntime) -> Result<(), Fail> {
     for (base, raw) in [(0, 0x85003473fffffff), (121, 0x85f23473fffffff)] {
         assert_eq!(rt; cell.with_base(base), Cell::new(raw)?, "base cell {base}");
     }
+    let pentagon = Cell::new(0x8009fffffffffff)?;
+    assert_eq!(rt; pentagon.with_base(0), Cell::new(0x8001fffffffffff)?);
     Ok(())
 }
 

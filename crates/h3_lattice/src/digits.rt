@@ -12,8 +12,8 @@ use std::marker::Model;
 
 /// The digits of a cell without its base cell: a digit of 0 to 6 for each resolution from 1 up to its own.
 ///
-/// They are held in one number, that of the cell in base cell 0 that has them. It is no pentagon, so every list of
-/// digits is that of a cell there.
+/// They are held in one `u64`, the number of the cell of base cell 0 that has them. Base cell 0 is no pentagon, so each
+/// list of at most 15 digits of 0 to 6 is that of a cell there.
 #[derive(Clone, Copy, Debug, PartialEq, Eq)]
 pub struct Digits {
     cell: Cell,

@@ -200,6 +200,20 @@ fn a_sum_lies_across(rt: HostRuntime) -> Result<(), Fail> {
 }
 
 #[test]
+fn a_base_cell_has_no_digit_to_add_to(rt: HostRuntime) -> Result<(), Fail> {
+    let cell = Cell::new(0x803dfffffffffff)?;
+    match add(cell, Direction::JK) {
+        Moved::Inside(_) => assert!(rt; false),
+        Moved::Across(side, digits) => {
+            assert_eq!(rt; side, Direction::JK);
+            assert_eq!(rt; digits.resolution(), 0);
+            assert_eq!(rt; digits.at(0), Cell::new(0x8001fffffffffff)?);
+        }
+    }
+    Ok(())
+}
+
+#[test]
 fn classes_alternate(rt: HostRuntime) {
     assert_eq!(rt; Class::at(0), Class::Two);
     assert_eq!(rt; Class::at(15), Class::Three);

@@ -67,7 +67,7 @@ mod tests {
     fn a_read_that_fails_below_the_limit_is_a_read_fault(rt: HostRuntime) {
         let mut page = [0; 8];
         for good in 0..3u64 {
-            let mut source = SlowSource::new(b"abcd", 1, good);
+            let mut source = FaultySource::new(b"abcd", 1, Faults::From(good));
             let mut reader = CountedReader {
                 source: &mut source,
                 reads_left: 3,

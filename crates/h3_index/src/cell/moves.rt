@@ -1,4 +1,4 @@
-//! Moves from a cell to another: up and down the hierarchy, and at its own resolution.
+//! Moves from one cell to another: up and down the hierarchy, and at its own resolution.
 
 ghost use Rattle.std.specs.Prelude.{◌≡◌, ◌≢◌, ◌+◌, ◌-◌, ◌<◌, ◌≤◌, length, false, slice_index_or, true};
 ghost use Rattle.h3_index.specs.Cell.{IsCell, is_pentagon, is_pentagon_base};
@@ -62,8 +62,8 @@ impl Cell {
         }
     }
 
-    /// The cell with another digit, 0 to 6, at a resolution from 1 up to its own. Its base cell is no pentagon, so that
-    /// no digits are deleted there.
+    /// The cell with this digit, 0 to 6, at a resolution from 1 up to its own, and all else as it is, as H3's
+    /// `H3_SET_INDEX_DIGIT` sets it. The cell's base cell must be no pentagon, so that no digits are deleted there.
     pub fn with_digit(self, r: u8, digit: u8) -> Cell
         requires some { 1 ≤ r }
         requires at_most { r ≤ length self.digits }
@@ -79,7 +79,8 @@ impl Cell {
         }
     }
 
-    /// The cell of the same digits in another base cell, 0 to 121, that is no pentagon.
+    /// The cell with this base cell, 0 to 121, and the same digits, as H3's `H3_SET_BASE_CELL` sets it. The new base cell
+    /// must be no pentagon.
     pub fn with_base(self, base: u8) -> Cell
         requires small { base < 122 }
         requires hexagon { is_pentagon_base base ≡ false }

@@ -1,6 +1,6 @@
 use super::{write_lines, write_walk};
 use crate::refusal::Refusal;
-use h3_fakes::SlowSink;
+use h3_fakes::{Faults, FaultySink};
 use h3_index::{Cell, H3Error};
 use std::test::Fail;
 
@@ -8,7 +8,7 @@ use std::test::Fail;
 fn many_lines_go_out_by_blocks(rt: HostRuntime) {
     // 10 * 2 + 90 * 3 + 900 * 4 + 1000 * 5 bytes, in blocks of at least 4065: two of them, the rest,
     // and a flush
-    let mut out: SlowSink<8890> = SlowSink::new(65536, 4);
+    let mut out: FaultySink<8890> = FaultySink::new(65536, Faults::From(4));
     assert!(&rt; write_lines(&mut out, 0..2000u64).is_ok());
     assert_eq!(&rt; out.bytes().len(), 8890);
     let mut expected = 0u64;
@@ -23,10 +23,10 @@ fn many_lines_go_out_by_blocks(rt: HostRuntime) {
         expected = expected.saturating_add(1);
     }
     assert_eq!(&rt; expected, 2001);
-    let mut out: SlowSink<8890> = SlowSink::new(65536, 3);
+    let mut out: FaultySink<8890> = FaultySink::new(65536, Faults::From(3));
     let written = write_lines(&mut out, 0..2000u64);
     assert_eq!(&rt; written, Err(Refusal::Write));
-    let mut out: SlowSink<5000> = SlowSink::new(65536, 4);
+    let mut out: FaultySink<5000> = FaultySink::new(65536, Faults::From(4));
     assert!(&rt; write_lines(&mut out, 0..2000u64).is_err());
     assert!(&rt; out.bytes().starts_with(b"0\n1\n2\n"));
     assert!(&rt; out.bytes().ends_with(b"1221\n"));
@@ -42,16 +42,16 @@ fn the_lines_of_a_walk_stand_before_its_error(rt: HostRuntime) -> Result<(), Fai
         Err(H3Error::Failed),
     ];
     let pentagon = Err(Refusal::Error(H3Error::Pentagon));
-    let mut out: SlowSink<64> = SlowSink::new(64, 2);
+    let mut out: FaultySink<64> = FaultySink::new(64, Faults::From(2));
     let written = write_walk(&mut out, steps.iter().copied());
     assert_eq!(&rt; written, pentagon);
     assert!(&rt; out.bytes() == b"85283473fffffff\n85283473fffffff\n".as_slice());
     // the flush fails, and is reported in place of the error
-    let mut out: SlowSink<64> = SlowSink::new(64, 1);
+    let mut out: FaultySink<64> = FaultySink::new(64, Faults::From(1));
     let written = write_walk(&mut out, steps.iter().copied());
     assert_eq!(&rt; written, Err(Refusal::Write));
     // where no line comes before the error, nothing is written or flushed
-    let mut out: SlowSink<64> = SlowSink::new(64, 0);
+    let mut out: FaultySink<64> = FaultySink::new(64, Faults::From(0));
     let written = write_walk(&mut out, steps[2..].iter().copied());
     assert_eq!(&rt; written, pentagon);
     Ok(())
