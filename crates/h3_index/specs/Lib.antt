@@ -10,6 +10,7 @@ pub mod Error
 pub mod Examples
 pub mod Laws
 pub mod Paths
+pub mod Siblings
 pub mod Stream
 pub mod Streamed
 pub mod Text
