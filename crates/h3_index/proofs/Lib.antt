@@ -3,6 +3,7 @@ pub mod CellLaws
 pub mod CellTestLaws
 pub mod ChainLaws
 pub mod CountLaws
+pub mod CursorLaws
 pub mod DescendantLaws
 pub mod DigitBitLaws
 pub mod DigitsLaws
@@ -13,7 +14,6 @@ pub mod MoveLaws
 pub mod OrderLaws
 pub mod PathLaws
 pub mod PlainLaws
-pub mod RaiseLaws
 pub mod ReplaceLaws
 pub mod SpreadLaws
 pub mod TextLaws

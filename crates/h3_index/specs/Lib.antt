@@ -11,6 +11,7 @@ pub mod Examples
 pub mod Laws
 pub mod Moves
 pub mod Paths
+pub mod Siblings
 pub mod Stream
 pub mod Streamed
 pub mod Text

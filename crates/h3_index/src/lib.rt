@@ -3,6 +3,7 @@
 
 mod cell;
 mod count;
+mod cursor;
 mod edge;
 mod error;
 pub mod laws;
@@ -11,6 +12,7 @@ mod text;
 
 pub use cell::{Cell, is_pentagon_base};
 pub use count::{num_cells, pentagon, res0_cell};
+pub use cursor::Cursor;
 pub use edge::Edge;
 pub use error::H3Error;
 pub use stream::{Sink, Source, StreamFault, Streamed};

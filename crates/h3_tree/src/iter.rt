@@ -1,6 +1,6 @@
 //! The iterator over the descendants of a cell.
 
-ghost use Rattle.std.specs.Prelude.{◌≡◌, ◌≤◌, IfSome, length};
+ghost use Rattle.std.specs.Prelude.{◌≡◌, ◌≤◌, length};
 ghost use Rattle.std.specs.Iterator.{YieldsFirst, item_count};
 ghost use Rattle.h3_index.specs.Cell.{IsCell};
 ghost use Rattle.h3_index.specs.Descendants.{descendants};
@@ -8,35 +8,14 @@ ghost use Rattle.h3_tree.specs.Children.{children_left};
 ghost use Rattle.h3_tree.specs.Following.{following};
 
 use crate::descendants::size_at;
-use h3_index::Cell;
 use h3_index::laws::{descendants_are_listed, paths_are_chains};
-
-/// The next cell of the same base cell and resolution where it has the same parent, which is so for six children in
-/// seven.
-#[inline(always)]
-fn next_sibling(cell: Cell) -> Option<Cell>
-    ensures { IfSome result (λ next. next ≡ following cell) }
-{
-    let resolution = cell.resolution();
-    if resolution == 0 {
-        return None;
-    }
-    let digit = cell.digit(resolution);
-    // The child of digit 1 is deleted below a pentagon.
-    if digit == 6 || digit == 0 && cell.is_pentagon() {
-        return None;
-    }
-    Some(cell.raised())
-}
+use h3_index::{Cell, Cursor};
 
 /// The next cell of the same base cell and resolution. The last is its own.
 #[inline(always)]
 fn following(cell: Cell) -> Cell
     ensures { result ≡ following cell }
 {
-    if let Some(next) = next_sibling(cell) {
-        return next;
-    }
     let resolution = cell.resolution();
     let mut r = resolution;
     while r > 0 {
@@ -55,11 +34,22 @@ fn following(cell: Cell) -> Cell
     cell
 }
 
-/// The descendants of a cell at one resolution, in ascending order. It holds the next of them and
-/// how many are left.
+/// The cursor at the next cell, which six times in seven has the same parent.
+#[inline(always)]
+fn next_cursor(cursor: Cursor) -> Cursor
+    ensures { result ≡ following cursor }
+{
+    match cursor.raised() {
+        Some(next) => next,
+        None => Cursor::new(following(cursor.cell())),
+    }
+}
+
+/// The descendants of a cell at one resolution, in ascending order. It holds a cursor at the next
+/// of them and how many are left.
 #[derive(Clone, Copy, Debug)]
 pub struct Children {
-    next: Cell,
+    next: Cursor,
     left: u64,
 }
 
@@ -73,7 +63,7 @@ impl Children {
     {
         paths_are_chains();
         Children {
-            next: cell.center_at(r),
+            next: Cursor::new(cell.center_at(r)),
             left: size_at(cell, r),
         }
     }
@@ -91,11 +81,11 @@ impl Iterator for Children {
         if self.left == 0 {
             return None;
         }
-        let cell = self.next;
+        let cell = self.next.cell();
         self.left -= 1;
         // After the last cell none is asked for: a list of one cell is common.
         if self.left > 0 {
-            self.next = following(cell);
+            self.next = next_cursor(self.next);
         }
         Some(cell)
     }
@@ -105,7 +95,7 @@ impl Iterator for Children {
 mod tests {
     use super::Children;
     use crate::children;
-    use h3_index::Cell;
+    use h3_index::{Cell, Cursor};
     use std::test::Fail;
 
     fn copy_of<T: Copy>(value: T) -> T {
@@ -122,11 +112,11 @@ mod tests {
     }
 
     #[test]
-    fn children_hold_the_next_cell_and_a_count(rt: HostRuntime) -> Result<(), Fail> {
+    fn children_hold_a_cursor_and_a_count(rt: HostRuntime) -> Result<(), Fail> {
         let Children { next, left } = children(Cell::new(0x85283473fffffff)?, 6)?;
-        let next: Cell = next;
+        let next: Cursor = next;
         let left: u64 = left;
-        assert_eq!(rt; next.raw(), 0x862834707ffffff);
+        assert_eq!(rt; next.cell().raw(), 0x862834707ffffff);
         assert_eq!(rt; left, 7);
         Ok(())
     }

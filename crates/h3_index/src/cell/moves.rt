@@ -1,6 +1,6 @@
 //! Moves from one cell to another: up and down the hierarchy, and at its own resolution.
 
-ghost use Rattle.std.specs.Prelude.{◌≡◌, ◌≢◌, ◌+◌, ◌-◌, ◌<◌, ◌≤◌, length, false, slice_index_or, true};
+ghost use Rattle.std.specs.Prelude.{◌≡◌, ◌≢◌, ◌<◌, ◌≤◌, length, true, false};
 ghost use Rattle.h3_index.specs.Cell.{IsCell, is_pentagon, is_pentagon_base};
 ghost use Rattle.h3_index.specs.Count.{base_cell};
 ghost use Rattle.h3_index.specs.Descendants.{center_at, child, cut};
@@ -90,21 +90,6 @@ impl Cell {
         let old = u64::from(self.base_cell()) << 45;
         Cell {
             raw: self.raw - old + (u64::from(base) << 45),
-        }
-    }
-
-    /// The cell under the same parent whose last digit is one more. The last digit must be below 6, and where it is 0
-    /// the cell is no pentagon.
-    #[inline(always)]
-    pub fn raised(self) -> Cell
-        requires finer { 0 < length self.digits }
-        requires less { slice_index_or self.digits (length self.digits - 1) 7 < 6 }
-        requires not_deleted { slice_index_or self.digits (length self.digits - 1) 7 ≡ 0 → is_pentagon self ≡ false }
-        ensures is { result ≡ child (cut self (length self.digits - 1)) (slice_index_or self.digits (length self.digits - 1) 7 + 1) }
-        ensures valid { IsCell result }
-    {
-        Cell {
-            raw: self.raw + (1 << (3 * (15 - self.resolution()))),
         }
     }
 }
