@@ -7,6 +7,7 @@ use Rattle.h3_index.specs.Descendants.{cut}
 use Rattle.h3_index.specs.Edge.{directed_edge, edge_number}
 use Rattle.h3_index.specs.EdgeNumber.{directed_edge_in, edge_in}
 use Rattle.h3_index.specs.Moves.{with_base, with_digit}
+use Rattle.h3_index.specs.Siblings.{has_raised, last_digit, raised}
 use Rattle.h3_index.specs.Text.{spelled_index, text_of}
 
 -- ---- cells
@@ -35,6 +36,17 @@ hexagon_digits = refl
 hexagon_bases : map (λ c. number_of c) (with_base hexagon 0 ∷ with_base hexagon 121 ∷ []) ≡ 0x85003473fffffff ∷ 0x85f23473fffffff ∷ []
 unfolding number_of
 hexagon_bases = refl
+
+hexagon_raised : number_of (raised hexagon) ≡ 0x85283477fffffff
+unfolding number_of
+hexagon_raised = refl
+
+last_digits_read : map (λ c. last_digit c) (hexagon ∷ cut hexagon 2 ∷ cut hexagon 0 ∷ []) ≡ 4 ∷ 6 ∷ 7 ∷ []
+last_digits_read = refl
+
+-- after the digits 4 and 6, at resolution 0, at a pentagon, and beside one
+raised_tests : map (λ c. has_raised c) (hexagon ∷ cut hexagon 2 ∷ cut hexagon 0 ∷ record { base = 4; digits = 0 ∷ 0 ∷ [] } ∷ record { base = 4; digits = 0 ∷ 2 ∷ [] } ∷ []) ≡ true ∷ false ∷ false ∷ false ∷ true ∷ []
+raised_tests = refl
 
 first_and_last_base_cells : map (λ b. number_of (base_cell b)) (0 ∷ 121 ∷ []) ≡ 0x8001fffffffffff ∷ 0x80f3fffffffffff ∷ []
 unfolding number_of

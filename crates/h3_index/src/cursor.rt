@@ -34,6 +34,7 @@ impl Model for Cursor {
 
 impl Cursor {
     /// The cursor at a cell.
+    #[inline(always)]
     pub fn new(cell: Cell) -> Cursor
         ensures is { result ≡ cell }
         ensures valid { IsCell result }

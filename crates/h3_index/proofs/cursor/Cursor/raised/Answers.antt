@@ -1,8 +1,7 @@
 use Rattle.std.proofs.lemmas.Bool.Decides.{nat_tests}
-use Rattle.std.proofs.Common.{ℕ, ◌==◌, ◌≡◌, ◌≢◌, ◌+◌, ◌*◌, ◌^◌, ◌∙◌, true, false, sym, ap, arith, bit_and}
+use Rattle.std.proofs.Common.{ℕ, ◌==◌, ◌≡◌, ◌*◌, ◌∙◌, true, false, sym, ap, arith, bit_and}
 use Rattle.h3_index.specs.Cell.{is_pentagon}
-use Rattle.h3_index.specs.Siblings.{has_raised}
-use Rattle.h3_index.proofs.CursorLaws.{IsAt, IsRaised, at_cursor, none_deleted, none_first, none_last, raised_again, raised_at, unit_small}
+use Rattle.h3_index.proofs.CursorLaws.{IsRaised, at_cursor, none_deleted, none_first, none_last, raised_again, raised_at, unit_small}
 use Rattle.h3_index.proofs.cursor.Cursor.raised.Goals as goal
 use Rattle.h3_index.proofs.cursor.Cursor.raised.Goals.{then-self-via-then-self, then-self-via-else-self+then-last-self, then-self-via-else-self+else-last-self+then-is_pentagon, then-last-eq0, else-last-eq0}
 
