@@ -6,10 +6,10 @@ ghost use Rattle.h3_lines.specs.Answer.{cell_line, edge_line, number_line, ring_
 use h3_index::{Cell, Edge, index_bytes};
 use itoa::Buffer;
 
-/// The room that a line may take.
+/// The room that a line may take, its line feed included.
 pub const ROOM: usize = 32;
 
-/// The bytes of a block of lines.
+/// The bytes of a block, in which lines are put before they go out together.
 pub const BLOCK: usize = 4096;
 
 /// What is written as a line.

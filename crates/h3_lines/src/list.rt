@@ -269,6 +269,10 @@ fn read_list<R: Source>(
 /// alone is skipped, and each of the others must parse as the index of a valid cell. The last line
 /// may end with a line feed or not. Nothing is read once a faulty line is known, and of a line that
 /// a read fault cuts nothing is known but that it is too long.
+///
+/// `Failed` for a line of more than 64 bytes or one that parses as no index, and `CellInvalid` for
+/// the index of no cell, the first faulty line's. `Refusal::Read` where a read fails, or the end is
+/// not found in 2^40 reads. `Refusal::Memory` where there is none for the page or for a cell.
 pub fn read_cells<R: Source>(alloc: Global, input: &mut R) -> Result<Vec<Cell>, Refusal>
     // 2^40 reads of a page, of which the last finds the end
     ensures cells { IfOk result (λ cells. (list : List ℕ) × HasLeft (R.left input.old) list ×

@@ -77,7 +77,8 @@ fn make_room<W: Sink>(out: &mut W, block: &[u8; BLOCK], end: usize) -> Result<us
     Ok(0)
 }
 
-/// Writes a line for each item, and flushes. No item is kept, and no more lines than a block has.
+/// Writes a line for each item of an iterator that ends, and flushes. No item is kept, and no more
+/// lines than a block has.
 ///
 /// `Refusal::Write` where a push or the flush fails.
 pub fn write_lines<W: Sink, L: Line + Drop, I: Iterator<Item = L> + Drop>(
@@ -110,9 +111,9 @@ fn write_refused<W: Sink>(out: &mut W, bytes: &[u8], error: H3Error) -> Result<(
     Err(Refusal::Error(error))
 }
 
-/// Writes a line for each item of a walk up to its first error, which it then returns. No item is kept,
-/// and no more lines than a block has. It flushes at the end, and before an error only where a line was
-/// written.
+/// Writes a line for each item of a walk up to its first error, which it then returns. The walk is an
+/// iterator that ends. No item is kept, and no more lines than a block has. It flushes at the end, and
+/// before an error only where a line was written.
 ///
 /// `Refusal::Write` where a push or the flush fails.
 pub fn write_walk<W: Sink, L: Line + Drop, I: Iterator<Item = Result<L, H3Error>> + Drop>(
