@@ -37,20 +37,20 @@ IsSound source = source.has_failed ≡ source.had_failed
 abbrev pub ReadFails : SourceUse → List ℕ → Type 0
 ReadFails source bytes = (source.has_failed ≡ true) ⊎ (2 ^ 40 ≤ length bytes)
 
--- the bytes were read to their end, in pages of this size: 2^40 reads at most, of which the last finds the end
+-- 2^40 reads of this many bytes find the end of the bytes: the last read finds it
 abbrev pub IsWithinReads : ℕ → List ℕ → Type 0
 IsWithinReads page bytes = length bytes + page ≤ 2 ^ 40 * page
 
 -- ---- how a run ends
 
--- The answer to these bytes of a source is written, and no read fails: then this was read. Or there is no memory, or a
--- read fails, and then nothing is written.
+-- The answer to these bytes of a source is written, no read fails, and this holds of the bytes. Or there is no memory,
+-- or a read fails, and then nothing is written.
 abbrev pub WritesReading : Answer → List ℕ → Type 0 → SourceUse → Result (Unit {0}) Refusal → SinkUse → Type 0
 WritesReading a bytes was_read source (Err Memory) out = IsSound source × IsLeft out
 WritesReading a bytes was_read source (Err Read) out = ReadFails source bytes × IsLeft out
 WritesReading a bytes was_read source ending out = was_read × IsSound source × Writes a ending out
 
--- a list with no faulty line is read to its end
+-- a list without a faulty line ends within the reads
 abbrev pub IsReadAsList : List ℕ → Type 0
 IsReadAsList list = IsOk (listed_cells list) → IsWithinReads 65536 list
 
@@ -60,7 +60,7 @@ abbrev pub WritesOfList : (List Address → Answer) → SourceUse → Result (Un
 WritesOfList about input ending out =
     (list : List ℕ) × HasLeft input.left list × WritesReading (answer_or_error about (listed_cells list)) list (IsReadAsList list) input ending out
 
--- the same of a table, which is read to its end, and the answer about its links
+-- the same of a table, which ends within the reads, and the answer about its links
 abbrev pub WritesOfTable : (Links → Answer) → SourceUse → Result (Unit {0}) Refusal → SinkUse → Type 0
 WritesOfTable about table ending out =
     (file : List ℕ) × HasLeft table.left file × WritesReading (about_table about file) file (IsWithinReads 4096 file) table ending out

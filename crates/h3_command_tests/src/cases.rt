@@ -24,19 +24,35 @@ pub enum Reads<'a> {
 /// A command, what it reads, and its answer: the output, the line on standard error and the status.
 #[derive(Clone, Copy)]
 pub struct Case<'a> {
+    /// What is run.
     pub command: Command,
+
+    /// What it reads.
     pub reads: Reads<'a>,
+
+    /// The whole output.
     pub output: &'a str,
+
+    /// The line on standard error, or nothing.
     pub line: &'a str,
+
+    /// The exit status.
     pub status: u8,
 }
 
 /// What a run left behind: its status, its sinks, and how often it read.
 #[derive(Drop)]
 pub struct Outcome {
+    /// The exit status.
     pub status: u8,
+
+    /// Standard output.
     pub out: FaultySink<256>,
+
+    /// Standard error.
     pub err: FaultySink<64>,
+
+    /// The pulls of what the command reads.
     pub pulls: u64,
 }
 
@@ -127,7 +143,7 @@ impl<'a> Case<'a> {
     }
 }
 
-/// The cell of many rows: of resolution 5, in base cell 20.
+/// The cell of many tests: of resolution 5, in base cell 20.
 const HEXAGON: Option<u64> = Some(0x85283473fffffff);
 
 /// Its children.

@@ -64,6 +64,7 @@ fn assert_torn<R: Abort + AllocGlobal>(rt: &R, case: &Case<'_>) {
     }
 }
 
+/// The line of a line that parses as no index, or is too long.
 const FAILED: &str = "error 1: E_FAILED\n";
 
 #[test]

@@ -67,7 +67,8 @@ impl BaseTable {
     /// the first faulty record, a missing record, and the first check that fails, by ascending base cell and direction.
     /// [`TableError::Memory`] where there is no memory for the file or a record.
     pub fn read<R: Source>(alloc: Global, source: &mut R) -> Result<BaseTable, TableError>
-        // The bytes of the file are those left in the source, where it is known which they are.
+        // The bytes of the file are those left in the source, where it is known which they are. 2^40 reads of a page
+        // find their end.
         ensures accepted { IfOk result (λ table. (bytes : List ℕ) × HasLeft (R.left source.old) bytes ×
             (length bytes + 4096 ≤ 2 ^ 40 * 4096) ×
             (table_fault (records_of bytes) ≡ None) × (link_of table ≡ links_of (records_of bytes))) }
@@ -79,8 +80,7 @@ impl BaseTable {
         // A read that fails is never passed over.
         ensures kept { result ≢ Err TableError.Read → R.has_failed source.new ≡ R.has_failed source.old }
 
-        // A table is accepted or refused for what is in it only after all of it was read: in 2^40 reads of a page, of
-        // which the last finds the end.
+        // A table is accepted or refused for what is in it only after all of it was read.
         ensures whole { result ≢ Err TableError.Read → result ≢ Err TableError.Memory →
             (bytes : List ℕ) → R.left source.old ≡ Some bytes → R.left source.new ≡ Some [] }
 
