@@ -10,53 +10,51 @@ use std::process::Abort;
 /// The line of a write fault.
 const WRITE_FAULT: &str = "fault: write\n";
 
-/// The pushes and flushes that an answer takes: it goes out as one block, since it is short, and the
-/// end, or an error after lines, is flushed.
-fn calls_of(case: &Case<'_>, most: u64) -> u64 {
-    let pushes = (case.output.len() as u64).div_ceil(most.max(1));
-    if case.status == 0 || pushes > 0 {
-        pushes.saturating_add(1)
-    } else {
-        pushes
-    }
+/// Whether an answer is flushed: at its end, and before an error only where lines stand before it.
+fn is_flushed(case: &Case<'_>) -> bool {
+    case.status == 0 || !case.output.is_empty()
 }
 
-/// The bytes that so many calls write.
-fn bytes_after(case: &Case<'_>, most: u64, calls: u64) -> u64 {
-    calls.saturating_mul(most).min(case.output.len() as u64)
-}
-
-/// Asserts that the whole answer is given, by so many pushes, and one flush or none.
-fn assert_answered<R: Abort + AllocGlobal>(rt: &R, case: &Case<'_>, most: u64, faults: Faults) {
-    let run = case.write(rt, FaultySink::new(most as usize, faults));
-    let calls = calls_of(case, most);
-    let answered = run.is(case.output, case.line, case.status);
-    let counted = run.out.calls() == calls && run.out.flushes() == calls.min(1);
-    assert!(rt; answered && counted, "{:?}, {most}", case.command);
+/// Asserts that the whole answer is given, with one flush or none, and returns the number of pushes
+/// and flushes. At one byte a push that is the number of bytes, and the flush.
+fn answered<R: Abort + AllocGlobal>(rt: &R, case: &Case<'_>, most: usize, faults: Faults) -> u64 {
+    let run = case.write(rt, FaultySink::new(most, faults));
+    let flushes = u64::from(is_flushed(case));
+    let bytes = case.output.len() as u64;
+    let calls = run.out.calls();
+    let counted = most != 1 || calls == bytes.saturating_add(flushes);
+    let whole = run.is(case.output, case.line, case.status) && run.out.flushes() == flushes;
+    assert!(rt; whole && counted, "{:?}, {most}", case.command);
+    calls
 }
 
 /// Asserts that a write fault is reported, a beginning of the output is written, and no push or
 /// flush is made after it.
-fn assert_write_fault<R: Abort + AllocGlobal>(rt: &R, case: &Case<'_>, most: u64, faults: Faults) {
-    let run = case.write(rt, FaultySink::new(most as usize, faults));
+fn assert_write_fault<R: Abort + AllocGlobal>(
+    rt: &R,
+    case: &Case<'_>,
+    most: usize,
+    faults: Faults,
+) {
+    let run = case.write(rt, FaultySink::new(most, faults));
     let call = faults.first();
     let reported = run.status == 4 && run.err.bytes() == WRITE_FAULT.as_bytes();
     let begun = case.output.as_bytes().starts_with(run.out.bytes());
-    let written = run.out.bytes().len() as u64 == bytes_after(case, most, call);
+    let counted = most != 1 || run.out.bytes().len() as u64 == call;
     let stopped = run.out.calls() == call.saturating_add(1);
-    let right = reported && begun && written && stopped;
+    let right = reported && begun && counted && stopped;
     assert!(rt; right, "{:?}, {most}, {call}", case.command);
 }
 
 /// Asserts what comes of a fault at each push and at the flush, whether it passes or not.
-fn assert_write_faults<R: Abort + AllocGlobal>(rt: &R, case: &Case<'_>, most: u64) {
-    let calls = calls_of(case, most);
+fn assert_write_faults<R: Abort + AllocGlobal>(rt: &R, case: &Case<'_>, most: usize) {
+    let calls = answered(rt, case, most, NO_FAULT);
     for call in 0..calls {
         assert_write_fault(rt, case, most, Faults::From(call));
         assert_write_fault(rt, case, most, Faults::Once(call));
     }
-    assert_answered(rt, case, most, Faults::From(calls));
-    assert_answered(rt, case, most, NO_FAULT);
+    let again = answered(rt, case, most, Faults::From(calls));
+    assert_eq!(rt; again, calls, "{:?}, {most}", case.command);
 }
 
 /// Asserts what comes of a writer that takes no byte.
@@ -102,7 +100,7 @@ fn assert_error_faults<R: Abort + AllocGlobal>(rt: &R, case: &Case<'_>) {
 }
 
 /// Asserts what comes of a writer that fails in each of these ways.
-fn assert_writers<R: Abort + AllocGlobal>(rt: &R, case: &Case<'_>, pieces: [u64; 2]) {
+fn assert_writers<R: Abort + AllocGlobal>(rt: &R, case: &Case<'_>, pieces: [usize; 2]) {
     for most in pieces {
         assert_write_faults(rt, case, most);
     }
@@ -129,7 +127,7 @@ fn a_command_on_a_list_whose_write_fails_is_a_write_fault(rt: HostRuntime) {
 fn a_command_on_a_table_whose_write_fails_is_a_write_fault(rt: HostRuntime) {
     let file = table_file(TestTable::Plain);
     for case in &table_cases(file.as_str()) {
-        assert_writers(&rt, case, [7, 64]);
+        assert_writers(&rt, case, [1, 64]);
     }
 }
 
