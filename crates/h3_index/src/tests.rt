@@ -32,6 +32,7 @@ fn a_digit_or_the_base_cell_is_replaced(rt: HostRuntime) -> Result<(), Fail> {
         (5, 4, 0x85283473fffffff),
         (1, 6, 0x8529b473fffffff),
     ] {
+        assert!(rt; r <= cell.resolution() && !cell.in_pentagon_base());
         assert_eq!(rt; cell.with_digit(r, digit), Cell::new(raw)?, "digit {r}");
     }
     for (base, raw) in [(0, 0x85003473fffffff), (121, 0x85f23473fffffff)] {
