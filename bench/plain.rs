@@ -1,9 +1,9 @@
 //! The plain Rust programs that the command h3 is measured against: the same work over the same kinds of buffers,
 //! with no proof. `plain valid CELL`, `plain children CELL RES`, `plain uncompact RES` and `plain compact` (cells on
 //! standard input), `plain positions COUNT` (that many positions and back), `plain table` (a table file; `table twisted`
-//! and `table bases` are others, the last of format 2) and `plain tables COUNT` (that many readings of the table file on standard input), `plain steps COUNT` (that many times
-//! round the ring of radius 1000, over the table on standard input), `plain disk CELL K TABLE` and
-//! `plain ring CELL K TABLE`.
+//! and `table bases` are others, the last of format 2), `plain tables COUNT` (that many readings of the table file on
+//! standard input), `plain steps COUNT` (that many times round the ring of radius 1000, over the table on standard
+//! input), `plain disk CELL K TABLE` and `plain ring CELL K TABLE`.
 //!
 //! Lists to be compacted: `plain first COUNT CELL RES` (the first children), `plain shuffled CELL RES` (all children in a
 //! random order, always the same), `plain lone CELL RES` (one child of each parent) and `plain mixed CELL RES` (the

@@ -12,7 +12,7 @@ fn characters(half: u64) -> u64 {
     digits + 0x3030_3030_3030_3030 + 39 * letters
 }
 
-/// The half of an index that eight lower-case digits write.
+/// The half of an index that eight lower-case digits parse as.
 #[inline(always)]
 fn gathered(word: u64) -> u64 {
     let letters = word >> 6 & 0x0101_0101_0101_0101;
@@ -26,7 +26,7 @@ fn word(bytes: &[u8]) -> u64 {
     u64::from_be_bytes(bytes.try_into().expect("eight bytes"))
 }
 
-/// The index that 8 to 16 lower-case digits write, by two words of eight bytes that may overlap.
+/// The index that 8 to 16 lower-case digits parse as, by two words of eight bytes that may overlap.
 #[inline(always)]
 pub fn read_plain(bytes: &[u8]) -> Option<u64> {
     if bytes.len() < 8 || bytes.len() > 16 {

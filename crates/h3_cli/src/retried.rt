@@ -27,7 +27,7 @@ impl<T> Retried<T> {
     }
 }
 
-/// A call was interrupted more often than it is tried.
+/// The error of a call that was interrupted each time that it was made.
 fn too_many_tries() -> io::Error
     ensures { error_kind result ≡ ErrorKind.TimedOut }
 {

@@ -37,7 +37,7 @@ IsSound source = source.has_failed ≡ source.had_failed
 abbrev pub ReadFails : SourceUse → List ℕ → Type 0
 ReadFails source bytes = (source.has_failed ≡ true) ⊎ (2 ^ 40 ≤ length bytes)
 
--- 2^40 reads of this many bytes find the end of the bytes: the last read finds it
+-- 2^40 reads of this many bytes find the end of the bytes: of these reads the last takes none
 abbrev pub IsWithinReads : ℕ → List ℕ → Type 0
 IsWithinReads page bytes = length bytes + page ≤ 2 ^ 40 * page
 

@@ -8,6 +8,7 @@ use h3_index::{Cell, H3Error};
 /// The cells of a disk without their rings, and the error where a step is refused.
 #[derive(Clone, Copy)]
 pub struct DiskCells<'a> {
+    /// The cells with their rings.
     pub disk: Disk<'a>,
 }
 

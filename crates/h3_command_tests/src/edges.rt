@@ -1,3 +1,5 @@
+//! Commands on neighbours and directed edges.
+
 use crate::table_files::{assert_run, assert_unread, run_to};
 use h3_command::Command;
 use h3_command::run::run;

@@ -1,3 +1,5 @@
+//! Commands that read nothing, or a list.
+
 use arrayvec::ArrayVec;
 use h3_command::Command;
 use h3_command::run::run;

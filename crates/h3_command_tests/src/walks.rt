@@ -1,3 +1,5 @@
+//! Commands on disks and rings.
+
 use crate::table_files::{assert_run, assert_unread, file_of, records_of, run_to};
 use h3_command::Command;
 use h3_command::run::run;

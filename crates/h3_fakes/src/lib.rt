@@ -1,5 +1,5 @@
-//! Streams that fail and files of the test tables, for the tests of the crates above. They take no
-//! memory.
+//! Streams that fail, for tests, and files of the test tables, for these and for `h3_memory`. They
+//! take no memory.
 #![tactic(auto)]
 
 mod streams;

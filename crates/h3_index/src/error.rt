@@ -7,7 +7,7 @@ use thiserror::Error;
 /// Why a call is refused: an error of H3's table of error codes.
 #[derive(Clone, Copy, Debug, PartialEq, Eq, Error)]
 pub enum H3Error {
-    /// The call failed where H3 names no nearer cause.
+    /// The call failed, and no other error of the table says why.
     #[error("the operation failed")]
     Failed,
 

@@ -1,4 +1,4 @@
-//! Streams of bytes that may fail, so that contracts can say what a stream gave or took.
+//! Streams of bytes that may fail. A contract can say which bytes one has left, or has taken.
 
 ghost use Rattle.std.specs.Prelude.{◌≡◌, ◌≤◌, ◌<◌, ℕ, Bool, true, false, List, length, take, Option, IfOk, OnOk, OnErr};
 ghost use Rattle.std.specs.Io.KnownBytes.{Appends, Keeps};
@@ -60,8 +60,8 @@ pub trait Sink {
 
 /// A reader as a [`Source`], or a writer as a [`Sink`].
 ///
-/// It hands each call on once, takes a write of no byte for a failure, and keeps whether a call failed. It takes no
-/// memory of its own.
+/// Each call is passed on once. A write that takes none of some bytes is a failure, and whether a call failed is kept.
+/// The stream allocates nothing.
 #[derive(Drop)]
 pub struct Streamed<T> {
     inner: T,

@@ -68,7 +68,7 @@ fn without_prefix(bytes: &[u8]) -> &[u8]
     }
 }
 
-/// The number that 1 to 16 hexadecimal digits write.
+/// The number that bytes parse as, where they are 1 to 16 hexadecimal digits.
 fn read_digits(digits: &[u8]) -> Option<u64>
     ensures { result ≡ number_spelled digits.now }
 {

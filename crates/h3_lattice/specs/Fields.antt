@@ -7,8 +7,7 @@ use Rattle.std.specs.Char.{is_ascii_digit}
 abbrev pub Record : Type 0
 Record = List (List ℕ)
 
--- the records of a file's bytes: what the crate `csv`'s rule for the next record gives, taken again and again, after
--- one byte order mark in front
+-- the records that the crate `csv` reads from a file's bytes, without one byte order mark in front
 abbrev pub records_of : List ℕ → List Record
 records_of bytes = records default_config (strip_bom bytes)
 

@@ -1,4 +1,4 @@
--- A table that is not read whole yet: what the functions inside promise each other.
+-- A table that is not read whole yet. Private contracts and proofs alone cite this file.
 use Rattle.std.specs.Prelude.{◌≡◌, ◌⊎◌, ℕ, ◌<◌, is_some, List, length, Option, Some, None, slice_index, slice_index_or}
 use Rattle.std.specs.Option.{option_or}
 use Rattle.h3_lattice.specs.declared.direction.Direction.{Direction}

@@ -1,4 +1,4 @@
-//! Format 1 of a table file: a record for each base cell and direction.
+//! Format 1 of a table file: a record for each hexagon base cell and direction.
 
 ghost use Rattle.std.specs.Prelude.{◌≡◌, true, None, Some, slice_index_or, IfOk, IfErr, IfSome, All};
 ghost use Rattle.h3_lattice.specs.declared.format.Format.TheVariants.{One};

@@ -1,4 +1,4 @@
-//! Format 2 of a table file: a record for each base cell, with its links in all six directions.
+//! Format 2 of a table file: a record for each hexagon base cell, with its links in all directions.
 
 ghost use Rattle.std.specs.Prelude.{◌≡◌, true, None, Some, slice_index_or, IfOk, IfErr, IfSome, All};
 ghost use Rattle.h3_lattice.specs.declared.format.Format.TheVariants.{Two};

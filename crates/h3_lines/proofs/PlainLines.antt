@@ -1,4 +1,4 @@
--- Lines that spell an index.
+-- Lines that parse as an index.
 use Rattle.std.specs.Char.{is_digit}
 use Rattle.std.specs.List.{list_all}
 use Rattle.std.proofs.Common.{◌≡◌, ℕ, ◌-◌, ◌<◌, ◌≤◌, ◌==◌, ◌&&◌, nat_lt, Bool, true, false, List, [], ◌∷◌, ◌++◌, length, take, drop, get_or, Option, Some, Result, sym, ap, ◌∙◌, refl, arith, subst, append_assoc, length-append, length-take, eqb-true, ◌+◌}
@@ -16,7 +16,7 @@ nothing_left : (rest : List ℕ) (b : Bool) → (length rest == 0) ≡ b → (n 
 nothing_left [] b is n spells = absurd (cc)
 nothing_left (x ∷ rest) b is n spells = let some : (length (x ∷ rest) == 0) ≡ false = grind (arith, nat_tests) in sym is ∙ some
 
--- a line that spells an index is not blank
+-- a line that parses as an index is not blank
 pub said_by_spelled : (line : List ℕ) (n : ℕ) → length line ≤ 64 → spelled_index line ≡ Some n → said_by line ≡ said_by_cell (cell_in n)
 unfolding spelled_index
 said_by_spelled line n short spells =

@@ -30,7 +30,7 @@ abbrev pub said_by_index : Option ℕ → Result (Option Address) H3Error
 said_by_index None = Err Failed
 said_by_index (Some index) = said_by_cell (cell_in index)
 
--- a line of more than 64 bytes is faulty whatever it holds; any other of blanks alone is skipped
+-- a line of more than 64 bytes is faulty, also one of blanks; any other of blanks alone is skipped
 abbrev pub said_by : List ℕ → Result (Option Address) H3Error
 said_by line =
     if nat_lt 64 (length line) then Err Failed else if length (trimmed line) == 0 then Ok None else said_by_index (spelled_index line)

@@ -1,5 +1,5 @@
-//! Lists of cells that are read, one a line, and lines that are written: what is written, and what
-//! a stream has after it failed.
+//! Lists of cells that are read, one a line; lines that are written; and the errors that end a run,
+//! with the line and the exit status of each.
 #![tactic(auto)]
 
 mod counted;

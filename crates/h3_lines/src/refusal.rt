@@ -1,4 +1,4 @@
-//! Why a run does not write its answer to its end.
+//! The errors that end a run, with the line and the exit status of each.
 
 ghost use Rattle.std.specs.Prelude.{◌≡◌, ◌≤◌, length};
 ghost use Rattle.h3_lines.specs.Refusal.{error_line, link_line, numbered_line, read_line, table_line};
@@ -11,13 +11,13 @@ use itoa::Buffer;
 /// The room for a line on standard error.
 const LINE_ROOM: usize = 80;
 
-/// Why a run does not write its answer to its end.
+/// Why a run ends with another status than 0.
 #[derive(Clone, Copy, Debug, PartialEq, Eq)]
 pub enum Refusal {
     /// A call gave an H3 error.
     Error(H3Error),
 
-    /// Memory was wanted and refused, which is an H3 error of its own.
+    /// Out of memory, which H3 has an error for.
     Memory,
 
     /// A read failed.
@@ -68,7 +68,7 @@ impl Refusal {
 impl From<StreamFault> for Refusal {
     ghost use Rattle.h3_lines.specs.declared.refusal.Refusal.{Refusal};
 
-    /// The fault of a sink.
+    /// A write fault: failures of sources are not converted by this.
     ghost from_gives = { λ _ r. r ≡ Refusal.Write };
 
     fn from(_fault: StreamFault) -> Refusal {

@@ -25,7 +25,7 @@ pub fn characters(half: u64) -> u64
     ensures { result ≡ number_from_digits 256 (map digit_char (last_digits 16 8 half)) }
 {
     let digits = spread(half);
-    // A byte each for the digits from ten on, which are letters: 6 more carries those to 16 and up.
+    // A one in the byte of each digit from ten on, which is a letter: 6 more makes it 16 or more.
     let letters = digits + 0x0606_0606_0606_0606 >> 4 & 0x0101_0101_0101_0101;
     digits + 0x3030_3030_3030_3030 + 39 * letters
 }
