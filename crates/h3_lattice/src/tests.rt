@@ -202,6 +202,7 @@ fn a_sum_lies_across(rt: HostRuntime) -> Result<(), Fail> {
 #[test]
 fn a_base_cell_has_no_digit_to_add_to(rt: HostRuntime) -> Result<(), Fail> {
     let cell = Cell::new(0x803dfffffffffff)?;
+    assert!(rt; !cell.in_pentagon_base());
     match add(cell, Direction::JK) {
         Moved::Inside(_) => assert!(rt; false),
         Moved::Across(side, digits) => {
