@@ -88,8 +88,51 @@ impl<W: Write> Write for PageWriter<W> {
 #[cfg(test)]
 mod tests {
     use super::PageWriter;
-    use std::io::Write;
+    use std::io;
+    use std::io::{ErrorKind, Write};
     use std::test::Fail;
+
+    /// A writer that takes at most three bytes a call, and counts its flushes, which may fail.
+    #[derive(Drop)]
+    struct Flushed {
+        bytes: Vec<u8>,
+        fails: bool,
+        flushes: u8,
+    }
+
+    impl Write for Flushed {
+        fn write(&mut self, bytes: &[u8]) -> io::Result<usize> {
+            let count = bytes.len().min(3);
+            self.bytes.write(&bytes[..count])
+        }
+
+        fn flush(&mut self) -> io::Result<()> {
+            self.flushes = self.flushes.saturating_add(1);
+            if self.fails {
+                return Err(io::Error::from(ErrorKind::BrokenPipe));
+            }
+            Ok(())
+        }
+    }
+
+    #[test]
+    fn a_flush_is_handed_on(rt: HostRuntime) -> Result<(), Fail> {
+        for fails in [false, true] {
+            let mut writer = PageWriter::new(Flushed {
+                bytes: Vec::new(rt.alloc()),
+                fails,
+                flushes: 0,
+            });
+            writer.write_all(b"abcdefg".as_slice())?;
+            assert_eq!(&rt; writer.inner.flushes, 0);
+            let flushed = writer.flush();
+            let kind = flushed.err().map(|error| error.kind());
+            assert_eq!(&rt; kind, fails.then_some(ErrorKind::BrokenPipe));
+            assert!(&rt; writer.inner.bytes.as_slice() == b"abcdefg".as_slice());
+            assert_eq!(&rt; writer.inner.flushes, 1);
+        }
+        Ok(())
+    }
 
     #[test]
     fn hands_on_by_the_page(rt: HostRuntime) -> Result<(), Fail> {

@@ -110,6 +110,11 @@ fn other_errors_end_a_call_at_once(rt: HostRuntime) -> Result<(), Fail> {
         assert!(&rt; write.is_err_and(|error| error.kind() == kind), "{kind}");
         assert_eq!(&rt; writer.inner.calls, 1);
         assert!(&rt; writer.inner.inner.is_empty());
+
+        let mut flushed = Retried::new(Failing::new(Vec::new(rt.alloc()), kind, 1));
+        let flush = flushed.flush();
+        assert!(&rt; flush.is_err_and(|error| error.kind() == kind), "{kind}");
+        assert_eq!(&rt; flushed.inner.calls, 1);
     }
     Ok(())
 }
