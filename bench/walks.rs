@@ -87,7 +87,7 @@ pub fn disk(out: &mut Page<impl Write>, links: &Links, origin: u64, k: u32) -> i
     Ok(())
 }
 
-/// Goes so many times round the ring of radius 1000 by 6000 steps, and sums the cells.
+/// Goes `count` times round the ring of radius 1000 by 6000 steps, and sums the cells.
 pub fn rounds(links: &Links, origin: u64, count: u64) -> u64 {
     let (mut cell, mut sum) = (origin, 0u64);
     for _ in 0..count {

@@ -1,6 +1,6 @@
-//! Loops over the library for `bench/run`, which measures them against plain Rust. `h3_bench COUNT` goes from so many
-//! positions to their cells and back; `h3_bench COUNT tables` reads the table on standard input so many times;
-//! `h3_bench COUNT steps` reads it once and goes so many times round the ring of radius 1000 by 6000 steps. Each prints
+//! Loops over the library for `bench/run`, which measures them against plain Rust. `h3_bench COUNT` goes from COUNT
+//! positions to their cells and back; `h3_bench COUNT tables` reads the table on standard input COUNT times;
+//! `h3_bench COUNT steps` reads it once and goes COUNT times round the ring of radius 1000 by 6000 steps. Each prints
 //! a sum of what it found.
 #![tactic(auto)]
 
@@ -16,7 +16,7 @@ use std::{env, io};
 /// at resolution 15.
 const STRIDE: u64 = 395_630;
 
-/// Goes from each of so many positions to its cell and back, and sums what it finds.
+/// Goes from each of `count` positions to its cell and back, and sums what it finds.
 fn positions_and_back(count: u64) -> Result<u64, H3Error> {
     let ancestor = Cell::new(0x8009fffffffffff)?;
     let mut sum: u64 = 0;
@@ -27,7 +27,7 @@ fn positions_and_back(count: u64) -> Result<u64, H3Error> {
     Ok(sum)
 }
 
-/// Reads a table so many times from its bytes, and sums a link of each.
+/// Reads a table `count` times from its bytes, and sums a link of each.
 fn read_tables(alloc: Global, bytes: &[u8], count: u64) -> Result<u64, TableError> {
     let mut sum: u64 = 0;
     for _ in 0..count {
@@ -78,7 +78,7 @@ fn round(table: &BaseTable, from: Cell, sum: u64) -> Result<(Cell, u64), H3Error
     Ok((cell, total))
 }
 
-/// Goes so many times round the ring.
+/// Goes `count` times round the ring.
 fn rounds(table: &BaseTable, count: u64) -> Result<u64, H3Error> {
     let mut cell = Cell::new(0x8f2800000000000)?;
     let mut total: u64 = 0;
@@ -90,7 +90,7 @@ fn rounds(table: &BaseTable, count: u64) -> Result<u64, H3Error> {
     Ok(total)
 }
 
-/// Goes so many times round the ring, over the table on standard input.
+/// Goes `count` times round the ring, over the table on standard input.
 fn steps(rt: &HostRuntime, count: u64) -> io::Result<()> {
     let mut source = Streamed::new(rt.stdin());
     match BaseTable::read(rt.alloc(), &mut source) {
@@ -102,7 +102,7 @@ fn steps(rt: &HostRuntime, count: u64) -> io::Result<()> {
     }
 }
 
-/// Reads the table on standard input so many times.
+/// Reads the table on standard input `count` times.
 fn tables(rt: &HostRuntime, count: u64) -> io::Result<()> {
     let mut bytes = Vec::new(rt.alloc());
     rt.stdin().read_to_end(&mut bytes)?;
@@ -112,7 +112,7 @@ fn tables(rt: &HostRuntime, count: u64) -> io::Result<()> {
     }
 }
 
-/// Goes from so many positions to their cells and back.
+/// Goes from `count` positions to their cells and back.
 fn positions(rt: &HostRuntime, count: u64) -> io::Result<()> {
     match positions_and_back(count) {
         Ok(sum) => println!(rt; "{sum}"),

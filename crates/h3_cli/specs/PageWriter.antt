@@ -7,10 +7,10 @@ use Rattle.h3_cli.specs.declared.page.PageWriter.{PageWriter}
 abbrev pub page_len : {W : Type 0} → PageWriter W → ℕ
 page_len w = length w.page.items
 
--- those of the page that are not handed on yet
+-- the bytes of the page that are not written yet
 abbrev pub page_rest : {W : Type 0} → PageWriter W → List ℕ
 page_rest w = drop w.sent w.page.items
 
--- those that its writer holds, and then the rest of the page
+-- the bytes of the inner writer, and then the rest of the page
 abbrev pub page_contents : {W : Type 0} → (W → Option (List ℕ)) → PageWriter W → Option (List ℕ)
 page_contents contents w = append_known (contents w.inner) (page_rest w)

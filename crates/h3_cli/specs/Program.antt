@@ -1,4 +1,4 @@
--- What the words of a command line lead to.
+-- What a program does for the words of its command line.
 use Rattle.std.specs.Prelude.{◌≡◌, ◌⊎◌, ℕ, false, List, [], Option, Some, None, option_map, string_bytes, Result, Ok, Err, IfOk, IfErr, OnOk}
 use Rattle.clap.specs.Words.{Text, fault_of}
 use Rattle.std.specs.Io.KnownBytes.{Appends}

@@ -1,4 +1,4 @@
--- What the words of a command line ask for.
+-- The command and the values that the words of a command line parse as.
 use Rattle.std.specs.Prelude.{Contains, ⊤, ◌≡◌, ℕ, ℤ, pos, List, Option, Some, None, drop, option_map, slice_get, string_bytes, false, MatchBool}
 use Rattle.std.specs.Str.Parse.{signed_digits_value}
 use Rattle.clap.specs.Words.{Accepts, Text, first_value}
@@ -62,7 +62,8 @@ IsText (Some text) path = path ≡ Some text
 abbrev pub HasTable : (CommandOption → Option Text) → CommandName → Option Text → Type 0
 HasTable text k path = MatchBool (has_option k Table) (IsText (text Table) path) (path ≡ None)
 
--- each option of the command has its text in what a parse found, and its parser let it through
+-- each option of the command has its text in what a parse found, and its parser accepted it. Private contracts and
+-- proofs alone cite it.
 abbrev pub AreFound : CommandName → (CommandOption → Option Text) → Found → Type 0
 AreFound k text found = (o : CommandOption) → Contains (options_of k) o
     → (v : Text) × (text o ≡ Some v) × (first_value found (id_of o) ≡ Some v) × Accepts false (parser_done o) v

@@ -231,7 +231,8 @@ impl CommandName {
         Ok(parser)
     }
 
-    /// The command with the values that a parse found.
+    /// The command with the values that a parse found. An option that the command does not have has no
+    /// text: what is read for it, `None` or 0, is not used.
     pub fn command(self, matches: &ArgMatches<'_>) -> Command
         ensures named { name_of_command result ≡ self }
         ensures values { (text : CommandOption → Option Text) → AreFound self text (found_of matches.now)

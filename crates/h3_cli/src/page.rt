@@ -1,4 +1,4 @@
-//! A writer that hands its bytes on by the page.
+//! A writer that writes a page of bytes at once.
 
 ghost use Rattle.std.specs.Prelude.{◌≡◌, ◌<◌, ◌≤◌, [], length, IfOk, IsOk, OnOk};
 ghost use Rattle.std.specs.Io.{WritesAtMost};
@@ -12,13 +12,13 @@ use std::io::{ErrorKind, Write};
 /// The bytes of a page.
 const PAGE: usize = 65536;
 
-/// A writer that gathers bytes in a page of its own and hands them on where the page is full, or flushed. It takes
-/// no memory. Dropped, it loses what was not flushed.
+/// A writer that collects bytes in a page of its own, and writes them to the inner writer when the page is full or
+/// flushed. It allocates nothing. When it is dropped, what was not flushed is lost.
 #[derive(Drop)]
 pub struct PageWriter<W> {
     inner: W,
     page: ArrayVec<u8, PAGE>,
-    /// So many bytes of the page are handed on already.
+    /// How many bytes of the page have been written already.
     sent: usize,
     ghost within: { sent ≤ array_vec_len page },
 }
@@ -37,7 +37,7 @@ impl<W: Write> PageWriter<W> {
         }
     }
 
-    /// Hands the page on. Where that fails, what was not handed on stays in the page.
+    /// Writes the page to the inner writer. Where that fails, what was not written stays in the page.
     fn send(&mut self) -> io::Result<()>
         ensures kept { Keeps (page_contents W.contents self.old) (page_contents W.contents self.new) }
         ensures all { OnOk result (page_rest self.new ≡ []) }

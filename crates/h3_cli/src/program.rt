@@ -46,7 +46,7 @@ fn run_command<R: Source, T: OpenTable, W: Sink, E: Sink>(
     }
 }
 
-/// Runs the command that the words of a command line ask for, and returns the exit status. Help goes
+/// Runs the command that the words of a command line parse as, and returns the exit status. Help goes
 /// to `out`; the text of an invalid command line goes to `err`, with status 2.
 ///
 /// The table of a command that has one is opened once the words are parsed, and before anything else

@@ -13,7 +13,7 @@ use clap::error::ErrorKind;
 use h3_command::Command;
 use std::alloc::{AllocError, Global};
 
-/// What the words of a command line ask for.
+/// What the words of a command line parse as.
 #[derive(Debug, Drop)]
 pub struct Words {
     /// The command with its values.
@@ -26,7 +26,7 @@ pub struct Words {
 /// Why there is no command to run.
 #[derive(Debug, Drop)]
 pub enum WordsFault {
-    /// The words ask for help: its text.
+    /// Help was asked for: its text.
     Help(String),
 
     /// The command line is invalid: the text that says why.
@@ -64,9 +64,9 @@ impl WordsFault {
 
 /// Parses the words of a command line, of which the first is the program's name.
 ///
-/// [`WordsFault::Help`] where they ask for help, [`WordsFault::Usage`] where they are no command with
-/// each of its options once and a value in range, and [`WordsFault::Memory`] where there is no memory
-/// for the parse.
+/// [`WordsFault::Help`] where they ask for help, [`WordsFault::Usage`] where the command line is
+/// invalid: no command with each of its options once and a value in range, and
+/// [`WordsFault::Memory`] where there is no memory for the parse.
 pub fn read_words(alloc: Global, words: Vec<String>) -> Result<Words, WordsFault>
     ensures read { IfOk result (AsksFor (map string_bytes words.items)) }
     ensures accepted { OnOk result (fault_of app (map string_bytes words.items) ≡ []) }

@@ -1,4 +1,4 @@
--- What a command asks for, and the answer to it.
+-- The request of a command, and the answer to it.
 use Rattle.std.specs.Prelude.{ℕ, Bool, true, false, List, Option, None, Some, Result, Ok, Err}
 use Rattle.h3_index.specs.Cell.{Address}
 use Rattle.h3_index.specs.declared.error.H3Error.{H3Error}
@@ -17,8 +17,8 @@ use Rattle.h3_command.specs.Walks.{grid_disk_distances_unsafe, grid_disk_unsafe,
 use Rattle.h3_command.specs.declared.command.Command.{Command}
 use Rattle.h3_command.specs.declared.command.Command.TheVariants.{IsValidCell, GetResolution, GetBaseCellNumber, IsPentagon, IsResClassIII, GetNumCells, GetRes0Cells, GetPentagons, CellToParent, CellToCenterChild, CellToChildren, CellToChildrenSize, CellToChildPos, ChildPosToCell, CompactCells, UncompactCells, GridDiskUnsafe, GridDiskDistancesUnsafe, GridRingUnsafe, AreNeighborCells, CellsToDirectedEdge, IsValidDirectedEdge, GetDirectedEdgeOrigin, GetDirectedEdgeDestination, OriginToDirectedEdges}
 
--- an answer that its words alone give, one about the cells listed on standard input, or one about the links of a base
--- cell table
+-- what a command reads and writes: an answer that its words alone fix, one about the cells listed on standard input, or
+-- one about the links of a base cell table
 pub data Request : Type 0 where
   plain : Answer → Request
   of_list : (List Address → Answer) → Request

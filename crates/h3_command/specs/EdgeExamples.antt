@@ -55,7 +55,8 @@ no_edge = refl
 
 -- ---- which pairs of cells are refused, over every table
 
--- cells of two resolutions; one cell given twice, also in a pentagon base cell; two, one of them in a pentagon base cell
+-- cells of two resolutions; one cell given twice, also in a pentagon base cell; two, one of them in a pentagon base
+-- cell
 pairs_refused : (link : Links) → map (cells_to_directed_edge link) ((cell_of 20 (0 ∷ []), cell_of 20 []) ∷ (cell_of 20 [], cell_of 20 []) ∷ (cell_of 4 [], cell_of 4 []) ∷ (cell_of 4 [], cell_of 8 []) ∷ [])
     ≡ Err ResMismatch ∷ Err NotNeighbors ∷ Err NotNeighbors ∷ Err Pentagon ∷ []
 unfolding edge_between pair_refusal number_of

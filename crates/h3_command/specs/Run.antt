@@ -13,7 +13,8 @@ use Rattle.h3_command.specs.Answer.Request.{plain, of_list, of_table}
 
 -- ---- streams
 
--- a source over a call: the bytes that it had left, where they are known, and whether it had failed before and has after
+-- a source over a call: the bytes that it had left, where they are known, and whether it had failed before and has
+-- after
 pub record SourceUse : Type 0 where
   pub left : Option (List ℕ)
   pub had_failed : Bool
@@ -33,7 +34,7 @@ pub record Streams : Type 0 where
 abbrev pub IsSound : SourceUse → Type 0
 IsSound source = source.has_failed ≡ source.had_failed
 
--- a call of the source failed, or the bytes are as many as it may be read
+-- a call of the source failed, or there are at least 2^40 bytes
 abbrev pub ReadFails : SourceUse → List ℕ → Type 0
 ReadFails source bytes = (source.has_failed ≡ true) ⊎ (2 ^ 40 ≤ length bytes)
 
@@ -65,7 +66,7 @@ abbrev pub WritesOfTable : (Links → Answer) → SourceUse → Result (Unit {0}
 WritesOfTable about table ending out =
     (file : List ℕ) × HasLeft table.left file × WritesReading (about_table about file) file (IsWithinReads 4096 file) table ending out
 
--- how a run ends, by what it asks for
+-- how a run ends, by its request
 abbrev pub Ends : Request → SourceUse → SourceUse → Result (Unit {0}) Refusal → SinkUse → Type 0
 Ends (plain a) input table ending out = Writes a ending out
 Ends (of_list about) input table ending out = WritesOfList about input ending out
@@ -84,8 +85,8 @@ pub record Gives (a : Answer) (status : ℕ) (s : Streams) : Type 0 where
   pub output : Takes s.out a.output
   pub report : Reports a.ending status s.err
 
--- there are bytes of the list and of the table, those left in the sources where these are known, and where nothing fails
--- the answer to them is given, or out of memory where memory is taken
+-- there are bytes of the list and of the table, those left in the sources where these are known, and where nothing
+-- fails the answer to them is given, or out of memory where memory is taken
 pub record Answers (r : Request) (status : ℕ) (s : Streams) : Type 0 where
   pub list : List ℕ
   pub file : List ℕ
@@ -94,7 +95,7 @@ pub record Answers (r : Request) (status : ℕ) (s : Streams) : Type 0 where
   pub given : NothingFails r list file s
       → Gives (answer_to r list file) status s ⊎ (IsTrue (takes_memory r) × Gives out_of_memory status s)
 
--- what a run does that asks for this and returns this status: what it writes where nothing fails, and how it may end
+-- what a run of this request does that returns this status: what it writes where nothing fails, and how it may end
 pub record Runs (r : Request) (status : ℕ) (s : Streams) : Type 0 where
   pub answers : Answers r status s
   pub ending : Result (Unit {0}) Refusal

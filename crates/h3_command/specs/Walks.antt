@@ -9,7 +9,7 @@ use Rattle.h3_grid.specs.Refusals.{disk_refusal, ring_refusal}
 use Rattle.h3_grid.specs.Walks.{disk, ring}
 use Rattle.h3_command.specs.Hierarchy.{unless}
 
--- what comes of a walk
+-- the items of a walk, or the error of one that is refused before it begins
 abbrev pub Walk : Type 0 → Type 0
 Walk A = Result (List (Result A H3Error)) H3Error
 

@@ -75,8 +75,8 @@ impl<'a> Case<'a> {
         FaultySource::new(text.as_bytes(), most, faults)
     }
 
-    /// The pulls of so many bytes that the whole of what the command reads takes: the last one finds
-    /// the end.
+    /// How many pulls of at most `most` bytes read all that the command reads: the last one finds the
+    /// end.
     pub fn pulls(&self, most: usize) -> u64 {
         match self.reads {
             Reads::Nothing => 0,

@@ -11,7 +11,7 @@ use std::process::Abort;
 /// The bytes of a pull. Each of these lists fits in the largest.
 const PIECES: [usize; 6] = [1, 2, 16, 64, 65, 65536];
 
-/// So many of a character, and then a text.
+/// A character `count` times, and then a text.
 fn after(count: usize, front: char, text: &str) -> ArrayString<128> {
     let mut list = ArrayString::new();
     for _ in 0..count {

@@ -15,7 +15,7 @@ fn main(rt: HostRuntime) -> Result<(), Error> {
     for child in children(above, 6)? {
         cells.push(child)?;
     }
-    // compaction takes no memory of its own: it works in slots that it is handed
+    // compaction allocates nothing: it works in slots that the caller provides
     let mut slots = cells.to_vec(rt.alloc())?;
     let count = compact_cells(&cells, &mut slots)?;
     println!(rt; "{} descendants compact to {count}:", cells.len())?;

@@ -32,7 +32,7 @@ impl Faults {
     }
 }
 
-/// A source over bytes in memory, which gives at most so many of them a pull.
+/// A source over bytes in memory, which gives at most `most` of them a pull.
 #[derive(Drop)]
 pub struct FaultySource<'a> {
     rest: &'a [u8],
@@ -85,7 +85,7 @@ impl Source for FaultySource<'_> {
     }
 }
 
-/// A sink of room for `N` bytes, which takes at most so many of them a push. Where it is full, a
+/// A sink with room for `N` bytes, which takes at most `most` of them a push. Where it is full, a
 /// push fails.
 #[derive(Drop)]
 pub struct FaultySink<const N: usize> {

@@ -1,7 +1,7 @@
 -- The moves of a disk's walk, and the spiral of places that they lead to.
 --
--- H3's `gridDiskUnsafe` writes the origin, and then each ring: a step I into the ring, which writes nothing, and then, in
--- each of the directions J, JK, K, IK, I and IJ, as many steps as the ring's number, each of which writes a cell.
+-- H3's `gridDiskUnsafe` writes the origin, and then each ring: a step I into the ring, which writes nothing, and then,
+-- in each of the directions J, JK, K, IK, I and IJ, as many steps as the ring's number, each of which writes a cell.
 use Rattle.std.specs.Prelude.{ℕ, pos, List, [], ◌∷◌, map, replicate, Bool, true, false, if◌then◌else◌}
 use Rattle.std.specs.List.{flat_map, range_with_len}
 use Rattle.h3_lattice.specs.declared.direction.Direction.{Direction}

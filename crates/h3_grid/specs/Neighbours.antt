@@ -1,7 +1,8 @@
 -- Neighbours.
 --
--- Two cells of one resolution are neighbours where a step leads from the one to the other, as H3's `areNeighborCells` has
--- it outside pentagon base cells. Here no step starts or ends in a pentagon base cell, so a cell in one has no neighbours.
+-- Two cells of one resolution are neighbours where a step leads from the one to the other, as H3's `areNeighborCells`
+-- has it outside pentagon base cells. Here no step starts or ends in a pentagon base cell, so a cell in one has no
+-- neighbours.
 use Rattle.std.specs.Prelude.{◌≡◌, ◌≢◌, ◌↔◌, ◌==◌, ◌&&◌, ◌||◌, Bool, true, false, not, if◌then◌else◌, Option, Some, None, is_some, Result, Ok, Err}
 use Rattle.std.specs.List.{find}
 use Rattle.h3_index.specs.Cell.{Address, IsCell, is_pentagon_base, number_of, resolution}
@@ -42,8 +43,8 @@ is_some_same y (Some z) = is_same z y
 unfoldable pub direction_to : Links → Address → Address → Option Direction
 direction_to link x y = find (λ d. is_some_same y (neighbour link x d)) directions
 
--- the error with which two cells are refused, if they are: first that their resolutions differ; then, for one cell given
--- twice, what is said of it; then that either is in a pentagon base cell
+-- the error with which two cells are refused, if they are: first that their resolutions differ; then, for one cell
+-- given twice, the error that is passed for that, if any; then that either is in a pentagon base cell
 unfoldable pub pair_refusal : Option H3Error → Address → Address → Option H3Error
 pair_refusal twice x y =
     if not (resolution x == resolution y) then Some ResMismatch

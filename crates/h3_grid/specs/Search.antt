@@ -1,6 +1,7 @@
 -- Steps as a function.
 --
--- The sum of a place and a direction has one expansion. It is searched for among all pairs of 0 or a unit and a digit list.
+-- The sum of a place and a direction has one expansion. It is searched for among all pairs of 0 or a unit and a digit
+-- list.
 use Rattle.std.specs.Prelude.{◌≡◌, ◌↔◌, ℕ, zero, suc, List, [], ◌∷◌, length, map, Bool, ◌&&◌, if◌then◌else◌, Option, Some, None}
 use Rattle.std.specs.List.{find, flat_map, range_with_len}
 use Rattle.std.specs.Ordering.{int_eq}

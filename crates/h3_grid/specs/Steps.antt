@@ -2,8 +2,8 @@
 --
 -- A walk over the grid is on a cell, with a rotation: how often its directions are turned in the frame of the base cell
 -- that the cell is in. A step adds its direction, turned that often, to the place of the cell's digits. The sum has an
--- expansion: digits, which are those of a cell of the same base cell, or else a unit and digits, and then the neighbour is
--- in the base cell to which the table links that side. No step starts or ends in a pentagon base cell.
+-- expansion: digits, which are those of a cell of the same base cell, or else a unit and digits, and then the neighbour
+-- is in the base cell to which the table links that side. No step starts or ends in a pentagon base cell.
 use Rattle.std.specs.Prelude.{◌≡◌, ℕ, ◌+◌, ◌%◌, List, map, true, false, if◌then◌else◌, Option, Some, None}
 use Rattle.h3_index.specs.Cell.{Address, is_pentagon_base}
 use Rattle.h3_lattice.specs.declared.direction.Direction.{Direction}
@@ -20,8 +20,8 @@ pub record State : Type 0 where
 abbrev pub state : Address → ℕ → State
 state c rot = record { cell = c; rotation = rot }
 
--- across a link, to a base cell and by a number of turns: each digit is turned, and the turns are added to the rotation.
--- Pentagon base cells are not entered
+-- across a link, to a base cell and by a number of turns: each digit is turned, and the turns are added to the
+-- rotation. Pentagon base cells are not entered
 abbrev pub crossed : ℕ × ℕ → ℕ → List ℕ → Option State
 crossed link rot es =
     if is_pentagon_base link.0 then None else Some (state (cell_of link.0 (map (digit_turned link.1) es)) ((rot + link.1) % 6))

@@ -15,8 +15,8 @@ use h3_lattice::{BaseTable, Direction};
 /// The edge that leaves one cell and leads to another, as H3's `cellsToDirectedEdge` returns it outside pentagon base
 /// cells. Which pairs are refused, and with which error, is this library's own.
 ///
-/// `ResMismatch` where their resolutions differ; then `NotNeighbors` for one cell given twice; then `Pentagon` where either
-/// is in a pentagon base cell; then `NotNeighbors` where no step leads from the first to the second.
+/// `ResMismatch` where their resolutions differ; then `NotNeighbors` for one cell given twice; then `Pentagon` where
+/// either is in a pentagon base cell; then `NotNeighbors` where no step leads from the first to the second.
 pub fn edge_between(table: &BaseTable, a: Cell, b: Cell) -> Result<Edge, H3Error>
     ensures is { result ≡ edge_between (link_of table.now) a b }
 
@@ -40,8 +40,8 @@ pub fn edge_between(table: &BaseTable, a: Cell, b: Cell) -> Result<Edge, H3Error
     }
 }
 
-/// The cell that an edge leads to, as H3's `getDirectedEdgeDestination` returns it outside pentagon base cells: that of the
-/// step from its origin, with rotation 0, in its direction. Which edges are refused is this library's own.
+/// The cell that an edge leads to, as H3's `getDirectedEdgeDestination` returns it outside pentagon base cells: that of
+/// the step from its origin, with rotation 0, in its direction. Which edges are refused is this library's own.
 ///
 /// `Pentagon` where the origin or that cell is in a pentagon base cell.
 pub fn edge_destination(table: &BaseTable, edge: Edge) -> Result<Cell, H3Error>

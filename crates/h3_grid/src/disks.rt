@@ -33,9 +33,9 @@ pub(crate) fn side_before(sides: u8) -> Direction
 
 /// The cells within a radius of a cell: the origin first, and then ring by ring, each cell with the number of its ring.
 ///
-/// An iterator. After the error `Pentagon`, which comes where a step meets a pentagon base cell, there is no further item.
-/// It takes no memory: it holds the cell that was reached last and counts what is left, steps of a side, sides of a ring
-/// and rings.
+/// An iterator. After the error `Pentagon`, which comes where a step meets a pentagon base cell, there is no further
+/// item. It takes no memory: it holds the cell that was reached last and counts what is left, steps of a side, sides of
+/// a ring and rings.
 #[derive(Clone, Copy)]
 pub struct Disk<'a> {
     table: &'a BaseTable,
@@ -68,7 +68,7 @@ fn disk_is_lawful(table: &BaseTable, cell: Cell, k: i32)
     disks_are_spirals();
     disks_are_charts();
     table.links_are_sound();
-    // The proof takes from this that the cell is one.
+    // The proof takes from this that the cell is a valid cell.
     let _resolution = cell.resolution();
 }
 
@@ -84,8 +84,8 @@ impl<'a> Disk<'a> {
         ensures refused { result_err result ≡ disk_refusal cell k }
         ensures items { IfOk result (λ walk. disk_left walk ≡ disk (link_of table.now) cell (unsigned_abs k)) }
 
-        // Where no move is refused: how many cells there are; where they are, if all are in the origin's base cell; that
-        // steps between them lead where the places of the spiral say; and that rings are distances.
+        // Where no move is refused: how many cells there are; where they are, if all are in the origin's base cell;
+        // that steps between them lead where the places of the spiral say; and that rings are distances.
         ensures size { IfWritten (link_of table.now) cell (unsigned_abs k)
             (λ cells. length cells ≡ 3 * unsigned_abs k * (unsigned_abs k + 1) + 1) }
         ensures inside { IfWritten (link_of table.now) cell (unsigned_abs k)

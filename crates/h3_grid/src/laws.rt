@@ -17,8 +17,8 @@ pub fn steps_are_found()
     sums_are_lawful();
 }
 
-/// A disk of which no move is refused has 3k(k + 1) + 1 cells, and its moves follow the spiral. Where all of them are in
-/// the origin's base cell, they are at the places of the spiral around the origin's, and no cell comes twice.
+/// A disk of which no move is refused has 3k(k + 1) + 1 cells, and its moves follow the spiral. Where all of them are
+/// in the origin's base cell, they are at the places of the spiral around the origin's, and no cell comes twice.
 pub fn disks_are_spirals()
     ensures sizes { DisksHaveSizes }
     ensures moves { MovesFollowTheSpiral }
@@ -44,9 +44,9 @@ pub fn steps_are_lawful()
     turns_add_up();
 }
 
-/// A disk of which no move is refused is a chart: where two places of the spiral are a direction apart, the step in that
-/// direction leads from the state at the one to the state at the other. Its rings are distances, and its last ring is the
-/// ring of its radius.
+/// A disk of which no move is refused is a chart: where two places of the spiral are a direction apart, the step in
+/// that direction leads from the state at the one to the state at the other. Its rings are distances, and its last ring
+/// is the ring of its radius.
 pub fn disks_are_charts()
     ensures charts { DisksAreCharts }
     ensures paths { ChartsLeadAlongPaths }
@@ -61,8 +61,8 @@ pub fn disks_are_charts()
     sums_are_lawful();
 }
 
-/// Over sound links at most one direction leads from a cell to another, and `direction_to` of the definitions finds it, so
-/// that `are_neighbours` is true of neighbours alone; no cell is its own neighbour; of two cells each is the other's
+/// Over sound links at most one direction leads from a cell to another, and `direction_to` of the definitions finds it,
+/// so that `are_neighbours` is true of neighbours alone; no cell is its own neighbour; of two cells each is the other's
 /// neighbour or neither is, and `are_neighbours` has the same result in either order, errors included.
 pub fn neighbours_are_lawful()
     ensures found { OverSoundLinks DirectionsAreFound }

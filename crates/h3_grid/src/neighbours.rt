@@ -64,8 +64,8 @@ pub(crate) fn direction_to(table: &BaseTable, from: Cell, to: Cell) -> Option<Di
         .find(|direction| leads(table, from, *direction, to))
 }
 
-/// The error with which two cells are refused, if they are: first that their resolutions differ; then, for one cell given
-/// twice, the one that is passed; then that either is in a pentagon base cell.
+/// The error with which two cells are refused, if they are: first that their resolutions differ; then, for one cell
+/// given twice, the one that is passed; then that either is in a pentagon base cell.
 pub(crate) fn pair_refusal(twice: Option<H3Error>, a: Cell, b: Cell) -> Option<H3Error>
     ensures is { result ≡ pair_refusal twice a b }
     ensures cells { IsCell a × IsCell b }
@@ -89,11 +89,11 @@ fn is_neighbor(table: &BaseTable, a: Cell, b: Cell) -> bool
     a != b && direction_to(table, a, b).is_some()
 }
 
-/// Whether two cells are neighbours, as H3's `areNeighborCells` returns it outside pentagon base cells: a step leads from
-/// the one to the other. No cell is its own neighbour. Which pairs are refused is this library's own.
+/// Whether two cells are neighbours, as H3's `areNeighborCells` returns it outside pentagon base cells: a step leads
+/// from the one to the other. No cell is its own neighbour. Which pairs are refused is this library's own.
 ///
-/// `ResMismatch` where their resolutions differ; then, for different cells, `Pentagon` where either is in a pentagon base
-/// cell.
+/// `ResMismatch` where their resolutions differ; then, for different cells, `Pentagon` where either is in a pentagon
+/// base cell.
 pub fn are_neighbors(table: &BaseTable, a: Cell, b: Cell) -> Result<bool, H3Error>
     ensures is { result ≡ are_neighbours (link_of table.now) a b }
 

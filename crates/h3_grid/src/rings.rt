@@ -67,15 +67,15 @@ fn ring_is_lawful(table: &BaseTable, cell: Cell, k: i32)
 {
     disks_are_charts();
     table.links_are_sound();
-    // The proof takes from this that the cell is one.
+    // The proof takes from this that the cell is a valid cell.
     let _resolution = cell.resolution();
 }
 
 impl<'a> Ring<'a> {
     ghost use Rattle.h3_grid.specs.Ring.{ring_left};
 
-    /// The ring of a radius around a cell, as H3's `gridRingUnsafe` walks it. Nothing of it is walked yet: the first call
-    /// of `next` takes as many steps as the radius, every other at most one.
+    /// The ring of a radius around a cell, as H3's `gridRingUnsafe` walks it. Nothing of it is walked yet: the first
+    /// call of `next` takes as many steps as the radius, every other at most one.
     ///
     /// `Domain` for a negative radius; then `Pentagon` for a radius of 1 or more in a pentagon base cell.
     pub fn new(table: &'a BaseTable, cell: Cell, k: i32) -> Result<Ring<'a>, H3Error>

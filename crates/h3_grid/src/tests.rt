@@ -37,8 +37,9 @@ fn test_table(rt: &HostRuntime, table: TestTable) -> Result<BaseTable, Fail> {
     read_table(rt, &records)
 }
 
-/// Links along the ring of radius 2 around base cell 0: two out to it in the direction 4 (I), and the twelve around it. The
-/// last of them leads to base cell 16, and not to 2, with which the ring begins. Base cells 1, 2 and 3 are a triangle.
+/// Links along the ring of radius 2 around base cell 0: two out to it in the direction 4 (I), and the twelve around it.
+/// The last of them leads to base cell 16, and not to 2, with which the ring begins. Base cells 1, 2 and 3 are a
+/// triangle.
 const OPEN_RING: [[u8; 3]; 15] = [
     [0, 4, 1],
     [1, 4, 2],
@@ -57,8 +58,8 @@ const OPEN_RING: [[u8; 3]; 15] = [
     [15, 6, 16],
 ];
 
-/// A sound table on which a ring does not close: the links of `OPEN_RING` and those back, and all others lead to pentagon
-/// base cells.
+/// A sound table on which a ring does not close: the links of `OPEN_RING` and those back, and all others lead to
+/// pentagon base cells.
 fn open_table(rt: &HostRuntime) -> Result<BaseTable, Fail> {
     const PENTAGONS: [u8; 7] = [0, 4, 14, 24, 38, 49, 58];
     let mut records = Vec::new(rt.alloc());

@@ -1,4 +1,4 @@
--- Cells and their numbers: a number tells the cell that it stands for.
+-- Cells and their numbers: a number is that of one cell.
 use Rattle.std.specs.Int.Digits.{number_from_digits, number_from_digits_after, AllBelowBase}
 use Rattle.std.proofs.Common.{ℕ, zero, suc, ◌≡◌, ◌+◌, ◌-◌, ◌*◌, ◌/◌, ◌%◌, ◌^◌, ◌<◌, ◌≤◌, List, [], ◌∷◌, ◌++◌, length, take, replicate, refl, arith, length-append, ◌∙◌, sym, ap, lit<, get_or}
 use Rattle.std.proofs.Math.ListN.{length-replicate}

@@ -29,7 +29,7 @@ last_apart ds some =
     drop-cons ds (length ds - 1) 7 (omega (arith, some)) ∙ ap (λ l. get_or ds (length ds - 1) 7 ∷ l) (drop_all (suc (length ds - 1)) ds (omega (arith, next))) in
     ap (λ l. take (length ds - 1) ds ++ l) (sym end) ∙ take-append-drop (length ds - 1) ds
 
--- a digit 0 at the end tells nothing of pentagons
+-- a digit 0 at the end makes no difference to whether a cell is a pentagon
 pub pentagon_above : (c : Address) → 0 < length c.digits → get_or c.digits (length c.digits - 1) 7 ≡ 0 → is_pentagon (cut c (length c.digits - 1)) ≡ is_pentagon c
 pentagon_above c some zero_last =
     let front = take (length c.digits - 1) c.digits in
@@ -100,7 +100,7 @@ digit_small (d ∷ ds) (suc k) small within = digit_small ds k small.1 (omega (a
 pub last_small : (c : Address) (m u : ℕ) → IsAt c m u → 0 < length c.digits → last_digit c < 7
 last_small c m u h some = digit_small c.digits (length c.digits - 1) h.cell.digits_small (omega (arith, some))
 
--- products with a unit that is not 0 are told apart
+-- products with a unit that is not 0 differ where the factors do
 times_six : (d u : ℕ) → 0 < u → d * u ≡ 6 * u → d ≡ 6
 times_six d u some e = sym (mul-div_cancel d some) ∙ ap (λ n. n / u) e ∙ mul-div_cancel 6 some
 

@@ -10,7 +10,7 @@ resolution_in m = m / 2 ^ 52 % 16
 abbrev pub base_in : ℕ → ℕ
 base_in m = m / 2 ^ 45 % 128
 
--- the fifteen digits, those above the resolution too
+-- the fifteen digits, those above the resolution too. Private contracts and proofs alone cite it.
 unfoldable pub digits_in : ℕ → List ℕ
 digits_in m = last_digits 8 15 m
 

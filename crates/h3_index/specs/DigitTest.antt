@@ -1,4 +1,4 @@
--- The digits of a number that is a cell's.
+-- The digits of a number that is a cell's. Private contracts and proofs alone cite this file.
 use Rattle.std.specs.Prelude.{ℕ, ◌==◌, nat_lt, List, take, drop, Bool, ◌&&◌, not}
 use Rattle.std.specs.List.{list_all}
 use Rattle.h3_index.specs.Cell.{leading}

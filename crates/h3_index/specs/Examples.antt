@@ -80,8 +80,8 @@ edges_of_a_pentagon : map (λ d. edge_number (directed_edge (base_cell 4) d)) (2
 unfolding edge_number number_of
 edges_of_a_pentagon = refl
 
--- direction 1 at a pentagon, the directions 0 and 7, the reserved bit, mode 3, mode 1 with a direction, a cell, an origin in a
--- deleted subsequence, and 0
+-- direction 1 at a pentagon, the directions 0 and 7, the reserved bit, mode 3, mode 1 with a direction, a cell, an
+-- origin in a deleted subsequence, and 0
 no_edges : map (λ m. edge_in m) (0x11009fffffffffff ∷ 0x105283473fffffff ∷ 0x175283473fffffff ∷ 0x915283473fffffff ∷ 0x195283473fffffff ∷ 0x095283473fffffff ∷ 0x85283473fffffff ∷ 0x121087ffffffffff ∷ 0 ∷ []) ≡ None ∷ None ∷ None ∷ None ∷ None ∷ None ∷ None ∷ None ∷ None ∷ []
 unfolding edge_in directed_edge_in edge_number address_in number_of
 no_edges = refl

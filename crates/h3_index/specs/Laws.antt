@@ -7,7 +7,7 @@ use Rattle.h3_index.specs.Descendants.{cut, IsDescendant, descendants}
 use Rattle.h3_index.specs.Edge.{DirectedEdge, IsEdge, edge_number}
 use Rattle.h3_index.specs.Paths.{paths, next_path, Links}
 
--- cells of one number are one
+-- cells with the same number are equal
 abbrev pub NumbersTellCells : Type 0
 NumbersTellCells = (a b : Address) → IsCell a → IsCell b → number_of a ≡ number_of b → a ≡ b
 

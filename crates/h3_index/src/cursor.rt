@@ -8,7 +8,7 @@ use crate::cell::Cell;
 use std::marker::Model;
 
 /// A cell, and how much one more in its last digit adds to its number. So a walk over cells of one resolution need not
-/// find the place of the digit again at each.
+/// find the bits of that digit again for each cell.
 #[derive(Clone, Copy, Debug)]
 pub struct Cursor {
     raw: u64,

@@ -27,7 +27,7 @@ pub enum H3Error {
     #[error("the index is no valid directed edge")]
     DirEdgeInvalid,
 
-    /// A pentagon, or its distortion, was met.
+    /// A pentagon, or the distortion that it causes, was encountered.
     #[error("a pentagon was met")]
     Pentagon,
 
@@ -39,7 +39,7 @@ pub enum H3Error {
     #[error("the cells are no neighbours")]
     NotNeighbors,
 
-    /// Two resolutions do not go together.
+    /// Two resolutions are incompatible.
     #[error("the resolutions do not go together")]
     ResMismatch,
 

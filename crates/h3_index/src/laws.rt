@@ -37,7 +37,7 @@ pub fn edges_compare_by_number()
     ensures fields { EdgeNumbersFollowFields }
 {}
 
-/// Cells of one number are one.
+/// Cells with the same number are equal.
 pub fn numbers_tell_cells()
     ensures { NumbersTellCells }
 {}

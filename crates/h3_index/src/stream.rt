@@ -49,8 +49,8 @@ pub trait Sink {
         ensures refused { OnErr result (Keeps (taken self.old) (taken self.new)) }
         ensures err { OnErr result (has_failed self.new ≡ true) };
 
-    /// Hands on what was taken and held back. After a failure it may be lost: then the bytes are no
-    /// longer known.
+    /// Passes on the bytes that were taken and held back. After a failure they may be lost: then the
+    /// bytes are no longer known.
     fn flush(&mut self) -> Result<(), StreamFault>
         ensures bytes { OnOk result (Keeps (taken self.old) (taken self.new)) }
         ensures ok { OnOk result (has_failed self.new ≡ has_failed self.old) }

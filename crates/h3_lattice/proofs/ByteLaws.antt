@@ -4,8 +4,8 @@ use Rattle.std.specs.Io.KnownBytes.{Consumes, IsAtEnd}
 use Rattle.std.proofs.KnownBytes.{Consumes-nil, Consumes-trans}
 use Rattle.h3_index.specs.Stream.{HasLeft, Pulls}
 
--- The source told the bytes old and tells now. The bytes read of them were appended to the first text, in no more reads
--- than bytes, and in pages of at most this size.
+-- The source had the bytes old left and now has those left. The bytes read were appended to the first text, in no more
+-- reads than bytes, and in pages of at most this size.
 pub record Reads (old now : Option (List ℕ)) (limit reads_left size : ℕ) (first text : List ℕ) : Type 0 where
   pub bytes : List ℕ
   pub told : Consumes old now bytes
@@ -41,7 +41,7 @@ reads_more {old} {now} {limit} {reads} {size} {first} {text} r now' reads' page 
 
 -- ---- the end of the reading
 
--- the bytes that were read, and those that the source still tells
+-- the bytes that were read, and those that are still left in the source
 pub all_bytes : (old now : Option (List ℕ)) (bytes : List ℕ) → Consumes old now bytes → (rest : List ℕ) × HasLeft old (bytes ++ rest)
 all_bytes None now bytes told = ([], tt)
 all_bytes (Some xs) None bytes told = absurd told
@@ -77,7 +77,7 @@ reads_stopped {old} {now} {limit} {reads} r failed why =
     let parts : length (r.bytes ++ rest) ≡ length r.bytes + length rest = length-append r.bytes rest in
     (r.bytes ++ rest, held, elim why [ inl none ↦ inr (omega arith) | inr f ↦ inl f ])
 
--- after the last read, a source that tells its bytes has none left
+-- after the last read, a source whose bytes are known has none left
 pub none_left : {old now : Option (List ℕ)} {limit reads size : ℕ} {first text : List ℕ} → Reads old now limit reads size first text → (now' : Option (List ℕ)) (page : List ℕ) (n : ℕ)
     → Pulls now now' page n → n ≡ 0 → 0 < length page → (bytes : List ℕ) → old ≡ Some bytes → now' ≡ Some []
 none_left {old} {now} r now' page n p none room bytes told =

@@ -13,7 +13,8 @@ use Rattle.h3_lattice.specs.Records.{body_of, fault_of, fault_of_records, first_
 use Rattle.h3_lattice.specs.Slots.{Holds}
 use Rattle.h3_lattice.proofs.RecordLaws.{all-front, none-after}
 
--- a front of the file was read: the header of this format and these records, none faulty, and the slots hold their links
+-- a front of the file was read: the header of this format and these records, none faulty, and the slots hold their
+-- links
 pub record IsRead (text : List ℕ) (format : Format) (number : ℕ) (slots : List (Option (ℕ × ℕ))) (s : State) (y : List ℕ) : Type 0 where
   pub front : Record
   pub told : header_format front ≡ Some format

@@ -59,7 +59,7 @@ fault_at check.Neighbours link b d = unless (is_apart link b d) (fault.Neighbour
 fault_at check.Reversal link b d = unless (reverses link b d) (fault.Reversal b d)
 fault_at check.Corner link b d = unless (closes link b d) (fault.Corner b d)
 
--- the first error of the three checks of a full table: one after the other, each at all places
+-- the first error of the three checks of a full table: one after the other, each at every base cell and direction
 abbrev pub fault_of_links : Links → Option TableError
 fault_of_links link =
     option_or (at_places (fault_at check.Neighbours link)) (option_or (at_places (fault_at check.Reversal link)) (at_places (fault_at check.Corner link)))

@@ -1,8 +1,8 @@
 -- The two classes of resolutions, their multipliers, and carries.
 --
 -- H3's odd resolutions are Class III and its even ones Class II. From one resolution to the next finer one the grid is
--- multiplied by a number of norm 7: by 2 - w to an odd resolution, as H3's `_downAp7` does, and by 3 + w to an even one,
--- as its `_downAp7r`. Modulo each of the two, the seven digits are all the remainders, each once.
+-- multiplied by a number of norm 7: by 2 - w to an odd resolution, as H3's `_downAp7` does, and by 3 + w to an even
+-- one, as its `_downAp7r`. Modulo each of the two, the seven digits are all the remainders, each once.
 use Rattle.std.specs.Prelude.{◌≡◌, ℕ, ◌%◌, ◌≤◌, ◌==◌, pos, negsuc, if◌then◌else◌}
 use Rattle.h3_lattice.specs.declared.class.Class.{Class}
 use Rattle.h3_lattice.specs.declared.class.Class.TheVariants.{Two, Three}

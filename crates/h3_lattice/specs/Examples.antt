@@ -148,8 +148,8 @@ faults = refl
 no_header : fault_of_records [] ≡ Some (Form 1)
 no_header = refl
 
--- the record of the base cell 0 of a test table in format 2, with this base cell, neighbour in the direction K and number
--- of turns in the direction IJ in their places
+-- the record of the base cell 0 of a test table in format 2, with this base cell, neighbour in the direction K and
+-- number of turns in the direction IJ in their places
 abbrev base_record : List ℕ → List ℕ → List ℕ → Record
 base_record base k last =
     base ∷ k ∷ codes "11" ∷ codes "121" ∷ codes "1" ∷ codes "111" ∷ codes "12" ∷ codes "0" ∷ codes "0" ∷ codes "0" ∷ codes "0" ∷ codes "0" ∷ last ∷ []
@@ -192,7 +192,7 @@ other_headers : map fault_of_records ((plain_base ∷ []) ∷ ((codes "base" ∷
 unfolding same_fields first_fault
 other_headers = refl
 
--- each header wants its own records
+-- a record of format 2 under the header of format 1 is malformed
 other_records : fault_of_records (header_one ∷ plain_base ∷ []) ≡ Some (Form 2)
 unfolding same_fields first_fault
 other_records = refl

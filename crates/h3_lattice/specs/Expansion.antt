@@ -1,7 +1,7 @@
 -- Places of digit lists, and expansions of Eisenstein integers.
 --
--- A cell's digits, the first of them that of resolution 1, say where the cell lies in its base cell: at its place in the
--- grid of its resolution. From one resolution to the next the place is multiplied, and the next digit is added.
+-- A cell's digits, the first of them that of resolution 1, say where the cell lies in its base cell: at its place in
+-- the grid of its resolution. From one resolution to the next the place is multiplied, and the next digit is added.
 use Rattle.std.specs.Prelude.{◌≡◌, ℕ, zero, suc, ◌+◌, List, [], ◌∷◌, length}
 use Rattle.std.specs.Int.Digits.{AllBelowBase}
 use Rattle.h3_lattice.specs.Eisenstein.{Eisenstein, product_of, sum_of, zero_point}

@@ -1,8 +1,9 @@
 -- Reversal and corner of steps, at every resolution.
 --
--- The checks of a table are about base cells: the link back undoes a link, and the links around a corner agree. The same
--- holds of steps between cells, whatever their resolution. A step adds a direction to the place of a cell's digits. The
--- sum is in the same base cell, or across a side of it; there the digits are turned, as the link of the side says.
+-- The checks of a table are about base cells: the link back undoes a link, and the links around a corner agree. The
+-- same holds of steps between cells, whatever their resolution. A step adds a direction to the place of a cell's
+-- digits. The sum is in the same base cell, or across a side of it; there the digits are turned, as the link of the
+-- side says.
 use Rattle.std.specs.Prelude.{◌≡◌, ℕ, ◌+◌, ◌-◌, ◌%◌, List, map, Option, Some, None}
 use Rattle.std.specs.Int.Digits.{AllBelowBase}
 use Rattle.h3_lattice.specs.declared.direction.Direction.{Direction}
@@ -35,15 +36,15 @@ pub record Reaches (link : Links) (b : ℕ) (ds : List ℕ) (d : Direction) (r :
   pub sum : IsSum ds d out list
   pub is : r ≡ led_by link b out list
 
--- from a hexagon base cell into another or the same, the opposite direction, turned as on the way, leads back and undoes
--- the turns
+-- from a hexagon base cell into another or the same, the opposite direction, turned as on the way, leads back and
+-- undoes the turns
 abbrev pub ReversalsLift : Type 0
 ReversalsLift =
     (link : Links) → IsSound link → (b : ℕ) (ds : List ℕ) (d : Direction) (r : Reached) → IsHexagonBase b → AllBelowBase 7 ds → Reaches link b ds d r
     → IsHexagonBase r.base → Reaches link r.base r.digits (turned r.turns (opposite d)) (reached b ((6 - r.turns) % 6) ds)
 
--- where the cells in a direction and in the next one are in hexagon base cells, the direction turned twice, and as on the
--- way, leads from the first to the second, and its turns make up the difference
+-- where the cells in a direction and in the next one are in hexagon base cells, the direction turned twice, and as on
+-- the way, leads from the first to the second, and its turns make up the difference
 abbrev pub CornersLift : Type 0
 CornersLift =
     (link : Links) → IsSound link → (b : ℕ) (ds : List ℕ) (d : Direction) (r s : Reached) → IsHexagonBase b → Reaches link b ds d r → Reaches link b ds (turned_once d) s

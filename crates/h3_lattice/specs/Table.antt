@@ -50,8 +50,8 @@ pub record IsLinkRecord (format : Format) (r : Record) : Type 0 where
   pub ranges : in_range format numbers ≡ true
 
 -- the form of a table file: the header of one of the formats, and then, in any order, records in their ranges, of which
--- for each hexagon base cell and direction exactly one has the link: so there is one record for each of both in format 1,
--- and one for each hexagon base cell in format 2
+-- for each hexagon base cell and direction exactly one has the link: so there is one record for each of both in format
+-- 1, and one for each hexagon base cell in format 2
 pub record IsOfForm (records : List Record) : Type 0 where
   pub format : Format
   pub front : records ≡ header format ∷ body_of records

@@ -99,7 +99,7 @@ mod tests {
     use h3_index::{Source, StreamFault, Streamed};
     use std::test::Fail;
 
-    /// A source of one byte a pull, which fails after so many.
+    /// A source of one byte a pull, which fails after `pulls_left` pulls.
     #[derive(Drop)]
     struct TornSource {
         pulls_left: u64,

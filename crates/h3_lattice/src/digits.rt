@@ -34,7 +34,7 @@ impl Model for Digits {
     ghost inverse_ok = { λ d h i. record { cell = record { base = h i; digits = d.cell.digits } } };
 }
 
-/// A row for each number of turns from 0 on, in it each digit turned so often.
+/// A row for each number of turns from 0 on: each digit turned that many times.
 static TURNED: [[u8; 7]; 6] = [
     [0, 1, 2, 3, 4, 5, 6],
     [0, 5, 3, 1, 6, 4, 2],

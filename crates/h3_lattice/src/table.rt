@@ -26,8 +26,8 @@ const PAGE: usize = 4096;
 const READS: u64 = 1 << 40;
 
 /// How the 110 hexagon base cells lie beside each other: in each of six directions the neighbour, and how often each
-/// digit is turned on crossing. Its links fit together: none of the checks of [`TableError`] fails. It is of fixed size,
-/// and takes no memory.
+/// digit is turned on crossing. Its links fit together: none of the checks of [`TableError`] fails. It has a fixed
+/// size, and allocates nothing.
 #[derive(Drop)]
 pub struct BaseTable {
     links: Links,

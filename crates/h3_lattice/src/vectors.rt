@@ -1,4 +1,5 @@
-//! The test tables: three base cell tables for tests of what reads or uses one. None of them is that of H3's base cells.
+//! The test tables: three base cell tables for tests of what reads or uses one. None of them is that of H3's base
+//! cells.
 
 ghost use Rattle.std.specs.Prelude.{◌≡◌, ◌<◌, false};
 ghost use Rattle.h3_index.specs.Cell.{is_pentagon_base};

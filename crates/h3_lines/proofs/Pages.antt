@@ -11,8 +11,8 @@ use Rattle.h3_lines.specs.List.{RefusesList, listed_cells}
 use Rattle.h3_lines.specs.Reading.{listed_after}
 use Rattle.h3_lines.proofs.ListLines.{listed_from_start}
 
--- The source told the bytes old and tells now. What was read of them turned the first cells and line into these, in no
--- more reads than bytes and in pages of at most this size.
+-- The source had the bytes old left and now has those left. What was read turned the first cells and line into these,
+-- in no more reads than bytes and in pages of at most this size.
 pub record Reads (old now : Option (List ℕ)) (limit reads_left size : ℕ) (first-cells : List Address) (first-line : List ℕ) (cells : List Address) (line : List ℕ) : Type 0 where
   pub bytes : List ℕ
   pub told : Consumes old now bytes
@@ -48,7 +48,7 @@ reads_more {old} {now} {limit} {reads} {size} {first-cells = fc} {first-line = f
 
 -- ---- the bytes of the source
 
--- those that were read, and those that it still tells
+-- those that were read, and those that are still left
 pub all_bytes : (old now : Option (List ℕ)) (bytes : List ℕ) → Consumes old now bytes → (rest : List ℕ) × HasLeft old (bytes ++ rest)
 all_bytes None now bytes told = ([], tt)
 all_bytes (Some xs) None bytes told = absurd told

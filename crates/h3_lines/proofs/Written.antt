@@ -17,7 +17,7 @@ hides (Some xs) None new bs grown kept = absurd grown
 hides (Some xs) (Some ys) None bs grown kept = tt
 hides (Some xs) (Some ys) (Some zs) bs grown kept = kept ∙ grown
 
--- what is appended may be told no more
+-- what is appended may be no longer known
 pub appended_hides : (old new : Option (List ℕ)) (bs : List ℕ) → Appends old new bs → AppendsOrHides old new bs
 appended_hides None new bs grown = tt
 appended_hides (Some xs) None bs grown = absurd grown

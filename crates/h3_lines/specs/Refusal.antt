@@ -58,7 +58,8 @@ refusal_status (Table fault.Memory) = 1
 refusal_status (Table e) = 3
 refusal_status TableOpen = 3
 
--- the refusal for an error of a base cell table: a read that failed is `Read` and out of memory is `Memory`, as for a list
+-- the refusal for an error of a base cell table: a read that failed is `Read` and out of memory is `Memory`, as for a
+-- list
 abbrev pub table_refusal : TableError → Refusal
 table_refusal fault.Read = Read
 table_refusal fault.Memory = Memory

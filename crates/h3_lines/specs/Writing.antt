@@ -6,7 +6,8 @@ use Rattle.h3_lines.specs.Refusal.{ending_line, ending_status}
 use Rattle.h3_lines.specs.declared.refusal.Refusal.{Refusal}
 use Rattle.h3_lines.specs.declared.refusal.Refusal.TheVariants.{Error, Memory, Read, Write, Table, TableOpen}
 
--- a sink over a call: the bytes that it had taken and has taken, where they are known, and whether it had failed and has
+-- a sink over a call: the bytes that it had taken and has taken, where they are known, and whether it had failed and
+-- has
 pub record SinkUse : Type 0 where
   pub before : Option (List ℕ)
   pub after : Option (List ℕ)
@@ -54,7 +55,8 @@ TakesPart sink bytes = SomeBeginning (AppendsOrHides sink.before sink.after) byt
 
 -- ---- an answer
 
--- an answer that is an error and no output: no write fault comes in its place, so nothing is flushed for it that could fail
+-- an answer that is an error and no output: no write fault comes in its place, so nothing is flushed for it that could
+-- fail
 abbrev pub IsErrorAlone : Answer → Type 0
 IsErrorAlone a = (a.output ≡ []) × IsErr a.ending
 

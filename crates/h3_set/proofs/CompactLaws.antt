@@ -23,7 +23,8 @@ use Rattle.h3_set.proofs.TreeLaws.{contains_cases, contains_head, contains_tail,
 
 -- ---- the loop over the rounds
 
--- the rounds above the level are done, in the first slots; the others, from as many as there are cells on, are as before
+-- the rounds above the level are done, in the first slots; the others, from as many as there are cells on, are as
+-- before
 pub record IsUnderWay (cells before slots : List Address) (c : Compaction) : Type 0 where
   pub room : length cells ≤ length slots
   pub in_use : slots_in_use c ≤ length cells

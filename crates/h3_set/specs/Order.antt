@@ -1,4 +1,5 @@
--- For private contracts: the order of the slots between rounds, in which each cell comes right after its descendants.
+-- The order of the slots between rounds, in which each cell comes right after its descendants. Private contracts and
+-- proofs alone cite this file.
 use Rattle.std.specs.Prelude.{◌+◌, ◌-◌, ◌^◌, ◌≤◌, List, AllPairs}
 use Rattle.h3_index.specs.Cell.{Address, resolution}
 use Rattle.h3_tree.specs.PostOrder.{post_order_key}

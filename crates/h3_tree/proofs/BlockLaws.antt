@@ -95,7 +95,7 @@ pub record AreSizes (f : ℕ → List Address) (center outer : ℕ) : Type 0 whe
 abbrev pub offset : Bool → ℕ → ℕ → ℕ → ℕ
 offset p center outer d = if d == 0 then 0 else center + (d - next_step p 0) * outer
 
--- so many stand before the block of d
+-- how many stand before the block of d
 pub record IsStep (f : ℕ → List Address) (p : Bool) (d before : ℕ) : Type 0 where
   pub index : ℕ
   pub within : index < length (steps p)

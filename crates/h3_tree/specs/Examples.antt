@@ -12,7 +12,8 @@ pentagon_children : map (λ c. number_of c) (descendants (base_cell 4) 1)
 unfolding descendants paths number_of
 pentagon_children = refl
 
--- the first child of a pentagon that is a hexagon has the position 1, and the last of its 41 descendants two levels down 40
+-- the first child of a pentagon that is a hexagon has the position 1, and the last of its 41 descendants two levels
+-- down 40
 pentagon_positions : map (λ x. position_under (base_cell 4) x) (record { base = 4; digits = 2 ∷ [] } ∷ record { base = 4; digits = 6 ∷ 6 ∷ [] } ∷ []) ≡ 1 ∷ 40 ∷ []
 unfolding position_under descendants paths number_of
 pentagon_positions = refl

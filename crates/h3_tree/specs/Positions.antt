@@ -4,7 +4,7 @@ use Rattle.h3_index.specs.Cell.{Address, IsCell, number_of, resolution}
 use Rattle.h3_index.specs.Descendants.{descendants, IsDescendant}
 use Rattle.h3_index.specs.Laws.{DescendantsAreListed, DescendantsAscend, HexagonsHaveSevens, PentagonsHaveFewer}
 
--- the laws of the list of the descendants, together
+-- the laws of the list of the descendants, together. Private contracts and proofs alone cite it.
 pub record DescendantsAreKnown : Type 0 where
   pub members : DescendantsAreListed
   pub ascending : DescendantsAscend

@@ -17,8 +17,8 @@ abbrev pub descent_refusal : ℕ → ℤ → Option H3Error
 descent_refusal r (negsuc n) = Some ResDomain
 descent_refusal r (pos s) = if nat_le r s && nat_le s 15 then None else Some ResDomain
 
--- of the descendant of c at a place: first a resolution outside 0 to 15, then one that is coarser than c, then a place
--- past all descendants
+-- of the descendant of c at a position: first a resolution outside 0 to 15, then one that is coarser than c, then a
+-- position past all descendants
 abbrev pub position_refusal : Address → ℤ → ℕ → Option H3Error
 position_refusal c (negsuc n) place = Some ResDomain
 position_refusal c (pos s) place =

@@ -7,7 +7,7 @@ use std::io;
 use std::io::{ErrorKind, Read, Write};
 use std::test::Fail;
 
-/// A reader or a writer each of whose calls fails so many times with this error before it is made.
+/// A reader or a writer each of whose calls fails `times` times with this error before it is made.
 #[derive(Drop)]
 struct Failing<T> {
     inner: T,
@@ -59,7 +59,7 @@ impl<T: Write> Write for Failing<T> {
     }
 }
 
-/// A stream that is interrupted so many times before each call is made.
+/// A stream that is interrupted `times` times before each call is made.
 fn interrupted<T>(inner: T, times: u8) -> Retried<Failing<T>> {
     Retried::new(Failing::new(inner, ErrorKind::Interrupted, times))
 }

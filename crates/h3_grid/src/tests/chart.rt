@@ -130,8 +130,8 @@ fn assert_visits(rt: &impl Abort, all: &[Visit], cells: &[Cell]) {
     }
 }
 
-/// Asserts that a step leads from one cell of a disk to that at the place beside it in a direction, if the disk has one;
-/// whether it has.
+/// Asserts that a step leads from one cell of a disk to that at the place beside it in a direction, if the disk has
+/// one; whether it has.
 fn assert_beside(
     rt: &impl Abort,
     table: &BaseTable,

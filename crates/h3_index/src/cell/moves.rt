@@ -79,8 +79,8 @@ impl Cell {
         }
     }
 
-    /// The cell with this base cell, 0 to 121, and the same digits, as H3's `H3_SET_BASE_CELL` sets it. The new base cell
-    /// must be no pentagon.
+    /// The cell with this base cell, 0 to 121, and the same digits, as H3's `H3_SET_BASE_CELL` sets it. The new base
+    /// cell must be no pentagon.
     pub fn with_base(self, base: u8) -> Cell
         requires small { base < 122 }
         requires hexagon { is_pentagon_base base ≡ false }

@@ -219,8 +219,8 @@ fn the_first_check_that_fails_decides(rt: HostRuntime) -> Result<(), Fail> {
 
 #[test]
 fn corners_are_checked_at_every_base_cell(rt: HostRuntime) -> Result<(), Fail> {
-    // The neighbours of 50 and 80 in the direction I change places, and each link is still undone. The first corner with
-    // one of these links is that of 39, 51 and 50.
+    // The neighbours of 50 and 80 in the direction I change places, and each link is still undone. The first corner
+    // with one of these links is that of 39, 51 and 50.
     let exchanged = [
         [50, 4, 81, 0],
         [51, 3, 80, 0],

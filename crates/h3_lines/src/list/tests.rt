@@ -4,16 +4,16 @@ use h3_fakes::{Faults, FaultySource};
 use h3_index::{Cell, H3Error};
 use std::test::Fail;
 
-/// So many bytes are handed out at once.
+/// How many bytes a pull gives at most.
 const PIECES: [usize; 6] = [1, 2, 63, 64, 65, 100000];
 
-/// Reads a list that a source hands out by so many bytes; it fails at the pull after `calls` pulls.
+/// Reads a list from a source that gives at most `most` bytes a pull and fails after `calls` pulls.
 fn read(rt: &HostRuntime, bytes: &[u8], most: usize, calls: u64) -> Result<Vec<Cell>, Refusal> {
     let mut source = FaultySource::new(bytes, most.max(1), Faults::From(calls));
     read_cells(rt.alloc(), &mut source)
 }
 
-/// Whether the list has these cells, however it is handed out.
+/// Whether the list has these cells, in pieces of any of these sizes.
 fn lists(rt: &HostRuntime, bytes: &[u8], numbers: &[u64]) -> bool {
     PIECES.iter().all(|most| match read(rt, bytes, *most, 1000) {
         Ok(cells) => {
@@ -24,7 +24,7 @@ fn lists(rt: &HostRuntime, bytes: &[u8], numbers: &[u64]) -> bool {
     })
 }
 
-/// Whether the list is refused by this error, however it is handed out.
+/// Whether the list is refused with this error, in pieces of any of these sizes.
 fn refuses(rt: &HostRuntime, bytes: &[u8], error: H3Error) -> bool {
     PIECES.iter().all(|most| match read(rt, bytes, *most, 1000) {
         Ok(_) => false,
