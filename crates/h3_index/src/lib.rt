@@ -3,6 +3,7 @@
 
 mod cell;
 mod count;
+mod counted;
 mod cursor;
 mod edge;
 mod error;
@@ -12,6 +13,7 @@ mod text;
 
 pub use cell::{Cell, is_pentagon_base};
 pub use count::{num_cells, pentagon, res0_cell};
+pub use counted::CountedReader;
 pub use cursor::Cursor;
 pub use edge::Edge;
 pub use error::H3Error;

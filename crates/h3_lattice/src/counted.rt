@@ -1,40 +1,13 @@
-//! The bytes of a source, in a limited number of reads.
+//! All bytes of a source, in a limited number of reads.
 
-ghost use Rattle.std.specs.Prelude.{◌≡◌, ◌≢◌, ◌<◌, ◌≤◌, ◌+◌, ◌*◌, ◌++◌, ◌⊎◌, ℕ, true, List, [], length, Some, Err, IfOk, IfErr, OnOk, OnErr};
-ghost use Rattle.h3_index.specs.Stream.{HasLeft, Pulls};
+ghost use Rattle.std.specs.Prelude.{◌≡◌, ◌≢◌, ◌<◌, ◌≤◌, ◌+◌, ◌*◌, ◌++◌, ◌⊎◌, ℕ, true, List, [], length, Some, Err, IfOk, IfErr, OnOk};
+ghost use Rattle.h3_index.specs.Stream.{HasLeft};
 ghost use Rattle.h3_lattice.specs.declared.error.TableError.{TableError};
 ghost use Rattle.h3_lattice.specs.Slots.{StopsReading};
 
 use crate::error::TableError;
-use h3_index::Source;
+use h3_index::{CountedReader, Source};
 use std::alloc::Global;
-
-/// A source, and how many more reads of it are allowed.
-#[derive(Drop)]
-struct CountedReader<'a, R> {
-    source: &'a mut R,
-    reads_left: u64,
-}
-
-impl<'a, R: Source> CountedReader<'a, R> {
-    /// Reads once, to the front of a page: `Read` where the source fails, and where no read is allowed any more, which
-    /// is then not made.
-    fn read(&mut self, page: &mut [u8]) -> Result<usize, TableError>
-        ensures bound { IfOk result (λ n. n ≤ length page.new) }
-        ensures bytes { IfOk result (λ n. Pulls (R.left self.old.source.now) (R.left self.new.source.now) page.new n) }
-        ensures counted { OnOk result (self.new.reads_left + 1 ≡ self.old.reads_left) }
-        ensures ok { OnOk result (R.has_failed self.new.source.now ≡ R.has_failed self.old.source.now) }
-        ensures err { OnErr result ((self.old.reads_left ≡ 0) ⊎ (R.has_failed self.new.source.now ≡ true)) }
-        ensures read { IfErr result (λ e. e ≡ TableError.Read) }
-        ensures same { self.new.source.ghost_name ≡ self.old.source.ghost_name }
-    {
-        if self.reads_left == 0 {
-            return Err(TableError::Read);
-        }
-        self.reads_left -= 1;
-        self.source.pull(page).map_err(|_| TableError::Read)
-    }
-}
 
 /// Appends all bytes of a source to a text.
 fn read_pages<'a, R: Source>(
@@ -55,7 +28,9 @@ fn read_pages<'a, R: Source>(
     ensures same { reader.new.source.ghost_name ≡ reader.old.source.ghost_name }
 {
     loop {
-        let count = reader.read(page)?;
+        let Ok(count) = reader.read(page) else {
+            return Err(TableError::Read);
+        };
         if count == 0 {
             return Ok(());
         }
