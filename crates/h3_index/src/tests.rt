@@ -218,6 +218,28 @@ fn errors_have_their_numbers_and_names(rt: HostRuntime) {
 }
 
 #[test]
+fn only_the_same_errors_are_equal(rt: HostRuntime) {
+    let errors = [
+        H3Error::Failed,
+        H3Error::Domain,
+        H3Error::ResDomain,
+        H3Error::CellInvalid,
+        H3Error::DirEdgeInvalid,
+        H3Error::Pentagon,
+        H3Error::DuplicateInput,
+        H3Error::NotNeighbors,
+        H3Error::ResMismatch,
+        H3Error::MemoryAlloc,
+    ];
+    for (i, one) in errors.iter().enumerate() {
+        for (j, other) in errors.iter().enumerate() {
+            assert_eq!(rt; one == other, i == j, "{i} and {j}");
+            assert_eq!(rt; one != other, i != j, "{i} and {j}");
+        }
+    }
+}
+
+#[test]
 fn errors_have_texts(rt: HostRuntime) -> Result<(), Fail> {
     let table = [
         (H3Error::Failed, "the operation failed"),

@@ -1,4 +1,5 @@
-use crate::{Class, Direction, Moved, add, carry, turn};
+use crate::digits::Digits;
+use crate::{Class, Direction, Moved, TableError, add, carry, turn};
 use h3_index::Cell;
 use std::test::Fail;
 
@@ -218,4 +219,73 @@ fn a_base_cell_has_no_digit_to_add_to(rt: HostRuntime) -> Result<(), Fail> {
 fn classes_alternate(rt: HostRuntime) {
     assert_eq!(rt; Class::at(0), Class::Two);
     assert_eq!(rt; Class::at(15), Class::Three);
+}
+
+#[test]
+fn only_the_same_directions_and_classes_are_equal(rt: HostRuntime) {
+    for (i, one) in DIRECTIONS.iter().enumerate() {
+        for (j, other) in DIRECTIONS.iter().enumerate() {
+            assert_eq!(rt; one == other, i == j, "{i} and {j}");
+            assert_eq!(rt; one != other, i != j, "{i} and {j}");
+        }
+    }
+    assert!(rt; Class::Two == Class::Two && Class::Three == Class::Three);
+    assert!(rt; Class::Two != Class::Three && Class::Three != Class::Two);
+}
+
+#[test]
+fn only_the_same_table_errors_are_equal(rt: HostRuntime) {
+    let errors = [
+        TableError::Read,
+        TableError::Memory,
+        TableError::Form(1),
+        TableError::Form(2),
+        TableError::Range(1),
+        TableError::Range(2),
+        TableError::Repeated(1),
+        TableError::Repeated(2),
+        TableError::Missing,
+        TableError::Neighbours(1),
+        TableError::Neighbours(2),
+        TableError::Reversal(1, Direction::K),
+        TableError::Reversal(1, Direction::J),
+        TableError::Reversal(2, Direction::K),
+        TableError::Corner(1, Direction::K),
+        TableError::Corner(1, Direction::J),
+        TableError::Corner(2, Direction::K),
+    ];
+    for (i, one) in errors.iter().enumerate() {
+        for (j, other) in errors.iter().enumerate() {
+            assert_eq!(rt; one == other, i == j, "{i} and {j}");
+            assert_eq!(rt; one != other, i != j, "{i} and {j}");
+        }
+    }
+}
+
+#[test]
+fn only_the_same_sums_and_digits_are_equal(rt: HostRuntime) -> Result<(), Fail> {
+    let coarse = Cell::new(0x813d3ffffffffff)?;
+    let fine = Cell::new(0x85283473fffffff)?;
+    let short = Digits::of(coarse);
+    let long = Digits::of(fine);
+    let sums = [
+        Moved::Inside(coarse),
+        Moved::Inside(fine),
+        Moved::Across(Direction::K, short),
+        Moved::Across(Direction::K, long),
+        Moved::Across(Direction::J, short),
+    ];
+    for (i, one) in sums.iter().enumerate() {
+        for (j, other) in sums.iter().enumerate() {
+            assert_eq!(rt; one == other, i == j, "{i} and {j}");
+            assert_eq!(rt; one != other, i != j, "{i} and {j}");
+        }
+    }
+    assert!(rt; short == short && long == long);
+    assert!(rt; short != long && long != short);
+    // The digits of cells of two base cells are the same.
+    let beside = Digits::of(Cell::new(0x813cbffffffffff)?);
+    let same = Digits::of(Cell::new(0x813ebffffffffff)?);
+    assert!(rt; beside == same && beside != short);
+    Ok(())
 }

@@ -208,6 +208,7 @@ fn the_first_check_that_fails_decides(rt: HostRuntime) -> Result<(), Fail> {
         ([0, 2, 110, 0], TableError::Neighbours(0)),
         ([0, 3, 0, 0], TableError::Neighbours(0)),
         ([60, 4, 61, 1], TableError::Reversal(60, Direction::I)),
+        ([120, 4, 121, 1], TableError::Reversal(120, Direction::I)),
         ([121, 6, 13, 0], TableError::Reversal(11, Direction::K)),
         ([121, 6, 10, 0], TableError::Neighbours(121)),
     ];
@@ -230,6 +231,17 @@ fn corners_are_checked_at_every_base_cell(rt: HostRuntime) -> Result<(), Fail> {
     assert_eq!(&rt;
         changed(&rt, &exchanged)?,
         Some(TableError::Corner(39, Direction::IJ))
+    );
+    // The same for those of 108 and 114: the first corner is that of 103, 115 and 114.
+    let exchanged = [
+        [108, 4, 115, 0],
+        [109, 3, 114, 0],
+        [114, 4, 109, 0],
+        [115, 3, 108, 0],
+    ];
+    assert_eq!(&rt;
+        changed(&rt, &exchanged)?,
+        Some(TableError::Corner(103, Direction::IJ))
     );
     Ok(())
 }
