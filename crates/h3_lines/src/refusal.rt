@@ -177,3 +177,31 @@ fn link_line(words: &str, base: u8, direction: Direction) -> ArrayString<LINE_RO
     line.push_str("\n");
     line
 }
+
+#[cfg(test)]
+mod tests {
+    use super::Refusal;
+    use h3_index::H3Error;
+    use h3_lattice::TableError;
+
+    #[test]
+    fn only_the_same_refusals_are_equal(rt: HostRuntime) {
+        let refusals = [
+            Refusal::Error(H3Error::Failed),
+            Refusal::Error(H3Error::MemoryAlloc),
+            Refusal::Memory,
+            Refusal::Read,
+            Refusal::Write,
+            Refusal::Table(TableError::Missing),
+            Refusal::Table(TableError::Form(1)),
+            Refusal::Table(TableError::Form(2)),
+            Refusal::TableOpen,
+        ];
+        for (i, one) in refusals.iter().enumerate() {
+            for (j, other) in refusals.iter().enumerate() {
+                assert_eq!(&rt; one == other, i == j, "{i} and {j}");
+                assert_eq!(&rt; one != other, i != j, "{i} and {j}");
+            }
+        }
+    }
+}

@@ -135,7 +135,8 @@ fn a_read_fault_counts_before_a_faulty_line(rt: HostRuntime) -> Result<(), Fail>
 
 #[test]
 fn reads_past_the_limit_are_read_faults(rt: HostRuntime) -> Result<(), Fail> {
-    let mut page = [0];
+    // Each read gives one byte, which leaves room in the page.
+    let mut page = [0; 8];
     let mut source = FaultySource::new(b"\n\n", 1, Faults::From(100));
     assert!(&rt; read_list(rt.alloc(), &mut source, 3, &mut page).is_ok());
     let mut source = FaultySource::new(b"\n\n\n", 1, Faults::From(100));
