@@ -46,6 +46,29 @@ fn children_of_a_hexagon(rt: HostRuntime) -> Result<(), Fail> {
 }
 
 #[test]
+fn a_clone_of_children_goes_on_where_they_stand(rt: HostRuntime) -> Result<(), Fail> {
+    let rest = [
+        0x862834717ffffff,
+        0x86283471fffffff,
+        0x862834727ffffff,
+        0x86283472fffffff,
+        0x862834737ffffff,
+    ];
+    let mut items = children(Cell::new(0x85283473fffffff)?, 6)?;
+    assert_eq!(rt; items.next(), Some(Cell::new(0x862834707ffffff)?));
+    assert_eq!(rt; items.next(), Some(Cell::new(0x86283470fffffff)?));
+    let mut again = items.clone()?;
+    for raw in rest {
+        let cell = Some(Cell::new(raw)?);
+        assert_eq!(rt; items.next(), cell);
+        assert_eq!(rt; again.next(), cell);
+    }
+    assert!(rt; items.next().is_none());
+    assert!(rt; again.next().is_none());
+    Ok(())
+}
+
+#[test]
 fn children_of_a_pentagon(rt: HostRuntime) -> Result<(), Fail> {
     let expected = [
         0x81083ffffffffff,
