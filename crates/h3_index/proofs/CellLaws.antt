@@ -39,7 +39,7 @@ digits-under h ds coarse digits_small =
     number_after_is 8 h (padded ds) ∙ (rw len refl) in
     let small = below-padded ds (15 - length ds) digits_small in
     let none : 0 + length (padded ds) ≡ 15 = omega (arith, len) in
-    rw (none, after) at (last_digits-more 0 h (padded ds) small)
+    rw (none, after) at (last_digits-more 8 0 h (padded ds) small)
 
 pub digits-number_of : (n : Address) → IsCell n → last_digits 8 15 (number_of n) ≡ padded n.digits
 digits-number_of n h =

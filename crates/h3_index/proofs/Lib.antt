@@ -10,6 +10,7 @@ pub mod DigitsLaws
 pub mod DigitTestLaws
 pub mod EdgeLaws
 pub mod EdgeOrderLaws
+pub mod GatherLaws
 pub mod MoveLaws
 pub mod OrderLaws
 pub mod PathLaws

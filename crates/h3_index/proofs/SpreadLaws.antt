@@ -136,17 +136,17 @@ all_fours h l less_h less_l =
 
 -- ---- the same, digit by digit
 
-two_digits : (f : ℕ → ℕ) (v : ℕ) → packed 4 f v ≡ packed 2 f (v / 256) * 65536 + packed 2 f v
+pub two_digits : (f : ℕ → ℕ) (v : ℕ) → packed 4 f v ≡ packed 2 f (v / 256) * 65536 + packed 2 f v
 two_digits f v =
     let e : v / 16 / 16 ≡ v / 256 = div-div-eq-div-mul v 16 16 in
     rw e (omega arith)
 
-four_digits : (f : ℕ → ℕ) (v : ℕ) → packed 8 f v ≡ packed 4 f (v / 65536) * 2 ^ 32 + packed 4 f v
+pub four_digits : (f : ℕ → ℕ) (v : ℕ) → packed 8 f v ≡ packed 4 f (v / 65536) * 2 ^ 32 + packed 4 f v
 four_digits f v =
     let e : v / 16 / 16 / 16 / 16 ≡ v / 65536 = omega arith in
     rw e (omega arith)
 
-moved_is : (v : ℕ) → moved 4 (v % 256) ≡ packed 2 (λ d. d) v
+pub moved_is : (v : ℕ) → moved 4 (v % 256) ≡ packed 2 (λ d. d) v
 moved_is v = omega arith
 
 -- what `spread` computes
@@ -202,14 +202,18 @@ ascii_digits [] h i = lit< tt
 ascii_digits (d ∷ ds) h zero = ascii_digit d h.0
 ascii_digits (d ∷ ds) h (suc i) = ascii_digits ds h.1 i
 
+eight_bytes : (a b c d e f g h : ℕ) → number_from_digits 256 (a ∷ b ∷ c ∷ d ∷ e ∷ f ∷ g ∷ h ∷ []) ≡ from_be_bytes w64 (a ∷ b ∷ c ∷ d ∷ e ∷ f ∷ g ∷ h ∷ [])
+eight_bytes a b c d e f g h = omega arith
+
+-- eight characters as a word
+pub word_is : (v : ℕ) → from_be_bytes w64 (map digit_char (last_digits 16 8 v)) ≡ number_from_digits 256 (map digit_char (last_digits 16 8 v))
+word_is v = sym (eight_bytes _ _ _ _ _ _ _ _)
+
 -- the bytes of the word
 pub word_bytes : (v : ℕ) → to_be_bytes w64 (number_from_digits 256 (map digit_char (last_digits 16 8 v))) ≡ map digit_char (last_digits 16 8 v)
 word_bytes v = be_bytes_8 (map digit_char (last_digits 16 8 v)) _ refl
     (λ i. let small : get_or (map digit_char (last_digits 16 8 v)) i 0 < 128 = ascii_digits (last_digits 16 8 v) (below-last_digits 16 8 v (lit< tt)) i in omega (arith, small))
     (eight_bytes _ _ _ _ _ _ _ _)
-  where
-    eight_bytes : (a b c d e f g h : ℕ) → number_from_digits 256 (a ∷ b ∷ c ∷ d ∷ e ∷ f ∷ g ∷ h ∷ []) ≡ from_be_bytes w64 (a ∷ b ∷ c ∷ d ∷ e ∷ f ∷ g ∷ h ∷ [])
-    eight_bytes a b c d e f g h = omega arith
 
 -- ---- halves
 

@@ -46,3 +46,11 @@ number_spelled ds = if is_hexadecimal ds then Some (digits_value 16 ds) else Non
 -- the number that a list of bytes parses as, where it parses as one
 unfoldable pub spelled_index : List ℕ → Option ℕ
 spelled_index bs = number_spelled (without_prefix (trimmed bs))
+
+-- `0` to `9` or `a` to `f`
+abbrev pub is_lower_digit : ℕ → Bool
+is_lower_digit b = (nat_le 48 b && nat_le b 57) || (nat_le 97 b && nat_le b 102)
+
+-- the number that 8 to 16 hexadecimal digits in lower case stand for; none for other bytes
+abbrev pub plain_index : List ℕ → Option ℕ
+plain_index bs = if nat_le 8 (length bs) && nat_le (length bs) 16 && list_all is_lower_digit bs then Some (digits_value 16 bs) else None

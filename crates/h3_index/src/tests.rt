@@ -155,6 +155,9 @@ fn one_to_sixteen_digits_are_read(rt: HostRuntime) {
         let (bytes, length) = index_bytes(number);
         assert_eq!(rt; length, i + 1);
         assert_eq!(rt; &bytes[..length], digits);
+        for byte in &bytes[length..] {
+            assert_eq!(rt; *byte, b'0');
+        }
     }
     assert_eq!(rt; read_index(text), Err(H3Error::Failed));
     assert_eq!(rt; read_plain(text), None);

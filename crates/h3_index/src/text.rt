@@ -1,6 +1,6 @@
 //! The texts of indexes.
 
-ghost use Rattle.std.specs.Prelude.{◌≡◌, ◌==◌, ◌-◌, ◌^◌, ◌<◌, ◌≤◌, ℕ, List, length, map, take, IfErr, IsAscii};
+ghost use Rattle.std.specs.Prelude.{◌≡◌, ◌==◌, ◌-◌, ◌^◌, ◌<◌, ◌≤◌, ℕ, List, length, map, replicate, take, drop, IfErr, IsAscii};
 ghost use Rattle.std.specs.Char.{digit_char};
 ghost use Rattle.std.specs.Result.{result_ok};
 ghost use Rattle.h3_index.specs.Digits.{last_digits};
@@ -134,12 +134,13 @@ fn text_from(bytes: &[u8; 16]) -> ArrayString<16>
     text
 }
 
-/// Sixteen bytes that begin with the text of an index, and the length of the text, 1 to 16.
+/// Sixteen bytes, the text of an index and then zeros (`0`), and the length of the text, 1 to 16.
 #[inline(always)]
 pub fn index_bytes(index: u64) -> ([u8; 16], usize)
     ensures some { 0 < result.1 }
     ensures within { result.1 ≤ 16 }
     ensures text { take result.1 result.0 ≡ text_of index }
+    ensures rest { drop result.1 result.0 ≡ replicate (16 - result.1) 48 }
     ensures ascii { IsAscii result.0 }
 {
     let zeros = zeros_in_front(index);

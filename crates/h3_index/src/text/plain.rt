@@ -3,13 +3,15 @@
 ghost use Rattle.std.specs.Prelude.{◌≡◌, length, true, Some, IfSome};
 ghost use Rattle.std.specs.Char.{is_digit};
 ghost use Rattle.std.specs.List.{list_all};
-ghost use Rattle.h3_index.specs.Text.{spelled_index};
+ghost use Rattle.h3_index.specs.Text.{plain_index, spelled_index};
 
 use super::halves::{characters, gathered, word_of};
 
-/// The index that 8 to 16 digits in lower case parse as. `None` says nothing: the text may be of another form.
+/// The number that 8 to 16 hexadecimal digits in lower case stand for; none for all other bytes, which may be the text
+/// of an index in another form.
 #[inline(always)]
 pub fn read_plain(bytes: &[u8]) -> Option<u64>
+    ensures is { result ≡ plain_index bytes.now }
     ensures spelled { IfSome result (λ index. spelled_index bytes.now ≡ Some index) }
     ensures digits { IfSome result (λ _. list_all (λ b. is_digit b 16) bytes.now ≡ true) }
 {
