@@ -1,4 +1,4 @@
-//! The files of the test tables.
+//! The files of tables, in both formats: of the test tables, and of one on which a ring does not close.
 
 use arrayvec::ArrayString;
 use h3_index::is_pentagon_base;
@@ -6,41 +6,159 @@ use h3_lattice::Direction;
 use h3_lattice::vectors::{TestTable, link};
 use itoa::Buffer;
 
-/// The room for a file: a header of 16 bytes, and 660 records of at most 12.
+/// The room for a file: a header of 16 bytes, and 660 records of at most 12. A file in format 2 is
+/// shorter.
 const FILE_ROOM: usize = 8192;
 
 /// A file that takes no memory.
 pub type TableFile = ArrayString<FILE_ROOM>;
 
-/// Adds a number and what comes after it.
-fn push_number(file: &mut TableFile, number: u8, end: &str) {
-    let mut buffer = Buffer::new();
-    let _ = file.try_push_str(buffer.format(number));
-    let _ = file.try_push_str(end);
+/// The links of a base cell, by direction: the base cell that each leads to, and the turns.
+type Links = [(u8, u8); 6];
+
+/// Links along the ring of radius 2 around base cell 0: a base cell, a direction and the base cell that
+/// it leads to. Two lead out to the ring in the direction 4 (I), and twelve around it. The last of
+/// them leads to base cell 16, and not to 2, with which the ring begins. Base cells 1, 2 and 3 are a
+/// triangle.
+const OPEN_RING: [[u8; 3]; 15] = [
+    [0, 4, 1],
+    [1, 4, 2],
+    [1, 6, 3],
+    [2, 2, 3],
+    [3, 2, 5],
+    [5, 3, 6],
+    [6, 3, 7],
+    [7, 1, 8],
+    [8, 1, 9],
+    [9, 5, 10],
+    [10, 5, 11],
+    [11, 4, 12],
+    [12, 4, 13],
+    [13, 6, 15],
+    [15, 6, 16],
+];
+
+/// The links of a base cell of a test table, or nothing for a pentagon.
+fn test_links(table: TestTable, base: u8) -> Option<Links> {
+    if base > 121 || is_pentagon_base(base) {
+        return None;
+    }
+    let mut links = [(0, 0); 6];
+    for (digit, place) in (1..7u8).zip(links.iter_mut()) {
+        *place = link(table, base, Direction::from_digit(digit)?);
+    }
+    Some(links)
 }
 
-/// Adds the six records of a base cell, or none for a pentagon.
-fn push_records(file: &mut TableFile, table: TestTable, base: u8) {
-    if base > 121 || is_pentagon_base(base) {
-        return;
+/// Changes the link in the direction with a digit from 1 to 6.
+fn set_link(links: &mut Links, digit: u8, to: u8, turns: u8) {
+    if let Some(place) = links.get_mut(usize::from(digit.saturating_sub(1))) {
+        *place = (to, turns);
     }
-    for digit in 1..7u8 {
-        if let Some(direction) = Direction::from_digit(digit) {
-            let (to, turns) = link(table, base, direction);
-            push_number(file, base, ",");
-            push_number(file, digit, ",");
-            push_number(file, to, ",");
-            push_number(file, turns, "\n");
+}
+
+/// The links of a base cell that are those of `OPEN_RING` and those back, and otherwise lead to
+/// pentagon base cells; or nothing for a pentagon.
+fn open_links(base: u8) -> Option<Links> {
+    if is_pentagon_base(base) {
+        return None;
+    }
+    let mut links = [(4, 0), (14, 0), (24, 0), (38, 0), (49, 0), (58, 0)];
+    for [from, digit, to] in OPEN_RING {
+        if base == from {
+            set_link(&mut links, digit, to, 0);
+        }
+        if base == to {
+            // the opposite direction
+            set_link(&mut links, 7u8.saturating_sub(digit), from, 0);
         }
     }
+    Some(links)
 }
 
-/// The file of a test table, by ascending base cell and direction.
-pub fn table_file(table: TestTable) -> TableFile {
+/// Adds a number after what stands before it.
+fn push_field(file: &mut TableFile, before: &str, number: u8) {
+    let mut buffer = Buffer::new();
+    let _ = file.try_push_str(before);
+    let _ = file.try_push_str(buffer.format(number));
+}
+
+/// Adds the six records of a base cell in format 1.
+fn push_records(file: &mut TableFile, base: u8, links: &Links) {
+    for (digit, (to, turns)) in (1..7u8).zip(links.iter()) {
+        push_field(file, "", base);
+        push_field(file, ",", digit);
+        push_field(file, ",", *to);
+        push_field(file, ",", *turns);
+        let _ = file.try_push('\n');
+    }
+}
+
+/// Adds the record of a base cell in format 2.
+fn push_record(file: &mut TableFile, base: u8, links: &Links) {
+    push_field(file, "", base);
+    for (to, _) in links.iter() {
+        push_field(file, ",", *to);
+    }
+    for (_, turns) in links.iter() {
+        push_field(file, ",", *turns);
+    }
+    let _ = file.try_push('\n');
+}
+
+/// A file of format 1 without records.
+fn header() -> TableFile {
     let mut file = ArrayString::new();
     let _ = file.try_push_str("base,dir,to,rot\n");
+    file
+}
+
+/// The file of a test table in format 1, by ascending base cell and direction.
+pub fn table_file(table: TestTable) -> TableFile {
+    let mut file = header();
     for base in 0..122u8 {
-        push_records(&mut file, table, base);
+        if let Some(links) = test_links(table, base) {
+            push_records(&mut file, base, &links);
+        }
+    }
+    file
+}
+
+/// The same where the link of base cell 0 in a direction, by its digit, leads to another base cell or
+/// has other turns.
+pub fn changed_file(table: TestTable, digit: u8, to: u8, turns: u8) -> TableFile {
+    let mut file = header();
+    for base in 0..122u8 {
+        if let Some(mut links) = test_links(table, base) {
+            if base == 0 {
+                set_link(&mut links, digit, to, turns);
+            }
+            push_records(&mut file, base, &links);
+        }
+    }
+    file
+}
+
+/// The file of a test table in format 2, by ascending base cell.
+pub fn bases_file(table: TestTable) -> TableFile {
+    let mut file = ArrayString::new();
+    let _ = file.try_push_str("base,k,j,jk,i,ik,ij,rk,rj,rjk,ri,rik,rij\n");
+    for base in 0..122u8 {
+        if let Some(links) = test_links(table, base) {
+            push_record(&mut file, base, &links);
+        }
+    }
+    file
+}
+
+/// The file of a sound table in format 1 on which the ring of radius 2 around base cell 0 does not
+/// close: it begins with base cell 2 and ends beside base cell 16.
+pub fn open_file() -> TableFile {
+    let mut file = header();
+    for base in 0..122u8 {
+        if let Some(links) = open_links(base) {
+            push_records(&mut file, base, &links);
+        }
     }
     file
 }

@@ -134,15 +134,21 @@ fn a_read_fault_counts_before_a_faulty_line(rt: HostRuntime) -> Result<(), Fail>
 }
 
 #[test]
-fn reads_past_the_limit_are_read_faults(rt: HostRuntime) -> Result<(), Fail> {
-    // Each read gives one byte, which leaves room in the page.
+fn reads_past_the_limit_are_read_faults(rt: HostRuntime) {
+    // each read gives one byte, which leaves room in the page
     let mut page = [0; 8];
     let mut source = FaultySource::new(b"\n\n", 1, Faults::From(100));
     assert!(&rt; read_list(rt.alloc(), &mut source, 3, &mut page).is_ok());
+    assert_eq!(&rt; source.pulls(), 3);
     let mut source = FaultySource::new(b"\n\n\n", 1, Faults::From(100));
     let read = read_list(rt.alloc(), &mut source, 3, &mut page);
     assert_eq!(&rt; read.err(), Some(Refusal::Read));
-    Ok(())
+    assert_eq!(&rt; source.pulls(), 3);
+    // a faulty line that is known by the last read that is allowed
+    let mut source = FaultySource::new(b"0x\n\n", 1, Faults::From(100));
+    let read = read_list(rt.alloc(), &mut source, 3, &mut page);
+    assert_eq!(&rt; read.err(), Some(Refusal::Error(H3Error::Failed)));
+    assert_eq!(&rt; source.pulls(), 3);
 }
 
 #[test]

@@ -26,8 +26,11 @@ fn many_lines_go_out_by_blocks(rt: HostRuntime) {
     let mut out: FaultySink<8890> = FaultySink::new(65536, Faults::From(3));
     let written = write_lines(&mut out, 0..2000u64);
     assert_eq!(&rt; written, Err(Refusal::Write));
+    // 10 * 2 + 90 * 3 + 900 * 4 + 222 * 5 bytes
     let mut out: FaultySink<5000> = FaultySink::new(65536, Faults::From(4));
-    assert!(&rt; write_lines(&mut out, 0..2000u64).is_err());
+    let written = write_lines(&mut out, 0..2000u64);
+    assert_eq!(&rt; written, Err(Refusal::Write));
+    assert_eq!(&rt; out.bytes().len(), 5000);
     assert!(&rt; out.bytes().starts_with(b"0\n1\n2\n"));
     assert!(&rt; out.bytes().ends_with(b"1221\n"));
 }
@@ -50,11 +53,13 @@ fn the_lines_of_a_walk_stand_before_its_error(rt: HostRuntime) -> Result<(), Fai
     let mut out: FaultySink<64> = FaultySink::new(64, Faults::From(1));
     let written = write_walk(&mut out, steps.iter().copied());
     assert_eq!(&rt; written, Err(Refusal::Write));
+    assert!(&rt; out.bytes() == b"85283473fffffff\n85283473fffffff\n".as_slice());
     // where no line comes before the error, nothing is written or flushed
     let mut out: FaultySink<64> = FaultySink::new(64, Faults::From(0));
     let refused: [Result<Cell, H3Error>; 1] = [Err(H3Error::Pentagon)];
     let written = write_walk(&mut out, refused.iter().copied());
     assert_eq!(&rt; written, pentagon);
+    assert_eq!(&rt; out.calls(), 0);
     Ok(())
 }
 
