@@ -8,7 +8,9 @@ use Rattle.h3_index.specs.declared.error.H3Error.{H3Error}
 use Rattle.h3_lines.specs.declared.refusal.Refusal.{Refusal}
 use Rattle.h3_lines.specs.declared.refusal.Refusal.TheVariants.{Error, Memory, Read, Write, Table, TableOpen}
 use Rattle.h3_lines.specs.List.{RefusesList, listed_cells}
-use Rattle.h3_lines.specs.Reading.{listed_after}
+use Rattle.h3_lines.specs.Beginning.{SomeBeginning}
+use Rattle.h3_lines.specs.Reading.{IsFaultyAfter, listed_after}
+use Rattle.h3_lines.specs.Reads.{IsFaulty, IsListWithinReads, IsWithinReads}
 use Rattle.h3_lines.proofs.ListLines.{listed_from_start}
 
 -- The source told the bytes old and tells now. What was read of them turned the first cells and line into these, in no
@@ -26,6 +28,10 @@ reads_none told limit size cells line = record { bytes = []; told = Consumes-nil
 -- one page less is left
 one_less : (reads reads' size : ℕ) → reads' + 1 ≡ reads → reads * size ≡ reads' * size + size
 one_less reads reads' size e = rw (← e) (grind arith)
+
+one_at_least : (reads size : ℕ) → 0 < reads → size ≤ reads * size
+one_at_least zero size h = absurd (omega arith)
+one_at_least (suc k) size h = rw (one_less (suc k) k size (add-one k)) (omega arith)
 
 pub reads_more : {old now : Option (List ℕ)} {limit reads size : ℕ} {first-cells : List Address} {first-line : List ℕ} {cells : List Address} {line : List ℕ}
     → Reads old now limit reads size first-cells first-line cells line → (now' : Option (List ℕ)) (reads' : ℕ) (page : List ℕ) (n : ℕ) (cells' : List Address) (line' : List ℕ)
@@ -75,10 +81,6 @@ reads_all {old} {now} {limit} {reads} {size} {first-cells = fc} {first-line = fl
     let short : length r.bytes + reads * size ≤ limit * size = r.short in
     let one : size ≤ reads * size = one_at_least reads size some in
     (r.bytes, at_end old now r.bytes r.told end, omega arith, ap (listed_after fc fl) (sym (append-nil r.bytes)) ∙ r.list_is [])
-  where
-    one_at_least : (reads size : ℕ) → 0 < reads → size ≤ reads * size
-    one_at_least zero size h = absurd (omega arith)
-    one_at_least (suc k) size h = rw (one_less (suc k) k size (add-one k)) (omega arith)
 
 -- a refusal of a page fits the list, whatever may be said of reads
 fits_any : (reads : Type 0) (list : Result (List Address) H3Error) (e : Refusal) → RefusesList ⊥ list e → RefusesList reads list e
@@ -89,17 +91,34 @@ fits_any reads list Write h = absurd h
 fits_any reads list (Table d) h = absurd h
 fits_any reads list TableOpen h = absurd h
 
+-- an error in bytes that is there whatever comes after them
+faulty_after : (cells : List Address) (line bytes : List ℕ) (e : Refusal) → ((after : List ℕ) → RefusesList ⊥ (listed_after cells line (bytes ++ after)) e) → (e ≡ Read → ⊥) → (e ≡ Memory → ⊥) → IsFaultyAfter cells line bytes
+faulty_after cells line bytes (Error d) refused other memory = (d, refused)
+faulty_after cells line bytes Memory refused other memory = absurd (memory refl)
+faulty_after cells line bytes Read refused other memory = absurd (other refl)
+faulty_after cells line bytes Write refused other memory = absurd (refused [])
+faulty_after cells line bytes (Table d) refused other memory = absurd (refused [])
+faulty_after cells line bytes TableOpen refused other memory = absurd (refused [])
+
 -- a page is refused
 pub reads_refused : {old now : Option (List ℕ)} {limit reads size : ℕ} {first-cells : List Address} {first-line : List ℕ} {cells : List Address} {line : List ℕ}
-    → Reads old now limit reads size first-cells first-line cells line → (now' : Option (List ℕ)) (page : List ℕ) (n : ℕ) → Pulls now now' page n → (failed : Type 0) (e : Refusal)
+    → Reads old now limit reads size first-cells first-line cells line → (now' : Option (List ℕ)) (page : List ℕ) (n : ℕ) → Pulls now now' page n → n ≤ size → 0 < reads → (failed : Type 0) (e : Refusal)
     → ((rest : List ℕ) → RefusesList ⊥ (listed_after cells line (take n page ++ rest)) e)
     → (bytes : List ℕ) × HasLeft old bytes × RefusesList (failed ⊎ (limit ≤ length bytes)) (listed_after first-cells first-line bytes) e
-reads_refused {old} {now} {limit} {reads} {size} {first-cells = fc} {first-line = fl} {cells} {line} r now' page n p failed e refused =
+        × ((e ≡ Read → ⊥) → (e ≡ Memory → ⊥) → SomeBeginning (λ part. IsFaultyAfter first-cells first-line part × (length part ≤ limit * size)) bytes)
+reads_refused {old} {now} {limit} {reads} {size} {first-cells = fc} {first-line = fl} {cells} {line} r now' page n p fits some failed e refused =
     let front = take n page in
     let (rest, held) = all_bytes old now' (r.bytes ++ front) (Consumes-trans old now now' r.bytes front r.told p.taken) in
     let bytes = (r.bytes ++ front) ++ rest in
-    let is : listed_after fc fl bytes ≡ listed_after cells line (front ++ rest) = ap (listed_after fc fl) (append_assoc r.bytes front rest) ∙ r.list_is (front ++ rest) in
-    (bytes, held, fits_any (failed ⊎ (limit ≤ length bytes)) _ e (subst (λ list. RefusesList ⊥ list e) (sym is) (refused rest)))
+    let is : (more : List ℕ) → listed_after fc fl ((r.bytes ++ front) ++ more) ≡ listed_after cells line (front ++ more) =
+    λ more. ap (listed_after fc fl) (append_assoc r.bytes front more) ∙ r.list_is (front ++ more) in
+    let all : (more : List ℕ) → RefusesList ⊥ (listed_after fc fl ((r.bytes ++ front) ++ more)) e = λ more. subst (λ list. RefusesList ⊥ list e) (sym (is more)) (refused more) in
+    let short : length r.bytes + reads * size ≤ limit * size = r.short in
+    let one : size ≤ reads * size = one_at_least reads size some in
+    let parts : length (r.bytes ++ front) ≡ length r.bytes + length front = length-append r.bytes front in
+    let within : length (r.bytes ++ front) ≤ limit * size = omega (arith, length-take {A = ℕ}) in
+    (bytes, held, fits_any (failed ⊎ (limit ≤ length bytes)) _ e (all rest),
+    λ other memory. record { part = r.bytes ++ front; rest = rest; split = refl; holds = (faulty_after fc fl (r.bytes ++ front) e all other memory, within) })
 
 -- a read fails, or none is left
 pub reads_stopped : {old now : Option (List ℕ)} {limit reads size : ℕ} {first-cells : List Address} {first-line : List ℕ} {cells : List Address} {line : List ℕ}
@@ -112,6 +131,15 @@ reads_stopped {old} {now} {limit} {reads} r failed why =
     (r.bytes ++ rest, held, elim why [ inl none ↦ inr (omega arith) | inr f ↦ inl f ])
 
 -- ---- the whole list
+
+-- bytes that are faulty from the first one
+faulty_from_start : (cells : List Address) (line bytes : List ℕ) → cells ≡ [] → line ≡ [] → IsFaultyAfter cells line bytes → IsFaulty bytes
+faulty_from_start cells line bytes p q (e, is) = (e, λ after. sym (listed_from_start cells line (bytes ++ after) p q) ∙ is after)
+
+-- a list that is faulty within the reads
+pub begins_faulty : {cells : List Address} {line : List ℕ} (limit size : ℕ) {bytes : List ℕ} → cells ≡ [] → line ≡ [] → SomeBeginning (λ part. IsFaultyAfter cells line part × (length part ≤ limit * size)) bytes
+    → IsListWithinReads limit size bytes
+begins_faulty {cells} {line} limit size p q b = inr (record { part = b.part; rest = b.rest; split = b.split; holds = (faulty_from_start cells line b.part p q b.holds.0, b.holds.1) })
 
 -- a refusal of the list from its first byte
 pub refuses_from_start : (reads : Type 0) (cells : List Address) (line bytes : List ℕ) (e : Refusal) → cells ≡ [] → line ≡ [] → RefusesList reads (listed_after cells line bytes) e → RefusesList reads (listed_cells bytes) e

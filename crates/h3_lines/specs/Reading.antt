@@ -15,6 +15,11 @@ cells_before cells (Err e) = Err e
 abbrev pub listed_after : List Address → List ℕ → List ℕ → Result (List Address) H3Error
 listed_after cells line rest = cells_before cells (listed_cells (line ++ rest))
 
+-- where these cells were read before, and this is the line so far: a list that goes on with these bytes is an error, the
+-- same whatever bytes come after them
+abbrev pub IsFaultyAfter : List Address → List ℕ → List ℕ → Type 0
+IsFaultyAfter cells line bytes = (e : H3Error) × ((after : List ℕ) → listed_after cells line (bytes ++ after) ≡ Err e)
+
 -- no byte is a line feed
 abbrev pub is_unended : List ℕ → Bool
 is_unended = list_all (λ b. not (b == 10))

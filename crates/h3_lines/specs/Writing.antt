@@ -2,6 +2,7 @@
 use Rattle.std.specs.Prelude.{◌≡◌, ℕ, Bool, true, false, List, [], ◌++◌, ⊤, Option, None, Some, Result, Ok, Err, IsErr}
 use Rattle.std.specs.Io.KnownBytes.{Appends, Keeps}
 use Rattle.h3_lines.specs.Answer.{Answer}
+use Rattle.h3_lines.specs.Beginning.{SomeBeginning}
 use Rattle.h3_lines.specs.Refusal.{ending_line, ending_status}
 use Rattle.h3_lines.specs.declared.refusal.Refusal.{Refusal}
 use Rattle.h3_lines.specs.declared.refusal.Refusal.TheVariants.{Error, Memory, Read, Write, Table, TableOpen}
@@ -24,13 +25,6 @@ IsLeft sink = Keeps sink.before sink.after × (sink.has_failed ≡ sink.had_fail
 -- the sink took these bytes, and no call of it failed
 abbrev pub Takes : SinkUse → List ℕ → Type 0
 Takes sink bytes = Appends sink.before sink.after bytes × (sink.has_failed ≡ sink.had_failed)
-
--- some beginning of the bytes has the property
-pub record SomeBeginning (P : List ℕ → Type 0) (bytes : List ℕ) : Type 0 where
-  pub part : List ℕ
-  pub rest : List ℕ
-  pub split : bytes ≡ part ++ rest
-  pub holds : P part
 
 -- a beginning of the bytes was appended, and the rest of them was not
 abbrev pub AppendsPart : Option (List ℕ) → Option (List ℕ) → List ℕ → Type 0

@@ -1,12 +1,14 @@
 //! Lists of cells, one a line.
 
-ghost use Rattle.std.specs.Prelude.{◌≡◌, ◌≤◌, ◌<◌, ◌+◌, ◌*◌, ◌^◌, ◌⊎◌, ℕ, true, List, [], ◌∷◌, ◌++◌, length, Some, Result, Ok, IfOk, IfErr, IfSome, IfNone, OnOk, OnErr, IsErrOf};
+ghost use Rattle.std.specs.Prelude.{◌≡◌, ◌≢◌, ◌≤◌, ◌<◌, ◌*◌, ◌^◌, ◌⊎◌, ℕ, true, List, [], ◌∷◌, ◌++◌, length, Some, Result, Ok, IfOk, IfErr, IfSome, IfNone, OnOk, OnErr, IsErrOf};
 ghost use Rattle.h3_index.specs.Cell.{Address};
 ghost use Rattle.h3_index.specs.CellNumber.{cell_in};
 ghost use Rattle.h3_index.specs.Stream.{HasLeft};
 ghost use Rattle.h3_index.specs.declared.error.H3Error.{H3Error};
+ghost use Rattle.h3_lines.specs.Beginning.{SomeBeginning};
 ghost use Rattle.h3_lines.specs.List.{RefusesList, listed_cells, said_before, said_by, said_by_cell};
-ghost use Rattle.h3_lines.specs.Reading.{IsPlainLine, cells_before, is_unended, listed_after};
+ghost use Rattle.h3_lines.specs.Reading.{IsFaultyAfter, IsPlainLine, cells_before, is_unended, listed_after};
+ghost use Rattle.h3_lines.specs.Reads.{IsListWithinReads, IsWithinReads};
 
 use crate::counted::CountedReader;
 use crate::refusal::Refusal;
@@ -214,13 +216,16 @@ fn read_pages<'a, R: Source>(
 ) -> Result<(), Refusal>
     requires room { 0 < length page.old }
     ensures ok { OnOk result ((bytes : List ℕ) × HasLeft (R.left reader.old.source.now) bytes ×
-        (length bytes + length page.old ≤ reader.old.reads_left * length page.old) ×
+        IsWithinReads reader.old.reads_left (length page.old) bytes ×
         (listed_after list.old.cells.items list.old.line.items bytes
         ≡ listed_after list.new.cells.items list.new.line.items [])) }
     ensures err { IfErr result (λ e. (bytes : List ℕ) × HasLeft (R.left reader.old.source.now) bytes ×
         RefusesList
         ((R.has_failed reader.new.source.now ≡ true) ⊎ (reader.old.reads_left ≤ length bytes))
-        (listed_after list.old.cells.items list.old.line.items bytes) e) }
+        (listed_after list.old.cells.items list.old.line.items bytes) e ×
+        (e ≢ Refusal.Read → e ≢ Refusal.Memory → SomeBeginning
+        (λ part. IsFaultyAfter list.old.cells.items list.old.line.items part ×
+        (length part ≤ reader.old.reads_left * length page.old)) bytes)) }
     ensures sound { ¬ (IsErrOf result Refusal.Read) →
         R.has_failed reader.new.source.now ≡ R.has_failed reader.old.source.now }
     ensures same { reader.new.source.ghost_name ≡ reader.old.source.ghost_name }
@@ -243,11 +248,11 @@ fn read_list<R: Source>(
 ) -> Result<Vec<Cell>, Refusal>
     requires room { 0 < length page.old }
     ensures cells { IfOk result (λ cells. (list : List ℕ) × HasLeft (R.left input.old) list ×
-        (length list + length page.old ≤ limit * length page.old) ×
-        (listed_cells list ≡ Ok cells.items)) }
+        IsWithinReads limit (length page.old) list × (listed_cells list ≡ Ok cells.items)) }
     ensures refused { IfErr result (λ e. (list : List ℕ) × HasLeft (R.left input.old) list ×
         RefusesList ((R.has_failed input.new ≡ true) ⊎ (limit ≤ length list))
-        (listed_cells list) e) }
+        (listed_cells list) e ×
+        (e ≢ Refusal.Read → e ≢ Refusal.Memory → IsListWithinReads limit (length page.old) list)) }
     ensures sound { ¬ (IsErrOf result Refusal.Read)
         → R.has_failed input.new ≡ R.has_failed input.old }
 {
@@ -274,12 +279,13 @@ fn read_list<R: Source>(
 /// the index of no cell, the first faulty line's. `Refusal::Read` where a read fails, or the end is
 /// not found in 2^40 reads. `Refusal::Memory` where there is none for the page or for a cell.
 pub fn read_cells<R: Source>(alloc: Global, input: &mut R) -> Result<Vec<Cell>, Refusal>
-    // 2^40 reads of a page, of which the last finds the end
+    // 2^40 reads of a page find the end of the list, or its first faulty line
     ensures cells { IfOk result (λ cells. (list : List ℕ) × HasLeft (R.left input.old) list ×
-        (length list + 65536 ≤ 2 ^ 40 * 65536) × (listed_cells list ≡ Ok cells.items)) }
+        IsWithinReads (2 ^ 40) 65536 list × (listed_cells list ≡ Ok cells.items)) }
     ensures refused { IfErr result (λ e. (list : List ℕ) × HasLeft (R.left input.old) list ×
         RefusesList ((R.has_failed input.new ≡ true) ⊎ (2 ^ 40 ≤ length list))
-        (listed_cells list) e) }
+        (listed_cells list) e ×
+        (e ≢ Refusal.Read → e ≢ Refusal.Memory → IsListWithinReads (2 ^ 40) 65536 list)) }
     ensures sound { ¬ (IsErrOf result Refusal.Read)
         → R.has_failed input.new ≡ R.has_failed input.old }
 {
