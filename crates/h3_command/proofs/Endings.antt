@@ -100,9 +100,9 @@ table_answered about read value links ending input table out is file held short 
 -- ---- a run
 
 -- a source has some bytes left
-some_held : (told : Option (List ℕ)) → (bytes : List ℕ) × HasLeft told bytes
-some_held None = ([], tt)
-some_held (Some xs) = (xs, refl)
+some_left : (told : Option (List ℕ)) → (bytes : List ℕ) × HasLeft told bytes
+some_left None = ([], tt)
+some_left (Some xs) = (xs, refl)
 
 -- an answer that was written, where no write failed, is given
 gives_written : (a : Answer) (ending : Result (Unit {0}) Refusal) (status : ℕ) (s : Streams) → Writes a ending s.out → s.out.has_failed ≡ false → Reports ending status s.err → Gives a status s
@@ -133,11 +133,11 @@ with_memory memory takes (inr b) = inr (takes, b)
 
 answers : (r : Request) (ending : Result (Unit {0}) Refusal) (status : ℕ) (s : Streams) → Ends r s.input s.table ending s.out → Reports ending status s.err → Answers r status s
 answers (plain a) ending status s writes reports =
-    let (list, held) = some_held s.input.left in
-    let (file, kept) = some_held s.table.left in
+    let (list, held) = some_left s.input.left in
+    let (file, kept) = some_left s.table.left in
     record { list = list; file = file; list_told = held; file_told = kept; given = λ none. inl (gives_written a ending status s writes none.answer_written reports) }
 answers (of_list about) ending status s (list, held, writes) reports =
-    let (file, kept) = some_held s.table.left in
+    let (file, kept) = some_left s.table.left in
     record {
       list = list;
       file = file;
@@ -146,7 +146,7 @@ answers (of_list about) ending status s (list, held, writes) reports =
       given = λ none. with_memory true refl (gives_reading _ list _ s.input ending status s writes (none.list_read refl) none.answer_written reports);
     }
 answers (of_table about) ending status s (file, held, writes) reports =
-    let (list, kept) = some_held s.input.left in
+    let (list, kept) = some_left s.input.left in
     record {
       list = list;
       file = file;

@@ -24,7 +24,7 @@ abbrev pub source_use : {S : Type 0} → (S → Option (List ℕ)) → (S → Bo
 source_use left failed old new = record { left = left old; had_failed = failed old; has_failed = failed new }
 
 -- the streams of a run
-pub record Streams : Type 0 where
+pub record Streams : Type 1 where
   pub input : SourceUse
   pub table : SourceUse
   pub out : SinkUse
