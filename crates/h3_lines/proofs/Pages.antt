@@ -81,7 +81,7 @@ goes_whole {first-cells = fc} {first-line = fl} {cells} {line} r = subst (λ b. 
 -- the bytes are held, and led to the cells and the line so far
 pub reads_all : {old now : Option (List ℕ)} {limit reads size : ℕ} {first-cells : List Address} {first-line : List ℕ} {cells : List Address} {line : List ℕ}
     → Reads old now limit reads size first-cells first-line cells line → IsAtEnd now → 0 < reads
-    → (bytes : List ℕ) × HasLeft old bytes × (length bytes + size ≤ limit * size) × GoesOn first-cells first-line bytes cells line []
+    → (bytes : List ℕ) × HasLeft old bytes × IsWithinReads limit size bytes × GoesOn first-cells first-line bytes cells line []
 reads_all {old} {now} {limit} {reads} {size} r end some =
     let short : length r.bytes + reads * size ≤ limit * size = r.short in
     let one : size ≤ reads * size = one_at_least reads size some in
@@ -110,7 +110,7 @@ pub reads_refused : {old now : Option (List ℕ)} {limit reads size : ℕ} {firs
     → Reads old now limit reads size first-cells first-line cells line → (now' : Option (List ℕ)) (page : List ℕ) (n : ℕ) → Pulls now now' page n → n ≤ size → 0 < reads → (failed : Type 0) (e : Refusal)
     → ((rest : List ℕ) → RefusesList ⊥ (listed_after cells line (take n page ++ rest)) e)
     → (bytes : List ℕ) × HasLeft old bytes × RefusesList (failed ⊎ (limit ≤ length bytes)) (listed_after first-cells first-line bytes) e
-        × ((e ≡ Read → ⊥) → (e ≡ Memory → ⊥) → SomeBeginning (λ part. IsKnownFaultyAfter first-cells first-line part × (length part ≤ limit * size)) bytes)
+    × ((e ≡ Read → ⊥) → (e ≡ Memory → ⊥) → SomeBeginning (λ part. IsKnownFaultyAfter first-cells first-line part × (length part ≤ limit * size)) bytes)
 reads_refused {old} {now} {limit} {reads} {size} {first-cells = fc} {first-line = fl} {cells} {line} r now' page n p fits some failed e refused =
     let front = take n page in
     let (rest, held) = all_bytes old now' (r.bytes ++ front) (Consumes-trans old now now' r.bytes front r.told p.taken) in
@@ -121,9 +121,12 @@ reads_refused {old} {now} {limit} {reads} {size} {first-cells = fc} {first-line 
     let short : length r.bytes + reads * size ≤ limit * size = r.short in
     let one : size ≤ reads * size = one_at_least reads size some in
     let parts : length (r.bytes ++ front) ≡ length r.bytes + length front = length-append r.bytes front in
-    let within : length (r.bytes ++ front) ≤ limit * size = omega (arith, length-take {A = ℕ}) in
-    (bytes, held, fits_any (failed ⊎ (limit ≤ length bytes)) _ e (all rest),
-    λ other memory. record { part = r.bytes ++ front; rest = rest; split = refl; holds = (faulty_after fc fl (r.bytes ++ front) e all other memory, within) })
+    let within : length (r.bytes ++ front) ≤ limit * size = omega (arith, length-take {A = ℕ}) in (
+      bytes,
+      held,
+      fits_any (failed ⊎ (limit ≤ length bytes)) _ e (all rest),
+      λ other memory. record { part = r.bytes ++ front; rest = rest; split = refl; holds = (faulty_after fc fl (r.bytes ++ front) e all other memory, within) },
+    )
 
 -- a read fails, or none is left
 pub reads_stopped : {old now : Option (List ℕ)} {limit reads size : ℕ} {first-cells : List Address} {first-line : List ℕ} {cells : List Address} {line : List ℕ}
@@ -170,18 +173,21 @@ pub reads_left : {old now : Option (List ℕ)} {limit reads size : ℕ} {first-c
     → (bytes : List ℕ) → old ≡ Some bytes → (left : List ℕ) × (now' ≡ Some left) × StopsAfter first-cells first-line size bytes left
 reads_left {old} {now} {cells} {line} r now' page n p fits unended short bytes is =
     let (mid, known, split) = left_of old now r.bytes bytes r.told is in
-    let (left, known', split') = left_of now now' (take n page) mid p.taken known in
-    (left, known', record {
-      before = r.bytes;
-      last = take n page;
-      split = split ∙ ap (λ l. r.bytes ++ l) split' ∙ sym (append_assoc r.bytes (take n page) left);
-      within = omega (arith, length-take {A = ℕ});
-      cells' = cells;
-      line' = line;
-      unended = unended;
-      short = short;
-      goes = goes_whole r;
-    })
+    let (left, known', split') = left_of now now' (take n page) mid p.taken known in (
+      left,
+      known',
+      record {
+        before = r.bytes;
+        last = take n page;
+        split = split ∙ ap (λ l. r.bytes ++ l) split' ∙ sym (append_assoc r.bytes (take n page) left);
+        within = omega (arith, length-take {A = ℕ});
+        cells' = cells;
+        line' = line;
+        unended = unended;
+        short = short;
+        goes = goes_whole r;
+      },
+    )
 
 -- where no read is left, none is made
 pub reads_limited : {old now : Option (List ℕ)} {limit reads size : ℕ} {first-cells : List Address} {first-line : List ℕ} {cells : List Address} {line : List ℕ}

@@ -42,12 +42,15 @@ none_after (x ∷ xs) ys is = absurd (cc)
 module _ {S : Type 0} (taken : S → Option (List ℕ)) (failed : S → Bool) (first mid last : S) where
   -- what was taken of an answer, after bytes that were taken
   part_after : (done bytes : List ℕ) → Appends (taken first) (taken mid) done → failed mid ≡ failed first → TakesPart (sink_use taken failed mid last) bytes → TakesPart (sink_use taken failed first last) (done ++ bytes)
-  part_after done bytes grown same (inl p, fault) = (inl (record {
-    part = done ++ p.part;
-    rest = p.rest;
-    split = ap (λ l. done ++ l) p.split ∙ sym (append_assoc done p.part p.rest);
-    holds = Appends-trans (taken first) (taken mid) (taken last) done p.part grown p.holds;
-  }), fault)
+  part_after done bytes grown same (inl p, fault) = (
+    inl (record {
+      part = done ++ p.part;
+      rest = p.rest;
+      split = ap (λ l. done ++ l) p.split ∙ sym (append_assoc done p.part p.rest);
+      holds = Appends-trans (taken first) (taken mid) (taken last) done p.part grown p.holds;
+    }),
+    fault,
+  )
   part_after done bytes grown same (inr (whole, more, sound, kept), fault) =
       (inr (whole, Appends-trans (taken first) (taken mid) (taken whole) done bytes grown more, sound ∙ same, kept), fault)
 

@@ -1,5 +1,5 @@
 -- How far a list is read.
-use Rattle.std.specs.Prelude.{◌≡◌, ℕ, ◌+◌, ◌≤◌, ◌*◌, ◌⊎◌, List, [], ◌∷◌, ◌++◌, length, Result, Err, IsOk}
+use Rattle.std.specs.Prelude.{◌≡◌, ℕ, ◌+◌, ◌≤◌, ◌*◌, ◌⊎◌, List, [], ◌∷◌, ◌++◌, length, Err, IsOk}
 use Rattle.h3_index.specs.declared.error.H3Error.{H3Error}
 use Rattle.h3_lines.specs.Beginning.{SomeBeginning}
 use Rattle.h3_lines.specs.List.{cells_said, lines_of, listed_cells}

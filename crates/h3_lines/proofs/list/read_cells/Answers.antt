@@ -33,5 +33,5 @@ returns-clause-stops g c =
     let full : length c.deref_mut.result.now ≡ 65536 = first_of (search rules, grind (arith, common_steps)) in
     IfErr-weaker c.read_list.result _ _
     (λ e stops sound list known. (
-        let (left, is, stopped) = stops sound list known in
-        (left, is, rw full at stopped))) c.read_list.ensures.stops
+    let (left, is, stopped) = stops sound list known in
+    (left, is, rw full at stopped))) c.read_list.ensures.stops

@@ -31,16 +31,16 @@ pub returns-in_err-read-clause-stops : goal.returns-in_err-read-clause-stops
 returns-in_err-read-clause-stops g c =
     let p = err_from_is_err_and c.from_residual.result c.from_residual.ensures.1 in
     rw (p.1, p.2) (λ other list known. (
-        let (left, is, stops) = c.in_err-read.ensures.stops (λ read. search (rules, other read, c.read_pages-read.ensures.same)) list known in
-        (left, search (rules, is, c.read_pages-read.ensures.same), stops_from_start c.new-list.ensures.cells c.new-list.ensures.line stops)))
+    let (left, is, stops) = c.in_err-read.ensures.stops (λ read. search (rules, other read, c.read_pages-read.ensures.same)) list known in
+    (left, search (rules, is, c.read_pages-read.ensures.same), stops_from_start c.new-list.ensures.cells c.new-list.ensures.line stops)))
 
 pub returns-clause-stops : goal.returns-clause-stops
 returns-clause-stops g c =
     let after = c.read_pages-read.new.list in
     IfErr-weaker c.finish.result _ _
     (λ e done other list known. (
-        let (is, goes) = c.in_ok-read.ensures.whole list known in
-        ([], search (rules, is, c.read_pages-read.ensures.same), stops_at_end (length c.args.page.now) c.new-list.ensures.cells c.new-list.ensures.line after.unended after.short goes))) c.finish.ensures.err
+    let (is, goes) = c.in_ok-read.ensures.whole list known in
+    ([], search (rules, is, c.read_pages-read.ensures.same), stops_at_end (length c.args.page.now) c.new-list.ensures.cells c.new-list.ensures.line after.unended after.short goes))) c.finish.ensures.err
 
 pub returns-clause-whole : goal.returns-clause-whole
 returns-clause-whole g c = λ ok list known. search (rules, (c.in_ok-read.ensures.whole list known).0, c.read_pages-read.ensures.same)

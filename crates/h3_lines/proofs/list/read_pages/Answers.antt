@@ -42,10 +42,10 @@ pub returns-in_err-count-clause-stops : goal.returns-in_err-count-clause-stops
 returns-in_err-count-clause-stops g c =
     let p = err_from_is_err_and c.from_residual.result c.from_residual.ensures.1 in
     rw (p.1, p.2, c.in_err-count.ensures.read) (λ sound bytes known. (
-        elim c.in_err-count.ensures.err [
-          | inl none ↦ reads_limited c.loop-count.invariant.reads _ (ap (g.R.Source.left) (c.read.ensures.unread none)) c.loop-count.list.unended c.loop-count.list.short bytes known
-          | inr failed ↦ absurd (cc (failed, sound refl))
-        ]))
+    elim c.in_err-count.ensures.err [
+      | inl none ↦ reads_limited c.loop-count.invariant.reads _ (ap (g.R.Source.left) (c.read.ensures.unread none)) c.loop-count.list.unended c.loop-count.list.short bytes known
+      | inr failed ↦ absurd (cc (failed, sound refl))
+    ]))
 
 pub returns-in_err-take-clause-stops : goal.returns-in_err-take-clause-stops
 returns-in_err-take-clause-stops g c =
