@@ -1,5 +1,5 @@
 -- How a run ends that reads a list or a table, and what a run does whose ending is known.
-use Rattle.std.proofs.Common.{◌≡◌, ℕ, ◌⊎◌, Bool, true, false, List, Option, None, Some, Result, Ok, Err, IsOk, IsTrue, [], sym, subst, refl, inl, inr}
+use Rattle.std.proofs.Common.{◌≡◌, ℕ, ◌^◌, ◌⊎◌, Bool, true, false, List, Option, None, Some, Result, Ok, Err, IsTrue, [], sym, subst, refl, inl, inr}
 use Rattle.h3_index.specs.Cell.{Address}
 use Rattle.h3_index.specs.Stream.{HasLeft}
 use Rattle.h3_index.specs.declared.error.H3Error.{H3Error}
@@ -10,13 +10,14 @@ use Rattle.h3_lattice.specs.declared.error.TableError.{TableError}
 use Rattle.h3_lattice.specs.declared.error.TableError.TheVariants as fault
 use Rattle.h3_lines.specs.Answer.{Answer, answer_or_error, out_of_memory}
 use Rattle.h3_lines.specs.List.{RefusesList, listed_cells}
+use Rattle.h3_lines.specs.Reads.{IsListWithinReads, IsWithinReads}
 use Rattle.h3_lines.specs.Refusal.{table_refusal}
 use Rattle.h3_lines.specs.declared.refusal.Refusal.{Refusal}
 use Rattle.h3_lines.specs.declared.refusal.Refusal.TheVariants.{Error, Memory, Read, Write, Table, TableOpen}
 use Rattle.h3_lines.specs.Writing.{IsLeft, Reports, SinkUse, Writes}
 use Rattle.h3_command.specs.Answer.{Request, about_table, with_table, unless_faulty}
 use Rattle.h3_command.specs.Answer.Request.{of_list, of_table, plain}
-use Rattle.h3_command.specs.Run.{Answers, Ends, Gives, IsReadAsList, IsSound, IsWithinReads, ReadFails, Runs, SourceUse, Streams, WritesReading}
+use Rattle.h3_command.specs.Run.{Answers, Ends, Gives, IsSound, ReadFails, Runs, SourceUse, Streams, WritesReading}
 use Rattle.h3_command.proofs.Written.{nothing, writes_refused}
 
 -- an answer to what was read is written, and no read failed
@@ -33,26 +34,24 @@ reading_written a bytes was_read source (Err Write) out all sound writes = (all,
 
 -- ---- a list
 
-no_error : {A E : Type 0} {r : Result A E} {e : E} → IsOk r → r ≡ Err e → ⊥
-no_error {r = Ok a} ok is = cc is
-no_error {r = Err d} ok is = cc ok
-
 -- the list is refused
 pub list_refused : (about : List Address → Answer) (list : List ℕ) (input : SourceUse) (e : Refusal) (out : SinkUse) → RefusesList (ReadFails input list) (listed_cells list) e
-    → ((e ≡ Read → ⊥) → IsSound input) → IsLeft out → WritesReading (answer_or_error about (listed_cells list)) list (IsReadAsList list) input (Err e) out
-list_refused about list input (Error d) out is sound left =
-    (λ ok. absurd (no_error ok is), sound (λ never. cc never), subst (λ cells. Writes (answer_or_error about cells) (Err (Error d)) out) (sym is) (writes_refused d out left))
-list_refused about list input Memory out is sound left = (sound (λ never. cc never), left)
-list_refused about list input Read out fails sound left = (fails, left)
-list_refused about list input Write out never sound left = absurd never
-list_refused about list input (Table d) out never sound left = absurd never
-list_refused about list input TableOpen out never sound left = absurd never
+    → ((e ≡ Read → ⊥) → (e ≡ Memory → ⊥) → IsListWithinReads (2 ^ 40) 65536 list) → ((e ≡ Read → ⊥) → IsSound input) → IsLeft out
+    → WritesReading (answer_or_error about (listed_cells list)) list (IsListWithinReads (2 ^ 40) 65536 list) input (Err e) out
+list_refused about list input (Error d) out is within sound left =
+    (within (λ never. cc never) (λ never. cc never), sound (λ never. cc never), subst (λ cells. Writes (answer_or_error about cells) (Err (Error d)) out) (sym is) (writes_refused d out left))
+list_refused about list input Memory out is within sound left = (sound (λ never. cc never), left)
+list_refused about list input Read out fails within sound left = (fails, left)
+list_refused about list input Write out never within sound left = absurd never
+list_refused about list input (Table d) out never within sound left = absurd never
+list_refused about list input TableOpen out never within sound left = absurd never
 
 -- the list is read, and the answer about its cells is written
 pub list_written : (about : List Address → Answer) (list : List ℕ) (cells : List Address) (input : SourceUse) (ending : Result (Unit {0}) Refusal) (out : SinkUse) → listed_cells list ≡ Ok cells
-    → IsWithinReads 65536 list → IsSound input → Writes (about cells) ending out → WritesReading (answer_or_error about (listed_cells list)) list (IsReadAsList list) input ending out
+    → IsWithinReads (2 ^ 40) 65536 list → IsSound input → Writes (about cells) ending out
+    → WritesReading (answer_or_error about (listed_cells list)) list (IsListWithinReads (2 ^ 40) 65536 list) input ending out
 list_written about list cells input ending out is short sound writes =
-    reading_written _ list _ input ending out (λ ok. short) sound (subst (λ read. Writes (answer_or_error about read) ending out) (sym is) writes)
+    reading_written _ list _ input ending out (inl short) sound (subst (λ read. Writes (answer_or_error about read) ending out) (sym is) writes)
 
 -- ---- a table
 
@@ -83,7 +82,7 @@ table_refuses a first (fault.Corner b d) file table out is was_read all sound le
 
 -- the table is refused
 pub table_refused_so : {A : Type 0} (about : A → Links → Answer) (read : Result A H3Error) (value : A) (e : TableError) (input table : SourceUse) (out : SinkUse) → Ok value ≡ read
-    → (file : List ℕ) × HasLeft table.left file × RefusesTable (ReadFails table file) (table_fault (records_of file)) e × ((e ≡ fault.Read → ⊥) → (e ≡ fault.Memory → ⊥) → IsWithinReads 4096 file)
+    → (file : List ℕ) × HasLeft table.left file × RefusesTable (ReadFails table file) (table_fault (records_of file)) e × ((e ≡ fault.Read → ⊥) → (e ≡ fault.Memory → ⊥) → IsWithinReads (2 ^ 40) 4096 file)
     → ((e ≡ fault.Read → ⊥) → IsSound table) → IsLeft out
     → Ends (with_table about read) input table (Err (table_refusal e)) out
 table_refused_so about read value e input table out is (file, held, refuses, all) sound left =
@@ -91,7 +90,7 @@ table_refused_so about read value e input table out is (file, held, refuses, all
 
 -- the table is read, and the answer about its links is written
 pub table_answered : {A : Type 0} (about : A → Links → Answer) (read : Result A H3Error) (value : A) (links : Links) (ending : Result (Unit {0}) Refusal) (input table : SourceUse) (out : SinkUse) → Ok value ≡ read
-    → (file : List ℕ) → HasLeft table.left file → IsWithinReads 4096 file → table_fault (records_of file) ≡ None → links ≡ links_of (records_of file) → IsSound table → Writes (about value links) ending out
+    → (file : List ℕ) → HasLeft table.left file → IsWithinReads (2 ^ 40) 4096 file → table_fault (records_of file) ≡ None → links ≡ links_of (records_of file) → IsSound table → Writes (about value links) ending out
     → Ends (with_table about read) input table ending out
 table_answered about read value links ending input table out is file held short none same sound writes =
     let about_file : Writes (about_table (about value) file) ending out =
@@ -101,9 +100,9 @@ table_answered about read value links ending input table out is file held short 
 -- ---- a run
 
 -- a source has some bytes left
-some_held : (told : Option (List ℕ)) → (bytes : List ℕ) × HasLeft told bytes
-some_held None = ([], tt)
-some_held (Some xs) = (xs, refl)
+some_left : (told : Option (List ℕ)) → (bytes : List ℕ) × HasLeft told bytes
+some_left None = ([], tt)
+some_left (Some xs) = (xs, refl)
 
 -- an answer that was written, where no write failed, is given
 gives_written : (a : Answer) (ending : Result (Unit {0}) Refusal) (status : ℕ) (s : Streams) → Writes a ending s.out → s.out.has_failed ≡ false → Reports ending status s.err → Gives a status s
@@ -134,11 +133,11 @@ with_memory memory takes (inr b) = inr (takes, b)
 
 answers : (r : Request) (ending : Result (Unit {0}) Refusal) (status : ℕ) (s : Streams) → Ends r s.input s.table ending s.out → Reports ending status s.err → Answers r status s
 answers (plain a) ending status s writes reports =
-    let (list, held) = some_held s.input.left in
-    let (file, kept) = some_held s.table.left in
+    let (list, held) = some_left s.input.left in
+    let (file, kept) = some_left s.table.left in
     record { list = list; file = file; list_told = held; file_told = kept; given = λ none. inl (gives_written a ending status s writes none.answer_written reports) }
 answers (of_list about) ending status s (list, held, writes) reports =
-    let (file, kept) = some_held s.table.left in
+    let (file, kept) = some_left s.table.left in
     record {
       list = list;
       file = file;
@@ -147,7 +146,7 @@ answers (of_list about) ending status s (list, held, writes) reports =
       given = λ none. with_memory true refl (gives_reading _ list _ s.input ending status s writes (none.list_read refl) none.answer_written reports);
     }
 answers (of_table about) ending status s (file, held, writes) reports =
-    let (list, kept) = some_held s.input.left in
+    let (list, kept) = some_left s.input.left in
     record {
       list = list;
       file = file;

@@ -1,5 +1,5 @@
 -- What a run does with its streams.
-use Rattle.std.specs.Prelude.{◌≡◌, ℕ, ◌+◌, ◌≤◌, ◌*◌, ◌^◌, ◌⊎◌, Bool, true, false, List, length, Option, Result, Err, IsOk, IsTrue}
+use Rattle.std.specs.Prelude.{◌≡◌, ℕ, ◌≤◌, ◌^◌, ◌⊎◌, Bool, true, false, List, length, Option, Result, Err, IsTrue}
 use Rattle.h3_index.specs.Cell.{Address}
 use Rattle.h3_index.specs.Stream.{HasLeft}
 use Rattle.h3_lattice.specs.Links.{Links}
@@ -8,6 +8,7 @@ use Rattle.h3_lines.specs.declared.refusal.Refusal.TheVariants.{Memory, Read}
 use Rattle.h3_lines.specs.Answer.{Answer, answer_or_error, out_of_memory}
 use Rattle.h3_lines.specs.Writing.{IsLeft, Reports, SinkUse, Takes, Writes}
 use Rattle.h3_lines.specs.List.{listed_cells}
+use Rattle.h3_lines.specs.Reads.{IsListWithinReads, IsWithinReads}
 use Rattle.h3_command.specs.Answer.{Request, about_table, answer_to, reads_list, reads_table, takes_memory}
 use Rattle.h3_command.specs.Answer.Request.{plain, of_list, of_table}
 
@@ -24,7 +25,7 @@ abbrev pub source_use : {S : Type 0} → (S → Option (List ℕ)) → (S → Bo
 source_use left failed old new = record { left = left old; had_failed = failed old; has_failed = failed new }
 
 -- the streams of a run
-pub record Streams : Type 0 where
+pub record Streams : Type 1 where
   pub input : SourceUse
   pub table : SourceUse
   pub out : SinkUse
@@ -38,10 +39,6 @@ IsSound source = source.has_failed ≡ source.had_failed
 abbrev pub ReadFails : SourceUse → List ℕ → Type 0
 ReadFails source bytes = (source.has_failed ≡ true) ⊎ (2 ^ 40 ≤ length bytes)
 
--- 2^40 reads of this many bytes find the end of the bytes: of these reads the last takes none
-abbrev pub IsWithinReads : ℕ → List ℕ → Type 0
-IsWithinReads page bytes = length bytes + page ≤ 2 ^ 40 * page
-
 -- ---- how a run ends
 
 -- The answer to these bytes of a source is written, no read fails, and this holds of the bytes. Or there is no memory,
@@ -51,20 +48,16 @@ WritesReading a bytes was_read source (Err Memory) out = IsSound source × IsLef
 WritesReading a bytes was_read source (Err Read) out = ReadFails source bytes × IsLeft out
 WritesReading a bytes was_read source ending out = was_read × IsSound source × Writes a ending out
 
--- a list without a faulty line ends within the reads
-abbrev pub IsReadAsList : List ℕ → Type 0
-IsReadAsList list = IsOk (listed_cells list) → IsWithinReads 65536 list
-
 -- there are bytes of the list, those left in the source where these are known, and the answer about the cells in them
--- is written
+-- is written, where 2^40 reads find the end of the list or a faulty line
 abbrev pub WritesOfList : (List Address → Answer) → SourceUse → Result (Unit {0}) Refusal → SinkUse → Type 0
 WritesOfList about input ending out =
-    (list : List ℕ) × HasLeft input.left list × WritesReading (answer_or_error about (listed_cells list)) list (IsReadAsList list) input ending out
+    (list : List ℕ) × HasLeft input.left list × WritesReading (answer_or_error about (listed_cells list)) list (IsListWithinReads (2 ^ 40) 65536 list) input ending out
 
--- the same of a table, which ends within the reads, and the answer about its links
+-- the same of a table, where 2^40 reads find its end, and the answer about its links
 abbrev pub WritesOfTable : (Links → Answer) → SourceUse → Result (Unit {0}) Refusal → SinkUse → Type 0
 WritesOfTable about table ending out =
-    (file : List ℕ) × HasLeft table.left file × WritesReading (about_table about file) file (IsWithinReads 4096 file) table ending out
+    (file : List ℕ) × HasLeft table.left file × WritesReading (about_table about file) file (IsWithinReads (2 ^ 40) 4096 file) table ending out
 
 -- how a run ends, by its request
 abbrev pub Ends : Request → SourceUse → SourceUse → Result (Unit {0}) Refusal → SinkUse → Type 0

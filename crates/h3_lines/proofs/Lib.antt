@@ -1,4 +1,5 @@
 pub mod Blocks
+pub mod GoingOn
 pub mod Lengths
 pub mod Lines
 pub mod ListLines

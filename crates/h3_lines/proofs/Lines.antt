@@ -7,7 +7,7 @@ use Rattle.std.specs.Io.KnownBytes.{Appends}
 use Rattle.std.proofs.lemmas.Iterator.{YieldsList}
 use Rattle.std.proofs.lemmas.Iterator.Consumers.{YieldsList-so_far, YieldsList-turn, YieldsList-end}
 use Rattle.h3_lines.specs.Answer.{Answer, before}
-use Rattle.h3_lines.specs.Writing.{AppendsUpTo, Writes}
+use Rattle.h3_lines.specs.Writing.{AppendsUpTo, Writes, sink_use}
 use Rattle.h3_lines.specs.declared.refusal.Refusal.{Refusal}
 use Rattle.h3_lines.proofs.Written.{writes_after}
 
@@ -67,10 +67,9 @@ module _ {I : Type 0} (answer : List I → Answer) where
   }
 
   -- the answer to all items is written, where what is held back and the answer to the others are
-  pub held_ends : {items : List I} {old mid : Option (List ℕ)} {held : List ℕ} → Held items old mid held → (all rest : List I) → all ≡ items ++ rest
-      → (new : Option (List ℕ)) (had_failed have_failed has_failed : Bool) → have_failed ≡ had_failed → (ending : Result (Unit {0}) Refusal)
-      → Writes (before held (answer rest)) ending (record { before = mid; after = new; had_failed = have_failed; has_failed = has_failed })
-      → Writes (answer all) ending (record { before = old; after = new; had_failed = had_failed; has_failed = has_failed })
-  held_ends {items} {old} {mid} {held} h all rest split new had_failed have_failed has_failed same ending writes =
+  pub held_ends : {S : Type 0} (taken : S → Option (List ℕ)) (failed : S → Bool) (first mid last : S) {items : List I} {held : List ℕ} → Held items (taken first) (taken mid) held
+      → (all rest : List I) → all ≡ items ++ rest → failed mid ≡ failed first → (ending : Result (Unit {0}) Refusal)
+      → Writes (before held (answer rest)) ending (sink_use taken failed mid last) → Writes (answer all) ending (sink_use taken failed first last)
+  held_ends taken failed first mid last {items} {held} h all rest split same ending writes =
       let is : answer all ≡ before h.done (before held (answer rest)) = ap answer split ∙ h.so_far rest ∙ sym (before_before h.done held (answer rest)) in
-      rw is (writes_after (before held (answer rest)) h.done old had_failed ending (record { before = mid; after = new; had_failed = have_failed; has_failed = has_failed }) h.grown same writes)
+      rw is (writes_after taken failed first mid last (before held (answer rest)) h.done ending h.grown same writes)

@@ -10,7 +10,7 @@ use Rattle.h3_index.specs.declared.error.H3Error.{H3Error}
 use Rattle.h3_index.specs.declared.error.H3Error.TheVariants.{Failed}
 use Rattle.h3_lines.specs.declared.refusal.Refusal.{Refusal}
 use Rattle.h3_lines.specs.List.{RefusesList, lines_of, listed_cells, said_before, said_by, with_first}
-use Rattle.h3_lines.specs.Reading.{cells_before, is_unended, listed_after}
+use Rattle.h3_lines.specs.Reading.{GoesOn, cells_before, is_unended, listed_after}
 
 both : (b n : Bool) → (not b && n) ≡ true → (b ≡ false) × (n ≡ true)
 both true n h = absurd (cc)
@@ -87,9 +87,15 @@ listed_ended cells kept line bytes whole rest same is h k =
 
 pub line_taken : (cells kept cells' : List Address) (line bytes whole line' : List ℕ) → kept ≡ cells → whole ≡ line ++ bytes → is_unended line ≡ true → is_unended bytes ≡ true → line' ≡ []
     → ((later : Result (List Address) H3Error) → cells_before kept (said_before (said_by whole) later) ≡ cells_before cells' later)
-    → (rest : List ℕ) → listed_after cells line (bytes ++ 10 ∷ rest) ≡ listed_after cells' line' rest
+    → (rest : List ℕ) → GoesOn cells line (bytes ++ 10 ∷ rest) cells' line' rest
 line_taken cells kept cells' line bytes whole line' same is h k none taken rest =
-    rw none (listed_ended cells kept line bytes whole rest same is h k ∙ taken (listed_cells rest))
+    let regroup : line ++ (bytes ++ 10 ∷ rest) ≡ (line ++ bytes) ++ 10 ∷ rest = sym (append_assoc line bytes (10 ∷ rest)) in
+    let ends : lines_of (line ++ (bytes ++ 10 ∷ rest)) ≡ (line ++ bytes) ∷ lines_of rest = ap lines_of regroup ∙ lines_at_feed (line ++ bytes) rest (is_unended-append line bytes h k) in
+    record {
+      ended = whole ∷ [];
+      lines = rw (none, is) ends;
+      said = λ later. ap (λ found. cells_before found (said_before (said_by whole) later)) (sym same) ∙ taken later;
+    }
 
 pub line_refused : (cells kept : List Address) (line bytes whole : List ℕ) → kept ≡ cells → whole ≡ line ++ bytes → is_unended line ≡ true → is_unended bytes ≡ true → (e : Refusal)
     → ((later : Result (List Address) H3Error) → RefusesList ⊥ (cells_before kept (said_before (said_by whole) later)) e)

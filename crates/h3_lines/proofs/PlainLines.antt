@@ -9,7 +9,8 @@ use Rattle.h3_index.specs.Cell.{Address}
 use Rattle.h3_index.specs.declared.error.H3Error.{H3Error}
 use Rattle.h3_lines.specs.declared.refusal.Refusal.{Refusal}
 use Rattle.h3_lines.specs.List.{RefusesList, said_before, said_by, said_by_cell, said_by_index}
-use Rattle.h3_lines.specs.Reading.{IsPlainLine, cells_before, is_unended, listed_after}
+use Rattle.h3_lines.specs.Reading.{GoesOn, IsPlainLine, cells_before, is_unended, listed_after}
+use Rattle.h3_lines.proofs.GoingOn.{goes_then}
 use Rattle.h3_lines.proofs.ListLines.{line_refused, line_taken, page_refused, split_whole}
 
 nothing_left : (rest : List ℕ) (b : Bool) → (length rest == 0) ≡ b → (n : ℕ) → number_spelled (without_prefix rest) ≡ Some n → b ≡ false
@@ -55,7 +56,7 @@ plain_is bytes index within feed digits spells =
 
 pub plain_taken : (cells cells' : List Address) (line bytes after : List ℕ) (index : ℕ) (said : Result (Option Address) H3Error) → line ≡ [] → IsPlainLine bytes index after → said ≡ said_by_cell (cell_in index)
     → ((later : Result (List Address) H3Error) → cells_before cells (said_before said later) ≡ cells_before cells' later)
-    → (rest : List ℕ) → listed_after cells line (bytes ++ rest) ≡ listed_after cells' line (after ++ rest)
+    → (rest : List ℕ) → GoesOn cells line (bytes ++ rest) cells' line (after ++ rest)
 plain_taken cells cells' line bytes after index said none p says taken rest =
     let regroup : bytes ++ rest ≡ p.line ++ 10 ∷ (after ++ rest) = ap (λ l. l ++ rest) p.split ∙ append_assoc p.line (10 ∷ after) rest in
     rw (none, regroup) (line_taken cells cells cells' [] p.line p.line [] refl refl refl p.unended refl (λ later. ap (λ s. cells_before cells (said_before s later)) (p.says ∙ sym says) ∙ taken later) (after ++ rest))
@@ -74,11 +75,12 @@ plain_shorter bytes after index p =
     omega (arith, whole)
 
 -- a line that ended, and then plain lines
-pub ended_then : (whole : Result (List Address) H3Error) (cells cells' : List Address) (before before' bytes line after rest : List ℕ)
-    → whole ≡ listed_after cells before (bytes ++ rest) → bytes ≡ line ++ 10 ∷ after → ((rest : List ℕ) → listed_after cells before (line ++ 10 ∷ rest) ≡ listed_after cells' before' rest)
-    → whole ≡ listed_after cells' before' (after ++ rest)
-ended_then whole cells cells' before before' bytes line after rest is split taken =
-    is ∙ ap (listed_after cells before) (ap (λ l. l ++ rest) split ∙ append_assoc line (10 ∷ after) rest) ∙ taken (after ++ rest)
+pub ended_then : {start cells cells' : List Address} {first before before' front : List ℕ} (bytes line after rest : List ℕ)
+    → GoesOn start first front cells before (bytes ++ rest) → bytes ≡ line ++ 10 ∷ after → ((rest : List ℕ) → GoesOn cells before (line ++ 10 ∷ rest) cells' before' rest)
+    → GoesOn start first front cells' before' (after ++ rest)
+ended_then {cells} {cells'} {before} {before'} bytes line after rest so_far split taken =
+    let regroup : bytes ++ rest ≡ line ++ 10 ∷ (after ++ rest) = ap (λ l. l ++ rest) split ∙ append_assoc line (10 ∷ after) rest in
+    goes_then so_far (subst (λ l. GoesOn cells before l cells' before' (after ++ rest)) (sym regroup) (taken (after ++ rest)))
 
 pub refused_then : (whole list : Result (List Address) H3Error) (e : Refusal) → whole ≡ list → RefusesList ⊥ list e → RefusesList ⊥ whole e
 refused_then whole list e is = subst (λ l. RefusesList ⊥ l e) (sym is)

@@ -23,12 +23,12 @@ abbrev pub link_line : List ℕ → ℕ → Direction → List ℕ
 link_line words base d = words ++ decimal base ++ 32 ∷ decimal (digit_of d) ++ 10 ∷ []
 
 -- the line of a read that failed
-abbrev pub read_line : List ℕ
-read_line = codes "fault: read" ++ 10 ∷ []
+abbrev pub read_fault_line : List ℕ
+read_fault_line = codes "fault: read" ++ 10 ∷ []
 
 -- the line of an error of a base cell table
 abbrev pub table_line : TableError → List ℕ
-table_line fault.Read = read_line
+table_line fault.Read = read_fault_line
 table_line fault.Memory = error_line MemoryAlloc
 table_line (fault.Form row) = numbered_line (codes "table: form ") row
 table_line (fault.Range row) = numbered_line (codes "table: range ") row
@@ -42,7 +42,7 @@ table_line (fault.Corner base d) = link_line (codes "table: corner ") base d
 abbrev pub refusal_line : Refusal → List ℕ
 refusal_line (Error e) = error_line e
 refusal_line Memory = error_line MemoryAlloc
-refusal_line Read = read_line
+refusal_line Read = read_fault_line
 refusal_line Write = codes "fault: write" ++ 10 ∷ []
 refusal_line (Table e) = table_line e
 refusal_line TableOpen = codes "table: open" ++ 10 ∷ []

@@ -1,22 +1,31 @@
 -- What is written to a sink: bytes, an answer, the line of an error.
-use Rattle.std.specs.Prelude.{◌≡◌, ℕ, Bool, true, false, List, [], ◌++◌, ⊤, Option, None, Some, Result, Ok, Err, IsErr}
+use Rattle.std.specs.Prelude.{◌≡◌, ℕ, ◌⊎◌, Bool, true, false, List, [], ◌++◌, Option, Result, Ok, Err, IsErr}
 use Rattle.std.specs.Io.KnownBytes.{Appends, Keeps}
+use Rattle.h3_index.specs.Stream.{KeepsOrHides}
 use Rattle.h3_lines.specs.Answer.{Answer}
+use Rattle.h3_lines.specs.Beginning.{SomeBeginning}
 use Rattle.h3_lines.specs.Refusal.{ending_line, ending_status}
 use Rattle.h3_lines.specs.declared.refusal.Refusal.{Refusal}
 use Rattle.h3_lines.specs.declared.refusal.Refusal.TheVariants.{Error, Memory, Read, Write, Table, TableOpen}
 
--- a sink over a call: the bytes that it had taken and has taken, where they are known, and whether it had failed and
--- has
-pub record SinkUse : Type 0 where
+-- There is a state of the sink in which it has taken these bytes, with no failed call, and in the new one they are kept or
+-- no longer known, as by a flush that fails. A function over any sink knows of such a state only by pushing the bytes.
+abbrev pub MayHaveTaken : {S : Type 0} → (S → Option (List ℕ)) → (S → Bool) → S → S → List ℕ → Type 0
+MayHaveTaken {S = S} taken failed old new bytes =
+    (whole : S) × Appends (taken old) (taken whole) bytes × (failed whole ≡ failed old) × KeepsOrHides (taken whole) (taken new)
+
+-- a sink over a call: the bytes that it had taken and has taken, where they are known, whether it had failed and has, and
+-- which bytes it may have taken before a flush that failed
+pub record SinkUse : Type 1 where
   pub before : Option (List ℕ)
   pub after : Option (List ℕ)
   pub had_failed : Bool
   pub has_failed : Bool
+  pub may_have_taken : List ℕ → Type 0
 
 abbrev pub sink_use : {S : Type 0} → (S → Option (List ℕ)) → (S → Bool) → S → S → SinkUse
 sink_use taken failed old new =
-    record { before = taken old; after = taken new; had_failed = failed old; has_failed = failed new }
+    record { before = taken old; after = taken new; had_failed = failed old; has_failed = failed new; may_have_taken = MayHaveTaken taken failed old new }
 
 -- the sink took nothing, and no call of it failed
 abbrev pub IsLeft : SinkUse → Type 0
@@ -25,13 +34,6 @@ IsLeft sink = Keeps sink.before sink.after × (sink.has_failed ≡ sink.had_fail
 -- the sink took these bytes, and no call of it failed
 abbrev pub Takes : SinkUse → List ℕ → Type 0
 Takes sink bytes = Appends sink.before sink.after bytes × (sink.has_failed ≡ sink.had_failed)
-
--- some beginning of the bytes has the property
-pub record SomeBeginning (P : List ℕ → Type 0) (bytes : List ℕ) : Type 0 where
-  pub part : List ℕ
-  pub rest : List ℕ
-  pub split : bytes ≡ part ++ rest
-  pub holds : P part
 
 -- a beginning of the bytes was appended, and the rest of them was not
 abbrev pub AppendsPart : Option (List ℕ) → Option (List ℕ) → List ℕ → Type 0
@@ -43,15 +45,9 @@ pub record AppendsUpTo (old new : Option (List ℕ)) (bytes rest : List ℕ) : T
   pub split : bytes ≡ part ++ rest
   pub grown : Appends old new part
 
--- where the bytes are known before and after, they grew by these
-abbrev pub AppendsOrHides : Option (List ℕ) → Option (List ℕ) → List ℕ → Type 0
-AppendsOrHides None new bytes = ⊤
-AppendsOrHides (Some xs) None bytes = ⊤
-AppendsOrHides (Some xs) (Some ys) bytes = ys ≡ xs ++ bytes
-
--- a call of the sink failed, and it took a beginning of the bytes, or its bytes are no longer known
+-- a call of the sink failed: it took a beginning of the bytes, or it took all of them, and then a flush failed
 abbrev pub TakesPart : SinkUse → List ℕ → Type 0
-TakesPart sink bytes = SomeBeginning (AppendsOrHides sink.before sink.after) bytes × (sink.has_failed ≡ true)
+TakesPart sink bytes = (AppendsPart sink.before sink.after bytes ⊎ sink.may_have_taken bytes) × (sink.has_failed ≡ true)
 
 -- ---- an answer
 

@@ -30,6 +30,7 @@ impl<'a, R: Source> CountedReader<'a, R> {
         ensures err { OnErr result
             ((self.old.reads_left ≡ 0) ⊎ (R.has_failed self.new.source.now ≡ true)) }
         ensures read { IfErr result (λ e. e ≡ Refusal.Read) }
+        ensures unread { self.old.reads_left ≡ 0 → self.new.source.now ≡ self.old.source.now }
         ensures same { self.new.source.ghost_name ≡ self.old.source.ghost_name }
     {
         if self.reads_left == 0 {

@@ -1,12 +1,14 @@
 //! Lists of cells, one a line.
 
-ghost use Rattle.std.specs.Prelude.{◌≡◌, ◌≤◌, ◌<◌, ◌+◌, ◌*◌, ◌^◌, ◌⊎◌, ℕ, true, List, [], ◌∷◌, ◌++◌, length, Some, Result, Ok, IfOk, IfErr, IfSome, IfNone, OnOk, OnErr, IsErrOf};
+ghost use Rattle.std.specs.Prelude.{◌≡◌, ◌≢◌, ◌≤◌, ◌<◌, ◌*◌, ◌^◌, ◌⊎◌, ℕ, true, false, List, [], ◌∷◌, ◌++◌, length, Some, Result, Ok, IsOk, IfOk, IfErr, IfSome, IfNone, OnOk, OnErr, IsErrOf};
 ghost use Rattle.h3_index.specs.Cell.{Address};
 ghost use Rattle.h3_index.specs.CellNumber.{cell_in};
 ghost use Rattle.h3_index.specs.Stream.{HasLeft};
 ghost use Rattle.h3_index.specs.declared.error.H3Error.{H3Error};
+ghost use Rattle.h3_lines.specs.Beginning.{SomeBeginning};
 ghost use Rattle.h3_lines.specs.List.{RefusesList, listed_cells, said_before, said_by, said_by_cell};
-ghost use Rattle.h3_lines.specs.Reading.{IsPlainLine, cells_before, is_unended, listed_after};
+ghost use Rattle.h3_lines.specs.Reading.{GoesOn, IsKnownFaultyAfter, IsPlainLine, StopsAfter, cells_before, is_unended, listed_after};
+ghost use Rattle.h3_lines.specs.Reads.{IsListWithinReads, IsWithinReads, StopsAtFault};
 
 use crate::counted::CountedReader;
 use crate::refusal::Refusal;
@@ -106,6 +108,7 @@ struct ListReader {
     cells: Vec<Cell>,
     line: ArrayVec<u8, LONGEST_LINE>,
     ghost unended: { is_unended line.items ≡ true },
+    ghost short: { length line.items ≤ 64 },
 }
 
 impl ListReader {
@@ -138,8 +141,8 @@ impl ListReader {
     fn end_line(&mut self, bytes: &[u8]) -> Result<(), Refusal>
         requires { is_unended bytes.now ≡ true }
         ensures ok { OnOk result ((rest : List ℕ) →
-            listed_after self.old.cells.items self.old.line.items (bytes.now ++ 10 ∷ rest)
-            ≡ listed_after self.new.cells.items self.new.line.items rest) }
+            GoesOn self.old.cells.items self.old.line.items (bytes.now ++ 10 ∷ rest)
+            self.new.cells.items self.new.line.items rest) }
         ensures err { IfErr result (λ e. (rest : List ℕ) →
             RefusesList ⊥
             (listed_after self.old.cells.items self.old.line.items (bytes.now ++ 10 ∷ rest)) e) }
@@ -158,8 +161,8 @@ impl ListReader {
     #[inline(always)]
     fn take_plain<'b>(&mut self, page: &'b [u8]) -> Result<&'b [u8], Refusal>
         ensures ok { IfOk result (λ left. (rest : List ℕ) →
-            listed_after self.old.cells.items self.old.line.items (page.now ++ rest)
-            ≡ listed_after self.new.cells.items self.new.line.items (left.now ++ rest)) }
+            GoesOn self.old.cells.items self.old.line.items (page.now ++ rest)
+            self.new.cells.items self.new.line.items (left.now ++ rest)) }
         ensures fewer { IfOk result (λ left. length left.now ≤ length page.now) }
         ensures err { IfErr result (λ e. (rest : List ℕ) →
             RefusesList ⊥
@@ -179,8 +182,8 @@ impl ListReader {
     /// Takes the lines that end in a page, and keeps the beginning of the next one.
     fn take(&mut self, page: &[u8]) -> Result<(), Refusal>
         ensures ok { OnOk result ((rest : List ℕ) →
-            listed_after self.old.cells.items self.old.line.items (page.now ++ rest)
-            ≡ listed_after self.new.cells.items self.new.line.items rest) }
+            GoesOn self.old.cells.items self.old.line.items (page.now ++ rest)
+            self.new.cells.items self.new.line.items rest) }
         ensures err { IfErr result (λ e. (rest : List ℕ) →
             RefusesList ⊥
             (listed_after self.old.cells.items self.old.line.items (page.now ++ rest)) e) }
@@ -214,13 +217,23 @@ fn read_pages<'a, R: Source>(
 ) -> Result<(), Refusal>
     requires room { 0 < length page.old }
     ensures ok { OnOk result ((bytes : List ℕ) × HasLeft (R.left reader.old.source.now) bytes ×
-        (length bytes + length page.old ≤ reader.old.reads_left * length page.old) ×
-        (listed_after list.old.cells.items list.old.line.items bytes
-        ≡ listed_after list.new.cells.items list.new.line.items [])) }
+        IsWithinReads reader.old.reads_left (length page.old) bytes ×
+        GoesOn list.old.cells.items list.old.line.items bytes list.new.cells.items list.new.line.items []) }
+    ensures whole { OnOk result ((bytes : List ℕ) → R.left reader.old.source.now ≡ Some bytes →
+        (R.left reader.new.source.now ≡ Some []) ×
+        GoesOn list.old.cells.items list.old.line.items bytes list.new.cells.items list.new.line.items []) }
     ensures err { IfErr result (λ e. (bytes : List ℕ) × HasLeft (R.left reader.old.source.now) bytes ×
         RefusesList
         ((R.has_failed reader.new.source.now ≡ true) ⊎ (reader.old.reads_left ≤ length bytes))
-        (listed_after list.old.cells.items list.old.line.items bytes) e) }
+        (listed_after list.old.cells.items list.old.line.items bytes) e ×
+        (e ≢ Refusal.Read → e ≢ Refusal.Memory → SomeBeginning
+        (λ part. IsKnownFaultyAfter list.old.cells.items list.old.line.items part ×
+        (length part ≤ reader.old.reads_left * length page.old)) bytes)) }
+    ensures stops { IfErr result (λ e.
+        (e ≡ Refusal.Read → R.has_failed reader.new.source.now ≡ false) →
+        (bytes : List ℕ) → R.left reader.old.source.now ≡ Some bytes →
+        (left : List ℕ) × (R.left reader.new.source.now ≡ Some left) ×
+        StopsAfter list.old.cells.items list.old.line.items (length page.old) bytes left) }
     ensures sound { ¬ (IsErrOf result Refusal.Read) →
         R.has_failed reader.new.source.now ≡ R.has_failed reader.old.source.now }
     ensures same { reader.new.source.ghost_name ≡ reader.old.source.ghost_name }
@@ -243,11 +256,17 @@ fn read_list<R: Source>(
 ) -> Result<Vec<Cell>, Refusal>
     requires room { 0 < length page.old }
     ensures cells { IfOk result (λ cells. (list : List ℕ) × HasLeft (R.left input.old) list ×
-        (length list + length page.old ≤ limit * length page.old) ×
-        (listed_cells list ≡ Ok cells.items)) }
+        IsWithinReads limit (length page.old) list × (listed_cells list ≡ Ok cells.items)) }
     ensures refused { IfErr result (λ e. (list : List ℕ) × HasLeft (R.left input.old) list ×
         RefusesList ((R.has_failed input.new ≡ true) ⊎ (limit ≤ length list))
-        (listed_cells list) e) }
+        (listed_cells list) e ×
+        (e ≢ Refusal.Read → e ≢ Refusal.Memory → IsListWithinReads limit (length page.old) list)) }
+    ensures whole { IsOk result →
+        (list : List ℕ) → R.left input.old ≡ Some list → R.left input.new ≡ Some [] }
+    ensures stops { IfErr result (λ e.
+        (e ≡ Refusal.Read → R.has_failed input.new ≡ false) →
+        (list : List ℕ) → R.left input.old ≡ Some list →
+        (left : List ℕ) × (R.left input.new ≡ Some left) × StopsAtFault (length page.old) list left) }
     ensures sound { ¬ (IsErrOf result Refusal.Read)
         → R.has_failed input.new ≡ R.has_failed input.old }
 {
@@ -267,19 +286,28 @@ fn read_list<R: Source>(
 ///
 /// A line of more than 64 bytes is faulty. Any other line of spaces, tabs and carriage returns
 /// alone is skipped, and each of the others must parse as the index of a valid cell. The last line
-/// may end with a line feed or not. Nothing is read once a faulty line is known, and of a line that
-/// a read fault cuts nothing is known but that it is too long.
+/// may end with a line feed or not. Nothing is read once a faulty line is known or memory is
+/// refused, and of a line that a read fault cuts nothing is known but that it is too long.
 ///
 /// `Failed` for a line of more than 64 bytes or one that parses as no index, and `CellInvalid` for
 /// the index of no cell, the first faulty line's. `Refusal::Read` where a read fails, or the end is
 /// not found in 2^40 reads. `Refusal::Memory` where there is none for the page or for a cell.
 pub fn read_cells<R: Source>(alloc: Global, input: &mut R) -> Result<Vec<Cell>, Refusal>
-    // 2^40 reads of a page, of which the last finds the end
+    // 2^40 reads of a page can find the end of the list, or its first faulty line.
     ensures cells { IfOk result (λ cells. (list : List ℕ) × HasLeft (R.left input.old) list ×
-        (length list + 65536 ≤ 2 ^ 40 * 65536) × (listed_cells list ≡ Ok cells.items)) }
+        IsWithinReads (2 ^ 40) 65536 list × (listed_cells list ≡ Ok cells.items)) }
     ensures refused { IfErr result (λ e. (list : List ℕ) × HasLeft (R.left input.old) list ×
         RefusesList ((R.has_failed input.new ≡ true) ⊎ (2 ^ 40 ≤ length list))
-        (listed_cells list) e) }
+        (listed_cells list) e ×
+        (e ≢ Refusal.Read → e ≢ Refusal.Memory → IsListWithinReads (2 ^ 40) 65536 list)) }
+    // All of a list without a faulty line is read, and of any other at most a page more than bytes in
+    // which no line is known to be faulty; so too where memory is refused, or no read is left.
+    ensures whole { IsOk result →
+        (list : List ℕ) → R.left input.old ≡ Some list → R.left input.new ≡ Some [] }
+    ensures stops { IfErr result (λ e.
+        (e ≡ Refusal.Read → R.has_failed input.new ≡ false) →
+        (list : List ℕ) → R.left input.old ≡ Some list →
+        (left : List ℕ) × (R.left input.new ≡ Some left) × StopsAtFault 65536 list left) }
     ensures sound { ¬ (IsErrOf result Refusal.Read)
         → R.has_failed input.new ≡ R.has_failed input.old }
 {

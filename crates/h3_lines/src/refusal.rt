@@ -1,7 +1,7 @@
 //! The errors that end a run, with the line and the exit status of each.
 
 ghost use Rattle.std.specs.Prelude.{◌≡◌, ◌≤◌, length};
-ghost use Rattle.h3_lines.specs.Refusal.{error_line, link_line, numbered_line, read_line, table_line};
+ghost use Rattle.h3_lines.specs.Refusal.{error_line, link_line, numbered_line, read_fault_line, table_line};
 
 use arrayvec::ArrayString;
 use h3_index::{H3Error, StreamFault};
@@ -44,7 +44,7 @@ impl Refusal {
         match self {
             Refusal::Error(error) => error_line(*error),
             Refusal::Memory => error_line(H3Error::MemoryAlloc),
-            Refusal::Read => read_line(),
+            Refusal::Read => read_fault_line(),
             Refusal::Write => fixed_line("fault: write\n"),
             Refusal::Table(error) => table_line(*error),
             Refusal::TableOpen => fixed_line("table: open\n"),
@@ -127,8 +127,8 @@ fn fixed_line(text: &str) -> ArrayString<LINE_ROOM>
 }
 
 /// The line of a read that failed.
-fn read_line() -> ArrayString<LINE_ROOM>
-    ensures { result.bytes ≡ read_line }
+fn read_fault_line() -> ArrayString<LINE_ROOM>
+    ensures { result.bytes ≡ read_fault_line }
 {
     fixed_line("fault: read\n")
 }
@@ -138,7 +138,7 @@ fn table_line(error: TableError) -> ArrayString<LINE_ROOM>
     ensures { result.bytes ≡ table_line error }
 {
     match error {
-        TableError::Read => read_line(),
+        TableError::Read => read_fault_line(),
         TableError::Memory => error_line(H3Error::MemoryAlloc),
         TableError::Form(row) => numbered_line("table: form ", row),
         TableError::Range(row) => numbered_line("table: range ", row),

@@ -10,10 +10,10 @@ use Rattle.h3_command.proofs.sets.uncompact_cells.Goals as goal
 pub returns-in_err-cells : goal.returns-in_err-cells
 returns-in_err-cells g c =
     let p = err_from_is_err_and c.from_residual.result c.from_residual.ensures.1 in
-    let (list, held, refused) = c.in_err-cells.ensures.refused in
+    let (list, held, refused, within) = c.in_err-cells.ensures.refused in
     let input = source_use g.R.Source.left g.R.Source.has_failed c.args.input.now c.read_cells.new.input in
     let out = sink_use g.W.Sink.taken g.W.Sink.has_failed c.args.out.now c.args.out.now in
-    rw (p.1, p.2) (list, held, list_refused _ list input _ out refused (λ other. c.in_err-cells.ensures.sound (λ is. other (cc is))) (Keeps-refl _, refl))
+    rw (p.1, p.2) (list, held, list_refused _ list input _ out refused within (λ other. c.in_err-cells.ensures.sound (λ is. other (cc is))) (Keeps-refl _, refl))
 
 pub returns : goal.returns
 returns g c =

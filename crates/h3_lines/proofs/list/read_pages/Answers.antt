@@ -1,13 +1,13 @@
-use Rattle.std.proofs.Common.{◌≡◌, ◌<◌, ◌∙◌, true, arith}
+use Rattle.std.proofs.Common.{◌≡◌, ◌<◌, ◌≤◌, ◌∙◌, true, length, ap, refl, inl, inr, arith}
 use Rattle.std.proofs.lemmas.Result.{err_from_is_err_and}
-use Rattle.h3_lines.proofs.Pages.{reads_more, reads_refused, reads_stopped}
+use Rattle.h3_lines.proofs.Pages.{reads_all, reads_left, reads_limited, reads_more, reads_refused, reads_stopped, reads_whole}
 use Rattle.h3_lines.proofs.list.read_pages.Goals as goal
 
 pub returns-in_err-count-clause-err : goal.returns-in_err-count-clause-err
 returns-in_err-count-clause-err g c =
     let p = err_from_is_err_and c.from_residual.result c.from_residual.ensures.1 in
-    rw (p.1, p.2, c.in_err-count.ensures.read)
-    (reads_stopped c.loop-count.invariant.reads (g.R.Source.has_failed c.read.new.self.source.now ≡ true) c.in_err-count.ensures.err)
+    let (bytes, held, why) = reads_stopped c.loop-count.invariant.reads (g.R.Source.has_failed c.read.new.self.source.now ≡ true) c.in_err-count.ensures.err in
+    rw (p.1, p.2, c.in_err-count.ensures.read) (bytes, held, why, λ other memory. absurd (other refl))
 
 pub loop-count-preserved : goal.loop-count-preserved
 loop-count-preserved g c =
@@ -22,4 +22,34 @@ loop-count-preserved g c =
 pub returns-in_err-take-clause-err : goal.returns-in_err-take-clause-err
 returns-in_err-take-clause-err g c =
     let p = err_from_is_err_and c.from_residual-in_err-take.result c.from_residual-in_err-take.ensures.1 in
-    rw (p.1, p.2) (reads_refused c.loop-count.invariant.reads _ c.read.new.page c.in_ok-count.count c.in_ok-count.ensures.bytes _ _ c.in_err-take.ensures.err)
+    let full : length c.read.new.page ≡ length c.args.page.now = c.read.auto.page ∙ c.loop-count.auto.page in
+    let fits : c.in_ok-count.count ≤ length c.args.page.now = omega (arith, full, c.in_ok-count.ensures.bound) in
+    let some : 0 < c.loop-count.reader.reads_left = omega (arith, c.in_ok-count.ensures.counted) in
+    rw (p.1, p.2) (reads_refused c.loop-count.invariant.reads _ c.read.new.page c.in_ok-count.count c.in_ok-count.ensures.bytes fits some _ _ c.in_err-take.ensures.err)
+
+pub returns-then-count-eq0-clause-ok : goal.returns-then-count-eq0-clause-ok
+returns-then-count-eq0-clause-ok g c =
+    let full : length c.read.new.page ≡ length c.args.page.now = c.read.auto.page ∙ c.loop-count.auto.page in
+    let some : 0 < c.loop-count.reader.reads_left = omega (arith, c.in_ok-count.ensures.counted) in
+    reads_all c.loop-count.invariant.reads (c.in_ok-count.ensures.bytes.at_end c.if-count-eq0.true (omega (arith, full, c.requires))) some
+
+pub returns-then-count-eq0-clause-whole : goal.returns-then-count-eq0-clause-whole
+returns-then-count-eq0-clause-whole g c = λ bytes known.
+    let full : length c.read.new.page ≡ length c.args.page.now = c.read.auto.page ∙ c.loop-count.auto.page in
+    reads_whole c.loop-count.invariant.reads _ c.read.new.page c.in_ok-count.count c.in_ok-count.ensures.bytes c.if-count-eq0.true (omega (arith, full, c.requires)) bytes known
+
+pub returns-in_err-count-clause-stops : goal.returns-in_err-count-clause-stops
+returns-in_err-count-clause-stops g c =
+    let p = err_from_is_err_and c.from_residual.result c.from_residual.ensures.1 in
+    rw (p.1, p.2, c.in_err-count.ensures.read) (λ sound bytes known. (
+    elim c.in_err-count.ensures.err [
+      | inl none ↦ reads_limited c.loop-count.invariant.reads _ (ap (g.R.Source.left) (c.read.ensures.unread none)) c.loop-count.list.unended c.loop-count.list.short bytes known
+      | inr failed ↦ absurd (cc (failed, sound refl))
+    ]))
+
+pub returns-in_err-take-clause-stops : goal.returns-in_err-take-clause-stops
+returns-in_err-take-clause-stops g c =
+    let p = err_from_is_err_and c.from_residual-in_err-take.result c.from_residual-in_err-take.ensures.1 in
+    let full : length c.read.new.page ≡ length c.args.page.now = c.read.auto.page ∙ c.loop-count.auto.page in
+    let fits : c.in_ok-count.count ≤ length c.args.page.now = omega (arith, full, c.in_ok-count.ensures.bound) in
+    rw (p.1, p.2) (λ other bytes known. reads_left c.loop-count.invariant.reads _ c.read.new.page c.in_ok-count.count c.in_ok-count.ensures.bytes fits c.loop-count.list.unended c.loop-count.list.short bytes known)

@@ -5,7 +5,7 @@ use Rattle.std.specs.List.{flat_map}
 use Rattle.h3_lines.specs.Answer.{written}
 use Rattle.h3_lines.specs.Writing.{Writes, sink_use}
 use Rattle.h3_lines.proofs.Lines.{held_ends, held_more, held_none, split_at, whole_at}
-use Rattle.h3_lines.proofs.Written.{fault_within, writes_part}
+use Rattle.h3_lines.proofs.Written.{begins_part}
 use Rattle.h3_lines.proofs.write.write_lines.Goals as goal
 
 pub loop-item-init : goal.loop-item-init
@@ -24,8 +24,8 @@ returns-in_err-end g c all e =
     let split = split_at e _ c.into_iter-item-iterator.ensures.into_iter_gives _ _ so_far _ _ c.in-Some.ensures.steps in
     let p = err_from_is_err_and c.from_residual.result c.from_residual.ensures.1 in
     let out = sink_use g.W.Sink.taken g.W.Sink.has_failed c.loop-item.out c.make_room.new.out in
-    rw (p.1, p.2) (held_ends (λ items. written (flat_map g.L.Line.line_of items)) c.loop-item.invariant.held all _ split _ _ _ _ c.loop-item.invariant.same _
-    (fault_within _ _ _ out c.in_err-end.ensures.some (writes_part _ out c.in_err-end.ensures.part c.in_err-end.ensures.err)))
+    rw (p.1, p.2) (held_ends (λ items. written (flat_map g.L.Line.line_of items)) g.W.Sink.taken g.W.Sink.has_failed c.args.out.now c.loop-item.out c.make_room.new.out c.loop-item.invariant.held all _ split c.loop-item.invariant.same _
+    (begins_part _ _ out c.in_err-end.ensures.some c.in_err-end.ensures.part c.in_err-end.ensures.err))
 
 pub returns : goal.returns
 returns g c all e =
@@ -33,5 +33,5 @@ returns g c all e =
     let split = whole_at e _ c.into_iter-item-iterator.ensures.into_iter_gives _ _ so_far _ c.in-None.ensures.steps in
     let held = take c.loop-item.end c.loop-item.block in
     let out = sink_use g.W.Sink.taken g.W.Sink.has_failed c.loop-item.out c.write_answer.new.out in
-    held_ends (λ items. written (flat_map g.L.Line.line_of items)) c.loop-item.invariant.held all [] split _ _ _ _ c.loop-item.invariant.same _
+    held_ends (λ items. written (flat_map g.L.Line.line_of items)) g.W.Sink.taken g.W.Sink.has_failed c.args.out.now c.loop-item.out c.write_answer.new.out c.loop-item.invariant.held all [] split c.loop-item.invariant.same _
     (subst (λ l. Writes (written l) c.write_answer.result out) (sym (append-nil held)) c.write_answer.ensures)

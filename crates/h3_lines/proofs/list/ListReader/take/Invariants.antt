@@ -1,11 +1,10 @@
-use Rattle.std.proofs.Common.{◌≡◌, ℕ, List, ◌++◌, length}
-use Rattle.h3_lines.specs.Reading.{listed_after}
+use Rattle.std.proofs.Common.{ℕ, List, ◌++◌, length}
+use Rattle.h3_lines.specs.Reading.{GoesOn}
 use Rattle.h3_lines.proofs.list.ListReader.take.Given as goal
 
 abbrev pub invariant-loop-line : goal.invariant-loop-line
 invariant-loop-line l = (rest : List ℕ) →
-    listed_after l.fn.self.cells.items l.fn.self.line.items (l.page ++ rest)
-    ≡ listed_after l.self.cells.items l.self.line.items (l.bytes ++ rest)
+    GoesOn l.fn.self.cells.items l.fn.self.line.items (l.page ++ rest) l.self.cells.items l.self.line.items (l.bytes ++ rest)
 
 abbrev pub decreases-loop-line : goal.decreases-loop-line
 decreases-loop-line l = length l.bytes

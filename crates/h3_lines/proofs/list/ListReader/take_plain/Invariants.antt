@@ -1,12 +1,11 @@
 use Rattle.std.proofs.Common.{◌≡◌, ◌≤◌, ℕ, List, [], ◌++◌, length}
-use Rattle.h3_lines.specs.Reading.{listed_after}
+use Rattle.h3_lines.specs.Reading.{GoesOn}
 use Rattle.h3_lines.proofs.list.ListReader.take_plain.Given as goal
 
 abbrev pub invariant-loop-index : goal.invariant-loop-index
 invariant-loop-index l = record {
   same : (rest : List ℕ) →
-      listed_after l.fn.self.cells.items l.fn.self.line.items (l.page ++ rest)
-      ≡ listed_after l.self.cells.items l.self.line.items (l.bytes ++ rest);
+      GoesOn l.fn.self.cells.items l.fn.self.line.items (l.page ++ rest) l.self.cells.items l.self.line.items (l.bytes ++ rest);
   none : l.self.line.items ≡ [];
   fewer : length l.bytes ≤ length l.page;
 }
