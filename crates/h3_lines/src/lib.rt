@@ -2,7 +2,6 @@
 //! with the line and the exit status of each.
 #![tactic(auto)]
 
-mod counted;
 mod ending;
 mod line;
 mod list;

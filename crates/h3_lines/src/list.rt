@@ -10,10 +10,9 @@ ghost use Rattle.h3_lines.specs.List.{RefusesList, listed_cells, said_before, sa
 ghost use Rattle.h3_lines.specs.Reading.{GoesOn, IsKnownFaultyAfter, IsPlainLine, StopsAfter, cells_before, is_unended, listed_after};
 ghost use Rattle.h3_lines.specs.Reads.{IsListWithinReads, IsWithinReads, StopsAtFault};
 
-use crate::counted::CountedReader;
 use crate::refusal::Refusal;
 use arrayvec::ArrayVec;
-use h3_index::{Cell, H3Error, Source, is_blank_text, read_index, read_plain};
+use h3_index::{Cell, CountedReader, H3Error, Source, is_blank_text, read_index, read_plain};
 use memchr::memchr;
 use std::alloc::Global;
 
@@ -239,7 +238,9 @@ fn read_pages<'a, R: Source>(
     ensures same { reader.new.source.ghost_name ≡ reader.old.source.ghost_name }
 {
     loop {
-        let count = reader.read(page)?;
+        let Ok(count) = reader.read(page) else {
+            return Err(Refusal::Read);
+        };
         if count == 0 {
             return Ok(());
         }
