@@ -4,6 +4,7 @@ use crate::{Disk, Ring, are_neighbors, disk_len, edge_between, edge_destination,
 use h3_index::{Cell, Edge, H3Error, Streamed, is_pentagon_base};
 use h3_lattice::vectors::{TestTable, link};
 use h3_lattice::{BaseTable, Direction};
+use std::alloc::AllocError;
 use std::process::Abort;
 use std::test::Fail;
 
@@ -222,6 +223,36 @@ fn disks_are_walked_ring_by_ring(rt: HostRuntime) -> Result<(), Fail> {
 }
 
 #[test]
+fn a_clone_of_a_disk_goes_on_where_it_stands(rt: HostRuntime) -> Result<(), Fail> {
+    let plain = test_table(&rt, TestTable::Plain)?;
+    let origin = Cell::new(0x85283473fffffff)?;
+    let first = Cell::new(0x85283447fffffff)?;
+    let rest = [
+        0x8528347bfffffff,
+        0x85283463fffffff,
+        0x85283477fffffff,
+        0x8528340ffffffff,
+        0x8528340bfffffff,
+    ];
+    let Ok(mut walk) = Disk::new(&plain, origin, 1) else {
+        return Err(Fail::from("refused"));
+    };
+    assert_eq!(&rt; walk.next(), Some(Ok((origin, 0))));
+    assert_eq!(&rt; walk.next(), Some(Ok((first, 1))));
+    let Ok(mut again) = clone_of(&walk) else {
+        return Err(Fail::from("no clone"));
+    };
+    for raw in rest {
+        let item = Some(Ok((Cell::new(raw)?, 1)));
+        assert_eq!(&rt; walk.next(), item);
+        assert_eq!(&rt; again.next(), item);
+    }
+    assert!(&rt; walk.next().is_none());
+    assert!(&rt; again.next().is_none());
+    Ok(())
+}
+
+#[test]
 fn disks_end_at_pentagon_base_cells(rt: HostRuntime) -> Result<(), Fail> {
     let plain = test_table(&rt, TestTable::Plain)?;
     let begun = [0x800bfffffffffff, 0x8023fffffffffff, 0x8021fffffffffff];
@@ -276,6 +307,33 @@ fn rings_are_walked_around(rt: HostRuntime) -> Result<(), Fail> {
     for table in [&plain, &twisted] {
         assert_ring(&rt, table, 0x803dfffffffffff, 2, &twelve, false)?;
     }
+    Ok(())
+}
+
+#[test]
+fn a_clone_of_a_ring_goes_on_where_it_stands(rt: HostRuntime) -> Result<(), Fail> {
+    let plain = test_table(&rt, TestTable::Plain)?;
+    let rest = [
+        0x8528347bfffffff,
+        0x85283463fffffff,
+        0x85283477fffffff,
+        0x8528340ffffffff,
+    ];
+    let Ok(mut walk) = Ring::new(&plain, Cell::new(0x85283473fffffff)?, 1) else {
+        return Err(Fail::from("refused"));
+    };
+    assert_eq!(&rt; walk.next(), Some(Ok(Cell::new(0x8528340bfffffff)?)));
+    assert_eq!(&rt; walk.next(), Some(Ok(Cell::new(0x85283447fffffff)?)));
+    let Ok(mut again) = clone_of(&walk) else {
+        return Err(Fail::from("no clone"));
+    };
+    for raw in rest {
+        let item = Some(Ok(Cell::new(raw)?));
+        assert_eq!(&rt; walk.next(), item);
+        assert_eq!(&rt; again.next(), item);
+    }
+    assert!(&rt; walk.next().is_none());
+    assert!(&rt; again.next().is_none());
     Ok(())
 }
 
@@ -370,6 +428,10 @@ fn disks_have_sizes(rt: HostRuntime) -> Result<(), Fail> {
 
 fn copy_of<T: Copy>(value: &T) -> T {
     *value
+}
+
+fn clone_of<T: Clone>(value: &T) -> Result<T, AllocError> {
+    Ok(value.clone()?)
 }
 
 #[test]
@@ -516,5 +578,27 @@ fn edges_leave_a_cell(rt: HostRuntime) -> Result<(), Fail> {
     let mut again = copy_of(&edges);
     assert_eq!(&rt; edges.next(), again.next());
     assert_eq!(&rt; edges.next(), again.next());
+    Ok(())
+}
+
+#[test]
+fn a_clone_of_edges_goes_on_where_they_stand(rt: HostRuntime) -> Result<(), Fail> {
+    let rest = [
+        0x135283473fffffff,
+        0x145283473fffffff,
+        0x155283473fffffff,
+        0x165283473fffffff,
+    ];
+    let mut edges = edges_of(Cell::new(0x85283473fffffff)?);
+    assert_eq!(&rt; edges.next(), Some(Edge::new(0x115283473fffffff)?));
+    assert_eq!(&rt; edges.next(), Some(Edge::new(0x125283473fffffff)?));
+    let mut again = edges.clone()?;
+    for raw in rest {
+        let edge = Some(Edge::new(raw)?);
+        assert_eq!(&rt; edges.next(), edge);
+        assert_eq!(&rt; again.next(), edge);
+    }
+    assert!(&rt; edges.next().is_none());
+    assert!(&rt; again.next().is_none());
     Ok(())
 }

@@ -1,7 +1,7 @@
 use crate::{Compaction, compact_cells, uncompact};
 use h3_index::{Cell, H3Error};
 use h3_tree::children;
-use std::alloc::{AllocGlobal, Global};
+use std::alloc::{AllocError, AllocGlobal, Global};
 use std::process::Abort;
 use std::test::Fail;
 
@@ -108,6 +108,38 @@ fn cells_of_two_resolutions_are_uncompacted(rt: HostRuntime) -> Result<(), Fail>
         0x81283ffffffffff,
     ];
     assert_uncompacted(&rt, &cells, 1, &expected)
+}
+
+fn clone_of<T: Clone>(value: &T) -> Result<T, AllocError> {
+    Ok(value.clone()?)
+}
+
+#[test]
+fn a_clone_of_an_uncompact_goes_on_where_it_stands(rt: HostRuntime) -> Result<(), Fail> {
+    let cells = [Cell::new(0x8009fffffffffff)?, Cell::new(0x81283ffffffffff)?];
+    let rest = [
+        0x8108fffffffffff,
+        0x81093ffffffffff,
+        0x81097ffffffffff,
+        0x8109bffffffffff,
+        0x81283ffffffffff,
+    ];
+    let Ok(mut items) = uncompact(&cells, 1) else {
+        return Err(Fail::from("refused"));
+    };
+    assert_eq!(rt; items.next(), Some(Cell::new(0x81083ffffffffff)?));
+    assert_eq!(rt; items.next(), Some(Cell::new(0x8108bffffffffff)?));
+    let Ok(mut again) = clone_of(&items) else {
+        return Err(Fail::from("no clone"));
+    };
+    for raw in rest {
+        let cell = Some(Cell::new(raw)?);
+        assert_eq!(rt; items.next(), cell);
+        assert_eq!(rt; again.next(), cell);
+    }
+    assert!(rt; items.next().is_none());
+    assert!(rt; again.next().is_none());
+    Ok(())
 }
 
 #[test]
