@@ -22,7 +22,7 @@ pub mod vectors;
 
 pub use class::{Class, carry};
 pub use digits::Digits;
-pub use direction::{Direction, turn};
+pub use direction::{DIRECTIONS, Direction, turn};
 pub use error::TableError;
 pub use moved::{Moved, add};
 pub use table::BaseTable;

@@ -1,16 +1,7 @@
 use crate::digits::Digits;
-use crate::{Class, Direction, Moved, TableError, add, carry, turn};
+use crate::{Class, DIRECTIONS, Direction, Moved, TableError, add, carry, turn};
 use h3_index::Cell;
 use std::test::Fail;
-
-const DIRECTIONS: [Direction; 6] = [
-    Direction::K,
-    Direction::J,
-    Direction::JK,
-    Direction::I,
-    Direction::IK,
-    Direction::IJ,
-];
 
 /// A row for each digit, a column for each direction in the order of the digits.
 const CARRIES_THREE: [[(u8, Option<Direction>); 6]; 7] = [

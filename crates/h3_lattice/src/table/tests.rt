@@ -5,6 +5,7 @@ use crate::vectors::{TestTable, link};
 use h3_index::{Source, StreamFault, Streamed, is_pentagon_base};
 use std::test::Fail;
 
+mod faults;
 mod format_two;
 
 const HEADER: &str = "base,dir,to,rot\n";
