@@ -1,5 +1,5 @@
-use Rattle.h3_tree.proofs.PositionLaws.{members_have_positions, positions_tell_members}
-use Rattle.h3_tree.proofs.positions.positions_are_told.Goals as goal
+use Rattle.h3_tree.proofs.PositionLaws.{members_have_positions, positions_have_members}
+use Rattle.h3_tree.proofs.positions.positions_are_lawful.Goals as goal
 
 pub returns-clause-members : goal.returns-clause-members
 returns-clause-members c =
@@ -7,4 +7,4 @@ returns-clause-members c =
 
 pub returns-clause-positions : goal.returns-clause-positions
 returns-clause-positions c =
-    positions_tell_members c.descendants_are_known.ensures
+    positions_have_members c.descendants_are_known.ensures
