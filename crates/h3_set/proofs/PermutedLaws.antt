@@ -9,7 +9,7 @@ use Rattle.std.proofs.lemmas.List.Sorted.{Contains-permutation, IsPermutation-ke
 use Rattle.h3_index.specs.Cell.{Address}
 use Rattle.h3_set.specs.Coverage.{IsApart, Overlap}
 
--- a relation between any two elements that does not tell their order
+-- a relation between any two elements that does not depend on their order
 module _ (R : Address → Address → Type 0) (turned : (a b : Address) → R a b → R b a) where
   at_two : (ys : List Address) → AllPairs R ys → (a b : ℕ) (d : Address) → a ≢ b → a < length ys → b < length ys → R (get_or ys a d) (get_or ys b d)
   at_two ys h a b d ne la lb =

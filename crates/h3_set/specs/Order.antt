@@ -1,4 +1,5 @@
--- For private contracts: the order of the slots between rounds, in which each cell comes right after its descendants.
+-- The order of the slots between rounds, in which each cell comes right after its descendants. Private contracts and
+-- proofs alone cite this file.
 use Rattle.std.specs.Prelude.{◌+◌, ◌-◌, ◌^◌, ◌≤◌, List, AllPairs}
 use Rattle.h3_index.specs.Cell.{Address, resolution}
 use Rattle.h3_tree.specs.PostOrder.{post_order_key}
@@ -8,5 +9,5 @@ abbrev pub IsInOrder : List Address → Type 0
 IsInOrder = AllPairs (λ a b. post_order_key a ≤ post_order_key b)
 
 -- a comes before b and all cells below b
-abbrev pub IsBefore : Address → Address → Type 0
-IsBefore a b = post_order_key a + 8 ^ (15 - resolution b) ≤ post_order_key b
+abbrev pub IsBeforeBlock : Address → Address → Type 0
+IsBeforeBlock a b = post_order_key a + 8 ^ (15 - resolution b) ≤ post_order_key b
