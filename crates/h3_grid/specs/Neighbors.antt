@@ -19,13 +19,13 @@ cell_reached None = None
 cell_reached (Some s) = Some s.cell
 
 -- the neighbour of x in a direction: the cell of the step of x, with rotation 0, in it; none where the step is refused
-unfoldable pub neighbour : Links → Address → Direction → Option Address
-neighbour link x d = cell_reached (step_of link (state x 0) d)
+unfoldable pub neighbor : Links → Address → Direction → Option Address
+neighbor link x d = cell_reached (step_of link (state x 0) d)
 
 -- y is the neighbour of x in some direction
-pub record AreNeighbours (link : Links) (x y : Address) : Type 0 where
+pub record AreNeighbors (link : Links) (x y : Address) : Type 0 where
   pub direction : Direction
-  pub leads : neighbour link x direction ≡ Some y
+  pub leads : neighbor link x direction ≡ Some y
 
 -- ---- as functions
 
@@ -40,7 +40,7 @@ is_some_same y (Some z) = is_same z y
 
 -- the direction in which y is the neighbour of x, if there is one
 unfoldable pub direction_to : Links → Address → Address → Option Direction
-direction_to link x y = find (λ d. is_some_same y (neighbour link x d)) directions
+direction_to link x y = find (λ d. is_some_same y (neighbor link x d)) directions
 
 -- the error with which two cells are refused, if they are: first that their resolutions differ; then, for one cell given
 -- twice, what is said of it; then that either is in a pentagon base cell
@@ -57,39 +57,39 @@ unless_refused None r = r
 unless_refused (Some e) r = Err e
 
 -- for whether two cells are neighbours, one cell given twice is no error
-abbrev pub neighbour_refusal : Address → Address → Option H3Error
-neighbour_refusal x y = pair_refusal None x y
+abbrev pub neighbor_refusal : Address → Address → Option H3Error
+neighbor_refusal x y = pair_refusal None x y
 
 -- whether two cells are neighbours; no cell is its own
-unfoldable pub are_neighbours : Links → Address → Address → Result Bool H3Error
-are_neighbours link x y =
-    unless_refused (neighbour_refusal x y) (Ok (not (is_same x y) && is_some (direction_to link x y)))
+unfoldable pub are_neighbors : Links → Address → Address → Result Bool H3Error
+are_neighbors link x y =
+    unless_refused (neighbor_refusal x y) (Ok (not (is_same x y) && is_some (direction_to link x y)))
 
 -- ---- laws of neighbours over links
 
 -- the function finds the direction, which is the only one
 abbrev pub DirectionsAreFound : Links → Type 0
 DirectionsAreFound link =
-    (x y : Address) (d : Direction) → IsCell x → IsCell y → (direction_to link x y ≡ Some d) ↔ (neighbour link x d ≡ Some y)
+    (x y : Address) (d : Direction) → IsCell x → IsCell y → (direction_to link x y ≡ Some d) ↔ (neighbor link x d ≡ Some y)
 
 -- and so the function is true of neighbours, and of no other cells
-abbrev pub NeighboursAreFound : Links → Type 0
-NeighboursAreFound link =
-    (x y : Address) → IsCell x → IsCell y → (are_neighbours link x y ≡ Ok true) ↔ AreNeighbours link x y
+abbrev pub NeighborsAreFound : Links → Type 0
+NeighborsAreFound link =
+    (x y : Address) → IsCell x → IsCell y → (are_neighbors link x y ≡ Ok true) ↔ AreNeighbors link x y
 
 -- no two directions lead to one cell
 abbrev pub DirectionsPart : Links → Type 0
 DirectionsPart link =
-    (x y : Address) (d e : Direction) → IsCell x → neighbour link x d ≡ Some y → neighbour link x e ≡ Some y → d ≡ e
+    (x y : Address) (d e : Direction) → IsCell x → neighbor link x d ≡ Some y → neighbor link x e ≡ Some y → d ≡ e
 
 -- no cell is its own neighbour
-abbrev pub NeighboursDiffer : Links → Type 0
-NeighboursDiffer link = (x y : Address) (d : Direction) → IsCell x → neighbour link x d ≡ Some y → y ≢ x
+abbrev pub NeighborsDiffer : Links → Type 0
+NeighborsDiffer link = (x y : Address) (d : Direction) → IsCell x → neighbor link x d ≡ Some y → y ≢ x
 
 -- of two cells each is the other's neighbour, or neither is
-abbrev pub NeighboursAreMutual : Links → Type 0
-NeighboursAreMutual link = (x y : Address) → IsCell x → IsCell y → AreNeighbours link x y ↔ AreNeighbours link y x
+abbrev pub NeighborsAreMutual : Links → Type 0
+NeighborsAreMutual link = (x y : Address) → IsCell x → IsCell y → AreNeighbors link x y ↔ AreNeighbors link y x
 
 -- two cells have the same result in either order: the same error, or the same truth value
 abbrev pub BothOrdersAgree : Links → Type 0
-BothOrdersAgree link = (x y : Address) → IsCell x → IsCell y → are_neighbours link x y ≡ are_neighbours link y x
+BothOrdersAgree link = (x y : Address) → IsCell x → IsCell y → are_neighbors link x y ≡ are_neighbors link y x

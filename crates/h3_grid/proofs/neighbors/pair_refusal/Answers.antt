@@ -1,8 +1,8 @@
 use Rattle.std.proofs.Common.{◌≡◌, ◌||◌, true, false, sym, ◌∙◌, Bool, refl}
 use Rattle.h3_index.specs.Cell.{is_pentagon_base, resolution}
-use Rattle.h3_grid.proofs.NeighbourLaws.{refusal-other, refusal-resolution, refusal-twice}
-use Rattle.h3_grid.proofs.neighbours.pair_refusal.Goals as goal
-use Rattle.h3_grid.proofs.neighbours.pair_refusal.Goals.{then-in_pentagon_base-via-then-in_pentagon_base, then-in_pentagon_base-via-else-in_pentagon_base+then-in_pentagon_base-2}
+use Rattle.h3_grid.proofs.NeighborLaws.{refusal-other, refusal-resolution, refusal-twice}
+use Rattle.h3_grid.proofs.neighbors.pair_refusal.Goals as goal
+use Rattle.h3_grid.proofs.neighbors.pair_refusal.Goals.{then-in_pentagon_base-via-then-in_pentagon_base, then-in_pentagon_base-via-else-in_pentagon_base+then-in_pentagon_base-2}
 
 pub returns-then-resolution-clause-is : goal.returns-then-resolution-clause-is
 returns-then-resolution-clause-is c =

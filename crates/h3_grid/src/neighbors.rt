@@ -4,9 +4,9 @@ ghost use Rattle.std.specs.Prelude.{◌≡◌, ◌↔◌, ◌&&◌, not, is_some
 ghost use Rattle.std.specs.Result.{result_err};
 ghost use Rattle.h3_index.specs.Cell.{IsCell};
 ghost use Rattle.h3_lattice.specs.BaseTable.{link_of};
-ghost use Rattle.h3_grid.specs.Neighbours.{AreNeighbours, BothOrdersAgree, DirectionsAreFound, DirectionsPart, NeighboursAreFound, NeighboursAreMutual, are_neighbours, direction_to, is_same, is_some_same, neighbour, neighbour_refusal, pair_refusal};
+ghost use Rattle.h3_grid.specs.Neighbors.{AreNeighbors, BothOrdersAgree, DirectionsAreFound, DirectionsPart, NeighborsAreFound, NeighborsAreMutual, are_neighbors, direction_to, is_same, is_some_same, neighbor, neighbor_refusal, pair_refusal};
 
-use crate::laws::neighbours_are_lawful;
+use crate::laws::neighbors_are_lawful;
 use crate::steps::step;
 use h3_index::{Cell, H3Error};
 use h3_lattice::{BaseTable, Direction};
@@ -22,20 +22,20 @@ const DIRECTIONS: [Direction; 6] = [
 ];
 
 /// Laws of the neighbours over the links of a table. It does nothing.
-pub(crate) fn neighbour_is_lawful(table: &BaseTable)
+pub(crate) fn neighbor_is_lawful(table: &BaseTable)
     ensures found { DirectionsAreFound (link_of table.now) }
-    ensures related { NeighboursAreFound (link_of table.now) }
+    ensures related { NeighborsAreFound (link_of table.now) }
     ensures part { DirectionsPart (link_of table.now) }
-    ensures mutual { NeighboursAreMutual (link_of table.now) }
+    ensures mutual { NeighborsAreMutual (link_of table.now) }
     ensures both { BothOrdersAgree (link_of table.now) }
 {
-    neighbours_are_lawful();
+    neighbors_are_lawful();
     table.links_are_sound();
 }
 
 /// The neighbour of a cell in a direction: the cell that the step with rotation 0 leads to, unless it is refused.
 pub(crate) fn neighbor(table: &BaseTable, cell: Cell, direction: Direction) -> Option<Cell>
-    ensures { result ≡ neighbour (link_of table.now) cell direction }
+    ensures { result ≡ neighbor (link_of table.now) cell direction }
 {
     match step(table, cell, direction, 0) {
         Ok((reached, _)) => Some(reached),
@@ -45,7 +45,7 @@ pub(crate) fn neighbor(table: &BaseTable, cell: Cell, direction: Direction) -> O
 
 /// Whether a cell is the neighbour of another in a direction.
 fn leads(table: &BaseTable, from: Cell, direction: Direction, to: Cell) -> bool
-    ensures { result ≡ is_some_same to (neighbour (link_of table.now) from direction) }
+    ensures { result ≡ is_some_same to (neighbor (link_of table.now) from direction) }
 {
     match neighbor(table, from, direction) {
         Some(reached) => reached == to,
@@ -54,7 +54,7 @@ fn leads(table: &BaseTable, from: Cell, direction: Direction, to: Cell) -> bool
 }
 
 /// The direction in which a cell is the neighbour of another, if there is one.
-#[tactic(auto, unfolding(crate::specs::Neighbours::direction_to))]
+#[tactic(auto, unfolding(crate::specs::Neighbors::direction_to))]
 pub(crate) fn direction_to(table: &BaseTable, from: Cell, to: Cell) -> Option<Direction>
     ensures { result ≡ direction_to (link_of table.now) from to }
 {
@@ -95,18 +95,18 @@ fn is_neighbor(table: &BaseTable, a: Cell, b: Cell) -> bool
 /// `ResMismatch` where their resolutions differ; then, for different cells, `Pentagon` where either is in a pentagon base
 /// cell.
 pub fn are_neighbors(table: &BaseTable, a: Cell, b: Cell) -> Result<bool, H3Error>
-    ensures is { result ≡ are_neighbours (link_of table.now) a b }
+    ensures is { result ≡ are_neighbors (link_of table.now) a b }
 
     // The same in parts: which pairs are refused, which are neighbours, and that a cell is not its own neighbour.
-    ensures refused { result_err result ≡ neighbour_refusal a b }
-    ensures related { (result ≡ Ok true) ↔ AreNeighbours (link_of table.now) a b }
+    ensures refused { result_err result ≡ neighbor_refusal a b }
+    ensures related { (result ≡ Ok true) ↔ AreNeighbors (link_of table.now) a b }
     ensures same { a ≡ b → result ≡ Ok false }
 
     // Laws of neighbours over the table: the order of the two cells does not matter, for the errors either.
-    ensures mutual { NeighboursAreMutual (link_of table.now) }
+    ensures mutual { NeighborsAreMutual (link_of table.now) }
     ensures both { BothOrdersAgree (link_of table.now) }
 {
-    neighbour_is_lawful(table);
+    neighbor_is_lawful(table);
     match pair_refusal(None, a, b) {
         Some(error) => Err(error),
         None => Ok(is_neighbor(table, a, b)),

@@ -1,7 +1,7 @@
 use Rattle.h3_grid.proofs.InsideLaws.{SumLaws}
 use Rattle.h3_grid.proofs.LatticeLaws.{StepLawsHold}
-use Rattle.h3_grid.proofs.NeighbourLaws.{both_agree, directions_found, directions_part, neighbours_differ, neighbours_found, neighbours_mutual}
-use Rattle.h3_grid.proofs.laws.neighbours_are_lawful.Goals as goal
+use Rattle.h3_grid.proofs.NeighborLaws.{both_agree, directions_found, directions_part, neighbors_differ, neighbors_found, neighbors_mutual}
+use Rattle.h3_grid.proofs.laws.neighbors_are_lawful.Goals as goal
 
 steps : (c : goal.After-sums_are_lawful) → StepLawsHold
 steps c =
@@ -21,7 +21,7 @@ returns-clause-part c = λ link sound.
     directions_part (steps c) (sums c) link sound c.numbers_tell_cells.ensures c.steps_are_lawful.ensures.part
 
 pub returns-clause-mutual : goal.returns-clause-mutual
-returns-clause-mutual c = λ link sound. neighbours_mutual (steps c) (sums c) link sound
+returns-clause-mutual c = λ link sound. neighbors_mutual (steps c) (sums c) link sound
 
 pub returns-clause-both : goal.returns-clause-both
 returns-clause-both c = λ link sound.
@@ -29,8 +29,8 @@ returns-clause-both c = λ link sound.
 
 pub returns-clause-differ : goal.returns-clause-differ
 returns-clause-differ c = λ link sound.
-    neighbours_differ (steps c) (sums c) link sound c.numbers_tell_cells.ensures c.steps_are_lawful.ensures.part c.steps_are_lawful.ensures.move_on
+    neighbors_differ (steps c) (sums c) link sound c.numbers_tell_cells.ensures c.steps_are_lawful.ensures.part c.steps_are_lawful.ensures.move_on
 
 pub returns-clause-related : goal.returns-clause-related
 returns-clause-related c = λ link sound.
-    neighbours_found (steps c) (sums c) link sound c.numbers_tell_cells.ensures c.steps_are_lawful.ensures.part c.steps_are_lawful.ensures.move_on
+    neighbors_found (steps c) (sums c) link sound c.numbers_tell_cells.ensures c.steps_are_lawful.ensures.part c.steps_are_lawful.ensures.move_on

@@ -14,7 +14,7 @@ use Rattle.h3_lattice.specs.Direction.{digit_turned, directions, opposite, turne
 use Rattle.h3_lattice.specs.Links.{IsSound, Links}
 use Rattle.h3_lattice.specs.Moved.{IsSum}
 use Rattle.h3_grid.specs.Laws.{IsState, OverSoundLinks, StepsMove, StepsPart}
-use Rattle.h3_grid.specs.Neighbours.{AreNeighbours, BothOrdersAgree, DirectionsAreFound, DirectionsPart, NeighboursAreFound, NeighboursAreMutual, NeighboursDiffer, are_neighbours, cell_reached, direction_to, is_same, is_some_same, neighbour, neighbour_refusal, pair_refusal}
+use Rattle.h3_grid.specs.Neighbors.{AreNeighbors, BothOrdersAgree, DirectionsAreFound, DirectionsPart, NeighborsAreFound, NeighborsAreMutual, NeighborsDiffer, are_neighbors, cell_reached, direction_to, is_same, is_some_same, neighbor, neighbor_refusal, pair_refusal}
 use Rattle.h3_grid.specs.Search.{step_of}
 use Rattle.h3_grid.specs.Steps.{Leads, State, led_to, state}
 use Rattle.h3_grid.proofs.BackLaws.{crossed_to}
@@ -119,16 +119,16 @@ unfolding pair_refusal
 refusal-sym twice x y =
     rw (eq-sym (resolution x) (resolution y), eq-sym (number_of x) (number_of y), or-sym (is_pentagon_base x.base) (is_pentagon_base y.base)) refl
 
-pub result-refused : (link : Links) (x y : Address) (e : H3Error) → neighbour_refusal x y ≡ Some e → are_neighbours link x y ≡ Err e
-unfolding are_neighbours
+pub result-refused : (link : Links) (x y : Address) (e : H3Error) → neighbor_refusal x y ≡ Some e → are_neighbors link x y ≡ Err e
+unfolding are_neighbors
 result-refused link x y e h = rw h refl
 
-pub result-given : (link : Links) (x y : Address) → neighbour_refusal x y ≡ None → are_neighbours link x y ≡ Ok (not (is_same x y) && is_some (direction_to link x y))
-unfolding are_neighbours
+pub result-given : (link : Links) (x y : Address) → neighbor_refusal x y ≡ None → are_neighbors link x y ≡ Ok (not (is_same x y) && is_some (direction_to link x y))
+unfolding are_neighbors
 result-given link x y h = rw h refl
 
 -- a cell and itself
-pub result-same : (link : Links) (x y : Address) → x ≡ y → are_neighbours link x y ≡ Ok false
+pub result-same : (link : Links) (x y : Address) → x ≡ y → are_neighbors link x y ≡ Ok false
 result-same link x y e =
     let same = same_number x y (ap number_of e) in
     result-given link x y (refusal-twice None x y (ap resolution e) same) ∙ (rw same refl)
@@ -141,45 +141,45 @@ record IsTrueOf (link : Links) (x y : Address) : Type 0 where
 abbrev truth : Bool → Result Bool H3Error
 truth b = Ok b
 
-true_is : (link : Links) (x y : Address) → are_neighbours link x y ≡ Ok true → IsTrueOf link x y
-true_is link x y e = by_refusal (neighbour_refusal x y) refl
+true_is : (link : Links) (x y : Address) → are_neighbors link x y ≡ Ok true → IsTrueOf link x y
+true_is link x y e = by_refusal (neighbor_refusal x y) refl
   where
     by_same : (b c : Bool) → truth (not b && c) ≡ truth true → (b ≡ false) × (c ≡ true)
     by_same true c h = let no : false ≡ true = cc in absurd (false_true no)
     by_same false c h = let is : c ≡ true = cc in (refl, is)
 
-    by_refusal : (o : Option H3Error) → neighbour_refusal x y ≡ o → IsTrueOf link x y
+    by_refusal : (o : Option H3Error) → neighbor_refusal x y ≡ o → IsTrueOf link x y
     by_refusal None h = let p = by_same (is_same x y) (is_some (direction_to link x y)) (sym (result-given link x y h) ∙ e) in record { other = p.0; some = p.1 }
     by_refusal (Some f) h = let no : Err f ≡ Ok true = sym (result-refused link x y f h) ∙ e in cc
 
 -- ---- the neighbour in a direction
 
 -- a step that reaches the neighbour
-pub step-neighbour : (link : Links) (x y : Address) (d : Direction) → neighbour link x d ≡ Some y → (r : ℕ) × (step_of link (state x 0) d ≡ Some (state y r))
-unfolding neighbour
-step-neighbour link x y d e = by_step (step_of link (state x 0) d) refl e
+pub step-neighbor : (link : Links) (x y : Address) (d : Direction) → neighbor link x d ≡ Some y → (r : ℕ) × (step_of link (state x 0) d ≡ Some (state y r))
+unfolding neighbor
+step-neighbor link x y d e = by_step (step_of link (state x 0) d) refl e
   where
     by_step : (o : Option State) → step_of link (state x 0) d ≡ o → cell_reached o ≡ Some y → (r : ℕ) × (step_of link (state x 0) d ≡ Some (state y r))
     by_step None is e = cc
     by_step (Some s) is e = let same : s.cell ≡ y = cc in (s.rotation, is ∙ ap (λ c. Some (state c s.rotation)) same)
 
-pub neighbour-step : (link : Links) (x y : Address) (d : Direction) (r : ℕ) → step_of link (state x 0) d ≡ Some (state y r) → neighbour link x d ≡ Some y
-unfolding neighbour
-neighbour-step link x y d r e = ap cell_reached e
+pub neighbor-step : (link : Links) (x y : Address) (d : Direction) (r : ℕ) → step_of link (state x 0) d ≡ Some (state y r) → neighbor link x d ≡ Some y
+unfolding neighbor
+neighbor-step link x y d r e = ap cell_reached e
 
-is_passes : (link : Links) (x y : Address) (d : Direction) → neighbour link x d ≡ Some y → is_some_same y (neighbour link x d) ≡ true
+is_passes : (link : Links) (x y : Address) (d : Direction) → neighbor link x d ≡ Some y → is_some_same y (neighbor link x d) ≡ true
 is_passes link x y d e = ap (is_some_same y) e ∙ same_number y y refl
 
 some_none : {A : Type 0} (a : A) → Some a ≡ None → ⊥
 some_none a e = cc
 
 -- a cell that has a neighbour is in a hexagon base cell
-pub from_hexagon : (link : Links) (x y : Address) (d : Direction) → IsCell x → neighbour link x d ≡ Some y → IsState (state x 0)
+pub from_hexagon : (link : Links) (x y : Address) (d : Direction) → IsCell x → neighbor link x d ≡ Some y → IsState (state x 0)
 from_hexagon link x y d v e = by_test (is_pentagon_base x.base) refl
   where
     by_test : (b : Bool) → is_pentagon_base x.base ≡ b → IsState (state x 0)
     by_test true h =
-        let s = step-neighbour link x y d e in
+        let s = step-neighbor link x y d e in
         let none : Some (state y s.0) ≡ None = sym s.1 ∙ step-pentagon link (state x 0) d h in
         absurd (some_none (state y s.0) none)
     by_test false h = record { hexagon = (v.base_small, h); digits = v.digits_small; few = omega arith }
@@ -203,15 +203,15 @@ same_length sums link x y q d hex st = by_out l.out l.list l.sum l.is
 
 module _ (w : StepLawsHold) (sums : SumLaws) (link : Links) (sound : IsSound link) where
   -- a neighbour is a cell, of the same resolution and in a hexagon base cell
-  pub record IsNeighbour (x y : Address) : Type 0 where
+  pub record IsNeighbor (x y : Address) : Type 0 where
     pub valid : IsCell y
     pub resolution_is : resolution y ≡ resolution x
     pub hexagon : is_pentagon_base x.base ≡ false
     pub hexagon-2 : is_pentagon_base y.base ≡ false
 
-  pub neighbour_is : (x y : Address) (d : Direction) → IsCell x → neighbour link x d ≡ Some y → IsNeighbour x y
-  neighbour_is x y d v e =
-      let s = step-neighbour link x y d e in
+  pub neighbor_is : (x y : Address) (d : Direction) → IsCell x → neighbor link x d ≡ Some y → IsNeighbor x y
+  neighbor_is x y d v e =
+      let s = step-neighbor link x y d e in
       let st = from_hexagon link x y d v e in
       let to = w.reach link sound (state x 0) (state y s.0) d st s.1 in
       let same = same_length sums link x y s.0 d st.hexagon.1 s.1 in
@@ -222,72 +222,72 @@ module _ (w : StepLawsHold) (sums : SumLaws) (link : Links) (sound : IsSound lin
       true_false : true ≡ false → ⊥
       true_false e = cc
 
-  neighbour_back : (x y : Address) → IsCell x → AreNeighbours link x y → AreNeighbours link y x
-  neighbour_back x y v n =
+  neighbor_back : (x y : Address) → IsCell x → AreNeighbors link x y → AreNeighbors link y x
+  neighbor_back x y v n =
       let d = n.direction in
-      let s = step-neighbour link x y d n.leads in
+      let s = step-neighbor link x y d n.leads in
       let st = from_hexagon link x y d v n.leads in
       let other = w.reach link sound (state x 0) (state y s.0) d st s.1 in
       let back = w.reverse link sound (state x 0) (state y s.0) d st s.1 in
       let p = same_turn sums link y x s.0 0 0 (opposite d) (turned s.0 (opposite d)) other.hexagon.1 refl back in
-      record { direction = turned s.0 (opposite d); leads = neighbour-step link y x (turned s.0 (opposite d)) p.0 p.1 }
+      record { direction = turned s.0 (opposite d); leads = neighbor-step link y x (turned s.0 (opposite d)) p.0 p.1 }
 
-  pub neighbours_mutual : NeighboursAreMutual link
-  neighbours_mutual x y v u = (neighbour_back x y v, neighbour_back y x u)
+  pub neighbors_mutual : NeighborsAreMutual link
+  neighbors_mutual x y v u = (neighbor_back x y v, neighbor_back y x u)
 
   -- ---- the direction to a neighbour
 
-  module _ (tell : NumbersTellCells) (part : OverSoundLinks StepsPart) where
+  module _ (by_number : NumbersTellCells) (part : OverSoundLinks StepsPart) where
     pub directions_part : DirectionsPart link
     directions_part x y d e v p q =
-        let s = step-neighbour link x y d p in
-        let t = step-neighbour link x y e q in
+        let s = step-neighbor link x y d p in
+        let t = step-neighbor link x y e q in
         part link sound (state x 0) (state y s.0) (state y t.0) d e (from_hexagon link x y d v p) s.1 t.1 refl
 
-    passes_is : (x y : Address) (d : Direction) → IsCell x → IsCell y → is_some_same y (neighbour link x d) ≡ true → neighbour link x d ≡ Some y
-    passes_is x y d v u e = by_neighbour (neighbour link x d) refl e
+    passes_is : (x y : Address) (d : Direction) → IsCell x → IsCell y → is_some_same y (neighbor link x d) ≡ true → neighbor link x d ≡ Some y
+    passes_is x y d v u e = by_neighbor (neighbor link x d) refl e
       where
-        by_neighbour : (o : Option Address) → neighbour link x d ≡ o → is_some_same y o ≡ true → neighbour link x d ≡ Some y
-        by_neighbour None is e = absurd (false_true e)
-        by_neighbour (Some z) is e = is ∙ ap (λ c. Some c) (tell z y (neighbour_is x z d v is).valid u (number_same z y e))
+        by_neighbor : (o : Option Address) → neighbor link x d ≡ o → is_some_same y o ≡ true → neighbor link x d ≡ Some y
+        by_neighbor None is e = absurd (false_true e)
+        by_neighbor (Some z) is e = is ∙ ap (λ c. Some c) (by_number z y (neighbor_is x z d v is).valid u (number_same z y e))
 
     pub directions_found : DirectionsAreFound link
     unfolding direction_to
     directions_found x y d v u = (
-      λ e. passes_is x y d v u (found_passes (λ d. is_some_same y (neighbour link x d)) directions d e),
-      λ e. find_one (λ d. is_some_same y (neighbour link x d)) directions d (in_directions d) (is_passes link x y d e) (λ c m t. directions_part x y c d v (passes_is x y c v u t) e),
+      λ e. passes_is x y d v u (found_passes (λ d. is_some_same y (neighbor link x d)) directions d e),
+      λ e. find_one (λ d. is_some_same y (neighbor link x d)) directions d (in_directions d) (is_passes link x y d e) (λ c m t. directions_part x y c d v (passes_is x y c v u t) e),
     )
 
     -- ---- whether two cells are neighbours
 
-    to_related : (x y : Address) → IsCell x → IsCell y → is_some (direction_to link x y) ≡ true → AreNeighbours link x y
+    to_related : (x y : Address) → IsCell x → IsCell y → is_some (direction_to link x y) ≡ true → AreNeighbors link x y
     to_related x y v u e =
         let s = some_of (direction_to link x y) e in
         record { direction = s.0; leads = (directions_found x y s.0 v u).0 s.1 }
 
-    from_related : (x y : Address) → IsCell x → IsCell y → AreNeighbours link x y → is_some (direction_to link x y) ≡ true
+    from_related : (x y : Address) → IsCell x → IsCell y → AreNeighbors link x y → is_some (direction_to link x y) ≡ true
     from_related x y v u n = ap is_some ((directions_found x y n.direction v u).1 n.leads)
 
     module _ (move_on : OverSoundLinks StepsMove) where
-      pub neighbours_differ : NeighboursDiffer link
-      neighbours_differ x y d v p e =
-          let s = step-neighbour link x y d p in
+      pub neighbors_differ : NeighborsDiffer link
+      neighbors_differ x y d v p e =
+          let s = step-neighbor link x y d p in
           move_on link sound (state x 0) (state y s.0) d (from_hexagon link x y d v p) s.1 e
 
-      true_of_neighbours : (x y : Address) → IsCell x → IsCell y → AreNeighbours link x y → are_neighbours link x y ≡ Ok true
-      true_of_neighbours x y v u n =
-          let i = neighbour_is x y n.direction v n.leads in
-          let other = other_number x y (λ e. neighbours_differ x y n.direction v n.leads (tell y x u v (sym e))) in
+      true_of_neighbors : (x y : Address) → IsCell x → IsCell y → AreNeighbors link x y → are_neighbors link x y ≡ Ok true
+      true_of_neighbors x y v u n =
+          let i = neighbor_is x y n.direction v n.leads in
+          let other = other_number x y (λ e. neighbors_differ x y n.direction v n.leads (by_number y x u v (sym e))) in
           let hexagons : (is_pentagon_base x.base || is_pentagon_base y.base) ≡ false = rw (i.hexagon, i.hexagon-2) refl in
           result-given link x y (refusal-other None x y false (sym i.resolution_is) other hexagons) ∙ (rw (other, from_related x y v u n) refl)
 
-      pub neighbours_found : NeighboursAreFound link
-      neighbours_found x y v u =
-          (λ e. to_related x y v u (true_is link x y e).some, true_of_neighbours x y v u)
+      pub neighbors_found : NeighborsAreFound link
+      neighbors_found x y v u =
+          (λ e. to_related x y v u (true_is link x y e).some, true_of_neighbors x y v u)
 
     pub both_agree : BothOrdersAgree link
-    unfolding are_neighbours
+    unfolding are_neighbors
     both_agree x y v u =
-        let swap = neighbours_mutual x y v u in
+        let swap = neighbors_mutual x y v u in
         let same : is_some (direction_to link x y) ≡ is_some (direction_to link y x) = same_truth _ _ (λ e. from_related y x u v (swap.0 (to_related x y v u e))) (λ e. from_related x y v u (swap.1 (to_related y x u v e))) in
         rw (refusal-sym None x y, eq-sym (number_of x) (number_of y), same) refl
