@@ -9,7 +9,7 @@ use Rattle.h3_lines.specs.Answer.{cell_line}
 use Rattle.h3_command.specs.DiskCells.{disk_cells_left}
 use Rattle.h3_command.specs.Walks.{without_ring}
 use Rattle.h3_command.proofs.Written.{walk_unbegun, walk_written}
-use Rattle.h3_command.proofs.walks.write_disk.Goals as goal
+use Rattle.h3_command.proofs.table_query.write_disk.Goals as goal
 
 pub returns-in-Ok : goal.returns-in-Ok
 returns-in-Ok g c =
