@@ -9,7 +9,7 @@ use Rattle.h3_index.specs.declared.error.H3Error.TheVariants.{CellInvalid, DirEd
 use Rattle.h3_lattice.specs.Digits.{cell_of}
 use Rattle.h3_lattice.specs.Links.{Links}
 use Rattle.h3_grid.specs.DirectedEdges.{edge_between, edges_from}
-use Rattle.h3_grid.specs.Neighbours.{are_neighbours, pair_refusal}
+use Rattle.h3_grid.specs.Neighbors.{are_neighbors, pair_refusal}
 use Rattle.h3_lines.specs.Answer.{refused, written}
 use Rattle.h3_command.specs.Answer.{answer, request}
 use Rattle.h3_command.specs.Answer.Request.{plain}
@@ -64,5 +64,5 @@ pairs_refused link = refl
 
 pairs_refused_too : (link : Links) → map (are_neighbor_cells link) ((cell_of 20 (0 ∷ []), cell_of 20 []) ∷ (cell_of 4 [], cell_of 8 []) ∷ [])
     ≡ Err ResMismatch ∷ Err Pentagon ∷ []
-unfolding are_neighbours pair_refusal number_of
+unfolding are_neighbors pair_refusal number_of
 pairs_refused_too link = refl

@@ -9,7 +9,7 @@ use Rattle.h3_index.specs.declared.error.H3Error.{H3Error}
 use Rattle.h3_index.specs.declared.error.H3Error.TheVariants.{DirEdgeInvalid, Failed}
 use Rattle.h3_lattice.specs.Links.{Links}
 use Rattle.h3_grid.specs.DirectedEdges.{edge_between, edge_destination, edges_from}
-use Rattle.h3_grid.specs.Neighbours.{are_neighbours}
+use Rattle.h3_grid.specs.Neighbors.{are_neighbors}
 use Rattle.h3_command.specs.Inspection.{cell_of, for_cell}
 
 -- ---- the values of words
@@ -32,7 +32,7 @@ cell_pair_of cell to = for_cell (λ a. for_cell (λ b. Ok (a, b)) (cell_of to)) 
 
 -- whether a step leads from the one cell to the other; no cell is its own neighbour
 abbrev pub are_neighbor_cells : Links → Address × Address → Result Bool H3Error
-are_neighbor_cells link cells = are_neighbours link cells.0 cells.1
+are_neighbor_cells link cells = are_neighbors link cells.0 cells.1
 
 -- the edge that leaves the first cell and leads to the second
 abbrev pub cells_to_directed_edge : Links → Address × Address → Result DirectedEdge H3Error

@@ -10,4 +10,5 @@ pub mod Items
 pub mod Resolutions
 pub mod Run
 pub mod Sets
+pub mod TableQuery
 pub mod Walks

@@ -1,27 +1,23 @@
 //! H3's functions on neighbours and directed edges, for the indexes of words: `None` where a word
-//! has none. Which pairs of cells and which edges are refused is this library's own.
+//! has none. For those over a base cell table, what each asks of it. Which pairs of cells and which
+//! edges are refused is this library's own.
 //!
 //! For each word, the first before the second: `Failed` where it has no index, then `CellInvalid` or
-//! `DirEdgeInvalid` where no cell or edge has it. Then no table is read. The functions over a table
-//! go on with `Refusal::Read`, `Refusal::Memory` and `Refusal::Table` as `BaseTable::read` finds
-//! them, then the errors named at each, and `Refusal::Write` where a push or the flush fails.
+//! `DirEdgeInvalid` where no cell or edge has it.
 
-ghost use Rattle.std.specs.Prelude.{◌≡◌, false};
+ghost use Rattle.std.specs.Prelude.{◌≡◌};
 ghost use Rattle.std.specs.Iterator.{YieldsFirst};
 ghost use Rattle.h3_grid.specs.Edges.{edges_left};
-ghost use Rattle.h3_lines.specs.Writing.{sink_use};
-ghost use Rattle.h3_command.specs.Answer.{reads_table, request};
+ghost use Rattle.h3_command.specs.Answer.{request, with_table};
 ghost use Rattle.h3_command.specs.Edges.{cell_pair_of, edge_of, get_directed_edge_origin, is_valid_directed_edge, origin_to_directed_edges};
 ghost use Rattle.h3_command.specs.Items.{Lists};
-ghost use Rattle.h3_command.specs.Run.{Ends, SourceUse, source_use};
+ghost use Rattle.h3_command.specs.TableQuery.{table_answer};
 ghost use Rattle.h3_command.specs.declared.command.Command.TheVariants.{AreNeighborCells, CellsToDirectedEdge, GetDirectedEdgeDestination};
 
 use crate::inspection::cell_from;
-use h3_grid::{Edges, are_neighbors, edge_between, edge_destination, edges_of};
-use h3_index::{Cell, Edge, H3Error, Sink, Source};
-use h3_lattice::BaseTable;
-use h3_lines::{Refusal, write_result};
-use std::alloc::Global;
+use crate::table_query::TableQuery;
+use h3_grid::{Edges, edges_of};
+use h3_index::{Cell, Edge, H3Error};
 
 /// The edge with an index.
 fn edge_from(index: Option<u64>) -> Result<Edge, H3Error>
@@ -65,70 +61,31 @@ pub fn origin_to_directed_edges(index: Option<u64>) -> Result<Edges, H3Error>
     Ok(edges_of(cell))
 }
 
-/// Writes whether two cells are neighbours, as H3's `areNeighborCells` does, over the links of the
-/// table.
-///
-/// `ResMismatch` where their resolutions differ; then, for different cells, `Pentagon` where either
-/// is in a pentagon base cell.
-pub fn are_neighbor_cells<T: Source, W: Sink>(
-    alloc: Global,
-    cell: Option<u64>,
-    to: Option<u64>,
-    table: &mut T,
-    out: &mut W,
-) -> Result<(), Refusal>
-    ensures ends { (input : SourceUse) → Ends (request (AreNeighborCells cell to)) input
-        (source_use T.left T.has_failed table.old table.new) result
-        (sink_use W.taken W.has_failed out.old out.new) }
-    ensures table_kept { reads_table (request (AreNeighborCells cell to)) ≡ false
-        → table.new ≡ table.old }
+/// Whether two cells are neighbours, as H3's `areNeighborCells` returns it, over the links of a table.
+pub fn are_neighbor_cells(cell: Option<u64>, to: Option<u64>) -> Result<TableQuery, H3Error>
+    ensures { with_table table_answer result ≡ request (AreNeighborCells cell to) }
 {
     let (cell, to) = cell_pair_from(cell, to)?;
-    let table = BaseTable::read(alloc, table)?;
-    write_result(out, are_neighbors(&table, cell, to))
+    Ok(TableQuery::Neighbors { cell, to })
 }
 
-/// Writes the edge that leaves a cell and leads to another, as H3's `cellsToDirectedEdge` does, over
-/// the links of the table.
-///
-/// `ResMismatch` where their resolutions differ; then `NotNeighbors` for one cell given twice; then
-/// `Pentagon` where either is in a pentagon base cell; then `NotNeighbors` where no step leads from
-/// the first to the second.
-pub fn cells_to_directed_edge<T: Source, W: Sink>(
-    alloc: Global,
-    cell: Option<u64>,
-    to: Option<u64>,
-    table: &mut T,
-    out: &mut W,
-) -> Result<(), Refusal>
-    ensures ends { (input : SourceUse) → Ends (request (CellsToDirectedEdge cell to)) input
-        (source_use T.left T.has_failed table.old table.new) result
-        (sink_use W.taken W.has_failed out.old out.new) }
-    ensures table_kept { reads_table (request (CellsToDirectedEdge cell to)) ≡ false
-        → table.new ≡ table.old }
+/// The edge that leaves a cell and leads to another, as H3's `cellsToDirectedEdge` returns it, over the
+/// links of a table.
+pub fn cells_to_directed_edge(cell: Option<u64>, to: Option<u64>) -> Result<TableQuery, H3Error>
+    ensures { with_table table_answer result ≡ request (CellsToDirectedEdge cell to) }
 {
     let (origin, destination) = cell_pair_from(cell, to)?;
-    let table = BaseTable::read(alloc, table)?;
-    write_result(out, edge_between(&table, origin, destination))
+    Ok(TableQuery::EdgeBetween {
+        origin,
+        destination,
+    })
 }
 
-/// Writes the cell that an edge leads to, as H3's `getDirectedEdgeDestination` does, over the links
-/// of the table.
-///
-/// `Pentagon` where the edge's origin or that cell is in a pentagon base cell.
-pub fn get_directed_edge_destination<T: Source, W: Sink>(
-    alloc: Global,
-    index: Option<u64>,
-    table: &mut T,
-    out: &mut W,
-) -> Result<(), Refusal>
-    ensures ends { (input : SourceUse) → Ends (request (GetDirectedEdgeDestination index)) input
-        (source_use T.left T.has_failed table.old table.new) result
-        (sink_use W.taken W.has_failed out.old out.new) }
-    ensures table_kept { reads_table (request (GetDirectedEdgeDestination index)) ≡ false
-        → table.new ≡ table.old }
+/// The cell that an edge leads to, as H3's `getDirectedEdgeDestination` returns it, over the links of a
+/// table.
+pub fn get_directed_edge_destination(index: Option<u64>) -> Result<TableQuery, H3Error>
+    ensures { with_table table_answer result ≡ request (GetDirectedEdgeDestination index) }
 {
     let edge = edge_from(index)?;
-    let table = BaseTable::read(alloc, table)?;
-    write_result(out, edge_destination(&table, edge))
+    Ok(TableQuery::EdgeDestination { edge })
 }

@@ -10,6 +10,7 @@ mod inspection;
 mod resolutions;
 pub mod run;
 mod sets;
+mod table_query;
 mod walks;
 
 pub use command::Command;

@@ -6,6 +6,7 @@ ghost use Rattle.h3_command.specs.Answer.{reads_list, reads_table, request};
 ghost use Rattle.h3_command.specs.Run.{Ends, Runs, source_use};
 
 use crate::command::Command;
+use crate::command::Command::*;
 use crate::edges::{
     are_neighbor_cells, cells_to_directed_edge, get_directed_edge_destination,
     get_directed_edge_origin, is_valid_directed_edge, origin_to_directed_edges,
@@ -19,6 +20,7 @@ use crate::inspection::{
 };
 use crate::resolutions::{get_num_cells, get_pentagons, get_res0_cells};
 use crate::sets::{compact_cells, uncompact_cells};
+use crate::table_query::over_table;
 use crate::walks::{grid_disk_distances_unsafe, grid_disk_unsafe, grid_ring_unsafe};
 use h3_index::{Sink, Source};
 use h3_lines::{Refusal, report, write_lines, write_result};
@@ -38,52 +40,44 @@ fn perform<R: Source, T: Source, W: Sink>(
     ensures input_kept { reads_list (request command.now) ≡ false → input.new ≡ input.old }
     ensures table_kept { reads_table (request command.now) ≡ false → table.new ≡ table.old }
 {
-    match command {
-        Command::IsValidCell { cell } => write_result(out, is_valid_cell(*cell)),
-        Command::GetResolution { cell } => write_result(out, get_resolution(*cell)),
-        Command::GetBaseCellNumber { cell } => write_result(out, get_base_cell_number(*cell)),
-        Command::IsPentagon { cell } => write_result(out, is_pentagon(*cell)),
-        Command::IsResClassIII { cell } => write_result(out, is_res_class_iii(*cell)),
-        Command::GetNumCells { res } => write_result(out, get_num_cells(*res)),
-        Command::GetRes0Cells => write_lines(out, get_res0_cells()),
-        Command::GetPentagons { res } => write_lines(out, get_pentagons(*res)?),
-        Command::CellToParent { cell, res } => write_result(out, cell_to_parent(*cell, *res)),
-        Command::CellToCenterChild { cell, res } => {
-            write_result(out, cell_to_center_child(*cell, *res))
-        }
-        Command::CellToChildren { cell, res } => write_lines(out, cell_to_children(*cell, *res)?),
-        Command::CellToChildrenSize { cell, res } => {
-            write_result(out, cell_to_children_size(*cell, *res))
-        }
-        Command::CellToChildPos { cell, res } => write_result(out, cell_to_child_pos(*cell, *res)),
-        Command::ChildPosToCell {
+    match *command {
+        IsValidCell { cell } => write_result(out, is_valid_cell(cell)),
+        GetResolution { cell } => write_result(out, get_resolution(cell)),
+        GetBaseCellNumber { cell } => write_result(out, get_base_cell_number(cell)),
+        IsPentagon { cell } => write_result(out, is_pentagon(cell)),
+        IsResClassIII { cell } => write_result(out, is_res_class_iii(cell)),
+        GetNumCells { res } => write_result(out, get_num_cells(res)),
+        GetRes0Cells => write_lines(out, get_res0_cells()),
+        GetPentagons { res } => write_lines(out, get_pentagons(res)?),
+        CellToParent { cell, res } => write_result(out, cell_to_parent(cell, res)),
+        CellToCenterChild { cell, res } => write_result(out, cell_to_center_child(cell, res)),
+        CellToChildren { cell, res } => write_lines(out, cell_to_children(cell, res)?),
+        CellToChildrenSize { cell, res } => write_result(out, cell_to_children_size(cell, res)),
+        CellToChildPos { cell, res } => write_result(out, cell_to_child_pos(cell, res)),
+        ChildPosToCell {
             position,
             cell,
             res,
-        } => write_result(out, child_pos_to_cell(*position, *cell, *res)),
-        Command::CompactCells => compact_cells(alloc, input, out),
-        Command::UncompactCells { res } => uncompact_cells(alloc, *res, input, out),
-        Command::GridDiskUnsafe { cell, k } => grid_disk_unsafe(alloc, *cell, *k, table, out),
-        Command::GridDiskDistancesUnsafe { cell, k } => {
-            grid_disk_distances_unsafe(alloc, *cell, *k, table, out)
+        } => write_result(out, child_pos_to_cell(position, cell, res)),
+        CompactCells => compact_cells(alloc, input, out),
+        UncompactCells { res } => uncompact_cells(alloc, res, input, out),
+        GridDiskUnsafe { cell, k } => over_table(alloc, grid_disk_unsafe(cell, k), table, out),
+        GridDiskDistancesUnsafe { cell, k } => {
+            over_table(alloc, grid_disk_distances_unsafe(cell, k), table, out)
         }
-        Command::GridRingUnsafe { cell, k } => grid_ring_unsafe(alloc, *cell, *k, table, out),
-        Command::AreNeighborCells { cell, to } => {
-            are_neighbor_cells(alloc, *cell, *to, table, out)
+        GridRingUnsafe { cell, k } => over_table(alloc, grid_ring_unsafe(cell, k), table, out),
+        AreNeighborCells { cell, to } => {
+            over_table(alloc, are_neighbor_cells(cell, to), table, out)
         }
-        Command::CellsToDirectedEdge { cell, to } => {
-            cells_to_directed_edge(alloc, *cell, *to, table, out)
+        CellsToDirectedEdge { cell, to } => {
+            over_table(alloc, cells_to_directed_edge(cell, to), table, out)
         }
-        Command::IsValidDirectedEdge { edge } => write_result(out, is_valid_directed_edge(*edge)),
-        Command::GetDirectedEdgeOrigin { edge } => {
-            write_result(out, get_directed_edge_origin(*edge))
+        IsValidDirectedEdge { edge } => write_result(out, is_valid_directed_edge(edge)),
+        GetDirectedEdgeOrigin { edge } => write_result(out, get_directed_edge_origin(edge)),
+        GetDirectedEdgeDestination { edge } => {
+            over_table(alloc, get_directed_edge_destination(edge), table, out)
         }
-        Command::GetDirectedEdgeDestination { edge } => {
-            get_directed_edge_destination(alloc, *edge, table, out)
-        }
-        Command::OriginToDirectedEdges { cell } => {
-            write_lines(out, origin_to_directed_edges(*cell)?)
-        }
+        OriginToDirectedEdges { cell } => write_lines(out, origin_to_directed_edges(cell)?),
     }
 }
 

@@ -12,7 +12,7 @@ use Rattle.h3_lattice.specs.declared.direction.Direction.TheVariants.{I}
 use Rattle.h3_lattice.specs.Direction.{turned}
 use Rattle.h3_lattice.specs.Links.{IsSound, Links}
 use Rattle.h3_grid.specs.Chart.{RingAgrees, RingsAgree, disk_states}
-use Rattle.h3_grid.specs.Laws.{IsState, Writes}
+use Rattle.h3_grid.specs.Laws.{IsState, WritesCells}
 use Rattle.h3_grid.specs.Moves.{moves, sides}
 use Rattle.h3_grid.specs.Search.{step_of}
 use Rattle.h3_grid.specs.Steps.{State, state}
@@ -175,7 +175,7 @@ module _ (w : StepLawsHold) (link : Links) (sound : IsSound link) (c : Address) 
       states_list w link sound c valid (suc m) goes
       ∙ ap (λ l. state c 0 ∷ l) (ap (flat_map f) (range_last 1 m) ∙ flat_map-append f (range_with_len 1 m) ((1 + m) ∷ []) ∙ ap (λ l. flat_map f (range_with_len 1 m) ++ l) (append-nil (f (1 + m)) ∙ ap f one ∙ last_ring))
 
-  pub agrees : (cells : List (Address × ℕ)) → Writes link c (suc m) cells → RingAgrees link c (suc m) cells
+  pub agrees : (cells : List (Address × ℕ)) → WritesCells link c (suc m) cells → RingAgrees link c (suc m) cells
   agrees cells e = record {
     inner = map cell_at before;
     first = last_start.cell;
@@ -187,7 +187,7 @@ module _ (w : StepLawsHold) (link : Links) (sound : IsSound link) (c : Address) 
         ∙ ap (λ l. map cell_at before ++ l) (map-append cell_at all_but_last (last_side (suc m) ∷ []) ∙ ap (λ t. map cell_at all_but_last ++ t.cell ∷ []) closing);
   }
 
-agree_more : StepLawsHold → (link : Links) (c : Address) (m : ℕ) (cells : List (Address × ℕ)) → IsSound link → IsState (state c 0) → Writes link c (suc m) cells → RingAgrees link c (suc m) cells
+agree_more : StepLawsHold → (link : Links) (c : Address) (m : ℕ) (cells : List (Address × ℕ)) → IsSound link → IsState (state c 0) → WritesCells link c (suc m) cells → RingAgrees link c (suc m) cells
 unfolding disk moves
 agree_more w link c m cells sound valid e =
     let b = began c 0 (followed link (state c 0) (moves (suc m))) cells e in

@@ -14,9 +14,9 @@ use Rattle.h3_lattice.specs.declared.direction.Direction.TheVariants.{K, J, JK, 
 use Rattle.h3_lattice.specs.Direction.{digit_of, direction_of}
 use Rattle.h3_lattice.specs.Links.{Links}
 use Rattle.h3_grid.specs.DirectedEdges.{IsDestination, IsEdgeBetween, ListsEdges, edge_between, edge_destination, edge_refusal, edges_from}
-use Rattle.h3_grid.specs.Neighbours.{AreNeighbours, DirectionsAreFound, direction_to, neighbour}
+use Rattle.h3_grid.specs.Neighbors.{AreNeighbors, DirectionsAreFound, direction_to, neighbor}
 use Rattle.h3_grid.proofs.ListLaws.{from_map, in_map}
-use Rattle.h3_grid.proofs.NeighbourLaws.{from_hexagon}
+use Rattle.h3_grid.proofs.NeighborLaws.{from_hexagon}
 
 -- ---- digits of directions
 
@@ -202,7 +202,7 @@ listed c v = record { each = λ e. (to e, from e); ascending = subst (AllPairs (
 -- the error of a pair that is refused, and of one that is not
 abbrev pub Refused : Links → Address → Address → Result DirectedEdge H3Error → Type 0
 Refused link x y r =
-    MatchOption (edge_refusal x y) (IfErr r (λ e. (e ≡ NotNeighbors) × (AreNeighbours link x y → ⊥))) (λ e. r ≡ Err e)
+    MatchOption (edge_refusal x y) (IfErr r (λ e. (e ≡ NotNeighbors) × (AreNeighbors link x y → ⊥))) (λ e. r ≡ Err e)
 
 pub edge-refused : (link : Links) (x y : Address) (e : H3Error) → Some e ≡ edge_refusal x y → Err e ≡ edge_between link x y
 unfolding edge_between
@@ -229,7 +229,7 @@ pub record IsFound (link : Links) (x y : Address) (r : Result DirectedEdge H3Err
   pub leads : IfOk r (IsEdgeBetween link x y)
   pub refused : Refused link x y r
 
-found_by : (link : Links) (x y : Address) (d : Direction) (r : Result DirectedEdge H3Error) → neighbour link x d ≡ Some y → edge_refusal x y ≡ None → Some d ≡ direction_to link x y → IsMade x d r → IsFound link x y r
+found_by : (link : Links) (x y : Address) (d : Direction) (r : Result DirectedEdge H3Error) → neighbor link x d ≡ Some y → edge_refusal x y ≡ None → Some d ≡ direction_to link x y → IsMade x d r → IsFound link x y r
 unfolding edge_between
 found_by link x y d r leads h some m =
     let between : IsEdgeBetween link x y (directed_edge x (digit_of d)) = record { valid = m.valid; leaves = refl; leads = record { direction = d; digit_is = refl; leads = leads } } in
@@ -252,7 +252,7 @@ pub record LeadsTo (link : Links) (e : DirectedEdge) (y : Address) : Type 0 wher
   pub is : Ok y ≡ edge_destination link e
   pub leads : IsDestination link e y
 
-pub leads_to : (link : Links) (e : DirectedEdge) (d : Direction) (y : Address) → IsEdge e → Some d ≡ direction_of e.direction → neighbour link e.origin d ≡ Some y → LeadsTo link e y
+pub leads_to : (link : Links) (e : DirectedEdge) (d : Direction) (y : Address) → IsEdge e → Some d ≡ direction_of e.direction → neighbor link e.origin d ≡ Some y → LeadsTo link e y
 unfolding edge_destination
 leads_to link e d y v some n = record {
   is = rw (← some, n) refl;
@@ -263,12 +263,12 @@ pub record LeadsNowhere (link : Links) (e : DirectedEdge) : Type 0 where
   pub is : Err Pentagon ≡ edge_destination link e
   pub none : (y : Address) → IsDestination link e y → ⊥
 
-pub leads_nowhere : (link : Links) (e : DirectedEdge) (d : Direction) → IsEdge e → Some d ≡ direction_of e.direction → neighbour link e.origin d ≡ None → LeadsNowhere link e
+pub leads_nowhere : (link : Links) (e : DirectedEdge) (d : Direction) → IsEdge e → Some d ≡ direction_of e.direction → neighbor link e.origin d ≡ None → LeadsNowhere link e
 unfolding edge_destination
 leads_nowhere link e d v some n = record {
   is = rw (← some, n) refl;
   none = λ y h. (let one : h.direction ≡ d = one_direction h.direction d (sym h.digit_is ∙ direction_is e.direction d v.direction_small (sym some)) in
-      some_none y (sym h.leads ∙ ap (neighbour link e.origin) one ∙ n));
+      some_none y (sym h.leads ∙ ap (neighbor link e.origin) one ∙ n));
 }
   where
     some_none : (y : Address) → Some y ≡ None → ⊥

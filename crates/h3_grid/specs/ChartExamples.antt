@@ -8,14 +8,14 @@ use Rattle.h3_lattice.specs.Digits.{cell_of}
 use Rattle.h3_lattice.specs.Eisenstein.{eisenstein}
 use Rattle.h3_lattice.specs.Vectors.{test_link}
 use Rattle.h3_grid.specs.Chart.{IsChart, disk_states, states_from}
-use Rattle.h3_grid.specs.Laws.{Writes}
+use Rattle.h3_grid.specs.Laws.{WritesCells}
 use Rattle.h3_grid.specs.Moves.{moves, ring_moves, ring_places, spiral}
 use Rattle.h3_grid.specs.Search.{candidates, digit_lists, found_sum, step_of}
 use Rattle.h3_grid.specs.Steps.{State, state}
 use Rattle.h3_grid.specs.Walks.{disk, followed}
 
 -- of this disk, which lies in nineteen base cells, no move is refused: so all that is said of such disks holds of it
-disk_of_radius_2 : Writes (test_link Plain) (cell_of 30 []) 2
+disk_of_radius_2 : WritesCells (test_link Plain) (cell_of 30 []) 2
     ((cell_of 30 [], 0) ∷ (cell_of 42 [], 1) ∷ (cell_of 41 [], 1) ∷ (cell_of 29 [], 1) ∷ (cell_of 18 [], 1) ∷ (cell_of 19 [], 1) ∷ (cell_of 31 [], 1)
     ∷ (cell_of 43 [], 2) ∷ (cell_of 54 [], 2) ∷ (cell_of 53 [], 2) ∷ (cell_of 52 [], 2) ∷ (cell_of 40 [], 2) ∷ (cell_of 28 [], 2) ∷ (cell_of 17 [], 2)
     ∷ (cell_of 6 [], 2) ∷ (cell_of 7 [], 2) ∷ (cell_of 8 [], 2) ∷ (cell_of 20 [], 2) ∷ (cell_of 32 [], 2) ∷ [])
@@ -23,7 +23,7 @@ unfolding disk moves ring_moves followed step_of found_sum candidates digit_list
 disk_of_radius_2 = refl
 
 -- over links whose corners do not close, a disk of which no move is refused
-skew_disk : Writes (test_link Skew) (cell_of 30 []) 1
+skew_disk : WritesCells (test_link Skew) (cell_of 30 []) 1
     ((cell_of 30 [], 0) ∷ (cell_of 42 [], 1) ∷ (cell_of 41 [], 1) ∷ (cell_of 28 [], 1) ∷ (cell_of 17 [], 1) ∷ (cell_of 18 [], 1) ∷ (cell_of 31 [], 1) ∷ [])
 unfolding disk moves ring_moves followed step_of found_sum candidates digit_lists
 skew_disk = refl

@@ -11,13 +11,13 @@ use Rattle.h3_index.specs.declared.error.H3Error.TheVariants.{NotNeighbors, Pent
 use Rattle.h3_lattice.specs.declared.direction.Direction.{Direction}
 use Rattle.h3_lattice.specs.Direction.{digit_of, direction_of, directions}
 use Rattle.h3_lattice.specs.Links.{Links}
-use Rattle.h3_grid.specs.Neighbours.{direction_to, neighbour, pair_refusal, unless_refused}
+use Rattle.h3_grid.specs.Neighbors.{direction_to, neighbor, pair_refusal, unless_refused}
 
 -- y is the destination of the edge: the neighbour of its origin in its direction
 pub record IsDestination (link : Links) (e : DirectedEdge) (y : Address) : Type 0 where
   pub direction : Direction
   pub digit_is : e.direction ≡ digit_of direction
-  pub leads : neighbour link e.origin direction ≡ Some y
+  pub leads : neighbor link e.origin direction ≡ Some y
 
 -- the edge leaves x and leads to y
 pub record IsEdgeBetween (link : Links) (x y : Address) (e : DirectedEdge) : Type 0 where
@@ -39,9 +39,9 @@ edge_toward x (Some d) = Ok (directed_edge x (digit_of d))
 unfoldable pub edge_between : Links → Address → Address → Result DirectedEdge H3Error
 edge_between link x y = unless_refused (edge_refusal x y) (edge_toward x (direction_to link x y))
 
-abbrev pub neighbour_toward : Links → Address → Option Direction → Option Address
-neighbour_toward link x None = None
-neighbour_toward link x (Some d) = neighbour link x d
+abbrev pub neighbor_toward : Links → Address → Option Direction → Option Address
+neighbor_toward link x None = None
+neighbor_toward link x (Some d) = neighbor link x d
 
 abbrev pub or_pentagon : Option Address → Result Address H3Error
 or_pentagon None = Err Pentagon
@@ -49,7 +49,7 @@ or_pentagon (Some y) = Ok y
 
 -- the destination of an edge
 unfoldable pub edge_destination : Links → DirectedEdge → Result Address H3Error
-edge_destination link e = or_pentagon (neighbour_toward link e.origin (direction_of e.direction))
+edge_destination link e = or_pentagon (neighbor_toward link e.origin (direction_of e.direction))
 
 -- ---- the edges of a cell
 

@@ -5,14 +5,14 @@ use Rattle.h3_lattice.specs.declared.direction.Direction.{Direction}
 use Rattle.h3_lattice.specs.Eisenstein.{Eisenstein, sum_of, zero_point}
 use Rattle.h3_lattice.specs.Direction.{unit_of}
 use Rattle.h3_lattice.specs.Links.{IsSound, Links}
-use Rattle.h3_grid.specs.Laws.{Writes}
+use Rattle.h3_grid.specs.Laws.{WritesCells}
 use Rattle.h3_grid.specs.Moves.{spiral}
-use Rattle.h3_grid.specs.Neighbours.{AreNeighbours}
+use Rattle.h3_grid.specs.Neighbors.{AreNeighbors}
 
 -- a path of at most n neighbours joins c to a cell
 pub data Joins (link : Links) (c : Address) : ℕ → Address → Type 0 where
   stay : (n : ℕ) → Joins link c n c
-  go_on : (n : ℕ) (x y : Address) → Joins link c n x → AreNeighbours link x y → Joins link c (suc n) y
+  go_on : (n : ℕ) (x y : Address) → Joins link c n x → AreNeighbors link x y → Joins link c (suc n) y
 
 -- a cell is written with a ring of at most j
 pub record IsWritten (cells : List (Address × ℕ)) (j : ℕ) (y : Address) : Type 0 where
@@ -27,7 +27,7 @@ HasDistances link c k cells = (j : ℕ) → j ≤ k → (y : Address) → IsWrit
 -- it is so in a disk of which no move is refused
 abbrev pub RingsAreDistances : Type 0
 RingsAreDistances =
-    (link : Links) (c : Address) (k : ℕ) (cells : List (Address × ℕ)) → IsSound link → IsCell c → Writes link c k cells → HasDistances link c k cells
+    (link : Links) (c : Address) (k : ℕ) (cells : List (Address × ℕ)) → IsSound link → IsCell c → WritesCells link c k cells → HasDistances link c k cells
 
 -- a sum of at most n units
 pub data IsSumOfUnits : ℕ → Eisenstein → Type 0 where

@@ -49,17 +49,17 @@ StepsCloseTriangles link =
 -- ---- disks
 
 -- no move of the disk of radius k around c is refused, and it writes these cells, with their rings
-abbrev pub Writes : Links → Address → ℕ → List (Address × ℕ) → Type 0
-Writes link c k cells = disk link c k ≡ map (λ i. Ok i) cells
+abbrev pub WritesCells : Links → Address → ℕ → List (Address × ℕ) → Type 0
+WritesCells link c k cells = disk link c k ≡ map (λ i. Ok i) cells
 
 -- what holds of the cells of a disk, where none of its moves is refused
 abbrev pub IfWritten : Links → Address → ℕ → (List (Address × ℕ) → Type 0) → Type 0
-IfWritten link c k P = (cells : List (Address × ℕ)) → Writes link c k cells → P cells
+IfWritten link c k P = (cells : List (Address × ℕ)) → WritesCells link c k cells → P cells
 
 -- a disk of which no move is refused writes 3k(k + 1) + 1 cells
 abbrev pub DisksHaveSizes : Type 0
 DisksHaveSizes =
-    (link : Links) (c : Address) (k : ℕ) (cells : List (Address × ℕ)) → Writes link c k cells → length cells ≡ 3 * k * (k + 1) + 1
+    (link : Links) (c : Address) (k : ℕ) (cells : List (Address × ℕ)) → WritesCells link c k cells → length cells ≡ 3 * k * (k + 1) + 1
 
 -- the moves up to the m-th write, from the origin on, add up to the m-th place of the spiral
 abbrev pub MovesFollowTheSpiral : Type 0
@@ -80,5 +80,5 @@ pub record IsChartedInside (c : Address) (k : ℕ) (cells : List (Address × ℕ
 -- it is so where all cells of a disk are in the origin's base cell
 abbrev pub DisksInsideAreCharted : Type 0
 DisksInsideAreCharted =
-    (link : Links) (c : Address) (k : ℕ) (cells : List (Address × ℕ)) → IsSound link → IsCell c → Writes link c k cells → All (λ i. i.0.base ≡ c.base) cells
+    (link : Links) (c : Address) (k : ℕ) (cells : List (Address × ℕ)) → IsSound link → IsCell c → WritesCells link c k cells → All (λ i. i.0.base ≡ c.base) cells
     → IsChartedInside c k cells

@@ -8,9 +8,10 @@ pub mod Edges
 pub mod Examples
 pub mod Laws
 pub mod Moves
-pub mod Neighbours
+pub mod Neighbors
 pub mod Refusals
 pub mod Ring
 pub mod Search
 pub mod Steps
 pub mod Walks
+pub mod WholeDisk

@@ -5,10 +5,10 @@ ghost use Rattle.h3_index.specs.Cell.{Address};
 ghost use Rattle.h3_lattice.specs.BaseTable.{link_of};
 ghost use Rattle.h3_grid.specs.DirectedEdges.{IsDestination, IsEdgeBetween, ListsEdges, edge_between, edge_destination, edge_refusal, edges_from};
 ghost use Rattle.h3_grid.specs.Edges.{edges_left};
-ghost use Rattle.h3_grid.specs.Neighbours.{AreNeighbours, DirectionsAreFound, DirectionsPart};
+ghost use Rattle.h3_grid.specs.Neighbors.{AreNeighbors, DirectionsAreFound, DirectionsPart};
 
 use crate::iter::Edges;
-use crate::neighbours::{direction_to, neighbor, neighbour_is_lawful, pair_refusal};
+use crate::neighbors::{direction_to, neighbor, neighbor_is_lawful, pair_refusal};
 use h3_index::{Cell, Edge, H3Error};
 use h3_lattice::{BaseTable, Direction};
 
@@ -23,14 +23,14 @@ pub fn edge_between(table: &BaseTable, a: Cell, b: Cell) -> Result<Edge, H3Error
     // The same in parts: what the edge is, and which pairs are refused.
     ensures leads { IfOk result (λ edge. IsEdgeBetween (link_of table.now) a b edge) }
     ensures refused { MatchOption (edge_refusal a b)
-        (IfErr result (λ e. (e ≡ H3Error.NotNeighbors) × ¬ AreNeighbours (link_of table.now) a b))
+        (IfErr result (λ e. (e ≡ H3Error.NotNeighbors) × ¬ AreNeighbors (link_of table.now) a b))
         (λ e. result ≡ Err e) }
 
     // Laws of neighbours over the table: there is no second direction, and the function of the definitions finds it.
     ensures part { DirectionsPart (link_of table.now) }
     ensures found { DirectionsAreFound (link_of table.now) }
 {
-    neighbour_is_lawful(table);
+    neighbor_is_lawful(table);
     match pair_refusal(Some(H3Error::NotNeighbors), a, b) {
         Some(error) => Err(error),
         None => match direction_to(table, a, b) {

@@ -1,15 +1,15 @@
 //! Disks.
 
-ghost use Rattle.std.specs.Prelude.{◌≡◌, ◌≤◌, ◌<◌, ◌+◌, ◌*◌, ◌^◌, ◌∷◌, true, length, All, IfOk, unsigned_abs};
+ghost use Rattle.std.specs.Prelude.{◌≡◌, ◌≤◌, ◌<◌, ◌+◌, ◌*◌, ◌^◌, ◌∷◌, true, length, IfOk, unsigned_abs};
 ghost use Rattle.std.specs.Iterator.{YieldsFirst, item_count};
 ghost use Rattle.std.specs.Result.{result_err};
 ghost use Rattle.h3_lattice.specs.BaseTable.{link_of};
-ghost use Rattle.h3_grid.specs.Chart.{IsChart, LeadsAlongPaths};
 ghost use Rattle.h3_grid.specs.Counters.{side_before};
-ghost use Rattle.h3_grid.specs.Distance.{HasDistances, SpiralsHoldSums};
-ghost use Rattle.h3_grid.specs.Laws.{IfWritten, IsChartedInside, MovesFollowTheSpiral, SpiralsAreSimple};
+ghost use Rattle.h3_grid.specs.Distance.{SpiralsHoldSums};
+ghost use Rattle.h3_grid.specs.Laws.{IfWritten, MovesFollowTheSpiral, SpiralsAreSimple};
 ghost use Rattle.h3_grid.specs.Refusals.{disk_refusal};
 ghost use Rattle.h3_grid.specs.Walks.{disk};
+ghost use Rattle.h3_grid.specs.WholeDisk.{IsWholeDisk};
 
 use crate::laws::{disks_are_charts, disks_are_spirals};
 use crate::steps::step;
@@ -52,18 +52,10 @@ pub struct Disk<'a> {
     ghost in_range: { ring + rings < 2 ^ 31 },
 }
 
-/// Laws of the disk of a radius around a cell, over the links of a table. It does nothing.
+/// A law of the disk of a radius around a cell, over the links of a table. It does nothing.
 fn disk_is_lawful(table: &BaseTable, cell: Cell, k: i32)
-    ensures size { IfWritten (link_of table.now) cell (unsigned_abs k)
-        (λ cells. length cells ≡ 3 * unsigned_abs k * (unsigned_abs k + 1) + 1) }
-    ensures inside { IfWritten (link_of table.now) cell (unsigned_abs k)
-        (λ cells. All (λ item. item.0.base ≡ cell.base) cells → IsChartedInside cell (unsigned_abs k) cells) }
-    ensures chart { IfWritten (link_of table.now) cell (unsigned_abs k)
-        (λ cells. IsChart (link_of table.now) cell (unsigned_abs k)) }
-    ensures paths { IfWritten (link_of table.now) cell (unsigned_abs k)
-        (λ cells. LeadsAlongPaths (link_of table.now) cell (unsigned_abs k)) }
-    ensures distances { IfWritten (link_of table.now) cell (unsigned_abs k)
-        (λ cells. HasDistances (link_of table.now) cell (unsigned_abs k) cells) }
+    ensures { IfWritten (link_of table.now) cell (unsigned_abs k)
+        (IsWholeDisk (link_of table.now) cell (unsigned_abs k)) }
 {
     disks_are_spirals();
     disks_are_charts();
@@ -84,18 +76,11 @@ impl<'a> Disk<'a> {
         ensures refused { result_err result ≡ disk_refusal cell k }
         ensures items { IfOk result (λ walk. disk_left walk ≡ disk (link_of table.now) cell (unsigned_abs k)) }
 
-        // Where no move is refused: how many cells there are; where they are, if all are in the origin's base cell;
-        // that steps between them lead where the places of the spiral say; and that rings are distances.
+        // Where no move is refused: how many cells there are; and where they are, and how far from the origin.
         ensures size { IfWritten (link_of table.now) cell (unsigned_abs k)
             (λ cells. length cells ≡ 3 * unsigned_abs k * (unsigned_abs k + 1) + 1) }
-        ensures inside { IfWritten (link_of table.now) cell (unsigned_abs k)
-            (λ cells. All (λ item. item.0.base ≡ cell.base) cells → IsChartedInside cell (unsigned_abs k) cells) }
-        ensures chart { IfWritten (link_of table.now) cell (unsigned_abs k)
-            (λ cells. IsChart (link_of table.now) cell (unsigned_abs k)) }
-        ensures paths { IfWritten (link_of table.now) cell (unsigned_abs k)
-            (λ cells. LeadsAlongPaths (link_of table.now) cell (unsigned_abs k)) }
-        ensures distances { IfWritten (link_of table.now) cell (unsigned_abs k)
-            (λ cells. HasDistances (link_of table.now) cell (unsigned_abs k) cells) }
+        ensures whole { IfWritten (link_of table.now) cell (unsigned_abs k)
+            (IsWholeDisk (link_of table.now) cell (unsigned_abs k)) }
 
         // Laws of the moves and of the spiral alone.
         ensures spiral { MovesFollowTheSpiral }

@@ -4,7 +4,7 @@
 ghost use Rattle.h3_grid.specs.Chart.{ChartsLeadAlongPaths, DisksAreCharts, OriginsAreAlone, RingsAgree, StatesAreWritten};
 ghost use Rattle.h3_grid.specs.Distance.{RingsAreDistances, SpiralsHoldSums};
 ghost use Rattle.h3_grid.specs.Laws.{DisksHaveSizes, DisksInsideAreCharted, MovesFollowTheSpiral, OverSoundLinks, SpiralsAreSimple, SpiralsHaveSizes, StepsCloseTriangles, StepsMove, StepsPart, StepsReachStates, StepsReverse};
-ghost use Rattle.h3_grid.specs.Neighbours.{BothOrdersAgree, DirectionsAreFound, DirectionsPart, NeighboursAreFound, NeighboursAreMutual, NeighboursDiffer};
+ghost use Rattle.h3_grid.specs.Neighbors.{BothOrdersAgree, DirectionsAreFound, DirectionsPart, NeighborsAreFound, NeighborsAreMutual, NeighborsDiffer};
 ghost use Rattle.h3_grid.specs.Search.{StepsAreFound};
 
 use h3_index::laws::numbers_tell_cells;
@@ -62,14 +62,14 @@ pub fn disks_are_charts()
 }
 
 /// Over sound links at most one direction leads from a cell to another, and `direction_to` of the definitions finds it,
-/// so that `are_neighbours` is true of neighbours alone; no cell is its own neighbour; of two cells each is the other's
-/// neighbour or neither is, and `are_neighbours` has the same result in either order, errors included.
-pub fn neighbours_are_lawful()
+/// so that `are_neighbors` is true of neighbours alone; no cell is its own neighbour; of two cells each is the other's
+/// neighbour or neither is, and `are_neighbors` has the same result in either order, errors included.
+pub fn neighbors_are_lawful()
     ensures found { OverSoundLinks DirectionsAreFound }
-    ensures related { OverSoundLinks NeighboursAreFound }
+    ensures related { OverSoundLinks NeighborsAreFound }
     ensures part { OverSoundLinks DirectionsPart }
-    ensures differ { OverSoundLinks NeighboursDiffer }
-    ensures mutual { OverSoundLinks NeighboursAreMutual }
+    ensures differ { OverSoundLinks NeighborsDiffer }
+    ensures mutual { OverSoundLinks NeighborsAreMutual }
     ensures both { OverSoundLinks BothOrdersAgree }
 {
     numbers_tell_cells();

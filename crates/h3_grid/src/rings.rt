@@ -1,11 +1,10 @@
 //! Rings.
 
-ghost use Rattle.std.specs.Prelude.{◌≡◌, ◌≤◌, ◌<◌, ◌*◌, ◌^◌, ◌∷◌, replicate, true, false, Some, None, IfOk, IfErr, unsigned_abs};
+ghost use Rattle.std.specs.Prelude.{◌≡◌, ◌≤◌, ◌<◌, ◌^◌, ◌∷◌, replicate, true, false, Some, None, IfOk, IfErr, unsigned_abs};
 ghost use Rattle.std.specs.Iterator.{YieldsFirst, item_count};
 ghost use Rattle.std.specs.Result.{result_err};
 ghost use Rattle.h3_lattice.specs.BaseTable.{link_of};
-ghost use Rattle.h3_grid.specs.Chart.{OriginsAreAlone, RingAgrees};
-ghost use Rattle.h3_grid.specs.Laws.{IfWritten};
+ghost use Rattle.h3_grid.specs.Chart.{OriginsAreAlone, RingEndsDisk};
 ghost use Rattle.h3_grid.specs.Refusals.{ring_refusal};
 ghost use Rattle.h3_grid.specs.Steps.{state};
 ghost use Rattle.h3_grid.specs.Walks.{ring, stepped};
@@ -61,9 +60,7 @@ pub struct Ring<'a> {
 
 /// A law of the ring of a radius around a cell, over the links of a table. It does nothing.
 fn ring_is_lawful(table: &BaseTable, cell: Cell, k: i32)
-    ensures agree { 1 ≤ unsigned_abs k → IfWritten (link_of table.now) cell (unsigned_abs k)
-        (λ cells. RingAgrees (link_of table.now) cell (unsigned_abs k) cells) }
-    ensures origin { OriginsAreAlone }
+    ensures { RingEndsDisk (link_of table.now) cell (unsigned_abs k) }
 {
     disks_are_charts();
     table.links_are_sound();
@@ -83,10 +80,10 @@ impl<'a> Ring<'a> {
         ensures items { IfOk result (λ walk. ring_left walk ≡ ring (link_of table.now) cell (unsigned_abs k)) }
 
         // The last ring of a disk of which no move is refused is this ring.
-        ensures agree { 1 ≤ unsigned_abs k → IfWritten (link_of table.now) cell (unsigned_abs k)
-            (λ cells. RingAgrees (link_of table.now) cell (unsigned_abs k) cells) }
+        ensures agree { RingEndsDisk (link_of table.now) cell (unsigned_abs k) }
         ensures origin { OriginsAreAlone }
     {
+        disks_are_charts();
         ring_is_lawful(table, cell, k);
         if k < 0 {
             return Err(H3Error::Domain);

@@ -453,7 +453,7 @@ fn walks_are_copied(rt: HostRuntime) -> Result<(), Fail> {
 }
 
 #[test]
-fn neighbours_are_a_step_apart(rt: HostRuntime) -> Result<(), Fail> {
+fn neighbors_are_a_step_apart(rt: HostRuntime) -> Result<(), Fail> {
     let plain = test_table(&rt, TestTable::Plain)?;
     let table = [
         (0x8528340ffffffff, 0x85283473fffffff, Ok(true)),
@@ -483,7 +483,7 @@ fn neighbours_are_a_step_apart(rt: HostRuntime) -> Result<(), Fail> {
 }
 
 #[test]
-fn edges_lead_to_neighbours(rt: HostRuntime) -> Result<(), Fail> {
+fn edges_lead_to_neighbors(rt: HostRuntime) -> Result<(), Fail> {
     let plain = test_table(&rt, TestTable::Plain)?;
     let twisted = test_table(&rt, TestTable::Twisted)?;
     let table = [

@@ -94,7 +94,7 @@ module _ (tree : CellsFormTrees) where
     }),
   )
 
-  module _ (tell : NumbersTellCells) (cells : List Address) (r : ℕ) (fine : r ≤ 15) (slots sorted : List Address) (same : IsPermutation slots sorted) (apart : IsApart slots) (part : (x : Address) → Contains slots x ↔ InPart cells r 0 x) (ascends : AllPairs (λ a b. number_of a ≤ number_of b) sorted) where
+  module _ (by_number : NumbersTellCells) (cells : List Address) (r : ℕ) (fine : r ≤ 15) (slots sorted : List Address) (same : IsPermutation slots sorted) (apart : IsApart slots) (part : (x : Address) → Contains slots x ↔ InPart cells r 0 x) (ascends : AllPairs (λ a b. number_of a ≤ number_of b) sorted) where
     tops : (c : Address) → Contains slots c → IsTop (IsCovered cells r) r c
     tops c m = (reached tree cells r c).0 ((part c).0 m)
 
@@ -104,7 +104,7 @@ module _ (tree : CellsFormTrees) where
         let b = get_or slots j d in
         let v = (tops a (Contains-get_or slots i d (omega (arith, lt, lj)))).full.valid in
         let w = (tops b (Contains-get_or slots j d lj)).full.valid in
-        let one : a ≡ b = tell a b v w e in
+        let one : a ≡ b = by_number a b v w e in
         apart i j d lt lj (inl (subst (λ z. IsAncestor a z) one (tree.own a)))
 
     ascending : AllPairs (λ a b. number_of a < number_of b) sorted

@@ -14,7 +14,7 @@ use Rattle.h3_tree.specs.Laws.{CellsFormTrees}
 use Rattle.h3_tree.specs.PostOrder.{post_order_key as key, CellsFormIntervals}
 use Rattle.h3_set.specs.Coverage.{is_ancestor, IsApart, Overlap}
 use Rattle.h3_set.specs.Laws.{OneResolutionIsApart, OverlapsAreFound}
-use Rattle.h3_set.specs.Order.{IsBefore, IsInOrder}
+use Rattle.h3_set.specs.Order.{IsBeforeBlock, IsInOrder}
 use Rattle.h3_set.specs.Refusals.{has_overlap, overlaps}
 use Rattle.h3_set.proofs.KeyLaws.{inside, within}
 use Rattle.h3_set.proofs.PermutedLaws.{apart_permuted}
@@ -97,8 +97,8 @@ module _ (intervals : CellsFormIntervals) (cells : List Address) (valid : All Is
       ]
 
   -- where no neighbours overlap, no two cells do
-  pub by_neighbours : ((k : ℕ) (d : Address) → 0 < k → k < length cells → IsBefore (get_or cells (k - 1) d) (get_or cells k d)) → IsApart cells
-  by_neighbours h i j d lt lj o =
+  pub by_neighbors : ((k : ℕ) (d : Address) → 0 < k → k < length cells → IsBeforeBlock (get_or cells (k - 1) d) (get_or cells k d)) → IsApart cells
+  by_neighbors h i j d lt lj o =
       let a = get_or cells i d in
       let b = get_or cells j d in
       let ha = valid i d (omega (arith, lt, lj)) in
@@ -123,7 +123,7 @@ within_more P cells i x lt is h p k d low l =
 
 -- of the first i cells each comes before those after it, and their keys are below an end
 abbrev pub Rises : List Address → ℕ → ℕ → Type 0
-Rises cells i end = ((a b : ℕ) (d : Address) → a < b → b < i → IsBefore (get_or cells a d) (get_or cells b d)) × ((a : ℕ) (d : Address) → a < i → key (get_or cells a d) < end)
+Rises cells i end = ((a b : ℕ) (d : Address) → a < b → b < i → IsBeforeBlock (get_or cells a d) (get_or cells b d)) × ((a : ℕ) (d : Address) → a < i → key (get_or cells a d) < end)
 
 both : (a b : Bool) → (a && b) ≡ true → (a ≡ true) × (b ≡ true)
 both true b h = (refl, h)
@@ -152,10 +152,10 @@ rise_more cells i end next p x rises size lt is at h t =
       ],
     )
 
-module _ (intervals : CellsFormIntervals) (cells : List Address) (valid : All IsCell cells) (rises : AllPairs IsBefore cells) where
+module _ (intervals : CellsFormIntervals) (cells : List Address) (valid : All IsCell cells) (rises : AllPairs IsBeforeBlock cells) where
   pub rising_order : IsInOrder cells
   rising_order i j d lt lj = let h = rises i j d lt lj in omega (arith, h)
 
   pub rising_apart : IsApart cells
   rising_apart =
-      by_neighbours intervals cells valid rising_order (λ k d pos lt. rises (k - 1) k d (omega (arith, pos)) lt)
+      by_neighbors intervals cells valid rising_order (λ k d pos lt. rises (k - 1) k d (omega (arith, pos)) lt)

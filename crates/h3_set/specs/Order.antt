@@ -9,5 +9,5 @@ abbrev pub IsInOrder : List Address → Type 0
 IsInOrder = AllPairs (λ a b. post_order_key a ≤ post_order_key b)
 
 -- a comes before b and all cells below b
-abbrev pub IsBefore : Address → Address → Type 0
-IsBefore a b = post_order_key a + 8 ^ (15 - resolution b) ≤ post_order_key b
+abbrev pub IsBeforeBlock : Address → Address → Type 0
+IsBeforeBlock a b = post_order_key a + 8 ^ (15 - resolution b) ≤ post_order_key b

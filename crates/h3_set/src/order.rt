@@ -3,7 +3,7 @@
 
 ghost use Rattle.std.specs.Prelude.{◌≡◌, ◌-◌, ◌^◌, ◌≤◌, true, All, AllPairs, IsPermutation};
 ghost use Rattle.h3_index.specs.Cell.{IsCell, resolution};
-ghost use Rattle.h3_set.specs.Order.{IsInOrder, IsBefore};
+ghost use Rattle.h3_set.specs.Order.{IsInOrder, IsBeforeBlock};
 ghost use Rattle.h3_set.specs.Refusals.{has_overlap};
 
 use h3_index::Cell;
@@ -57,7 +57,7 @@ fn has_overlap(cells: &[Cell]) -> bool
 /// Puts cells in order, and returns whether cells at two places overlap. Where they are known to be
 /// in order with no two that overlap, nothing is to be done.
 pub(crate) fn sort_and_find_overlap(cells: &mut [Cell], rises: bool) -> bool
-    requires { rises ≡ true → AllPairs IsBefore cells.old }
+    requires { rises ≡ true → AllPairs IsBeforeBlock cells.old }
     ensures same { IsPermutation cells.old cells.new }
     ensures in_order { IsInOrder cells.new }
     ensures overlap { result ≡ has_overlap cells.old }

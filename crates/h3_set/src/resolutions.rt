@@ -3,7 +3,7 @@
 ghost use Rattle.std.specs.Prelude.{◌≡◌, ◌<◌, ◌≤◌, true, All, AllPairs};
 ghost use Rattle.h3_index.specs.Cell.{IsCell, resolution};
 ghost use Rattle.h3_set.specs.Coverage.{finest};
-ghost use Rattle.h3_set.specs.Order.{IsBefore};
+ghost use Rattle.h3_set.specs.Order.{IsBeforeBlock};
 
 use crate::order::keys_below;
 use h3_index::Cell;
@@ -15,7 +15,7 @@ pub(crate) fn survey(cells: &[Cell]) -> (u8, bool)
     ensures finest { result.0 ≡ finest cells.now }
     ensures at_most_fifteen { result.0 ≤ 15 }
     ensures valid { All IsCell cells.now }
-    ensures rises { result.1 ≡ true → AllPairs IsBefore cells.now }
+    ensures rises { result.1 ≡ true → AllPairs IsBeforeBlock cells.now }
 {
     let mut finest: u8 = 0;
     let mut rises = true;

@@ -1,14 +1,14 @@
 //! Compaction in rounds, in slots that the caller provides at each call.
 
-ghost use Rattle.std.specs.Prelude.{◌≡◌, ◌≢◌, ◌+◌, ◌<◌, ◌≤◌, ◌↔◌, length, take, drop, AllPairs, Contains, IfOk, List, ℕ, IsPermutation};
+ghost use Rattle.std.specs.Prelude.{◌≡◌, ◌≢◌, ◌<◌, ◌≤◌, ◌↔◌, length, take, drop, AllPairs, Contains, IfOk, IsPermutation};
 ghost use Rattle.std.specs.Result.{result_err};
 ghost use Rattle.h3_index.specs.Cell.{Address, number_of};
-ghost use Rattle.h3_set.specs.Compaction.{level_of, slots_in_use};
-ghost use Rattle.h3_set.specs.Coverage.{finest, IsApart, IsCompactable};
+ghost use Rattle.h3_set.specs.Compaction.{level_of, slots_in_use, IsNextLevel, IsStarted, LeadsOn};
+ghost use Rattle.h3_set.specs.Coverage.{IsApart};
 ghost use Rattle.h3_set.specs.Laws.{OneResolutionIsApart, OverlapsAreFound, RoundsReachTheTop};
 ghost use Rattle.h3_set.specs.Order.{IsInOrder};
 ghost use Rattle.h3_set.specs.Refusals.{compaction_refusal};
-ghost use Rattle.h3_set.specs.Rounds.{InPart, InRound};
+ghost use Rattle.h3_set.specs.Rounds.{InRound};
 
 use crate::merge::{merge, merge_runs};
 use crate::order::{are_cells, sort_and_find_overlap};
@@ -38,16 +38,7 @@ impl Compaction {
         ensures input { IsPermutation cells.now (take (length cells.now) slots.new) }
         ensures others { drop (length cells.now) slots.new ≡ drop (length cells.now) slots.old }
 
-        // The rounds begin at the cells' finest resolution, with the cells, of which no two
-        // overlap.
-        ensures in_use { IfOk result (λ c. slots_in_use c ≡ length cells.now) }
-        ensures level { IfOk result (λ c. level_of c ≡ finest cells.now) }
-        ensures at_most_fifteen { IfOk result (λ c. level_of c ≤ 15) }
-        ensures compactable { IfOk result (λ c. IsCompactable (level_of c) cells.now) }
-        ensures apart { IfOk result (λ c. IsApart (take (slots_in_use c) slots.new)) }
-        ensures part { IfOk result (λ c. (x : Address)
-            → Contains (take (slots_in_use c) slots.new) x
-            ↔ InPart cells.now (level_of c) (level_of c) x) }
+        ensures started { IfOk result (IsStarted cells.now slots.new) }
 
         // At level 0, where no round is left, these are the top cells. The test of the refusal finds
         // the cells that overlap; those of one resolution do so only where one is listed twice.
@@ -55,6 +46,7 @@ impl Compaction {
         ensures overlaps { OverlapsAreFound }
         ensures repeats { OneResolutionIsApart }
     {
+        cells_form_trees();
         Compaction::start_in_order(cells, slots)
     }
 
@@ -65,22 +57,7 @@ impl Compaction {
         ensures input { IsPermutation cells.now (take (length cells.now) slots.new) }
         ensures others { drop (length cells.now) slots.new ≡ drop (length cells.now) slots.old }
 
-        // The rounds begin at the cells' finest resolution, with the cells, of which no two
-        // overlap.
-        ensures in_use { IfOk result (λ c. slots_in_use c ≡ length cells.now) }
-        ensures level { IfOk result (λ c. level_of c ≡ finest cells.now) }
-        ensures at_most_fifteen { IfOk result (λ c. level_of c ≤ 15) }
-        ensures compactable { IfOk result (λ c. IsCompactable (level_of c) cells.now) }
-        ensures apart { IfOk result (λ c. IsApart (take (slots_in_use c) slots.new)) }
-        ensures part { IfOk result (λ c. (x : Address)
-            → Contains (take (slots_in_use c) slots.new) x
-            ↔ InPart cells.now (level_of c) (level_of c) x) }
-
-        // At level 0, where no round is left, these are the top cells. The test of the refusal finds
-        // the cells that overlap; those of one resolution do so only where one is listed twice.
-        ensures last { RoundsReachTheTop }
-        ensures overlaps { OverlapsAreFound }
-        ensures repeats { OneResolutionIsApart }
+        ensures started { IfOk result (IsStarted cells.now slots.new) }
         ensures in_order { IfOk result (λ c. IsInOrder (take (slots_in_use c) slots.new)) }
     {
         cells_form_trees();
@@ -117,22 +94,10 @@ impl Compaction {
         requires some_level { 0 < level_of self }
         requires room { slots_in_use self ≤ length slots.old }
         requires apart { IsApart (take (slots_in_use self) slots.old) }
-        ensures level { level_of result + 1 ≡ level_of self }
-        ensures fewer { slots_in_use result ≤ slots_in_use self }
+        ensures next { IsNextLevel self slots.old result slots.new }
         ensures members { (x : Address) → Contains (take (slots_in_use result) slots.new) x
             ↔ InRound (Contains (take (slots_in_use self) slots.old)) (level_of self) x }
         ensures once { AllPairs (λ a b. a ≢ b) (take (slots_in_use result) slots.new) }
-        ensures apart { IsApart (take (slots_in_use result) slots.new) }
-        ensures others { drop (slots_in_use self) slots.new ≡ drop (slots_in_use self) slots.old }
-
-        // So what the rounds above this level make of a list becomes what they and this one make of
-        // it.
-        ensures part { (cells : List Address) (r : ℕ)
-            → IsCompactable r cells → r ≤ 15 → level_of self ≤ r
-            → ((x : Address) → Contains (take (slots_in_use self) slots.old) x
-            ↔ InPart cells r (level_of self) x)
-            → (x : Address) → Contains (take (slots_in_use result) slots.new) x
-            ↔ InPart cells r (level_of result) x }
         ensures last { RoundsReachTheTop }
     {
         cells_form_trees();
@@ -149,17 +114,8 @@ impl Compaction {
         requires room { slots_in_use self ≤ length slots.old }
         requires apart { IsApart (take (slots_in_use self) slots.old) }
         requires in_order { IsInOrder (take (slots_in_use self) slots.old) }
-        ensures level { level_of result + 1 ≡ level_of self }
-        ensures fewer { slots_in_use result ≤ slots_in_use self }
-        ensures apart { IsApart (take (slots_in_use result) slots.new) }
+        ensures next { IsNextLevel self slots.old result slots.new }
         ensures in_order { IsInOrder (take (slots_in_use result) slots.new) }
-        ensures others { drop (slots_in_use self) slots.new ≡ drop (slots_in_use self) slots.old }
-        ensures part { (cells : List Address) (r : ℕ)
-            → IsCompactable r cells → r ≤ 15 → level_of self ≤ r
-            → ((x : Address) → Contains (take (slots_in_use self) slots.old) x
-            ↔ InPart cells r (level_of self) x)
-            → (x : Address) → Contains (take (slots_in_use result) slots.new) x
-            ↔ InPart cells r (level_of result) x }
     {
         cells_form_trees();
         are_cells(&slots[..self.len]);
@@ -174,12 +130,8 @@ impl Compaction {
         requires room { slots_in_use self ≤ length slots.now }
         ensures same { slots_in_use result ≡ slots_in_use self }
         ensures level { level_of result ≤ level_of self }
-        ensures part { (cells : List Address) (r : ℕ)
-            → IsCompactable r cells → r ≤ 15 → level_of self ≤ r
-            → ((x : Address) → Contains (take (slots_in_use self) slots.now) x
-            ↔ InPart cells r (level_of self) x)
-            → (x : Address) → Contains (take (slots_in_use self) slots.now) x
-            ↔ InPart cells r (level_of result) x }
+        ensures part { LeadsOn (take (slots_in_use self) slots.now) (level_of self)
+            (take (slots_in_use self) slots.now) (level_of result) }
     {
         cells_form_trees();
         Compaction {

@@ -6,7 +6,8 @@ use Rattle.std.proofs.lemmas.List.Sums.{sum_by-cons}
 use Rattle.std.proofs.lemmas.Option.{slice_get_within, slice_get-get_or, get_or_from_slice_get}
 use Rattle.h3_index.specs.Cell.{Address, IsCell, is_pentagon, number_of}
 use Rattle.h3_index.specs.Descendants.{descendants, IsDescendant}
-use Rattle.h3_tree.specs.Positions.{position_under, DescendantsAreKnown, MembersHavePositions, PositionsTellMembers}
+use Rattle.h3_tree.specs.Known.{DescendantsAreKnown}
+use Rattle.h3_tree.specs.Positions.{position_under, MembersHavePositions, PositionsHaveMembers}
 use Rattle.h3_tree.proofs.SizeLaws.{sevens_small, sevens_some}
 
 -- ---- in an ascending list the count of the smaller ones is the index
@@ -60,8 +61,8 @@ pub members_have_positions : DescendantsAreKnown → MembersHavePositions
 members_have_positions laws c x s k v low high e =
     ap (position_under c) (sym (get_or_from_slice_get (descendants c s) k x x e)) ∙ position_under-get laws c s k x v low high (slice_get_within (descendants c s) k x e)
 
-pub positions_tell_members : DescendantsAreKnown → PositionsTellMembers
-positions_tell_members laws c x s v low high h =
+pub positions_have_members : DescendantsAreKnown → PositionsHaveMembers
+positions_have_members laws c x s v low high h =
     let at = get-position_under laws c x s v low high h in
     slice_get-get_or (descendants c s) (position_under c x) x at.within ∙ ap Some at.is
 

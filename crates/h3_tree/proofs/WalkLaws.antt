@@ -11,7 +11,8 @@ use Rattle.std.proofs.lemmas.Option.{get_or_from_slice_get, slice_get-get_or, sl
 use Rattle.h3_index.specs.Cell.{Address, IsCell, is_pentagon}
 use Rattle.h3_index.specs.Descendants.{child, cut, descendants, IsDescendant}
 use Rattle.h3_index.specs.Paths.{next_step}
-use Rattle.h3_tree.specs.Positions.{position_under, DescendantsAreKnown, HasPosition}
+use Rattle.h3_tree.specs.Known.{DescendantsAreKnown}
+use Rattle.h3_tree.specs.Positions.{position_under, HasPosition}
 use Rattle.h3_tree.proofs.BlockLaws.{IsBlock, block_at, child-cut, get-block, length-blocks, not_deleted, offset, outer_size, pentagon-child}
 use Rattle.h3_tree.proofs.FollowingLaws.{address_same, digit_small}
 use Rattle.h3_tree.proofs.PositionLaws.{get-position_under, members_have_positions, position_under-get, size_small, size_some}
@@ -55,7 +56,7 @@ offset_hexagon false outer (suc d) h =
 
 -- ---- how many stand before a cell's own
 
-pub record IsBefore (c : Address) (s before : ℕ) : Type 0 where
+pub record HasBefore (c : Address) (s before : ℕ) : Type 0 where
   pub small : before ≤ 4747561509943
   pub ahead : (x : Address) → IsDescendant c s x → position_under (cut c (length c.digits - 1)) x ≡ before + position_under c x
 
@@ -100,29 +101,29 @@ module _ (laws : DescendantsAreKnown) (c : Address) (s d : ℕ) (h : IsLastDigit
   whole_cell : child (cut c (length c.digits - 1)) d ≡ c
   whole_cell = child-cut c d h.some h.is
 
-  before_at : (center outer : ℕ) → center ≡ length (descendants (child (cut c (length c.digits - 1)) 0) s) → outer ≡ 7 ^ (s - length c.digits) → IsBefore c s (offset (is_pentagon (cut c (length c.digits - 1))) center outer d)
+  before_at : (center outer : ℕ) → center ≡ length (descendants (child (cut c (length c.digits - 1)) 0) s) → outer ≡ 7 ^ (s - length c.digits) → HasBefore c s (offset (is_pentagon (cut c (length c.digits - 1))) center outer d)
   before_at center outer e o =
       let b = block_at laws.hexagons (cut c (length c.digits - 1)) s d center outer (omega (arith, parent_level, h.some, h.low)) e (o ∙ ap (λ n. 7 ^ n) parent_power) h.small (not_deleted (cut c (length c.digits - 1)) d (subst IsCell (sym whole_cell) h.valid)) in
       let f = before_of laws (cut c (length c.digits - 1)) c s d (offset (is_pentagon (cut c (length c.digits - 1))) center outer d) whole_cell h.parent_valid h.valid h.high b in
       record { small = f.0; ahead = f.1 }
 
-  pub before_center : d ≡ 0 → IsBefore c s 0
+  pub before_center : d ≡ 0 → HasBefore c s 0
   before_center z =
       rw z at (before_at (length (descendants (child (cut c (length c.digits - 1)) 0) s)) (7 ^ (s - length c.digits)) refl refl)
 
-  pub before_hexagon : (outer : ℕ) → is_pentagon (cut c (length c.digits - 1)) ≡ false → outer ≡ 7 ^ (s - length c.digits) → IsBefore c s (d * outer)
+  pub before_hexagon : (outer : ℕ) → is_pentagon (cut c (length c.digits - 1)) ≡ false → outer ≡ 7 ^ (s - length c.digits) → HasBefore c s (d * outer)
   before_hexagon outer hexagon o =
       let center = hexagon_size laws (cut c (length c.digits - 1)) s 0 outer hexagon (o ∙ ap (λ n. 7 ^ n) parent_power) in
-      subst (IsBefore c s) (offset_hexagon (is_pentagon (cut c (length c.digits - 1))) outer d hexagon) (before_at outer outer (sym center) o)
+      subst (HasBefore c s) (offset_hexagon (is_pentagon (cut c (length c.digits - 1))) outer d hexagon) (before_at outer outer (sym center) o)
 
   pub after_deleted : is_pentagon (cut c (length c.digits - 1)) ≡ true → d ≢ 0 → 2 ≤ d
   after_deleted pentagon nz =
       let one : d ≢ 1 = not_deleted (cut c (length c.digits - 1)) d (subst IsCell (sym whole_cell) h.valid) pentagon in
       omega (arith, nz, one)
 
-  pub before_pentagon : (center outer : ℕ) → is_pentagon (cut c (length c.digits - 1)) ≡ true → d ≢ 0 → center ≡ length (descendants (child (cut c (length c.digits - 1)) 0) s) → outer ≡ 7 ^ (s - length c.digits) → IsBefore c s (center + (d - 2) * outer)
+  pub before_pentagon : (center outer : ℕ) → is_pentagon (cut c (length c.digits - 1)) ≡ true → d ≢ 0 → center ≡ length (descendants (child (cut c (length c.digits - 1)) 0) s) → outer ≡ 7 ^ (s - length c.digits) → HasBefore c s (center + (d - 2) * outer)
   before_pentagon center outer pentagon nz e o =
-      subst (λ p. IsBefore c s (center + (d - next_step p 0) * outer)) pentagon (rw (no_zero d nz) at (before_at center outer e o))
+      subst (λ p. HasBefore c s (center + (d - next_step p 0) * outer)) pentagon (rw (no_zero d nz) at (before_at center outer e o))
 
 -- ---- the child that has a descendant
 

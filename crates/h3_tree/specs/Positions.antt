@@ -2,14 +2,6 @@
 use Rattle.std.specs.Prelude.{ℕ, ◌≡◌, ◌≤◌, nat_lt, count_by, slice_get, Some}
 use Rattle.h3_index.specs.Cell.{Address, IsCell, number_of, resolution}
 use Rattle.h3_index.specs.Descendants.{descendants, IsDescendant}
-use Rattle.h3_index.specs.Laws.{DescendantsAreListed, DescendantsAscend, HexagonsHaveSevens, PentagonsHaveFewer}
-
--- the laws of the list of the descendants, together. Private contracts and proofs alone cite it.
-pub record DescendantsAreKnown : Type 0 where
-  pub members : DescendantsAreListed
-  pub ascending : DescendantsAscend
-  pub hexagons : HexagonsHaveSevens
-  pub pentagons : PentagonsHaveFewer
 
 -- how many of the descendants of c that have the resolution of x have a smaller number than x
 unfoldable pub position_under : Address → Address → ℕ
@@ -27,6 +19,6 @@ MembersHavePositions =
     (c x : Address) (s place : ℕ) → IsCell c → resolution c ≤ s → s ≤ 15 → slice_get (descendants c s) place ≡ Some x → position_under c x ≡ place
 
 -- the member at a descendant's position is that descendant
-abbrev pub PositionsTellMembers : Type 0
-PositionsTellMembers =
+abbrev pub PositionsHaveMembers : Type 0
+PositionsHaveMembers =
     (c x : Address) (s : ℕ) → IsCell c → resolution c ≤ s → s ≤ 15 → IsDescendant c s x → slice_get (descendants c s) (position_under c x) ≡ Some x

@@ -5,7 +5,8 @@ ghost use Rattle.std.specs.Prelude.{◌≡◌, ◌+◌, ◌-◌, ◌<◌, ◌≤
 ghost use Rattle.std.specs.Result.{result_err};
 ghost use Rattle.h3_index.specs.Cell.{Address, IsCell, resolution};
 ghost use Rattle.h3_index.specs.Descendants.{cut, descendants, IsDescendant};
-ghost use Rattle.h3_tree.specs.Positions.{position_under, DescendantsAreKnown, HasPosition, MembersHavePositions, PositionsTellMembers};
+ghost use Rattle.h3_tree.specs.Known.{DescendantsAreKnown};
+ghost use Rattle.h3_tree.specs.Positions.{position_under, HasPosition, MembersHavePositions, PositionsHaveMembers};
 ghost use Rattle.h3_tree.specs.Refusals.{parent_refusal, position_refusal};
 
 use crate::ancestors::parent;
@@ -75,9 +76,9 @@ fn child_below(position: u64, cell: Cell, level: u8, r: u8) -> (Cell, u64)
 }
 
 /// Laws of positions, proved from those of the list of the descendants; it does nothing.
-fn positions_are_told()
+fn positions_are_lawful()
     ensures members { MembersHavePositions }
-    ensures positions { PositionsTellMembers }
+    ensures positions { PositionsHaveMembers }
 {
     descendants_are_known();
 }
@@ -136,9 +137,9 @@ pub fn child_at(position: u64, cell: Cell, res: i32) -> Result<Cell, H3Error>
     // Laws of positions: the member at one has it, and the member at a descendant's is that
     // descendant.
     ensures members { MembersHavePositions }
-    ensures positions { PositionsTellMembers }
+    ensures positions { PositionsHaveMembers }
 {
-    positions_are_told();
+    positions_are_lawful();
     let r = resolution_from(0, res)?;
     if r < cell.resolution() {
         return Err(H3Error::ResMismatch);

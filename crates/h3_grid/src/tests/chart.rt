@@ -171,7 +171,7 @@ fn assert_chart(rt: &impl Abort, table: &BaseTable, all: &[Visit]) -> u32 {
 }
 
 /// Adds the cells that a step reaches from a cell to a list, if they are not in it.
-fn add_neighbours(table: &BaseTable, cell: Cell, cells: &mut Vec<Cell>) -> Result<(), Fail> {
+fn add_neighbors(table: &BaseTable, cell: Cell, cells: &mut Vec<Cell>) -> Result<(), Fail> {
     for direction in DIRECTIONS {
         if let Ok((reached, _)) = step(table, cell, direction, 0) {
             if !cells.contains(&reached) {
@@ -186,7 +186,7 @@ fn add_neighbours(table: &BaseTable, cell: Cell, cells: &mut Vec<Cell>) -> Resul
 fn add_round(table: &BaseTable, cells: &mut Vec<Cell>) -> Result<(), Fail> {
     let before = cells.clone()?;
     for cell in &before {
-        add_neighbours(table, *cell, cells)?;
+        add_neighbors(table, *cell, cells)?;
     }
     Ok(())
 }

@@ -14,7 +14,7 @@ use Rattle.h3_set.proofs.compact.compact_cells.Goals as goal
 pub loop-slots-preserved : goal.loop-slots-preserved
 loop-slots-preserved c =
     let i = c.loop-slots.invariant in
-    let after = c.round_in_order.ensures in
+    let after = c.round_in_order.ensures.next in
     let left = c.skip-compaction.ensures in
     record {
       room = omega (arith, i.room, c.round_in_order.auto.slots);
@@ -23,7 +23,7 @@ loop-slots-preserved c =
       level = omega (arith, i.level, after.level, left.level);
       compactable = i.compactable;
       apart = rw left.same after.apart;
-      in_order = rw left.same after.in_order;
+      in_order = rw left.same c.round_in_order.ensures.in_order;
       part = rw left.same (left.part c.args.cells.now (finest c.args.cells.now) i.compactable i.small (omega (arith, i.level, after.level)) (after.part c.args.cells.now (finest c.args.cells.now) i.compactable i.small i.level i.part));
       others = drop_later _ _ _ _ i.in_use after.others ∙ i.others;
     }

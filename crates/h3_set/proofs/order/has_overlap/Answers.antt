@@ -3,7 +3,7 @@ use Rattle.std.proofs.lemmas.Bool.{cases_lt}
 use Rattle.h3_index.specs.Cell.{Address, resolution}
 use Rattle.h3_tree.specs.PostOrder.{post_order_key as key}
 use Rattle.h3_set.proofs.KeyLaws.{key_small}
-use Rattle.h3_set.proofs.OverlapLaws.{by_neighbours, none_where, not_before, overlap_at}
+use Rattle.h3_set.proofs.OverlapLaws.{by_neighbors, none_where, not_before, overlap_at}
 use Rattle.h3_set.proofs.TreeLaws.{any_default}
 use Rattle.h3_set.proofs.order.has_overlap.Goals as goal
 use Rattle.h3_set.proofs.order.has_overlap.Goals.{After-keys_below}
@@ -45,4 +45,4 @@ loop-i-preserved c = λ k d pos lt.
 
 pub returns : goal.returns
 returns c =
-    sym (none_where c.args.cells.now (by_neighbours c.cells_form_intervals.ensures c.args.cells.now c.are_cells.ensures c.requires (λ k d pos lt. c.loop-i.invariant k d pos (omega (arith, lt)))))
+    sym (none_where c.args.cells.now (by_neighbors c.cells_form_intervals.ensures c.args.cells.now c.are_cells.ensures c.requires (λ k d pos lt. c.loop-i.invariant k d pos (omega (arith, lt)))))

@@ -1,10 +1,10 @@
 use Rattle.std.proofs.Common.{◌≡◌, ◌+◌, ◌*◌, ◌-◌, ◌^◌, true, false, arith, ap, sym, ◌∙◌, length}
 use Rattle.h3_index.specs.Cell.{is_pentagon}
 use Rattle.h3_index.specs.Descendants.{child, cut, descendants}
-use Rattle.h3_tree.proofs.WalkLaws.{IsBefore, last_digit, before_center, before_hexagon, before_pentagon, after_deleted}
+use Rattle.h3_tree.proofs.WalkLaws.{HasBefore, last_digit, before_center, before_hexagon, before_pentagon, after_deleted}
 use Rattle.h3_tree.proofs.positions.before_own.Goals as goal
 
-below_hexagon : (c : goal.After-from) → IsBefore c.args.cell c.args.r (c.from.result * c.power_of_seven-outer.result)
+below_hexagon : (c : goal.After-from) → HasBefore c.args.cell c.args.r (c.from.result * c.power_of_seven-outer.result)
 below_hexagon c =
     let last = last_digit c.args.cell c.cut-parent.result c.args.r c.digit-digit.result c.resolution-own.result c.resolution-own.ensures.valid c.resolution-own.ensures.number c.requires.has_parent c.requires.not_coarser c.requires.at_most_fifteen c.digit-digit.ensures c.cut-parent.ensures.is c.cut-parent.ensures.valid in
     let parent : c.cut-parent.result ≡ cut c.args.cell (length c.args.cell.digits - 1) = c.cut-parent.ensures.is ∙ ap (λ n. cut c.args.cell (n - 1)) c.resolution-own.ensures.number in
@@ -33,7 +33,7 @@ overflow_sub-digit c =
     let pentagon : is_pentagon (cut c.args.cell (length c.args.cell.digits - 1)) ≡ true = ap is_pentagon (sym parent) ∙ sym c.is_pentagon.ensures ∙ c.if-not-is_pentagon.false in
     after_deleted c.descendants_are_known.ensures c.args.cell c.args.r c.digit-digit.result last pentagon c.if-digit-eq0.false
 
-below_pentagon : (c : goal.After-from-2) → IsBefore c.args.cell c.args.r (c.size_at-center.result + c.from-2.result * c.power_of_seven-outer.result)
+below_pentagon : (c : goal.After-from-2) → HasBefore c.args.cell c.args.r (c.size_at-center.result + c.from-2.result * c.power_of_seven-outer.result)
 below_pentagon c =
     let last = last_digit c.args.cell c.cut-parent.result c.args.r c.digit-digit.result c.resolution-own.result c.resolution-own.ensures.valid c.resolution-own.ensures.number c.requires.has_parent c.requires.not_coarser c.requires.at_most_fifteen c.digit-digit.ensures c.cut-parent.ensures.is c.cut-parent.ensures.valid in
     let parent : c.cut-parent.result ≡ cut c.args.cell (length c.args.cell.digits - 1) = c.cut-parent.ensures.is ∙ ap (λ n. cut c.args.cell (n - 1)) c.resolution-own.ensures.number in

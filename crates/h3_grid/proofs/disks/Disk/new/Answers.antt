@@ -14,27 +14,26 @@ returns-clause-items c =
     let same : to_z w32 (of_z w32 c.args.k) ≡ c.args.k = omega (arith, ints) in
     ap (λ l. Ok (c.args.cell, 0) ∷ followed (link_of c.args.table.now) (state c.args.cell 0) l) (ap (λ (k : ℤ). moves_left 0 0 0 (unsigned_abs k)) same ∙ left-all (unsigned_abs c.args.k))
 
-pub returns-then-k-lt0-clause-distances : goal.returns-then-k-lt0-clause-distances
-returns-then-k-lt0-clause-distances c =
+pub returns-then-k-lt0-clause-whole : goal.returns-then-k-lt0-clause-whole
+returns-then-k-lt0-clause-whole c =
     let same : to_z w32 (of_z w32 c.args.k) ≡ c.args.k = omega (arith, ints) in
-    rw same at c.disk_is_lawful.ensures.distances
+    rw same at c.disk_is_lawful.ensures
 
-pub returns-then-is_pentagon-clause-distances : goal.returns-then-is_pentagon-clause-distances
-returns-then-is_pentagon-clause-distances c =
+pub returns-then-is_pentagon-clause-whole : goal.returns-then-is_pentagon-clause-whole
+returns-then-is_pentagon-clause-whole c =
     let same : to_z w32 (of_z w32 c.args.k) ≡ c.args.k = omega (arith, ints) in
-    rw same at c.disk_is_lawful.ensures.distances
+    rw same at c.disk_is_lawful.ensures
 
-pub returns-clause-chart : goal.returns-clause-chart
-returns-clause-chart c =
+pub returns-clause-whole : goal.returns-clause-whole
+returns-clause-whole c =
     let same : to_z w32 (of_z w32 c.args.k) ≡ c.args.k = omega (arith, ints) in
-    rw same at c.disk_is_lawful.ensures.chart
+    rw same at c.disk_is_lawful.ensures
 
-pub returns-clause-paths : goal.returns-clause-paths
-returns-clause-paths c =
-    let same : to_z w32 (of_z w32 c.args.k) ≡ c.args.k = omega (arith, ints) in
-    rw same at c.disk_is_lawful.ensures.paths
+pub returns-then-k-lt0-clause-size : goal.returns-then-k-lt0-clause-size
+returns-then-k-lt0-clause-size c = c.disks_are_spirals.ensures.sizes (link_of c.args.table.now) c.args.cell (unsigned_abs c.args.k)
 
-pub returns-clause-distances : goal.returns-clause-distances
-returns-clause-distances c =
-    let same : to_z w32 (of_z w32 c.args.k) ≡ c.args.k = omega (arith, ints) in
-    rw same at c.disk_is_lawful.ensures.distances
+pub returns-then-is_pentagon-clause-size : goal.returns-then-is_pentagon-clause-size
+returns-then-is_pentagon-clause-size c = c.disks_are_spirals.ensures.sizes (link_of c.args.table.now) c.args.cell (unsigned_abs c.args.k)
+
+pub returns-clause-size : goal.returns-clause-size
+returns-clause-size c = c.disks_are_spirals.ensures.sizes (link_of c.args.table.now) c.args.cell (unsigned_abs c.args.k)

@@ -1,5 +1,5 @@
-use Rattle.std.proofs.Common.{◌≡◌, ◌≢◌, ◌++◌, ◌↔◌, List, take, drop, AllPairs, Contains, arith, sym, subst}
-use Rattle.std.proofs.lemmas.List.{take-append-le}
+use Rattle.std.proofs.Common.{◌≡◌, ◌≢◌, ◌++◌, ◌↔◌, List, length, take, drop, AllPairs, Contains, arith, sym, subst}
+use Rattle.std.proofs.lemmas.List.{drop_at, length-take-le, take-append-le}
 use Rattle.h3_index.specs.Cell.{Address}
 use Rattle.h3_set.specs.Order.{IsInOrder}
 use Rattle.h3_set.specs.Rounds.{InRound}
@@ -17,15 +17,18 @@ made c =
 once : (c : goal.After-struct_known-1) → AllPairs (λ a b. a ≢ b) (take c.merge_runs-len.result (c.merge_runs-len.new.cells ++ drop c.args.self.len c.args.slots.now))
 once c = subst (AllPairs (λ a b. a ≢ b)) (sym (front c)) c.merge_runs-len.ensures.once
 
-pub returns-clause-apart : goal.returns-clause-apart
-returns-clause-apart c =
+pub returns-clause-next : goal.returns-clause-next
+returns-clause-next c =
     let old = take c.args.self.len c.args.slots.now in
-    stays_apart c.cells_form_trees.ensures old _ c.args.self.level c.requires.apart c.are_cells.ensures (made c) (once c)
-
-pub returns-clause-part : goal.returns-clause-part
-returns-clause-part c = λ cells r compactable fine le.
-    let old = take c.args.self.len c.args.slots.now in
-    goes_on c.cells_form_trees.ensures cells old _ r _ c.args.self.level (omega arith) compactable fine le (made c)
+    let whole : length old ≡ c.args.self.len = length-take-le c.args.self.len c.args.slots.now c.requires.room in
+    let size : length c.merge_runs-len.new.cells ≡ c.args.self.len = omega (arith, whole, c.merge_runs-len.auto.cells) in
+    record {
+      level = omega arith;
+      fewer = omega (arith, whole, c.merge_runs-len.ensures.fewer);
+      apart = stays_apart c.cells_form_trees.ensures old _ c.args.self.level c.requires.apart c.are_cells.ensures (made c) (once c);
+      others = drop_at c.merge_runs-len.new.cells _ c.args.self.len size;
+      part = λ cells r compactable fine le. goes_on c.cells_form_trees.ensures cells old _ r _ c.args.self.level (omega arith) compactable fine le (made c);
+    }
 
 pub returns-clause-in_order : goal.returns-clause-in_order
 returns-clause-in_order c = subst IsInOrder (sym (front c)) c.merge_runs-len.ensures.in_order
