@@ -9,17 +9,7 @@ ghost use Rattle.h3_grid.specs.Neighbors.{AreNeighbors, BothOrdersAgree, Directi
 use crate::laws::neighbors_are_lawful;
 use crate::steps::step;
 use h3_index::{Cell, H3Error};
-use h3_lattice::{BaseTable, Direction};
-
-/// All directions, in the order of their digits.
-const DIRECTIONS: [Direction; 6] = [
-    Direction::K,
-    Direction::J,
-    Direction::JK,
-    Direction::I,
-    Direction::IK,
-    Direction::IJ,
-];
+use h3_lattice::{BaseTable, DIRECTIONS, Direction};
 
 /// Laws of the neighbours over the links of a table. It does nothing.
 pub(crate) fn neighbor_is_lawful(table: &BaseTable)

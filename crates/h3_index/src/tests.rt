@@ -80,7 +80,7 @@ fn twelve_base_cells_are_pentagons(rt: HostRuntime) {
 }
 
 #[test]
-fn pentagons_and_classes_are_told(rt: HostRuntime) -> Result<(), Fail> {
+fn pentagons_and_classes_are_returned(rt: HostRuntime) -> Result<(), Fail> {
     let pentagon = Cell::new(0x81083ffffffffff)?;
     assert!(rt; pentagon.is_pentagon());
     assert!(rt; pentagon.in_pentagon_base());
@@ -366,7 +366,7 @@ fn each_call_is_handed_on_once(rt: HostRuntime) {
 }
 
 #[test]
-fn a_failure_is_told_and_kept(rt: HostRuntime) {
+fn a_failure_is_returned_and_kept(rt: HostRuntime) {
     let mut page = [7; 5000];
     for length in LENGTHS {
         let mut pulled = stream_that(true, 5000);

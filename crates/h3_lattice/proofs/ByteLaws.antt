@@ -8,14 +8,14 @@ use Rattle.h3_index.specs.Stream.{HasLeft, Pulls}
 -- reads than bytes, and in pages of at most this size.
 pub record Reads (old now : Option (List ℕ)) (limit reads_left size : ℕ) (first text : List ℕ) : Type 0 where
   pub bytes : List ℕ
-  pub told : Consumes old now bytes
+  pub consumed : Consumes old now bytes
   pub text_is : text ≡ first ++ bytes
   pub counted : limit ≤ reads_left + length bytes
   pub short : length bytes + reads_left * size ≤ limit * size
 
-pub reads_none : (told : Option (List ℕ)) (limit size : ℕ) (text : List ℕ) → Reads told told limit limit size text text
-reads_none told limit size text =
-    record { bytes = []; told = Consumes-nil told; text_is = sym (append-nil text); counted = omega arith; short = omega arith }
+pub reads_none : (known : Option (List ℕ)) (limit size : ℕ) (text : List ℕ) → Reads known known limit limit size text text
+reads_none known limit size text =
+    record { bytes = []; consumed = Consumes-nil known; text_is = sym (append-nil text); counted = omega arith; short = omega arith }
 
 -- one page less is left
 one_less : (reads reads' size : ℕ) → reads' + 1 ≡ reads → reads * size ≡ reads' * size + size
@@ -33,7 +33,7 @@ reads_more {old} {now} {limit} {reads} {size} {first} {text} r now' reads' page 
     let less : reads * size ≡ reads' * size + size = one_less reads reads' size count in
     record {
       bytes = r.bytes ++ take n page;
-      told = Consumes-trans old now now' r.bytes (take n page) r.told p.taken;
+      consumed = Consumes-trans old now now' r.bytes (take n page) r.consumed p.taken;
       text_is = grown ∙ ap (λ (t : List ℕ). t ++ take n page) r.text_is ∙ append_assoc first r.bytes (take n page);
       counted = omega arith;
       short = omega arith;
@@ -43,14 +43,14 @@ reads_more {old} {now} {limit} {reads} {size} {first} {text} r now' reads' page 
 
 -- the bytes that were read, and those that are still left in the source
 pub all_bytes : (old now : Option (List ℕ)) (bytes : List ℕ) → Consumes old now bytes → (rest : List ℕ) × HasLeft old (bytes ++ rest)
-all_bytes None now bytes told = ([], tt)
-all_bytes (Some xs) None bytes told = absurd told
-all_bytes (Some xs) (Some ys) bytes told = (ys, told)
+all_bytes None now bytes known = ([], tt)
+all_bytes (Some xs) None bytes known = absurd known
+all_bytes (Some xs) (Some ys) bytes known = (ys, known)
 
 at_end : (old now : Option (List ℕ)) (bytes : List ℕ) → Consumes old now bytes → IsAtEnd now → HasLeft old bytes
-at_end None now bytes told end = tt
-at_end (Some xs) None bytes told end = absurd told
-at_end (Some xs) (Some ys) bytes told end = told ∙ ap (λ l. bytes ++ l) end ∙ append-nil bytes
+at_end None now bytes known end = tt
+at_end (Some xs) None bytes known end = absurd known
+at_end (Some xs) (Some ys) bytes known end = known ∙ ap (λ l. bytes ++ l) end ∙ append-nil bytes
 
 -- all bytes of the source were read, and fit in the pages that may be read but for the last, which finds the end
 pub reads_all : {old now : Option (List ℕ)} {limit reads size : ℕ} {first text : List ℕ} → Reads old now limit reads size first text → IsAtEnd now → 0 < reads
@@ -58,7 +58,7 @@ pub reads_all : {old now : Option (List ℕ)} {limit reads size : ℕ} {first te
 reads_all {old} {now} {limit} {reads} {size} r end some =
     let short : length r.bytes + reads * size ≤ limit * size = r.short in
     let one : size ≤ reads * size = one_at_least reads size some in
-    (r.bytes, at_end old now r.bytes r.told end, omega arith, r.text_is)
+    (r.bytes, at_end old now r.bytes r.consumed end, omega arith, r.text_is)
   where
     one_at_least : (reads size : ℕ) → 0 < reads → size ≤ reads * size
     one_at_least zero size h = absurd (omega arith)
@@ -66,13 +66,13 @@ reads_all {old} {now} {limit} {reads} {size} r end some =
 
 -- some bytes are left, whatever was read
 pub reads_some : {old now : Option (List ℕ)} {limit reads size : ℕ} {first text : List ℕ} → Reads old now limit reads size first text → (bytes : List ℕ) × HasLeft old bytes
-reads_some {old} {now} r = let (rest, held) = all_bytes old now r.bytes r.told in (r.bytes ++ rest, held)
+reads_some {old} {now} r = let (rest, held) = all_bytes old now r.bytes r.consumed in (r.bytes ++ rest, held)
 
 -- a read fails, or none is left
 pub reads_stopped : {old now : Option (List ℕ)} {limit reads size : ℕ} {first text : List ℕ} → Reads old now limit reads size first text → (failed : Type 0) → (reads ≡ 0) ⊎ failed
     → (bytes : List ℕ) × HasLeft old bytes × (failed ⊎ (limit ≤ length bytes))
 reads_stopped {old} {now} {limit} {reads} r failed why =
-    let (rest, held) = all_bytes old now r.bytes r.told in
+    let (rest, held) = all_bytes old now r.bytes r.consumed in
     let counted : limit ≤ reads + length r.bytes = r.counted in
     let parts : length (r.bytes ++ rest) ≡ length r.bytes + length rest = length-append r.bytes rest in
     (r.bytes ++ rest, held, elim why [ inl none ↦ inr (omega arith) | inr f ↦ inl f ])
@@ -80,8 +80,8 @@ reads_stopped {old} {now} {limit} {reads} r failed why =
 -- after the last read, a source whose bytes are known has none left
 pub none_left : {old now : Option (List ℕ)} {limit reads size : ℕ} {first text : List ℕ} → Reads old now limit reads size first text → (now' : Option (List ℕ)) (page : List ℕ) (n : ℕ)
     → Pulls now now' page n → n ≡ 0 → 0 < length page → (bytes : List ℕ) → old ≡ Some bytes → now' ≡ Some []
-none_left {old} {now} r now' page n p none room bytes told =
-    at_last old now now' r.bytes (take n page) r.told p.taken (p.at_end none room) bytes told
+none_left {old} {now} r now' page n p none room bytes known =
+    at_last old now now' r.bytes (take n page) r.consumed p.taken (p.at_end none room) bytes known
   where
     nothing : (front ys : List ℕ) → [] ≡ front ++ ys → ys ≡ []
     nothing [] ys e = sym e

@@ -9,14 +9,14 @@ use Rattle.h3_lattice.specs.declared.error.TableError.TheVariants as fault
 use Rattle.h3_lattice.specs.declared.checks.Check.TheVariants as check
 use Rattle.h3_lattice.specs.Direction.{digit_of, directions}
 use Rattle.h3_lattice.specs.Fields.{Record}
-use Rattle.h3_lattice.specs.First.{AreGood, FailsFirst, FaultsAreFirst, HoldsEverywhere, IsApart, IsBefore, IsClosed, IsFirstFault, IsFirstFaulty, IsMissing, IsReversed}
+use Rattle.h3_lattice.specs.First.{AreGood, FailsFirst, FaultsAreFirst, HoldsEverywhere, LeadsApart, IsEarlier, IsClosed, IsFirstFault, IsFirstFaulty, IsMissing, IsReversed}
 use Rattle.h3_lattice.specs.Links.{IsHexagonBase, Links, is_hexagon_base}
-use Rattle.h3_lattice.specs.Checks.{at_places, closes, fault_at, fault_of_links, from_base, in_directions, is_apart, reverses, unless}
-use Rattle.h3_lattice.specs.Records.{body_of, fault_of, fault_of_records, first_fault, format_of, spelled_link}
+use Rattle.h3_lattice.specs.Checks.{at_places, closes, fault_at, fault_of_links, from_base, in_directions, leads_apart, reverses, error_unless}
+use Rattle.h3_lattice.specs.Records.{body_of, fault_of, fault_of_records, first_fault, format_of, first_link}
 use Rattle.h3_lattice.specs.Table.{IsOfForm, links_of, missing_of, table_fault}
 use Rattle.h3_lattice.proofs.FormLaws.{form_of, no_fault_of, none_missing}
 use Rattle.h3_lattice.proofs.KindLaws.{IsKind, checks-kind, is_kind, kind, missing-kind, records-kind}
-use Rattle.h3_lattice.proofs.SoundLaws.{apart-is, apart-of, closed-is, closed-of, digit_of-gt, digit_of-lt, direction-at, from_base-none, hexagon_of, in_each, is_hexagon_of, both, if_none, in_directions-none, no_fault, no_fault_at, reversed-is, reversed-of, unless-none}
+use Rattle.h3_lattice.proofs.SoundLaws.{apart-is, apart-of, closed-is, closed-of, digit_of-gt, digit_of-lt, direction-at, from_base-none, hexagon_of, in_each, is_hexagon_of, both, if_none, in_directions-none, no_fault, no_fault_at, reversed-is, reversed-of, error_unless-none}
 
 -- ---- the first of a list of directions
 
@@ -122,7 +122,7 @@ digit_at (suc (suc (suc (suc (suc (suc i)))))) h = absurd (omega arith)
 record FirstAt (f : ℕ → Direction → Option TableError) (x : TableError) (b : ℕ) (d : Direction) : Type 0 where
   hexagon : IsHexagonBase b
   there : f b d ≡ Some x
-  earlier : (a : ℕ) (e : Direction) → IsHexagonBase a → IsBefore a e b d → f a e ≡ None
+  earlier : (a : ℕ) (e : Direction) → IsHexagonBase a → IsEarlier a e b d → f a e ≡ None
 
 found_first : (f : ℕ → Direction → Option TableError) (x : TableError) → at_places f ≡ Some x → (b : ℕ) × (d : Direction) × FirstAt f x b d
 found_first f x e = (base.base, get_or directions direction.index K, record { hexagon = hexagon_of base.base base.hexagon; there = direction.there; earlier = earlier })
@@ -140,7 +140,7 @@ found_first f x e = (base.base, get_or directions direction.index K, record { he
         let digit = digit_at direction.index below in
         subst (λ e. f base.base e ≡ None) (direction-at e) (direction.before (digit_of e - 1) (omega arith))
 
-    earlier : (a : ℕ) (e : Direction) → IsHexagonBase a → IsBefore a e base.base (get_or directions direction.index K) → f a e ≡ None
+    earlier : (a : ℕ) (e : Direction) → IsHexagonBase a → IsEarlier a e base.base (get_or directions direction.index K) → f a e ≡ None
     earlier a e h (inl less) = in_each (f a) e (base.before a (omega arith) less (is_hexagon_of a h))
     earlier a e h (inr (same, less)) = subst (λ a. f a e ≡ None) (sym same) (none_at e less)
 
@@ -248,12 +248,12 @@ good-records (front ∷ body) p = good_first_fault [] (front ∷ body) p.each
 
 -- ---- checks
 
-unless-some : (t : Bool) (e x : TableError) → unless t e ≡ Some x → (t ≡ false) × (e ≡ x)
-unless-some true e x h = cc h
-unless-some false e x h = (refl, cc h)
+error_unless-some : (t : Bool) (e x : TableError) → error_unless t e ≡ Some x → (t ≡ false) × (e ≡ x)
+error_unless-some true e x h = cc h
+error_unless-some false e x h = (refl, cc h)
 
-unless-is : (t : Bool) (e : TableError) → t ≡ false → unless t e ≡ Some e
-unless-is t e h = rw h refl
+error_unless-is : (t : Bool) (e : TableError) → t ≡ false → error_unless t e ≡ Some e
+error_unless-is t e h = rw h refl
 
 is_false : (t : Bool) → (t ≡ true → ⊥) → t ≡ false
 is_false true h = absurd (h refl)
@@ -268,29 +268,29 @@ record Tests (test : ℕ → Direction → Bool) (Check : ℕ → Direction → 
   of : (b : ℕ) (d : Direction) → Check b d → test b d ≡ true
 
 fails_first : {test : ℕ → Direction → Bool} {Check : ℕ → Direction → Type 0} → Tests test Check → (found : ℕ → Direction → TableError) (x : TableError) (b : ℕ) (d : Direction)
-    → FirstAt (λ b d. unless (test b d) (found b d)) x b d → FailsFirst Check b d × (found b d ≡ x)
+    → FirstAt (λ b d. error_unless (test b d) (found b d)) x b d → FailsFirst Check b d × (found b d ≡ x)
 fails_first {test} {Check} t found x b d p =
-    let here = unless-some (test b d) (found b d) x p.there in (
+    let here = error_unless-some (test b d) (found b d) x p.there in (
       record { hexagon = p.hexagon; fails = λ h. both_ways (test b d) (t.of b d h) here.0; earlier = λ a e h k. t.is a e (no_fault (test a e) (found a e) (p.earlier a e h k)) },
       here.1,
     )
 
 first_fails : {test : ℕ → Direction → Bool} {Check : ℕ → Direction → Type 0} → Tests test Check → (found : ℕ → Direction → TableError) (b : ℕ) (d : Direction)
-    → FailsFirst Check b d → at_places (λ b d. unless (test b d) (found b d)) ≡ Some (found b d)
+    → FailsFirst Check b d → at_places (λ b d. error_unless (test b d) (found b d)) ≡ Some (found b d)
 first_fails {test} {Check} t found b d p =
-    first_found (λ b d. unless (test b d) (found b d)) (found b d) b d (record {
+    first_found (λ b d. error_unless (test b d) (found b d)) (found b d) b d (record {
       hexagon = p.hexagon;
-      there = unless-is (test b d) (found b d) (is_false (test b d) (λ k. p.fails (t.is b d k)));
-      earlier = λ a e h k. unless-none (test a e) (found a e) (t.of a e (p.earlier a e h k));
+      there = error_unless-is (test b d) (found b d) (is_false (test b d) (λ k. p.fails (t.is b d k)));
+      earlier = λ a e h k. error_unless-none (test a e) (found a e) (t.of a e (p.earlier a e h k));
     })
 
-holds : {test : ℕ → Direction → Bool} {Check : ℕ → Direction → Type 0} → Tests test Check → (found : ℕ → Direction → TableError) → at_places (λ b d. unless (test b d) (found b d)) ≡ None → HoldsEverywhere Check
-holds {test} {Check} t found e = λ b d h. t.is b d (no_fault (test b d) (found b d) (no_fault_at (λ b d. unless (test b d) (found b d)) b d e (is_hexagon_of b h)))
+holds : {test : ℕ → Direction → Bool} {Check : ℕ → Direction → Type 0} → Tests test Check → (found : ℕ → Direction → TableError) → at_places (λ b d. error_unless (test b d) (found b d)) ≡ None → HoldsEverywhere Check
+holds {test} {Check} t found e = λ b d h. t.is b d (no_fault (test b d) (found b d) (no_fault_at (λ b d. error_unless (test b d) (found b d)) b d e (is_hexagon_of b h)))
 
-none_fails : {test : ℕ → Direction → Bool} {Check : ℕ → Direction → Type 0} → Tests test Check → (found : ℕ → Direction → TableError) → HoldsEverywhere Check → at_places (λ b d. unless (test b d) (found b d)) ≡ None
-none_fails {test} {Check} t found h = from_base-none (λ b d. unless (test b d) (found b d)) 0 122 (λ b d k. unless-none (test b d) (found b d) (t.of b d (h b d k)))
+none_fails : {test : ℕ → Direction → Bool} {Check : ℕ → Direction → Type 0} → Tests test Check → (found : ℕ → Direction → TableError) → HoldsEverywhere Check → at_places (λ b d. error_unless (test b d) (found b d)) ≡ None
+none_fails {test} {Check} t found h = from_base-none (λ b d. error_unless (test b d) (found b d)) 0 122 (λ b d k. error_unless-none (test b d) (found b d) (t.of b d (h b d k)))
 
-apart_tests : (link : Links) → Tests (is_apart link) (IsApart link)
+apart_tests : (link : Links) → Tests (leads_apart link) (LeadsApart link)
 apart_tests link = record { is = apart-is link; of = apart-of link }
 
 reversed_tests : (link : Links) → Tests (reverses link) (IsReversed link)
@@ -336,22 +336,22 @@ missing_is (fault.Corner b d) k = absurd (omega arith)
 missing-first : (records : List Record) → IsMissing records → at_places (missing_of records) ≡ Some fault.Missing
 missing-first records m = by (at_places (missing_of records)) refl (missing-kind records)
   where
-    named : is_some (spelled_link (format_of records) m.base (digit_of m.direction) (body_of records)) ≡ true → ⊥
+    named : is_some (first_link (format_of records) m.base (digit_of m.direction) (body_of records)) ≡ true → ⊥
     named h =
-        let none : is_some (spelled_link (format_of records) m.base (digit_of m.direction) (body_of records)) ≡ false = rw m.none refl in
-        both_ways (is_some (spelled_link (format_of records) m.base (digit_of m.direction) (body_of records))) h none
+        let none : is_some (first_link (format_of records) m.base (digit_of m.direction) (body_of records)) ≡ false = rw m.none refl in
+        both_ways (is_some (first_link (format_of records) m.base (digit_of m.direction) (body_of records))) h none
 
     by : (o : Option TableError) → at_places (missing_of records) ≡ o → IsKind 2 o → o ≡ Some fault.Missing
     by None is k =
-        absurd (named (no_fault (is_some (spelled_link (format_of records) m.base (digit_of m.direction) (body_of records))) fault.Missing
+        absurd (named (no_fault (is_some (first_link (format_of records) m.base (digit_of m.direction) (body_of records))) fault.Missing
         (no_fault_at (missing_of records) m.base m.direction is (is_hexagon_of m.base m.hexagon))))
     by (Some x) is k = ap Some (missing_is x k)
 
 first-missing : (records : List Record) (e : TableError) → at_places (missing_of records) ≡ Some e → IsMissing records × (fault.Missing ≡ e)
 first-missing records e is =
     let (b, d, p) = found_first (missing_of records) e is in
-    let here = unless-some (is_some (spelled_link (format_of records) b (digit_of d) (body_of records))) fault.Missing e p.there in
-    (record { base = b; direction = d; hexagon = p.hexagon; none = no_link (spelled_link (format_of records) b (digit_of d) (body_of records)) here.0 }, here.1)
+    let here = error_unless-some (is_some (first_link (format_of records) b (digit_of d) (body_of records))) fault.Missing e p.there in
+    (record { base = b; direction = d; hexagon = p.hexagon; none = no_link (first_link (format_of records) b (digit_of d) (body_of records)) here.0 }, here.1)
 
 -- an error of a record
 record_error : (records : List Record) (e : TableError) → kind e ≡ 1 → fault_of_records records ≡ Some e → IsFirstFault records e
@@ -386,13 +386,13 @@ check_error records e form is =
         let two = fails_first (apart_tests link) neighbours_at e b d p in
         subst (λ e. IsFirstFault records e) two.1 (form, (d, two.0))
 
-    reversal : HoldsEverywhere (IsApart link) → at_places (fault_at check.Reversal link) ≡ Some e → IsFirstFault records e
+    reversal : HoldsEverywhere (LeadsApart link) → at_places (fault_at check.Reversal link) ≡ Some e → IsFirstFault records e
     reversal apart is =
         let (b, d, p) = found_first (fault_at check.Reversal link) e is in
         let two = fails_first (reversed_tests link) fault.Reversal e b d p in
         subst (λ e. IsFirstFault records e) two.1 (form, apart, two.0)
 
-    corner : HoldsEverywhere (IsApart link) → HoldsEverywhere (IsReversed link) → at_places (fault_at check.Corner link) ≡ Some e → IsFirstFault records e
+    corner : HoldsEverywhere (LeadsApart link) → HoldsEverywhere (IsReversed link) → at_places (fault_at check.Corner link) ≡ Some e → IsFirstFault records e
     corner apart reversed is =
         let (b, d, p) = found_first (fault_at check.Corner link) e is in
         let two = fails_first (closed_tests link) fault.Corner e b d p in

@@ -18,11 +18,11 @@ use Rattle.h3_lattice.specs.FormatOne.{header_one}
 use Rattle.h3_lattice.specs.FormatTwo.{header_two, is_link_two, link_at_digit}
 use Rattle.h3_lattice.specs.Links.{IsHexagonBase, IsLink, IsSound, is_hexagon_base}
 use Rattle.h3_lattice.specs.Checks.{at_places, fault_of_links}
-use Rattle.h3_lattice.specs.Records.{body_of, fault_in, fault_of, fault_of_records, first_fault, format_of, record_link, spelled_link}
+use Rattle.h3_lattice.specs.Records.{body_of, fault_in, fault_of, fault_of_records, first_fault, format_of, record_link, first_link}
 use Rattle.h3_lattice.specs.Table.{IsLinkRecord, IsOfForm, SoundFilesAreAccepted, has_link, links_of, missing_of, table_fault}
-use Rattle.h3_lattice.proofs.ReadingLaws.{told-under}
-use Rattle.h3_lattice.proofs.SlotLaws.{first_place, free-links, free-slot, in_range_one-parts, in_range_one-true, in_range_two-true, spelled_link-append}
-use Rattle.h3_lattice.proofs.SoundLaws.{and_both, both, checks_mean_sound, direction_below, from_base-none, hexagon_of, is_hexagon_of, no_fault, no_fault_at, nones, nth_direction, true-nat_lt, unless-none}
+use Rattle.h3_lattice.proofs.ReadingLaws.{format-under}
+use Rattle.h3_lattice.proofs.SlotLaws.{first_place, free-links, free-slot, in_range_one-parts, in_range_one-true, in_range_two-true, first_link-append}
+use Rattle.h3_lattice.proofs.SoundLaws.{and_both, both, checks_mean_sound, direction_below, from_base-none, hexagon_of, is_hexagon_of, no_fault, no_fault_at, nones, nth_direction, true-nat_lt, error_unless-none}
 
 -- ---- fields
 
@@ -79,22 +79,22 @@ unfolding one_if
 one_or_more None p n h e = let k = h e in omega arith
 one_or_more (Some x) p n h e = omega arith
 
-spelled-counts : (format : Format) (b d : ℕ) (body : List Record) → is_some (spelled_link format b d body) ≡ true → 1 ≤ count format b d body
-unfolding spelled_link
-spelled-counts format b d [] e = cc e
-spelled-counts format b d (r ∷ body) e =
-    rw (count-cons format b d r body) (one_or_more (record_link format b d r) (spelled_link format b d body) (count format b d body) (λ k. spelled-counts format b d body k) e)
+linked-counts : (format : Format) (b d : ℕ) (body : List Record) → is_some (first_link format b d body) ≡ true → 1 ≤ count format b d body
+unfolding first_link
+linked-counts format b d [] e = cc e
+linked-counts format b d (r ∷ body) e =
+    rw (count-cons format b d r body) (one_or_more (record_link format b d r) (first_link format b d body) (count format b d body) (λ k. linked-counts format b d body k) e)
 
 some_of_one : (o p : Option (ℕ × ℕ)) (n : ℕ) → (1 ≤ n → is_some p ≡ true) → 1 ≤ one_if (is_some o) + n → is_some (option_or o p) ≡ true
 unfolding one_if
 some_of_one None p n h e = h (omega arith)
 some_of_one (Some x) p n h e = refl
 
-counts-spelled : (format : Format) (b d : ℕ) (body : List Record) → 1 ≤ count format b d body → is_some (spelled_link format b d body) ≡ true
-unfolding spelled_link
-counts-spelled format b d [] e = let none = count-none format b d in absurd (omega arith)
-counts-spelled format b d (r ∷ body) e =
-    some_of_one (record_link format b d r) (spelled_link format b d body) (count format b d body) (λ k. counts-spelled format b d body k) (rw (count-cons format b d r body) at e)
+counts-linked : (format : Format) (b d : ℕ) (body : List Record) → 1 ≤ count format b d body → is_some (first_link format b d body) ≡ true
+unfolding first_link
+counts-linked format b d [] e = let none = count-none format b d in absurd (omega arith)
+counts-linked format b d (r ∷ body) e =
+    some_of_one (record_link format b d r) (first_link format b d body) (count format b d body) (λ k. counts-linked format b d body k) (rw (count-cons format b d r body) at e)
 
 -- ---- records without a fault
 
@@ -116,27 +116,27 @@ less-room (Some y) here n h = let k = one_if-le (is_some here) in omega arith
 -- the numbers of a record without a fault are in their ranges, and no record before it has a link for its place
 record IsFree (format : Format) (before : List Record) (r : Record) : Type 0 where
   pub link : IsLinkRecord format r
-  pub free : (b d : ℕ) → has_link format b d r ≡ true → spelled_link format b d before ≡ None
+  pub free : (b d : ℕ) → has_link format b d r ≡ true → first_link format b d before ≡ None
 
 free_of : (format : Format) (row : ℕ) (before : List Record) (r : Record) (o : Option (List ℕ)) → numbers_in (width format) r ≡ o
-    → fault_in format row (λ b d. spelled_link format b d before) o ≡ None → IsFree format before r
+    → fault_in format row (λ b d. first_link format b d before) o ≡ None → IsFree format before r
 free_of format row before r None is e = cc e
 free_of format row before r (Some ns) is e =
-    let two = free-slot format row (λ b d. spelled_link format b d before) ns e in
+    let two = free-slot format row (λ b d. first_link format b d before) ns e in
     record {
-      link = record { numbers = ns; spelled = is; ranges = two.0 };
+      link = record { numbers = ns; parsed = is; ranges = two.0 };
       free = λ b d named. free-links format b d ns before two.1 (rw is at named);
     }
 
 record IsRest (format : Format) (before rest : List Record) : Type 0 where
   pub each : All (IsLinkRecord format) rest
-  pub most : (b d : ℕ) → count format b d rest + one_if (is_some (spelled_link format b d before)) ≤ 1
+  pub most : (b d : ℕ) → count format b d rest + one_if (is_some (first_link format b d before)) ≤ 1
 
 rest_of : (front : Record) (before rest : List Record) → first_fault (front ∷ before) rest ≡ None → IsRest (format_after front) before rest
 unfolding first_fault
 rest_of front before [] e =
     let format = format_after front in
-    record { each = All-nil (IsLinkRecord format); most = λ b d. let none = count-none format b d in let le = one_if-le (is_some (spelled_link format b d before)) in omega arith }
+    record { each = All-nil (IsLinkRecord format); most = λ b d. let none = count-none format b d in let le = one_if-le (is_some (first_link format b d before)) in omega arith }
 rest_of front before (r ∷ rest) e =
     let format = format_after front in
     let two = both (fault_of (front ∷ before) r) (first_fault (front ∷ (before ++ r ∷ [])) rest) e in
@@ -145,15 +145,15 @@ rest_of front before (r ∷ rest) e =
     record {
       each = All-cons (IsLinkRecord format) r rest here.link later.each;
       most = λ b d. rw (count-cons format b d r rest)
-          (more-room b d (spelled_link format b d before) (record_link format b d r) (count format b d rest) (here.free b d) (rw (spelled_link-append format b d before r) at (later.most b d)));
+          (more-room b d (first_link format b d before) (record_link format b d r) (count format b d rest) (here.free b d) (rw (first_link-append format b d before r) at (later.most b d)));
     }
 
 -- ---- records of the form have no fault
 
 fault_in-none : (format : Format) (row : ℕ) (before : List Record) (r : Record) (k : IsLinkRecord format r)
-    → is_some (spelled_link format (slice_index k.numbers 0) (own_digit format k.numbers) before) ≡ false
-    → fault_in format row (λ b d. spelled_link format b d before) (numbers_in (width format) r) ≡ None
-fault_in-none format row before r k e = rw (k.spelled, k.ranges, e) refl
+    → is_some (first_link format (slice_index k.numbers 0) (own_digit format k.numbers) before) ≡ false
+    → fault_in format row (λ b d. first_link format b d before) (numbers_in (width format) r) ≡ None
+fault_in-none format row before r k e = rw (k.parsed, k.ranges, e) refl
 
 own_link : (format : Format) (ns : List ℕ) → is_some (link_in format (slice_index ns 0) (own_digit format ns) ns) ≡ true
 own_link One ns =
@@ -165,7 +165,7 @@ own_link Two ns =
     rw first refl
 
 names-own : (format : Format) (r : Record) (k : IsLinkRecord format r) → has_link format (slice_index k.numbers 0) (own_digit format k.numbers) r ≡ true
-names-own format r k = rw k.spelled (own_link format k.numbers)
+names-own format r k = rw k.parsed (own_link format k.numbers)
 
 none_before : (b : Bool) (n m : ℕ) → n ≡ 1 → n + m + one_if b ≤ 1 → b ≡ false
 unfolding one_if
@@ -182,7 +182,7 @@ in_range-hexagon One ns h = hexagon_of (slice_index ns 0) (in_range_one-parts ns
 in_range-hexagon Two ns h = hexagon_of (slice_index ns 0) (and_both (is_hexagon_base (slice_index ns 0)) (list_all (is_link_two ns) directions) h).0
 
 AtMostOnce : Format → List Record → List Record → Type 0
-AtMostOnce format before rest = (b d : ℕ) → IsHexagonBase b → 0 < d → d < 7 → count format b d rest + one_if (is_some (spelled_link format b d before)) ≤ 1
+AtMostOnce format before rest = (b d : ℕ) → IsHexagonBase b → 0 < d → d < 7 → count format b d rest + one_if (is_some (first_link format b d before)) ≤ 1
 
 first_fault-none : (front : Record) (before rest : List Record) → All (IsLinkRecord (format_after front)) rest → AtMostOnce (format_after front) before rest → first_fault (front ∷ before) rest ≡ None
 unfolding first_fault AtMostOnce
@@ -195,11 +195,11 @@ first_fault-none front before (r ∷ rest) each most =
     let range = first_place format k.numbers k.ranges in
     let hexagon : IsHexagonBase base = in_range-hexagon format k.numbers k.ranges in
     let room = rw (count-cons format base digit r rest) at (most base digit hexagon range.1 range.2) in
-    let none = none_before (is_some (spelled_link format base digit before)) _ (count format base digit rest) (one_if-true (has_link format base digit r) (names-own format r k)) room in
+    let none = none_before (is_some (first_link format base digit before)) _ (count format base digit rest) (one_if-true (has_link format base digit r) (names-own format r k)) room in
     nones (fault_of (front ∷ before) r) (first_fault (front ∷ (before ++ r ∷ [])) rest) (fault_in-none format (length before + 2) before r k none)
     (first_fault-none front (before ++ r ∷ []) rest (All-tail (IsLinkRecord format) r rest each)
-    (λ b d h low high. rw (spelled_link-append format b d before r)
-    (less-room (spelled_link format b d before) (record_link format b d r) (count format b d rest) (rw (count-cons format b d r rest) at (most b d h low high)))))
+    (λ b d h low high. rw (first_link-append format b d before r)
+    (less-room (first_link format b d before) (record_link format b d r) (count format b d rest) (rw (count-cons format b d r rest) at (most b d h low high)))))
 
 -- ---- the links of good records
 
@@ -216,43 +216,43 @@ numbers-within Two b d ns e =
     (in_range_two-true ns e).1 d (true-nat_lt 0 d digit.0) (true-nat_lt d 7 digit.1))
 
 link_within : (format : Format) (b d : ℕ) (r : Record) → IsLinkRecord format r → IsLink (unwrap_or (record_link format b d r) (0, 0))
-link_within format b d r k = rw k.spelled (numbers-within format b d k.numbers k.ranges)
+link_within format b d r k = rw k.parsed (numbers-within format b d k.numbers k.ranges)
 
 option_or-within : (o p : Option (ℕ × ℕ)) → IsLink (unwrap_or o (0, 0)) → IsLink (unwrap_or p (0, 0)) → IsLink (unwrap_or (option_or o p) (0, 0))
 option_or-within None p h k = k
 option_or-within (Some x) p h k = h
 
-spelled_link-within : (format : Format) (b d : ℕ) (body : List Record) → All (IsLinkRecord format) body → IsLink (unwrap_or (spelled_link format b d body) (0, 0))
-unfolding spelled_link
-spelled_link-within format b d [] each = (omega arith, omega arith)
-spelled_link-within format b d (r ∷ body) each =
-    option_or-within (record_link format b d r) (spelled_link format b d body) (link_within format b d r (All-head (IsLinkRecord format) r body each))
-    (spelled_link-within format b d body (All-tail (IsLinkRecord format) r body each))
+first_link-within : (format : Format) (b d : ℕ) (body : List Record) → All (IsLinkRecord format) body → IsLink (unwrap_or (first_link format b d body) (0, 0))
+unfolding first_link
+first_link-within format b d [] each = (omega arith, omega arith)
+first_link-within format b d (r ∷ body) each =
+    option_or-within (record_link format b d r) (first_link format b d body) (link_within format b d r (All-head (IsLinkRecord format) r body each))
+    (first_link-within format b d body (All-tail (IsLinkRecord format) r body each))
 
 -- ---- files
 
 -- a header is that of its format
-told_true : (p q : Bool) (format : Format) → (if p then Some One else (if q then Some Two else None)) ≡ Some format
+format_true : (p q : Bool) (format : Format) → (if p then Some One else (if q then Some Two else None)) ≡ Some format
     → ((p ≡ true) × (format ≡ One)) ⊎ ((q ≡ true) × (format ≡ Two))
-told_true true q format e = inl (refl, cc e)
-told_true false true format e = inr (refl, cc e)
-told_true false false format e = cc e
+format_true true q format e = inl (refl, cc e)
+format_true false true format e = inr (refl, cc e)
+format_true false false format e = cc e
 
-told_header : (front : Record) (format : Format) → header_format front ≡ Some format → front ≡ header format
-told_header front format e =
-    elim (told_true (same_fields front header_one) (same_fields front header_two) format e) [
+header_of : (front : Record) (format : Format) → header_format front ≡ Some format → front ≡ header format
+header_of front format e =
+    elim (format_true (same_fields front header_one) (same_fields front header_two) format e) [
       | inl one ↦ rw one.1 (same_fields-true front header_one one.0)
       | inr two ↦ rw two.1 (same_fields-true front header_two two.0)
     ]
 
-header_tells : (format : Format) → header_format (header format) ≡ Some format
+header_back : (format : Format) → header_format (header format) ≡ Some format
 unfolding same_fields
-header_tells One = refl
-header_tells Two = refl
+header_back One = refl
+header_back Two = refl
 
-some_told : (o : Option Format) → (if is_some o then None else Some (fault.Form 1)) ≡ None → o ≡ Some (unwrap_or o One)
-some_told None e = cc e
-some_told (Some x) e = refl
+some_format : (o : Option Format) → (if is_some o then None else Some (fault.Form 1)) ≡ None → o ≡ Some (unwrap_or o One)
+some_format None e = cc e
+some_format (Some x) e = refl
 
 one_of : (format : Format) (b d : ℕ) (body : List Record) (more : ℕ) → 1 ≤ count format b d body → count format b d body + more ≤ 1 → count_by (has_link format b d) body ≡ 1
 unfolding count
@@ -265,25 +265,25 @@ form_of (front ∷ body) e full =
     let format = format_after front in
     let two = both (fault_of [] front) (first_fault (front ∷ []) body) e in
     let rest = rest_of front [] body two.1 in
-    let same : front ≡ header format = told_header front format (some_told (header_format front) two.0) in
+    let same : front ≡ header format = header_of front format (some_format (header_format front) two.0) in
     record {
       format = format;
       front = ap (λ (r : Record). r ∷ body) same;
       each = rest.each;
       once = λ b d h.
-          let some = no_fault (is_some (spelled_link format b (digit_of d) body)) fault.Missing (no_fault_at (missing_of (front ∷ body)) b d full (is_hexagon_of b h)) in
-          let least = spelled-counts format b (digit_of d) body some in
+          let some = no_fault (is_some (first_link format b (digit_of d) body)) fault.Missing (no_fault_at (missing_of (front ∷ body)) b d full (is_hexagon_of b h)) in
+          let least = linked-counts format b (digit_of d) body some in
           let most = rest.most b (digit_of d) in
           one_of format b (digit_of d) body _ least most;
     }
 
-none_more : (format : Format) (b d n : ℕ) → n ≡ 1 → n + one_if (is_some (spelled_link format b d [])) ≤ 1
-unfolding one_if spelled_link
+none_more : (format : Format) (b d n : ℕ) → n ≡ 1 → n + one_if (is_some (first_link format b d [])) ≤ 1
+unfolding one_if first_link
 none_more format b d n e = omega arith
 
 -- the format of a file of the form
 format_is : (records : List Record) (f : IsOfForm records) → format_of records ≡ f.format
-format_is records f = subst (λ records. format_of records ≡ f.format) (sym f.front) (told-under (header f.format) f.format (header_tells f.format))
+format_is records f = subst (λ records. format_of records ≡ f.format) (sym f.front) (format-under (header f.format) f.format (header_back f.format))
 
 at_most_once : (records : List Record) (f : IsOfForm records) → AtMostOnce f.format [] (body_of records)
 unfolding AtMostOnce count
@@ -293,31 +293,31 @@ at_most_once records f b d h low high =
 
 begin_with_header : (format : Format) (body : List Record) → first_fault (header format ∷ []) body ≡ None → first_fault [] (header format ∷ body) ≡ None
 unfolding first_fault
-begin_with_header format body e = nones (fault_of [] (header format)) (first_fault (header format ∷ []) body) (let told = header_tells format in rw told refl) e
+begin_with_header format body e = nones (fault_of [] (header format)) (first_fault (header format ∷ []) body) (let same = header_back format in rw same refl) e
 
 pub no_fault_of : (records : List Record) → IsOfForm records → fault_of_records records ≡ None
 no_fault_of records f =
-    let under : format_after (header f.format) ≡ f.format = told-under (header f.format) f.format (header_tells f.format) in
+    let under : format_after (header f.format) ≡ f.format = format-under (header f.format) f.format (header_back f.format) in
     subst (λ records. fault_of_records records ≡ None) (sym f.front)
     (begin_with_header f.format (body_of records) (first_fault-none (header f.format) [] (body_of records) (rw under f.each) (rw under (at_most_once records f))))
 
-some_of : (records : List Record) → IsOfForm records → (b : ℕ) (d : Direction) → IsHexagonBase b → is_some (spelled_link (format_of records) b (digit_of d) (body_of records)) ≡ true
+some_of : (records : List Record) → IsOfForm records → (b : ℕ) (d : Direction) → IsHexagonBase b → is_some (first_link (format_of records) b (digit_of d) (body_of records)) ≡ true
 unfolding count
 some_of records f b d h =
     let one = f.once b d h in
     let is = format_is records f in
-    rw is (counts-spelled f.format b (digit_of d) (body_of records) (omega arith))
+    rw is (counts-linked f.format b (digit_of d) (body_of records) (omega arith))
 
 pub none_missing : (records : List Record) → IsOfForm records → at_places (missing_of records) ≡ None
 none_missing records f =
     from_base-none (missing_of records) 0 122
-    (λ b d h. unless-none (is_some (spelled_link (format_of records) b (digit_of d) (body_of records))) fault.Missing (some_of records f b d h))
+    (λ b d h. error_unless-none (is_some (first_link (format_of records) b (digit_of d) (body_of records))) fault.Missing (some_of records f b d h))
 
 pub sound_files_are_accepted : SoundFilesAreAccepted
 sound_files_are_accepted records = (accepted, refused_not)
   where
     within : IsOfForm records → (b : ℕ) (d : Direction) → IsHexagonBase b → IsLink (links_of records b d)
-    within form b d h = let is = format_is records form in rw is (spelled_link-within form.format b (digit_of d) (body_of records) form.each)
+    within form b d h = let is = format_is records form in rw is (first_link-within form.format b (digit_of d) (body_of records) form.each)
 
     accepted : table_fault records ≡ None → IsOfForm records × IsSound (links_of records)
     accepted e =

@@ -12,8 +12,8 @@ use Rattle.h3_lattice.specs.declared.format.Format.{Format}
 use Rattle.h3_lattice.specs.Fields.{Record, numbers_in}
 use Rattle.h3_lattice.specs.Format.{own_digit, header_format, format_after, in_range, width}
 use Rattle.h3_lattice.specs.Links.{Links, is_hexagon_base}
-use Rattle.h3_lattice.specs.Checks.{at_places, closes, fault_at, fault_of_links, from_base, in_directions, is_apart, reverses}
-use Rattle.h3_lattice.specs.Records.{body_of, fault_in, fault_of, fault_of_records, first_fault, format_of, spelled_link}
+use Rattle.h3_lattice.specs.Checks.{at_places, closes, fault_at, fault_of_links, from_base, in_directions, leads_apart, reverses}
+use Rattle.h3_lattice.specs.Records.{body_of, fault_in, fault_of, fault_of_records, first_fault, format_of, first_link}
 use Rattle.h3_lattice.specs.Table.{links_of, missing_of, table_fault}
 
 -- 1 for errors of one record, then a number for each later part, and 0 for what is no error of the table
@@ -59,7 +59,7 @@ from_base-kind k f b (suc n) h =
     (if_kind k (is_hexagon_base b) (in_directions (f b) directions) None (in_directions-kind k (f b) directions (h b)) tt) (from_base-kind k f (b + 1) n h)
 
 fault_at-kind : (c : Check) (link : Links) (b : ℕ) (d : Direction) → IsKind (kind_of c) (fault_at c link b d)
-fault_at-kind check.Neighbours link b d = if_kind 3 (is_apart link b d) None (Some (fault.Neighbours b)) tt refl
+fault_at-kind check.Neighbours link b d = if_kind 3 (leads_apart link b d) None (Some (fault.Neighbours b)) tt refl
 fault_at-kind check.Reversal link b d = if_kind 4 (reverses link b d) None (Some (fault.Reversal b d)) tt refl
 fault_at-kind check.Corner link b d = if_kind 5 (closes link b d) None (Some (fault.Corner b d)) tt refl
 
@@ -72,7 +72,7 @@ fault_in-kind format row known (Some ns) =
 fault_of-kind : (before : List Record) (r : Record) → IsKind 1 (fault_of before r)
 fault_of-kind [] r = if_kind 1 (is_some (header_format r)) None (Some (fault.Form 1)) tt refl
 fault_of-kind (front ∷ body) r =
-    fault_in-kind (format_after front) (length body + 2) (λ b d. spelled_link (format_after front) b d body) (numbers_in (width (format_after front)) r)
+    fault_in-kind (format_after front) (length body + 2) (λ b d. first_link (format_after front) b d body) (numbers_in (width (format_after front)) r)
 
 first_fault-kind : (before rest : List Record) → IsKind 1 (first_fault before rest)
 unfolding first_fault
@@ -88,7 +88,7 @@ records-kind (front ∷ body) = first_fault-kind [] (front ∷ body)
 
 pub missing-kind : (records : List Record) → IsKind 2 (at_places (missing_of records))
 missing-kind records =
-    from_base-kind 2 (missing_of records) 0 122 (λ b d. if_kind 2 (is_some (spelled_link (format_of records) b (digit_of d) (body_of records))) None (Some fault.Missing) tt refl)
+    from_base-kind 2 (missing_of records) 0 122 (λ b d. if_kind 2 (is_some (first_link (format_of records) b (digit_of d) (body_of records))) None (Some fault.Missing) tt refl)
 
 pub checks-kind : (c : Check) (link : Links) → IsKind (kind_of c) (at_places (fault_at c link))
 checks-kind c link = from_base-kind (kind_of c) (fault_at c link) 0 122 (fault_at-kind c link)

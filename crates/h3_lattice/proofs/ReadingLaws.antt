@@ -17,24 +17,24 @@ use Rattle.h3_lattice.proofs.RecordLaws.{all-front, none-after}
 -- links
 pub record IsRead (text : List ℕ) (format : Format) (number : ℕ) (slots : List (Option (ℕ × ℕ))) (s : State) (y : List ℕ) : Type 0 where
   pub front : Record
-  pub told : header_format front ≡ Some format
+  pub header_is : header_format front ≡ Some format
   pub body : List Record
   pub reached : Reached default_config st.StartRecord (strip_bom text) (front ∷ body) s y
   pub counted : length body + 1 ≡ number
   pub holds : Holds format slots body
   pub good : (rest : List Record) → first_fault [] ((front ∷ body) ++ rest) ≡ first_fault (front ∷ body) rest
 
-pub told-under : (front : Record) (format : Format) → header_format front ≡ Some format → format_after front ≡ format
-told-under front format e = rw e refl
+pub format-under : (front : Record) (format : Format) → header_format front ≡ Some format → format_after front ≡ format
+format-under front format e = rw e refl
 
 -- a record that isn't faulty is passed over
 pub fault-passed : (before rest : List Record) (r : Record) → fault_of before r ≡ None → first_fault before (r ∷ rest) ≡ first_fault (before ++ (r ∷ [])) rest
 unfolding first_fault
 fault-passed before rest r e = rw e refl
 
-pub fault-told : (before rest : List Record) (r : Record) (e : TableError) → fault_of before r ≡ Some e → first_fault before (r ∷ rest) ≡ Some e
+pub fault-first : (before rest : List Record) (r : Record) (e : TableError) → fault_of before r ≡ Some e → first_fault before (r ∷ rest) ≡ Some e
 unfolding first_fault
-fault-told before rest r e h = rw h refl
+fault-first before rest r e h = rw h refl
 
 pub first-none : (before : List Record) → first_fault before [] ≡ None
 unfolding first_fault
@@ -45,7 +45,7 @@ pub header-faulty : (text : List ℕ) (front : Record) (s : State) (y : List ℕ
     → header_format front ≡ None → fault_of_records (records_of text) ≡ Some (fault.Form 1)
 header-faulty text front s y h e =
     let all = all-front text (front ∷ []) s y h in
-    rw all (fault-told [] _ front (fault.Form 1) (rw e refl))
+    rw all (fault-first [] _ front (fault.Form 1) (rw e refl))
 
 pub no-header : (text : List ℕ) → next_record default_config st.StartRecord [] [] (strip_bom text) ≡ None → fault_of_records (records_of text) ≡ Some (fault.Form 1)
 no-header text e =
@@ -56,7 +56,7 @@ pub read-start : (text : List ℕ) (format : Format) (front : Record) (slots : L
     → Reached default_config st.StartRecord (strip_bom text) (front ∷ []) s y → header_format front ≡ Some format → Holds format slots [] → IsRead text format 1 slots s y
 read-start text format front slots s y h e k = record {
   front = front;
-  told = e;
+  header_is = e;
   body = [];
   reached = h;
   counted = omega arith;
@@ -71,14 +71,14 @@ pub read-faulty : (text : List ℕ) (format : Format) (number : ℕ) (slots : Li
 read-faulty text format number slots s s2 y z w r e h f =
     let all = all-front text ((w.front ∷ w.body) ++ (r ∷ [])) s2 z h in
     let tail = records_from default_config (length (strip_bom text) + 1 - length ((w.front ∷ w.body) ++ (r ∷ []))) s2 z in
-    rw (all, append_assoc w.body (r ∷ []) tail) (w.good (r ∷ tail) ∙ fault-told (w.front ∷ w.body) tail r e f)
+    rw (all, append_assoc w.body (r ∷ []) tail) (w.good (r ∷ tail) ∙ fault-first (w.front ∷ w.body) tail r e f)
 
 pub read-more : (text : List ℕ) (format : Format) (number : ℕ) (slots slots2 : List (Option (ℕ × ℕ))) (s s2 : State) (y z : List ℕ) (w : IsRead text format number slots s y) (r : Record)
     → Reached default_config st.StartRecord (strip_bom text) ((w.front ∷ w.body) ++ (r ∷ [])) s2 z
     → fault_of (w.front ∷ w.body) r ≡ None → Holds format slots2 (w.body ++ (r ∷ [])) → IsRead text format (number + 1) slots2 s2 z
 read-more text format number slots slots2 s s2 y z w r h f k = record {
   front = w.front;
-  told = w.told;
+  header_is = w.header_is;
   body = w.body ++ (r ∷ []);
   reached = h;
   counted = let e : length (w.body ++ (r ∷ [])) ≡ length w.body + 1 = length-append w.body (r ∷ []) in let k : length w.body + 1 ≡ number = w.counted in omega arith;
@@ -92,5 +92,5 @@ read-end text format number slots s y w e =
     let all = all-front text (w.front ∷ w.body) s y w.reached in
     let none = none-after default_config (length (strip_bom text) + 1 - length (w.front ∷ w.body)) s y e in
     let same : records_of text ≡ (w.front ∷ w.body) ++ [] = all ∙ ap (λ (t : List Record). (w.front ∷ w.body) ++ t) none in
-    let under : format_after w.front ≡ format = told-under w.front format w.told in
+    let under : format_after w.front ≡ format = format-under w.front format w.header_is in
     (rw same (w.good [] ∙ first-none (w.front ∷ w.body)), rw (same, append-nil w.body, under) w.holds)

@@ -16,7 +16,7 @@ use Rattle.h3_lattice.specs.Format.{own_digit, in_range, link_in, width}
 use Rattle.h3_lattice.specs.FormatOne.{in_range_one, link_one}
 use Rattle.h3_lattice.specs.FormatTwo.{in_range_two, is_link_two, link_at_digit, link_two}
 use Rattle.h3_lattice.specs.Links.{IsLink, is_hexagon_base, is_link, place_of}
-use Rattle.h3_lattice.specs.Records.{fault_in, record_link, spelled_link}
+use Rattle.h3_lattice.specs.Records.{fault_in, record_link, first_link}
 use Rattle.h3_lattice.specs.Slots.{Holds, IsInRangeOne, IsInRangeTwo, Takes}
 use Rattle.h3_lattice.proofs.SoundLaws.{and_both, direction_below, eqb-eq, nth_direction, true-nat_lt}
 
@@ -27,18 +27,18 @@ or_none (Some p) = refl
 eqb-ne : (m n : ℕ) → (m == n) ≡ false → m ≢ n
 eqb-ne m n e = grind (arith, nat_tests)
 
-pub spelled_link-append : (format : Format) (b d : ℕ) (body : List Record) (r : Record) → spelled_link format b d (body ++ (r ∷ [])) ≡ option_or (spelled_link format b d body) (record_link format b d r)
-unfolding spelled_link
-spelled_link-append format b d [] r = or_none (record_link format b d r)
-spelled_link-append format b d (x ∷ body) r = rw (spelled_link-append format b d body r) (or_assoc (record_link format b d x) (spelled_link format b d body) (record_link format b d r))
+pub first_link-append : (format : Format) (b d : ℕ) (body : List Record) (r : Record) → first_link format b d (body ++ (r ∷ [])) ≡ option_or (first_link format b d body) (record_link format b d r)
+unfolding first_link
+first_link-append format b d [] r = or_none (record_link format b d r)
+first_link-append format b d (x ∷ body) r = rw (first_link-append format b d body r) (or_assoc (record_link format b d x) (first_link format b d body) (record_link format b d r))
   where
     or_assoc : (o p q : Option (ℕ × ℕ)) → option_or o (option_or p q) ≡ option_or (option_or o p) q
     or_assoc None p q = refl
     or_assoc (Some x) p q = refl
 
-pub spelled_link-none : (format : Format) (b d : ℕ) → spelled_link format b d [] ≡ None
-unfolding spelled_link
-spelled_link-none format b d = refl
+pub first_link-none : (format : Format) (b d : ℕ) → first_link format b d [] ≡ None
+unfolding first_link
+first_link-none format b d = refl
 
 -- ---- numbers in range
 
@@ -100,8 +100,8 @@ fault-same format known other row None h = refl
 fault-same format known other row (Some ns) h = same_if (known (slice_index ns 0) (own_digit format ns)) (other (slice_index ns 0) (own_digit format ns)) row (in_range format ns) (h ns)
 
 pub fault-held : (format : Format) (slots : List (Option (ℕ × ℕ))) (body : List Record) (row : ℕ) (o : Option (List ℕ)) → Holds format slots body
-    → fault_in format row (λ b d. slice_index_or slots (place_of b d) None) o ≡ fault_in format row (λ b d. spelled_link format b d body) o
-fault-held format slots body row o h = fault-same format (λ b d. slice_index_or slots (place_of b d) None) (λ b d. spelled_link format b d body) row o
+    → fault_in format row (λ b d. slice_index_or slots (place_of b d) None) o ≡ fault_in format row (λ b d. first_link format b d body) o
+fault-held format slots body row o h = fault-same format (λ b d. slice_index_or slots (place_of b d) None) (λ b d. first_link format b d body) row o
     (λ ns e. let k = first_place format ns e in h.same (slice_index ns 0) (own_digit format ns) k.1 k.2)
 
 -- no slot is known before the first record
@@ -113,7 +113,7 @@ none_known (suc n) (suc i) = none_known n i
 pub holds-none : (format : Format) → Holds format (replicate 732 None) []
 holds-none format = record {
   long = length-replicate {A = Option (ℕ × ℕ)} 732 None;
-  same = λ b d k l. none_known 732 (place_of b d) ∙ sym (spelled_link-none format b d);
+  same = λ b d k l. none_known 732 (place_of b d) ∙ sym (first_link-none format b d);
 }
 
 -- numbers without a fault are in range, and their slot is free
@@ -156,18 +156,18 @@ or_nones (Some x) p e = cc e
 none_or : (o p : Option (ℕ × ℕ)) → o ≡ None → p ≡ None → option_or o p ≡ None
 none_or o p e f = rw e f
 
-spelled_two-first : (b d : ℕ) (body : List Record) → spelled_link Two b 1 body ≡ None → spelled_link Two b d body ≡ None
-unfolding spelled_link
-spelled_two-first b d [] e = refl
-spelled_two-first b d (r ∷ body) e =
-    let two = or_nones (record_link Two b 1 r) (spelled_link Two b 1 body) e in
-    none_or (record_link Two b d r) (spelled_link Two b d body) (record_link-first b d r (numbers_in 13 r) two.0) (spelled_two-first b d body two.1)
+no_link_two : (b d : ℕ) (body : List Record) → first_link Two b 1 body ≡ None → first_link Two b d body ≡ None
+unfolding first_link
+no_link_two b d [] e = refl
+no_link_two b d (r ∷ body) e =
+    let two = or_nones (record_link Two b 1 r) (first_link Two b 1 body) e in
+    none_or (record_link Two b d r) (first_link Two b d body) (record_link-first b d r (numbers_in 13 r) two.0) (no_link_two b d body two.1)
 
 -- no record before has a link that numbers without a fault have
-pub free-links : (format : Format) (b d : ℕ) (ns : List ℕ) (body : List Record) → spelled_link format (slice_index ns 0) (own_digit format ns) body ≡ None
-    → is_some (link_in format b d ns) ≡ true → spelled_link format b d body ≡ None
+pub free-links : (format : Format) (b d : ℕ) (ns : List ℕ) (body : List Record) → first_link format (slice_index ns 0) (own_digit format ns) body ≡ None
+    → is_some (link_in format b d ns) ≡ true → first_link format b d body ≡ None
 free-links One b d ns body free named = let same = link_one-named b d ns named in rw (same.0, same.1) at free
-free-links Two b d ns body free named = let same = link_two-named b d ns named in spelled_two-first b d body (rw same at free)
+free-links Two b d ns body free named = let same = link_two-named b d ns named in no_link_two b d body (rw same at free)
 
 either_first : (o p : Option (ℕ × ℕ)) → (is_some p ≡ true → o ≡ None) → option_or p o ≡ option_or o p
 either_first None None h = refl
@@ -180,13 +180,13 @@ pub holds-more : (format : Format) (slots new : List (Option (ℕ × ℕ))) (bod
 holds-more format slots new body r ns row h e f t =
     let free = free-slot format row (λ b d. slice_index_or slots (place_of b d) None) ns f in
     let k = first_place format ns free.0 in
-    let first : spelled_link format (slice_index ns 0) (own_digit format ns) body ≡ None = sym (h.same (slice_index ns 0) (own_digit format ns) k.1 k.2) ∙ free.1 in
+    let first : first_link format (slice_index ns 0) (own_digit format ns) body ≡ None = sym (h.same (slice_index ns 0) (own_digit format ns) k.1 k.2) ∙ free.1 in
     record {
       long = t.long ∙ h.long;
       same = λ b d low high.
           let here : record_link format b d r ≡ link_in format b d ns = rw e refl in
           let before = h.same b d low high in
-          rw (spelled_link-append format b d body r, here, t.each b d low high, before) (either_first (spelled_link format b d body) (link_in format b d ns) (free-links format b d ns body first));
+          rw (first_link-append format b d body r, here, t.each b d low high, before) (either_first (first_link format b d body) (link_in format b d ns) (free-links format b d ns body first));
     }
 
 -- ---- one place is set

@@ -16,8 +16,8 @@ use Rattle.h3_lattice.specs.declared.checks.Check.TheVariants as check
 use Rattle.h3_index.specs.Cell.{is_pentagon_base}
 use Rattle.h3_lattice.specs.Direction.{digit_of, directions, turned_once}
 use Rattle.h3_lattice.specs.Links.{IsHexagonBase, IsLink, IsSound, Links, is_hexagon_base, links_in, place_of}
-use Rattle.h3_lattice.specs.Checks.{at_places, closes, fault_at, fault_of_links, from_base, in_directions, is_apart, parts, reverses, same_link, unless}
-use Rattle.h3_lattice.specs.First.{IsApart, IsClosed, IsReversed}
+use Rattle.h3_lattice.specs.Checks.{at_places, closes, fault_at, fault_of_links, from_base, in_directions, leads_apart, parts, reverses, same_link, error_unless}
+use Rattle.h3_lattice.specs.First.{LeadsApart, IsClosed, IsReversed}
 use Rattle.h3_lattice.specs.Table.{ChecksMeanSound}
 
 -- ---- the digits of directions
@@ -52,7 +52,7 @@ pub both : (a b : Option TableError) → option_or a b ≡ None → (a ≡ None)
 both None b e = (refl, e)
 both (Some x) b e = cc e
 
-pub no_fault : (b : Bool) (e : TableError) → unless b e ≡ None → b ≡ true
+pub no_fault : (b : Bool) (e : TableError) → error_unless b e ≡ None → b ≡ true
 no_fault true e h = refl
 no_fault false e h = cc h
 
@@ -181,7 +181,7 @@ links_within links long all b d h =
 
 -- ---- what each test says
 
-pub apart-is : (link : Links) (b : ℕ) (d : Direction) → is_apart link b d ≡ true → IsApart link b d
+pub apart-is : (link : Links) (b : ℕ) (d : Direction) → leads_apart link b d ≡ true → LeadsApart link b d
 apart-is link b d t =
     let two = and_both (not ((link b d).0 == b)) (list_all (parts link b d) directions) t in
     record {
@@ -202,7 +202,7 @@ pub sound_of : (link : Links) → ((b : ℕ) (d : Direction) → IsHexagonBase b
 sound_of link within none =
     let one = both (at_places (fault_at check.Neighbours link)) (option_or (at_places (fault_at check.Reversal link)) (at_places (fault_at check.Corner link))) none in
     let two = both (at_places (fault_at check.Reversal link)) (at_places (fault_at check.Corner link)) one.1 in
-    let neighbours : (b : ℕ) (d : Direction) → IsHexagonBase b → is_apart link b d ≡ true = λ b d h. no_fault (is_apart link b d) (fault.Neighbours b) (no_fault_at (fault_at check.Neighbours link) b d one.0 (is_hexagon_of b h)) in
+    let neighbours : (b : ℕ) (d : Direction) → IsHexagonBase b → leads_apart link b d ≡ true = λ b d h. no_fault (leads_apart link b d) (fault.Neighbours b) (no_fault_at (fault_at check.Neighbours link) b d one.0 (is_hexagon_of b h)) in
     let reversal : (b : ℕ) (d : Direction) → IsHexagonBase b → reverses link b d ≡ true = λ b d h. no_fault (reverses link b d) (fault.Reversal b d) (no_fault_at (fault_at check.Reversal link) b d two.0 (is_hexagon_of b h)) in
     let corner : (b : ℕ) (d : Direction) → IsHexagonBase b → closes link b d ≡ true = λ b d h. no_fault (closes link b d) (fault.Corner b d) (no_fault_at (fault_at check.Corner link) b d two.1 (is_hexagon_of b h)) in
     record {
@@ -239,8 +239,8 @@ from_base-none f b (suc n) h =
     (if_none (is_hexagon_base b) (in_directions (f b) directions) (λ k. in_directions-none (f b) directions (λ d. h b d (hexagon_of b k))))
     (from_base-none f (b + 1) n h)
 
-pub unless-none : (b : Bool) (e : TableError) → b ≡ true → unless b e ≡ None
-unless-none b e h = rw h refl
+pub error_unless-none : (b : Bool) (e : TableError) → b ≡ true → error_unless b e ≡ None
+error_unless-none b e h = rw h refl
 
 eqb-self : (n : ℕ) → (n == n) ≡ true
 eqb-self n = grind (arith, nat_tests)
@@ -271,7 +271,7 @@ same_or_or true true p q e = rw (e refl refl) (same_link-self q)
 same_or_or true false p q e = refl
 same_or_or false k p q e = refl
 
-pub apart-of : (link : Links) (b : ℕ) (d : Direction) → IsApart link b d → is_apart link b d ≡ true
+pub apart-of : (link : Links) (b : ℕ) (d : Direction) → LeadsApart link b d → leads_apart link b d ≡ true
 apart-of link b d s =
     let away : not ((link b d).0 == b) ≡ true = not_eqb (link b d).0 b s.away in
     let each : list_all (parts link b d) directions ≡ true = list_all-true (parts link b d) directions parts_of in
@@ -290,10 +290,10 @@ closed-of link b d s =
 
 sound_none : (link : Links) → IsSound link → fault_of_links link ≡ None
 sound_none link s =
-    let apart : (b : ℕ) (d : Direction) → IsHexagonBase b → IsApart link b d = λ b d h. record { away = s.away b d h; apart = λ e k. s.apart b d e h k } in
-    let neighbours = from_base-none (fault_at check.Neighbours link) 0 122 (λ b d h. unless-none (is_apart link b d) (fault.Neighbours b) (apart-of link b d (apart b d h))) in
-    let reversal = from_base-none (fault_at check.Reversal link) 0 122 (λ b d h. unless-none (reverses link b d) (fault.Reversal b d) (reversed-of link b d (λ k. s.reversal b d h k))) in
-    let corner = from_base-none (fault_at check.Corner link) 0 122 (λ b d h. unless-none (closes link b d) (fault.Corner b d) (closed-of link b d (λ k l. s.corner b d h k l))) in
+    let apart : (b : ℕ) (d : Direction) → IsHexagonBase b → LeadsApart link b d = λ b d h. record { away = s.away b d h; apart = λ e k. s.apart b d e h k } in
+    let neighbours = from_base-none (fault_at check.Neighbours link) 0 122 (λ b d h. error_unless-none (leads_apart link b d) (fault.Neighbours b) (apart-of link b d (apart b d h))) in
+    let reversal = from_base-none (fault_at check.Reversal link) 0 122 (λ b d h. error_unless-none (reverses link b d) (fault.Reversal b d) (reversed-of link b d (λ k. s.reversal b d h k))) in
+    let corner = from_base-none (fault_at check.Corner link) 0 122 (λ b d h. error_unless-none (closes link b d) (fault.Corner b d) (closed-of link b d (λ k l. s.corner b d h k l))) in
     nones _ _ neighbours (nones _ _ reversal corner)
 
 pub checks_mean_sound : ChecksMeanSound

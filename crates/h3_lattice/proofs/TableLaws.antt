@@ -7,7 +7,7 @@ use Rattle.h3_lattice.specs.declared.error.TableError.TheVariants as fault
 use Rattle.h3_lattice.specs.Direction.{digit_of}
 use Rattle.h3_lattice.specs.Fields.{Record, records_of}
 use Rattle.h3_lattice.specs.Links.{Links, links_in, place_of}
-use Rattle.h3_lattice.specs.Checks.{at_places, fault_of_links, unless}
+use Rattle.h3_lattice.specs.Checks.{at_places, fault_of_links, error_unless}
 use Rattle.h3_lattice.specs.Records.{body_of, fault_of_records, format_of}
 use Rattle.h3_lattice.specs.Slots.{Holds, IsFaultOrMemory, StopsReading, missing_at}
 use Rattle.h3_lattice.specs.Table.{RefusesTable, links_of, missing_of, table_fault}
@@ -36,7 +36,7 @@ refuses_file fails records e is = refuses_kind fails (table_fault records) e (ta
 
 missing-same : (slots : List (Option (ℕ × ℕ))) (records : List Record) → Holds (format_of records) slots (body_of records) → at_places (missing_at slots) ≡ at_places (missing_of records)
 missing-same slots records h =
-    ap at_places (λ i b d. ap (λ (o : Option (ℕ × ℕ)). unless (is_some o) fault.Missing) (h.same b (digit_of d) (digit_of-gt d) (digit_of-lt d)) i)
+    ap at_places (λ i b d. ap (λ (o : Option (ℕ × ℕ)). error_unless (is_some o) fault.Missing) (h.same b (digit_of d) (digit_of-gt d) (digit_of-lt d)) i)
 
 pub links-same : (slots : List (Option (ℕ × ℕ))) (links : List (ℕ × ℕ)) (records : List Record) → Holds (format_of records) slots (body_of records) → AreFilled slots links → links_in links ≡ links_of records
 unfolding links_in
@@ -65,8 +65,8 @@ stops fails first e (inr read) = subst (λ e. RefusesTable fails first e) (sym r
 pub refuses_records : (fails : Type 0) (text bytes : List ℕ) (e : TableError) → text ≡ bytes → IsFaultOrMemory (fault_of_records (records_of text)) e → RefusesTable fails (table_fault (records_of bytes)) e
 refuses_records fails text bytes e same (inl memory) = subst (λ e. RefusesTable fails (table_fault (records_of bytes)) e) (sym memory) tt
 refuses_records fails text bytes e same (inr is) =
-    let told : fault_of_records (records_of bytes) ≡ Some e = ap (λ (t : List ℕ). fault_of_records (records_of t)) (sym same) ∙ is in
-    refuses_file fails (records_of bytes) e (next_some (fault_of_records (records_of bytes)) _ e told)
+    let first_is : fault_of_records (records_of bytes) ≡ Some e = ap (λ (t : List ℕ). fault_of_records (records_of t)) (sym same) ∙ is in
+    refuses_file fails (records_of bytes) e (next_some (fault_of_records (records_of bytes)) _ e first_is)
 
 -- the records of the text that was read are good, and the slots hold their links
 abbrev pub IsGood : List (Option (ℕ × ℕ)) → List ℕ → Type 0

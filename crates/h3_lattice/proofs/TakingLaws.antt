@@ -12,7 +12,7 @@ use Rattle.h3_lattice.specs.Links.{place_of}
 use Rattle.h3_lattice.specs.Records.{fault_in, fault_of, fault_of_records}
 use Rattle.h3_lattice.specs.Slots.{Holds, Takes}
 use Rattle.h3_lattice.proofs.RecordLaws.{reached-few}
-use Rattle.h3_lattice.proofs.ReadingLaws.{IsRead, read-faulty, read-more, told-under}
+use Rattle.h3_lattice.proofs.ReadingLaws.{IsRead, read-faulty, read-more, format-under}
 use Rattle.h3_lattice.proofs.SlotLaws.{holds-more, fault-held}
 
 taken-holds : (format : Format) (slots new : List (Option (ℕ × ℕ))) (body : List Record) (r : Record) (row : ℕ) (o : Option (List ℕ)) → Holds format slots body → o ≡ numbers_in (width format) r
@@ -25,7 +25,7 @@ fault-is : (format : Format) (slots : List (Option (ℕ × ℕ))) (front r : Rec
     → fault_of (front ∷ body) r ≡ fault_in format (number + 1) (λ b d. slice_index_or slots (place_of b d) None) (numbers_in (width format) r)
 fault-is format slots front r body number t h c =
     let n : length body + 2 ≡ number + 1 = omega arith in
-    let under : format_after front ≡ format = told-under front format t in
+    let under : format_after front ≡ format = format-under front format t in
     rw (under, n) (sym (fault-held format slots body (number + 1) (numbers_in (width format) r) h))
 
 pub step-good : (text : List ℕ) (format : Format) (number : ℕ) (slots new : List (Option (ℕ × ℕ))) (s s2 : State) (y z : List ℕ) (w : IsRead text format number slots s y) (r : Record)
@@ -34,14 +34,14 @@ pub step-good : (text : List ℕ) (format : Format) (number : ℕ) (slots new : 
     → IfSome (numbers_in (width format) r) (λ ns. Takes format ns slots new)
     → IsRead text format (number + 1) new s2 z
 step-good text format number slots new s s2 y z w r h f k =
-    read-more text format number slots new s s2 y z w r h (fault-is format slots w.front r w.body number w.told w.holds w.counted ∙ f)
+    read-more text format number slots new s s2 y z w r h (fault-is format slots w.front r w.body number w.header_is w.holds w.counted ∙ f)
     (taken-holds format slots new w.body r (number + 1) (numbers_in (width format) r) w.holds refl f k)
 
 pub step-bad : (text : List ℕ) (format : Format) (number : ℕ) (slots : List (Option (ℕ × ℕ))) (s s2 : State) (y z : List ℕ) (w : IsRead text format number slots s y) (r : Record) (fault : TableError)
     → Reached default_config st.StartRecord (strip_bom text) ((w.front ∷ w.body) ++ (r ∷ [])) s2 z
     → fault_in format (number + 1) (λ b d. slice_index_or slots (place_of b d) None) (numbers_in (width format) r) ≡ Some fault → fault_of_records (records_of text) ≡ Some fault
 step-bad text format number slots s s2 y z w r fault h f =
-    read-faulty text format number slots s s2 y z w r fault h (fault-is format slots w.front r w.body number w.told w.holds w.counted ∙ f)
+    read-faulty text format number slots s s2 y z w r fault h (fault-is format slots w.front r w.body number w.header_is w.holds w.counted ∙ f)
 
 strip_if : (b : Bool) (x y : List ℕ) → length x ≤ length y → length (if b then x else y) ≤ length y
 strip_if true x y h = h

@@ -20,8 +20,8 @@ abbrev pub parts : Links → ℕ → Direction → Direction → Bool
 parts link b d e = (digit_of e == digit_of d) || not ((link b e).0 == (link b d).0)
 
 -- the neighbour in this direction is not b, and in no other direction
-abbrev pub is_apart : Links → ℕ → Direction → Bool
-is_apart link b d = not ((link b d).0 == b) && list_all (parts link b d) directions
+abbrev pub leads_apart : Links → ℕ → Direction → Bool
+leads_apart link b d = not ((link b d).0 == b) && list_all (parts link b d) directions
 
 -- the link back leads to b and undoes the turns
 abbrev pub reverses : Links → ℕ → Direction → Bool
@@ -36,8 +36,8 @@ closes link b d = not (is_hexagon_base (link b d).0) || not (is_hexagon_base (li
 
 -- ---- the first fault
 
-abbrev pub unless : Bool → TableError → Option TableError
-unless holds e = if holds then None else Some e
+abbrev pub error_unless : Bool → TableError → Option TableError
+error_unless holds e = if holds then None else Some e
 
 -- the first fault in one of these directions
 unfoldable pub in_directions : (Direction → Option TableError) → List Direction → Option TableError
@@ -55,9 +55,9 @@ at_places f = from_base f 0 122
 
 -- the error of a check at a base cell and a direction
 abbrev pub fault_at : Check → Links → ℕ → Direction → Option TableError
-fault_at check.Neighbours link b d = unless (is_apart link b d) (fault.Neighbours b)
-fault_at check.Reversal link b d = unless (reverses link b d) (fault.Reversal b d)
-fault_at check.Corner link b d = unless (closes link b d) (fault.Corner b d)
+fault_at check.Neighbours link b d = error_unless (leads_apart link b d) (fault.Neighbours b)
+fault_at check.Reversal link b d = error_unless (reverses link b d) (fault.Reversal b d)
+fault_at check.Corner link b d = error_unless (closes link b d) (fault.Corner b d)
 
 -- the first error of the three checks of a full table: one after the other, each at every base cell and direction
 abbrev pub fault_of_links : Links → Option TableError

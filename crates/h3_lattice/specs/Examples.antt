@@ -17,7 +17,7 @@ use Rattle.h3_lattice.specs.FormatOne.{header_one}
 use Rattle.h3_lattice.specs.FormatTwo.{header_two}
 use Rattle.h3_lattice.specs.Links.{is_hexagon_base}
 use Rattle.h3_lattice.specs.Checks.{fault_of_links, from_base, in_directions}
-use Rattle.h3_lattice.specs.Records.{fault_of_records, first_fault, spelled_link}
+use Rattle.h3_lattice.specs.Records.{fault_of_records, first_fault, first_link}
 use Rattle.h3_lattice.specs.Vectors.{test_link}
 
 -- ---- products and norms
@@ -142,7 +142,7 @@ faults : map (λ body. fault_of_records (header_one ∷ body))
     ∷ []
     )
     ≡ None ∷ Some (Range 2) ∷ Some (Form 2) ∷ Some (Range 2) ∷ Some (Repeated 3) ∷ []
-unfolding number_from all_numbers same_fields first_fault spelled_link is_hexagon_base
+unfolding number_from all_numbers same_fields first_fault first_link is_hexagon_base
 faults = refl
 
 no_header : fault_of_records [] ≡ Some (Form 1)
@@ -157,8 +157,8 @@ base_record base k last =
 abbrev plain_base : Record
 plain_base = base_record (codes "0") (codes "110") (codes "0")
 
-base_links : map (λ d. spelled_link format.Two 0 (digit_of d) (plain_base ∷ [])) directions ≡ map (λ d. Some (test_link Plain 0 d)) directions
-unfolding number_from all_numbers spelled_link
+base_links : map (λ d. first_link format.Two 0 (digit_of d) (plain_base ∷ [])) directions ≡ map (λ d. Some (test_link Plain 0 d)) directions
+unfolding number_from all_numbers first_link
 base_links = refl
 
 -- the record of the base cell 30 of another, in which digits are turned
@@ -167,8 +167,8 @@ twisted_base =
     codes "30" ∷ codes "18" ∷ codes "41" ∷ codes "29" ∷ codes "31" ∷ codes "19" ∷ codes "42"
     ∷ codes "0" ∷ codes "5" ∷ codes "5" ∷ codes "1" ∷ codes "1" ∷ codes "0" ∷ []
 
-turned_links : map (λ d. spelled_link format.Two 30 (digit_of d) (twisted_base ∷ [])) directions ≡ map (λ d. Some (test_link Twisted 30 d)) directions
-unfolding number_from all_numbers spelled_link
+turned_links : map (λ d. first_link format.Two 30 (digit_of d) (twisted_base ∷ [])) directions ≡ map (λ d. Some (test_link Twisted 30 d)) directions
+unfolding number_from all_numbers first_link
 turned_links = refl
 
 base_faults : map (λ body. fault_of_records (header_two ∷ body))
@@ -184,7 +184,7 @@ base_faults : map (λ body. fault_of_records (header_two ∷ body))
     ∷ []
     )
     ≡ None ∷ None ∷ Some (Form 2) ∷ Some (Range 2) ∷ Some (Range 2) ∷ Some (Range 2) ∷ Some (Range 2) ∷ Some (Repeated 3) ∷ []
-unfolding number_from all_numbers same_fields first_fault spelled_link is_hexagon_base
+unfolding number_from all_numbers same_fields first_fault first_link is_hexagon_base
 base_faults = refl
 
 -- a first record that is no header

@@ -8,7 +8,7 @@ use Rattle.h3_lattice.specs.declared.error.TableError.TheVariants as fault
 use Rattle.h3_lattice.specs.Direction.{digit_of, opposite, turned, turned_once}
 use Rattle.h3_lattice.specs.Fields.{Record}
 use Rattle.h3_lattice.specs.Links.{IsHexagonBase, Links}
-use Rattle.h3_lattice.specs.Records.{body_of, fault_of, format_of, spelled_link}
+use Rattle.h3_lattice.specs.Records.{body_of, fault_of, format_of, first_link}
 use Rattle.h3_lattice.specs.Table.{IsOfForm, links_of, table_fault}
 
 -- ---- records
@@ -31,12 +31,12 @@ pub record IsMissing (records : List Record) : Type 0 where
   pub base : ℕ
   pub direction : Direction
   pub hexagon : IsHexagonBase base
-  pub none : spelled_link (format_of records) base (digit_of direction) (body_of records) ≡ None
+  pub none : first_link (format_of records) base (digit_of direction) (body_of records) ≡ None
 
 -- ---- checks
 
 -- the neighbour of b in the direction d is another base cell, and that of no other direction
-pub record IsApart (link : Links) (b : ℕ) (d : Direction) : Type 0 where
+pub record LeadsApart (link : Links) (b : ℕ) (d : Direction) : Type 0 where
   pub away : (link b d).0 ≢ b
   pub apart : (e : Direction) → (link b d).0 ≡ (link b e).0 → d ≡ e
 
@@ -56,14 +56,14 @@ abbrev pub HoldsEverywhere : (ℕ → Direction → Type 0) → Type 0
 HoldsEverywhere Check = (b : ℕ) (d : Direction) → IsHexagonBase b → Check b d
 
 -- by base cell, and then in the order of the digits
-abbrev pub IsBefore : ℕ → Direction → ℕ → Direction → Type 0
-IsBefore a e b d = (a < b) ⊎ ((a ≡ b) × (digit_of e < digit_of d))
+abbrev pub IsEarlier : ℕ → Direction → ℕ → Direction → Type 0
+IsEarlier a e b d = (a < b) ⊎ ((a ≡ b) × (digit_of e < digit_of d))
 
 -- a check fails at a hexagon base cell and a direction, and nowhere before
 pub record FailsFirst (Check : ℕ → Direction → Type 0) (b : ℕ) (d : Direction) : Type 0 where
   pub hexagon : IsHexagonBase b
   pub fails : Check b d → ⊥
-  pub earlier : (a : ℕ) (e : Direction) → IsHexagonBase a → IsBefore a e b d → Check a e
+  pub earlier : (a : ℕ) (e : Direction) → IsHexagonBase a → IsEarlier a e b d → Check a e
 
 -- ---- the first of all
 
@@ -75,11 +75,11 @@ IsFirstFault records (fault.Range row) = IsFirstFaulty records (fault.Range row)
 IsFirstFault records (fault.Repeated row) = IsFirstFaulty records (fault.Repeated row)
 IsFirstFault records fault.Missing = AreGood records × IsMissing records
 IsFirstFault records (fault.Neighbours b) =
-    IsOfForm records × ((d : Direction) × FailsFirst (IsApart (links_of records)) b d)
+    IsOfForm records × ((d : Direction) × FailsFirst (LeadsApart (links_of records)) b d)
 IsFirstFault records (fault.Reversal b d) =
-    IsOfForm records × HoldsEverywhere (IsApart (links_of records)) × FailsFirst (IsReversed (links_of records)) b d
+    IsOfForm records × HoldsEverywhere (LeadsApart (links_of records)) × FailsFirst (IsReversed (links_of records)) b d
 IsFirstFault records (fault.Corner b d) =
-    IsOfForm records × HoldsEverywhere (IsApart (links_of records)) × HoldsEverywhere (IsReversed (links_of records))
+    IsOfForm records × HoldsEverywhere (LeadsApart (links_of records)) × HoldsEverywhere (IsReversed (links_of records))
     × FailsFirst (IsClosed (links_of records)) b d
 
 -- the error that the definitions compute is the first

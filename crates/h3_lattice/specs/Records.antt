@@ -25,9 +25,9 @@ abbrev pub record_link : Format → ℕ → ℕ → Record → Option (ℕ × �
 record_link format b d r = option_and_then (link_in format b d) (numbers_in (width format) r)
 
 -- the link in the first of these records that has one for the base cell and the direction
-unfoldable pub spelled_link : Format → ℕ → ℕ → List Record → Option (ℕ × ℕ)
-spelled_link format b d [] = None
-spelled_link format b d (r ∷ rest) = option_or (record_link format b d r) (spelled_link format b d rest)
+unfoldable pub first_link : Format → ℕ → ℕ → List Record → Option (ℕ × ℕ)
+first_link format b d [] = None
+first_link format b d (r ∷ rest) = option_or (record_link format b d r) (first_link format b d rest)
 
 -- ---- faults
 
@@ -43,7 +43,7 @@ fault_in format row known (Some ns) =
 abbrev pub fault_of : List Record → Record → Option TableError
 fault_of [] r = if is_some (header_format r) then None else Some (fault.Form 1)
 fault_of (front ∷ body) r =
-    fault_in (format_after front) (length body + 2) (λ b d. spelled_link (format_after front) b d body) (numbers_in (width (format_after front)) r)
+    fault_in (format_after front) (length body + 2) (λ b d. first_link (format_after front) b d body) (numbers_in (width (format_after front)) r)
 
 -- the first fault of records that come after others
 unfoldable pub first_fault : List Record → List Record → Option TableError

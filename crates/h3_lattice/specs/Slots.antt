@@ -10,8 +10,8 @@ use Rattle.h3_lattice.specs.Fields.{Record}
 use Rattle.h3_lattice.specs.Format.{link_in}
 use Rattle.h3_lattice.specs.FormatTwo.{link_at_digit}
 use Rattle.h3_lattice.specs.Links.{IsLink, place_of}
-use Rattle.h3_lattice.specs.Checks.{unless}
-use Rattle.h3_lattice.specs.Records.{spelled_link}
+use Rattle.h3_lattice.specs.Checks.{error_unless}
+use Rattle.h3_lattice.specs.Records.{first_link}
 
 -- the bounds of numbers that are in range, in format 1
 abbrev pub IsInRangeOne : List ℕ → Type 0
@@ -29,11 +29,11 @@ pub record Takes (format : Format) (ns : List ℕ) (old new : List (Option (ℕ 
 -- the slots hold the links of these records
 pub record Holds (format : Format) (slots : List (Option (ℕ × ℕ))) (body : List Record) : Type 0 where
   pub long : length slots ≡ 732
-  pub same : (b d : ℕ) → 0 < d → d < 7 → slice_index_or slots (place_of b d) None ≡ spelled_link format b d body
+  pub same : (b d : ℕ) → 0 < d → d < 7 → slice_index_or slots (place_of b d) None ≡ first_link format b d body
 
 -- no link stands in the slot of this base cell and direction
 abbrev pub missing_at : List (Option (ℕ × ℕ)) → ℕ → Direction → Option TableError
-missing_at slots b d = unless (is_some (slice_index_or slots (place_of b (digit_of d)) None)) fault.Missing
+missing_at slots b d = error_unless (is_some (slice_index_or slots (place_of b (digit_of d)) None)) fault.Missing
 
 -- an error is this one, or out of memory
 abbrev pub IsFaultOrMemory : Option TableError → TableError → Type 0

@@ -10,16 +10,16 @@ use Rattle.h3_lattice.specs.declared.format.Format.{Format}
 use Rattle.h3_lattice.specs.Fields.{Record, numbers_in}
 use Rattle.h3_lattice.specs.Format.{header, in_range, width}
 use Rattle.h3_lattice.specs.Links.{IsHexagonBase, IsLink, IsSound, Links}
-use Rattle.h3_lattice.specs.Checks.{at_places, fault_of_links, unless}
-use Rattle.h3_lattice.specs.Records.{body_of, fault_of_records, format_of, record_link, spelled_link}
+use Rattle.h3_lattice.specs.Checks.{at_places, fault_of_links, error_unless}
+use Rattle.h3_lattice.specs.Records.{body_of, fault_of_records, format_of, record_link, first_link}
 
 -- the table of these records
 abbrev pub links_of : List Record → Links
-links_of records b d = unwrap_or (spelled_link (format_of records) b (digit_of d) (body_of records)) (0, 0)
+links_of records b d = unwrap_or (first_link (format_of records) b (digit_of d) (body_of records)) (0, 0)
 
 -- no record has the link of this base cell and direction
 abbrev pub missing_of : List Record → ℕ → Direction → Option TableError
-missing_of records b d = unless (is_some (spelled_link (format_of records) b (digit_of d) (body_of records))) fault.Missing
+missing_of records b d = error_unless (is_some (first_link (format_of records) b (digit_of d) (body_of records))) fault.Missing
 
 -- why a table file is refused: its first faulty record, or else a missing one, or else the first check that fails
 abbrev pub table_fault : List Record → Option TableError
@@ -46,7 +46,7 @@ has_link format b d r = is_some (record_link format b d r)
 -- the numbers of a record's fields are in their ranges
 pub record IsLinkRecord (format : Format) (r : Record) : Type 0 where
   pub numbers : List ℕ
-  pub spelled : numbers_in (width format) r ≡ Some numbers
+  pub parsed : numbers_in (width format) r ≡ Some numbers
   pub ranges : in_range format numbers ≡ true
 
 -- the form of a table file: the header of one of the formats, and then, in any order, records in their ranges, of which

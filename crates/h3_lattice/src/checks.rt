@@ -3,7 +3,7 @@
 ghost use Rattle.std.specs.Prelude.{◌≡◌, ◌<◌, All};
 ghost use Rattle.h3_lattice.specs.Direction.{directions};
 ghost use Rattle.h3_lattice.specs.Links.{IsLink, links_in};
-ghost use Rattle.h3_lattice.specs.Checks.{at_places, closes, fault_at, fault_of_links, in_directions, is_apart, parts, reverses};
+ghost use Rattle.h3_lattice.specs.Checks.{at_places, closes, fault_at, fault_of_links, in_directions, leads_apart, parts, reverses};
 
 use crate::direction::{DIRECTIONS, Direction, turn};
 use crate::error::TableError;
@@ -32,9 +32,9 @@ fn parts(links: &Links, base: u8, direction: Direction, other: Direction) -> boo
 }
 
 /// Whether the neighbour in a direction is another base cell, and that of no other direction.
-fn is_apart(links: &Links, base: u8, direction: Direction) -> bool
+fn leads_apart(links: &Links, base: u8, direction: Direction) -> bool
     requires { base < 122 }
-    ensures { result ≡ is_apart (links_in links.now) base direction }
+    ensures { result ≡ leads_apart (links_in links.now) base direction }
 {
     if link_at(links, base, direction).0 == base {
         return false;
@@ -85,7 +85,7 @@ fn fault_at(check: Check, links: &Links, base: u8, direction: Direction) -> Opti
 {
     match check {
         Check::Neighbours => {
-            if is_apart(links, base, direction) {
+            if leads_apart(links, base, direction) {
                 None
             } else {
                 Some(TableError::Neighbours(base))

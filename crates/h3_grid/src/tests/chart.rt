@@ -5,19 +5,10 @@ use super::test_table;
 use crate::{Disk, step};
 use h3_index::Cell;
 use h3_lattice::vectors::TestTable;
-use h3_lattice::{BaseTable, Direction};
+use h3_lattice::{BaseTable, DIRECTIONS, Direction};
 use std::alloc::Global;
 use std::process::Abort;
 use std::test::Fail;
-
-const DIRECTIONS: [Direction; 6] = [
-    Direction::K,
-    Direction::J,
-    Direction::JK,
-    Direction::I,
-    Direction::IK,
-    Direction::IJ,
-];
 
 /// The moves of a disk of radius 2, and whether each writes a cell. The first seven are those of radius 1.
 const MOVES: [(Direction, bool); 20] = [

@@ -90,7 +90,7 @@ pub returns-clause-first : goal.returns-clause-first
 returns-clause-first g c = faults_are_first
 
 pub returns-in_err-text-clause-whole : goal.returns-in_err-text-clause-whole
-returns-in_err-text-clause-whole g c = λ read memory bytes told.
+returns-in_err-text-clause-whole g c = λ read memory bytes known.
     let p = err_from_is_err_and c.from_residual.result c.from_residual.ensures.1 in
     elim c.in_err-text.ensures.refused.2 [
       | inl out_of_memory ↦ absurd (memory (rw (p.1, p.2, out_of_memory) refl))

@@ -6,7 +6,7 @@ use Rattle.h3_lattice.specs.Links.{links_in}
 use Rattle.h3_lattice.specs.Checks.{parts}
 use Rattle.h3_lattice.specs.declared.direction.Direction.TheVariants.{K}
 use Rattle.h3_lattice.proofs.FirstLaws.{each-next, each-end, both_false}
-use Rattle.h3_lattice.proofs.checks.is_apart.Goals as goal
+use Rattle.h3_lattice.proofs.checks.leads_apart.Goals as goal
 
 pub returns-then-not-parts : goal.returns-then-not-parts
 returns-then-not-parts c =
