@@ -1,25 +1,14 @@
 //! The command `h3`.
 #![tactic(auto)]
 
-mod commands;
-mod options;
-mod page;
-mod program;
-mod retried;
-mod table;
-mod words;
-
 use h3_index::{H3Error, Sink, Source, Streamed};
 use h3_lines::{Refusal, report};
-use page::PageWriter;
-use program::run_words;
-use retried::Retried;
+use h3_program::{PageWriter, Retried, TableFile, run_words};
 use std::env;
 use std::fs::File;
 use std::io::ErrorKind;
 use std::process::ExitCode;
 use std::rt::{Env, Files};
-use table::TableFile;
 
 /// The words of the command line, where the system gives them.
 fn given_words<R: Env + AllocGlobal>(rt: &R) -> Result<Vec<String>, Refusal> {

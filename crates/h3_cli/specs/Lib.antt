@@ -1,9 +1,0 @@
-pub mod Call
-pub mod Commands
-pub mod Faults
-pub mod Given
-pub mod Options
-pub mod PageWriter
-pub mod Program
-pub mod Retried
-pub mod Values

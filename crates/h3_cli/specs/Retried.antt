@@ -1,6 +1,0 @@
--- What is known of a `Retried`.
-use Rattle.h3_cli.specs.declared.retried.Retried.{Retried}
-
--- the reader or writer inside
-abbrev pub retried_inner : {T : Type 0} → Retried T → T
-retried_inner r = r.inner

@@ -1,0 +1,4 @@
+pub mod PageWriter
+pub mod Program
+pub mod Retried
+pub mod TableFile

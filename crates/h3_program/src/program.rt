@@ -1,0 +1,88 @@
+//! The whole program but for what only the system can give: words, the standard streams, and files.
+
+ghost use Rattle.std.specs.Prelude.{◌≡◌, map, string_bytes, option_map, Result};
+ghost use Rattle.h3_lines.specs.Writing.{sink_use};
+ghost use Rattle.h3_command.specs.Answer.{request};
+ghost use Rattle.h3_command.specs.Run.{source_use};
+ghost use Rattle.h3_words.specs.Parse.{ParsesAs};
+ghost use Rattle.h3_words.specs.declared.words.Words.{Words};
+ghost use Rattle.h3_words.specs.declared.words.WordsFault.{WordsFault};
+ghost use Rattle.h3_program.specs.Program.{Follows, RunsCommand};
+
+use crate::table::OpenTable;
+use h3_command::run::run;
+use h3_index::{Sink, Source};
+use h3_lines::{Refusal, report, write_all, write_answer};
+use h3_words::{Words, WordsFault, read_words};
+use std::alloc::Global;
+
+/// Runs a command, and returns the exit status. Its table is opened first, if it has one; where that
+/// fails, nothing is run.
+fn run_command<R: Source, T: OpenTable, W: Sink, E: Sink>(
+    alloc: Global,
+    words: &Words,
+    input: &mut R,
+    table: &mut T,
+    out: &mut W,
+    err: &mut E,
+) -> u8
+    ensures { RunsCommand (record {
+      opens = T.opens;
+      fails_to_open = T.fails_to_open;
+      as_source = source_use T.left T.has_failed;
+    }) (option_map string_bytes words.now.table) (request words.now.command) result
+        (record { old = input.old; new = input.new }) (record { old = table.old; new = table.new }) (record {
+          input = source_use R.left R.has_failed input.old input.new;
+          table = source_use T.left T.has_failed table.old table.new;
+          out = sink_use W.taken W.has_failed out.old out.new;
+          err = sink_use E.taken E.has_failed err.old err.new;
+        }) }
+{
+    match &words.table {
+        None => run(alloc, &words.command, input, table, out, err),
+        Some(path) => match table.open(path.as_str()) {
+            Ok(()) => run(alloc, &words.command, input, table, out, err),
+            Err(_) => report(err, Err(Refusal::TableOpen)),
+        },
+    }
+}
+
+/// Runs the command that the words of a command line parse as, and returns the exit status. Help goes
+/// to `out`; the text of an invalid command line goes to `err`, with status 2.
+///
+/// The table of a command that has one is opened once the words are parsed, and before anything else
+/// is looked at; where it cannot be opened, the line `table: open` goes to `err`, with status 3.
+pub fn run_words<R: Source, T: OpenTable, W: Sink, E: Sink>(
+    alloc: Global,
+    words: Vec<String>,
+    input: &mut R,
+    table: &mut T,
+    out: &mut W,
+    err: &mut E,
+) -> u8
+    ensures { (parsed : Result Words WordsFault) × ParsesAs (map string_bytes words.items) parsed
+        × Follows (record {
+          opens = T.opens;
+          fails_to_open = T.fails_to_open;
+          as_source = source_use T.left T.has_failed;
+        }) parsed result
+        (record { old = input.old; new = input.new }) (record { old = table.old; new = table.new }) (record {
+          input = source_use R.left R.has_failed input.old input.new;
+          table = source_use T.left T.has_failed table.old table.new;
+          out = sink_use W.taken W.has_failed out.old out.new;
+          err = sink_use E.taken E.has_failed err.old err.new;
+        }) }
+{
+    match read_words(alloc, words) {
+        Ok(words) => run_command(alloc, &words, input, table, out, err),
+        Err(WordsFault::Help(text)) => report(err, write_answer(out, text.as_bytes())),
+        Err(WordsFault::Usage(text)) => {
+            let _ = write_all(err, text.as_bytes());
+            2
+        }
+        Err(WordsFault::Memory) => report(err, Err(Refusal::Memory)),
+    }
+}
+
+#[cfg(test)]
+mod tests;

@@ -1,0 +1,103 @@
+//! The base cell table, which is opened by its path.
+
+ghost use Rattle.std.specs.Prelude.{◌≡◌, ◌≤◌, List, ℕ, None, true, false, length, IsSome, IsErr, IfOk, OnOk, OnErr};
+ghost use Rattle.h3_index.specs.Stream.{Pulls};
+
+use crate::retried::Retried;
+use h3_index::{Source, StreamFault};
+use std::io::{ErrorKind, Read};
+use std::rt::Files;
+use std::{fs, io};
+
+/// A table cannot be opened.
+#[derive(Debug, Drop)]
+pub struct OpenFault;
+
+/// A table that is opened by its path. From then on it is the source of the table's bytes.
+pub trait OpenTable: Source {
+    /// The second state comes right after an opening of this path that succeeds.
+    ghost opens: { Self → List ℕ → Self → Type 0 };
+
+    /// The second state comes right after an opening of this path that fails.
+    ghost fails_to_open: { Self → List ℕ → Self → Type 0 };
+
+    /// Opens the table at a path, of which nothing is read yet.
+    ///
+    /// An error where it cannot be opened, for whatever cause.
+    fn open(&mut self, path: &str) -> Result<(), OpenFault>
+        ensures ok { OnOk result (opens self.old path.now self.new) }
+        ensures err { OnErr result (fails_to_open self.old path.now self.new) };
+}
+
+/// A table in a file of the system. To read it before it is opened is a failure.
+///
+/// No clause says which bytes a file has.
+#[derive(Drop)]
+pub struct TableFile<'a, R: Files> {
+    files: &'a R,
+    file: Option<Retried<R::File>>,
+    failed: bool,
+}
+
+impl<'a, R: Files> TableFile<'a, R> {
+    ghost use Rattle.h3_program.specs.TableFile.{table_failed, table_file, table_files};
+
+    /// The table in a file of this file system. It is not opened yet, and has not failed.
+    pub fn new(files: &'a R) -> Self
+        ensures files { table_files result ≡ files.now }
+        ensures unopened { table_file result ≡ None }
+        ensures failed { table_failed result ≡ false }
+    {
+        TableFile {
+            files,
+            file: None,
+            failed: false,
+        }
+    }
+}
+
+impl<'a, R: Files> Source for TableFile<'a, R> {
+    ghost use Rattle.h3_program.specs.TableFile.{table_failed, table_file};
+
+    ghost left = { λ _. None };
+
+    ghost has_failed = { λ table. table_failed table };
+
+    fn pull(&mut self, buf: &mut [u8]) -> Result<usize, StreamFault>
+        ensures bound { IfOk result (λ n. n ≤ length buf.new) }
+        ensures bytes { IfOk result (λ n. Pulls None None buf.new n) }
+        ensures ok { OnOk result (table_failed self.new ≡ table_failed self.old) }
+        ensures err { OnErr result (table_failed self.new ≡ true) }
+        ensures unopened { table_file self.old ≡ None → IsErr result }
+    {
+        let read = match &mut self.file {
+            Some(file) => file.read(buf),
+            None => Err(io::Error::from(ErrorKind::NotFound)),
+        };
+        match read {
+            Ok(n) => Ok(n),
+            Err(_) => {
+                self.failed = true;
+                Err(StreamFault)
+            }
+        }
+    }
+}
+
+impl<'a, R: Files> OpenTable for TableFile<'a, R> {
+    ghost use Rattle.h3_program.specs.TableFile.{table_failed, table_file};
+
+    ghost opens = { λ old _ new. IsSome (table_file new) × (table_failed new ≡ table_failed old) };
+
+    ghost fails_to_open = { λ old _ new. new ≡ old };
+
+    fn open(&mut self, path: &str) -> Result<(), OpenFault> {
+        match fs::open(self.files, path) {
+            Ok(file) => {
+                self.file = Some(Retried::new(file));
+                Ok(())
+            }
+            Err(_) => Err(OpenFault),
+        }
+    }
+}

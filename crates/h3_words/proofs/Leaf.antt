@@ -1,0 +1,590 @@
+-- One command's words: what `clap`'s walk makes of them is what they give.
+use Rattle.std.proofs.Common.{nat_lt, ◌≡◌, ◌⊎◌, ◌∙◌, ◌&&◌, ◌||◌, ◌==◌, ◌++◌, ℕ, Bool, cond, true, false, not, refl, sym, ap, ap₂, subst, arith, List, [], ◌∷◌, map, length, drop, Option, Some, None, is_some, inl, inr, true≢false, codes}
+use Rattle.std.specs.Char.{encode_utf8}
+use Rattle.std.specs.Prelude.{slice_get, option_map, ⊤, find, fold}
+use Rattle.std.specs.List.{list_all, list_any}
+use Rattle.std.specs.Option.{option_map_or, option_or}
+use Rattle.std.specs.Str.{bytes_eq, chars}
+use Rattle.std.proofs.lemmas.Slice.Eq.{bytes_eq-Decides}
+use Rattle.clap.specs.Lexer.{long_of, short_of}
+use Rattle.clap.specs.ValueTests.{accepts}
+use Rattle.clap.specs.Facts.{explicit_source}
+use Rattle.clap.specs.Takes.{is_given}
+use Rattle.clap.specs.Walk.{Held, Outcome, Row, Rule, Step, Text, Waiting, Walk, idle, option, positional, after_step, option_word, used_by_id, with_default, finished, nothing_held, rows_after, next, trailing, value, plain, after_flag, arg_by_id, arg_by_index, arg_by_long, arg_by_short, at_row, attached_value, bundle_met, bundle_step, has_long, has_row, has_short, more_values, long_met, long_or_other, option_met, plain_word, reacted, reading_by, settled, short_met, short_or_plain, used, walked, with_values, without, word_met}
+use Rattle.clap.specs.Simple.{Shape, filled, help_rule, new_shape, with_index}
+use Rattle.clap.specs.Kinds.{Kinds, or_else}
+use Rattle.clap.specs.Faults.{level_fault, defaults_fault, bundle_fault, bundle_step_fault, flag_word_fault, flags_fault, long_fault, option_fault, react_fault, settle_fault, short_fault, step_fault, positional_fault, turn_fault, use_fault, walk_fault, word_fault}
+use Rattle.clap.specs.declared.builder.action.ArgAction.TheVariants.{Set}
+use Rattle.clap.specs.declared.error.kind.ErrorKind.{ErrorKind}
+use Rattle.clap.specs.declared.error.kind.ErrorKind.TheVariants as kind
+use Rattle.clap.specs.Values.{refused_kind}
+use Rattle.clap.specs.declared.parser.matches.ValueSource.TheVariants.{CommandLine}
+use Rattle.h3_words.proofs.Lexed.{by_short, given, is_long, is_short, named, named_by}
+use Rattle.h3_words.specs.Given.{given_by}
+use Rattle.h3_words.proofs.Uses.{IsListed}
+use Rattle.h3_words.specs.Options.{parser_done, id_of, long_name, rule_for, short_name}
+use Rattle.h3_words.specs.declared.options.CommandOption.{CommandOption}
+use Rattle.h3_words.specs.declared.options.CommandOption.TheVariants.{Cell, Resolution, Radius, To, Position, Edge, Table}
+
+-- ---- small facts
+
+pub or_nil : (a b : Kinds) → or_else a b ≡ [] → (a ≡ []) × (b ≡ [])
+or_nil [] b e = (refl, e)
+or_nil (k ∷ ks) b e = cc
+
+pub cons_nil : (k : ErrorKind) (ks : Kinds) → k ∷ ks ≡ [] → ⊥
+cons_nil k ks e = cc
+
+pub or_false : (b : Bool) → (b || false) ≡ b
+or_false true = refl
+or_false false = refl
+
+-- ---- the options differ
+
+-- both have this long name
+abbrev same_long : Option Text → Option Text → Bool
+same_long (Some a) (Some b) = bytes_eq a b
+same_long _ _ = false
+
+-- both have this short name
+abbrev same_short : Option ℕ → Option ℕ → Bool
+same_short (Some a) (Some b) = a == b
+same_short _ _ = false
+
+-- the options have no id and no name in common
+abbrev pub Differs : CommandOption → CommandOption → Type 0
+Differs q o = (bytes_eq (id_of q) (id_of o) ≡ false) × (same_long (long_name o) (long_name q) ≡ false) × (same_short (short_name o) (short_name q) ≡ false)
+
+-- they are one option, or differ
+abbrev pub Which : CommandOption → CommandOption → Type 0
+Which q o = (q ≡ o) ⊎ Differs q o
+
+-- all options
+abbrev every_option : List CommandOption
+every_option = Cell ∷ Resolution ∷ Radius ∷ To ∷ Position ∷ Edge ∷ Table ∷ []
+
+option_found : (o : CommandOption) → find (λ x. bytes_eq (id_of x) (id_of o)) every_option ≡ Some o
+option_found Cell = refl
+option_found Resolution = refl
+option_found Radius = refl
+option_found To = refl
+option_found Position = refl
+option_found Edge = refl
+option_found Table = refl
+
+-- two options of one id, or of names that differ
+abbrev differ_test : CommandOption → CommandOption → Bool
+differ_test q o = bytes_eq (id_of q) (id_of o) || (not (same_long (long_name o) (long_name q)) && not (same_short (short_name o) (short_name q)))
+
+all_differ : list_all (λ q. list_all (differ_test q) every_option) every_option ≡ true
+all_differ = refl
+
+and_parts : (a b : Bool) → (a && b) ≡ true → (a ≡ true) × (b ≡ true)
+and_parts true b e = (refl, e)
+and_parts false b e = absurd (true≢false (sym e))
+
+not_parts : (a : Bool) → not a ≡ true → a ≡ false
+not_parts true e = absurd (true≢false (sym e))
+not_parts false e = refl
+
+some_same : (q o : CommandOption) → Some q ≡ Some o → q ≡ o
+some_same q o e = cc
+
+found_passes : (f p : CommandOption → Bool) (os : List CommandOption) (o : CommandOption) → list_all f os ≡ true → find p os ≡ Some o → f o ≡ true
+found_passes f p [] o all e = cc
+found_passes f p (x ∷ os) o all e = go (p x) (found_passes f p os o) (and_parts _ _ all) e
+  where
+    go : (t : Bool) → (list_all f os ≡ true → find p os ≡ Some o → f o ≡ true) → (f x ≡ true) × (list_all f os ≡ true) → cond t (Some x) (find p os) ≡ Some o → f o ≡ true
+    go true later two e2 = subst (λ y. f y ≡ true) (some_same x o e2) two.0
+    go false later two e2 = later two.1 e2
+
+pub differ : (q o : CommandOption) → (q ≡ o) ⊎ Differs q o
+differ q o = go (bytes_eq (id_of q) (id_of o)) refl
+    (found_passes (differ_test q) (λ x. bytes_eq (id_of x) (id_of o)) every_option o
+    (found_passes (λ x. list_all (differ_test x) every_option) (λ x. bytes_eq (id_of x) (id_of q)) every_option q all_differ (option_found q)) (option_found o))
+  where
+    go : (t : Bool) → bytes_eq (id_of q) (id_of o) ≡ t → (t || (not (same_long (long_name o) (long_name q)) && not (same_short (short_name o) (short_name q)))) ≡ true → (q ≡ o) ⊎ Differs q o
+    go true e test = inl (some_same q o
+        (sym (option_found q) ∙ ap (λ t. find (λ x. bytes_eq (id_of x) t) every_option) ((bytes_eq-Decides (id_of q) (id_of o)).0 e) ∙ option_found o))
+    go false e test = let two = and_parts _ _ test in inr (e, not_parts _ two.0, not_parts _ two.1)
+
+pub longs_differ : (x y : Option Text) (name : Text) → same_long x y ≡ false → option_map_or (λ s. bytes_eq s name) y false ≡ true
+    → option_map_or (λ s. bytes_eq s name) x false ≡ false
+longs_differ None y name d e = refl
+longs_differ (Some a) None name d e = absurd (true≢false (sym e))
+longs_differ (Some a) (Some b) name d e = ap (bytes_eq a) (sym ((bytes_eq-Decides b name).0 e)) ∙ d
+
+pub shorts_differ : (x y : Option ℕ) (c : ℕ) → same_short x y ≡ false → option_map_or (λ s. s == c) y false ≡ true
+    → option_map_or (λ s. s == c) x false ≡ false
+shorts_differ None y c d e = refl
+shorts_differ (Some a) None c d e = absurd (true≢false (sym e))
+shorts_differ (Some a) (Some b) c d e = let same : b ≡ c = grind arith in ap (λ x. a == x) (sym same) ∙ d
+
+pub bytes_same : (t : Text) → bytes_eq t t ≡ true
+bytes_same t = (bytes_eq-Decides t t).1 refl
+
+-- ---- the rules of a built command
+
+-- the option as `clap` completes it
+abbrev pub done_rule : CommandOption → Rule
+done_rule o = record (rule_for o) {
+  action = Some Set;
+  parser = Some (parser_done o);
+  range = Some (record { start_inclusive = 1; end_inclusive = 1 });
+}
+
+-- `--help` as `clap` completes it
+abbrev pub help_done : Rule
+help_done = with_index 1 (filled help_rule)
+
+-- the options of a command as `clap` completes them
+abbrev pub done_rules : List CommandOption → List Rule
+done_rules os = map done_rule os ++ help_done ∷ []
+
+-- what a search among them finds
+pub data FoundIn (p : Rule → Bool) (c : List Rule) : Option Rule → Type 0 where
+  at_option : (q : CommandOption) → p (done_rule q) ≡ true → arg_by_id c (id_of q) ≡ Some (done_rule q) → FoundIn p c (Some (done_rule q))
+  at_help : FoundIn p c (Some help_done)
+  nowhere : FoundIn p c None
+
+id_later : (x q : CommandOption) (c : List Rule) → Which x q → arg_by_id c (id_of q) ≡ Some (done_rule q) → arg_by_id (done_rule x ∷ c) (id_of q) ≡ Some (done_rule q)
+id_later x q c (inl same) by_id =
+    ap (λ y. cond (bytes_eq (id_of y) (id_of q)) (Some (done_rule y)) (arg_by_id c (id_of q))) same
+    ∙ ap (λ b. cond b (Some (done_rule q)) (arg_by_id c (id_of q))) (bytes_same (id_of q))
+id_later x q c (inr d) by_id = ap (λ b. cond b (Some (done_rule x)) (arg_by_id c (id_of q))) d.0 ∙ by_id
+
+found_later : (p : Rule → Bool) (x : CommandOption) (c : List Rule) (r : Option Rule) → FoundIn p c r → FoundIn p (done_rule x ∷ c) r
+found_later p x c r (at_option q hit by_id) = at_option q hit (id_later x q c (differ x q) by_id)
+found_later p x c r at_help = at_help
+found_later p x c r nowhere = nowhere
+
+found_help : (p : Rule → Bool) (b : Bool) → FoundIn p (help_done ∷ []) (cond b (Some help_done) None)
+found_help p true = at_help
+found_help p false = nowhere
+
+found_step : (p : Rule → Bool) (x : CommandOption) (c : List Rule) (r : Option Rule) → FoundIn p c r → (b : Bool) → p (done_rule x) ≡ b
+    → FoundIn p (done_rule x ∷ c) (cond b (Some (done_rule x)) r)
+found_step p x c r later true e = at_option x e (ap (λ b. cond b (Some (done_rule x)) (arg_by_id c (id_of x))) (bytes_same (id_of x)))
+found_step p x c r later false e = found_later p x c r later
+
+found : (p : Rule → Bool) (os : List CommandOption) → FoundIn p (done_rules os) (find p (done_rules os))
+found p [] = found_help p (p help_done)
+found p (x ∷ os) = found_step p x (done_rules os) (find p (done_rules os)) (found p os) (p (done_rule x)) refl
+
+pub no_position : (i : ℕ) (os : List CommandOption) → arg_by_index (done_rules os) i ≡ None
+no_position i [] = refl
+no_position i (x ∷ os) = no_position i os
+
+-- ---- rows
+
+-- the entry of the option with this value
+abbrev pub row_of_option : CommandOption → Text → Row
+row_of_option o v = record { id = id_of o; values = v ∷ []; count = None; source = Some CommandLine; reading = reading_by (done_rule o) }
+
+pub added : (id : Text) (change : Row → List Row) (missing : List Row) (rs : List Row) → has_row id rs ≡ false → at_row id change missing rs ≡ rs ++ missing
+added id change missing [] e = refl
+added id change missing (r ∷ rs) e = go (at_row id change missing rs) (added id change missing rs) (bytes_eq r.id id) e
+  where
+    go : (later : List Row) → (has_row id rs ≡ false → later ≡ rs ++ missing) → (b : Bool) → (b || has_row id rs) ≡ false → cond b (change r ++ rs) (r ∷ later) ≡ r ∷ (rs ++ missing)
+    go later h true e2 = absurd (true≢false e2)
+    go later h false e2 = ap (λ t. r ∷ t) (h e2)
+
+pub append_none : {X : Type 0} (xs : List X) → xs ++ [] ≡ xs
+append_none [] = refl
+append_none (x ∷ xs) = ap (λ t. x ∷ t) (append_none xs)
+
+pub used_fresh : (q : CommandOption) (v : Text) (rs : List Row) → has_row (id_of q) rs ≡ false → used (done_rule q) (v ∷ []) rs ≡ rs ++ row_of_option q v ∷ []
+used_fresh q v rs e =
+    let gone : without (id_of q) rs ≡ rs = added (id_of q) (λ _. []) [] rs e ∙ append_none rs in
+    ap (with_values (id_of q) (reading_by (done_rule q)) CommandLine (v ∷ [])) gone
+    ∙ added (id_of q) (more_values CommandLine (v ∷ [])) (row_of_option q v ∷ []) rs e
+
+pub find_added : {X : Type 0} (p : X → Bool) (xs : List X) (x : X) → find p (xs ++ x ∷ []) ≡ option_or (find p xs) (cond (p x) (Some x) None)
+find_added p [] x = refl
+find_added {X = X} p (y ∷ xs) x = go (find p (xs ++ x ∷ [])) (find_added p xs x) (p y)
+  where
+    go : (later : Option X) → later ≡ option_or (find p xs) (cond (p x) (Some x) None) → (b : Bool)
+        → cond b (Some y) later ≡ option_or (cond b (Some y) (find p xs)) (cond (p x) (Some x) None)
+    go later h true = refl
+    go later h false = h
+
+none_found : (id : Text) (rs : List Row) → has_row id rs ≡ false → find (λ r. bytes_eq r.id id) rs ≡ None
+none_found id [] e = refl
+none_found id (r ∷ rs) e = go (find (λ x. bytes_eq x.id id) rs) (none_found id rs) (bytes_eq r.id id) e
+  where
+    go : (later : Option Row) → (has_row id rs ≡ false → later ≡ None) → (b : Bool) → (b || has_row id rs) ≡ false → cond b (Some r) later ≡ None
+    go later h true e2 = absurd (true≢false e2)
+    go later h false e2 = h e2
+
+-- ---- what is known of one option's row
+
+-- the value passes the option's parser
+abbrev pub Passes : CommandOption → Option Text → Type 0
+Passes o None = ⊤
+Passes o (Some v) = accepts false (parser_done o) v ≡ true
+
+-- the entry of the option has this value, which passes its parser
+abbrev pub Holds : CommandOption → List Row → Option Text → Type 0
+Holds o rs s = (find (λ r. bytes_eq r.id (id_of o)) rs ≡ option_map (row_of_option o) s) × Passes o s
+
+-- what a use of q with this value is to o
+abbrev pub mine : {X : Type 0} {q o : CommandOption} → Which q o → X → Option X
+mine (inl same) x = Some x
+mine (inr d) x = None
+
+pub use_splits : (q : CommandOption) (v : Text) (rs : List Row) → use_fault false (done_rule q) (v ∷ []) rs ≡ []
+    → (has_row (id_of q) rs ≡ false) × (accepts false (parser_done q) v ≡ true)
+use_splits q v rs e = go (has_row (id_of q) rs) (accepts false (parser_done q) v) e
+  where
+    go : (a b : Bool) → or_else (cond (a && true) (kind.ArgumentConflict ∷ []) []) (or_else (cond b [] (refused_kind (parser_done q) ∷ [])) []) ≡ [] → (a ≡ false) × (b ≡ true)
+    go true b e2 = cc
+    go false true e2 = (refl, refl)
+    go false false e2 = cc
+
+grown : (o q : CommandOption) (v : Text) (rs : List Row) → use_fault false (done_rule q) (v ∷ []) rs ≡ []
+    → find (λ r. bytes_eq r.id (id_of o)) (used (done_rule q) (v ∷ []) rs)
+    ≡ option_or (find (λ r. bytes_eq r.id (id_of o)) rs) (cond (bytes_eq (id_of q) (id_of o)) (Some (row_of_option q v)) None)
+grown o q v rs e = ap (find (λ (r : Row). bytes_eq r.id (id_of o))) (used_fresh q v rs (use_splits q v rs e).0)
+    ∙ find_added (λ (r : Row). bytes_eq r.id (id_of o)) rs (row_of_option q v)
+
+same_row : (o q : CommandOption) (v : Text) → q ≡ o → cond (bytes_eq (id_of q) (id_of o)) (Some (row_of_option q v)) None ≡ Some (row_of_option o v)
+same_row o q v same = ap (λ x. cond (bytes_eq (id_of x) (id_of o)) (Some (row_of_option x v)) None) same
+    ∙ ap (λ b. cond b (Some (row_of_option o v)) None) (bytes_same (id_of o))
+
+pub some_none : {X : Type 0} (x : X) → Some x ≡ None → ⊥
+some_none x e = cc
+
+pub use_holds : (o q : CommandOption) (d : Which q o) (v : Text) (rs : List Row) (s : Option Text) → Holds o rs s → use_fault false (done_rule q) (v ∷ []) rs ≡ []
+    → Holds o (used (done_rule q) (v ∷ []) rs) (option_or s (mine d v))
+use_holds o q (inl same) v rs None h e =
+    (grown o q v rs e ∙ ap₂ option_or h.0 (same_row o q v same), subst (λ x. accepts false (parser_done x) v ≡ true) same (use_splits q v rs e).1)
+use_holds o q (inl same) v rs (Some t) h e =
+    absurd (some_none (row_of_option o t) (sym h.0 ∙ none_found (id_of o) rs (subst (λ x. has_row (id_of x) rs ≡ false) same (use_splits q v rs e).0)))
+use_holds o q (inr d) v rs None h e =
+    (grown o q v rs e ∙ ap₂ option_or h.0 (ap (λ b. cond b (Some (row_of_option q v)) None) d.0), tt)
+use_holds o q (inr d) v rs (Some t) h e =
+    (grown o q v rs e ∙ ap₂ option_or h.0 (ap (λ b. cond b (Some (row_of_option q v)) None) d.0), h.1)
+
+-- ---- what one word is
+
+-- what the word is to o, where it names q
+abbrev pub NamesIt : CommandOption → CommandOption → Text → Option Text → Type 0
+NamesIt o q word x = (d : Which q o) → named o word ≡ mine d x
+
+-- what is held between two words
+abbrev pub idle_held : List Row → Option (Text × List Text) → Held
+idle_held rows pending = record { rows = rows; pending = pending; skip = 0 }
+
+-- what one word does: it names an option, with a value or alone, or ends the options, or is none
+pub data Turn (os : List CommandOption) (o : CommandOption) (word : Text) (wt : Waiting) (h : Held) : Held × Step → Type 0 where
+  attached : (q : CommandOption) (v : Text) → arg_by_id (done_rules os) (id_of q) ≡ Some (done_rule q) → settle_fault (done_rules os) false h ≡ []
+      → use_fault false (done_rule q) (v ∷ []) (settled (done_rules os) h).rows ≡ [] → NamesIt o q word (Some v)
+      → Turn os o word wt h (reacted (done_rules os) (done_rule q) (v ∷ []) h, next idle)
+  alone : (q : CommandOption) → arg_by_id (done_rules os) (id_of q) ≡ Some (done_rule q) → settle_fault (done_rules os) false h ≡ []
+      → NamesIt o q word None
+      → Turn os o word wt h (record (settled (done_rules os) h) { pending = Some (id_of q, []) }, next (option (id_of q)))
+  dashes : named o word ≡ None → Turn os o word wt h (h, trailing 1)
+  other : named o word ≡ None → Turn os o word wt h (plain_word (done_rules os) wt word h)
+
+-- the option with the value attached, if any
+option_turn : (os : List CommandOption) (o : CommandOption) (word : Text) (wt : Waiting) (rows : List Row) (p : Option (Text × List Text)) (q : CommandOption) (v : Option Text)
+    → arg_by_id (done_rules os) (id_of q) ≡ Some (done_rule q) → NamesIt o q word v
+    → option_fault (done_rules os) false (done_rule q) v (idle_held rows p) ≡ []
+    → Turn os o word wt (idle_held rows p) (after_flag (done_rules os) wt word
+    (option_met (done_rules os) (done_rule q) v (idle_held rows p)).0 (option_met (done_rules os) (done_rule q) v (idle_held rows p)).1)
+option_turn os o word wt rows p q (Some v) by_id is e = let two = or_nil _ _ e in attached q v by_id two.0 two.1 is
+option_turn os o word wt rows p q None by_id is e = alone q by_id e is
+
+pub help_faults : (os : List CommandOption) (h : Held) → react_fault (done_rules os) false help_done [] h ≡ [] → ⊥
+help_faults os h e = cons_nil kind.DisplayHelp [] (or_nil (settle_fault (done_rules os) false h) _ e).1
+
+pub long_is : (o q : CommandOption) (d : Which q o) (word name : Text) (v : Option Text) → long_of word ≡ Some (name, v) → is_long q name ≡ true → named o word ≡ mine d v
+long_is o q (inl same) word name v e hit =
+    ap (λ l. named_by o l (short_of word)) e ∙ ap (λ b. cond b (Some v) None) (subst (λ x. is_long x name ≡ true) same hit)
+long_is o q (inr d) word name v e hit =
+    ap (λ l. named_by o l (short_of word)) e ∙ ap (λ b. cond b (Some v) None) (longs_differ (long_name o) (long_name q) name d.1 hit)
+
+long_turn : (os : List CommandOption) (o : CommandOption) (word : Text) (wt : Waiting) (rows : List Row) (p : Option (Text × List Text)) (name : Text) (v : Option Text) (r : Option Rule)
+    → FoundIn (λ a. not (is_some a.index) && has_long a name) (done_rules os) r → long_of word ≡ Some (name, v)
+    → long_fault (done_rules os) false r v (idle_held rows p) ≡ []
+    → Turn os o word wt (idle_held rows p) (after_flag (done_rules os) wt word
+    (long_met (done_rules os) r v (idle_held rows p)).0 (long_met (done_rules os) r v (idle_held rows p)).1)
+long_turn os o word wt rows p name v _ (at_option q hit by_id) e f =
+    option_turn os o word wt rows p q v by_id (λ d. long_is o q d word name v e (sym (or_false _) ∙ hit)) f
+long_turn os o word wt rows p name None _ at_help e f = absurd (help_faults os (idle_held rows p) f)
+long_turn os o word wt rows p name (Some v) _ at_help e f = absurd (cons_nil kind.TooManyValues [] f)
+long_turn os o word wt rows p name v _ nowhere e f = absurd (cons_nil kind.UnknownArgument [] f)
+
+pub ascii_short : (q : CommandOption) (y : ℕ) → is_short q y ≡ true → length (encode_utf8 y) ≡ 1
+unfolding encode_utf8
+ascii_short Cell y e = let same : 99 ≡ y = grind arith in ap (λ c. length (encode_utf8 c)) (sym same)
+ascii_short Resolution y e = let same : 114 ≡ y = grind arith in ap (λ c. length (encode_utf8 c)) (sym same)
+ascii_short Radius y e = let same : 107 ≡ y = grind arith in ap (λ c. length (encode_utf8 c)) (sym same)
+ascii_short To y e = cc
+ascii_short Position y e = cc
+ascii_short Edge y e = cc
+ascii_short Table y e = cc
+
+pub short_is : (o q : CommandOption) (d : Which q o) (word flags : Text) (y : ℕ) → long_of word ≡ None → short_of word ≡ Some flags → slice_get (chars flags) 0 ≡ Some y
+    → is_short q y ≡ true → named o word ≡ mine d (attached_value (drop (length (encode_utf8 y)) flags))
+short_is o q d word flags y no_long is_flags first hit = ap₂ (named_by o) no_long is_flags ∙ ap (by_short o flags) first ∙ go d
+  where
+    one : attached_value (drop 1 flags) ≡ attached_value (drop (length (encode_utf8 y)) flags)
+    one = ap (λ n. attached_value (drop n flags)) (sym (ascii_short q y hit))
+
+    go : (w : Which q o) → by_short o flags (Some y) ≡ mine w (attached_value (drop (length (encode_utf8 y)) flags))
+    go (inl same) = ap (λ b. cond b (Some (attached_value (drop 1 flags))) None) (subst (λ x. is_short x y ≡ true) same hit) ∙ ap (λ v. Some v) one
+    go (inr w) = ap (λ b. cond b (Some (attached_value (drop 1 flags))) None) (shorts_differ (short_name o) (short_name q) y w.2 hit)
+
+short_turn : (os : List CommandOption) (o : CommandOption) (word : Text) (wt : Waiting) (rows : List Row) (p : Option (Text × List Text)) (flags : Text) (y : ℕ) (r : Option Rule)
+    (nf : Held → Kinds) (nm : Held → Held × Outcome)
+    → FoundIn (λ a. not (is_some a.index) && has_short a y) (done_rules os) r
+    → long_of word ≡ None → short_of word ≡ Some flags → slice_get (chars flags) 0 ≡ Some y
+    → short_fault (done_rules os) false r (drop (length (encode_utf8 y)) flags) (idle_held rows p) nf ≡ []
+    → Turn os o word wt (idle_held rows p) (after_flag (done_rules os) wt word
+    (short_met (done_rules os) r (drop (length (encode_utf8 y)) flags) (idle_held rows p) nm).0 (short_met (done_rules os) r (drop (length (encode_utf8 y)) flags) (idle_held rows p) nm).1)
+short_turn os o word wt rows p flags y _ nf nm (at_option q hit by_id) no_long is_flags first f =
+    option_turn os o word wt rows p q (attached_value (drop (length (encode_utf8 y)) flags)) by_id
+    (λ d. short_is o q d word flags y no_long is_flags first (sym (or_false _) ∙ hit)) f
+short_turn os o word wt rows p flags y _ nf nm at_help no_long is_flags first f = absurd (help_faults os (idle_held rows p) (or_nil _ _ f).0)
+short_turn os o word wt rows p flags y _ nf nm nowhere no_long is_flags first f = absurd (cons_nil kind.UnknownArgument [] f)
+
+head_turn : (os : List CommandOption) (o : CommandOption) (word : Text) (wt : Waiting) (rows : List Row) (p : Option (Text × List Text)) (flags : Text) (y : Option ℕ)
+    (nf : Text → ℕ → Held → Kinds) (nm : Text → ℕ → Outcome → Held → Held × Outcome)
+    → long_of word ≡ None → short_of word ≡ Some flags → slice_get (chars flags) 0 ≡ y
+    → bundle_step_fault (done_rules os) false y flags 0 (idle_held rows p) nf ≡ []
+    → Turn os o word wt (idle_held rows p) (after_flag (done_rules os) wt word
+    (bundle_step (done_rules os) y flags 0 plain (idle_held rows p) nm).0 (bundle_step (done_rules os) y flags 0 plain (idle_held rows p) nm).1)
+head_turn os o word wt rows p flags None nf nm no_long is_flags first f = other (ap₂ (named_by o) no_long is_flags ∙ ap (by_short o flags) first)
+head_turn os o word wt rows p flags (Some y) nf nm no_long is_flags first f =
+    short_turn os o word wt rows p flags y (arg_by_short (done_rules os) y) _ _ (found (λ a. not (is_some a.index) && has_short a y) os) no_long is_flags first f
+
+bundle_turn : (os : List CommandOption) (o : CommandOption) (word : Text) (wt : Waiting) (rows : List Row) (p : Option (Text × List Text)) (flags : Text)
+    → long_of word ≡ None → short_of word ≡ Some flags
+    → flags_fault (done_rules os) false (length flags) flags 0 (idle_held rows p) ≡ []
+    → Turn os o word wt (idle_held rows p) (after_flag (done_rules os) wt word
+    (bundle_met (done_rules os) (length flags) flags 0 plain (idle_held rows p)).0 (bundle_met (done_rules os) (length flags) flags 0 plain (idle_held rows p)).1)
+unfolding flags_fault bundle_met chars
+bundle_turn os o word wt rows p [] no_long is_flags f = other (ap₂ (named_by o) no_long is_flags)
+bundle_turn os o word wt rows p (x ∷ xs) no_long is_flags f =
+    head_turn os o word wt rows p (x ∷ xs) (slice_get (chars (x ∷ xs)) 0) _ _ no_long is_flags refl f
+
+short_or_turn : (os : List CommandOption) (o : CommandOption) (word : Text) (wt : Waiting) (rows : List Row) (p : Option (Text × List Text)) (sh : Option Text)
+    → long_of word ≡ None → short_of word ≡ sh
+    → option_map_or (λ flags. bundle_fault (done_rules os) false flags (idle_held rows p)) sh [] ≡ []
+    → Turn os o word wt (idle_held rows p) (short_or_plain (done_rules os) wt word sh (idle_held rows p))
+short_or_turn os o word wt rows p None no_long is_flags f = other (ap₂ (named_by o) no_long is_flags)
+short_or_turn os o word wt rows p (Some flags) no_long is_flags f = bundle_turn os o word wt rows p flags no_long is_flags f
+
+flag_turn : (os : List CommandOption) (o : CommandOption) (word : Text) (wt : Waiting) (rows : List Row) (p : Option (Text × List Text)) (l : Option (Text × Option Text))
+    → long_of word ≡ l → flag_word_fault (done_rules os) false l word (idle_held rows p) ≡ []
+    → Turn os o word wt (idle_held rows p) (long_or_other (done_rules os) wt word l (idle_held rows p))
+flag_turn os o word wt rows p (Some (name, v)) e f =
+    long_turn os o word wt rows p name v (arg_by_long (done_rules os) name) (found (λ a. not (is_some a.index) && has_long a name) os) e f
+flag_turn os o word wt rows p None e f = short_or_turn os o word wt rows p (short_of word) e refl f
+
+pub dash_turn : (os : List CommandOption) (o : CommandOption) (word : Text) (wt : Waiting) (rows : List Row) (p : Option (Text × List Text)) (b : Bool)
+    → bytes_eq word (45 ∷ 45 ∷ []) ≡ b → cond b [] (flag_word_fault (done_rules os) false (long_of word) word (idle_held rows p)) ≡ []
+    → Turn os o word wt (idle_held rows p) (cond b (idle_held rows p, trailing 1) (long_or_other (done_rules os) wt word (long_of word) (idle_held rows p)))
+dash_turn os o word wt rows p true e f = dashes (ap (named o) ((bytes_eq-Decides word (45 ∷ 45 ∷ [])).0 e))
+dash_turn os o word wt rows p false e f = flag_turn os o word wt rows p (long_of word) refl f
+
+-- ---- the walk
+
+-- a command as `clap` completes it
+abbrev pub leaf_done : Text → List CommandOption → Shape
+leaf_done name os = record (new_shape name) { rules = done_rules os; disable_help_subcommand = true; is_built = true }
+
+-- the walk at a word
+abbrev pub at_word : Held → Waiting → Walk
+at_word h wt = record { held = h; waiting = wt; position = 1; is_trailing = false; stopped = None }
+
+word_turn : (name : Text) (os : List CommandOption) (o : CommandOption) (word : Text) (wt : Waiting) (rows : List Row) (p : Option (Text × List Text))
+    → word_fault (leaf_done name os) [] false wt word (idle_held rows p) ≡ []
+    → Turn os o word wt (idle_held rows p) (word_met (done_rules os) [] false wt 1 word (idle_held rows p))
+word_turn name os o word idle rows p f = dash_turn os o word idle rows p (bytes_eq word (45 ∷ 45 ∷ [])) refl f
+word_turn name os o word (option id) rows p f = dash_turn os o word (option id) rows p (bytes_eq word (45 ∷ 45 ∷ [])) refl f
+word_turn name os o word positional rows p f = dash_turn os o word positional rows p (bytes_eq word (45 ∷ 45 ∷ [])) refl f
+
+-- what is held after the words
+abbrev pub walk_end : List CommandOption → Walk → List Text → Held
+walk_end os w words = (fold (walked (done_rules os) []) w words).held
+
+-- where no step fails from here on, the entry of the option has this value at the end
+abbrev pub Ends : Text → List CommandOption → CommandOption → Walk → List Text → Option Text → Type 0
+Ends name os o w words s = walk_fault (leaf_done name os) [] w words ≡ [] → settle_fault (done_rules os) false (walk_end os w words) ≡ []
+    → Holds o (settled (done_rules os) (walk_end os w words)).rows s
+
+-- what the words give where no option waits for its value
+abbrev pub Idle : Text → List CommandOption → CommandOption → List Text → Type 0
+Idle name os o words = (rows : List Row) (p : Option (Text × List Text)) (s : Option Text)
+    → (settle_fault (done_rules os) false (idle_held rows p) ≡ [] → Holds o (settled (done_rules os) (idle_held rows p)).rows s)
+    → Ends name os o (at_word (idle_held rows p) idle) words (option_or s (given o words))
+
+-- what the words give where an option waits for its value
+abbrev pub Waits : Text → List CommandOption → CommandOption → List Text → Type 0
+Waits name os o words = (rows : List Row) (q : CommandOption) (d : Which q o) (s : Option Text)
+    → arg_by_id (done_rules os) (id_of q) ≡ Some (done_rule q) → Holds o rows s
+    → Ends name os o (at_word (idle_held rows (Some (id_of q, []))) (option (id_of q))) words (option_or s (given_by (mine d None) words (given o words)))
+
+pub some_first : {X : Type 0} (s : Option X) → option_or s None ≡ s
+some_first None = refl
+some_first (Some x) = refl
+
+-- an option with no value fails
+no_value : (os : List CommandOption) (q : CommandOption) (rows : List Row) → arg_by_id (done_rules os) (id_of q) ≡ Some (done_rule q)
+    → settle_fault (done_rules os) false (idle_held rows (Some (id_of q, []))) ≡ [] → ⊥
+no_value os q rows by_id e =
+    cons_nil kind.InvalidValue [] (sym (ap (λ r. option_map_or (λ a. use_fault false a [] rows) r []) by_id) ∙ e)
+
+stray : (name : Text) (os : List CommandOption) (h : Held) → step_fault (leaf_done name os) 1 h value ≡ [] → ⊥
+stray name os h e = cons_nil kind.UnknownArgument []
+    (sym (ap (λ r. option_map_or (λ a. positional_fault (done_rules os) false a h) r (kind.UnknownArgument ∷ [])) (no_position 1 os)) ∙ e)
+
+trailing_ends : (name : Text) (os : List CommandOption) (h : Held) (wt : Waiting) (word : Text) (rest : List Text)
+    → walk_fault (leaf_done name os) [] (record (at_word h wt) { is_trailing = true }) (word ∷ rest) ≡ [] → ⊥
+unfolding walk_fault
+trailing_ends name os h wt word rest f = stray name os h (or_nil _ _ f).0
+
+attached_same : (s : Option Text) (o q : CommandOption) (d : Which q o) (v : Text) (rest : List Text) (later : Option Text)
+    → option_or (option_or s (mine d v)) later ≡ option_or s (given_by (mine d (Some v)) rest later)
+attached_same None o q (inl same) v rest later = refl
+attached_same (Some t) o q (inl same) v rest later = refl
+attached_same None o q (inr d) v rest later = refl
+attached_same (Some t) o q (inr d) v rest later = refl
+
+value_same : (s : Option Text) (o q : CommandOption) (d : Which q o) (v : Text) (rest : List Text) (later : Option Text)
+    → option_or (option_or s (mine d v)) later ≡ option_or s (given_by (mine d None) (v ∷ rest) later)
+value_same None o q (inl same) v rest later = refl
+value_same (Some t) o q (inl same) v rest later = refl
+value_same None o q (inr d) v rest later = refl
+value_same (Some t) o q (inr d) v rest later = refl
+
+idle_took : (name : Text) (os : List CommandOption) (o : CommandOption) (word : Text) (rest : List Text) → Idle name os o rest → Waits name os o rest
+    → (rows : List Row) (p : Option (Text × List Text)) (s : Option Text)
+    → (settle_fault (done_rules os) false (idle_held rows p) ≡ [] → Holds o (settled (done_rules os) (idle_held rows p)).rows s)
+    → (m : Held × Step) → Turn os o word idle (idle_held rows p) m → step_fault (leaf_done name os) 1 m.0 m.1 ≡ []
+    → Ends name os o (after_step (done_rules os) word (at_word (idle_held rows p) idle) m.0 m.1) rest (option_or s (given o (word ∷ rest)))
+idle_took name os o word rest i w rows p s ready _ (attached q v by_id settles uses is) step f e =
+    let d = differ q o in
+    subst (λ x. Holds o (settled (done_rules os) (walk_end os (at_word (reacted (done_rules os) (done_rule q) (v ∷ []) (idle_held rows p)) idle) rest)).rows x)
+    (attached_same s o q d v rest (given o rest) ∙ ap (λ n. option_or s (given_by n rest (given o rest))) (sym (is d)))
+    (i _ None (option_or s (mine d v)) (λ _. use_holds o q d v _ s (ready settles) uses) f e)
+idle_took name os o word rest i w rows p s ready _ (alone q by_id settles is) step f e =
+    let d = differ q o in
+    subst (λ x. Holds o (settled (done_rules os) (walk_end os (at_word (record (settled (done_rules os) (idle_held rows p)) { pending = Some (id_of q, []) }) (option (id_of q))) rest)).rows x)
+    (ap (λ n. option_or s (given_by n rest (given o rest))) (sym (is d)))
+    (w _ q d s by_id (ready settles) f e)
+idle_took name os o word [] i w rows p s ready _ (dashes is) step f e =
+    subst (λ x. Holds o (settled (done_rules os) (idle_held rows p)).rows x)
+    (sym (some_first s) ∙ ap (λ n. option_or s (given_by n [] None)) (sym is)) (ready e)
+idle_took name os o word (x ∷ rest) i w rows p s ready _ (dashes is) step f e = absurd (trailing_ends name os (idle_held rows p) idle x rest f)
+idle_took name os o word rest i w rows p s ready _ (other is) step f e = absurd (stray name os (idle_held rows p) step)
+
+wait_ready : (os : List CommandOption) (o q : CommandOption) (d : Which q o) (rows : List Row) (s : Option Text) (word : Text) → arg_by_id (done_rules os) (id_of q) ≡ Some (done_rule q) → Holds o rows s
+    → settle_fault (done_rules os) false (idle_held rows (Some (id_of q, word ∷ []))) ≡ []
+    → Holds o (settled (done_rules os) (idle_held rows (Some (id_of q, word ∷ [])))).rows (option_or s (mine d word))
+wait_ready os o q d rows s word by_id holds e =
+    subst (λ r. Holds o (used_by_id r (word ∷ []) rows) (option_or s (mine d word))) (sym by_id)
+    (use_holds o q d word rows s holds (sym (ap (λ r. option_map_or (λ a. use_fault false a (word ∷ []) rows) r []) by_id) ∙ e))
+
+pub value_state : (os : List CommandOption) (q : CommandOption) (rows : List Row) (word : Text) → arg_by_id (done_rules os) (id_of q) ≡ Some (done_rule q)
+    → at_word (option_word (arg_by_id (done_rules os) (id_of q)) (id_of q) word (idle_held rows (Some (id_of q, [])))).0
+    (option_word (arg_by_id (done_rules os) (id_of q)) (id_of q) word (idle_held rows (Some (id_of q, [])))).1
+    ≡ at_word (idle_held rows (Some (id_of q, word ∷ []))) idle
+value_state os q rows word by_id =
+    ap (λ r. at_word (option_word r (id_of q) word (idle_held rows (Some (id_of q, [])))).0 (option_word r (id_of q) word (idle_held rows (Some (id_of q, [])))).1) by_id
+    ∙ ap (λ b. at_word (idle_held rows (Some (id_of q, word ∷ []))) (cond (nat_lt (cond b 1 0) 1) (option (id_of q)) idle)) (bytes_same (id_of q))
+
+wait_took : (name : Text) (os : List CommandOption) (o : CommandOption) (word : Text) (rest : List Text) → Idle name os o rest
+    → (rows : List Row) (q : CommandOption) (d : Which q o) (s : Option Text) → arg_by_id (done_rules os) (id_of q) ≡ Some (done_rule q) → Holds o rows s
+    → (m : Held × Step) → Turn os o word (option (id_of q)) (idle_held rows (Some (id_of q, []))) m
+    → step_fault (leaf_done name os) 1 m.0 m.1 ≡ []
+    → Ends name os o (after_step (done_rules os) word (at_word (idle_held rows (Some (id_of q, []))) (option (id_of q))) m.0 m.1) rest
+    (option_or s (given_by (mine d None) (word ∷ rest) (given o (word ∷ rest))))
+wait_took name os o word rest i rows q d s by_id holds _ (attached q2 v by2 settles uses is) step f e = absurd (no_value os q rows by_id settles)
+wait_took name os o word rest i rows q d s by_id holds _ (alone q2 by2 settles is) step f e = absurd (no_value os q rows by_id settles)
+wait_took name os o word [] i rows q d s by_id holds _ (dashes is) step f e = absurd (no_value os q rows by_id e)
+wait_took name os o word (x ∷ rest) i rows q d s by_id holds _ (dashes is) step f e = absurd (trailing_ends name os (idle_held rows (Some (id_of q, []))) (option (id_of q)) x rest f)
+wait_took name os o word rest i rows q d s by_id holds _ (other is) step f e =
+    subst (λ w. Ends name os o w rest (option_or s (given_by (mine d None) (word ∷ rest) (given o (word ∷ rest))))) (sym (value_state os q rows word by_id))
+    (λ f2 e2. subst (λ x. Holds o (settled (done_rules os) (walk_end os (at_word (idle_held rows (Some (id_of q, word ∷ []))) idle) rest)).rows x)
+    (value_same s o q d word rest (given o rest) ∙ ap (λ n. option_or s (given_by (mine d None) (word ∷ rest) (given_by n rest (given o rest)))) (sym is))
+    (i rows (Some (id_of q, word ∷ [])) (option_or s (mine d word)) (wait_ready os o q d rows s word by_id holds) f2 e2)) f e
+
+idle_step : (name : Text) (os : List CommandOption) (o : CommandOption) (word : Text) (rest : List Text) → Idle name os o rest → Waits name os o rest → Idle name os o (word ∷ rest)
+unfolding walk_fault walked
+idle_step name os o word rest i w rows p s ready f e =
+    let parts = or_nil (turn_fault (leaf_done name os) [] (at_word (idle_held rows p) idle) word) _ f in
+    let two = or_nil (word_fault (leaf_done name os) [] false idle word (idle_held rows p)) _ parts.0 in
+    idle_took name os o word rest i w rows p s ready (word_met (done_rules os) [] false idle 1 word (idle_held rows p)) (word_turn name os o word idle rows p two.0) two.1 parts.1 e
+
+wait_step : (name : Text) (os : List CommandOption) (o : CommandOption) (word : Text) (rest : List Text) → Idle name os o rest → Waits name os o (word ∷ rest)
+unfolding walk_fault walked
+wait_step name os o word rest i rows q d s by_id holds f e =
+    let h = idle_held rows (Some (id_of q, [])) in
+    let parts = or_nil (turn_fault (leaf_done name os) [] (at_word h (option (id_of q))) word) _ f in
+    let two = or_nil (word_fault (leaf_done name os) [] false (option (id_of q)) word h) _ parts.0 in
+    wait_took name os o word rest i rows q d s by_id holds (word_met (done_rules os) [] false (option (id_of q)) 1 word h) (word_turn name os o word (option (id_of q)) rows (Some (id_of q, [])) two.0) two.1 parts.1 e
+
+pub walks : (name : Text) (os : List CommandOption) (o : CommandOption) (words : List Text) → Idle name os o words × Waits name os o words
+unfolding walk_fault
+walks name os o [] = (
+  λ rows p s ready f e. subst (λ x. Holds o (settled (done_rules os) (idle_held rows p)).rows x) (sym (some_first s)) (ready e),
+  λ rows q d s by_id holds f e. absurd (no_value os q rows by_id e),
+)
+walks name os o (word ∷ rest) =
+    let later = walks name os o rest in
+    (idle_step name os o word rest later.0 later.1, wait_step name os o word rest later.0)
+
+-- ---- one command
+
+pub no_default : (os : List CommandOption) (rs : List Row) → fold with_default rs (done_rules os) ≡ rs
+no_default [] rs = go (has_row (codes "help") rs)
+  where
+    go : (b : Bool) → cond b rs rs ≡ rs
+    go true = refl
+    go false = refl
+no_default (x ∷ os) rs = ap (λ r. fold with_default r (done_rules os)) (go (has_row (id_of x) rs)) ∙ no_default os rs
+  where
+    go : (b : Bool) → cond b rs rs ≡ rs
+    go true = refl
+    go false = refl
+
+wanted : (o : CommandOption) (os : List CommandOption) (rs : List Row) → IsListed o os → list_any (λ a. a.required && not (is_given a.id rs)) (done_rules os) ≡ false → is_given (id_of o) rs ≡ true
+wanted o [] rs none e = absurd none
+wanted o (x ∷ os) rs is e = go (is_given (id_of x) rs) refl is (wanted o os rs) e
+  where
+    go : (b : Bool) → is_given (id_of x) rs ≡ b → (x ≡ o) ⊎ IsListed o os
+        → (IsListed o os → list_any (λ a. a.required && not (is_given a.id rs)) (done_rules os) ≡ false → is_given (id_of o) rs ≡ true)
+        → (not b || list_any (λ a. a.required && not (is_given a.id rs)) (done_rules os)) ≡ false → is_given (id_of o) rs ≡ true
+    go true at (inl same) later e2 = subst (λ y. is_given (id_of y) rs ≡ true) same at
+    go true at (inr is2) later e2 = later is2 e2
+    go false at is2 later e2 = absurd (true≢false e2)
+
+pub missing_nil : (b : Bool) → cond b (kind.MissingRequiredArgument ∷ []) [] ≡ [] → b ≡ false
+missing_nil true e = cc
+missing_nil false e = refl
+
+-- the words give the option a value that passes its parser, and its entry has it
+abbrev pub Reads : CommandOption → List Text → List Row → Type 0
+Reads o words rs = (v : Text) × (given o words ≡ Some v) × (accepts false (parser_done o) v ≡ true)
+    × (find (λ r. bytes_eq r.id (id_of o)) rs ≡ Some (row_of_option o v))
+
+row_there : (o : CommandOption) (words : List Text) (rs : List Row) (s : Option Text) → given o words ≡ s → Holds o rs s → is_given (id_of o) rs ≡ true → Reads o words rs
+row_there o words rs None is h e =
+    let bad : false ≡ true = sym (ap (λ r. option_map_or (λ (x : Row). explicit_source x.source) r false) h.0) ∙ e in
+    absurd (true≢false (sym bad))
+row_there o words rs (Some v) is h e = (v, is, h.1, h.0)
+
+-- where no step of the parse fails, each option of the command has a value that its parser accepts, and its row has it
+pub leaf_reads : (name : Text) (os : List CommandOption) (words : List Text) → level_fault (leaf_done name os) [] nothing_held words false [] ≡ []
+    → (o : CommandOption) → IsListed o os → Reads o words (rows_after (done_rules os) [] words)
+leaf_reads name os words f o is =
+    let end = walk_end os (at_word (idle_held [] None) idle) words in
+    let a = or_nil (walk_fault (leaf_done name os) [] (at_word (idle_held [] None) idle) words) _ f in
+    let b = or_nil (settle_fault (done_rules os) false end) _ a.1 in
+    let d = or_nil (defaults_fault (settled (done_rules os) end).rows (done_rules os)) _ b.1 in
+    let holds : Holds o (settled (done_rules os) end).rows (given o words) = (walks name os o words).0 [] None None (λ _. (refl, tt)) a.0 b.0 in
+    let done : Holds o (finished (done_rules os) end) (given o words) = subst (λ rs. Holds o rs (given o words)) (sym (no_default os (settled (done_rules os) end).rows)) holds in
+    row_there o words (finished (done_rules os) end) (given o words) refl done (wanted o os (finished (done_rules os) end) is (missing_nil _ d.1))

@@ -1,0 +1,379 @@
+-- A plain call passes: no step of the parse fails.
+use Rattle.std.proofs.Common.{◌≡◌, ◌⊎◌, ◌∙◌, ◌≤◌, ◌+◌, ◌&&◌, ◌||◌, ◌==◌, ◌++◌, ℕ, Bool, cond, true, false, not, refl, sym, ap, ap₂, subst, arith, List, [], ◌∷◌, map, length, drop, Option, Some, None, is_some, inl, inr, true≢false, codes}
+use Rattle.std.specs.Char.{encode_utf8}
+use Rattle.std.specs.Prelude.{slice_get, slice_index, option_and_then, option_map, unwrap_or, pos, find, fold}
+use Rattle.std.specs.List.{list_any}
+use Rattle.std.specs.Option.{option_map_or}
+use Rattle.std.specs.Str.{bytes_eq, chars}
+use Rattle.std.proofs.lemmas.Slice.Eq.{bytes_eq-Decides}
+use Rattle.clap.specs.Lexer.{long_of, long_of_rest, short_of, short_of_rest, strip_byte}
+use Rattle.std.proofs.lemmas.Bool.{ne_eqb}
+use Rattle.clap.specs.ValueTests.{accepts}
+use Rattle.clap.proofs.ValueTestLemmas.{Accepts-accepts}
+use Rattle.clap.specs.Walk.{Names, answers_to, finished, nothing_held, walk, Outcome, trailing, attached_value, after_flag, bundle_step, done, long_met, long_or_other, option_met, plain, plain_word, short_met, short_or_plain, Held, Row, Rule, Step, Text, Waiting, Walk, after_step, arg_by_id, arg_by_long, arg_by_short, bundle_met, has_long, has_row, has_short, idle, next, option, settled, used_by_id, walked, word_met}
+use Rattle.clap.specs.Kinds.{Kinds, or_else}
+use Rattle.clap.specs.Values.{refused_kind}
+use Rattle.clap.specs.Takes.{is_given}
+use Rattle.clap.specs.Facts.{explicit_source}
+use Rattle.clap.specs.Simple.{Shape, entered, label_of, names_of, rows_at}
+use Rattle.clap.specs.declared.builder.value_parser.ValueParser.TheVariants.{Signed, String}
+use Rattle.clap.specs.declared.error.kind.ErrorKind.TheVariants as kind
+use Rattle.h3_words.specs.Commands.{command_names, app, word_of, options_of}
+use Rattle.h3_words.specs.declared.commands.CommandName.{CommandName}
+use Rattle.h3_words.proofs.Names.{word_named}
+use Rattle.h3_words.proofs.Top.{app_done, first_met, first_state, keeps_stop, leaf, stopped_at, top_done}
+use Rattle.clap.specs.Faults.{check_fault, defaults_fault, entered_fault, fault_of, given_default_fault, level_fault, other_fault, bundle_fault, bundle_step_fault, flag_word_fault, long_fault, option_fault, short_fault, flags_fault, settle_fault, step_fault, turn_fault, use_fault, walk_fault, word_fault}
+use Rattle.h3_words.specs.Call.{IsPlainCall, IsPlainValue, Use, names_for, words_of}
+use Rattle.h3_words.proofs.Uses.{AreUses, IsListed, are_uses, contains, uses_in, uses_in-uses_of}
+use Rattle.h3_words.proofs.Lexed.{given, is_long, is_short, named, named_by}
+use Rattle.h3_words.specs.Given.{given_by}
+use Rattle.h3_words.specs.Options.{IsUpTo, number_up_to, id_of, long_name, parser_done, short_name}
+use Rattle.h3_words.specs.declared.options.CommandOption.{CommandOption}
+use Rattle.h3_words.specs.declared.options.CommandOption.TheVariants.{Cell, Resolution, Radius, To, Position, Edge, Table}
+use Rattle.h3_words.proofs.Leaf.{Holds, long_is, mine, no_default, short_is, walks, Differs, Which, at_word, bytes_same, differ, done_rule, done_rules, help_done, idle_held, leaf_done, longs_differ, or_false, row_of_option, shorts_differ, used_fresh, value_state, walk_end}
+
+-- how a word names an option
+data NameForm (q : CommandOption) (word : Text) : Type 0 where
+  long_form : (n : Text) → long_of word ≡ Some (n, None) → is_long q n ≡ true → has_long help_done n ≡ false → bytes_eq word (45 ∷ 45 ∷ []) ≡ false → NameForm q word
+  short_form : (y : ℕ) → long_of word ≡ None → short_of word ≡ Some (y ∷ []) → slice_get (chars (y ∷ [])) 0 ≡ Some y → drop (length (encode_utf8 y)) (y ∷ []) ≡ []
+      → is_short q y ≡ true → has_short help_done y ≡ false → bytes_eq word (45 ∷ 45 ∷ []) ≡ false → NameForm q word
+
+name_form : (q : CommandOption) (word : Text) → IsListed word (names_for q) → NameForm q word
+unfolding chars encode_utf8
+name_form Cell word (inl e) = subst (NameForm Cell) e (short_form 99 refl refl refl refl refl refl refl)
+name_form Cell word (inr (inl e)) = subst (NameForm Cell) e (long_form (codes "cell") refl refl refl refl)
+name_form Cell word (inr (inr e)) = absurd e
+name_form Resolution word (inl e) = subst (NameForm Resolution) e (short_form 114 refl refl refl refl refl refl refl)
+name_form Resolution word (inr (inl e)) = subst (NameForm Resolution) e (long_form (codes "resolution") refl refl refl refl)
+name_form Resolution word (inr (inr e)) = absurd e
+name_form Radius word (inl e) = subst (NameForm Radius) e (short_form 107 refl refl refl refl refl refl refl)
+name_form Radius word (inr e) = absurd e
+name_form To word (inl e) = subst (NameForm To) e (long_form (codes "to") refl refl refl refl)
+name_form To word (inr e) = absurd e
+name_form Position word (inl e) = subst (NameForm Position) e (long_form (codes "position") refl refl refl refl)
+name_form Position word (inr e) = absurd e
+name_form Edge word (inl e) = subst (NameForm Edge) e (long_form (codes "edge") refl refl refl refl)
+name_form Edge word (inr e) = absurd e
+name_form Table word (inl e) = subst (NameForm Table) e (long_form (codes "table") refl refl refl refl)
+name_form Table word (inr e) = absurd e
+
+-- a search that only q passes finds it
+only_found : (p : Rule → Bool) (q : CommandOption) (os : List CommandOption) → IsListed q os → p (done_rule q) ≡ true → ((x : CommandOption) → Differs q x → p (done_rule x) ≡ false)
+    → find p (done_rules os) ≡ Some (done_rule q)
+only_found p q [] none hit misses = absurd none
+only_found p q (x ∷ os) is hit misses = go (differ q x) is (only_found p q os)
+  where
+    go : Which q x → (x ≡ q) ⊎ IsListed q os → (IsListed q os → p (done_rule q) ≡ true → ((y : CommandOption) → Differs q y → p (done_rule y) ≡ false) → find p (done_rules os) ≡ Some (done_rule q))
+        → find p (done_rules (x ∷ os)) ≡ Some (done_rule q)
+    go (inl same) is2 later = ap (λ y. cond (p (done_rule y)) (Some (done_rule y)) (find p (done_rules os))) (sym same)
+        ∙ ap (λ b. cond b (Some (done_rule q)) (find p (done_rules os))) hit
+    go (inr d) (inl same) later = ap (λ y. cond (p (done_rule y)) (Some (done_rule y)) (find p (done_rules os))) same
+        ∙ ap (λ b. cond b (Some (done_rule q)) (find p (done_rules os))) hit
+    go (inr d) (inr is2) later = ap (λ b. cond b (Some (done_rule x)) (find p (done_rules os))) (misses x d) ∙ later is2 hit misses
+
+flip_id : (x w : CommandOption) → Which x w → Differs w x → bytes_eq (id_of x) (id_of w) ≡ false
+flip_id x w (inl same) d = absurd (true≢false (sym (ap (λ y. bytes_eq (id_of w) (id_of y)) same ∙ bytes_same (id_of w)) ∙ d.0))
+flip_id x w (inr d2) d = d2.0
+
+by_id_of : (q : CommandOption) (os : List CommandOption) → IsListed q os → arg_by_id (done_rules os) (id_of q) ≡ Some (done_rule q)
+by_id_of q os is = only_found (λ a. bytes_eq a.id (id_of q)) q os is (bytes_same (id_of q)) (λ x d. flip_id x q (differ x q) d)
+
+by_long_of : (q : CommandOption) (n : Text) (os : List CommandOption) → IsListed q os → is_long q n ≡ true → arg_by_long (done_rules os) n ≡ Some (done_rule q)
+by_long_of q n os is hit = only_found (λ a. not (is_some a.index) && has_long a n) q os is (or_false (is_long q n) ∙ hit)
+    (λ x d. or_false (is_long x n) ∙ longs_differ (long_name x) (long_name q) n d.1 hit)
+
+by_short_of : (q : CommandOption) (y : ℕ) (os : List CommandOption) → IsListed q os → is_short q y ≡ true → arg_by_short (done_rules os) y ≡ Some (done_rule q)
+by_short_of q y os is hit = only_found (λ a. not (is_some a.index) && has_short a y) q os is (or_false (is_short q y) ∙ hit)
+    (λ x d. or_false (is_short x y) ∙ shorts_differ (short_name x) (short_name q) y d.2 hit)
+
+-- ---- the word that names an option
+
+-- what is held after an option that waits for its value
+abbrev waiting_held : List CommandOption → CommandOption → List Row → Option (Text × List Text) → Held
+waiting_held os q rows p = record (settled (done_rules os) (idle_held rows p)) { pending = Some (id_of q, []) }
+
+name_fault : (name : Text) (os : List CommandOption) (q : CommandOption) (word : Text) (rows : List Row) (p : Option (Text × List Text)) → IsListed q os → NameForm q word
+    → settle_fault (done_rules os) false (idle_held rows p) ≡ [] → word_fault (leaf_done name os) [] false idle word (idle_held rows p) ≡ []
+unfolding flags_fault
+name_fault name os q word rows p is (long_form n e hit none no_dash) settles =
+    ap₂ (λ b l. cond b [] (flag_word_fault (done_rules os) false l word (idle_held rows p))) no_dash e
+    ∙ ap (λ r. long_fault (done_rules os) false r None (idle_held rows p)) (by_long_of q n os is hit) ∙ settles
+name_fault name os q word rows p is (short_form y no_long flags first rest hit none no_dash) settles =
+    ap₂ (λ b l. cond b [] (flag_word_fault (done_rules os) false l word (idle_held rows p))) no_dash no_long
+    ∙ ap (λ o. option_map_or (λ fs. bundle_fault (done_rules os) false fs (idle_held rows p)) o []) flags
+    ∙ ap (λ o. bundle_step_fault (done_rules os) false o (y ∷ []) 0 (idle_held rows p) (flags_fault (done_rules os) false 0)) first
+    ∙ ap (λ r. short_fault (done_rules os) false r (drop (length (encode_utf8 y)) (y ∷ [])) (idle_held rows p) (flags_fault (done_rules os) false 0 (drop (length (encode_utf8 y)) (y ∷ [])) 0)) (by_short_of q y os is hit)
+    ∙ ap (λ t. option_fault (done_rules os) false (done_rule q) (attached_value t) (idle_held rows p)) rest ∙ settles
+
+name_met : (os : List CommandOption) (q : CommandOption) (word : Text) (rows : List Row) (p : Option (Text × List Text)) → IsListed q os → NameForm q word
+    → word_met (done_rules os) [] false idle 1 word (idle_held rows p) ≡ (waiting_held os q rows p, next (option (id_of q)))
+unfolding bundle_met
+name_met os q word rows p is (long_form n e hit none no_dash) =
+    ap₂ (λ b l. cond b (idle_held rows p, trailing 1) (long_or_other (done_rules os) idle word l (idle_held rows p))) no_dash e
+    ∙ ap (λ r. after_flag (done_rules os) idle word (long_met (done_rules os) r None (idle_held rows p)).0 (long_met (done_rules os) r None (idle_held rows p)).1) (by_long_of q n os is hit)
+name_met os q word rows p is (short_form y no_long flags first rest hit none no_dash) =
+    let step : Option ℕ → Held × Outcome = λ o. bundle_step (done_rules os) o (y ∷ []) 0 plain (idle_held rows p) (bundle_met (done_rules os) 0) in
+    let short : Option Rule → Held × Outcome = λ r. short_met (done_rules os) r (drop (length (encode_utf8 y)) (y ∷ [])) (idle_held rows p) (bundle_met (done_rules os) 0 (drop (length (encode_utf8 y)) (y ∷ [])) 0 done) in
+    let met : Text → Held × Outcome = λ t. option_met (done_rules os) (done_rule q) (attached_value t) (idle_held rows p) in
+    ap₂ (λ b l. cond b (idle_held rows p, trailing 1) (long_or_other (done_rules os) idle word l (idle_held rows p))) no_dash no_long
+    ∙ ap (λ o. short_or_plain (done_rules os) idle word o (idle_held rows p)) flags
+    ∙ ap (λ o. after_flag (done_rules os) idle word (step o).0 (step o).1) first
+    ∙ ap (λ r. after_flag (done_rules os) idle word (short r).0 (short r).1) (by_short_of q y os is hit)
+    ∙ ap (λ t. after_flag (done_rules os) idle word (met t).0 (met t).1) rest
+
+-- ---- its value
+
+no_dashes : (v : Text) → IsPlainValue v → (long_of v ≡ None) × (short_of v ≡ None) × (bytes_eq v (45 ∷ 45 ∷ []) ≡ false)
+no_dashes [] h = absurd h
+no_dashes (b ∷ bs) h =
+    let f : (b == 45) ≡ false = ne_eqb b 45 h in (
+      ap (λ t. option_and_then long_of_rest (option_and_then (strip_byte 45) (cond t (Some bs) None))) f,
+      ap (λ t. option_and_then short_of_rest (cond t (Some bs) None)) f,
+      go (bytes_eq (b ∷ bs) (45 ∷ 45 ∷ [])) refl,
+    )
+  where
+    go : (t : Bool) → bytes_eq (b ∷ bs) (45 ∷ 45 ∷ []) ≡ t → t ≡ false
+    go true e = absurd (h (ap (λ xs. slice_index xs 0) ((bytes_eq-Decides (b ∷ bs) (45 ∷ 45 ∷ [])).0 e)))
+    go false e = refl
+
+value_fault : (name : Text) (os : List CommandOption) (id v : Text) (h : Held) → IsPlainValue v → word_fault (leaf_done name os) [] false (option id) v h ≡ []
+value_fault name os id v h is = let e = no_dashes v is in
+    ap₂ (λ b l. cond b [] (flag_word_fault (done_rules os) false l v h)) e.2 e.0 ∙ ap (λ o. option_map_or (λ fs. bundle_fault (done_rules os) false fs h) o []) e.1
+
+value_met : (os : List CommandOption) (id v : Text) (h : Held) → IsPlainValue v → word_met (done_rules os) [] false (option id) 1 v h ≡ plain_word (done_rules os) (option id) v h
+value_met os id v h is = let e = no_dashes v is in
+    ap₂ (λ b l. cond b (h, trailing 1) (long_or_other (done_rules os) (option id) v l h)) e.2 e.0 ∙ ap (λ o. short_or_plain (done_rules os) (option id) v o h) e.1
+
+-- ---- the walk
+
+one_word : (name : Text) (os : List CommandOption) (h : Held) (wt : Waiting) (word : Text) (m : Held × Step) → word_fault (leaf_done name os) [] false wt word h ≡ []
+    → word_met (done_rules os) [] false wt 1 word h ≡ m → step_fault (leaf_done name os) 1 m.0 m.1 ≡ []
+    → (turn_fault (leaf_done name os) [] (at_word h wt) word ≡ []) × (walked (done_rules os) [] (at_word h wt) word ≡ after_step (done_rules os) word (at_word h wt) m.0 m.1)
+unfolding walked
+one_word name os h wt word m f e step = (
+  ap₂ or_else f (ap (λ (x : Held × Step). step_fault (leaf_done name os) 1 x.0 x.1) e ∙ step),
+  ap (λ (x : Held × Step). after_step (done_rules os) word (at_word h wt) x.0 x.1) e,
+)
+
+-- no step fails from here on
+abbrev Passing : Text → List CommandOption → Walk → List Text → Type 0
+Passing name os w words = (walk_fault (leaf_done name os) [] w words ≡ []) × (settle_fault (done_rules os) false (walk_end os w words) ≡ [])
+
+passes_on : (name : Text) (os : List CommandOption) (w after : Walk) (word : Text) (rest : List Text) → turn_fault (leaf_done name os) [] w word ≡ [] → walked (done_rules os) [] w word ≡ after
+    → Passing name os after rest → Passing name os w (word ∷ rest)
+unfolding walk_fault
+passes_on name os w after word rest turn is passing = (
+  ap₂ or_else turn (ap (λ x. walk_fault (leaf_done name os) [] x rest) is ∙ passing.0),
+  ap (λ x. settle_fault (done_rules os) false (walk_end os x rest)) is ∙ passing.1,
+)
+
+-- each option is used at most once, and not again once it has an entry
+abbrev Fresh : List Row → List Use → Type 0
+Fresh rows us = (o : CommandOption) → (has_row (id_of o) rows ≡ true → uses_in o us ≡ 0) × (uses_in o us ≤ 1)
+
+not_yet : (rows : List Row) (u : Use) (us : List Use) → Fresh rows (u ∷ us) → has_row (id_of u.option) rows ≡ false
+not_yet rows u us fresh = go (has_row (id_of u.option) rows) (fresh u.option).0
+  where
+    go : (b : Bool) → (b ≡ true → uses_in u.option (u ∷ us) ≡ 0) → b ≡ false
+    go true h = let bad : 1 + uses_in u.option us ≡ 0 = sym (ap (λ b. cond b 1 0 + uses_in u.option us) (bytes_same (id_of u.option))) ∙ h refl in absurd (omega arith)
+    go false h = refl
+
+has_row_added : (id : Text) (rows : List Row) (r : Row) → has_row id (rows ++ r ∷ []) ≡ (has_row id rows || bytes_eq r.id id)
+has_row_added id [] r = or_false (bytes_eq r.id id)
+has_row_added id (x ∷ rows) r = go (bytes_eq x.id id) (has_row_added id rows r)
+  where
+    go : (b : Bool) → has_row id (rows ++ r ∷ []) ≡ (has_row id rows || bytes_eq r.id id) → (b || has_row id (rows ++ r ∷ [])) ≡ ((b || has_row id rows) || bytes_eq r.id id)
+    go true e = refl
+    go false e = e
+
+fresh_after : (rows : List Row) (u : Use) (us : List Use) → Fresh rows (u ∷ us) → Fresh (rows ++ row_of_option u.option u.value ∷ []) us
+fresh_after rows u us fresh o = go (bytes_eq (id_of u.option) (id_of o)) (has_row (id_of o) rows) (fresh o) (has_row_added (id_of o) rows (row_of_option u.option u.value))
+  where
+    go : (b r : Bool) → (r ≡ true → cond b 1 0 + uses_in o us ≡ 0) × (cond b 1 0 + uses_in o us ≤ 1)
+        → has_row (id_of o) (rows ++ row_of_option u.option u.value ∷ []) ≡ (r || b)
+        → (has_row (id_of o) (rows ++ row_of_option u.option u.value ∷ []) ≡ true → uses_in o us ≡ 0) × (uses_in o us ≤ 1)
+    go true r f e = let le : 1 + uses_in o us ≤ 1 = f.1 in (λ _. omega arith, omega arith)
+    go false true f e = let none : 0 + uses_in o us ≡ 0 = f.0 refl in (λ _. omega arith, omega arith)
+    go false false f e = let le : 0 + uses_in o us ≤ 1 = f.1 in (λ t. absurd (true≢false (sym t ∙ e)), omega arith)
+
+-- a value in the range passes the parser
+in_range : (most : Option ℕ) (v : Text) → IsUpTo most v → accepts false (unwrap_or (option_map (λ m. Signed (pos 0) (pos m)) most) String) v ≡ true
+in_range None v h = refl
+in_range (Some most) v h = Accepts-accepts false (Signed (pos 0) (pos most)) v h
+
+-- a use of an option that was not used yet, with a value in its range
+use_passes : (q : CommandOption) (v : Text) (rows : List Row) → has_row (id_of q) rows ≡ false → accepts false (parser_done q) v ≡ true → use_fault false (done_rule q) (v ∷ []) rows ≡ []
+use_passes q v rows fresh fits = ap₂ (λ a b. or_else (cond (a && true) (kind.ArgumentConflict ∷ []) []) (or_else (cond b [] (refused_kind (parser_done q) ∷ [])) [])) fresh fits
+
+uses_walk : (name : Text) (os : List CommandOption) (us : List Use) (rows : List Row) (p : Option (Text × List Text)) → settle_fault (done_rules os) false (idle_held rows p) ≡ []
+    → Fresh (settled (done_rules os) (idle_held rows p)).rows us → AreUses os us → Passing name os (at_word (idle_held rows p) idle) (words_of us)
+unfolding walk_fault
+uses_walk name os [] rows p settles fresh fits = (refl, settles)
+uses_walk name os (u ∷ us) rows p settles fresh fits =
+    let now = (settled (done_rules os) (idle_held rows p)).rows in
+    let form = name_form u.option u.name fits.0.named in
+    let by_id = by_id_of u.option os fits.0.listed in
+    let new = not_yet now u us fresh in
+    let fine = use_passes u.option u.value now new (in_range (number_up_to u.option) u.value fits.0.in_range) in
+    let first = one_word name os (idle_held rows p) idle u.name _ (name_fault name os u.option u.name rows p fits.0.listed form settles) (name_met os u.option u.name rows p fits.0.listed form) refl in
+    let h = idle_held now (Some (id_of u.option, [])) in
+    let second = one_word name os h (option (id_of u.option)) u.value _ (value_fault name os (id_of u.option) u.value h fits.0.plain) (value_met os (id_of u.option) u.value h fits.0.plain) refl in
+    let settles2 : settle_fault (done_rules os) false (idle_held now (Some (id_of u.option, u.value ∷ []))) ≡ [] =
+    ap (λ r. option_map_or (λ a. use_fault false a (u.value ∷ []) now) r []) by_id ∙ fine in
+    let rows2 : now ++ row_of_option u.option u.value ∷ [] ≡ used_by_id (arg_by_id (done_rules os) (id_of u.option)) (u.value ∷ []) now =
+    sym (ap (λ r. used_by_id r (u.value ∷ []) now) by_id ∙ used_fresh u.option u.value now new) in
+    let fresh2 = subst (λ r. Fresh r us) rows2 (fresh_after now u us fresh) in
+    passes_on name os _ _ u.name (u.value ∷ words_of us) first.0 first.1
+    (passes_on name os _ _ u.value (words_of us) second.0 (second.1 ∙ value_state os u.option now u.value by_id)
+    (uses_walk name os us now (Some (id_of u.option, u.value ∷ [])) settles2 fresh2 fits.1))
+
+-- ---- after the walk
+
+or_true : (b : Bool) → (b || true) ≡ true
+or_true true = refl
+or_true false = refl
+
+same_rows : (b : Bool) (rs : List Row) → cond b rs rs ≡ rs
+same_rows true rs = refl
+same_rows false rs = refl
+
+no_default_fault : (os : List CommandOption) (rs : List Row) → defaults_fault rs (done_rules os) ≡ []
+unfolding defaults_fault
+no_default_fault [] rs = ap (λ b. or_else (cond b [] (given_default_fault help_done help_done.defaults)) []) (or_true (has_row (codes "help") rs))
+no_default_fault (x ∷ os) rs =
+    ap₂ (λ b r. or_else (cond b [] (given_default_fault (done_rule x) [])) (defaults_fault r (done_rules os))) (or_true (has_row (id_of x) rs)) (same_rows (has_row (id_of x) rs) rs)
+    ∙ no_default_fault os rs
+
+none_missing : (os : List CommandOption) (rs : List Row) → ((o : CommandOption) → IsListed o os → is_given (id_of o) rs ≡ true) → list_any (λ a. a.required && not (is_given a.id rs)) (done_rules os) ≡ false
+none_missing [] rs given_all = refl
+none_missing (x ∷ os) rs given_all = ap (λ b. not b || list_any (λ a. a.required && not (is_given a.id rs)) (done_rules os)) (given_all x (inl refl))
+    ∙ none_missing os rs (λ o is. given_all o (inr is))
+
+form_named : (o q : CommandOption) (d : Which q o) (word : Text) → NameForm q word → named o word ≡ mine d None
+form_named o q d word (long_form n e hit none no_dash) = long_is o q d word n None e hit
+form_named o q d word (short_form y no_long flags first rest hit none no_dash) =
+    short_is o q d word (y ∷ []) y no_long flags first hit ∙ ap (λ t. mine d (attached_value t)) rest
+
+plain_named : (o : CommandOption) (v : Text) → IsPlainValue v → named o v ≡ None
+plain_named o v is = let e = no_dashes v is in ap₂ (named_by o) e.0 e.1
+
+given_once : (os : List CommandOption) (o : CommandOption) (us : List Use) → AreUses os us → uses_in o us ≡ 1 → is_some (given o (words_of us)) ≡ true
+given_once os o [] fits once = cc
+given_once os o (u ∷ us) fits once = go (differ u.option o) (form_named o u.option (differ u.option o) u.name (name_form u.option u.name fits.0.named)) (given_once os o us fits.1)
+  where
+    go : (d : Which u.option o) → named o u.name ≡ mine d None → (uses_in o us ≡ 1 → is_some (given o (words_of us)) ≡ true) → is_some (given o (words_of (u ∷ us))) ≡ true
+    go (inl same) is later = ap (λ n. is_some (given_by n (u.value ∷ words_of us) (given o (u.value ∷ words_of us)))) is
+    go (inr d) is later = ap (λ n. is_some (given_by n (u.value ∷ words_of us) (given o (u.value ∷ words_of us)))) is
+        ∙ ap (λ n. is_some (given_by n (words_of us) (given o (words_of us)))) (plain_named o u.value fits.0.plain)
+        ∙ (let e : 0 + uses_in o us ≡ 1 = sym (ap (λ b. cond b 1 0 + uses_in o us) d.0) ∙ once in later (omega arith))
+
+some_given : (o : CommandOption) (rs : List Row) (s : Option Text) → is_some s ≡ true → Holds o rs s → is_given (id_of o) rs ≡ true
+some_given o rs None e h = absurd (true≢false (sym e))
+some_given o rs (Some v) e h = ap (λ r. option_map_or (λ (x : Row). explicit_source x.source) r false) h.0
+
+-- the words of a plain call pass their command
+pub leaf_passes : (name : Text) (os : List CommandOption) (us : List Use) → AreUses os us → ((o : CommandOption) → IsListed o os → uses_in o us ≡ 1) → ((o : CommandOption) → uses_in o us ≤ 1)
+    → level_fault (leaf_done name os) [] nothing_held (words_of us) false [] ≡ []
+leaf_passes name os us fits once most =
+    let words = words_of us in
+    let start = at_word (idle_held [] None) idle in
+    let end = walk_end os start words in
+    let pass : Passing name os start words = uses_walk name os us [] None refl (λ o. (λ bad. absurd (true≢false (sym bad)), most o)) fits in
+    let holds : (o : CommandOption) → Holds o (settled (done_rules os) end).rows (given o words) = λ o. (walks name os o words).0 [] None None (λ _. (refl, tt)) pass.0 pass.1 in
+    let done : (o : CommandOption) → Holds o (finished (done_rules os) end) (given o words) = λ o. subst (λ rs. Holds o rs (given o words)) (sym (no_default os (settled (done_rules os) end).rows)) (holds o) in
+    let all_given : list_any (λ a. a.required && not (is_given a.id (finished (done_rules os) end))) (done_rules os) ≡ false =
+    none_missing os (finished (done_rules os) end) (λ o is. some_given o (finished (done_rules os) end) (given o words) (given_once os o us fits (once o is)) (done o)) in
+    ap₂ or_else pass.0 (ap₂ or_else pass.1 (ap₂ or_else (no_default_fault os (settled (done_rules os) end).rows)
+    (ap (λ b. cond b (kind.MissingRequiredArgument ∷ []) []) all_given)))
+
+-- an option that the command lacks is not used
+pub used_in : (os : List CommandOption) (o : CommandOption) (us : List Use) → AreUses os us → (IsListed o os → ⊥) → uses_in o us ≡ 0
+used_in os o [] fits not_in = refl
+used_in os o (u ∷ us) fits not_in = go (differ u.option o) (used_in os o us fits.1 not_in)
+  where
+    go : Which u.option o → uses_in o us ≡ 0 → uses_in o (u ∷ us) ≡ 0
+    go (inl same) later = absurd (not_in (subst (λ x. IsListed x os) same fits.0.listed))
+    go (inr d) later = let e : uses_in o (u ∷ us) ≡ 0 + uses_in o us = ap (λ b. cond b 1 0 + uses_in o us) d.0 in e ∙ omega (arith, later)
+
+is_in_or_not : (o : CommandOption) (os : List CommandOption) → IsListed o os ⊎ (IsListed o os → ⊥)
+is_in_or_not o [] = inr (λ none. none)
+is_in_or_not o (x ∷ os) = go (differ x o) (is_in_or_not o os)
+  where
+    go : Which x o → IsListed o os ⊎ (IsListed o os → ⊥) → ((x ≡ o) ⊎ IsListed o os) ⊎ (((x ≡ o) ⊎ IsListed o os) → ⊥)
+    go (inl same) later = inl (inl same)
+    go (inr d) (inl is) = inl (inr is)
+    go (inr d) (inr not_in) = inr (λ either. elim either [
+      | inl same ↦ true≢false (sym (ap (λ y. bytes_eq (id_of y) (id_of o)) same ∙ bytes_same (id_of o)) ∙ d.0)
+      | inr is ↦ not_in is
+    ])
+
+pub at_most_once : (os : List CommandOption) (us : List Use) → AreUses os us → ((o : CommandOption) → IsListed o os → uses_in o us ≡ 1) → (o : CommandOption) → uses_in o us ≤ 1
+at_most_once os us fits once o = elim (is_in_or_not o os) [
+  | inl is ↦ let e = once o is in omega arith
+  | inr not_in ↦ let e = used_in os o us fits not_in in omega arith
+]
+
+-- ---- the whole command line
+
+and_false : (b : Bool) → (b && false) ≡ false
+and_false true = refl
+and_false false = refl
+
+-- a search among what a function makes of the items of a list
+find_map : {X Y : Type 0} (f : X → Y) (p : Y → Bool) (q : X → Bool) → ((x : X) → p (f x) ≡ q x) → (xs : List X) → find p (map f xs) ≡ option_map f (find q xs)
+find_map f p q same [] = refl
+find_map f p q same (x ∷ xs) = ap₂ (λ b later. cond b (Some (f x)) later) (same x) (find_map f p q same xs) ∙ go (q x)
+  where
+    go : (b : Bool) → cond b (Some (f x)) (option_map f (find q xs)) ≡ option_map f (cond b (Some x) (find q xs))
+    go true = refl
+    go false = refl
+
+name_found : (k : CommandName) → find (λ s. answers_to (word_of k) (label_of s)) (map leaf command_names) ≡ Some (leaf k)
+name_found k = find_map leaf (λ s. answers_to (word_of k) (label_of s)) (λ x. bytes_eq (word_of x) (word_of k)) (λ x. or_false (bytes_eq (word_of x) (word_of k))) command_names
+    ∙ ap (option_map leaf) (word_named k)
+
+name_first : (k : CommandName) → find (answers_to (word_of k)) (names_of (app_done command_names)) ≡ Some (label_of (leaf k))
+name_first k = find_map label_of (answers_to (word_of k)) (λ s. answers_to (word_of k) (label_of s)) (λ s. refl) (map leaf command_names) ∙ ap (option_map label_of) (name_found k)
+
+stopped_passes : (names : Names) (name : Text) (before words : List Text) → walk_fault top_done names (stopped_at name before) words ≡ []
+unfolding walk_fault walked
+stopped_passes names name before [] = refl
+stopped_passes names name before (x ∷ words) = stopped_passes names name (before ++ x ∷ []) words
+
+top_turn : (k : CommandName) (rest : List Text) → (walk_fault top_done (names_of (app_done command_names)) (at_word nothing_held idle) (word_of k ∷ rest) ≡ [])
+    × (walk (done_rules []) (names_of (app_done command_names)) nothing_held (word_of k ∷ rest) ≡ stopped_at (word_of k) rest)
+unfolding walk_fault walked
+top_turn k rest = (
+  ap (λ r. or_else (or_else (other_fault top_done (option_map (λ s. s.0) r) (word_of k) (idle_held [] None)) (step_fault top_done 1 (first_met (word_of k) r).0 (first_met (word_of k) r).1))
+      (walk_fault top_done (names_of (app_done command_names)) (first_state (word_of k) r) rest)) (name_first k)
+      ∙ ap (λ b. or_else (or_else (cond b (kind.DisplayHelp ∷ kind.InvalidSubcommand ∷ []) []) []) (walk_fault top_done (names_of (app_done command_names)) (stopped_at (word_of k) []) rest)) (and_false (bytes_eq (word_of k) (codes "help")))
+      ∙ stopped_passes (names_of (app_done command_names)) (word_of k) [] rest,
+  ap (λ r. fold (walked (done_rules []) (names_of (app_done command_names))) (first_state (word_of k) r) rest) (name_first k) ∙ keeps_stop (names_of (app_done command_names)) (word_of k) [] rest,
+)
+
+-- the kinds of the first step that fails after the walk
+abbrev level_of : Walk → Option (Shape) → Kinds → Kinds
+level_of w s inner = or_else (option_map_or (λ _. inner) s [])
+    (or_else (settle_fault (done_rules []) false w.held) (or_else (defaults_fault (settled (done_rules []) w.held).rows (done_rules []))
+    (check_fault top_done (finished (done_rules []) w.held) (is_some s))))
+
+pub app_passes : (program : Text) (k : CommandName) (rest : List Text) → level_fault (leaf k) [] nothing_held rest false [] ≡ [] → fault_of app (program ∷ word_of k ∷ rest) ≡ []
+unfolding defaults_fault
+app_passes program k rest f =
+    let a = app_done command_names in
+    let names = names_of a in
+    let turn = top_turn k rest in
+    ap₂ or_else turn.0
+    (ap (λ (w : Walk). or_else (entered_fault a w.stopped) (or_else (settle_fault (done_rules []) false w.held) (or_else (defaults_fault (settled (done_rules []) w.held).rows (done_rules []))
+    (check_fault top_done (finished (done_rules []) w.held) (is_some (entered a w.stopped)))))) turn.1
+    ∙ ap (λ (r : Option Shape). or_else (option_map_or (λ s. level_fault s [] nothing_held rest false []) r []) (check_fault top_done [] (is_some (option_map (λ s. rows_at s rest) r)))) (name_found k)
+    ∙ ap (λ x. or_else x []) f)
+
+-- where the words are a plain call, no step of the parse fails
+pub call_passes : (words : List Text) → IsPlainCall words → fault_of app words ≡ []
+call_passes words h =
+    let os = options_of h.name in
+    let uses = are_uses os h.uses h.uses_options in
+    let once : (o : CommandOption) → IsListed o os → uses_in o h.uses ≡ 1 = λ o is. uses_in-uses_of o h.uses ∙ h.once o (contains os o is) in
+    ap (fault_of app) h.words_are
+    ∙ app_passes h.program h.name (words_of h.uses) (leaf_passes (word_of h.name) os h.uses uses once (at_most_once os h.uses uses once))

@@ -1,0 +1,25 @@
+use Rattle.std.proofs.Common.{ap, ap₂, ◌∙◌, ◌||◌, Bool, take_all}
+use Rattle.clap.specs.Words.{App, new_app, with_rule}
+use Rattle.clap.specs.Simple.{app_of_fields}
+use Rattle.h3_words.specs.Commands.{leaf_with, word_of}
+use Rattle.h3_words.specs.declared.options.CommandOption.TheVariants.{Cell}
+use Rattle.h3_words.proofs.Building.{leaf_more}
+use Rattle.h3_words.proofs.commands.CommandName.parser.Goals as goal
+
+pub loop-option-init : goal.loop-option-init
+loop-option-init c = (
+  ap app_of_fields c.about-parser.ensures ∙ c.new.ensures.app ∙ ap new_app c.word.ensures,
+  ap (λ f. f.has_globals) c.about-parser.ensures ∙ c.new.ensures.local,
+)
+
+pub loop-option-preserved : goal.loop-option-preserved
+loop-option-preserved c =
+    let old = c.loop-option.invariant in
+    let made = c.in_ok-parser.ensures in (
+      made.shape c.argument.ensures.local ∙ ap₂ with_rule old.0 c.argument.ensures.rule ∙ leaf_more _ c.options-option-items.result.now _ Cell c.loop-option-test.true,
+      made.globals ∙ ap₂ (λ (a b : Bool). a || b) old.1 c.argument.ensures.local,
+    )
+
+pub returns-clause-shape : goal.returns-clause-shape
+returns-clause-shape c =
+    ap (λ (a : App). a.top) c.loop-option.invariant.0 ∙ ap (leaf_with (word_of c.args.self)) (take_all _ _ c.loop-option-test.false ∙ c.options-option-items.ensures)

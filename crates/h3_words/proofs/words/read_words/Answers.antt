@@ -1,0 +1,31 @@
+use Rattle.std.proofs.Common.{sym, ap, ◌∙◌, map}
+use Rattle.std.specs.Prelude.{find, string_bytes}
+use Rattle.std.specs.Str.{bytes_eq}
+use Rattle.clap.specs.Words.{found_of}
+use Rattle.h3_words.specs.Commands.{command_names, word_of}
+use Rattle.h3_words.proofs.Plain.{call_passes}
+use Rattle.h3_words.proofs.Names.{word_named}
+use Rattle.h3_words.proofs.Reading.{fault_reported, met, only_memory, passed, some_none, some_same, asks_for}
+use Rattle.h3_words.proofs.words.read_words.Goals as goal
+
+pub returns-in-Err-clause-faults : goal.returns-in-Err-clause-faults
+returns-in-Err-clause-faults c = fault_reported _ _ _ c.in-Err.error c.in_ok-parser.ensures (ap (map string_bytes) c.as_slice.ensures.value) c.in-Err.ensures.kinds c.from_parse.result c.from_parse.ensures
+
+pub returns-in-Err-clause-taken : goal.returns-in-Err-clause-taken
+returns-in-Err-clause-taken c = λ call. only_memory (map string_bytes c.args.words.items) c.from_parse.result
+    (fault_reported _ _ _ c.in-Err.error c.in_ok-parser.ensures (ap (map string_bytes) c.as_slice.ensures.value) c.in-Err.ensures.kinds c.from_parse.result c.from_parse.ensures)
+    (call_passes (map string_bytes c.args.words.items) call)
+
+pub unreachable-requires-in_default-named_by : goal.unreachable-requires-in_default-named_by
+unreachable-requires-in_default-named_by c =
+    let m = met _ _ _ _ _ (found_of c.in-Some.inner.now) c.in_ok-parser.ensures (ap (map string_bytes) c.as_slice.ensures.value) c.in-Ok.ensures.kinds c.in-Ok.ensures.matches c.in-Some.ensures.name c.in-Some.ensures.rows in
+    some_none m.0 (sym (word_named m.0) ∙ sym (ap (λ n. find (λ k. bytes_eq (word_of k) n) command_names) m.3) ∙ sym c.named_by.ensures ∙ c.in_default-named_by.is)
+
+pub returns-clause-read : goal.returns-clause-read
+returns-clause-read c =
+    let m = met _ _ _ _ _ (found_of c.in-Some.inner.now) c.in_ok-parser.ensures (ap (map string_bytes) c.as_slice.ensures.value) c.in-Ok.ensures.kinds c.in-Ok.ensures.matches c.in-Some.ensures.name c.in-Some.ensures.rows in
+    let same = some_same _ _ (sym (word_named m.0) ∙ sym (ap (λ n. find (λ k. bytes_eq (word_of k) n) command_names) m.3) ∙ sym c.named_by.ensures ∙ c.in-Some-named_by.is) in
+    asks_for (map string_bytes c.args.words.items) _ (found_of c.in-Some.inner.now) m same _ c.command.ensures.named c.command.ensures.values c.in_ok-table_path.ensures
+
+pub returns-clause-accepted : goal.returns-clause-accepted
+returns-clause-accepted c = passed _ _ _ c.in_ok-parser.ensures (ap (map string_bytes) c.as_slice.ensures.value) c.in-Ok.ensures.kinds

@@ -1,0 +1,9 @@
+//! The words of a command line: the commands with their options, as `clap` takes them, and what the
+//! words of a command line ask for.
+#![tactic(auto)]
+
+mod commands;
+mod options;
+mod words;
+
+pub use words::{Words, WordsFault, read_words};

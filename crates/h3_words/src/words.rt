@@ -1,0 +1,94 @@
+//! The words of a command line.
+
+ghost use Rattle.std.specs.Prelude.{◌≡◌, [], IfOk, IfErr, OnOk, map, string_bytes};
+ghost use Rattle.clap.specs.Words.{fault_of, kind_of};
+ghost use Rattle.h3_words.specs.Call.{IsPlainCall};
+ghost use Rattle.h3_words.specs.Commands.{app};
+ghost use Rattle.h3_words.specs.Faults.{IsFaultOf, IsReportedAs};
+ghost use Rattle.h3_words.specs.Values.{AsksFor};
+ghost use Rattle.h3_words.specs.declared.words.WordsFault.TheVariants.{Memory};
+
+use crate::commands::{CommandName, command_line};
+use clap::error::ErrorKind;
+use h3_command::Command;
+use std::alloc::{AllocError, Global};
+
+/// What the words of a command line parse as.
+#[derive(Debug, Drop)]
+pub struct Words {
+    /// The command with its values.
+    pub command: Command,
+
+    /// The path of the table, where the command has one.
+    pub table: Option<String>,
+}
+
+/// Why there is no command to run.
+#[derive(Debug, Drop)]
+pub enum WordsFault {
+    /// Help was asked for: its text.
+    Help(String),
+
+    /// The command line is invalid: the text that says why.
+    Usage(String),
+
+    /// Out of memory.
+    Memory,
+}
+
+impl From<AllocError> for WordsFault {
+    ghost from_gives = { λ _ fault. fault ≡ Memory };
+
+    fn from(_error: AllocError) -> WordsFault {
+        WordsFault::Memory
+    }
+}
+
+impl WordsFault {
+    /// The error that `clap` found, with its text.
+    fn from_parse(alloc: Global, error: clap::Error) -> WordsFault
+        ensures { IsReportedAs (kind_of error) result }
+    {
+        if error.kind() == ErrorKind::OutOfMemory {
+            return WordsFault::Memory;
+        }
+        match format!(in alloc; "{error}") {
+            Ok(text) => match error.kind() {
+                ErrorKind::DisplayHelp => WordsFault::Help(text),
+                _ => WordsFault::Usage(text),
+            },
+            Err(_) => WordsFault::Memory,
+        }
+    }
+}
+
+/// Parses the words of a command line, of which the first is the program's name.
+///
+/// [`WordsFault::Help`] where they ask for help, [`WordsFault::Usage`] where the command line is
+/// invalid: no command with each of its options once and a value in range, and
+/// [`WordsFault::Memory`] where there is no memory for the parse.
+pub fn read_words(alloc: Global, words: Vec<String>) -> Result<Words, WordsFault>
+    ensures read { IfOk result (AsksFor (map string_bytes words.items)) }
+    ensures accepted { OnOk result (fault_of app (map string_bytes words.items) ≡ []) }
+    ensures taken { IsPlainCall (map string_bytes words.items) → IfErr result (λ fault. fault ≡ WordsFault.Memory) }
+    ensures faults { IfErr result (IsFaultOf (fault_of app (map string_bytes words.items))) }
+{
+    let parser = command_line(alloc)?;
+    let matches = match parser.try_get_matches_from(words.as_slice()) {
+        Ok(matches) => matches,
+        Err(error) => return Err(WordsFault::from_parse(alloc, error)),
+    };
+    let Some((word, inner)) = matches.subcommand() else {
+        unreachable!()
+    };
+    let Some(name) = CommandName::named_by(word) else {
+        unreachable!()
+    };
+    Ok(Words {
+        command: name.command(inner),
+        table: name.table_path(alloc, inner)?,
+    })
+}
+
+#[cfg(test)]
+mod tests;
