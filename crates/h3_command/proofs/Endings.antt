@@ -17,11 +17,11 @@ use Rattle.h3_lines.specs.declared.refusal.Refusal.TheVariants.{Error, Memory, R
 use Rattle.h3_lines.specs.Writing.{IsLeft, Reports, SinkUse, Writes}
 use Rattle.h3_command.specs.Answer.{Request, about_table, with_table, unless_faulty}
 use Rattle.h3_command.specs.Answer.Request.{of_list, of_table, plain}
-use Rattle.h3_command.specs.Run.{Answers, Ends, Gives, IsSound, ReadFails, Runs, SourceUse, Streams, WritesReading}
+use Rattle.h3_command.specs.Run.{Answers, Ends, Gives, NoReadFails, ReadFails, Runs, SourceUse, Streams, WritesReading}
 use Rattle.h3_command.proofs.Written.{nothing, writes_refused}
 
 -- an answer to what was read is written, and no read failed
-reading_written : (a : Answer) (bytes : List ℕ) (was_read : Type 0) (source : SourceUse) (ending : Result (Unit {0}) Refusal) (out : SinkUse) → was_read → IsSound source → Writes a ending out
+reading_written : (a : Answer) (bytes : List ℕ) (was_read : Type 0) (source : SourceUse) (ending : Result (Unit {0}) Refusal) (out : SinkUse) → was_read → NoReadFails source → Writes a ending out
     → WritesReading a bytes was_read source ending out
 unfolding Writes
 reading_written a bytes was_read source (Ok u) out all sound writes = (all, sound, writes)
@@ -36,7 +36,7 @@ reading_written a bytes was_read source (Err Write) out all sound writes = (all,
 
 -- the list is refused
 pub list_refused : (about : List Address → Answer) (list : List ℕ) (input : SourceUse) (e : Refusal) (out : SinkUse) → RefusesList (ReadFails input list) (listed_cells list) e
-    → ((e ≡ Read → ⊥) → (e ≡ Memory → ⊥) → IsListWithinReads (2 ^ 40) 65536 list) → ((e ≡ Read → ⊥) → IsSound input) → IsLeft out
+    → ((e ≡ Read → ⊥) → (e ≡ Memory → ⊥) → IsListWithinReads (2 ^ 40) 65536 list) → ((e ≡ Read → ⊥) → NoReadFails input) → IsLeft out
     → WritesReading (answer_or_error about (listed_cells list)) list (IsListWithinReads (2 ^ 40) 65536 list) input (Err e) out
 list_refused about list input (Error d) out is within sound left =
     (within (λ never. cc never) (λ never. cc never), sound (λ never. cc never), subst (λ cells. Writes (answer_or_error about cells) (Err (Error d)) out) (sym is) (writes_refused d out left))
@@ -48,7 +48,7 @@ list_refused about list input TableOpen out never within sound left = absurd nev
 
 -- the list is read, and the answer about its cells is written
 pub list_written : (about : List Address → Answer) (list : List ℕ) (cells : List Address) (input : SourceUse) (ending : Result (Unit {0}) Refusal) (out : SinkUse) → listed_cells list ≡ Ok cells
-    → IsWithinReads (2 ^ 40) 65536 list → IsSound input → Writes (about cells) ending out
+    → IsWithinReads (2 ^ 40) 65536 list → NoReadFails input → Writes (about cells) ending out
     → WritesReading (answer_or_error about (listed_cells list)) list (IsListWithinReads (2 ^ 40) 65536 list) input ending out
 list_written about list cells input ending out is short sound writes =
     reading_written _ list _ input ending out (inl short) sound (subst (λ read. Writes (answer_or_error about read) ending out) (sym is) writes)
@@ -63,13 +63,13 @@ value_refused about value e input table out is left =
 
 -- an error of the table stands in place of an answer
 table_error : (a : Answer) (first : Option TableError) (e : TableError) (file : List ℕ) (table : SourceUse) (out : SinkUse) → first ≡ Some e → (was_read : Type 0) → ((e ≡ fault.Read → ⊥) → (e ≡ fault.Memory → ⊥) → was_read)
-    → ((e ≡ fault.Read → ⊥) → IsSound table) → IsLeft out → (e ≡ fault.Read → ⊥) → (e ≡ fault.Memory → ⊥) → WritesReading (unless_faulty first a) file was_read table (Err (Table e)) out
+    → ((e ≡ fault.Read → ⊥) → NoReadFails table) → IsLeft out → (e ≡ fault.Read → ⊥) → (e ≡ fault.Memory → ⊥) → WritesReading (unless_faulty first a) file was_read table (Err (Table e)) out
 unfolding Writes
 table_error a first e file table out is was_read all sound left other memory =
     (all other memory, sound other, subst (λ f. Writes (unless_faulty f a) (Err (Table e)) out) (sym is) (refl, (nothing _ _ left.0, left.1)))
 
 table_refuses : (a : Answer) (first : Option TableError) (e : TableError) (file : List ℕ) (table : SourceUse) (out : SinkUse) → RefusesTable (ReadFails table file) first e → (was_read : Type 0)
-    → ((e ≡ fault.Read → ⊥) → (e ≡ fault.Memory → ⊥) → was_read) → ((e ≡ fault.Read → ⊥) → IsSound table) → IsLeft out → WritesReading (unless_faulty first a) file was_read table (Err (table_refusal e)) out
+    → ((e ≡ fault.Read → ⊥) → (e ≡ fault.Memory → ⊥) → was_read) → ((e ≡ fault.Read → ⊥) → NoReadFails table) → IsLeft out → WritesReading (unless_faulty first a) file was_read table (Err (table_refusal e)) out
 table_refuses a first fault.Read file table out fails was_read all sound left = (fails, left)
 table_refuses a first fault.Memory file table out any was_read all sound left = (sound (λ never. cc never), left)
 table_refuses a first (fault.Form row) file table out is was_read all sound left = table_error a first _ file table out is was_read all sound left (λ never. cc never) (λ never. cc never)
@@ -83,14 +83,14 @@ table_refuses a first (fault.Corner b d) file table out is was_read all sound le
 -- the table is refused
 pub table_refused_so : {A : Type 0} (about : A → Links → Answer) (read : Result A H3Error) (value : A) (e : TableError) (input table : SourceUse) (out : SinkUse) → Ok value ≡ read
     → (file : List ℕ) × HasLeft table.left file × RefusesTable (ReadFails table file) (table_fault (records_of file)) e × ((e ≡ fault.Read → ⊥) → (e ≡ fault.Memory → ⊥) → IsWithinReads (2 ^ 40) 4096 file)
-    → ((e ≡ fault.Read → ⊥) → IsSound table) → IsLeft out
+    → ((e ≡ fault.Read → ⊥) → NoReadFails table) → IsLeft out
     → Ends (with_table about read) input table (Err (table_refusal e)) out
 table_refused_so about read value e input table out is (file, held, refuses, all) sound left =
     subst (λ c. Ends (with_table about c) input table (Err (table_refusal e)) out) is (file, held, table_refuses _ _ e file table out refuses _ all sound left)
 
 -- the table is read, and the answer about its links is written
 pub table_answered : {A : Type 0} (about : A → Links → Answer) (read : Result A H3Error) (value : A) (links : Links) (ending : Result (Unit {0}) Refusal) (input table : SourceUse) (out : SinkUse) → Ok value ≡ read
-    → (file : List ℕ) → HasLeft table.left file → IsWithinReads (2 ^ 40) 4096 file → table_fault (records_of file) ≡ None → links ≡ links_of (records_of file) → IsSound table → Writes (about value links) ending out
+    → (file : List ℕ) → HasLeft table.left file → IsWithinReads (2 ^ 40) 4096 file → table_fault (records_of file) ≡ None → links ≡ links_of (records_of file) → NoReadFails table → Writes (about value links) ending out
     → Ends (with_table about read) input table ending out
 table_answered about read value links ending input table out is file held short none same sound writes =
     let about_file : Writes (about_table (about value) file) ending out =
@@ -135,14 +135,14 @@ answers : (r : Request) (ending : Result (Unit {0}) Refusal) (status : ℕ) (s :
 answers (plain a) ending status s writes reports =
     let (list, held) = some_left s.input.left in
     let (file, kept) = some_left s.table.left in
-    record { list = list; file = file; list_told = held; file_told = kept; given = λ none. inl (gives_written a ending status s writes none.answer_written reports) }
+    record { list = list; file = file; list_is = held; file_is = kept; given = λ none. inl (gives_written a ending status s writes none.answer_written reports) }
 answers (of_list about) ending status s (list, held, writes) reports =
     let (file, kept) = some_left s.table.left in
     record {
       list = list;
       file = file;
-      list_told = held;
-      file_told = kept;
+      list_is = held;
+      file_is = kept;
       given = λ none. with_memory true refl (gives_reading _ list _ s.input ending status s writes (none.list_read refl) none.answer_written reports);
     }
 answers (of_table about) ending status s (file, held, writes) reports =
@@ -150,8 +150,8 @@ answers (of_table about) ending status s (file, held, writes) reports =
     record {
       list = list;
       file = file;
-      list_told = kept;
-      file_told = held;
+      list_is = kept;
+      file_is = held;
       given = λ none. with_memory true refl (gives_reading _ file _ s.table ending status s writes (none.table_read refl) none.answer_written reports);
     }
 

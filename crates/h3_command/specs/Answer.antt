@@ -8,9 +8,9 @@ use Rattle.h3_lattice.specs.Table.{links_of, table_fault}
 use Rattle.h3_lattice.specs.declared.error.TableError.{TableError}
 use Rattle.h3_lines.specs.Answer.{Answer, answer_or_error, cell_line, cell_lines, edge_line, edge_lines, number_line, printed, refused, ring_line, table_refused, truth_line, walked, written}
 use Rattle.h3_lines.specs.List.{listed_cells}
-use Rattle.h3_command.specs.Edges.{are_neighbor_cells, cell_pair_of, cells_to_directed_edge, edge_of, get_directed_edge_destination, get_directed_edge_origin, is_valid_directed_edge, origin_to_directed_edges}
+use Rattle.h3_command.specs.Edges.{are_neighbor_cells, cell_pair_from, cells_to_directed_edge, edge_from, get_directed_edge_destination, get_directed_edge_origin, is_valid_directed_edge, origin_to_directed_edges}
 use Rattle.h3_command.specs.Hierarchy.{cell_to_center_child, cell_to_child_pos, cell_to_children, cell_to_children_size, cell_to_parent, child_pos_to_cell}
-use Rattle.h3_command.specs.Inspection.{cell_of, get_base_cell_number, get_resolution, is_pentagon, is_res_class_iii, is_valid_cell}
+use Rattle.h3_command.specs.Inspection.{cell_from, get_base_cell_number, get_resolution, is_pentagon, is_res_class_iii, is_valid_cell}
 use Rattle.h3_command.specs.Resolutions.{get_num_cells, get_pentagons, get_res0_cells}
 use Rattle.h3_command.specs.Sets.{compact_cells, uncompact_cells}
 use Rattle.h3_command.specs.Walks.{grid_disk_distances_unsafe, grid_disk_unsafe, grid_ring_unsafe}
@@ -46,14 +46,14 @@ request (CellToChildPos cell res) = plain (printed number_line (cell_to_child_po
 request (ChildPosToCell position cell res) = plain (printed cell_line (child_pos_to_cell position cell res))
 request CompactCells = of_list (λ cells. printed cell_lines (compact_cells cells))
 request (UncompactCells res) = of_list (λ cells. printed cell_lines (uncompact_cells res cells))
-request (GridDiskUnsafe cell k) = with_table (λ c link. answer_or_error (walked cell_line) (grid_disk_unsafe link c k)) (cell_of cell)
-request (GridDiskDistancesUnsafe cell k) = with_table (λ c link. answer_or_error (walked ring_line) (grid_disk_distances_unsafe link c k)) (cell_of cell)
-request (GridRingUnsafe cell k) = with_table (λ c link. answer_or_error (walked cell_line) (grid_ring_unsafe link c k)) (cell_of cell)
-request (AreNeighborCells cell to) = with_table (λ cells link. printed truth_line (are_neighbor_cells link cells)) (cell_pair_of cell to)
-request (CellsToDirectedEdge cell to) = with_table (λ cells link. printed edge_line (cells_to_directed_edge link cells)) (cell_pair_of cell to)
+request (GridDiskUnsafe cell k) = with_table (λ c link. answer_or_error (walked cell_line) (grid_disk_unsafe link c k)) (cell_from cell)
+request (GridDiskDistancesUnsafe cell k) = with_table (λ c link. answer_or_error (walked ring_line) (grid_disk_distances_unsafe link c k)) (cell_from cell)
+request (GridRingUnsafe cell k) = with_table (λ c link. answer_or_error (walked cell_line) (grid_ring_unsafe link c k)) (cell_from cell)
+request (AreNeighborCells cell to) = with_table (λ cells link. printed truth_line (are_neighbor_cells link cells)) (cell_pair_from cell to)
+request (CellsToDirectedEdge cell to) = with_table (λ cells link. printed edge_line (cells_to_directed_edge link cells)) (cell_pair_from cell to)
 request (IsValidDirectedEdge edge) = plain (printed truth_line (is_valid_directed_edge edge))
 request (GetDirectedEdgeOrigin edge) = plain (printed cell_line (get_directed_edge_origin edge))
-request (GetDirectedEdgeDestination edge) = with_table (λ e link. printed cell_line (get_directed_edge_destination link e)) (edge_of edge)
+request (GetDirectedEdgeDestination edge) = with_table (λ e link. printed cell_line (get_directed_edge_destination link e)) (edge_from edge)
 request (OriginToDirectedEdges cell) = plain (printed edge_lines (origin_to_directed_edges cell))
 
 -- the list of cells is read from standard input

@@ -10,14 +10,14 @@ use Rattle.h3_index.specs.declared.error.H3Error.TheVariants.{DirEdgeInvalid, Fa
 use Rattle.h3_lattice.specs.Links.{Links}
 use Rattle.h3_grid.specs.DirectedEdges.{edge_between, edge_destination, edges_from}
 use Rattle.h3_grid.specs.Neighbors.{are_neighbors}
-use Rattle.h3_command.specs.Inspection.{cell_of, for_cell}
+use Rattle.h3_command.specs.Inspection.{cell_from, for_cell}
 
 -- ---- the values of words
 
 -- the edge with this index: an error where there is no index, and then where no edge has it
-abbrev pub edge_of : Option ℕ → Result DirectedEdge H3Error
-edge_of None = Err Failed
-edge_of (Some index) = ok_or (edge_in index) DirEdgeInvalid
+abbrev pub edge_from : Option ℕ → Result DirectedEdge H3Error
+edge_from None = Err Failed
+edge_from (Some index) = ok_or (edge_in index) DirEdgeInvalid
 
 -- what is returned for an edge, or the error in place of the edge
 abbrev pub for_edge : {A : Type 0} → (DirectedEdge → Result A H3Error) → Result DirectedEdge H3Error → Result A H3Error
@@ -25,8 +25,8 @@ for_edge f (Ok edge) = f edge
 for_edge f (Err e) = Err e
 
 -- the cells with these two indexes: the error of the first, and then that of the second
-abbrev pub cell_pair_of : Option ℕ → Option ℕ → Result (Address × Address) H3Error
-cell_pair_of cell to = for_cell (λ a. for_cell (λ b. Ok (a, b)) (cell_of to)) (cell_of cell)
+abbrev pub cell_pair_from : Option ℕ → Option ℕ → Result (Address × Address) H3Error
+cell_pair_from cell to = for_cell (λ a. for_cell (λ b. Ok (a, b)) (cell_from to)) (cell_from cell)
 
 -- ---- over the links of a table
 
@@ -50,8 +50,8 @@ is_valid_directed_edge (Some index) = Ok (is_some (edge_in index))
 
 -- the cell that the edge leaves
 abbrev pub get_directed_edge_origin : Option ℕ → Result Address H3Error
-get_directed_edge_origin index = for_edge (λ e. Ok e.origin) (edge_of index)
+get_directed_edge_origin index = for_edge (λ e. Ok e.origin) (edge_from index)
 
 -- the edges that leave the cell, in ascending direction
 abbrev pub origin_to_directed_edges : Option ℕ → Result (List DirectedEdge) H3Error
-origin_to_directed_edges index = for_cell (λ c. Ok (edges_from c)) (cell_of index)
+origin_to_directed_edges index = for_cell (λ c. Ok (edges_from c)) (cell_from index)

@@ -6,9 +6,9 @@ use Rattle.h3_index.specs.declared.error.H3Error.{H3Error}
 use Rattle.h3_index.specs.declared.error.H3Error.TheVariants.{CellInvalid, Failed}
 
 -- the cell with this index: an error where there is no index, and then where no cell has it
-abbrev pub cell_of : Option ℕ → Result Address H3Error
-cell_of None = Err Failed
-cell_of (Some index) = ok_or (cell_in index) CellInvalid
+abbrev pub cell_from : Option ℕ → Result Address H3Error
+cell_from None = Err Failed
+cell_from (Some index) = ok_or (cell_in index) CellInvalid
 
 -- what is returned for a cell, or the error in place of the cell
 abbrev pub for_cell : {A : Type 0} → (Address → Result A H3Error) → Result Address H3Error → Result A H3Error
@@ -20,13 +20,13 @@ is_valid_cell None = Err Failed
 is_valid_cell (Some index) = Ok (is_some (cell_in index))
 
 abbrev pub get_resolution : Option ℕ → Result ℕ H3Error
-get_resolution index = for_cell (λ c. Ok (resolution c)) (cell_of index)
+get_resolution index = for_cell (λ c. Ok (resolution c)) (cell_from index)
 
 abbrev pub get_base_cell_number : Option ℕ → Result ℕ H3Error
-get_base_cell_number index = for_cell (λ c. Ok c.base) (cell_of index)
+get_base_cell_number index = for_cell (λ c. Ok c.base) (cell_from index)
 
 abbrev pub is_pentagon : Option ℕ → Result Bool H3Error
-is_pentagon index = for_cell (λ c. Ok (is_pentagon_cell c)) (cell_of index)
+is_pentagon index = for_cell (λ c. Ok (is_pentagon_cell c)) (cell_from index)
 
 abbrev pub is_res_class_iii : Option ℕ → Result Bool H3Error
-is_res_class_iii index = for_cell (λ c. Ok (is_class_iii c)) (cell_of index)
+is_res_class_iii index = for_cell (λ c. Ok (is_class_iii c)) (cell_from index)

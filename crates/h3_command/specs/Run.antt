@@ -32,8 +32,8 @@ pub record Streams : Type 1 where
   pub err : SinkUse
 
 -- no call of the source failed
-abbrev pub IsSound : SourceUse → Type 0
-IsSound source = source.has_failed ≡ source.had_failed
+abbrev pub NoReadFails : SourceUse → Type 0
+NoReadFails source = source.has_failed ≡ source.had_failed
 
 -- a call of the source failed, or there are at least 2^40 bytes
 abbrev pub ReadFails : SourceUse → List ℕ → Type 0
@@ -44,9 +44,9 @@ ReadFails source bytes = (source.has_failed ≡ true) ⊎ (2 ^ 40 ≤ length byt
 -- The answer to these bytes of a source is written, no read fails, and this holds of the bytes. Or there is no memory,
 -- or a read fails, and then nothing is written.
 abbrev pub WritesReading : Answer → List ℕ → Type 0 → SourceUse → Result (Unit {0}) Refusal → SinkUse → Type 0
-WritesReading a bytes was_read source (Err Memory) out = IsSound source × IsLeft out
+WritesReading a bytes was_read source (Err Memory) out = NoReadFails source × IsLeft out
 WritesReading a bytes was_read source (Err Read) out = ReadFails source bytes × IsLeft out
-WritesReading a bytes was_read source ending out = was_read × IsSound source × Writes a ending out
+WritesReading a bytes was_read source ending out = was_read × NoReadFails source × Writes a ending out
 
 -- there are bytes of the list, those left in the source where these are known, and the answer about the cells in them
 -- is written, where 2^40 reads find the end of the list or a faulty line
@@ -83,8 +83,8 @@ pub record Gives (a : Answer) (status : ℕ) (s : Streams) : Type 0 where
 pub record Answers (r : Request) (status : ℕ) (s : Streams) : Type 0 where
   pub list : List ℕ
   pub file : List ℕ
-  pub list_told : HasLeft s.input.left list
-  pub file_told : HasLeft s.table.left file
+  pub list_is : HasLeft s.input.left list
+  pub file_is : HasLeft s.table.left file
   pub given : NothingFails r list file s
       → Gives (answer_to r list file) status s ⊎ (IsTrue (takes_memory r) × Gives out_of_memory status s)
 

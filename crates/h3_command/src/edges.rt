@@ -9,7 +9,7 @@ ghost use Rattle.std.specs.Prelude.{◌≡◌};
 ghost use Rattle.std.specs.Iterator.{YieldsFirst};
 ghost use Rattle.h3_grid.specs.Edges.{edges_left};
 ghost use Rattle.h3_command.specs.Answer.{request, with_table};
-ghost use Rattle.h3_command.specs.Edges.{cell_pair_of, edge_of, get_directed_edge_origin, is_valid_directed_edge, origin_to_directed_edges};
+ghost use Rattle.h3_command.specs.Edges.{cell_pair_from, edge_from, get_directed_edge_origin, is_valid_directed_edge, origin_to_directed_edges};
 ghost use Rattle.h3_command.specs.Items.{Lists};
 ghost use Rattle.h3_command.specs.TableQuery.{table_answer};
 ghost use Rattle.h3_command.specs.declared.command.Command.TheVariants.{AreNeighborCells, CellsToDirectedEdge, GetDirectedEdgeDestination};
@@ -21,14 +21,14 @@ use h3_index::{Cell, Edge, H3Error};
 
 /// The edge with an index.
 fn edge_from(index: Option<u64>) -> Result<Edge, H3Error>
-    ensures { result ≡ edge_of index }
+    ensures { result ≡ edge_from index }
 {
     Edge::new(index.ok_or(H3Error::Failed)?)
 }
 
 /// The cells with two indexes.
 fn cell_pair_from(cell: Option<u64>, to: Option<u64>) -> Result<(Cell, Cell), H3Error>
-    ensures { result ≡ cell_pair_of cell to }
+    ensures { result ≡ cell_pair_from cell to }
 {
     let cell = cell_from(cell)?;
     let to = cell_from(to)?;

@@ -4,13 +4,13 @@
 //! index.
 
 ghost use Rattle.std.specs.Prelude.{◌≡◌};
-ghost use Rattle.h3_command.specs.Inspection.{cell_of, get_base_cell_number, get_resolution, is_pentagon, is_res_class_iii, is_valid_cell};
+ghost use Rattle.h3_command.specs.Inspection.{cell_from, get_base_cell_number, get_resolution, is_pentagon, is_res_class_iii, is_valid_cell};
 
 use h3_index::{Cell, H3Error};
 
 /// The cell with an index.
 pub fn cell_from(index: Option<u64>) -> Result<Cell, H3Error>
-    ensures { result ≡ cell_of index }
+    ensures { result ≡ cell_from index }
 {
     Cell::new(index.ok_or(H3Error::Failed)?)
 }

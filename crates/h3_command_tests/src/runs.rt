@@ -56,7 +56,7 @@ const HEXAGON: Option<u64> = Some(0x85283473fffffff);
 const PENTAGON: Option<u64> = Some(0x8009fffffffffff);
 
 #[test]
-fn tells_valid_cells(rt: HostRuntime) {
+fn valid_cells_are_found(rt: HostRuntime) {
     let answers = [
         ("85283473fffffff", "true\n"),
         ("0X85283473FFFFFFF", "true\n"),
@@ -74,7 +74,7 @@ fn tells_valid_cells(rt: HostRuntime) {
 }
 
 #[test]
-fn refuses_words_that_spell_no_index(rt: HostRuntime) {
+fn refuses_words_without_an_index(rt: HostRuntime) {
     for word in ["xyz", "00085283473fffffff", ""] {
         let cell = index_of(word);
         assert_refused(&rt, Command::IsValidCell { cell }, "error 1: E_FAILED\n");
@@ -99,7 +99,7 @@ fn refuses_indexes_that_are_no_cells(rt: HostRuntime) {
 }
 
 #[test]
-fn tells_of_cells(rt: HostRuntime) {
+fn fields_of_cells(rt: HostRuntime) {
     let cell = HEXAGON;
     assert_written(&rt, Command::GetResolution { cell }, "5\n");
     assert_written(&rt, Command::GetBaseCellNumber { cell }, "20\n");
@@ -199,7 +199,7 @@ fn counts_descendants(rt: HostRuntime) {
 }
 
 #[test]
-fn tells_positions(rt: HostRuntime) {
+fn positions_of_cells(rt: HostRuntime) {
     let answers = [
         ("85283473fffffff", 0, "2279\n"),
         ("85283473fffffff", 5, "0\n"),
@@ -398,7 +398,7 @@ fn refuses_lists_to_compact(rt: HostRuntime) {
 }
 
 #[test]
-fn a_read_fault_is_told(rt: HostRuntime) {
+fn a_read_fault_is_reported(rt: HostRuntime) {
     let mut input = FaultySource::new(b"85283473fffffff\n", 4, Faults::From(3));
     let mut table = FaultySource::new(b"", 1, Faults::From(0));
     let mut out: FaultySink<64> = FaultySink::new(64, Faults::From(100));

@@ -11,7 +11,7 @@ use Rattle.h3_lattice.specs.Expansion.{place, scaled}
 use Rattle.h3_lattice.specs.Laws.{OppositesAreThreeTurns, SumsCloseTriangles, SumsReverse, Triangle, all_inside, z_across, x_across, y_across, all_across}
 use Rattle.h3_lattice.specs.Links.{IsSound, Links}
 use Rattle.h3_lattice.specs.Moved.{IsSum}
-use Rattle.h3_grid.specs.Laws.{IsState, OverSoundLinks, StepsCloseTriangles, StepsMove, StepsPart, StepsReachStates, StepsReverse}
+use Rattle.h3_grid.specs.Laws.{IsState, OverSoundLinks, StepsCloseTriangles, StepsMove, StepsDiffer, StepsReachStates, StepsReverse}
 use Rattle.h3_grid.specs.Search.{step_of}
 use Rattle.h3_grid.specs.Steps.{Leads, State, crossed, led_to, state}
 use Rattle.h3_grid.proofs.DiskLaws.{unit_moves}
@@ -180,7 +180,7 @@ module _ (w : Lattice) (link : Links) (sound : IsSound link) (x : State) (st : I
       unit_moves (place x.cell.digits) (turned x.rotation d) (sym (ap place digits) ∙ sum_inside x.cell.digits es (turned x.rotation d) sum)
   moved d y (goes_over u es sum h) same = sound.away x.cell.base u st.hexagon (ap (λ (a : Address). a.base) same)
 
-pub steps_part : Lattice → OverSoundLinks StepsPart
+pub steps_part : Lattice → OverSoundLinks StepsDiffer
 steps_part w link sound x y z d e st p q same =
     parted w link sound x st d e y z (way w link x y d st p) (way w link x z e st q) same
 

@@ -4,7 +4,7 @@ use Rattle.std.specs.List.{find}
 use Rattle.std.proofs.lemmas.List.{length-map}
 use Rattle.std.proofs.lemmas.Bool.Decides.{nat_tests}
 use Rattle.h3_index.specs.Cell.{Address, IsCell, is_pentagon_base, number_of, resolution}
-use Rattle.h3_index.specs.Laws.{NumbersTellCells}
+use Rattle.h3_index.specs.Laws.{NumbersAreUnique}
 use Rattle.h3_index.specs.declared.error.H3Error.{H3Error}
 use Rattle.h3_index.specs.declared.error.H3Error.TheVariants.{Pentagon, ResMismatch}
 use Rattle.h3_lattice.specs.declared.direction.Direction.{Direction}
@@ -13,8 +13,8 @@ use Rattle.h3_lattice.specs.Digits.{cell_of}
 use Rattle.h3_lattice.specs.Direction.{digit_turned, directions, opposite, turned}
 use Rattle.h3_lattice.specs.Links.{IsSound, Links}
 use Rattle.h3_lattice.specs.Moved.{IsSum}
-use Rattle.h3_grid.specs.Laws.{IsState, OverSoundLinks, StepsMove, StepsPart}
-use Rattle.h3_grid.specs.Neighbors.{AreNeighbors, BothOrdersAgree, DirectionsAreFound, DirectionsPart, NeighborsAreFound, NeighborsAreMutual, NeighborsDiffer, are_neighbors, cell_reached, direction_to, is_same, is_some_same, neighbor, neighbor_refusal, pair_refusal}
+use Rattle.h3_grid.specs.Laws.{IsState, OverSoundLinks, StepsMove, StepsDiffer}
+use Rattle.h3_grid.specs.Neighbors.{AreNeighbors, BothOrdersAgree, DirectionsAreFound, DirectionsDiffer, NeighborsAreFound, NeighborsAreMutual, NeighborsDiffer, are_neighbors, cell_reached, direction_to, is_same, is_some_same, neighbor, neighbor_refusal, pair_refusal}
 use Rattle.h3_grid.specs.Search.{step_of}
 use Rattle.h3_grid.specs.Steps.{Leads, State, led_to, state}
 use Rattle.h3_grid.proofs.BackLaws.{crossed_to}
@@ -237,8 +237,8 @@ module _ (w : StepLawsHold) (sums : SumLaws) (link : Links) (sound : IsSound lin
 
   -- ---- the direction to a neighbour
 
-  module _ (by_number : NumbersTellCells) (part : OverSoundLinks StepsPart) where
-    pub directions_part : DirectionsPart link
+  module _ (by_number : NumbersAreUnique) (part : OverSoundLinks StepsDiffer) where
+    pub directions_part : DirectionsDiffer link
     directions_part x y d e v p q =
         let s = step-neighbor link x y d p in
         let t = step-neighbor link x y e q in

@@ -34,8 +34,8 @@ StepsReverse link =
     (x y : State) (d : Direction) → IsState x → step_of link x d ≡ Some y → step_of link y (opposite d) ≡ Some x
 
 -- steps in different directions lead to different cells, and none stays
-abbrev pub StepsPart : Links → Type 0
-StepsPart link =
+abbrev pub StepsDiffer : Links → Type 0
+StepsDiffer link =
     (x y z : State) (d e : Direction) → IsState x → step_of link x d ≡ Some y → step_of link x e ≡ Some z → y.cell ≡ z.cell → d ≡ e
 
 abbrev pub StepsMove : Links → Type 0

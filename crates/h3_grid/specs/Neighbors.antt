@@ -79,8 +79,8 @@ NeighborsAreFound link =
     (x y : Address) → IsCell x → IsCell y → (are_neighbors link x y ≡ Ok true) ↔ AreNeighbors link x y
 
 -- no two directions lead to one cell
-abbrev pub DirectionsPart : Links → Type 0
-DirectionsPart link =
+abbrev pub DirectionsDiffer : Links → Type 0
+DirectionsDiffer link =
     (x y : Address) (d e : Direction) → IsCell x → neighbor link x d ≡ Some y → neighbor link x e ≡ Some y → d ≡ e
 
 -- no cell is its own neighbour

@@ -5,7 +5,7 @@ ghost use Rattle.h3_index.specs.Cell.{Address};
 ghost use Rattle.h3_lattice.specs.BaseTable.{link_of};
 ghost use Rattle.h3_grid.specs.DirectedEdges.{IsDestination, IsEdgeBetween, ListsEdges, edge_between, edge_destination, edge_refusal, edges_from};
 ghost use Rattle.h3_grid.specs.Edges.{edges_left};
-ghost use Rattle.h3_grid.specs.Neighbors.{AreNeighbors, DirectionsAreFound, DirectionsPart};
+ghost use Rattle.h3_grid.specs.Neighbors.{AreNeighbors, DirectionsAreFound, DirectionsDiffer};
 
 use crate::iter::Edges;
 use crate::neighbors::{direction_to, neighbor, neighbor_is_lawful, pair_refusal};
@@ -27,7 +27,7 @@ pub fn edge_between(table: &BaseTable, a: Cell, b: Cell) -> Result<Edge, H3Error
         (λ e. result ≡ Err e) }
 
     // Laws of neighbours over the table: there is no second direction, and the function of the definitions finds it.
-    ensures part { DirectionsPart (link_of table.now) }
+    ensures part { DirectionsDiffer (link_of table.now) }
     ensures found { DirectionsAreFound (link_of table.now) }
 {
     neighbor_is_lawful(table);

@@ -3,11 +3,11 @@
 
 ghost use Rattle.h3_grid.specs.Chart.{ChartsLeadAlongPaths, DisksAreCharts, OriginsAreAlone, RingsAgree, StatesAreWritten};
 ghost use Rattle.h3_grid.specs.Distance.{RingsAreDistances, SpiralsHoldSums};
-ghost use Rattle.h3_grid.specs.Laws.{DisksHaveSizes, DisksInsideAreCharted, MovesFollowTheSpiral, OverSoundLinks, SpiralsAreSimple, SpiralsHaveSizes, StepsCloseTriangles, StepsMove, StepsPart, StepsReachStates, StepsReverse};
-ghost use Rattle.h3_grid.specs.Neighbors.{BothOrdersAgree, DirectionsAreFound, DirectionsPart, NeighborsAreFound, NeighborsAreMutual, NeighborsDiffer};
+ghost use Rattle.h3_grid.specs.Laws.{DisksHaveSizes, DisksInsideAreCharted, MovesFollowTheSpiral, OverSoundLinks, SpiralsAreSimple, SpiralsHaveSizes, StepsCloseTriangles, StepsMove, StepsDiffer, StepsReachStates, StepsReverse};
+ghost use Rattle.h3_grid.specs.Neighbors.{BothOrdersAgree, DirectionsAreFound, DirectionsDiffer, NeighborsAreFound, NeighborsAreMutual, NeighborsDiffer};
 ghost use Rattle.h3_grid.specs.Search.{StepsAreFound};
 
-use h3_index::laws::numbers_tell_cells;
+use h3_index::laws::numbers_are_unique;
 use h3_lattice::laws::{sums_are_lawful, turns_add_up};
 
 /// A state has exactly one step in each direction, that which the function `step_of` of the definitions gives.
@@ -36,7 +36,7 @@ pub fn disks_are_spirals()
 pub fn steps_are_lawful()
     ensures states { OverSoundLinks StepsReachStates }
     ensures reverse { OverSoundLinks StepsReverse }
-    ensures part { OverSoundLinks StepsPart }
+    ensures part { OverSoundLinks StepsDiffer }
     ensures move_on { OverSoundLinks StepsMove }
     ensures triangles { OverSoundLinks StepsCloseTriangles }
 {
@@ -67,12 +67,12 @@ pub fn disks_are_charts()
 pub fn neighbors_are_lawful()
     ensures found { OverSoundLinks DirectionsAreFound }
     ensures related { OverSoundLinks NeighborsAreFound }
-    ensures part { OverSoundLinks DirectionsPart }
+    ensures part { OverSoundLinks DirectionsDiffer }
     ensures differ { OverSoundLinks NeighborsDiffer }
     ensures mutual { OverSoundLinks NeighborsAreMutual }
     ensures both { OverSoundLinks BothOrdersAgree }
 {
-    numbers_tell_cells();
+    numbers_are_unique();
     steps_are_lawful();
     turns_add_up();
     sums_are_lawful();

@@ -4,7 +4,7 @@ ghost use Rattle.std.specs.Prelude.{◌≡◌, ◌↔◌, ◌&&◌, not, is_some
 ghost use Rattle.std.specs.Result.{result_err};
 ghost use Rattle.h3_index.specs.Cell.{IsCell};
 ghost use Rattle.h3_lattice.specs.BaseTable.{link_of};
-ghost use Rattle.h3_grid.specs.Neighbors.{AreNeighbors, BothOrdersAgree, DirectionsAreFound, DirectionsPart, NeighborsAreFound, NeighborsAreMutual, are_neighbors, direction_to, is_same, is_some_same, neighbor, neighbor_refusal, pair_refusal};
+ghost use Rattle.h3_grid.specs.Neighbors.{AreNeighbors, BothOrdersAgree, DirectionsAreFound, DirectionsDiffer, NeighborsAreFound, NeighborsAreMutual, are_neighbors, direction_to, is_same, is_some_same, neighbor, neighbor_refusal, pair_refusal};
 
 use crate::laws::neighbors_are_lawful;
 use crate::steps::step;
@@ -15,7 +15,7 @@ use h3_lattice::{BaseTable, DIRECTIONS, Direction};
 pub(crate) fn neighbor_is_lawful(table: &BaseTable)
     ensures found { DirectionsAreFound (link_of table.now) }
     ensures related { NeighborsAreFound (link_of table.now) }
-    ensures part { DirectionsPart (link_of table.now) }
+    ensures part { DirectionsDiffer (link_of table.now) }
     ensures mutual { NeighborsAreMutual (link_of table.now) }
     ensures both { BothOrdersAgree (link_of table.now) }
 {

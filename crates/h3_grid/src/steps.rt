@@ -3,7 +3,7 @@
 ghost use Rattle.std.specs.Prelude.{◌≡◌, ◌<◌, None, Some, IfOk, IfErr};
 ghost use Rattle.h3_index.specs.Cell.{IsCell};
 ghost use Rattle.h3_lattice.specs.BaseTable.{link_of};
-ghost use Rattle.h3_grid.specs.Laws.{StepsCloseTriangles, StepsMove, StepsPart, StepsReverse};
+ghost use Rattle.h3_grid.specs.Laws.{StepsCloseTriangles, StepsMove, StepsDiffer, StepsReverse};
 ghost use Rattle.h3_grid.specs.Search.{step_of, StepsAreFound};
 ghost use Rattle.h3_grid.specs.Steps.{state, IsStep};
 
@@ -14,7 +14,7 @@ use h3_lattice::{BaseTable, Direction, Moved, add, turn};
 /// Laws of steps over the links of a table. It does nothing.
 fn step_is_lawful(table: &BaseTable)
     ensures reverse { StepsReverse (link_of table.now) }
-    ensures part { StepsPart (link_of table.now) }
+    ensures part { StepsDiffer (link_of table.now) }
     ensures move_on { StepsMove (link_of table.now) }
     ensures triangles { StepsCloseTriangles (link_of table.now) }
 {
@@ -51,7 +51,7 @@ pub fn step(
     // directions lead to different cells, none of them the cell itself; those in a direction and the next one lead to
     // neighbours.
     ensures reverse { StepsReverse (link_of table.now) }
-    ensures part { StepsPart (link_of table.now) }
+    ensures part { StepsDiffer (link_of table.now) }
     ensures move_on { StepsMove (link_of table.now) }
     ensures triangles { StepsCloseTriangles (link_of table.now) }
 {

@@ -4,9 +4,9 @@ use Rattle.std.proofs.lemmas.List.{append-nil}
 use Rattle.std.proofs.Math.Nat.{pow-suc}
 use Rattle.std.proofs.Math.ListN.{length-replicate}
 use Rattle.h3_index.specs.Laws.{IsChain}
-use Rattle.h3_index.specs.Paths.{paths, carry, next_path, Links}
+use Rattle.h3_index.specs.Paths.{paths, next_below, next_path, AreLinked}
 
-pub links_append : {A : Type 0} (f : A → Option A) (x : A) (xs : List A) (y : A) (ys : List A) (z : Option A) → Links f x xs (Some y) → Links f y ys z → Links f x (xs ++ y ∷ ys) z
+pub links_append : {A : Type 0} (f : A → Option A) (x : A) (xs : List A) (y : A) (ys : List A) (z : Option A) → AreLinked f x xs (Some y) → AreLinked f y ys z → AreLinked f x (xs ++ y ∷ ys) z
 links_append f x [] y ys z h k = (h, k)
 links_append f x (w ∷ xs) y ys z h k = (h.0, links_append f w xs y ys z h.1 k)
 
@@ -15,7 +15,7 @@ AllLong n [] = Unit {0}
 AllLong n (x ∷ xs) = (length x ≡ n) × AllLong n xs
 
 -- the digits below one digit
-block : (p : Bool) (d n : ℕ) (x : List ℕ) (xs : List (List ℕ)) → length x ≡ n → AllLong n xs → Links (next_path (p && d == 0)) x xs None → Links (next_path p) (d ∷ x) (map (λ ds. d ∷ ds) xs) (carry p d n None)
+block : (p : Bool) (d n : ℕ) (x : List ℕ) (xs : List (List ℕ)) → length x ≡ n → AllLong n xs → AreLinked (next_path (p && d == 0)) x xs None → AreLinked (next_path p) (d ∷ x) (map (λ ds. d ∷ ds) xs) (next_below p d n None)
 block p d n x [] e all h = rw (e, h) refl
 block p d n x (y ∷ ys) e all h = (rw h.0 refl, block p d n y ys all.0 all.1 h.1)
 
@@ -32,7 +32,7 @@ pub record IsLongChain (p : Bool) (n : ℕ) : Type 0 where
   pub others : List (List ℕ)
   pub is : paths p n ≡ replicate n 0 ∷ others
   pub long : AllLong n others
-  pub links : Links (next_path p) (replicate n 0) others None
+  pub links : AreLinked (next_path p) (replicate n 0) others None
 
 -- blocks of digits, one after another
 abbrev blocks : (p : Bool) (n : ℕ) → List (List ℕ) → List ℕ → List (List ℕ)

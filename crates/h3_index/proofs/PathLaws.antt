@@ -7,7 +7,7 @@ use Rattle.std.proofs.lemmas.List.Elements.{Contains-append_left, Contains-appen
 use Rattle.std.proofs.lemmas.Nat.{mul-le}
 use Rattle.std.proofs.Math.ListN.{length-replicate}
 use Rattle.h3_index.specs.Cell.{leading}
-use Rattle.h3_index.specs.Paths.{steps, paths, next_step, carry, next_path, Links}
+use Rattle.h3_index.specs.Paths.{steps, paths, next_step, next_below, next_path, AreLinked}
 use Rattle.h3_index.proofs.AncestorLaws.{not_zero}
 use Rattle.h3_index.proofs.ChainLaws.{chain}
 use Rattle.h3_index.proofs.DigitsLaws.{number_first, number_zeros}
@@ -125,7 +125,7 @@ carry_over p d n ds y false e all h =
     rw (is, number_first d ds, number_first (next_step p d) (replicate n 0), size, e, number_zeros n) (omega (arith, low, more, spread), omega (arith, size))
 
 -- the next digits make a larger number
-carry_rises : (p : Bool) (d n : ℕ) (ds : List ℕ) (r : Option (List ℕ)) (y : List ℕ) → length ds ≡ n → AllBelowBase 8 ds → carry p d n r ≡ Some y → ((es : List ℕ) → r ≡ Some es → (number_from_digits 8 ds < number_from_digits 8 es) × (length es ≡ n)) → (number_from_digits 8 (d ∷ ds) < number_from_digits 8 y) × (length y ≡ suc n)
+carry_rises : (p : Bool) (d n : ℕ) (ds : List ℕ) (r : Option (List ℕ)) (y : List ℕ) → length ds ≡ n → AllBelowBase 8 ds → next_below p d n r ≡ Some y → ((es : List ℕ) → r ≡ Some es → (number_from_digits 8 ds < number_from_digits 8 es) × (length es ≡ n)) → (number_from_digits 8 (d ∷ ds) < number_from_digits 8 y) × (length y ≡ suc n)
 carry_rises p d n ds (Some es) y e all h ih =
     let is : y ≡ d ∷ es = cc in
     let i = ih es refl in
@@ -152,7 +152,7 @@ all_cons : {A : Type 0} (P : A → Type 0) (x : A) (xs : List A) → P x → All
 all_cons P x xs h k zero d lt = h
 all_cons P x xs h k (suc i) d lt = k i d (omega (arith, lt))
 
-rises : (p : Bool) (x : List ℕ) (xs : List (List ℕ)) (z : Option (List ℕ)) → AllBelowBase 7 x → All (AllBelowBase 7) xs → Links (next_path p) x xs z → All (λ y. number_from_digits 8 x < number_from_digits 8 y) xs × AllPairs (λ a b. number_from_digits 8 a < number_from_digits 8 b) (x ∷ xs)
+rises : (p : Bool) (x : List ℕ) (xs : List (List ℕ)) (z : Option (List ℕ)) → AllBelowBase 7 x → All (AllBelowBase 7) xs → AreLinked (next_path p) x xs z → All (λ y. number_from_digits 8 x < number_from_digits 8 y) xs × AllPairs (λ a b. number_from_digits 8 a < number_from_digits 8 b) (x ∷ xs)
 rises p x [] z h all l = ((λ i d lt. absurd (omega (arith, lt))), (λ i j d lt lj. absurd (omega (arith, lt, lj))))
 rises p x (y ∷ ys) z h all l =
     let small : AllBelowBase 7 y = all 0 y (omega arith) in

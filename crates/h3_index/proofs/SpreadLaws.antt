@@ -178,9 +178,9 @@ character : (d : ℕ) → d < 16 → d + 0x30 + 39 * ((d + 6) / 16 % 2) ≡ digi
 character d h = eqb-true _ _ (agree_below_at (λ d. d + 0x30 + 39 * ((d + 6) / 16 % 2) == digit_char d) (λ _. true) 16 d refl h)
 
 -- what `characters` computes
-pub spelled_is : (v digits : ℕ) → digits ≡ number_from_digits 256 (last_digits 16 8 v)
+pub parsed_is : (v digits : ℕ) → digits ≡ number_from_digits 256 (last_digits 16 8 v)
     → digits + 0x3030_3030_3030_3030 + 39 * bit_and ((digits + 0x0606_0606_0606_0606) / 16) 0x0101_0101_0101_0101 ≡ number_from_digits 256 (map digit_char (last_digits 16 8 v))
-spelled_is v digits is =
+parsed_is v digits is =
     let values : digits ≡ packed 8 (λ d. d) v = is ∙ packed_digits 8 v in
     let sixes : digits + 0x0606_0606_0606_0606 ≡ packed 8 (λ d. d + 6) v = ap (λ n. n + 0x0606_0606_0606_0606) values ∙ packed_sum 8 (λ d. d) (λ d. 6) v in
     let letters : bit_and ((digits + 0x0606_0606_0606_0606) / 16) 0x0101_0101_0101_0101 ≡ packed 8 (λ d. (d + 6) / 16 % 2) v =

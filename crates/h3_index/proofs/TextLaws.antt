@@ -7,7 +7,7 @@ use Rattle.std.proofs.Math.Seq.{drop-cons}
 use Rattle.std.proofs.Math.Nat.{pow-suc, pow-zero, pow-le-pow_right}
 use Rattle.std.proofs.lemmas.Bool.Decides.{nat_tests}
 use Rattle.std.proofs.lemmas.List.{drop_all, reverse-append, reverse-reverse, take_more, take_all}
-use Rattle.h3_index.specs.Text.{is_blank, number_spelled, without_leading_blanks, without_trailing_blanks}
+use Rattle.h3_index.specs.Text.{is_blank, parsed_number, without_leading_blanks, without_trailing_blanks}
 
 -- ---- blanks
 
@@ -60,22 +60,22 @@ reading_fits digits i number value short within small r =
 pub not_empty : (n : ℕ) (test : Bool) → test ≡ (n == 0) → test ≡ false → 0 < n
 not_empty n test is negative = let other : (n == 0) ≡ false = sym is ∙ negative in grind (arith, nat_tests)
 
-spelled : (digits : List ℕ) → 0 < length digits → length digits ≤ 16 → (b : Bool) → list_all (λ d. is_digit d 16) digits ≡ b → number_spelled digits ≡ (if b then Some (digits_value 16 digits) else None)
-spelled digits some short b is =
+parsed : (digits : List ℕ) → 0 < length digits → length digits ≤ 16 → (b : Bool) → list_all (λ d. is_digit d 16) digits ≡ b → parsed_number digits ≡ (if b then Some (digits_value 16 digits) else None)
+parsed digits some short b is =
     let some_test : nat_lt 0 (length digits) ≡ true = grind (arith, nat_tests) in
     let short_test : nat_le (length digits) 16 ≡ true = grind (arith, nat_tests) in
     rw (some_test, short_test, is) refl
 
-pub reading_all : (digits : List ℕ) (i number : ℕ) → 0 < length digits → length digits ≤ 16 → length digits ≤ i → IsReading digits i number → Some number ≡ number_spelled digits
+pub reading_all : (digits : List ℕ) (i number : ℕ) → 0 < length digits → length digits ≤ 16 → length digits ≤ i → IsReading digits i number → Some number ≡ parsed_number digits
 reading_all digits i number some short all r =
     let none : drop i digits ≡ [] = drop_all i digits all in
     let test : list_all (λ d. is_digit d 16) digits ≡ true = r.same_test ∙ (rw none refl) in
     let value : digits_value 16 digits ≡ number = r.same_value ∙ (rw none refl) in
-    sym (spelled digits some short true test ∙ ap Some value)
+    sym (parsed digits some short true test ∙ ap Some value)
 
-pub reading_stops : (digits : List ℕ) (i number : ℕ) → 0 < length digits → length digits ≤ 16 → i < length digits → 16 ≤ digit_value (get_or digits i 0) → IsReading digits i number → None ≡ number_spelled digits
+pub reading_stops : (digits : List ℕ) (i number : ℕ) → 0 < length digits → length digits ≤ 16 → i < length digits → 16 ≤ digit_value (get_or digits i 0) → IsReading digits i number → None ≡ parsed_number digits
 reading_stops digits i number some short within large r =
     let cut : drop i digits ≡ get_or digits i 0 ∷ drop (i + 1) digits = rw add-one (drop-cons digits i 0 within) in
     let first : is_digit (get_or digits i 0) 16 ≡ false = grind (arith, nat_tests) in
     let test : list_all (λ d. is_digit d 16) digits ≡ false = r.same_test ∙ (rw (cut, first) refl) in
-    sym (spelled digits some short false test)
+    sym (parsed digits some short false test)

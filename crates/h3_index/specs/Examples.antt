@@ -8,7 +8,7 @@ use Rattle.h3_index.specs.Edge.{directed_edge, edge_number}
 use Rattle.h3_index.specs.EdgeNumber.{directed_edge_in, edge_in}
 use Rattle.h3_index.specs.Moves.{with_base, with_digit}
 use Rattle.h3_index.specs.Siblings.{has_raised, last_digit, raised}
-use Rattle.h3_index.specs.Text.{spelled_index, text_of}
+use Rattle.h3_index.specs.Text.{parsed_index, text_of}
 
 -- ---- cells
 
@@ -92,11 +92,11 @@ texts : map text_of (0 ∷ 0x85283473fffffff ∷ 0xffff_ffff_ffff_ffff ∷ []) �
 unfolding text_of
 texts = refl
 
-spelled : map spelled_index (codes "85283473fffffff" ∷ codes "0X85283473FFFFFFF" ∷ codes " 0x0 " ∷ codes "ffffffffffffffff" ∷ []) ≡ Some 0x85283473fffffff ∷ Some 0x85283473fffffff ∷ Some 0 ∷ Some 0xffff_ffff_ffff_ffff ∷ []
-unfolding spelled_index
-spelled = refl
+parsed : map parsed_index (codes "85283473fffffff" ∷ codes "0X85283473FFFFFFF" ∷ codes " 0x0 " ∷ codes "ffffffffffffffff" ∷ []) ≡ Some 0x85283473fffffff ∷ Some 0x85283473fffffff ∷ Some 0 ∷ Some 0xffff_ffff_ffff_ffff ∷ []
+unfolding parsed_index
+parsed = refl
 
 -- no digits, a letter that is no digit, a second prefix, a blank within, 17 and 18 digits
-not_spelled : map spelled_index (codes "" ∷ codes "0x" ∷ codes "xyz" ∷ codes "0x0x1" ∷ codes "1 2" ∷ codes "00000000000000000" ∷ codes "00085283473fffffff" ∷ []) ≡ None ∷ None ∷ None ∷ None ∷ None ∷ None ∷ None ∷ []
-unfolding spelled_index
-not_spelled = refl
+not_parsed : map parsed_index (codes "" ∷ codes "0x" ∷ codes "xyz" ∷ codes "0x0x1" ∷ codes "1 2" ∷ codes "00000000000000000" ∷ codes "00085283473fffffff" ∷ []) ≡ None ∷ None ∷ None ∷ None ∷ None ∷ None ∷ None ∷ []
+unfolding parsed_index
+not_parsed = refl

@@ -5,11 +5,11 @@ use Rattle.std.specs.Ordering.{nat_cmp, ordering_then}
 use Rattle.h3_index.specs.Cell.{Address, IsCell, is_pentagon, number_of, resolution}
 use Rattle.h3_index.specs.Descendants.{cut, IsDescendant, descendants}
 use Rattle.h3_index.specs.Edge.{DirectedEdge, IsEdge, edge_number}
-use Rattle.h3_index.specs.Paths.{paths, next_path, Links}
+use Rattle.h3_index.specs.Paths.{paths, next_path, AreLinked}
 
 -- cells with the same number are equal
-abbrev pub NumbersTellCells : Type 0
-NumbersTellCells = (a b : Address) → IsCell a → IsCell b → number_of a ≡ number_of b → a ≡ b
+abbrev pub NumbersAreUnique : Type 0
+NumbersAreUnique = (a b : Address) → IsCell a → IsCell b → number_of a ≡ number_of b → a ≡ b
 
 -- cells are ordered by resolution, then base cell, then digits, the coarsest digit first
 abbrev pub NumbersFollowFields : Type 0
@@ -49,7 +49,7 @@ PentagonsHaveFewer =
 pub record IsChain (pentagon : Bool) (n : ℕ) : Type 0 where
   pub others : List (List ℕ)
   pub is : paths pentagon n ≡ replicate n 0 ∷ others
-  pub links : Links (next_path pentagon) (replicate n 0) others None
+  pub links : AreLinked (next_path pentagon) (replicate n 0) others None
 
 abbrev pub PathsAreChains : Type 0
 PathsAreChains = (pentagon : Bool) (n : ℕ) → IsChain pentagon n

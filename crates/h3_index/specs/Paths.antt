@@ -21,16 +21,16 @@ abbrev pub next_step : Bool → ℕ → ℕ
 next_step pentagon d = if pentagon && d == 0 then 2 else d + 1
 
 -- the path after one that begins with d and has n more digits, of which the next are given
-abbrev pub carry : Bool → ℕ → ℕ → Option (List ℕ) → Option (List ℕ)
-carry pentagon d n (Some es) = Some (d ∷ es)
-carry pentagon d n None = if d == 6 then None else Some (next_step pentagon d ∷ replicate n 0)
+abbrev pub next_below : Bool → ℕ → ℕ → Option (List ℕ) → Option (List ℕ)
+next_below pentagon d n (Some es) = Some (d ∷ es)
+next_below pentagon d n None = if d == 6 then None else Some (next_step pentagon d ∷ replicate n 0)
 
 -- the path after one, of the same length; the last has none
 abbrev pub next_path : Bool → List ℕ → Option (List ℕ)
 next_path pentagon [] = None
-next_path pentagon (d ∷ ds) = carry pentagon d (length ds) (next_path (pentagon && d == 0) ds)
+next_path pentagon (d ∷ ds) = next_below pentagon d (length ds) (next_path (pentagon && d == 0) ds)
 
 -- from x on come xs, each the next of the one before, and then z
-abbrev pub Links : {A : Type 0} → (A → Option A) → A → List A → Option A → Type 0
-Links next x [] z = next x ≡ z
-Links next x (y ∷ ys) z = (next x ≡ Some y) × Links next y ys z
+abbrev pub AreLinked : {A : Type 0} → (A → Option A) → A → List A → Option A → Type 0
+AreLinked next x [] z = next x ≡ z
+AreLinked next x (y ∷ ys) z = (next x ≡ Some y) × AreLinked next y ys z

@@ -40,12 +40,12 @@ without_prefix bs = if starts_with nat_eq bs (codes "0x") || starts_with nat_eq 
 abbrev pub is_hexadecimal : List ℕ → Bool
 is_hexadecimal ds = nat_lt 0 (length ds) && nat_le (length ds) 16 && list_all (λ d. is_digit d 16) ds
 
-abbrev pub number_spelled : List ℕ → Option ℕ
-number_spelled ds = if is_hexadecimal ds then Some (digits_value 16 ds) else None
+abbrev pub parsed_number : List ℕ → Option ℕ
+parsed_number ds = if is_hexadecimal ds then Some (digits_value 16 ds) else None
 
 -- the number that a list of bytes parses as, where it parses as one
-unfoldable pub spelled_index : List ℕ → Option ℕ
-spelled_index bs = number_spelled (without_prefix (trimmed bs))
+unfoldable pub parsed_index : List ℕ → Option ℕ
+parsed_index bs = parsed_number (without_prefix (trimmed bs))
 
 -- `0` to `9` or `a` to `f`
 abbrev pub is_lower_digit : ℕ → Bool

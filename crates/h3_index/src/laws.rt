@@ -7,7 +7,7 @@ ghost use Rattle.std.specs.Hash as fed;
 ghost use Rattle.h3_index.specs.Cell.{Address, number_of};
 ghost use Rattle.h3_index.specs.Count.{CellsUpToAreListed};
 ghost use Rattle.h3_index.specs.Edge.{DirectedEdge, edge_number};
-ghost use Rattle.h3_index.specs.Laws.{EdgeNumbersFollowFields, NumbersFollowFields, NumbersTellCells, CutsAreCells, DescendantsAreListed, DescendantsAscend, HexagonsHaveSevens, PentagonsHaveFewer, PathsAreChains};
+ghost use Rattle.h3_index.specs.Laws.{EdgeNumbersFollowFields, NumbersFollowFields, NumbersAreUnique, CutsAreCells, DescendantsAreListed, DescendantsAscend, HexagonsHaveSevens, PentagonsHaveFewer, PathsAreChains};
 
 use crate::cell::Cell;
 use crate::edge::Edge;
@@ -38,8 +38,8 @@ pub fn edges_compare_by_number()
 {}
 
 /// Cells with the same number are equal.
-pub fn numbers_tell_cells()
-    ensures { NumbersTellCells }
+pub fn numbers_are_unique()
+    ensures { NumbersAreUnique }
 {}
 
 /// A cell cut at a resolution that is not finer than its own is a cell.

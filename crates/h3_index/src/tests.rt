@@ -97,14 +97,14 @@ fn pentagons_and_classes_are_returned(rt: HostRuntime) -> Result<(), Fail> {
 
 #[test]
 fn texts_are_read(rt: HostRuntime) {
-    let spelled: [&[u8]; 5] = [
+    let parsed: [&[u8]; 5] = [
         b"85283473fffffff",
         b"0X85283473FFFFFFF",
         b"0x85283473fffffff",
         b" \t85283473fffffff\r",
         b"085283473fffffff",
     ];
-    for text in spelled {
+    for text in parsed {
         assert_eq!(rt; read_index(text), Ok(0x85283473fffffff));
     }
     assert_eq!(rt; read_index(b"0"), Ok(0));

@@ -4,7 +4,7 @@ ghost use Rattle.std.specs.Prelude.{◌≡◌, ◌==◌, ◌-◌, ◌^◌, ◌<�
 ghost use Rattle.std.specs.Char.{digit_char};
 ghost use Rattle.std.specs.Result.{result_ok};
 ghost use Rattle.h3_index.specs.Digits.{last_digits};
-ghost use Rattle.h3_index.specs.Text.{without_leading_zeros, is_blank, without_leading_blanks, without_trailing_blanks, without_prefix, number_spelled, spelled_index, text_of, trimmed};
+ghost use Rattle.h3_index.specs.Text.{without_leading_zeros, is_blank, without_leading_blanks, without_trailing_blanks, without_prefix, parsed_number, parsed_index, text_of, trimmed};
 
 mod halves;
 mod plain;
@@ -70,7 +70,7 @@ fn without_prefix(bytes: &[u8]) -> &[u8]
 
 /// The number that bytes parse as, where they are 1 to 16 hexadecimal digits.
 fn read_digits(digits: &[u8]) -> Option<u64>
-    ensures { result ≡ number_spelled digits.now }
+    ensures { result ≡ parsed_number digits.now }
 {
     if digits.is_empty() || digits.len() > 16 {
         return None;
@@ -88,7 +88,7 @@ fn read_digits(digits: &[u8]) -> Option<u64>
 /// Spaces, tabs and carriage returns at both ends are dropped, then an optional `0x` or `0X`; what is left must be 1
 /// to 16 hexadecimal digits of either case. Any other text is refused with `Failed`. The index need not be valid.
 pub fn read_index(bytes: &[u8]) -> Result<u64, H3Error>
-    ensures spelled { result_ok result ≡ spelled_index bytes.now }
+    ensures parsed { result_ok result ≡ parsed_index bytes.now }
     ensures refused { IfErr result (λ e. e ≡ H3Error.Failed) }
 {
     if let Some(index) = read_plain(bytes) {
@@ -151,7 +151,7 @@ pub fn index_bytes(index: u64) -> ([u8; 16], usize)
 /// The text of an index, as H3's `h3ToString` writes it: lower-case hexadecimal without leading zeros, `0` for 0.
 pub fn write_index(index: u64) -> ArrayString<16>
     ensures text { result.bytes ≡ text_of index }
-    ensures spells { spelled_index (text_of index) ≡ Some index }
+    ensures parses { parsed_index (text_of index) ≡ Some index }
 {
     let (bytes, count) = index_bytes(index);
     let mut text = text_from(&bytes);

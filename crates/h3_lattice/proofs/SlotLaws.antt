@@ -17,7 +17,7 @@ use Rattle.h3_lattice.specs.FormatOne.{in_range_one, link_one}
 use Rattle.h3_lattice.specs.FormatTwo.{in_range_two, is_link_two, link_at_digit, link_two}
 use Rattle.h3_lattice.specs.Links.{IsLink, is_hexagon_base, is_link, place_of}
 use Rattle.h3_lattice.specs.Records.{fault_in, record_link, first_link}
-use Rattle.h3_lattice.specs.Slots.{Holds, IsInRangeOne, IsInRangeTwo, Takes}
+use Rattle.h3_lattice.specs.Slots.{Holds, IsInRangeOne, IsInRangeTwo, SetsLinks}
 use Rattle.h3_lattice.proofs.SoundLaws.{and_both, direction_below, eqb-eq, nth_direction, true-nat_lt}
 
 or_none : (o : Option (ℕ × ℕ)) → option_or o None ≡ o
@@ -176,7 +176,7 @@ either_first None (Some y) h = refl
 either_first (Some x) (Some y) h = cc (h refl)
 
 pub holds-more : (format : Format) (slots new : List (Option (ℕ × ℕ))) (body : List Record) (r : Record) (ns : List ℕ) (row : ℕ) → Holds format slots body → numbers_in (width format) r ≡ Some ns
-    → fault_in format row (λ b d. slice_index_or slots (place_of b d) None) (Some ns) ≡ None → Takes format ns slots new → Holds format new (body ++ (r ∷ []))
+    → fault_in format row (λ b d. slice_index_or slots (place_of b d) None) (Some ns) ≡ None → SetsLinks format ns slots new → Holds format new (body ++ (r ∷ []))
 holds-more format slots new body r ns row h e f t =
     let free = free-slot format row (λ b d. slice_index_or slots (place_of b d) None) ns f in
     let k = first_place format ns free.0 in
@@ -210,7 +210,7 @@ else_or false link o = refl
 
 -- a record of format 1 sets one
 pub takes_one : (slots : List (Option (ℕ × ℕ))) (ns : List ℕ) → length slots ≡ 732 → IsInRangeOne ns
-    → Takes One ns slots (slice_set slots (place_of (slice_index ns 0) (slice_index ns 1)) (Some (slice_index ns 2, slice_index ns 3)))
+    → SetsLinks One ns slots (slice_set slots (place_of (slice_index ns 0) (slice_index ns 1)) (Some (slice_index ns 2, slice_index ns 3)))
 takes_one slots ns len r = record {
   long = length-set slots (place_of (slice_index ns 0) (slice_index ns 1)) (Some (slice_index ns 2, slice_index ns 3));
   each = λ b d low high.
@@ -264,5 +264,5 @@ kept-more ns n old new k len low some high = record {
       (λ e. let same : n ≡ d = eqb-eq _ _ e in rw same refl) (below_next d n d0);
 }
 
-pub kept-all : (ns : List ℕ) (old new : List (Option (ℕ × ℕ))) → Kept ns 7 old new → Takes Two ns old new
+pub kept-all : (ns : List ℕ) (old new : List (Option (ℕ × ℕ))) → Kept ns 7 old new → SetsLinks Two ns old new
 kept-all ns old new k = record { long = k.long; each = k.each }

@@ -22,7 +22,7 @@ abbrev pub IsInRangeTwo : List ℕ → Type 0
 IsInRangeTwo ns = (slice_index ns 0 < 122) × ((d : ℕ) → 0 < d → d < 7 → IsLink (link_at_digit d ns))
 
 -- the new slots have the links in a record's numbers, and elsewhere what the old ones have
-pub record Takes (format : Format) (ns : List ℕ) (old new : List (Option (ℕ × ℕ))) : Type 0 where
+pub record SetsLinks (format : Format) (ns : List ℕ) (old new : List (Option (ℕ × ℕ))) : Type 0 where
   pub long : length new ≡ length old
   pub each : (b d : ℕ) → 0 < d → d < 7 → slice_index_or new (place_of b d) None ≡ option_or (link_in format b d ns) (slice_index_or old (place_of b d) None)
 

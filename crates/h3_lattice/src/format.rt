@@ -6,7 +6,7 @@ ghost use Rattle.h3_lattice.specs.Format.{header_format, width};
 ghost use Rattle.h3_lattice.specs.Fields.{numbers_in};
 ghost use Rattle.h3_lattice.specs.Links.{IsLink, place_of};
 ghost use Rattle.h3_lattice.specs.Records.{fault_in};
-ghost use Rattle.h3_lattice.specs.Slots.{Takes};
+ghost use Rattle.h3_lattice.specs.Slots.{SetsLinks};
 
 use crate::error::TableError;
 use crate::fields::{has_fields, numbers_in};
@@ -46,7 +46,7 @@ pub fn take(
 ) -> Result<(), TableError>
     ensures refused { IfErr result (λ e. fault_in format row (λ b d. slice_index_or slots.old (place_of b d) None) (numbers_in (width format) (fields_of fields.now)) ≡ Some e) }
     ensures taken { IfOk result (λ _. (fault_in format row (λ b d. slice_index_or slots.old (place_of b d) None) (numbers_in (width format) (fields_of fields.now)) ≡ None)
-        × IfSome (numbers_in (width format) (fields_of fields.now)) (λ ns. Takes format ns slots.old slots.new)) }
+        × IfSome (numbers_in (width format) (fields_of fields.now)) (λ ns. SetsLinks format ns slots.old slots.new)) }
     ensures within { All (λ slot. IfSome slot IsLink) slots.old → All (λ slot. IfSome slot IsLink) slots.new }
 {
     match format {

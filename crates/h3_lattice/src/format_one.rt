@@ -5,7 +5,7 @@ ghost use Rattle.h3_lattice.specs.declared.format.Format.TheVariants.{One};
 ghost use Rattle.h3_lattice.specs.FormatOne.{in_range_one};
 ghost use Rattle.h3_lattice.specs.Links.{IsLink, place_of};
 ghost use Rattle.h3_lattice.specs.Records.{fault_in};
-ghost use Rattle.h3_lattice.specs.Slots.{IsInRangeOne, Takes};
+ghost use Rattle.h3_lattice.specs.Slots.{IsInRangeOne, SetsLinks};
 
 use crate::error::TableError;
 use crate::links::{Slots, is_hexagon_number};
@@ -27,7 +27,7 @@ fn in_range(numbers: [u16; 4]) -> bool
 pub fn take(slots: &mut Slots, row: u64, numbers: Option<[u16; 4]>) -> Result<(), TableError>
     ensures refused { IfErr result (λ e. fault_in One row (λ b d. slice_index_or slots.old (place_of b d) None) numbers ≡ Some e) }
     ensures taken { IfOk result (λ _. (fault_in One row (λ b d. slice_index_or slots.old (place_of b d) None) numbers ≡ None)
-        × IfSome numbers (λ ns. Takes One ns slots.old slots.new)) }
+        × IfSome numbers (λ ns. SetsLinks One ns slots.old slots.new)) }
     ensures within { All (λ slot. IfSome slot IsLink) slots.old → All (λ slot. IfSome slot IsLink) slots.new }
 {
     let Some(numbers) = numbers else {

@@ -5,7 +5,7 @@ ghost use Rattle.h3_lattice.specs.declared.format.Format.TheVariants.{Two};
 ghost use Rattle.h3_lattice.specs.FormatTwo.{in_range_two, is_link_two};
 ghost use Rattle.h3_lattice.specs.Links.{IsLink, place_of};
 ghost use Rattle.h3_lattice.specs.Records.{fault_in};
-ghost use Rattle.h3_lattice.specs.Slots.{IsInRangeTwo, Takes};
+ghost use Rattle.h3_lattice.specs.Slots.{IsInRangeTwo, SetsLinks};
 
 use crate::direction::{DIRECTIONS, Direction};
 use crate::error::TableError;
@@ -43,7 +43,7 @@ fn in_range(numbers: &[u16; 13]) -> bool
 /// Keeps the links of a record.
 fn keep(slots: &mut Slots, numbers: &[u16; 13])
     requires { IsInRangeTwo numbers.now }
-    ensures taken { Takes Two numbers.now slots.old slots.new }
+    ensures taken { SetsLinks Two numbers.now slots.old slots.new }
     ensures within { All (λ slot. IfSome slot IsLink) slots.old → All (λ slot. IfSome slot IsLink) slots.new }
 {
     let first = numbers[0] as usize * 6;
@@ -56,7 +56,7 @@ fn keep(slots: &mut Slots, numbers: &[u16; 13])
 pub fn take(slots: &mut Slots, row: u64, numbers: Option<[u16; 13]>) -> Result<(), TableError>
     ensures refused { IfErr result (λ e. fault_in Two row (λ b d. slice_index_or slots.old (place_of b d) None) numbers ≡ Some e) }
     ensures taken { IfOk result (λ _. (fault_in Two row (λ b d. slice_index_or slots.old (place_of b d) None) numbers ≡ None)
-        × IfSome numbers (λ ns. Takes Two ns slots.old slots.new)) }
+        × IfSome numbers (λ ns. SetsLinks Two ns slots.old slots.new)) }
     ensures within { All (λ slot. IfSome slot IsLink) slots.old → All (λ slot. IfSome slot IsLink) slots.new }
 {
     let Some(numbers) = numbers else {

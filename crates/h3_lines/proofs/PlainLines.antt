@@ -4,7 +4,7 @@ use Rattle.std.specs.List.{list_all}
 use Rattle.std.proofs.Common.{◌≡◌, ℕ, ◌-◌, ◌<◌, ◌≤◌, ◌==◌, ◌&&◌, nat_lt, Bool, true, false, List, [], ◌∷◌, ◌++◌, length, take, drop, get_or, Option, Some, Result, sym, ap, ◌∙◌, refl, arith, subst, append_assoc, length-append, length-take, eqb-true, ◌+◌}
 use Rattle.std.proofs.lemmas.Bool.Decides.{nat_tests}
 use Rattle.h3_index.specs.CellNumber.{cell_in}
-use Rattle.h3_index.specs.Text.{number_spelled, spelled_index, trimmed, without_prefix}
+use Rattle.h3_index.specs.Text.{parsed_number, parsed_index, trimmed, without_prefix}
 use Rattle.h3_index.specs.Cell.{Address}
 use Rattle.h3_index.specs.declared.error.H3Error.{H3Error}
 use Rattle.h3_lines.specs.declared.refusal.Refusal.{Refusal}
@@ -13,17 +13,17 @@ use Rattle.h3_lines.specs.Reading.{GoesOn, IsPlainLine, cells_before, is_unended
 use Rattle.h3_lines.proofs.GoingOn.{goes_then}
 use Rattle.h3_lines.proofs.ListLines.{line_refused, line_taken, page_refused, split_whole}
 
-nothing_left : (rest : List ℕ) (b : Bool) → (length rest == 0) ≡ b → (n : ℕ) → number_spelled (without_prefix rest) ≡ Some n → b ≡ false
-nothing_left [] b is n spells = absurd (cc)
-nothing_left (x ∷ rest) b is n spells = let some : (length (x ∷ rest) == 0) ≡ false = grind (arith, nat_tests) in sym is ∙ some
+nothing_left : (rest : List ℕ) (b : Bool) → (length rest == 0) ≡ b → (n : ℕ) → parsed_number (without_prefix rest) ≡ Some n → b ≡ false
+nothing_left [] b is n parses = absurd (cc)
+nothing_left (x ∷ rest) b is n parses = let some : (length (x ∷ rest) == 0) ≡ false = grind (arith, nat_tests) in sym is ∙ some
 
 -- a line that parses as an index is not blank
-pub said_by_spelled : (line : List ℕ) (n : ℕ) → length line ≤ 64 → spelled_index line ≡ Some n → said_by line ≡ said_by_cell (cell_in n)
-unfolding spelled_index
-said_by_spelled line n short spells =
+pub said_by_parsed : (line : List ℕ) (n : ℕ) → length line ≤ 64 → parsed_index line ≡ Some n → said_by line ≡ said_by_cell (cell_in n)
+unfolding parsed_index
+said_by_parsed line n short parses =
     let few : nat_lt 64 (length line) ≡ false = grind (arith, nat_tests) in
-    let left : (length (trimmed line) == 0) ≡ false = nothing_left (trimmed line) _ refl n spells in
-    rw (few, left) (ap said_by_index spells)
+    let left : (length (trimmed line) == 0) ≡ false = nothing_left (trimmed line) _ refl n parses in
+    rw (few, left) (ap said_by_index parses)
 
 -- ---- plain lines
 
@@ -42,16 +42,16 @@ digits_unended (b ∷ bytes) h =
     rw (no_feed b (b == 10) refl digit) (digits_unended bytes more)
 
 -- fifteen digits and a line feed
-pub plain_is : (bytes : List ℕ) (index : ℕ) → 15 < length bytes → get_or bytes 15 0 ≡ 10 → list_all (λ b. is_digit b 16) (take 15 bytes) ≡ true → spelled_index (take 15 bytes) ≡ Some index
+pub plain_is : (bytes : List ℕ) (index : ℕ) → 15 < length bytes → get_or bytes 15 0 ≡ 10 → list_all (λ b. is_digit b 16) (take 15 bytes) ≡ true → parsed_index (take 15 bytes) ≡ Some index
     → IsPlainLine bytes index (take (length bytes - 16) (drop 16 bytes))
-plain_is bytes index within feed digits spells =
+plain_is bytes index within feed digits parses =
     let test : (get_or bytes 15 0 == 10) ≡ true = grind (arith, nat_tests) in
     let short : length (take 15 bytes) ≤ 64 = omega (arith, length-take {A = ℕ}) in
     record {
       line = take 15 bytes;
       unended = digits_unended (take 15 bytes) digits;
       split = split_whole bytes 15 within test;
-      says = said_by_spelled (take 15 bytes) index short spells;
+      says = said_by_parsed (take 15 bytes) index short parses;
     }
 
 pub plain_taken : (cells cells' : List Address) (line bytes after : List ℕ) (index : ℕ) (said : Result (Option Address) H3Error) → line ≡ [] → IsPlainLine bytes index after → said ≡ said_by_cell (cell_in index)

@@ -4,7 +4,7 @@ use Rattle.std.specs.Fmt.{digits}
 use Rattle.h3_index.specs.Cell.{number_of}
 use Rattle.h3_index.specs.CellNumber.{address_in, cell_in}
 use Rattle.h3_index.specs.Count.{base_cell}
-use Rattle.h3_index.specs.Text.{spelled_index, text_of}
+use Rattle.h3_index.specs.Text.{parsed_index, text_of}
 use Rattle.h3_index.specs.declared.error.H3Error.TheVariants.{CellInvalid, Failed, Pentagon}
 use Rattle.h3_lattice.specs.declared.direction.Direction.TheVariants.{I, K}
 use Rattle.h3_lattice.specs.declared.error.TableError.TheVariants as fault
@@ -24,12 +24,12 @@ spaces : map (λ n. said_by (replicate n 32)) (64 ∷ 65 ∷ []) ≡ Ok None ∷
 spaces = refl
 
 one_cell : listed_cells (10 ∷ codes " 0x8029fffffffffff" ++ 13 ∷ 10 ∷ []) ≡ Ok (base_cell 20 ∷ [])
-unfolding spelled_index cell_in address_in number_of
+unfolding parsed_index cell_in address_in number_of
 one_cell = refl
 
 -- the first faulty line decides
 faulty : listed_cells (codes "81087ffffffffff" ++ 10 ∷ codes "xyz") ≡ Err CellInvalid
-unfolding spelled_index cell_in address_in number_of
+unfolding parsed_index cell_in address_in number_of
 faulty = refl
 
 -- ---- lines

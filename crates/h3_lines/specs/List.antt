@@ -2,7 +2,7 @@
 use Rattle.std.specs.Prelude.{◌≡◌, ℕ, ◌==◌, nat_lt, List, [], ◌∷◌, length, ⊤, Option, None, Some, Result, Ok, Err, if◌then◌else◌}
 use Rattle.h3_index.specs.Cell.{Address}
 use Rattle.h3_index.specs.CellNumber.{cell_in}
-use Rattle.h3_index.specs.Text.{spelled_index, trimmed}
+use Rattle.h3_index.specs.Text.{parsed_index, trimmed}
 use Rattle.h3_index.specs.declared.error.H3Error.{H3Error}
 use Rattle.h3_index.specs.declared.error.H3Error.TheVariants.{Failed, CellInvalid}
 use Rattle.h3_lines.specs.declared.refusal.Refusal.{Refusal}
@@ -33,7 +33,7 @@ said_by_index (Some index) = said_by_cell (cell_in index)
 -- a line of more than 64 bytes is faulty, also one of blanks; any other of blanks alone is skipped
 abbrev pub said_by : List ℕ → Result (Option Address) H3Error
 said_by line =
-    if nat_lt 64 (length line) then Err Failed else if length (trimmed line) == 0 then Ok None else said_by_index (spelled_index line)
+    if nat_lt 64 (length line) then Err Failed else if length (trimmed line) == 0 then Ok None else said_by_index (parsed_index line)
 
 -- ---- the list
 

@@ -26,7 +26,8 @@ fn run_command<R: Source, T: OpenTable, W: Sink, E: Sink>(
     out: &mut W,
     err: &mut E,
 ) -> u8
-    ensures { RunsCommand (record {
+    ensures err_kept { result ≡ 0 → err.new ≡ err.old }
+    ensures runs { RunsCommand (record {
       opens = T.opens;
       fails_to_open = T.fails_to_open;
       as_source = source_use T.left T.has_failed;
@@ -60,7 +61,8 @@ pub fn run_words<R: Source, T: OpenTable, W: Sink, E: Sink>(
     out: &mut W,
     err: &mut E,
 ) -> u8
-    ensures { (parsed : Result Words WordsFault) × ParsesAs (map string_bytes words.items) parsed
+    ensures err_kept { result ≡ 0 → err.new ≡ err.old }
+    ensures follows { (parsed : Result Words WordsFault) × ParsesAs (map string_bytes words.items) parsed
         × Follows (record {
           opens = T.opens;
           fails_to_open = T.fails_to_open;

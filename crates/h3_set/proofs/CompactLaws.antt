@@ -8,7 +8,7 @@ use Rattle.std.proofs.lemmas.Map.Keys.{IsDistinct-IsPermutation}
 use Rattle.std.specs.List.{AllByRecursion, IsDistinct}
 use Rattle.h3_index.specs.Cell.{Address, IsCell, number_of, resolution}
 use Rattle.h3_index.specs.Descendants.{IsAncestor}
-use Rattle.h3_index.specs.Laws.{NumbersTellCells}
+use Rattle.h3_index.specs.Laws.{NumbersAreUnique}
 use Rattle.h3_tree.specs.Laws.{CellsFormTrees}
 use Rattle.h3_set.specs.Compacted.{IsCompacted, IsTop}
 use Rattle.h3_set.specs.Compaction.{level_of, slots_in_use}
@@ -94,7 +94,7 @@ module _ (tree : CellsFormTrees) where
     }),
   )
 
-  module _ (by_number : NumbersTellCells) (cells : List Address) (r : ℕ) (fine : r ≤ 15) (slots sorted : List Address) (same : IsPermutation slots sorted) (apart : IsApart slots) (part : (x : Address) → Contains slots x ↔ InPart cells r 0 x) (ascends : AllPairs (λ a b. number_of a ≤ number_of b) sorted) where
+  module _ (by_number : NumbersAreUnique) (cells : List Address) (r : ℕ) (fine : r ≤ 15) (slots sorted : List Address) (same : IsPermutation slots sorted) (apart : IsApart slots) (part : (x : Address) → Contains slots x ↔ InPart cells r 0 x) (ascends : AllPairs (λ a b. number_of a ≤ number_of b) sorted) where
     tops : (c : Address) → Contains slots c → IsTop (IsCovered cells r) r c
     tops c m = (reached tree cells r c).0 ((part c).0 m)
 

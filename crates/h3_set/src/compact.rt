@@ -11,7 +11,7 @@ ghost use Rattle.h3_set.specs.Refusals.{compaction_refusal};
 ghost use Rattle.h3_set.specs.Uncompaction.{uncompacted};
 
 use crate::rounds::Compaction;
-use h3_index::laws::{cells_are_listed, numbers_tell_cells};
+use h3_index::laws::{cells_are_listed, numbers_are_unique};
 use h3_index::{Cell, H3Error};
 use h3_tree::laws::cells_form_trees;
 
@@ -60,7 +60,7 @@ pub fn compact_cells(cells: &[Cell], slots: &mut [Cell]) -> Result<usize, H3Erro
     ensures repeats { OneResolutionIsApart }
 {
     cells_form_trees();
-    numbers_tell_cells();
+    numbers_are_unique();
     cells_are_listed();
     let mut compaction = Compaction::start_in_order(cells, slots)?;
     while compaction.level() > 0 {

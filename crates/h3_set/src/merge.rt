@@ -10,7 +10,7 @@ ghost use Rattle.h3_set.specs.Rounds.{InRound};
 
 use crate::order::{are_cells, put_in_order};
 use h3_index::Cell;
-use h3_index::laws::numbers_tell_cells;
+use h3_index::laws::numbers_are_unique;
 use h3_tree::laws::{cells_form_intervals, cells_form_trees};
 
 /// The number of siblings that a list begins with, where it begins with a complete set of siblings
@@ -27,7 +27,7 @@ fn siblings_at_front(cells: &[Cell], first: Cell, level: u8) -> usize
         ≢ descendants (parent_of first) level }
 {
     cells_form_trees();
-    numbers_tell_cells();
+    numbers_are_unique();
     if first.resolution() != level {
         return 0;
     }

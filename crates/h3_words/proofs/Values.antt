@@ -7,7 +7,7 @@ use Rattle.std.specs.Str.{bytes_eq}
 use Rattle.std.specs.Str.Parse.{signed_digits_value}
 use Rattle.clap.specs.Words.{Accepts, Text, first_value}
 use Rattle.clap.specs.declared.parser.matches.Found.{Found}
-use Rattle.h3_index.specs.Text.{spelled_index}
+use Rattle.h3_index.specs.Text.{parsed_index}
 use Rattle.h3_words.proofs.Uses.{IsListed, contains}
 use Rattle.h3_words.specs.Options.{IsUpTo, id_of, number_up_to, parser_done}
 use Rattle.h3_words.specs.Commands.{has_option, options_of}
@@ -32,7 +32,7 @@ found_for o self k same is f text are_found = are_found o (contains (options_of 
 
 -- this index is read for the option
 abbrev pub ReadsIndex : CommandOption → Found → Option ℕ → Type 0
-ReadsIndex o f index = (t : List ℕ) → first_value f (id_of o) ≡ Some t → index ≡ spelled_index t
+ReadsIndex o f index = (t : List ℕ) → first_value f (id_of o) ≡ Some t → index ≡ parsed_index t
 
 -- this number is read for the option
 abbrev pub ReadsNumber : CommandOption → Found → ℤ → Type 0

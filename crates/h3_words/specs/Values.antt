@@ -3,7 +3,7 @@ use Rattle.std.specs.Prelude.{Contains, ⊤, ◌≡◌, ℕ, ℤ, pos, List, Opt
 use Rattle.std.specs.Str.Parse.{signed_digits_value}
 use Rattle.clap.specs.Words.{Accepts, Text, first_value}
 use Rattle.clap.specs.declared.parser.matches.Found.{Found}
-use Rattle.h3_index.specs.Text.{spelled_index}
+use Rattle.h3_index.specs.Text.{parsed_index}
 use Rattle.h3_words.specs.Options.{IsUpTo, id_of, number_up_to, parser_done}
 use Rattle.h3_words.specs.Commands.{has_option, name_of_command, options_of, word_of}
 use Rattle.h3_words.specs.Given.{given}
@@ -17,7 +17,7 @@ use Rattle.h3_command.specs.declared.command.Command.TheVariants.{IsValidCell, G
 -- there is a text, and this is the index that it parses as, or none where it parses as none
 abbrev pub IsIndex : Option Text → Option ℕ → Type 0
 IsIndex None index = ⊥
-IsIndex (Some text) index = index ≡ spelled_index text
+IsIndex (Some text) index = index ≡ parsed_index text
 
 -- the option has a text, which is a whole number from 0 to the option's most, as an `i64` is read, and this is that
 -- number

@@ -3,7 +3,7 @@
 ghost use Rattle.std.specs.Prelude.{◌≡◌, Some, false, pos};
 ghost use Rattle.std.specs.Str.Parse.{signed_digits_value};
 ghost use Rattle.clap.specs.Words.{IsSignedIn, Text, first_value, found_of, rule_of};
-ghost use Rattle.h3_index.specs.Text.{spelled_index};
+ghost use Rattle.h3_index.specs.Text.{parsed_index};
 ghost use Rattle.h3_words.specs.Options.{id_of, rule_for};
 
 use clap::{Arg, ArgMatches, value_parser};
@@ -108,7 +108,7 @@ impl CommandOption {
     /// The index that the option's text parses as.
     pub fn index(self, matches: &ArgMatches<'_>) -> Option<u64>
         ensures { (text : Text) → first_value (found_of matches.now) (id_of self) ≡ Some text
-            → result ≡ spelled_index text }
+            → result ≡ parsed_index text }
     {
         read_index(matches.get_str(self.id())?.as_bytes()).ok()
     }

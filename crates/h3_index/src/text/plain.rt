@@ -3,7 +3,7 @@
 ghost use Rattle.std.specs.Prelude.{◌≡◌, length, true, Some, IfSome};
 ghost use Rattle.std.specs.Char.{is_digit};
 ghost use Rattle.std.specs.List.{list_all};
-ghost use Rattle.h3_index.specs.Text.{plain_index, spelled_index};
+ghost use Rattle.h3_index.specs.Text.{plain_index, parsed_index};
 
 use super::halves::{characters, gathered, word_of};
 
@@ -12,7 +12,7 @@ use super::halves::{characters, gathered, word_of};
 #[inline(always)]
 pub fn read_plain(bytes: &[u8]) -> Option<u64>
     ensures is { result ≡ plain_index bytes.now }
-    ensures spelled { IfSome result (λ index. spelled_index bytes.now ≡ Some index) }
+    ensures parsed { IfSome result (λ index. parsed_index bytes.now ≡ Some index) }
     ensures digits { IfSome result (λ _. list_all (λ b. is_digit b 16) bytes.now ≡ true) }
 {
     if bytes.len() < 8 || bytes.len() > 16 {

@@ -13,8 +13,8 @@ left_by (Ok done) old new failed bytes all part e =
     (record { part = bytes; rest = []; split = sym (append-nil bytes); holds = all }, λ _. all)
 left_by (Err fault) old new failed bytes all part e = (part, λ f. absurd (let bad : true ≡ false = sym e ∙ f in cc))
 
-pub returns-in-Err-Usage : goal.returns-in-Err-Usage
-returns-in-Err-Usage g c =
+pub returns-in-Err-Usage-clause-follows : goal.returns-in-Err-Usage-clause-follows
+returns-in-Err-Usage-clause-follows g c =
     let parsed = rw c.in-Err-Usage.field-0-is at c.in-Err-Usage.ensures in
     let text : c.as_bytes-in-Err-Usage.result.now ≡ string_bytes c.in-Err-Usage.text = c.as_bytes-in-Err-Usage.ensures.value ∙ ap string_bytes c.in-Err-Usage.text-is in
     let left = rw text at (left_by c.write_all.result _ _ _ _ c.write_all.ensures.written c.write_all.ensures.part c.write_all.ensures.err) in (

@@ -38,7 +38,7 @@ returns-clause-compacted c =
     let i = c.loop-slots.invariant in
     let bottom : level_of c.loop-slots.compaction ≡ 0 = omega arith in
     let part : (x : Address) → Contains (take (slots_in_use c.loop-slots.compaction) c.loop-slots.slots) x ↔ InPart c.args.cells.now (finest c.args.cells.now) 0 x = rw bottom at i.part in
-    rw c.finish.ensures.count (compacts c.cells_form_trees.ensures c.numbers_tell_cells.ensures c.args.cells.now (finest c.args.cells.now) i.small (take (slots_in_use c.loop-slots.compaction) c.loop-slots.slots) (take (slots_in_use c.loop-slots.compaction) c.finish.new.slots) c.finish.ensures.same i.apart part c.finish.ensures.ascending)
+    rw c.finish.ensures.count (compacts c.cells_form_trees.ensures c.numbers_are_unique.ensures c.args.cells.now (finest c.args.cells.now) i.small (take (slots_in_use c.loop-slots.compaction) c.loop-slots.slots) (take (slots_in_use c.loop-slots.compaction) c.finish.new.slots) c.finish.ensures.same i.apart part c.finish.ensures.ascending)
 
 pub returns-clause-tops : goal.returns-clause-tops
 returns-clause-tops c =

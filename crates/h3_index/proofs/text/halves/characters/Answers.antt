@@ -1,5 +1,5 @@
-use Rattle.h3_index.proofs.SpreadLaws.{spelled_is}
+use Rattle.h3_index.proofs.SpreadLaws.{parsed_is}
 use Rattle.h3_index.proofs.text.halves.characters.Goals as goal
 
 pub returns : goal.returns
-returns c = spelled_is c.args.half c.spread-digits.result c.spread-digits.ensures
+returns c = parsed_is c.args.half c.spread-digits.result c.spread-digits.ensures

@@ -17,7 +17,7 @@ returns-then-tail-last c =
     c.gathered.ensures.small c.gathered-2.ensures.small c.word_of-first.ensures c.word_of-last.ensures _ refl
     (sym c.characters-head.ensures ∙ c.if-head-first.true)
     (ap (λ n. number_from_digits 256 (map digit_char (last_digits 16 8 n))) (sym (and_mask _ 32)) ∙ sym c.characters-tail.ensures ∙ c.if-tail-last.true) in
-    record { is = found.2; spelled = found.0; digits = found.1 }
+    record { is = found.2; parsed = found.0; digits = found.1 }
 
 pub returns-else-head-first-clause-is : goal.returns-else-head-first-clause-is
 returns-else-head-first-clause-is c =
