@@ -49,12 +49,12 @@ WritesReading a bytes was_read source (Err Read) out = ReadFails source bytes ×
 WritesReading a bytes was_read source ending out = was_read × NoReadFails source × Writes a ending out
 
 -- there are bytes of the list, those left in the source where these are known, and the answer about the cells in them
--- is written, where 2^40 reads find the end of the list or a faulty line
+-- is written, and 2^40 reads can find the end of the list or a faulty line
 abbrev pub WritesOfList : (List Address → Answer) → SourceUse → Result (Unit {0}) Refusal → SinkUse → Type 0
 WritesOfList about input ending out =
     (list : List ℕ) × HasLeft input.left list × WritesReading (answer_or_error about (listed_cells list)) list (IsListWithinReads (2 ^ 40) 65536 list) input ending out
 
--- the same of a table, where 2^40 reads find its end, and the answer about its links
+-- the same of a table, of which 2^40 reads can find the end, and the answer about its links
 abbrev pub WritesOfTable : (Links → Answer) → SourceUse → Result (Unit {0}) Refusal → SinkUse → Type 0
 WritesOfTable about table ending out =
     (file : List ℕ) × HasLeft table.left file × WritesReading (about_table about file) file (IsWithinReads (2 ^ 40) 4096 file) table ending out
