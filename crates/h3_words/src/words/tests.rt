@@ -12,16 +12,16 @@ fn read(alloc: Global, line: &str) -> Result<Result<Words, WordsFault>, AllocErr
     Ok(read_words(alloc, words))
 }
 
-fn asks_for(answer: &Result<Words, WordsFault>, command: Command) -> bool {
-    match answer {
+fn asks_for(parsed: &Result<Words, WordsFault>, command: Command) -> bool {
+    match parsed {
         Ok(words) => words.command == command && words.table.is_none(),
         Err(_) => false,
     }
 }
 
 /// Whether the words ask for a command over the table at a path.
-fn asks_over(answer: &Result<Words, WordsFault>, command: Command, path: &str) -> bool {
-    match answer {
+fn asks_over(parsed: &Result<Words, WordsFault>, command: Command, path: &str) -> bool {
+    match parsed {
         Ok(words) => match &words.table {
             Some(table) => words.command == command && table.as_str() == path,
             None => false,
@@ -43,14 +43,14 @@ fn reads_commands(rt: HostRuntime) -> Result<(), Fail> {
         ("h3 isValidCell -c xyz", None),
     ];
     for (line, cell) in cases {
-        let answer = read(alloc, line)?;
-        assert!(rt; asks_for(&answer, Command::IsValidCell { cell }), "{line}");
+        let parsed = read(alloc, line)?;
+        assert!(rt; asks_for(&parsed, Command::IsValidCell { cell }), "{line}");
     }
     Ok(())
 }
 
 #[test]
-fn reads_options(rt: HostRuntime) -> Result<(), Fail> {
+fn reads_a_cell(rt: HostRuntime) -> Result<(), Fail> {
     let alloc = rt.alloc();
     let cell = Some(0x85283473fffffff);
     let cases = [
@@ -71,11 +71,42 @@ fn reads_options(rt: HostRuntime) -> Result<(), Fail> {
             "h3 isResClassIII -c 85283473fffffff",
             Command::IsResClassIII { cell },
         ),
+        (
+            "h3 originToDirectedEdges --cell=85283473fffffff",
+            Command::OriginToDirectedEdges { cell },
+        ),
+    ];
+    for (line, command) in cases {
+        let parsed = read(alloc, line)?;
+        assert!(rt; asks_for(&parsed, command), "{line}");
+    }
+    Ok(())
+}
+
+#[test]
+fn reads_resolutions(rt: HostRuntime) -> Result<(), Fail> {
+    let alloc = rt.alloc();
+    let cases = [
         ("h3 getNumCells -r 15", Command::GetNumCells { res: 15 }),
         (
             "h3 getPentagons --resolution=2147483647",
             Command::GetPentagons { res: 2147483647 },
         ),
+        ("h3 compactCells", Command::CompactCells),
+        ("h3 uncompactCells -r 6", Command::UncompactCells { res: 6 }),
+    ];
+    for (line, command) in cases {
+        let parsed = read(alloc, line)?;
+        assert!(rt; asks_for(&parsed, command), "{line}");
+    }
+    Ok(())
+}
+
+#[test]
+fn reads_a_cell_and_a_resolution(rt: HostRuntime) -> Result<(), Fail> {
+    let alloc = rt.alloc();
+    let cell = Some(0x85283473fffffff);
+    let cases = [
         (
             "h3 cellToParent -r 4 -c 85283473fffffff",
             Command::CellToParent { cell, res: 4 },
@@ -104,6 +135,18 @@ fn reads_options(rt: HostRuntime) -> Result<(), Fail> {
                 res: 5,
             },
         ),
+    ];
+    for (line, command) in cases {
+        let parsed = read(alloc, line)?;
+        assert!(rt; asks_for(&parsed, command), "{line}");
+    }
+    Ok(())
+}
+
+#[test]
+fn reads_edges(rt: HostRuntime) -> Result<(), Fail> {
+    let alloc = rt.alloc();
+    let cases = [
         (
             "h3 isValidDirectedEdge --edge 115283473fffffff",
             Command::IsValidDirectedEdge {
@@ -120,22 +163,16 @@ fn reads_options(rt: HostRuntime) -> Result<(), Fail> {
                 edge: Some(0x115283473fffffff),
             },
         ),
-        (
-            "h3 originToDirectedEdges --cell=85283473fffffff",
-            Command::OriginToDirectedEdges { cell },
-        ),
-        ("h3 compactCells", Command::CompactCells),
-        ("h3 uncompactCells -r 6", Command::UncompactCells { res: 6 }),
     ];
     for (line, command) in cases {
-        let answer = read(alloc, line)?;
-        assert!(rt; asks_for(&answer, command), "{line}");
+        let parsed = read(alloc, line)?;
+        assert!(rt; asks_for(&parsed, command), "{line}");
     }
     Ok(())
 }
 
 #[test]
-fn reads_tables(rt: HostRuntime) -> Result<(), Fail> {
+fn reads_disks(rt: HostRuntime) -> Result<(), Fail> {
     let alloc = rt.alloc();
     let cell = Some(0x85283473fffffff);
     let cases = [
@@ -162,6 +199,19 @@ fn reads_tables(rt: HostRuntime) -> Result<(), Fail> {
             },
             "",
         ),
+    ];
+    for (line, command, path) in cases {
+        let parsed = read(alloc, line)?;
+        assert!(rt; asks_over(&parsed, command, path), "{line}");
+    }
+    Ok(())
+}
+
+#[test]
+fn reads_distances_and_rings(rt: HostRuntime) -> Result<(), Fail> {
+    let alloc = rt.alloc();
+    let cell = Some(0x85283473fffffff);
+    let cases = [
         (
             "h3 gridDiskDistancesUnsafe -c 85283473fffffff -k3 --table Tabelle-\u{e4}.csv",
             Command::GridDiskDistancesUnsafe { cell, k: 3 },
@@ -182,18 +232,17 @@ fn reads_tables(rt: HostRuntime) -> Result<(), Fail> {
         ),
     ];
     for (line, command, path) in cases {
-        let answer = read(alloc, line)?;
-        assert!(rt; asks_over(&answer, command, path), "{line}");
+        let parsed = read(alloc, line)?;
+        assert!(rt; asks_over(&parsed, command, path), "{line}");
     }
     Ok(())
 }
 
 #[test]
-fn reads_two_cells_and_edges(rt: HostRuntime) -> Result<(), Fail> {
+fn reads_two_cells(rt: HostRuntime) -> Result<(), Fail> {
     let alloc = rt.alloc();
     let cell = Some(0x85283473fffffff);
     let to = Some(0x85283477fffffff);
-    let edge = Some(0x115283473fffffff);
     let cases = [
         (
             "h3 areNeighborCells -c 85283473fffffff --to 85283477fffffff --table t",
@@ -215,6 +264,19 @@ fn reads_two_cells_and_edges(rt: HostRuntime) -> Result<(), Fail> {
             "h3 cellsToDirectedEdge --to xyz --table t -c 85283473fffffff",
             Command::CellsToDirectedEdge { cell, to: None },
         ),
+    ];
+    for (line, command) in cases {
+        let parsed = read(alloc, line)?;
+        assert!(rt; asks_over(&parsed, command, "t"), "{line}");
+    }
+    Ok(())
+}
+
+#[test]
+fn reads_an_edge_over_a_table(rt: HostRuntime) -> Result<(), Fail> {
+    let alloc = rt.alloc();
+    let edge = Some(0x115283473fffffff);
+    let cases = [
         (
             "h3 getDirectedEdgeDestination --edge 115283473fffffff --table t",
             Command::GetDirectedEdgeDestination { edge },
@@ -225,8 +287,8 @@ fn reads_two_cells_and_edges(rt: HostRuntime) -> Result<(), Fail> {
         ),
     ];
     for (line, command) in cases {
-        let answer = read(alloc, line)?;
-        assert!(rt; asks_over(&answer, command, "t"), "{line}");
+        let parsed = read(alloc, line)?;
+        assert!(rt; asks_over(&parsed, command, "t"), "{line}");
     }
     Ok(())
 }
@@ -246,8 +308,8 @@ fn keeps_a_path_as_it_is(rt: HostRuntime) -> Result<(), Fail> {
         String::from_str(alloc, "85283473fffffff")?,
     ]?;
     let cell = Some(0x85283473fffffff);
-    let answer = read_words(alloc, words);
-    assert!(rt; asks_over(&answer, Command::GridDiskUnsafe { cell, k: 1 }, path));
+    let parsed = read_words(alloc, words);
+    assert!(rt; asks_over(&parsed, Command::GridDiskUnsafe { cell, k: 1 }, path));
     Ok(())
 }
 
@@ -279,6 +341,23 @@ fn refuses_other_words(rt: HostRuntime) -> Result<(), Fail> {
         "h3 compactCells -r 6",
         "h3 compactCells junk",
         "h3 uncompactCells -r 6 junk",
+        "h3 getResolution -c 0 --table t",
+        "h3 uncompactCells -r 6 --table t",
+        "h3 --version",
+    ];
+    for line in lines {
+        assert!(rt;
+            matches!(read(alloc, line)?, Err(WordsFault::Usage(_))),
+            "{line}"
+        );
+    }
+    Ok(())
+}
+
+#[test]
+fn refuses_other_words_of_disks_and_rings(rt: HostRuntime) -> Result<(), Fail> {
+    let alloc = rt.alloc();
+    let lines = [
         "h3 gridDiskUnsafe -c 0 -k 1",
         "h3 gridDiskUnsafe -c 0 --table t",
         "h3 gridDiskUnsafe -k 1 --table t",
@@ -301,6 +380,20 @@ fn refuses_other_words(rt: HostRuntime) -> Result<(), Fail> {
         "h3 gridRingUnsafe -c 0 --table t",
         "h3 gridRingUnsafe -c 0 -k -1 --table t",
         "h3 gridRingUnsafe -c 0 -k 1 --table t --table=t",
+    ];
+    for line in lines {
+        assert!(rt;
+            matches!(read(alloc, line)?, Err(WordsFault::Usage(_))),
+            "{line}"
+        );
+    }
+    Ok(())
+}
+
+#[test]
+fn refuses_other_words_of_edges(rt: HostRuntime) -> Result<(), Fail> {
+    let alloc = rt.alloc();
+    let lines = [
         "h3 areNeighborCells -c 0 --to 0",
         "h3 areNeighborCells -c 0 --table t",
         "h3 areNeighborCells --to 0 --table t",
@@ -325,9 +418,6 @@ fn refuses_other_words(rt: HostRuntime) -> Result<(), Fail> {
         "h3 originToDirectedEdges --edge 0",
         "h3 originToDirectedEdges -c 0 --to 0",
         "h3 originToDirectedEdges -c 0 --table t",
-        "h3 getResolution -c 0 --table t",
-        "h3 uncompactCells -r 6 --table t",
-        "h3 --version",
     ];
     for line in lines {
         assert!(rt;
@@ -371,41 +461,43 @@ fn helps(rt: HostRuntime) -> Result<(), Fail> {
     Ok(())
 }
 
+/// The words that name the commands.
+static COMMAND_WORDS: [&str; 25] = [
+    "isValidCell",
+    "getResolution",
+    "getBaseCellNumber",
+    "isPentagon",
+    "isResClassIII",
+    "getNumCells",
+    "getRes0Cells",
+    "getPentagons",
+    "cellToParent",
+    "cellToCenterChild",
+    "cellToChildren",
+    "cellToChildrenSize",
+    "cellToChildPos",
+    "childPosToCell",
+    "compactCells",
+    "uncompactCells",
+    "gridDiskUnsafe",
+    "gridDiskDistancesUnsafe",
+    "gridRingUnsafe",
+    "areNeighborCells",
+    "cellsToDirectedEdge",
+    "isValidDirectedEdge",
+    "getDirectedEdgeOrigin",
+    "getDirectedEdgeDestination",
+    "originToDirectedEdges",
+];
+
 #[test]
 fn help_lists_the_commands(rt: HostRuntime) -> Result<(), Fail> {
-    let words = [
-        "isValidCell",
-        "getResolution",
-        "getBaseCellNumber",
-        "isPentagon",
-        "isResClassIII",
-        "getNumCells",
-        "getRes0Cells",
-        "getPentagons",
-        "cellToParent",
-        "cellToCenterChild",
-        "cellToChildren",
-        "cellToChildrenSize",
-        "cellToChildPos",
-        "childPosToCell",
-        "compactCells",
-        "uncompactCells",
-        "gridDiskUnsafe",
-        "gridDiskDistancesUnsafe",
-        "gridRingUnsafe",
-        "areNeighborCells",
-        "cellsToDirectedEdge",
-        "isValidDirectedEdge",
-        "getDirectedEdgeOrigin",
-        "getDirectedEdgeDestination",
-        "originToDirectedEdges",
-    ];
-    let answer = read(rt.alloc(), "h3 --help")?;
-    let text = match &answer {
+    let parsed = read(rt.alloc(), "h3 --help")?;
+    let text = match &parsed {
         Err(WordsFault::Help(text)) => text.as_str(),
         _ => "",
     };
-    for word in words {
+    for word in COMMAND_WORDS {
         let listed = text
             .lines()
             .any(|line| line.split_whitespace().next() == Some(word));
