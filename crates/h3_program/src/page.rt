@@ -9,8 +9,8 @@ use arrayvec::ArrayVec;
 use std::io;
 use std::io::{ErrorKind, Write};
 
-/// The bytes of a page.
-const PAGE: usize = 65536;
+/// The bytes of a page. With twice as many the stack would have to grow, which fails where memory is short.
+const PAGE: usize = 32768;
 
 /// A writer that collects bytes in a page of its own, and writes them to the inner writer when the page is full or
 /// flushed. It allocates nothing. When it is dropped, what was not flushed is lost.
@@ -66,7 +66,7 @@ impl<W: Write> Write for PageWriter<W> {
         ensures bytes { WriteAppends (page_contents W.contents self.old)
             (page_contents W.contents self.new) result bytes.now }
         ensures some { IfOk result (λ n. 0 < length bytes.now → 0 < n) }
-        ensures room { page_len self.old < 65536 → IsOk result }
+        ensures room { page_len self.old < 32768 → IsOk result }
     {
         if self.page.is_full() {
             self.send()?;
