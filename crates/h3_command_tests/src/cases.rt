@@ -4,6 +4,7 @@ use h3_command::Command;
 use h3_command::run::run;
 use h3_fakes::{Faults, FaultySink, FaultySource};
 use h3_index::{Sink, read_index};
+use std::process::Abort;
 
 /// No call fails.
 pub const NO_FAULT: Faults = Faults::From(u64::MAX);
@@ -47,32 +48,68 @@ pub struct Outcome {
     pub status: u8,
 
     /// Standard output.
-    pub out: FaultySink<256>,
+    pub out: FaultySink<2048>,
 
     /// Standard error.
     pub err: FaultySink<64>,
 
     /// The pulls of what the command reads.
     pub pulls: u64,
+
+    /// The pulls of what it does not read: its table or its list, or both.
+    pub strays: u64,
 }
 
 impl Outcome {
-    /// Whether this output and this line were written, and this status was returned.
+    /// Whether this output and this line were written, this status was returned, and nothing was read
+    /// but what the command reads.
     pub fn is(&self, output: &str, line: &str, status: u8) -> bool {
         self.status == status
             && self.out.bytes() == output.as_bytes()
             && self.err.bytes() == line.as_bytes()
+            && self.strays == 0
     }
 }
 
+/// How the streams of a run fail.
+#[derive(Clone, Copy)]
+pub struct Streams {
+    /// The bytes of a pull, at most.
+    pub most: usize,
+
+    /// The pulls of what the command reads that fail.
+    pub reads: Faults,
+
+    /// The pushes and flushes of standard output that fail. A push takes at most 64 bytes.
+    pub writes: Faults,
+
+    /// The pushes of standard error that fail. A push takes at most 5 bytes.
+    pub errors: Faults,
+}
+
+/// No stream fails.
+pub const WELL: Streams = Streams {
+    most: 65536,
+    reads: NO_FAULT,
+    writes: NO_FAULT,
+    errors: NO_FAULT,
+};
+
 impl<'a> Case<'a> {
-    /// A source of what the command reads.
-    pub fn source(&self, most: usize, faults: Faults) -> FaultySource<'a> {
-        let text = match self.reads {
-            Reads::Nothing => "",
-            Reads::List(text) | Reads::Table(text) => text,
-        };
-        FaultySource::new(text.as_bytes(), most, faults)
+    /// The list that the command reads. Where it reads none, each pull fails.
+    fn input(&self, most: usize, faults: Faults) -> FaultySource<'a> {
+        match self.reads {
+            Reads::List(text) => FaultySource::new(text.as_bytes(), most, faults),
+            Reads::Nothing | Reads::Table(_) => FaultySource::new(b"", 0, NO_FAULT),
+        }
+    }
+
+    /// The table that the command reads. Where it reads none, each pull fails.
+    fn table(&self, most: usize, faults: Faults) -> FaultySource<'a> {
+        match self.reads {
+            Reads::Table(text) => FaultySource::new(text.as_bytes(), most, faults),
+            Reads::Nothing | Reads::List(_) => FaultySource::new(b"", 0, NO_FAULT),
+        }
     }
 
     /// How many pulls of at most `most` bytes read all that the command reads: the last one finds the
@@ -87,71 +124,104 @@ impl<'a> Case<'a> {
         }
     }
 
-    /// Runs the command over a source, and returns the exit status. A pull of any other source
-    /// fails.
-    pub fn run<R: AllocGlobal, W: Sink, E: Sink>(
-        &self,
-        rt: &R,
-        source: &mut FaultySource<'_>,
-        out: &mut W,
-        err: &mut E,
-    ) -> u8 {
-        let alloc = rt.alloc();
-        let mut other = FaultySource::new(b"", 0, NO_FAULT);
-        let mut unread = FaultySource::new(b"", 0, NO_FAULT);
-        match self.reads {
-            Reads::Nothing => run(alloc, &self.command, &mut other, &mut unread, out, err),
-            Reads::List(_) => run(alloc, &self.command, source, &mut unread, out, err),
-            Reads::Table(_) => run(alloc, &self.command, &mut other, source, out, err),
-        }
+    /// The flushes of the answer: one at its end, and one before an error only where lines stand before
+    /// it.
+    pub fn flushes(&self) -> u64 {
+        u64::from(self.status == 0 || !self.output.is_empty())
     }
 
-    /// Runs the command over a source and two sinks.
-    pub fn outcome<R: AllocGlobal>(
+    /// Runs the command over sources that do not fail, and returns the exit status.
+    pub fn status<R: AllocGlobal, W: Sink, E: Sink>(&self, rt: &R, out: &mut W, err: &mut E) -> u8 {
+        let mut input = self.input(65536, NO_FAULT);
+        let mut table = self.table(65536, NO_FAULT);
+        let alloc = rt.alloc();
+        run(alloc, &self.command, &mut input, &mut table, out, err)
+    }
+
+    /// Runs the command over a reader that fails so, and two sinks.
+    fn outcome<R: AllocGlobal>(
         &self,
         rt: &R,
-        reader: FaultySource<'_>,
-        writer: FaultySink<256>,
+        reader: (usize, Faults),
+        writer: FaultySink<2048>,
         errors: FaultySink<64>,
     ) -> Outcome {
-        let mut source = reader;
+        let (most, faults) = reader;
+        let mut input = self.input(most, faults);
+        let mut table = self.table(most, faults);
         let mut out = writer;
         let mut err = errors;
-        let status = self.run(rt, &mut source, &mut out, &mut err);
-        let pulls = source.pulls();
+        let alloc = rt.alloc();
+        let command = &self.command;
+        let status = run(alloc, command, &mut input, &mut table, &mut out, &mut err);
+        let (pulls, strays) = match self.reads {
+            Reads::Nothing => (0, input.pulls().saturating_add(table.pulls())),
+            Reads::List(_) => (input.pulls(), table.pulls()),
+            Reads::Table(_) => (table.pulls(), input.pulls()),
+        };
         Outcome {
             status,
             out,
             err,
             pulls,
+            strays,
         }
+    }
+
+    /// Runs the command over streams that fail so.
+    pub fn over<R: AllocGlobal>(&self, rt: &R, streams: Streams) -> Outcome {
+        let out = FaultySink::new(64, streams.writes);
+        let err = FaultySink::new(5, streams.errors);
+        self.outcome(rt, (streams.most, streams.reads), out, err)
     }
 
     /// The same over a reader that fails so, where no write fails.
     pub fn read<R: AllocGlobal>(&self, rt: &R, most: usize, faults: Faults) -> Outcome {
-        let source = self.source(most, faults);
-        let out = FaultySink::new(64, NO_FAULT);
-        let err = FaultySink::new(64, NO_FAULT);
-        self.outcome(rt, source, out, err)
+        let streams = Streams {
+            most,
+            reads: faults,
+            ..WELL
+        };
+        self.over(rt, streams)
     }
 
     /// The same over a writer that fails so, where no read fails.
-    pub fn write<R: AllocGlobal>(&self, rt: &R, out: FaultySink<256>) -> Outcome {
-        let source = self.source(65536, NO_FAULT);
+    pub fn write<R: AllocGlobal>(&self, rt: &R, out: FaultySink<2048>) -> Outcome {
         let err = FaultySink::new(64, NO_FAULT);
-        self.outcome(rt, source, out, err)
+        self.outcome(rt, (65536, NO_FAULT), out, err)
     }
 }
 
 /// The cell of many tests: of resolution 5, in base cell 20.
-const HEXAGON: Option<u64> = Some(0x85283473fffffff);
+pub const HEXAGON: Option<u64> = Some(0x85283473fffffff);
 
 /// Its children.
-const CHILDREN: &str = "862834707ffffff\n86283470fffffff\n862834717ffffff\n86283471fffffff\n\
+pub const CHILDREN: &str = "862834707ffffff\n86283470fffffff\n862834717ffffff\n86283471fffffff\n\
                         862834727ffffff\n86283472fffffff\n862834737ffffff\n";
 
+/// The 49 cells of resolution 2 below 8029fffffffffff, the last of which is 8229b7fffffffff.
+pub const BELOW_BASE_20: &str =
+    "822807fffffffff\n82280ffffffffff\n822817fffffffff\n82281ffffffffff\n\
+     822827fffffffff\n82282ffffffffff\n822837fffffffff\n822847fffffffff\n\
+     82284ffffffffff\n822857fffffffff\n82285ffffffffff\n822867fffffffff\n\
+     82286ffffffffff\n822877fffffffff\n822887fffffffff\n82288ffffffffff\n\
+     822897fffffffff\n82289ffffffffff\n8228a7fffffffff\n8228affffffffff\n\
+     8228b7fffffffff\n8228c7fffffffff\n8228cffffffffff\n8228d7fffffffff\n\
+     8228dffffffffff\n8228e7fffffffff\n8228effffffffff\n8228f7fffffffff\n\
+     822907fffffffff\n82290ffffffffff\n822917fffffffff\n82291ffffffffff\n\
+     822927fffffffff\n82292ffffffffff\n822937fffffffff\n822947fffffffff\n\
+     82294ffffffffff\n822957fffffffff\n82295ffffffffff\n822967fffffffff\n\
+     82296ffffffffff\n822977fffffffff\n822987fffffffff\n82298ffffffffff\n\
+     822997fffffffff\n82299ffffffffff\n8229a7fffffffff\n8229affffffffff\n\
+     8229b7fffffffff\n";
+
+/// The index of a word, or nothing where it is none.
+pub fn index_of(word: &str) -> Option<u64> {
+    read_index(word.as_bytes()).ok()
+}
+
 /// A command whose whole answer is this output.
-fn whole<'a>(command: Command, reads: Reads<'a>, output: &'a str) -> Case<'a> {
+pub fn whole<'a>(command: Command, reads: Reads<'a>, output: &'a str) -> Case<'a> {
     Case {
         command,
         reads,
@@ -159,6 +229,56 @@ fn whole<'a>(command: Command, reads: Reads<'a>, output: &'a str) -> Case<'a> {
         line: "",
         status: 0,
     }
+}
+
+/// A command that writes this output, and then ends with this line of an H3 error.
+pub fn refused<'a>(command: Command, reads: Reads<'a>, output: &'a str, line: &'a str) -> Case<'a> {
+    Case {
+        command,
+        reads,
+        output,
+        line,
+        status: 1,
+    }
+}
+
+/// Asserts the answer of a command, that it is flushed as it should be, and that nothing else is read
+/// than what the command reads; this is handed out in pieces of so many bytes.
+pub fn assert_pieces<R: Abort + AllocGlobal>(rt: &R, case: &Case<'_>, pieces: &[usize]) {
+    for most in pieces {
+        let run = case.read(rt, *most, NO_FAULT);
+        let answered = run.is(case.output, case.line, case.status);
+        let flushed = run.out.flushes() == case.flushes();
+        assert!(rt; answered && flushed, "{:?}, {most}", case.command);
+    }
+}
+
+/// Asserts what a command writes that reads neither a list nor a table.
+pub fn assert_written<R: Abort + AllocGlobal>(rt: &R, command: Command, output: &str) {
+    assert_pieces(rt, &whole(command, Reads::Nothing, output), &[1]);
+}
+
+/// Asserts that a command ends with this line of an H3 error, and reads neither a list nor a table.
+pub fn assert_refused<R: Abort + AllocGlobal>(rt: &R, command: Command, line: &str) {
+    assert_pieces(rt, &refused(command, Reads::Nothing, "", line), &[1]);
+}
+
+/// Asserts what a command over a table writes, its line on standard error and its exit status.
+pub fn assert_run<R: Abort + AllocGlobal>(
+    rt: &R,
+    file: &str,
+    command: Command,
+    answer: (&str, &str, u8),
+) {
+    let (output, line, status) = answer;
+    let case = Case {
+        command,
+        reads: Reads::Table(file),
+        output,
+        line,
+        status,
+    };
+    assert_pieces(rt, &case, &[7, 65536]);
 }
 
 /// Commands that read nothing.
@@ -171,13 +291,12 @@ pub fn plain_cases() -> [Case<'static>; 4] {
         whole(Command::IsValidCell { cell }, nothing, "true\n"),
         whole(Command::CellToChildren { cell, res: 6 }, nothing, CHILDREN),
         whole(Command::OriginToDirectedEdges { cell }, nothing, edges),
-        Case {
-            command: Command::IsValidCell { cell: None },
-            reads: nothing,
-            output: "",
-            line: "error 1: E_FAILED\n",
-            status: 1,
-        },
+        refused(
+            Command::IsValidCell { cell: None },
+            nothing,
+            "",
+            "error 1: E_FAILED\n",
+        ),
     ]
 }
 
@@ -187,6 +306,7 @@ pub fn list_cases() -> [Case<'static>; 5] {
                  862834717ffffff\n86283470fffffff\n862834707ffffff";
     let five = "81083ffffffffff\n8108bffffffffff\n8108fffffffffff\n81093ffffffffff\n\
                 81097ffffffffff\n";
+    let twice = "85283473fffffff\n85283473fffffff\n";
     let compact = Command::CompactCells;
     let children = Command::UncompactCells { res: 6 };
     [
@@ -194,64 +314,67 @@ pub fn list_cases() -> [Case<'static>; 5] {
         whole(compact, Reads::List(five), five),
         whole(compact, Reads::List("\n\n\n"), ""),
         whole(children, Reads::List("85283473fffffff\n"), CHILDREN),
-        Case {
-            command: compact,
-            reads: Reads::List("85283473fffffff\n85283473fffffff\n"),
-            output: "",
-            line: "error 10: E_DUPLICATE_INPUT\n",
-            status: 1,
-        },
+        refused(
+            compact,
+            Reads::List(twice),
+            "",
+            "error 10: E_DUPLICATE_INPUT\n",
+        ),
     ]
 }
 
-/// Commands on a table.
-pub fn table_cases(file: &str) -> [Case<'_>; 7] {
+/// Walks over a table: whole ones, and such as are refused on their way or before it.
+pub fn walk_cases(file: &str) -> [Case<'_>; 7] {
     let disk = "85283473fffffff\n85283447fffffff\n8528347bfffffff\n85283463fffffff\n\
                 85283477fffffff\n8528340ffffffff\n8528340bfffffff\n";
+    let distances = "85283473fffffff 0\n85283447fffffff 1\n8528347bfffffff 1\n\
+                     85283463fffffff 1\n85283477fffffff 1\n8528340ffffffff 1\n\
+                     8528340bfffffff 1\n";
     let ring = "8528340bfffffff\n85283447fffffff\n8528347bfffffff\n85283463fffffff\n\
                 85283477fffffff\n8528340ffffffff\n";
-    let cell = HEXAGON;
-    let to = read_index(b"85283477fffffff").ok();
-    let edge = read_index(b"115283473fffffff").ok();
+    let disk_begun = "800bfffffffffff\n8023fffffffffff\n8021fffffffffff\n";
+    let ring_begun = "800dfffffffffff\n8023fffffffffff\n8021fffffffffff\n";
+    let line = "error 9: E_PENTAGON\n";
     let table = Reads::Table(file);
-    let refused = "error 9: E_PENTAGON\n";
+    let cell = HEXAGON;
+    let beside = index_of("800bfffffffffff");
+    let inside = index_of("8009fffffffffff");
+    let disk_beside = Command::GridDiskUnsafe { cell: beside, k: 1 };
+    let ring_beside = Command::GridRingUnsafe { cell: beside, k: 1 };
+    let ring_far = Command::GridRingUnsafe {
+        cell: beside,
+        k: i32::MAX,
+    };
+    let disk_inside = Command::GridDiskUnsafe { cell: inside, k: 0 };
     [
         whole(Command::GridDiskUnsafe { cell, k: 1 }, table, disk),
+        whole(
+            Command::GridDiskDistancesUnsafe { cell, k: 1 },
+            table,
+            distances,
+        ),
         whole(Command::GridRingUnsafe { cell, k: 1 }, table, ring),
-        whole(
-            Command::GridDiskDistancesUnsafe { cell, k: 0 },
-            table,
-            "85283473fffffff 0\n",
-        ),
-        whole(
-            Command::CellsToDirectedEdge { cell, to },
-            table,
-            "115283473fffffff\n",
-        ),
-        whole(
-            Command::GetDirectedEdgeDestination { edge },
-            table,
-            "85283477fffffff\n",
-        ),
-        Case {
-            command: Command::GridDiskUnsafe {
-                cell: read_index(b"800bfffffffffff").ok(),
-                k: 1,
-            },
-            reads: table,
-            output: "800bfffffffffff\n8023fffffffffff\n8021fffffffffff\n",
-            line: refused,
-            status: 1,
-        },
-        Case {
-            command: Command::GridDiskUnsafe {
-                cell: read_index(b"8009fffffffffff").ok(),
-                k: 0,
-            },
-            reads: table,
-            output: "",
-            line: refused,
-            status: 1,
-        },
+        refused(disk_beside, table, disk_begun, line),
+        refused(ring_beside, table, ring_begun, line),
+        refused(ring_far, table, "", line),
+        refused(disk_inside, table, "", line),
+    ]
+}
+
+/// Commands on neighbours and edges over a table.
+pub fn edge_cases(file: &str) -> [Case<'_>; 4] {
+    let cell = HEXAGON;
+    let to = index_of("85283477fffffff");
+    let edge = index_of("115283473fffffff");
+    let table = Reads::Table(file);
+    let neighbors = Command::AreNeighborCells { cell, to };
+    let between = Command::CellsToDirectedEdge { cell, to };
+    let itself = Command::CellsToDirectedEdge { cell, to: cell };
+    let destination = Command::GetDirectedEdgeDestination { edge };
+    [
+        whole(neighbors, table, "true\n"),
+        whole(between, table, "115283473fffffff\n"),
+        whole(destination, table, "85283477fffffff\n"),
+        refused(itself, table, "", "error 11: E_NOT_NEIGHBORS\n"),
     ]
 }

@@ -1,17 +1,11 @@
 //! Commands on neighbours and directed edges.
 
-use crate::table_files::{assert_run, assert_unread, run_to};
+use crate::cases::{assert_refused, assert_run, assert_written, index_of};
 use h3_command::Command;
-use h3_command::run::run;
-use h3_fakes::{Faults, FaultySink, FaultySource, table_file};
-use h3_index::read_index;
+use h3_fakes::table_file;
 use h3_lattice::vectors::TestTable;
 use std::process::Abort;
 use std::test::Fail;
-
-fn index_of(word: &str) -> Option<u64> {
-    read_index(word.as_bytes()).ok()
-}
 
 fn neighbors(cell: &str, to: &str) -> Command {
     Command::AreNeighborCells {
@@ -49,21 +43,6 @@ fn edges(cell: &str) -> Command {
     Command::OriginToDirectedEdges {
         cell: index_of(cell),
     }
-}
-
-/// Asserts what a command writes that reads neither a list nor a table.
-fn assert_plain<R: Abort + AllocGlobal>(rt: &R, command: Command, text: &str) {
-    let mut input = FaultySource::new(b"", 1, Faults::From(0));
-    let mut table = FaultySource::new(b"", 1, Faults::From(0));
-    let mut out: FaultySink<128> = FaultySink::new(64, Faults::From(100));
-    let mut err: FaultySink<64> = FaultySink::new(64, Faults::From(100));
-    let alloc = rt.alloc();
-    let status = run(alloc, &command, &mut input, &mut table, &mut out, &mut err);
-    assert_eq!(rt; status, 0, "{command:?}");
-    assert!(rt; out.bytes() == text.as_bytes(), "{command:?}");
-    assert!(rt; err.bytes().is_empty(), "{command:?}");
-    assert!(rt; !input.failed(), "{command:?}");
-    assert!(rt; !table.failed(), "{command:?}");
 }
 
 const FAILED: &str = "error 1: E_FAILED\n";
@@ -141,7 +120,7 @@ fn assert_leads<R: Abort + AllocGlobal>(
     let line = format!(in rt.alloc(); "{to}\n")?;
     assert_run(rt, file, destination(edge), (&line, "", 0));
     let line = format!(in rt.alloc(); "{cell}\n")?;
-    assert_plain(rt, origin(edge), &line);
+    assert_written(rt, origin(edge), &line);
     Ok(())
 }
 
@@ -190,23 +169,23 @@ fn edges_are_tested(rt: HostRuntime) {
         ("0", "false\n"),
     ];
     for (edge, text) in words {
-        assert_plain(&rt, is_edge(edge), text);
+        assert_written(&rt, is_edge(edge), text);
     }
-    assert_unread(&rt, is_edge("xyz"), FAILED);
+    assert_refused(&rt, is_edge("xyz"), FAILED);
 }
 
 #[test]
 fn the_edges_of_a_cell_are_listed(rt: HostRuntime) {
     let six = "115283473fffffff\n125283473fffffff\n135283473fffffff\n\
                145283473fffffff\n155283473fffffff\n165283473fffffff\n";
-    assert_plain(&rt, edges("85283473fffffff"), six);
+    assert_written(&rt, edges("85283473fffffff"), six);
     let five = "12009fffffffffff\n13009fffffffffff\n14009fffffffffff\n\
                 15009fffffffffff\n16009fffffffffff\n";
-    assert_plain(&rt, edges("8009fffffffffff"), five);
+    assert_written(&rt, edges("8009fffffffffff"), five);
     // a hexagon in a pentagon base cell
     let six = "11108bffffffffff\n12108bffffffffff\n13108bffffffffff\n\
                14108bffffffffff\n15108bffffffffff\n16108bffffffffff\n";
-    assert_plain(&rt, edges("8108bffffffffff"), six);
+    assert_written(&rt, edges("8108bffffffffff"), six);
 }
 
 #[test]
@@ -217,12 +196,12 @@ fn words_that_are_no_edge_are_refused(rt: HostRuntime) {
         ("85283473fffffff", DIR_EDGE_INVALID),
     ];
     for (edge, line) in words {
-        assert_unread(&rt, origin(edge), line);
-        assert_unread(&rt, destination(edge), line);
+        assert_refused(&rt, origin(edge), line);
+        assert_refused(&rt, destination(edge), line);
     }
-    assert_unread(&rt, edges("xyz"), FAILED);
-    assert_unread(&rt, edges("81087ffffffffff"), CELL_INVALID);
-    assert_unread(&rt, edges("115283473fffffff"), CELL_INVALID);
+    assert_refused(&rt, edges("xyz"), FAILED);
+    assert_refused(&rt, edges("81087ffffffffff"), CELL_INVALID);
+    assert_refused(&rt, edges("115283473fffffff"), CELL_INVALID);
 }
 
 #[test]
@@ -236,8 +215,8 @@ fn the_cell_is_judged_before_the_second_cell(rt: HostRuntime) {
         ("81087ffffffffff", "xyz", CELL_INVALID),
     ];
     for (cell, to, line) in words {
-        assert_unread(&rt, neighbors(cell, to), line);
-        assert_unread(&rt, edge_between(cell, to), line);
+        assert_refused(&rt, neighbors(cell, to), line);
+        assert_refused(&rt, edge_between(cell, to), line);
     }
 }
 
@@ -257,42 +236,4 @@ fn the_table_is_judged_before_the_cells_and_the_edge(rt: HostRuntime) {
         empty,
     );
     assert_run(&rt, "", destination("11021fffffffffff"), empty);
-}
-
-#[test]
-fn a_read_fault_of_the_table_is_reported(rt: HostRuntime) -> Result<(), Fail> {
-    for command in [
-        neighbors("85283473fffffff", "8428347ffffffff"),
-        edge_between("85283473fffffff", "85283477fffffff"),
-        destination("115283473fffffff"),
-    ] {
-        let mut input = FaultySource::new(b"", 1, Faults::From(0));
-        let mut table = FaultySource::new(b"base,dir,to,rot\n", 4, Faults::From(2));
-        let mut out: FaultySink<64> = FaultySink::new(64, Faults::From(0));
-        let mut err: FaultySink<64> = FaultySink::new(64, Faults::From(100));
-        let alloc = rt.alloc();
-        let status = run(alloc, &command, &mut input, &mut table, &mut out, &mut err);
-        assert_eq!(&rt; status, 4, "{command:?}");
-        assert!(&rt; err.bytes() == b"fault: read\n".as_slice(), "{command:?}");
-    }
-    Ok(())
-}
-
-#[test]
-fn a_write_fault_leaves_a_beginning(rt: HostRuntime) -> Result<(), Fail> {
-    let plain = table_file(TestTable::Plain);
-    // the first has no room for its second line, and the second fails at its flush
-    let edge = edge_between("85283473fffffff", "85283477fffffff");
-    let runs = [
-        (edges("8009fffffffffff"), 100, "12009fffffffffff\n130"),
-        (edge, 1, "115283473fffffff\n"),
-    ];
-    for (command, calls, text) in runs {
-        let mut out: FaultySink<20> = FaultySink::new(64, Faults::From(calls));
-        let (err, status) = run_to(&rt, &plain, command, &mut out);
-        assert_eq!(&rt; status, 4, "{command:?}");
-        assert!(&rt; out.bytes() == text.as_bytes(), "{command:?}");
-        assert!(&rt; err.bytes() == b"fault: write\n".as_slice(), "{command:?}");
-    }
-    Ok(())
 }

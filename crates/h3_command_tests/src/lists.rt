@@ -1,11 +1,10 @@
-//! Lists whose lines are long, or cut by a reader that fails; and walks far beyond what is written.
+//! Lists whose lines are long, faulty, or cut by a reader that fails.
 
 use crate::cases::{Case, NO_FAULT, Reads};
+use crate::readers::assert_read_fault;
 use arrayvec::ArrayString;
 use h3_command::Command;
-use h3_fakes::{Faults, table_file};
-use h3_index::read_index;
-use h3_lattice::vectors::TestTable;
+use h3_fakes::Faults;
 use std::process::Abort;
 
 /// The bytes of a pull. Each of these lists fits in the largest.
@@ -41,31 +40,38 @@ fn assert_compacted<R: Abort + AllocGlobal>(rt: &R, case: &Case<'_>) {
     }
 }
 
-/// Asserts that a list is known to be faulty by its last byte: no pull is made after it, whether it
-/// would fail or not.
-fn assert_known<R: Abort + AllocGlobal>(rt: &R, case: &Case<'_>) {
+/// Asserts that a list is known to be faulty by so many of its bytes: a fault of the reader before
+/// that counts, and no pull is made after it, whether it would fail or not.
+fn assert_known<R: Abort + AllocGlobal>(rt: &R, case: &Case<'_>, bytes: usize) {
     for most in PIECES {
-        let pulls = case.pulls(most).saturating_sub(1);
-        for faults in [NO_FAULT, Faults::From(pulls)] {
-            let run = case.read(rt, most, faults);
-            let answered = run.is(case.output, case.line, case.status);
-            assert!(rt; answered && run.pulls == pulls, "{most}");
+        let known = bytes.div_ceil(most) as u64;
+        for pull in 0..known {
+            assert_read_fault(rt, case, most, Faults::From(pull));
+            assert_read_fault(rt, case, most, Faults::Once(pull));
+        }
+        for pull in known..=case.pulls(most) {
+            let run = case.read(rt, most, Faults::From(pull));
+            let answered = run.is("", case.line, case.status) && run.out.calls() == 0;
+            assert!(rt; answered && run.pulls == known, "{most}, {pull}");
         }
     }
 }
 
-/// Asserts that a reader's fault after the bytes of a list is reported.
+/// Asserts that a list is judged at its end alone: a fault of the reader after its last byte counts.
 fn assert_torn<R: Abort + AllocGlobal>(rt: &R, case: &Case<'_>) {
+    assert_compacted(rt, case);
     for most in PIECES {
-        let pulls = case.pulls(most).saturating_sub(1);
-        let run = case.read(rt, most, Faults::From(pulls));
-        let reported = run.is("", "fault: read\n", 4);
-        assert!(rt; reported && run.pulls == pulls.saturating_add(1), "{most}");
+        let end = case.pulls(most).saturating_sub(1);
+        assert_read_fault(rt, case, most, Faults::From(end));
+        assert_read_fault(rt, case, most, Faults::Once(end));
     }
 }
 
 /// The line of a line that parses as no index, or is too long.
 const FAILED: &str = "error 1: E_FAILED\n";
+
+/// The line of the index of no cell.
+const CELL_INVALID: &str = "error 5: E_CELL_INVALID\n";
 
 #[test]
 fn lines_have_at_most_64_bytes(rt: HostRuntime) {
@@ -75,18 +81,33 @@ fn lines_have_at_most_64_bytes(rt: HostRuntime) {
     let one = "85283473fffffff\n";
     assert_compacted(&rt, &compaction(indented.as_str(), one, "", 0));
     let blank = after(65, ' ', "");
-    assert_known(&rt, &compaction(blank.as_str(), "", FAILED, 1));
+    assert_known(&rt, &compaction(blank.as_str(), "", FAILED, 1), 65);
     let indented = after(50, ' ', "85283473fffffff");
-    assert_known(&rt, &compaction(indented.as_str(), "", FAILED, 1));
+    assert_known(&rt, &compaction(indented.as_str(), "", FAILED, 1), 65);
 }
 
 #[test]
 fn a_faulty_line_that_is_known_decides_before_a_read_fault(rt: HostRuntime) {
-    assert_known(&rt, &compaction("xyz\n", "", FAILED, 1));
     let long = after(65, '8', "");
-    assert_known(&rt, &compaction(long.as_str(), "", FAILED, 1));
-    let invalid = "error 5: E_CELL_INVALID\n";
-    assert_known(&rt, &compaction("81087ffffffffff\n", "", invalid, 1));
+    // a list, its error, and the bytes by which it is known
+    let lists = [
+        ("xyz\n", FAILED, 4),
+        (long.as_str(), FAILED, 65),
+        ("81087ffffffffff\n", CELL_INVALID, 16),
+        ("xyz\n85283473fffffff\n", FAILED, 4),
+        ("xyz\n81087ffffffffff\n", FAILED, 4),
+        ("81087ffffffffff\nxyz\n", CELL_INVALID, 16),
+        ("85283473fffffff\n\nxyz\n85283473fffffff\n", FAILED, 21),
+        ("85283473fffffff\n0\nxyz", CELL_INVALID, 18),
+        (
+            "85283473fffffff\n81087ffffffffff\n85283473fffffff\n",
+            CELL_INVALID,
+            32,
+        ),
+    ];
+    for (list, line, bytes) in lists {
+        assert_known(&rt, &compaction(list, "", line, 1), bytes);
+    }
 }
 
 #[test]
@@ -94,29 +115,7 @@ fn a_last_line_that_a_read_fault_cuts_is_not_looked_at(rt: HostRuntime) {
     let one = "85283473fffffff\n";
     assert_torn(&rt, &compaction("85283473fffffff", one, "", 0));
     assert_torn(&rt, &compaction("xyz", "", FAILED, 1));
+    assert_torn(&rt, &compaction("", "", "", 0));
     let long = after(64, '8', "");
     assert_torn(&rt, &compaction(long.as_str(), "", FAILED, 1));
-}
-
-#[test]
-fn walks_of_the_largest_radius_end_at_a_pentagon(rt: HostRuntime) {
-    let file = table_file(TestTable::Plain);
-    let cell = read_index(b"800bfffffffffff").ok();
-    let k = i32::MAX;
-    let begun = "800bfffffffffff\n8023fffffffffff\n8021fffffffffff\n";
-    let walks = [
-        (Command::GridDiskUnsafe { cell, k }, begun),
-        (Command::GridRingUnsafe { cell, k }, ""),
-    ];
-    for (command, output) in walks {
-        let case = Case {
-            command,
-            reads: Reads::Table(file.as_str()),
-            output,
-            line: "error 9: E_PENTAGON\n",
-            status: 1,
-        };
-        let run = case.read(&rt, 65536, NO_FAULT);
-        assert!(&rt; run.is(case.output, case.line, case.status));
-    }
 }

@@ -1,9 +1,11 @@
 //! Commands over a reader that fails.
 
-use crate::cases::{Case, NO_FAULT, Reads, list_cases, plain_cases, table_cases};
+use crate::cases::{
+    BELOW_BASE_20, Case, HEXAGON, NO_FAULT, Reads, edge_cases, list_cases, plain_cases, walk_cases,
+    whole,
+};
 use h3_command::Command;
-use h3_fakes::{Faults, table_file};
-use h3_index::read_index;
+use h3_fakes::{Faults, bases_file, table_file};
 use h3_lattice::vectors::TestTable;
 use std::process::Abort;
 
@@ -19,7 +21,12 @@ fn assert_answered<R: Abort + AllocGlobal>(rt: &R, case: &Case<'_>, most: usize,
 }
 
 /// Asserts that a read fault is reported, nothing is written, and no pull is made after it.
-fn assert_read_fault<R: Abort + AllocGlobal>(rt: &R, case: &Case<'_>, most: usize, faults: Faults) {
+pub fn assert_read_fault<R: Abort + AllocGlobal>(
+    rt: &R,
+    case: &Case<'_>,
+    most: usize,
+    faults: Faults,
+) {
     let run = case.read(rt, most, faults);
     let pull = faults.first();
     let reported = run.is("", "fault: read\n", 4) && run.out.calls() == 0;
@@ -41,7 +48,7 @@ fn assert_read_faults<R: Abort + AllocGlobal>(rt: &R, case: &Case<'_>, most: usi
 #[test]
 fn a_plain_command_reads_nothing(rt: HostRuntime) {
     for case in &plain_cases() {
-        assert_answered(&rt, case, 1, Faults::From(0));
+        assert_answered(&rt, case, 1, NO_FAULT);
     }
 }
 
@@ -55,9 +62,18 @@ fn a_list_whose_read_fails_is_a_read_fault(rt: HostRuntime) {
 }
 
 #[test]
+fn a_long_list_that_is_read_byte_by_byte_may_fail_at_each(rt: HostRuntime) {
+    let list = Reads::List(BELOW_BASE_20);
+    let case = whole(Command::CompactCells, list, "8029fffffffffff\n");
+    assert_read_faults(&rt, &case, 1);
+}
+
+#[test]
 fn a_table_whose_read_fails_is_a_read_fault(rt: HostRuntime) {
     let file = table_file(TestTable::Plain);
-    for case in &table_cases(file.as_str()) {
+    let walks = walk_cases(file.as_str());
+    let edges = edge_cases(file.as_str());
+    for case in walks.iter().chain(edges.iter()) {
         for most in [61, 4096] {
             assert_read_faults(&rt, case, most);
         }
@@ -67,15 +83,46 @@ fn a_table_whose_read_fails_is_a_read_fault(rt: HostRuntime) {
 
 #[test]
 fn a_table_that_is_read_byte_by_byte_may_fail_at_each(rt: HostRuntime) {
-    let cell = read_index(b"85283473fffffff").ok();
-    let case = Case {
-        command: Command::GridDiskUnsafe { cell, k: 1 },
-        reads: Reads::Table("base,dir,to,rot\n0,1,110,0\n0,2,11,0\n"),
-        output: "",
-        line: "table: missing\n",
-        status: 3,
-    };
-    for most in [1, 2, 4096] {
-        assert_read_faults(&rt, &case, most);
+    let file = bases_file(TestTable::Plain);
+    let [case, ..] = walk_cases(file.as_str());
+    for pull in 0..case.pulls(1) {
+        assert_read_fault(&rt, &case, 1, Faults::From(pull));
+    }
+    assert_answered(&rt, &case, 1, NO_FAULT);
+}
+
+/// A table, the first fault of which is at its end.
+const SHORT: &str = "base,dir,to,rot\n0,1,110,0\n0,2,11,0\n";
+
+/// Tables with a faulty record before others.
+const FAULTY: [(&str, &str); 5] = [
+    ("base,dir,to\n0,1,110,0\n", "table: form 1\n"),
+    ("base,dir,to,rot\n0,1,110\n0,2,11,0\n", "table: form 2\n"),
+    ("base,dir,to,rot\n4,1,0,0\n0,2,11,0\n", "table: range 2\n"),
+    (
+        "base,dir,to,rot\n0,1,110,0\n0,1,110,0\n0,2,11,0\n",
+        "table: repeated 3\n",
+    ),
+    (
+        "base,k,j,jk,i,ik,ij,rk,rj,rjk,ri,rik,rij\n0,1,110,0\n0,2,11,0\n",
+        "table: form 2\n",
+    ),
+];
+
+#[test]
+fn a_read_fault_comes_before_the_refusal_of_a_table(rt: HostRuntime) {
+    let cell = HEXAGON;
+    let short = (SHORT, "table: missing\n");
+    for (file, line) in FAULTY.iter().chain([&short]) {
+        let case = Case {
+            command: Command::GridDiskUnsafe { cell, k: 1 },
+            reads: Reads::Table(file),
+            output: "",
+            line,
+            status: 3,
+        };
+        for most in [1, 2, 4096] {
+            assert_read_faults(&rt, &case, most);
+        }
     }
 }

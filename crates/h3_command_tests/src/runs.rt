@@ -1,62 +1,17 @@
 //! Commands that read nothing, or a list.
 
-use arrayvec::ArrayVec;
+use crate::cases::{
+    BELOW_BASE_20, CHILDREN, Case, HEXAGON, NO_FAULT, Reads, assert_pieces, assert_refused,
+    assert_written, index_of, whole,
+};
 use h3_command::Command;
-use h3_command::run::run;
-use h3_fakes::{Faults, FaultySink, FaultySource};
-use h3_index::{Sink, Source, Streamed, read_index};
 use std::process::Abort;
-
-/// Runs a command, over sources that fail at the first pull.
-fn run_alone<R: AllocGlobal, W: Sink, E: Sink>(
-    rt: &R,
-    command: &Command,
-    out: &mut W,
-    err: &mut E,
-) -> u8 {
-    let mut input = FaultySource::new(b"", 1, Faults::From(0));
-    let mut table = FaultySource::new(b"", 1, Faults::From(0));
-    run(rt.alloc(), command, &mut input, &mut table, out, err)
-}
-
-/// Asserts that a command writes this, and ends well.
-fn assert_written<R: Abort + AllocGlobal>(rt: &R, command: Command, text: &str) {
-    let mut out = Streamed::new(ArrayVec::<u8, 2048>::new());
-    let mut err = Streamed::new(ArrayVec::<u8, 64>::new());
-    let status = run_alone(rt, &command, &mut out, &mut err);
-    assert_eq!(rt; status, 0, "{command:?}");
-    assert!(rt;
-        out.into_inner().as_slice() == text.as_bytes(),
-        "{command:?}"
-    );
-    assert!(rt; err.into_inner().is_empty(), "{command:?}");
-}
-
-/// Asserts that a command writes nothing, and ends with this line on standard error.
-fn assert_refused<R: Abort + AllocGlobal>(rt: &R, command: Command, line: &str) {
-    let mut out = Streamed::new(ArrayVec::<u8, 64>::new());
-    let mut err = Streamed::new(ArrayVec::<u8, 64>::new());
-    let status = run_alone(rt, &command, &mut out, &mut err);
-    assert_eq!(rt; status, 1, "{command:?}");
-    assert!(rt; out.into_inner().is_empty(), "{command:?}");
-    assert!(rt;
-        err.into_inner().as_slice() == line.as_bytes(),
-        "{command:?}"
-    );
-}
-
-fn index_of(word: &str) -> Option<u64> {
-    read_index(word.as_bytes()).ok()
-}
-
-/// The cell of many rows: of resolution 5, in base cell 20.
-const HEXAGON: Option<u64> = Some(0x85283473fffffff);
 
 /// A pentagon of resolution 0.
 const PENTAGON: Option<u64> = Some(0x8009fffffffffff);
 
 #[test]
-fn valid_cells_are_found(rt: HostRuntime) {
+fn cells_are_tested(rt: HostRuntime) {
     let answers = [
         ("85283473fffffff", "true\n"),
         ("0X85283473FFFFFFF", "true\n"),
@@ -74,46 +29,55 @@ fn valid_cells_are_found(rt: HostRuntime) {
 }
 
 #[test]
-fn refuses_words_without_an_index(rt: HostRuntime) {
+fn words_that_parse_as_no_index_are_refused(rt: HostRuntime) {
     for word in ["xyz", "00085283473fffffff", ""] {
         let cell = index_of(word);
-        assert_refused(&rt, Command::IsValidCell { cell }, "error 1: E_FAILED\n");
-        assert_refused(
-            &rt,
+        let commands = [
+            Command::IsValidCell { cell },
             Command::GetBaseCellNumber { cell },
-            "error 1: E_FAILED\n",
-        );
-        let children = Command::CellToChildren { cell, res: 16 };
-        assert_refused(&rt, children, "error 1: E_FAILED\n");
+            Command::CellToChildren { cell, res: 16 },
+        ];
+        for command in commands {
+            assert_refused(&rt, command, "error 1: E_FAILED\n");
+        }
     }
 }
 
 #[test]
-fn refuses_indexes_that_are_no_cells(rt: HostRuntime) {
+fn indexes_that_are_no_cells_are_refused(rt: HostRuntime) {
     let cell = index_of("81087ffffffffff");
-    let line = "error 5: E_CELL_INVALID\n";
-    assert_refused(&rt, Command::GetResolution { cell }, line);
-    assert_refused(&rt, Command::IsPentagon { cell }, line);
-    assert_refused(&rt, Command::IsResClassIII { cell }, line);
-    assert_refused(&rt, Command::CellToParent { cell, res: 16 }, line);
+    let commands = [
+        Command::GetResolution { cell },
+        Command::IsPentagon { cell },
+        Command::IsResClassIII { cell },
+        Command::CellToParent { cell, res: 16 },
+    ];
+    for command in commands {
+        assert_refused(&rt, command, "error 5: E_CELL_INVALID\n");
+    }
 }
 
 #[test]
-fn fields_of_cells(rt: HostRuntime) {
+fn parts_of_cells_are_written(rt: HostRuntime) {
     let cell = HEXAGON;
-    assert_written(&rt, Command::GetResolution { cell }, "5\n");
-    assert_written(&rt, Command::GetBaseCellNumber { cell }, "20\n");
-    assert_written(&rt, Command::IsPentagon { cell }, "false\n");
-    assert_written(&rt, Command::IsResClassIII { cell }, "true\n");
-    let cell = index_of("81083ffffffffff");
-    assert_written(&rt, Command::IsPentagon { cell }, "true\n");
-    let cell = index_of("8108bffffffffff");
-    assert_written(&rt, Command::IsPentagon { cell }, "false\n");
-    assert_written(&rt, Command::IsResClassIII { cell: PENTAGON }, "false\n");
+    let pentagon = index_of("81083ffffffffff");
+    let beside = index_of("8108bffffffffff");
+    let answers = [
+        (Command::GetResolution { cell }, "5\n"),
+        (Command::GetBaseCellNumber { cell }, "20\n"),
+        (Command::IsPentagon { cell }, "false\n"),
+        (Command::IsPentagon { cell: pentagon }, "true\n"),
+        (Command::IsPentagon { cell: beside }, "false\n"),
+        (Command::IsResClassIII { cell }, "true\n"),
+        (Command::IsResClassIII { cell: PENTAGON }, "false\n"),
+    ];
+    for (command, line) in answers {
+        assert_written(&rt, command, line);
+    }
 }
 
 #[test]
-fn counts_cells(rt: HostRuntime) {
+fn cells_are_counted(rt: HostRuntime) {
     assert_written(&rt, Command::GetNumCells { res: 0 }, "122\n");
     assert_written(&rt, Command::GetNumCells { res: 15 }, "569707381193162\n");
     assert_refused(
@@ -123,45 +87,37 @@ fn counts_cells(rt: HostRuntime) {
     );
 }
 
-#[test]
-fn lists_base_cells(rt: HostRuntime) {
-    let mut out = Streamed::new(ArrayVec::<u8, 2048>::new());
-    let mut err = Streamed::new(ArrayVec::<u8, 64>::new());
-    let status = run_alone(&rt, &Command::GetRes0Cells, &mut out, &mut err);
-    assert_eq!(&rt; status, 0);
-    let bytes = out.into_inner();
-    assert_eq!(&rt; bytes.len(), 122 * 16);
-    assert!(&rt;
-        bytes
-            .as_slice()
-            .starts_with(b"8001fffffffffff\n8003fffffffffff\n")
-    );
-    assert!(&rt; bytes.as_slice().ends_with(b"\n80f3fffffffffff\n"));
+/// Asserts that a command writes so many indexes, of which these are the first and the last lines.
+fn assert_ends<R: Abort + AllocGlobal>(rt: &R, command: Command, count: usize, ends: (&str, &str)) {
+    let (first, last) = ends;
+    let run = whole(command, Reads::Nothing, "").read(rt, 1, NO_FAULT);
+    let bytes = run.out.bytes();
+    let well = run.status == 0 && run.err.bytes().is_empty() && run.strays == 0;
+    let counted = bytes.len() == count.saturating_mul(16);
+    let between = bytes.starts_with(first.as_bytes()) && bytes.ends_with(last.as_bytes());
+    assert!(rt; well && counted && between, "{command:?}");
 }
 
 #[test]
-fn lists_pentagons(rt: HostRuntime) {
+fn base_cells_are_listed(rt: HostRuntime) {
+    let ends = ("8001fffffffffff\n8003fffffffffff\n", "\n80f3fffffffffff\n");
+    assert_ends(&rt, Command::GetRes0Cells, 122, ends);
+}
+
+#[test]
+fn pentagons_are_listed(rt: HostRuntime) {
     let coarsest = "8009fffffffffff\n801dfffffffffff\n8031fffffffffff\n804dfffffffffff\n\
                     8063fffffffffff\n8075fffffffffff\n807ffffffffffff\n8091fffffffffff\n\
                     80a7fffffffffff\n80c3fffffffffff\n80d7fffffffffff\n80ebfffffffffff\n";
     assert_written(&rt, Command::GetPentagons { res: 0 }, coarsest);
-    let mut out = Streamed::new(ArrayVec::<u8, 2048>::new());
-    let mut err = Streamed::new(ArrayVec::<u8, 64>::new());
-    let status = run_alone(&rt, &Command::GetPentagons { res: 1 }, &mut out, &mut err);
-    assert_eq!(&rt; status, 0);
-    let bytes = out.into_inner();
-    assert_eq!(&rt; bytes.len(), 12 * 16);
-    assert!(&rt; bytes.as_slice().starts_with(b"81083ffffffffff\n"));
-    assert!(&rt; bytes.as_slice().ends_with(b"\n81ea3ffffffffff\n"));
-    assert_refused(
-        &rt,
-        Command::GetPentagons { res: 16 },
-        "error 4: E_RES_DOMAIN\n",
-    );
+    let ends = ("81083ffffffffff\n", "\n81ea3ffffffffff\n");
+    assert_ends(&rt, Command::GetPentagons { res: 1 }, 12, ends);
+    let line = "error 4: E_RES_DOMAIN\n";
+    assert_refused(&rt, Command::GetPentagons { res: 16 }, line);
 }
 
 #[test]
-fn leads_up_to_ancestors(rt: HostRuntime) {
+fn ancestors_are_written(rt: HostRuntime) {
     let to = |res: i32| Command::CellToParent { cell: HEXAGON, res };
     assert_written(&rt, to(4), "8428347ffffffff\n");
     assert_written(&rt, to(5), "85283473fffffff\n");
@@ -170,26 +126,25 @@ fn leads_up_to_ancestors(rt: HostRuntime) {
 }
 
 #[test]
-fn leads_down_to_descendants(rt: HostRuntime) {
+fn descendants_are_written(rt: HostRuntime) {
     let cell = HEXAGON;
     let center = Command::CellToCenterChild { cell, res: 15 };
     assert_written(&rt, center, "8f2834700000000\n");
-    let children = "862834707ffffff\n86283470fffffff\n862834717ffffff\n86283471fffffff\n\
-                    862834727ffffff\n86283472fffffff\n862834737ffffff\n";
-    assert_written(&rt, Command::CellToChildren { cell, res: 6 }, children);
+    assert_written(&rt, Command::CellToChildren { cell, res: 6 }, CHILDREN);
     let coarser = Command::CellToChildren { cell, res: 4 };
     assert_refused(&rt, coarser, "error 4: E_RES_DOMAIN\n");
     let below_pentagon = "81083ffffffffff\n8108bffffffffff\n8108fffffffffff\n\
                           81093ffffffffff\n81097ffffffffff\n8109bffffffffff\n";
-    let children = Command::CellToChildren {
-        cell: PENTAGON,
-        res: 1,
-    };
-    assert_written(&rt, children, below_pentagon);
+    let cell = PENTAGON;
+    assert_written(
+        &rt,
+        Command::CellToChildren { cell, res: 1 },
+        below_pentagon,
+    );
 }
 
 #[test]
-fn counts_descendants(rt: HostRuntime) {
+fn descendants_are_counted(rt: HostRuntime) {
     let cell = index_of("8029fffffffffff");
     let size = Command::CellToChildrenSize { cell, res: 15 };
     assert_written(&rt, size, "4747561509943\n");
@@ -199,7 +154,7 @@ fn counts_descendants(rt: HostRuntime) {
 }
 
 #[test]
-fn positions_of_cells(rt: HostRuntime) {
+fn positions_are_written(rt: HostRuntime) {
     let answers = [
         ("85283473fffffff", 0, "2279\n"),
         ("85283473fffffff", 5, "0\n"),
@@ -228,7 +183,7 @@ fn at_position(position: u64, word: &str, res: i32) -> Command {
 }
 
 #[test]
-fn finds_descendants_by_position(rt: HostRuntime) {
+fn descendants_are_found_by_position(rt: HostRuntime) {
     let hexagon = "8029fffffffffff";
     let pentagon = "8009fffffffffff";
     assert_written(&rt, at_position(2279, hexagon, 5), "85283473fffffff\n");
@@ -259,79 +214,53 @@ fn assert_listed<R: Abort + AllocGlobal>(
     list: &str,
     answer: (&str, &str, u8),
 ) {
-    let (text, line, expected) = answer;
-    for most in [1, 2, 63, 64, 65, 65536] {
-        let mut input = FaultySource::new(list.as_bytes(), most, Faults::From(1000));
-        let mut table = FaultySource::new(b"", 1, Faults::From(0));
-        let mut out = Streamed::new(ArrayVec::<u8, 256>::new());
-        let mut err = Streamed::new(ArrayVec::<u8, 64>::new());
-        let alloc = rt.alloc();
-        let status = run(alloc, &command, &mut input, &mut table, &mut out, &mut err);
-        assert_eq!(rt; status, expected, "{command:?}, {list}, {most}");
-        assert!(rt;
-            out.into_inner().as_slice() == text.as_bytes(),
-            "{command:?}, {list}, {most}"
-        );
-        assert!(rt;
-            err.into_inner().as_slice() == line.as_bytes(),
-            "{command:?}, {list}, {most}"
-        );
-    }
-}
-
-/// Asserts what uncompaction of a list writes and how it ends.
-fn assert_uncompacted<R: Abort + AllocGlobal>(
-    rt: &R,
-    list: &str,
-    res: i32,
-    answer: (&str, &str, u8),
-) {
-    assert_listed(rt, Command::UncompactCells { res }, list, answer);
+    let (output, line, status) = answer;
+    let case = Case {
+        command,
+        reads: Reads::List(list),
+        output,
+        line,
+        status,
+    };
+    assert_pieces(rt, &case, &[1, 2, 63, 64, 65, 65536]);
 }
 
 #[test]
-fn uncompacts_lists(rt: HostRuntime) {
-    let children = "862834707ffffff\n86283470fffffff\n862834717ffffff\n86283471fffffff\n\
-                    862834727ffffff\n86283472fffffff\n862834737ffffff\n";
-    assert_uncompacted(&rt, "85283473fffffff\n", 6, (children, "", 0));
+fn lists_are_uncompacted(rt: HostRuntime) {
     let below_two = "81083ffffffffff\n8108bffffffffff\n8108fffffffffff\n81093ffffffffff\n\
                      81097ffffffffff\n8109bffffffffff\n81283ffffffffff\n";
     let two = "8009fffffffffff\n\n 81283ffffffffff";
-    assert_uncompacted(&rt, two, 1, (below_two, "", 0));
     let twice = "85283473fffffff\n85283473fffffff\n";
-    assert_uncompacted(&rt, twice, 5, (twice, "", 0));
-    assert_uncompacted(&rt, "", 5, ("", "", 0));
+    // a resolution, a list and its descendants
+    let lists = [
+        (6, "85283473fffffff\n", CHILDREN),
+        (1, two, below_two),
+        (5, twice, twice),
+        (5, "", ""),
+    ];
+    for (res, list, output) in lists {
+        assert_listed(&rt, Command::UncompactCells { res }, list, (output, "", 0));
+    }
 }
 
 #[test]
-fn refuses_lists(rt: HostRuntime) {
-    let finer = "error 12: E_RES_MISMATCH\n";
-    assert_uncompacted(&rt, "85283473fffffff\n", 4, ("", finer, 1));
-    assert_uncompacted(&rt, "", 16, ("", "error 4: E_RES_DOMAIN\n", 1));
-    let faulty = "85283473fffffff\nxyz\n81087ffffffffff\n";
-    assert_uncompacted(&rt, faulty, 6, ("", "error 1: E_FAILED\n", 1));
-    let invalid = "81087ffffffffff\nxyz\n";
-    assert_uncompacted(&rt, invalid, 6, ("", "error 5: E_CELL_INVALID\n", 1));
-    assert_uncompacted(&rt, "xyz\n", 16, ("", "error 1: E_FAILED\n", 1));
+fn lists_are_refused(rt: HostRuntime) {
+    let failed = "error 1: E_FAILED\n";
+    // a resolution, a list and its error
+    let lists = [
+        (4, "85283473fffffff\n", "error 12: E_RES_MISMATCH\n"),
+        (16, "", "error 4: E_RES_DOMAIN\n"),
+        (6, "85283473fffffff\nxyz\n81087ffffffffff\n", failed),
+        (6, "81087ffffffffff\nxyz\n", "error 5: E_CELL_INVALID\n"),
+        (16, "xyz\n", failed),
+    ];
+    for (res, list, line) in lists {
+        assert_listed(&rt, Command::UncompactCells { res }, list, ("", line, 1));
+    }
 }
 
-/// The 49 cells of resolution 2 below 8029fffffffffff, the last of which is 8229b7fffffffff.
-const BELOW_BASE_20: &str = "822807fffffffff\n82280ffffffffff\n822817fffffffff\n82281ffffffffff\n\
-     822827fffffffff\n82282ffffffffff\n822837fffffffff\n822847fffffffff\n\
-     82284ffffffffff\n822857fffffffff\n82285ffffffffff\n822867fffffffff\n\
-     82286ffffffffff\n822877fffffffff\n822887fffffffff\n82288ffffffffff\n\
-     822897fffffffff\n82289ffffffffff\n8228a7fffffffff\n8228affffffffff\n\
-     8228b7fffffffff\n8228c7fffffffff\n8228cffffffffff\n8228d7fffffffff\n\
-     8228dffffffffff\n8228e7fffffffff\n8228effffffffff\n8228f7fffffffff\n\
-     822907fffffffff\n82290ffffffffff\n822917fffffffff\n82291ffffffffff\n\
-     822927fffffffff\n82292ffffffffff\n822937fffffffff\n822947fffffffff\n\
-     82294ffffffffff\n822957fffffffff\n82295ffffffffff\n822967fffffffff\n\
-     82296ffffffffff\n822977fffffffff\n822987fffffffff\n82298ffffffffff\n\
-     822997fffffffff\n82299ffffffffff\n8229a7fffffffff\n8229affffffffff\n\
-     8229b7fffffffff\n";
-
 #[test]
-fn compacts_lists(rt: HostRuntime) {
+fn lists_are_compacted(rt: HostRuntime) {
     let compact = Command::CompactCells;
     let seven = "862834737ffffff\n86283472fffffff\n862834727ffffff\n86283471fffffff\n\
                  862834717ffffff\n86283470fffffff\n862834707ffffff\n";
@@ -354,7 +283,7 @@ fn compacts_lists(rt: HostRuntime) {
 }
 
 #[test]
-fn compacts_lists_of_mixed_resolutions(rt: HostRuntime) {
+fn lists_of_mixed_resolutions_are_compacted(rt: HostRuntime) {
     let compact = Command::CompactCells;
     let below = "862834707ffffff\n86283470fffffff\n862834717ffffff\n86283471fffffff\n\
                  862834727ffffff\n86283472fffffff\n862834737ffffff\n85283463fffffff\n\
@@ -371,7 +300,7 @@ fn compacts_lists_of_mixed_resolutions(rt: HostRuntime) {
 }
 
 #[test]
-fn refuses_lists_to_compact(rt: HostRuntime) {
+fn lists_to_compact_are_refused(rt: HostRuntime) {
     let refused = [
         (
             "85283473fffffff\n85283473fffffff\n",
@@ -395,154 +324,4 @@ fn refuses_lists_to_compact(rt: HostRuntime) {
     for (list, line) in refused {
         assert_listed(&rt, Command::CompactCells, list, ("", line, 1));
     }
-}
-
-#[test]
-fn a_read_fault_is_reported(rt: HostRuntime) {
-    let mut input = FaultySource::new(b"85283473fffffff\n", 4, Faults::From(3));
-    let mut table = FaultySource::new(b"", 1, Faults::From(0));
-    let mut out: FaultySink<64> = FaultySink::new(64, Faults::From(100));
-    let mut err: FaultySink<64> = FaultySink::new(64, Faults::From(100));
-    let command = Command::UncompactCells { res: 6 };
-    let alloc = rt.alloc();
-    let status = run(alloc, &command, &mut input, &mut table, &mut out, &mut err);
-    assert_eq!(&rt; status, 4);
-    assert!(&rt; out.bytes().is_empty());
-    assert!(&rt; err.bytes() == b"fault: read\n".as_slice());
-}
-
-/// Whether the cell of many rows is one.
-const IS_CELL: Command = Command::IsValidCell { cell: HEXAGON };
-
-#[test]
-fn writes_in_as_many_pushes_as_it_takes(rt: HostRuntime) {
-    let mut out: FaultySink<64> = FaultySink::new(1, Faults::From(6));
-    let mut err: FaultySink<64> = FaultySink::new(64, Faults::From(0));
-    let status = run_alone(&rt, &IS_CELL, &mut out, &mut err);
-    assert_eq!(&rt; status, 0);
-    assert!(&rt; out.bytes() == b"true\n".as_slice());
-    assert!(&rt; err.bytes().is_empty());
-}
-
-#[test]
-fn a_write_fault_leaves_a_beginning(rt: HostRuntime) {
-    let mut out: FaultySink<3> = FaultySink::new(2, Faults::From(100));
-    let mut err: FaultySink<64> = FaultySink::new(5, Faults::From(100));
-    let status = run_alone(&rt, &IS_CELL, &mut out, &mut err);
-    assert_eq!(&rt; status, 4);
-    assert!(&rt; out.bytes() == b"tru".as_slice());
-    assert!(&rt; err.bytes() == b"fault: write\n".as_slice());
-}
-
-#[test]
-fn a_write_fault_between_lines_leaves_a_beginning(rt: HostRuntime) {
-    let command = Command::CellToChildren {
-        cell: HEXAGON,
-        res: 6,
-    };
-    let mut out: FaultySink<20> = FaultySink::new(64, Faults::From(100));
-    let mut err: FaultySink<64> = FaultySink::new(64, Faults::From(100));
-    let status = run_alone(&rt, &command, &mut out, &mut err);
-    assert_eq!(&rt; status, 4);
-    assert!(&rt; out.bytes() == b"862834707ffffff\n8628".as_slice());
-    assert!(&rt; err.bytes() == b"fault: write\n".as_slice());
-}
-
-#[test]
-fn a_long_list_is_written_from_the_start(rt: HostRuntime) {
-    let cell = index_of("8001fffffffffff");
-    let mut out: FaultySink<40> = FaultySink::new(64, Faults::From(100));
-    let mut err: FaultySink<64> = FaultySink::new(64, Faults::From(100));
-    let command = Command::CellToChildren { cell, res: 15 };
-    let status = run_alone(&rt, &command, &mut out, &mut err);
-    assert_eq!(&rt; status, 4);
-    assert!(&rt; out.bytes() == b"8f0000000000000\n8f0000000000001\n8f000000".as_slice());
-}
-
-#[test]
-fn a_refused_flush_is_a_write_fault(rt: HostRuntime) {
-    let mut out: FaultySink<64> = FaultySink::new(64, Faults::From(1));
-    let mut err: FaultySink<64> = FaultySink::new(64, Faults::From(100));
-    let status = run_alone(&rt, &IS_CELL, &mut out, &mut err);
-    assert_eq!(&rt; status, 4);
-    assert!(&rt; out.bytes() == b"true\n".as_slice());
-    assert!(&rt; err.bytes() == b"fault: write\n".as_slice());
-}
-
-#[test]
-fn a_list_is_flushed_once(rt: HostRuntime) {
-    let command = Command::CellToChildren {
-        cell: HEXAGON,
-        res: 6,
-    };
-    // seven lines in two pushes, and a flush
-    let mut out: FaultySink<128> = FaultySink::new(64, Faults::From(3));
-    let mut err: FaultySink<64> = FaultySink::new(64, Faults::From(100));
-    assert_eq!(&rt; run_alone(&rt, &command, &mut out, &mut err), 0);
-    assert_eq!(&rt; out.bytes().len(), 7 * 16);
-    let mut out: FaultySink<128> = FaultySink::new(64, Faults::From(2));
-    assert_eq!(&rt; run_alone(&rt, &command, &mut out, &mut err), 4);
-    assert_eq!(&rt; out.bytes().len(), 7 * 16);
-    assert!(&rt; err.bytes() == b"fault: write\n".as_slice());
-}
-
-#[test]
-fn nothing_is_written_after_a_fault_that_passes(rt: HostRuntime) {
-    let command = Command::CellToChildren {
-        cell: HEXAGON,
-        res: 6,
-    };
-    // seven lines, of which a push takes one, and a flush
-    for calls in 0..8 {
-        let mut out: FaultySink<128> = FaultySink::new(16, Faults::Once(calls));
-        let mut err: FaultySink<64> = FaultySink::new(64, Faults::From(100));
-        assert_eq!(&rt; run_alone(&rt, &command, &mut out, &mut err), 4);
-        assert_eq!(&rt; out.bytes().len() as u64, 16 * calls);
-        assert!(&rt; err.bytes() == b"fault: write\n".as_slice());
-    }
-    // one line a byte a push, and a flush
-    let lengths = [(0, 0), (1, 1), (4, 4), (5, 5)];
-    for (calls, length) in lengths {
-        let mut out: FaultySink<64> = FaultySink::new(1, Faults::Once(calls));
-        let mut err: FaultySink<64> = FaultySink::new(64, Faults::From(100));
-        assert_eq!(&rt; run_alone(&rt, &IS_CELL, &mut out, &mut err), 4);
-        assert!(&rt; out.bytes() == &b"true\n"[..length]);
-    }
-}
-
-#[test]
-fn no_more_is_read_than_is_needed(rt: HostRuntime) {
-    // the list, the bytes of a pull at most, and the pulls
-    let reads = [
-        ("", 16, 1),
-        ("85283473fffffff\n", 16, 2),
-        ("85283473fffffff\n", 4, 5),
-        ("85283473fffffff", 4, 5),
-        ("xyz", 3, 2),
-        ("xyz\n85283473fffffff\n", 4, 1),
-        ("85283473fffffff\n81087ffffffffff\n85283473fffffff\n", 8, 4),
-    ];
-    for (list, most, pulls) in reads {
-        let mut input = FaultySource::new(list.as_bytes(), most, Faults::From(100));
-        let mut table = FaultySource::new(b"", 1, Faults::From(0));
-        let mut out: FaultySink<128> = FaultySink::new(64, Faults::From(100));
-        let mut err: FaultySink<64> = FaultySink::new(64, Faults::From(100));
-        let command = Command::UncompactCells { res: 6 };
-        let alloc = rt.alloc();
-        let status = run(alloc, &command, &mut input, &mut table, &mut out, &mut err);
-        assert!(&rt; status < 4, "{list}");
-        assert_eq!(&rt; input.pulls(), pulls, "{list}");
-        assert!(&rt; !input.failed() && !table.failed(), "{list}");
-    }
-}
-
-#[test]
-fn a_standard_error_that_fails_changes_no_status(rt: HostRuntime) {
-    let mut err: FaultySink<64> = FaultySink::new(64, Faults::From(0));
-    let mut out: FaultySink<64> = FaultySink::new(64, Faults::From(100));
-    let command = Command::IsValidCell { cell: None };
-    assert_eq!(&rt; run_alone(&rt, &command, &mut out, &mut err), 1);
-    let mut out: FaultySink<64> = FaultySink::new(64, Faults::From(0));
-    assert_eq!(&rt; run_alone(&rt, &IS_CELL, &mut out, &mut err), 4);
-    assert!(&rt; err.bytes().is_empty());
 }

@@ -1,71 +1,24 @@
 //! Commands on disks and rings.
 
-use crate::table_files::{assert_run, assert_unread, file_of, records_of, run_to};
+use crate::cases::{assert_refused, assert_run, index_of};
+use crate::table_files::without_last;
 use h3_command::Command;
-use h3_command::run::run;
-use h3_fakes::{Faults, FaultySink, FaultySource, table_file};
-use h3_index::{is_pentagon_base, read_index};
+use h3_fakes::{Faults, FaultySink, changed_file, open_file, table_file};
 use h3_lattice::vectors::TestTable;
 use h3_lines::{Refusal, report};
-use std::test::Fail;
-
-/// Links along the ring of radius 2 around base cell 0: two out to it in the direction 4 (I), and
-/// the twelve around it. The last of them leads to base cell 16, and not to 2, with which the ring
-/// begins. Base cells 1, 2 and 3 are a triangle.
-const OPEN_RING: [[u8; 3]; 15] = [
-    [0, 4, 1],
-    [1, 4, 2],
-    [1, 6, 3],
-    [2, 2, 3],
-    [3, 2, 5],
-    [5, 3, 6],
-    [6, 3, 7],
-    [7, 1, 8],
-    [8, 1, 9],
-    [9, 5, 10],
-    [10, 5, 11],
-    [11, 4, 12],
-    [12, 4, 13],
-    [13, 6, 15],
-    [15, 6, 16],
-];
-
-/// The file of a sound table on which a ring does not close: the links of `OPEN_RING` and those
-/// back, and all others lead to pentagon base cells.
-fn open_file(rt: &HostRuntime) -> Result<String, Fail> {
-    const PENTAGONS: [u8; 6] = [4, 14, 24, 38, 49, 58];
-    let mut records = Vec::new(rt.alloc());
-    for base in 0..122u8 {
-        if !is_pentagon_base(base) {
-            for digit in 1..7u8 {
-                let mut to = PENTAGONS[digit as usize - 1];
-                for [from, direction, reached] in OPEN_RING {
-                    if base == from && digit == direction {
-                        to = reached;
-                    }
-                    if base == reached && digit == 7 - direction {
-                        to = from;
-                    }
-                }
-                records.push([base, digit, to, 0])?;
-            }
-        }
-    }
-    file_of(rt, &records)
-}
 
 fn disk(word: &str, k: i32) -> Command {
-    let cell = read_index(word.as_bytes()).ok();
+    let cell = index_of(word);
     Command::GridDiskUnsafe { cell, k }
 }
 
 fn disk_distances(word: &str, k: i32) -> Command {
-    let cell = read_index(word.as_bytes()).ok();
+    let cell = index_of(word);
     Command::GridDiskDistancesUnsafe { cell, k }
 }
 
 fn ring(word: &str, k: i32) -> Command {
-    let cell = read_index(word.as_bytes()).ok();
+    let cell = index_of(word);
     Command::GridRingUnsafe { cell, k }
 }
 
@@ -141,14 +94,13 @@ fn the_beginning_of_a_refused_walk_is_written(rt: HostRuntime) {
 }
 
 #[test]
-fn a_ring_that_does_not_close_is_refused_after_its_cells(rt: HostRuntime) -> Result<(), Fail> {
-    let open = open_file(&rt)?;
+fn a_ring_that_does_not_close_is_refused_after_its_cells(rt: HostRuntime) {
+    let open = open_file();
     let twelve = "8005fffffffffff\n8007fffffffffff\n800bfffffffffff\n800dfffffffffff\n\
                   800ffffffffffff\n8011fffffffffff\n8013fffffffffff\n8015fffffffffff\n\
                   8017fffffffffff\n8019fffffffffff\n801bfffffffffff\n801ffffffffffff\n";
     let command = ring("8001fffffffffff", 2);
     assert_run(&rt, &open, command, (twelve, PENTAGON, 1));
-    Ok(())
 }
 
 #[test]
@@ -170,23 +122,17 @@ fn walks_are_refused_before_they_begin(rt: HostRuntime) {
 }
 
 #[test]
-fn tables_are_refused(rt: HostRuntime) -> Result<(), Fail> {
+fn tables_are_refused(rt: HostRuntime) {
     let command = disk("85283473fffffff", 1);
-    let mut records = records_of(&rt, TestTable::Plain)?;
-    let _last = records.pop();
-    let file = file_of(&rt, &records)?;
-    assert_run(&rt, &file, command, ("", "table: missing\n", 3));
-    let mut records = records_of(&rt, TestTable::Plain)?;
-    for record in records.iter_mut() {
-        if record[0] == 0 && record[1] == 1 {
-            record[3] = 1;
-        }
-    }
-    let file = file_of(&rt, &records)?;
-    assert_run(&rt, &file, command, ("", "table: reversal 0 1\n", 3));
-    let file = table_file(TestTable::Skew);
-    assert_run(&rt, &file, command, ("", "table: corner 0 1\n", 3));
+    let plain = table_file(TestTable::Plain);
+    let turned = changed_file(TestTable::Plain, 1, 110, 1);
+    let skew = table_file(TestTable::Skew);
+    let twice = changed_file(TestTable::Plain, 2, 110, 0);
     let files = [
+        (without_last(plain.as_str()), "table: missing\n"),
+        (turned.as_str(), "table: reversal 0 1\n"),
+        (skew.as_str(), "table: corner 0 1\n"),
+        (twice.as_str(), "table: neighbours 0\n"),
         ("base,dir,to,rot\n4,1,0,0\n", "table: range 2\n"),
         ("", "table: form 1\n"),
         (
@@ -197,15 +143,6 @@ fn tables_are_refused(rt: HostRuntime) -> Result<(), Fail> {
     for (file, line) in files {
         assert_run(&rt, file, command, ("", line, 3));
     }
-    let mut records = records_of(&rt, TestTable::Plain)?;
-    for record in records.iter_mut() {
-        if record[0] == 0 && record[1] == 2 {
-            record[2] = 110;
-        }
-    }
-    let file = file_of(&rt, &records)?;
-    assert_run(&rt, &file, command, ("", "table: neighbours 0\n", 3));
-    Ok(())
 }
 
 #[test]
@@ -231,84 +168,7 @@ fn the_index_is_judged_before_the_table(rt: HostRuntime) {
     ];
     for (word, line) in indexes {
         for command in [disk(word, -1), disk_distances(word, -1), ring(word, -1)] {
-            assert_unread(&rt, command, line);
+            assert_refused(&rt, command, line);
         }
     }
-}
-
-#[test]
-fn a_read_fault_of_the_table_is_reported(rt: HostRuntime) {
-    let plain = table_file(TestTable::Plain);
-    let command = disk("85283473fffffff", 1);
-    for (most, calls) in [(1, 0), (4096, 1), (65536, 2)] {
-        let mut input = FaultySource::new(b"", 1, Faults::From(0));
-        let mut table = FaultySource::new(plain.as_bytes(), most, Faults::From(calls));
-        let mut out: FaultySink<128> = FaultySink::new(64, Faults::From(0));
-        let mut err: FaultySink<64> = FaultySink::new(64, Faults::From(100));
-        let alloc = rt.alloc();
-        let status = run(alloc, &command, &mut input, &mut table, &mut out, &mut err);
-        assert_eq!(&rt; status, 4);
-        assert!(&rt; out.bytes().is_empty());
-        assert!(&rt; err.bytes() == b"fault: read\n".as_slice());
-    }
-}
-
-#[test]
-fn a_write_fault_in_a_walk_leaves_a_beginning(rt: HostRuntime) {
-    let plain = table_file(TestTable::Plain);
-    let mut out: FaultySink<20> = FaultySink::new(64, Faults::From(100));
-    let (err, status) = run_to(&rt, &plain, disk("85283473fffffff", 1), &mut out);
-    assert_eq!(&rt; status, 4);
-    assert!(&rt; out.bytes() == b"85283473fffffff\n8528".as_slice());
-    assert!(&rt; err.bytes() == b"fault: write\n".as_slice());
-    let mut out: FaultySink<20> = FaultySink::new(64, Faults::From(100));
-    let command = disk_distances("85283473fffffff", 1);
-    let (err, status) = run_to(&rt, &plain, command, &mut out);
-    assert_eq!(&rt; status, 4);
-    assert!(&rt; out.bytes() == b"85283473fffffff 0\n85".as_slice());
-    assert!(&rt; err.bytes() == b"fault: write\n".as_slice());
-}
-
-#[test]
-fn a_walk_is_flushed_once(rt: HostRuntime) -> Result<(), Fail> {
-    let plain = table_file(TestTable::Plain);
-    // the command, its lines, its line on standard error and its exit status
-    let walks = [
-        (disk("85283473fffffff", 1), 7, "", 0),
-        (ring("85283473fffffff", 1), 6, "", 0),
-        (disk("800bfffffffffff", 1), 3, PENTAGON, 1),
-        (ring("800bfffffffffff", 1), 3, PENTAGON, 1),
-    ];
-    for (command, lines, line, expected) in walks {
-        // a push takes a line, and then comes a flush
-        let mut out: FaultySink<128> = FaultySink::new(16, Faults::From(lines + 1));
-        let (err, status) = run_to(&rt, &plain, command, &mut out);
-        assert_eq!(&rt; status, expected, "{command:?}");
-        assert!(&rt; err.bytes() == line.as_bytes(), "{command:?}");
-        assert_eq!(&rt; out.bytes().len() as u64, 16 * lines, "{command:?}");
-        // the flush fails, and is reported in place of the error
-        let mut out: FaultySink<128> = FaultySink::new(16, Faults::From(lines));
-        let (err, status) = run_to(&rt, &plain, command, &mut out);
-        assert_eq!(&rt; status, 4, "{command:?}");
-        assert!(&rt; err.bytes() == b"fault: write\n".as_slice(), "{command:?}");
-        assert_eq!(&rt; out.bytes().len() as u64, 16 * lines, "{command:?}");
-    }
-    Ok(())
-}
-
-#[test]
-fn nothing_is_flushed_before_an_error_where_nothing_was_written(
-    rt: HostRuntime,
-) -> Result<(), Fail> {
-    let plain = table_file(TestTable::Plain);
-    for command in [
-        disk("8009fffffffffff", 0),
-        ring("800bfffffffffff", i32::MAX),
-    ] {
-        let mut out: FaultySink<64> = FaultySink::new(64, Faults::From(0));
-        let (err, status) = run_to(&rt, &plain, command, &mut out);
-        assert_eq!(&rt; status, 1, "{command:?}");
-        assert!(&rt; err.bytes() == PENTAGON.as_bytes(), "{command:?}");
-    }
-    Ok(())
 }

@@ -1,8 +1,12 @@
 //! Commands over a writer that fails.
 
-use crate::cases::{Case, NO_FAULT, list_cases, plain_cases, table_cases};
+use crate::cases::{
+    Case, NO_FAULT, Reads, Streams, WELL, edge_cases, index_of, list_cases, plain_cases,
+    walk_cases, whole,
+};
 use arrayvec::ArrayVec;
-use h3_fakes::{Faults, FaultySink, table_file};
+use h3_command::Command;
+use h3_fakes::{Faults, FaultySink, bases_file};
 use h3_index::Streamed;
 use h3_lattice::vectors::TestTable;
 use std::process::Abort;
@@ -10,26 +14,22 @@ use std::process::Abort;
 /// The line of a write fault.
 const WRITE_FAULT: &str = "fault: write\n";
 
-/// Whether an answer is flushed: at its end, and before an error only where lines stand before it.
-fn is_flushed(case: &Case<'_>) -> bool {
-    case.status == 0 || !case.output.is_empty()
-}
-
 /// Asserts that the whole answer is given, with one flush or none, and returns the number of pushes
-/// and flushes. At one byte a push that is the number of bytes, and the flush.
+/// and flushes. The answers are shorter than a block of lines, so each push but the last one takes as
+/// many bytes as it can.
 fn answered<R: Abort + AllocGlobal>(rt: &R, case: &Case<'_>, most: usize, faults: Faults) -> u64 {
     let run = case.write(rt, FaultySink::new(most, faults));
-    let flushes = u64::from(is_flushed(case));
-    let bytes = case.output.len() as u64;
+    let flushes = case.flushes();
+    let pushes = case.output.len().div_ceil(most.max(1)) as u64;
     let calls = run.out.calls();
-    let counted = most != 1 || calls == bytes.saturating_add(flushes);
-    let whole = run.is(case.output, case.line, case.status) && run.out.flushes() == flushes;
+    let counted = calls == pushes.saturating_add(flushes) && run.out.flushes() == flushes;
+    let whole = run.is(case.output, case.line, case.status);
     assert!(rt; whole && counted, "{:?}, {most}", case.command);
     calls
 }
 
-/// Asserts that a write fault is reported, a beginning of the output is written, and no push or
-/// flush is made after it.
+/// Asserts that a write fault is reported, that what the pushes before it took is written, and that no
+/// push or flush is made after it.
 fn assert_write_fault<R: Abort + AllocGlobal>(
     rt: &R,
     case: &Case<'_>,
@@ -38,9 +38,12 @@ fn assert_write_fault<R: Abort + AllocGlobal>(
 ) {
     let run = case.write(rt, FaultySink::new(most, faults));
     let call = faults.first();
-    let reported = run.status == 4 && run.err.bytes() == WRITE_FAULT.as_bytes();
+    let reported = run.status == 4 && run.err.bytes() == WRITE_FAULT.as_bytes() && run.strays == 0;
     let begun = case.output.as_bytes().starts_with(run.out.bytes());
-    let counted = most != 1 || run.out.bytes().len() as u64 == call;
+    let taken = call
+        .saturating_mul(most as u64)
+        .min(case.output.len() as u64);
+    let counted = run.out.bytes().len() as u64 == taken;
     let stopped = run.out.calls() == call.saturating_add(1);
     let right = reported && begun && counted && stopped;
     assert!(rt; right, "{:?}, {most}, {call}", case.command);
@@ -59,10 +62,9 @@ fn assert_write_faults<R: Abort + AllocGlobal>(rt: &R, case: &Case<'_>, most: us
 
 /// Asserts what comes of a writer that takes no byte.
 fn assert_no_byte_taken<R: Abort + AllocGlobal>(rt: &R, case: &Case<'_>) {
-    let mut source = case.source(65536, NO_FAULT);
     let mut out = Streamed::new(ArrayVec::<u8, 0>::new());
     let mut err: FaultySink<64> = FaultySink::new(64, NO_FAULT);
-    let status = case.run(rt, &mut source, &mut out, &mut err);
+    let status = case.status(rt, &mut out, &mut err);
     let (line, expected) = if case.output.is_empty() {
         (case.line, case.status)
     } else {
@@ -84,71 +86,134 @@ fn assert_flush_fault<R: Abort + AllocGlobal>(rt: &R, case: &Case<'_>) {
     assert!(rt; reported, "{:?}", case.command);
 }
 
-/// Asserts that a standard error that fails at any call changes neither the output nor the status.
-fn assert_error_faults<R: Abort + AllocGlobal>(rt: &R, case: &Case<'_>) {
-    for call in 0..8u64 {
-        let source = case.source(65536, NO_FAULT);
-        let out = FaultySink::new(64, NO_FAULT);
-        let err = FaultySink::new(5, Faults::From(call));
-        let run = case.outcome(rt, source, out, err);
-        let same = run.status == case.status && run.out.bytes() == case.output.as_bytes();
-        let begun = case.line.as_bytes().starts_with(run.err.bytes());
-        let taken = call.saturating_mul(5).min(case.line.len() as u64);
-        let written = run.err.bytes().len() as u64 == taken;
-        assert!(rt; same && begun && written, "{:?}, {call}", case.command);
+/// Asserts how a run ends over a standard error that fails at a push or never: the status and the
+/// output are the same, a beginning of the line is written, five bytes a push, and no push is made
+/// after one that failed.
+fn assert_error_fault<R: Abort + AllocGlobal>(
+    rt: &R,
+    case: &Case<'_>,
+    streams: Streams,
+    answer: (&str, &str, u8),
+) {
+    let (output, line, status) = answer;
+    let run = case.over(rt, streams);
+    let pushes = line.len().div_ceil(5) as u64;
+    let good = streams.errors.first().min(pushes);
+    let begun = line.as_bytes().starts_with(run.err.bytes());
+    let taken = good.saturating_mul(5).min(line.len() as u64);
+    let written = run.err.bytes().len() as u64 == taken && run.err.flushes() == 0;
+    let stopped = run.err.calls() == good.saturating_add(1).min(pushes);
+    let same = run.status == status && run.out.bytes() == output.as_bytes() && run.strays == 0;
+    let right = same && begun && written && stopped;
+    assert!(rt; right, "{:?}, {good}", case.command);
+}
+
+/// Asserts that a standard error that fails at any push, whether this passes or not, changes neither the
+/// output nor the status.
+fn assert_error_faults<R: Abort + AllocGlobal>(
+    rt: &R,
+    case: &Case<'_>,
+    streams: Streams,
+    answer: (&str, &str, u8),
+) {
+    for call in 0..7u64 {
+        let stays = Streams {
+            errors: Faults::From(call),
+            ..streams
+        };
+        assert_error_fault(rt, case, stays, answer);
+        let passes = Streams {
+            errors: Faults::Once(call),
+            ..streams
+        };
+        assert_error_fault(rt, case, passes, answer);
+    }
+}
+
+/// Asserts that of the command's own ending, of a write fault and of a read fault.
+fn assert_endings<R: Abort + AllocGlobal>(rt: &R, case: &Case<'_>) {
+    let answer = (case.output, case.line, case.status);
+    assert_error_faults(rt, case, WELL, answer);
+    if case.flushes() > 0 {
+        let writes = Streams {
+            writes: Faults::From(0),
+            ..WELL
+        };
+        assert_error_faults(rt, case, writes, ("", WRITE_FAULT, 4));
+    }
+    if case.pulls(1) > 0 {
+        let reads = Streams {
+            reads: Faults::From(0),
+            ..WELL
+        };
+        assert_error_faults(rt, case, reads, ("", "fault: read\n", 4));
     }
 }
 
 /// Asserts what comes of a writer that fails in each of these ways.
-fn assert_writers<R: Abort + AllocGlobal>(rt: &R, case: &Case<'_>, pieces: [usize; 2]) {
+fn assert_writers<R: Abort + AllocGlobal>(rt: &R, case: &Case<'_>, pieces: &[usize]) {
     for most in pieces {
-        assert_write_faults(rt, case, most);
+        assert_write_faults(rt, case, *most);
     }
     assert_no_byte_taken(rt, case);
     assert_flush_fault(rt, case);
-    assert_error_faults(rt, case);
 }
 
 #[test]
 fn a_plain_command_whose_write_fails_is_a_write_fault(rt: HostRuntime) {
     for case in &plain_cases() {
-        assert_writers(&rt, case, [1, 64]);
+        assert_writers(&rt, case, &[1, 2, 16, 64]);
+        assert_endings(&rt, case);
     }
 }
 
 #[test]
 fn a_command_on_a_list_whose_write_fails_is_a_write_fault(rt: HostRuntime) {
     for case in &list_cases() {
-        assert_writers(&rt, case, [1, 5]);
+        assert_writers(&rt, case, &[1, 5, 64]);
+        assert_endings(&rt, case);
     }
 }
 
 #[test]
-fn a_command_on_a_table_whose_write_fails_is_a_write_fault(rt: HostRuntime) {
-    let file = table_file(TestTable::Plain);
-    for case in &table_cases(file.as_str()) {
-        assert_writers(&rt, case, [1, 64]);
+fn a_walk_whose_write_fails_is_a_write_fault(rt: HostRuntime) {
+    let file = bases_file(TestTable::Plain);
+    for case in &walk_cases(file.as_str()) {
+        assert_writers(&rt, case, &[1, 16]);
+        assert_endings(&rt, case);
     }
 }
 
 #[test]
-fn a_read_fault_has_its_status_also_where_standard_error_fails(rt: HostRuntime) {
-    for case in &list_cases() {
-        let source = case.source(65536, Faults::From(0));
-        let out = FaultySink::new(64, NO_FAULT);
-        let err = FaultySink::new(64, Faults::From(0));
-        let run = case.outcome(&rt, source, out, err);
-        assert!(&rt; run.is("", "", 4) && run.out.calls() == 0 && run.err.calls() == 1);
+fn a_command_on_edges_whose_write_fails_is_a_write_fault(rt: HostRuntime) {
+    let file = bases_file(TestTable::Plain);
+    for case in &edge_cases(file.as_str()) {
+        assert_writers(&rt, case, &[1, 64]);
+        assert_endings(&rt, case);
     }
 }
 
 #[test]
 fn a_writer_with_room_for_20_bytes_has_the_first_20(rt: HostRuntime) {
     let [_, case, _, _] = plain_cases();
-    let mut source = case.source(1, NO_FAULT);
     let mut out = Streamed::new(ArrayVec::<u8, 20>::new());
     let mut err: FaultySink<64> = FaultySink::new(64, NO_FAULT);
-    assert_eq!(&rt; case.run(&rt, &mut source, &mut out, &mut err), 4);
+    assert_eq!(&rt; case.status(&rt, &mut out, &mut err), 4);
     assert!(&rt; out.into_inner().as_slice() == b"862834707ffffff\n8628".as_slice());
+    assert!(&rt; err.bytes() == WRITE_FAULT.as_bytes());
+}
+
+#[test]
+fn a_long_list_is_written_from_the_start(rt: HostRuntime) {
+    let cell = index_of("8001fffffffffff");
+    let case = whole(
+        Command::CellToChildren { cell, res: 15 },
+        Reads::Nothing,
+        "",
+    );
+    let mut out: FaultySink<40> = FaultySink::new(64, NO_FAULT);
+    let mut err: FaultySink<64> = FaultySink::new(64, NO_FAULT);
+    assert_eq!(&rt; case.status(&rt, &mut out, &mut err), 4);
+    assert!(&rt; out.bytes() == b"8f0000000000000\n8f0000000000001\n8f000000".as_slice());
     assert!(&rt; err.bytes() == WRITE_FAULT.as_bytes());
 }

@@ -1,7 +1,9 @@
 //! Commands over tables in format 2.
 
-use super::{assert_run, base_records_of, bases_file_of, bases_test_file};
+use super::without_last;
+use crate::cases::assert_run;
 use h3_command::Command;
+use h3_fakes::bases_file;
 use h3_grid::step;
 use h3_index::{Cell, Streamed, read_index};
 use h3_lattice::vectors::TestTable;
@@ -19,9 +21,9 @@ fn ring(word: &str, k: i32) -> Command {
 }
 
 #[test]
-fn disks_are_written(rt: HostRuntime) -> Result<(), Fail> {
-    let plain = bases_test_file(&rt, TestTable::Plain)?;
-    let twisted = bases_test_file(&rt, TestTable::Twisted)?;
+fn disks_are_written(rt: HostRuntime) {
+    let plain = bases_file(TestTable::Plain);
+    let twisted = bases_file(TestTable::Twisted);
     let inside = "85283473fffffff\n85283447fffffff\n8528347bfffffff\n85283463fffffff\n\
                   85283477fffffff\n8528340ffffffff\n8528340bfffffff\n";
     assert_run(&rt, &plain, disk("85283473fffffff", 1), (inside, "", 0));
@@ -38,21 +40,19 @@ fn disks_are_written(rt: HostRuntime) -> Result<(), Fail> {
     let turned = "813d3ffffffffff\n81547ffffffffff\n813dbffffffffff\n813c3ffffffffff\n\
                   813d7ffffffffff\n813e7ffffffffff\n813efffffffffff\n";
     assert_run(&rt, &twisted, disk("813d3ffffffffff", 1), (turned, "", 0));
-    Ok(())
 }
 
 #[test]
-fn rings_are_written(rt: HostRuntime) -> Result<(), Fail> {
-    let plain = bases_test_file(&rt, TestTable::Plain)?;
+fn rings_are_written(rt: HostRuntime) {
+    let plain = bases_file(TestTable::Plain);
     let inside = "8528340bfffffff\n85283447fffffff\n8528347bfffffff\n85283463fffffff\n\
                   85283477fffffff\n8528340ffffffff\n";
     assert_run(&rt, &plain, ring("85283473fffffff", 1), (inside, "", 0));
-    Ok(())
 }
 
 #[test]
-fn the_beginning_of_a_refused_walk_is_written(rt: HostRuntime) -> Result<(), Fail> {
-    let plain = bases_test_file(&rt, TestTable::Plain)?;
+fn the_beginning_of_a_refused_walk_is_written(rt: HostRuntime) {
+    let plain = bases_file(TestTable::Plain);
     let pentagon = "error 9: E_PENTAGON\n";
     let begun = "800bfffffffffff\n8023fffffffffff\n8021fffffffffff\n";
     let command = disk("800bfffffffffff", 1);
@@ -60,7 +60,6 @@ fn the_beginning_of_a_refused_walk_is_written(rt: HostRuntime) -> Result<(), Fai
     let begun = "800dfffffffffff\n8023fffffffffff\n8021fffffffffff\n";
     let command = ring("800bfffffffffff", 1);
     assert_run(&rt, &plain, command, (begun, pentagon, 1));
-    Ok(())
 }
 
 #[test]
@@ -70,7 +69,7 @@ fn steps_cross_into_turned_frames(rt: HostRuntime) -> Result<(), Fail> {
         (TestTable::Twisted, 0x813efffffffffff, 1),
     ];
     for (table, reached, rotation) in rows {
-        let file = bases_test_file(&rt, table)?;
+        let file = bases_file(table);
         let mut source = Streamed::new(file.as_bytes());
         let table = BaseTable::read(rt.alloc(), &mut source)?;
         let (cell, turns) = step(&table, Cell::new(0x813d3ffffffffff)?, Direction::I, 0)?;
@@ -81,13 +80,12 @@ fn steps_cross_into_turned_frames(rt: HostRuntime) -> Result<(), Fail> {
 }
 
 #[test]
-fn tables_are_refused(rt: HostRuntime) -> Result<(), Fail> {
+fn tables_are_refused(rt: HostRuntime) {
     let command = disk("85283473fffffff", 1);
-    let mut records = base_records_of(&rt, TestTable::Plain)?;
-    let _last = records.pop();
-    let file = bases_file_of(&rt, &records)?;
-    assert_run(&rt, &file, command, ("", "table: missing\n", 3));
-    let file = bases_test_file(&rt, TestTable::Skew)?;
+    let file = bases_file(TestTable::Plain);
+    let short = without_last(file.as_str());
+    assert_run(&rt, short, command, ("", "table: missing\n", 3));
+    let file = bases_file(TestTable::Skew);
     assert_run(&rt, &file, command, ("", "table: corner 0 1\n", 3));
     // the records of the other format under each header
     let files = [
@@ -97,5 +95,4 @@ fn tables_are_refused(rt: HostRuntime) -> Result<(), Fail> {
     for file in files {
         assert_run(&rt, file, command, ("", "table: form 2\n", 3));
     }
-    Ok(())
 }
