@@ -1,12 +1,12 @@
-//! Runs three commands over streams in fixed arrays, and prints the status of each and what it
-//! wrote: a list of 49 cells that compact to one, a disk over a table, and an edge over a table.
-//! `.ci/memory` refuses each allocation of it in turn.
+//! Runs four commands over streams in fixed arrays, and prints the status of each and what it wrote: a
+//! list of 49 cells that compact to one, one of mixed resolutions, a disk over a table in format 1,
+//! and an edge over one in format 2. `.ci/memory` refuses each allocation of it in turn.
 #![tactic(auto)]
 
 use arrayvec::ArrayVec;
 use h3_command::Command;
 use h3_command::run::run;
-use h3_fakes::table_file;
+use h3_fakes::{bases_file, table_file};
 use h3_index::Streamed;
 use h3_lattice::vectors::TestTable;
 use itoa::Buffer;
@@ -28,32 +28,59 @@ const LIST: &str = "822807fffffffff\n82280ffffffffff\n822817fffffffff\n82281ffff
      822997fffffffff\n82299ffffffffff\n8229a7fffffffff\n8229affffffffff\n\
      8229b7fffffffff\n";
 
-/// Runs a command, and prints its status, its output and its line on standard error.
-fn print_run<W: Write>(alloc: Global, command: &Command, file: &str, to: &mut W) -> io::Result<()> {
-    let mut input = Streamed::new(LIST.as_bytes());
+/// The children of 85283473fffffff, and the six other children of its parent, 8428347ffffffff.
+const MIXED: &str = "862834707ffffff\n86283470fffffff\n862834717ffffff\n86283471fffffff\n\
+     862834727ffffff\n86283472fffffff\n862834737ffffff\n85283463fffffff\n\
+     85283467fffffff\n8528346bfffffff\n8528346ffffffff\n85283477fffffff\n\
+     8528347bfffffff\n";
+
+/// Prints how many bytes these are, after a name, and then the bytes.
+fn print_bytes<W: Write>(name: &str, bytes: &[u8], to: &mut W) -> io::Result<()> {
+    let mut number = Buffer::new();
+    to.write_all(name.as_bytes())?;
+    to.write_all(number.format(bytes.len()).as_bytes())?;
+    to.write_all(b"\n")?;
+    to.write_all(bytes)
+}
+
+/// Runs a command over a list and a table, and prints its status, its output and its line on standard
+/// error.
+fn print_run<W: Write>(
+    alloc: Global,
+    command: &Command,
+    reads: (&str, &str),
+    to: &mut W,
+) -> io::Result<()> {
+    let (list, file) = reads;
+    let mut input = Streamed::new(list.as_bytes());
     let mut table = Streamed::new(file.as_bytes());
     let mut out = Streamed::new(ArrayVec::<u8, 256>::new());
     let mut err = Streamed::new(ArrayVec::<u8, 64>::new());
     let status = run(alloc, command, &mut input, &mut table, &mut out, &mut err);
     let mut number = Buffer::new();
+    to.write_all(b"status ")?;
     to.write_all(number.format(status).as_bytes())?;
     to.write_all(b"\n")?;
-    to.write_all(out.into_inner().as_slice())?;
-    to.write_all(err.into_inner().as_slice())
+    print_bytes("out ", out.into_inner().as_slice(), to)?;
+    print_bytes("err ", err.into_inner().as_slice(), to)
 }
 
 fn main(rt: HostRuntime) -> io::Result<()> {
     let cell = Some(0x85283473fffffff);
     let to = Some(0x85283477fffffff);
     let file = table_file(TestTable::Plain);
-    let mut stdout = rt.stdout();
-    let commands = [
-        Command::CompactCells,
-        Command::GridDiskUnsafe { cell, k: 1 },
-        Command::CellsToDirectedEdge { cell, to },
+    let bases = bases_file(TestTable::Plain);
+    let disk = Command::GridDiskUnsafe { cell, k: 1 };
+    let edge = Command::CellsToDirectedEdge { cell, to };
+    let runs = [
+        (Command::CompactCells, (LIST, "")),
+        (Command::CompactCells, (MIXED, "")),
+        (disk, ("", file.as_str())),
+        (edge, ("", bases.as_str())),
     ];
-    for command in &commands {
-        print_run(rt.alloc(), command, file.as_str(), &mut stdout)?;
+    let mut stdout = rt.stdout();
+    for (command, reads) in &runs {
+        print_run(rt.alloc(), command, *reads, &mut stdout)?;
     }
     Ok(())
 }
