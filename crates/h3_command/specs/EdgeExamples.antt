@@ -6,7 +6,7 @@ use Rattle.h3_index.specs.Edge.{edge_number}
 use Rattle.h3_index.specs.EdgeNumber.{directed_edge_in, edge_in}
 use Rattle.h3_index.specs.Text.{text_of}
 use Rattle.h3_index.specs.declared.error.H3Error.TheVariants.{CellInvalid, DirEdgeInvalid, Failed, NotNeighbors, Pentagon, ResMismatch}
-use Rattle.h3_lattice.specs.Digits.{cell_from}
+use Rattle.h3_lattice.specs.Digits.{cell_of}
 use Rattle.h3_lattice.specs.Links.{Links}
 use Rattle.h3_grid.specs.DirectedEdges.{edge_between, edges_from}
 use Rattle.h3_grid.specs.Neighbors.{are_neighbors, pair_refusal}
@@ -57,12 +57,12 @@ no_edge = refl
 
 -- cells of two resolutions; one cell given twice, also in a pentagon base cell; two, one of them in a pentagon base
 -- cell
-pairs_refused : (link : Links) → map (cells_to_directed_edge link) ((cell_from 20 (0 ∷ []), cell_from 20 []) ∷ (cell_from 20 [], cell_from 20 []) ∷ (cell_from 4 [], cell_from 4 []) ∷ (cell_from 4 [], cell_from 8 []) ∷ [])
+pairs_refused : (link : Links) → map (cells_to_directed_edge link) ((cell_of 20 (0 ∷ []), cell_of 20 []) ∷ (cell_of 20 [], cell_of 20 []) ∷ (cell_of 4 [], cell_of 4 []) ∷ (cell_of 4 [], cell_of 8 []) ∷ [])
     ≡ Err ResMismatch ∷ Err NotNeighbors ∷ Err NotNeighbors ∷ Err Pentagon ∷ []
 unfolding edge_between pair_refusal number_of
 pairs_refused link = refl
 
-pairs_refused_too : (link : Links) → map (are_neighbor_cells link) ((cell_from 20 (0 ∷ []), cell_from 20 []) ∷ (cell_from 4 [], cell_from 8 []) ∷ [])
+pairs_refused_too : (link : Links) → map (are_neighbor_cells link) ((cell_of 20 (0 ∷ []), cell_of 20 []) ∷ (cell_of 4 [], cell_of 8 []) ∷ [])
     ≡ Err ResMismatch ∷ Err Pentagon ∷ []
 unfolding are_neighbors pair_refusal number_of
 pairs_refused_too link = refl
