@@ -1,4 +1,4 @@
--- H3's table of error codes: the number and the name of each error that calls here give.
+-- H3's table of error codes: the number and the name of each error that calls here return, and of out of memory.
 use Rattle.std.specs.Prelude.{ℕ, List, codes}
 use Rattle.h3_index.specs.declared.error.H3Error.{H3Error}
 use Rattle.h3_index.specs.declared.error.H3Error.TheVariants.{Failed, Domain, ResDomain, CellInvalid, DirEdgeInvalid, Pentagon, DuplicateInput, NotNeighbors, ResMismatch, MemoryAlloc}
