@@ -45,7 +45,7 @@ mod tests {
     use super::CountedReader;
     use crate::stream::{Source, StreamFault, Streamed};
 
-    /// A source that gives one byte a pull, so many times, and then fails.
+    /// A source that gives one byte a pull, and fails after `pulls_left` pulls.
     #[derive(Drop)]
     struct TornSource {
         pulls_left: u64,

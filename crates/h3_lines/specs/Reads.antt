@@ -4,7 +4,7 @@ use Rattle.h3_index.specs.declared.error.H3Error.{H3Error}
 use Rattle.h3_lines.specs.Beginning.{SomeBeginning}
 use Rattle.h3_lines.specs.List.{cells_said, lines_of, listed_cells}
 
--- so many reads of a page of so many bytes can find the end of the bytes: of these reads the last takes none
+-- this many reads of a page of this many bytes can find the end of the bytes: of these reads the last takes none
 abbrev pub IsWithinReads : ℕ → ℕ → List ℕ → Type 0
 IsWithinReads reads page bytes = length bytes + page ≤ reads * page
 
@@ -12,7 +12,7 @@ IsWithinReads reads page bytes = length bytes + page ≤ reads * page
 abbrev pub IsKnownFaulty : List ℕ → Type 0
 IsKnownFaulty bytes = (e : H3Error) × ((after : List ℕ) → listed_cells (bytes ++ after) ≡ Err e)
 
--- so many reads of such a page can find the end of the list, or take a beginning of it that is known to be faulty
+-- this many reads of such a page can find the end of the list, or take a beginning of it that is known to be faulty
 abbrev pub IsListWithinReads : ℕ → ℕ → List ℕ → Type 0
 IsListWithinReads reads page list =
     IsWithinReads reads page list ⊎ SomeBeginning (λ part. IsKnownFaulty part × (length part ≤ reads * page)) list
