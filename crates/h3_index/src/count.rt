@@ -1,6 +1,6 @@
 //! Cells by their numbers: base cells, pentagons, and how many cells a resolution has.
 
-ghost use Rattle.std.specs.Prelude.{◌≡◌, ◌+◌, ◌*◌, ◌^◌, ℕ, length, Some, None, IfOk, IfErr, MatchOption, IfSome, slice_get, ◌<◌};
+ghost use Rattle.std.specs.Prelude.{◌≡◌, ◌+◌, ◌*◌, ◌^◌, ℕ, length, Some, None, IfOk, IfErr, MatchOption, IfSome, slice_get, pos, ◌<◌, ◌≤◌};
 ghost use Rattle.std.specs.Result.{result_ok};
 ghost use Rattle.h3_index.specs.Count.{CellsAreListed, PentagonsAreListed, base_cell, cells_of, number_below, pentagons, resolution_of};
 
@@ -11,7 +11,7 @@ use crate::error::H3Error;
 #[tactic(auto, unfolding(crate::specs::Count::number_below))]
 fn below(limit: u8, n: i32) -> Option<u8>
     ensures is { result ≡ number_below limit n }
-    ensures small { IfSome result (λ k. k < limit) }
+    ensures same { IfSome result (λ k. (pos k ≡ n) × (k < limit)) }
 {
     if n < 0 || n >= i32::from(limit) {
         None
@@ -21,8 +21,8 @@ fn below(limit: u8, n: i32) -> Option<u8>
 }
 
 /// The resolution that a whole number is: `ResDomain` outside 0 to 15.
-pub(crate) fn resolution_from(res: i32) -> Result<u8, H3Error>
-    ensures ok { IfOk result (λ r. (resolution_of res ≡ Some r) × (r < 16)) }
+pub fn resolution_from(res: i32) -> Result<u8, H3Error>
+    ensures ok { IfOk result (λ r. (resolution_of res ≡ Some r) × (pos r ≡ res) × (r ≤ 15)) }
     ensures err { IfErr result (λ e. (resolution_of res ≡ None) × (e ≡ H3Error.ResDomain)) }
 {
     match below(16, res) {

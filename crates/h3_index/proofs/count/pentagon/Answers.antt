@@ -9,7 +9,7 @@ pub returns-in-Some-clause-nth : goal.returns-in-Some-clause-nth
 returns-in-Some-clause-nth c =
     let is : resolution_of c.args.res ≡ Some c.in_ok-res.res = rw (to_z-of_z w32 c.args.res (search rules)) at c.in_ok-res.ensures.ok.0 in
     let n_is : number_below 12 c.args.n ≡ Some c.in-Some.n = rw (to_z-of_z w32 c.args.n (search rules)) at (sym c.in-Some.ensures.is) in
-    match_some _ c.in_ok-res.res _ _ is (match_some _ c.in-Some.n _ _ n_is (nth_pentagon c.in_ok-res.res c.in-Some.n c.in-Some.ensures.small
+    match_some _ c.in_ok-res.res _ _ is (match_some _ c.in-Some.n _ _ n_is (nth_pentagon c.in_ok-res.res c.in-Some.n c.in-Some.ensures.same.1
     ∙ ap Some (sym (c.center_at.ensures.is ∙ ap (λ b. center_at b c.in_ok-res.res) c.in_base.ensures.is))))
 
 pub returns-in-Some-clause-listed : goal.returns-in-Some-clause-listed
