@@ -1,4 +1,4 @@
-//! Directed edges between neighbours.
+//! Directed edges between neighbors.
 
 ghost use Rattle.std.specs.Prelude.{◌≡◌, IfOk, IfErr, MatchOption};
 ghost use Rattle.h3_index.specs.Cell.{Address};
@@ -26,7 +26,7 @@ pub fn edge_between(table: &BaseTable, a: Cell, b: Cell) -> Result<Edge, H3Error
         (IfErr result (λ e. (e ≡ H3Error.NotNeighbors) × ¬ AreNeighbors (link_of table.now) a b))
         (λ e. result ≡ Err e) }
 
-    // Laws of neighbours over the table: there is no second direction, and the function of the definitions finds it.
+    // Laws of neighbors over the table: there is no second direction, and the function of the definitions finds it.
     ensures part { DirectionsDiffer (link_of table.now) }
     ensures found { DirectionsAreFound (link_of table.now) }
 {

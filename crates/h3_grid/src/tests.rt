@@ -460,7 +460,7 @@ fn neighbors_are_a_step_apart(rt: HostRuntime) -> Result<(), Fail> {
         (0x85283473fffffff, 0x8528340ffffffff, Ok(true)),
         (0x8528340ffffffff, 0x8528347bfffffff, Ok(false)),
         (0x8528340ffffffff, 0x8528340ffffffff, Ok(false)),
-        // also a pentagon is not its own neighbour
+        // also a pentagon is not its own neighbor
         (0x8009fffffffffff, 0x8009fffffffffff, Ok(false)),
         (0x8009fffffffffff, 0x8011fffffffffff, Err(H3Error::Pentagon)),
         (0x8011fffffffffff, 0x8009fffffffffff, Err(H3Error::Pentagon)),
