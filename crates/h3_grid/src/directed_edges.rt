@@ -52,10 +52,7 @@ pub fn edge_destination(table: &BaseTable, edge: Edge) -> Result<Cell, H3Error>
     ensures refused { IfErr result (λ e. (e ≡ H3Error.Pentagon)
         × ((cell : Address) → ¬ IsDestination (link_of table.now) edge cell)) }
 {
-    let Some(direction) = Direction::from_digit(edge.direction()) else {
-        unreachable!()
-    };
-    match neighbor(table, edge.origin(), direction) {
+    match neighbor(table, edge.origin(), Direction::from_edge(edge)) {
         Some(cell) => Ok(cell),
         None => Err(H3Error::Pentagon),
     }
