@@ -1,4 +1,4 @@
-//! Directed edges between neighbours.
+//! Directed edges between neighbors.
 
 ghost use Rattle.std.specs.Prelude.{◌≡◌, IfOk, IfErr, MatchOption};
 ghost use Rattle.h3_index.specs.Cell.{Address};
@@ -26,7 +26,7 @@ pub fn edge_between(table: &BaseTable, a: Cell, b: Cell) -> Result<Edge, H3Error
         (IfErr result (λ e. (e ≡ H3Error.NotNeighbors) × ¬ AreNeighbors (link_of table.now) a b))
         (λ e. result ≡ Err e) }
 
-    // Laws of neighbours over the table: there is no second direction, and the function of the definitions finds it.
+    // Laws of neighbors over the table: there is no second direction, and the function of the definitions finds it.
     ensures part { DirectionsDiffer (link_of table.now) }
     ensures found { DirectionsAreFound (link_of table.now) }
 {
@@ -52,10 +52,7 @@ pub fn edge_destination(table: &BaseTable, edge: Edge) -> Result<Cell, H3Error>
     ensures refused { IfErr result (λ e. (e ≡ H3Error.Pentagon)
         × ((cell : Address) → ¬ IsDestination (link_of table.now) edge cell)) }
 {
-    let Some(direction) = Direction::from_digit(edge.direction()) else {
-        unreachable!()
-    };
-    match neighbor(table, edge.origin(), direction) {
+    match neighbor(table, edge.origin(), Direction::from_edge(edge)) {
         Some(cell) => Ok(cell),
         None => Err(H3Error::Pentagon),
     }

@@ -62,8 +62,8 @@ pub fn disks_are_charts()
 }
 
 /// Over sound links at most one direction leads from a cell to another, and `direction_to` of the definitions finds it,
-/// so that `are_neighbors` is true of neighbours alone; no cell is its own neighbour; of two cells each is the other's
-/// neighbour or neither is, and `are_neighbors` has the same result in either order, errors included.
+/// so that `are_neighbors` is true of neighbors alone; no cell is its own neighbor; of two cells each is the other's
+/// neighbor or neither is, and `are_neighbors` has the same result in either order, errors included.
 pub fn neighbors_are_lawful()
     ensures found { OverSoundLinks DirectionsAreFound }
     ensures related { OverSoundLinks NeighborsAreFound }

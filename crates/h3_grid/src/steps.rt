@@ -22,13 +22,13 @@ fn step_is_lawful(table: &BaseTable)
     table.links_are_sound();
 }
 
-/// The neighbour of a cell in a direction, and the rotation there, as H3's `h3NeighborRotations` outside pentagon base
+/// The neighbor of a cell in a direction, and the rotation there, as H3's `h3NeighborRotations` outside pentagon base
 /// cells.
 ///
 /// A rotation, 0 to 5, is how often a walk's directions are turned in the base cell that it is in: the step goes in the
 /// direction turned `rot` times, and on crossing into another base cell the turns of the table's link are added.
 ///
-/// `Pentagon` where the cell or its neighbour is in a pentagon base cell.
+/// `Pentagon` where the cell or its neighbor is in a pentagon base cell.
 pub fn step(
     table: &BaseTable,
     cell: Cell,
@@ -49,7 +49,7 @@ pub fn step(
 
     // Laws of steps over the table: the opposite direction leads back, with the rotation undone; steps in different
     // directions lead to different cells, none of them the cell itself; those in a direction and the next one lead to
-    // neighbours.
+    // neighbors.
     ensures reverse { StepsReverse (link_of table.now) }
     ensures part { StepsDiffer (link_of table.now) }
     ensures move_on { StepsMove (link_of table.now) }

@@ -148,7 +148,7 @@ faults = refl
 no_header : fault_of_records [] ≡ Some (Form 1)
 no_header = refl
 
--- the record of the base cell 0 of a test table in format 2, with this base cell, neighbour in the direction K and
+-- the record of the base cell 0 of a test table in format 2, with this base cell, neighbor in the direction K and
 -- number of turns in the direction IJ in their places
 abbrev base_record : List ℕ → List ℕ → List ℕ → Record
 base_record base k last =

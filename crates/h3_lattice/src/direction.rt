@@ -4,6 +4,8 @@ ghost use Rattle.std.specs.Prelude.{◌≡◌};
 ghost use Rattle.h3_lattice.specs.Eisenstein.{minus_one, product_of};
 ghost use Rattle.h3_lattice.specs.Direction.{digit_of, direction_of, opposite, turned, turned_once, turns, unit_of};
 
+use h3_index::Edge;
+
 /// A direction of the grid, as H3's `Direction` names them; its digit 0, the centre, is no direction here.
 #[derive(Clone, Copy, Debug, PartialEq, Eq)]
 pub enum Direction {
@@ -64,6 +66,13 @@ impl Direction {
             6 => Some(Direction::IJ),
             _ => None,
         }
+    }
+
+    /// The direction in which an edge leaves its origin.
+    pub fn from_edge(edge: Edge) -> Direction
+        ensures { digit_of result ≡ edge.direction }
+    {
+        DIRECTIONS[edge.direction() as usize - 1]
     }
 
     /// The direction that leads back: the product with -1.

@@ -21,7 +21,7 @@ pub enum TableError {
     Form(u64),
 
     /// A record has a base cell above 121 or a pentagon one, in format 1 a direction outside 1 to 6, a
-    /// neighbour above 121, or more than 5 turns.
+    /// neighbor above 121, or more than 5 turns.
     #[error("record {0} has a number out of range")]
     Range(u64),
 
@@ -33,11 +33,11 @@ pub enum TableError {
     #[error("a base cell and direction have no link")]
     Missing,
 
-    /// The neighbours of the base cell do not differ from each other and from it.
+    /// The neighbors of the base cell do not differ from each other and from it.
     #[error("base cell {0} and its neighbours are not seven different base cells")]
     Neighbours(u8),
 
-    /// The link back from the neighbour of the base cell in the direction does not undo the link.
+    /// The link back from the neighbor of the base cell in the direction does not undo the link.
     #[error("the link of base cell {0} in direction {direction} is not undone by the link back", direction = .1.digit())]
     Reversal(u8, Direction),
 

@@ -10,7 +10,7 @@ use crate::direction::{DIRECTIONS, Direction};
 use crate::error::TableError;
 use h3_index::is_pentagon_base;
 
-/// The neighbour and the turns of each base cell and direction, base cell by base cell.
+/// The neighbor and the turns of each base cell and direction, base cell by base cell.
 pub type Links = [(u8, u8); 732];
 
 /// The same where some are not known.

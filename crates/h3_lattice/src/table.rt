@@ -25,7 +25,7 @@ const PAGE: usize = 4096;
 /// How many reads a table may take.
 const READS: u64 = 1 << 40;
 
-/// How the 110 hexagon base cells lie beside each other: in each of six directions the neighbour, and how often each
+/// How the 110 hexagon base cells lie beside each other: in each of six directions the neighbor, and how often each
 /// digit is turned on crossing. Its links fit together: none of the checks of [`TableError`] fails. It has a fixed
 /// size, and allocates nothing.
 #[derive(Drop)]
@@ -103,7 +103,7 @@ impl BaseTable {
         ensures { IsSound (link_of self.now) }
     {}
 
-    /// The neighbour of a hexagon base cell in a direction, 0 to 121, and how often each digit is turned on crossing
+    /// The neighbor of a hexagon base cell in a direction, 0 to 121, and how often each digit is turned on crossing
     /// into it, 0 to 5.
     pub fn link(&self, base: u8, direction: Direction) -> (u8, u8)
         requires some { base < 122 }

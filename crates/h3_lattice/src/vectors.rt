@@ -48,7 +48,7 @@ fn skew_step(direction: Direction) -> u8
     }
 }
 
-/// The neighbour of a hexagon base cell in a direction, and how often each digit is turned on crossing into it.
+/// The neighbor of a hexagon base cell in a direction, and how often each digit is turned on crossing into it.
 pub fn link(table: TestTable, base: u8, direction: Direction) -> (u8, u8)
     requires some { base < 122 }
     requires hexagon { is_pentagon_base base ≡ false }
