@@ -30,7 +30,7 @@ abbrev pub IsValue : (CommandOption → Option Text) → Value → Type 0
 IsValue text (Index o value) = IsIndex (text o) value
 IsValue text (Number o value) = IsNumber o (text o) value
 
--- the command has for each of its options the value that the option's text parses as
+-- each value that the command has for an option is what the option's text parses as
 abbrev pub HasValues : (CommandOption → Option Text) → Command → Type 0
 HasValues text c = All (IsValue text) (values_of_command c)
 
