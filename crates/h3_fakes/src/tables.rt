@@ -1,4 +1,5 @@
-//! The files of tables, in both formats: of the test tables, and of one on which a ring does not close.
+//! The files of tables, in both formats: of the test tables, and of one on which a ring does not
+//! close.
 
 ghost use Rattle.std.specs.Prelude.{◌<◌};
 
@@ -18,10 +19,10 @@ pub type TableFile = ArrayString<FILE_ROOM>;
 /// The links of a base cell, by direction: the base cell that each leads to, and the turns.
 type Links = [(u8, u8); 6];
 
-/// Links along the ring of radius 2 around base cell 0: a base cell, a direction and the base cell that
-/// it leads to. Two lead out to the ring in the direction I, and twelve around it. The last of
-/// them leads to base cell 16, and not to 2, with which the ring begins. Base cells 1, 2 and 3 are a
-/// triangle.
+/// Links along the ring of radius 2 around base cell 0: a base cell, a direction and the base cell
+/// that it leads to. Two lead out to the ring in the direction I, and twelve around it. The last of
+/// them leads to base cell 16, and not to 2, with which the ring begins. Base cells 1, 2 and 3 are
+/// a triangle.
 const OPEN_RING: [(u8, Direction, u8); 15] = [
     (0, Direction::I, 1),
     (1, Direction::I, 2),
@@ -125,8 +126,8 @@ pub fn table_file(table: TestTable) -> TableFile {
     file
 }
 
-/// The same where the link of base cell 0 in a direction, by its digit, leads to another base cell or
-/// has other turns.
+/// The same where the link of base cell 0 in a direction, by its digit, leads to another base cell
+/// or has other turns.
 pub fn changed_file(table: TestTable, digit: u8, to: u8, turns: u8) -> TableFile {
     let mut file = header();
     for base in 0..122u8 {

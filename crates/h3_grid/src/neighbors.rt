@@ -23,7 +23,8 @@ pub(crate) fn neighbor_is_lawful(table: &BaseTable)
     table.links_are_sound();
 }
 
-/// The neighbor of a cell in a direction: the cell that the step with rotation 0 leads to, unless it is refused.
+/// The neighbor of a cell in a direction: the cell that the step with rotation 0 leads to, unless
+/// it is refused.
 pub(crate) fn neighbor(table: &BaseTable, cell: Cell, direction: Direction) -> Option<Cell>
     ensures { result ≡ neighbor (link_of table.now) cell direction }
 {
@@ -54,8 +55,9 @@ pub(crate) fn direction_to(table: &BaseTable, from: Cell, to: Cell) -> Option<Di
         .find(|direction| leads(table, from, *direction, to))
 }
 
-/// The error with which two cells are refused, if they are: first that their resolutions differ; then, for one cell
-/// given twice, the one that is passed; then that either is in a pentagon base cell.
+/// The error with which two cells are refused, if they are: first that their resolutions differ;
+/// then, for one cell given twice, the one that is passed; then that either is in a pentagon base
+/// cell.
 pub(crate) fn pair_refusal(twice: Option<H3Error>, a: Cell, b: Cell) -> Option<H3Error>
     ensures is { result ≡ pair_refusal twice a b }
     ensures cells { IsCell a × IsCell b }
@@ -79,20 +81,23 @@ fn is_neighbor(table: &BaseTable, a: Cell, b: Cell) -> bool
     a != b && direction_to(table, a, b).is_some()
 }
 
-/// Whether two cells are neighbors, as H3's `areNeighborCells` returns it outside pentagon base cells: a step leads
-/// from the one to the other. No cell is its own neighbor. Which pairs are refused is this library's own.
+/// Whether two cells are neighbors, as H3's `areNeighborCells` returns it outside pentagon base
+/// cells: a step leads from the one to the other. No cell is its own neighbor. Which pairs are
+/// refused is this library's own.
 ///
-/// `ResMismatch` where their resolutions differ; then, for different cells, `Pentagon` where either is in a pentagon
-/// base cell.
+/// `ResMismatch` where their resolutions differ; then, for different cells, `Pentagon` where either
+/// is in a pentagon base cell.
 pub fn are_neighbors(table: &BaseTable, a: Cell, b: Cell) -> Result<bool, H3Error>
     ensures is { result ≡ are_neighbors (link_of table.now) a b }
 
-    // The same in parts: which pairs are refused, which are neighbors, and that a cell is not its own neighbor.
+    // The same in parts: which pairs are refused, which are neighbors, and that a cell is not its
+    // own neighbor.
     ensures refused { result_err result ≡ neighbor_refusal a b }
     ensures related { (result ≡ Ok true) ↔ AreNeighbors (link_of table.now) a b }
     ensures same { a ≡ b → result ≡ Ok false }
 
-    // Laws of neighbors over the table: the order of the two cells does not matter, for the errors either.
+    // Laws of neighbors over the table: the order of the two cells does not matter, for the errors
+    // either.
     ensures mutual { NeighborsAreMutual (link_of table.now) }
     ensures both { BothOrdersAgree (link_of table.now) }
 {

@@ -95,17 +95,6 @@ checks-kind c link = from_base-kind (kind_of c) (fault_at c link) 0 122 (fault_a
 
 -- ---- the error of two parts in turn
 
--- that of the first part, where the second has none of its kind
-pub first_part : (a b : Option TableError) (e : TableError) (k : ℕ) → IsKind k b → (kind e ≡ k → ⊥) → option_or a b ≡ Some e → a ≡ Some e
-first_part None None e k i h is = cc is
-first_part None (Some x) e k i h is = absurd (let same : x ≡ e = cc is in h (rw (← same) i))
-first_part (Some x) b e k i h is = is
-
--- that of the second, where the first has none of its kind
-pub second_part : (a b : Option TableError) (e : TableError) (k : ℕ) → IsKind k a → (kind e ≡ k → ⊥) → option_or a b ≡ Some e → (a ≡ None) × (b ≡ Some e)
-second_part None b e k i h is = (refl, is)
-second_part (Some x) b e k i h is = absurd (let same : x ≡ e = cc is in h (rw (← same) i))
-
 -- the error is of one of the parts
 pub either_kind : (a b : Option TableError) (e : TableError) (k : ℕ) (P : ℕ → Type 0) → IsKind k a → P k → ((x : TableError) → b ≡ Some x → P (kind x)) → option_or a b ≡ Some e → P (kind e)
 either_kind None b e k P i p q is = q e is

@@ -61,8 +61,8 @@ fn reverses(links: &Links, base: u8, direction: Direction) -> bool
     back.0 == base && back.1 == (6 - turns) % 6
 }
 
-/// Whether the links agree round the corner of a base cell, its neighbor in a direction and its neighbor in the
-/// direction turned once, if both are hexagon base cells.
+/// Whether the links agree round the corner of a base cell, its neighbor in a direction and its
+/// neighbor in the direction turned once, if both are hexagon base cells.
 fn closes(links: &Links, base: u8, direction: Direction) -> bool
     requires base { base < 122 }
     requires within { All IsLink links.now }

@@ -6,7 +6,8 @@ ghost use Rattle.h3_lattice.specs.Direction.{digit_of, direction_of, opposite, t
 
 use h3_index::Edge;
 
-/// A direction of the grid, as H3's `Direction` names them; its digit 0, the centre, is no direction here.
+/// A direction of the grid, as H3's `Direction` names them; its digit 0, the centre, is no
+/// direction here.
 #[derive(Clone, Copy, Debug, PartialEq, Eq)]
 pub enum Direction {
     /// Digit 1, the Eisenstein integer -1 - w.
@@ -105,7 +106,8 @@ impl Direction {
     }
 }
 
-/// A direction turned n times, each turn 60 degrees counter-clockwise: the product with the n-th power of 1 + w.
+/// A direction turned n times, each turn 60 degrees counter-clockwise: the product with the n-th
+/// power of 1 + w.
 pub fn turn(direction: Direction, n: u8) -> Direction
     ensures is { result ≡ turned n direction }
     ensures product { unit_of result ≡ product_of (turns n) (unit_of direction) }

@@ -98,7 +98,8 @@ fn link_or_zero(slot: Option<(u8, u8)>) -> (u8, u8)
 /// The links of slots.
 pub fn filled(slots: &Slots) -> Links
     requires { All (λ slot. IfSome slot IsLink) slots.now }
-    ensures same { (i : ℕ) → slice_index_or result i (0, 0) ≡ unwrap_or (slice_index_or slots.now i None) (0, 0) }
+    ensures same { (i : ℕ) → slice_index_or result i (0, 0)
+        ≡ unwrap_or (slice_index_or slots.now i None) (0, 0) }
     ensures within { All IsLink result }
 {
     let mut links = [(0, 0); 732];
