@@ -1,7 +1,7 @@
-//! Loops over the library for `bench/run`, which measures them against plain Rust. `h3_bench COUNT` goes from COUNT
-//! positions to their cells and back; `h3_bench COUNT tables` reads the table on standard input COUNT times;
-//! `h3_bench COUNT steps` reads it once and goes COUNT times round the ring of radius 1000 by 6000 steps. Each prints
-//! a sum of what it found.
+//! Loops over the library for `bench/run`, which measures them against plain Rust. `h3_bench COUNT`
+//! goes from COUNT positions to their cells and back; `h3_bench COUNT tables` reads the table on
+//! standard input COUNT times; `h3_bench COUNT steps` reads it once and goes COUNT times round the
+//! ring of radius 1000 by 6000 steps. Each prints a sum of what it found.
 #![tactic(auto)]
 
 use h3_grid::step;
@@ -12,8 +12,8 @@ use std::alloc::Global;
 use std::io::Read;
 use std::{env, io};
 
-/// How far apart the positions are: so ten million of them reach through all descendants of a pentagon of resolution 0
-/// at resolution 15.
+/// How far apart the positions are: so ten million of them reach through all descendants of a
+/// pentagon of resolution 0 at resolution 15.
 const STRIDE: u64 = 395_630;
 
 /// Goes from each of `count` positions to its cell and back, and sums what it finds.

@@ -15,7 +15,7 @@ use Rattle.h3_command.specs.Resolutions.{get_num_cells, get_pentagons, get_res0_
 use Rattle.h3_command.specs.Sets.{compact_cells, uncompact_cells}
 use Rattle.h3_command.specs.Walks.{grid_disk_distances_unsafe, grid_disk_unsafe, grid_ring_unsafe}
 use Rattle.h3_command.specs.declared.command.Command.{Command}
-use Rattle.h3_command.specs.declared.command.Command.TheVariants.{IsValidCell, GetResolution, GetBaseCellNumber, IsPentagon, IsResClassIII, GetNumCells, GetRes0Cells, GetPentagons, CellToParent, CellToCenterChild, CellToChildren, CellToChildrenSize, CellToChildPos, ChildPosToCell, CompactCells, UncompactCells, GridDiskUnsafe, GridDiskDistancesUnsafe, GridRingUnsafe, AreNeighborCells, CellsToDirectedEdge, IsValidDirectedEdge, GetDirectedEdgeOrigin, GetDirectedEdgeDestination, OriginToDirectedEdges}
+use Rattle.h3_command.specs.declared.command.Command.TheVariants as command
 
 -- what a command reads and writes: an answer that its words alone fix, one about the cells listed on standard input, or
 -- one about the links of a base cell table
@@ -29,32 +29,33 @@ abbrev pub with_table : {A : Type 0} → (A → Links → Answer) → Result A H
 with_table about (Ok value) = of_table (about value)
 with_table about (Err e) = plain (refused e)
 
+-- what each command reads and writes
 abbrev pub request : Command → Request
-request (IsValidCell cell) = plain (printed truth_line (is_valid_cell cell))
-request (GetResolution cell) = plain (printed number_line (get_resolution cell))
-request (GetBaseCellNumber cell) = plain (printed number_line (get_base_cell_number cell))
-request (IsPentagon cell) = plain (printed truth_line (is_pentagon cell))
-request (IsResClassIII cell) = plain (printed truth_line (is_res_class_iii cell))
-request (GetNumCells res) = plain (printed number_line (get_num_cells res))
-request GetRes0Cells = plain (written (cell_lines get_res0_cells))
-request (GetPentagons res) = plain (printed cell_lines (get_pentagons res))
-request (CellToParent cell res) = plain (printed cell_line (cell_to_parent cell res))
-request (CellToCenterChild cell res) = plain (printed cell_line (cell_to_center_child cell res))
-request (CellToChildren cell res) = plain (printed cell_lines (cell_to_children cell res))
-request (CellToChildrenSize cell res) = plain (printed number_line (cell_to_children_size cell res))
-request (CellToChildPos cell res) = plain (printed number_line (cell_to_child_pos cell res))
-request (ChildPosToCell position cell res) = plain (printed cell_line (child_pos_to_cell position cell res))
-request CompactCells = of_list (λ cells. printed cell_lines (compact_cells cells))
-request (UncompactCells res) = of_list (λ cells. printed cell_lines (uncompact_cells res cells))
-request (GridDiskUnsafe cell k) = with_table (λ c link. answer_or_error (walked cell_line) (grid_disk_unsafe link c k)) (cell_from cell)
-request (GridDiskDistancesUnsafe cell k) = with_table (λ c link. answer_or_error (walked ring_line) (grid_disk_distances_unsafe link c k)) (cell_from cell)
-request (GridRingUnsafe cell k) = with_table (λ c link. answer_or_error (walked cell_line) (grid_ring_unsafe link c k)) (cell_from cell)
-request (AreNeighborCells cell to) = with_table (λ cells link. printed truth_line (are_neighbor_cells link cells)) (cell_pair_from cell to)
-request (CellsToDirectedEdge cell to) = with_table (λ cells link. printed edge_line (cells_to_directed_edge link cells)) (cell_pair_from cell to)
-request (IsValidDirectedEdge edge) = plain (printed truth_line (is_valid_directed_edge edge))
-request (GetDirectedEdgeOrigin edge) = plain (printed cell_line (get_directed_edge_origin edge))
-request (GetDirectedEdgeDestination edge) = with_table (λ e link. printed cell_line (get_directed_edge_destination link e)) (edge_from edge)
-request (OriginToDirectedEdges cell) = plain (printed edge_lines (origin_to_directed_edges cell))
+request (command.IsValidCell cell) = plain (printed truth_line (is_valid_cell cell))
+request (command.GetResolution cell) = plain (printed number_line (get_resolution cell))
+request (command.GetBaseCellNumber cell) = plain (printed number_line (get_base_cell_number cell))
+request (command.IsPentagon cell) = plain (printed truth_line (is_pentagon cell))
+request (command.IsResClassIII cell) = plain (printed truth_line (is_res_class_iii cell))
+request (command.GetNumCells res) = plain (printed number_line (get_num_cells res))
+request command.GetRes0Cells = plain (written (cell_lines get_res0_cells))
+request (command.GetPentagons res) = plain (printed cell_lines (get_pentagons res))
+request (command.CellToParent cell res) = plain (printed cell_line (cell_to_parent cell res))
+request (command.CellToCenterChild cell res) = plain (printed cell_line (cell_to_center_child cell res))
+request (command.CellToChildren cell res) = plain (printed cell_lines (cell_to_children cell res))
+request (command.CellToChildrenSize cell res) = plain (printed number_line (cell_to_children_size cell res))
+request (command.CellToChildPos cell res) = plain (printed number_line (cell_to_child_pos cell res))
+request (command.ChildPosToCell position cell res) = plain (printed cell_line (child_pos_to_cell position cell res))
+request command.CompactCells = of_list (λ cells. printed cell_lines (compact_cells cells))
+request (command.UncompactCells res) = of_list (λ cells. printed cell_lines (uncompact_cells res cells))
+request (command.GridDiskUnsafe cell k) = with_table (λ c link. answer_or_error (walked cell_line) (grid_disk_unsafe link c k)) (cell_from cell)
+request (command.GridDiskDistancesUnsafe cell k) = with_table (λ c link. answer_or_error (walked ring_line) (grid_disk_distances_unsafe link c k)) (cell_from cell)
+request (command.GridRingUnsafe cell k) = with_table (λ c link. answer_or_error (walked cell_line) (grid_ring_unsafe link c k)) (cell_from cell)
+request (command.AreNeighborCells cell to) = with_table (λ cells link. printed truth_line (are_neighbor_cells link cells)) (cell_pair_from cell to)
+request (command.CellsToDirectedEdge cell to) = with_table (λ cells link. printed edge_line (cells_to_directed_edge link cells)) (cell_pair_from cell to)
+request (command.IsValidDirectedEdge edge) = plain (printed truth_line (is_valid_directed_edge edge))
+request (command.GetDirectedEdgeOrigin edge) = plain (printed cell_line (get_directed_edge_origin edge))
+request (command.GetDirectedEdgeDestination edge) = with_table (λ e link. printed cell_line (get_directed_edge_destination link e)) (edge_from edge)
+request (command.OriginToDirectedEdges cell) = plain (printed edge_lines (origin_to_directed_edges cell))
 
 -- the list of cells is read from standard input
 abbrev pub reads_list : Request → Bool
@@ -93,4 +94,4 @@ answer_to (of_table about) list file = about_table about file
 
 -- the answer to a command
 abbrev pub answer : Command → List ℕ → List ℕ → Answer
-answer command list file = answer_to (request command) list file
+answer c list file = answer_to (request c) list file

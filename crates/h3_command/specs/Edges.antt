@@ -10,7 +10,7 @@ use Rattle.h3_index.specs.declared.error.H3Error.TheVariants.{DirEdgeInvalid, Fa
 use Rattle.h3_lattice.specs.Links.{Links}
 use Rattle.h3_grid.specs.DirectedEdges.{edge_between, edge_destination, edges_from}
 use Rattle.h3_grid.specs.Neighbors.{are_neighbors}
-use Rattle.h3_command.specs.Inspection.{cell_from, for_cell}
+use Rattle.h3_command.specs.Inspection.{cell_from, for_value}
 
 -- ---- the values of words
 
@@ -19,14 +19,9 @@ abbrev pub edge_from : Option ℕ → Result DirectedEdge H3Error
 edge_from None = Err Failed
 edge_from (Some index) = ok_or (edge_in index) DirEdgeInvalid
 
--- what is returned for an edge, or the error in place of the edge
-abbrev pub for_edge : {A : Type 0} → (DirectedEdge → Result A H3Error) → Result DirectedEdge H3Error → Result A H3Error
-for_edge f (Ok edge) = f edge
-for_edge f (Err e) = Err e
-
 -- the cells with these two indexes: the error of the first, and then that of the second
 abbrev pub cell_pair_from : Option ℕ → Option ℕ → Result (Address × Address) H3Error
-cell_pair_from cell to = for_cell (λ a. for_cell (λ b. Ok (a, b)) (cell_from to)) (cell_from cell)
+cell_pair_from cell to = for_value (λ a. for_value (λ b. Ok (a, b)) (cell_from to)) (cell_from cell)
 
 -- ---- over the links of a table
 
@@ -50,8 +45,8 @@ is_valid_directed_edge (Some index) = Ok (is_some (edge_in index))
 
 -- the cell that the edge leaves
 abbrev pub get_directed_edge_origin : Option ℕ → Result Address H3Error
-get_directed_edge_origin index = for_edge (λ e. Ok e.origin) (edge_from index)
+get_directed_edge_origin index = for_value (λ e. Ok e.origin) (edge_from index)
 
 -- the edges that leave the cell, in ascending direction
 abbrev pub origin_to_directed_edges : Option ℕ → Result (List DirectedEdge) H3Error
-origin_to_directed_edges index = for_cell (λ c. Ok (edges_from c)) (cell_from index)
+origin_to_directed_edges index = for_value (λ c. Ok (edges_from c)) (cell_from index)

@@ -2,7 +2,7 @@
 use Rattle.std.specs.Prelude.{◌≡◌, ℕ, List, [], ◌∷◌, ◌++◌, codes, pos, negsuc, None, Some, Err, refl}
 use Rattle.h3_index.specs.Cell.{number_of}
 use Rattle.h3_index.specs.CellNumber.{address_in, cell_in}
-use Rattle.h3_index.specs.Count.{base_cell}
+use Rattle.h3_index.specs.Count.{base_cell, number_below}
 use Rattle.h3_index.specs.Text.{text_of}
 use Rattle.h3_index.specs.declared.error.H3Error.TheVariants.{Domain, Failed, Pentagon}
 use Rattle.h3_lattice.specs.Fields.{records_of}
@@ -26,7 +26,7 @@ unfolding cell_in address_in number_of
 truth = refl
 
 parent : answer (CellToParent (Some 0x85283473fffffff) (pos 4)) [] [] ≡ written (codes "8428347ffffffff" ++ 10 ∷ [])
-unfolding cell_in address_in number_of text_of
+unfolding cell_in address_in number_of number_below text_of
 parent = refl
 
 no_index : answer (CellToParent None (pos 4)) [] [] ≡ refused Failed

@@ -5,7 +5,7 @@ use Rattle.h3_index.specs.Descendants.{center_at, cut, descendants}
 use Rattle.h3_index.specs.declared.error.H3Error.{H3Error}
 use Rattle.h3_tree.specs.Positions.{position_under}
 use Rattle.h3_tree.specs.Refusals.{descent_refusal, parent_refusal, position_refusal}
-use Rattle.h3_command.specs.Inspection.{cell_from, for_cell}
+use Rattle.h3_command.specs.Inspection.{cell_from, for_value}
 
 -- the value, unless there is an error
 abbrev pub unless : {A : Type 0} → Option H3Error → A → Result A H3Error
@@ -14,25 +14,25 @@ unless (Some e) value = Err e
 
 abbrev pub cell_to_parent : Option ℕ → ℤ → Result Address H3Error
 cell_to_parent index res =
-    for_cell (λ c. unless (parent_refusal (resolution c) res) (cut c (unsigned_abs res))) (cell_from index)
+    for_value (λ c. unless (parent_refusal (resolution c) res) (cut c (unsigned_abs res))) (cell_from index)
 
 abbrev pub cell_to_center_child : Option ℕ → ℤ → Result Address H3Error
 cell_to_center_child index res =
-    for_cell (λ c. unless (descent_refusal (resolution c) res) (center_at c (unsigned_abs res))) (cell_from index)
+    for_value (λ c. unless (descent_refusal (resolution c) res) (center_at c (unsigned_abs res))) (cell_from index)
 
 abbrev pub cell_to_children : Option ℕ → ℤ → Result (List Address) H3Error
 cell_to_children index res =
-    for_cell (λ c. unless (descent_refusal (resolution c) res) (descendants c (unsigned_abs res))) (cell_from index)
+    for_value (λ c. unless (descent_refusal (resolution c) res) (descendants c (unsigned_abs res))) (cell_from index)
 
 abbrev pub cell_to_children_size : Option ℕ → ℤ → Result ℕ H3Error
 cell_to_children_size index res =
-    for_cell (λ c. unless (descent_refusal (resolution c) res) (length (descendants c (unsigned_abs res)))) (cell_from index)
+    for_value (λ c. unless (descent_refusal (resolution c) res) (length (descendants c (unsigned_abs res)))) (cell_from index)
 
 abbrev pub cell_to_child_pos : Option ℕ → ℤ → Result ℕ H3Error
 cell_to_child_pos index res =
-    for_cell (λ c. unless (parent_refusal (resolution c) res) (position_under (cut c (unsigned_abs res)) c)) (cell_from index)
+    for_value (λ c. unless (parent_refusal (resolution c) res) (position_under (cut c (unsigned_abs res)) c)) (cell_from index)
 
 -- where nothing is refused, there is a descendant at the position
 abbrev pub child_pos_to_cell : ℕ → Option ℕ → ℤ → Result Address H3Error
 child_pos_to_cell position index res =
-    for_cell (λ c. unless (position_refusal c res position) (unwrap_or (slice_get (descendants c (unsigned_abs res)) position) c)) (cell_from index)
+    for_value (λ c. unless (position_refusal c res position) (unwrap_or (slice_get (descendants c (unsigned_abs res)) position) c)) (cell_from index)

@@ -10,23 +10,23 @@ abbrev pub cell_from : Option ℕ → Result Address H3Error
 cell_from None = Err Failed
 cell_from (Some index) = ok_or (cell_in index) CellInvalid
 
--- what is returned for a cell, or the error in place of the cell
-abbrev pub for_cell : {A : Type 0} → (Address → Result A H3Error) → Result Address H3Error → Result A H3Error
-for_cell f (Ok cell) = f cell
-for_cell f (Err e) = Err e
+-- what is returned for a value, or the error in its place
+abbrev pub for_value : {A B : Type 0} → (A → Result B H3Error) → Result A H3Error → Result B H3Error
+for_value f (Ok value) = f value
+for_value f (Err e) = Err e
 
 abbrev pub is_valid_cell : Option ℕ → Result Bool H3Error
 is_valid_cell None = Err Failed
 is_valid_cell (Some index) = Ok (is_some (cell_in index))
 
 abbrev pub get_resolution : Option ℕ → Result ℕ H3Error
-get_resolution index = for_cell (λ c. Ok (resolution c)) (cell_from index)
+get_resolution index = for_value (λ c. Ok (resolution c)) (cell_from index)
 
 abbrev pub get_base_cell_number : Option ℕ → Result ℕ H3Error
-get_base_cell_number index = for_cell (λ c. Ok c.base) (cell_from index)
+get_base_cell_number index = for_value (λ c. Ok c.base) (cell_from index)
 
 abbrev pub is_pentagon : Option ℕ → Result Bool H3Error
-is_pentagon index = for_cell (λ c. Ok (is_pentagon_cell c)) (cell_from index)
+is_pentagon index = for_value (λ c. Ok (is_pentagon_cell c)) (cell_from index)
 
 abbrev pub is_res_class_iii : Option ℕ → Result Bool H3Error
-is_res_class_iii index = for_cell (λ c. Ok (is_class_iii c)) (cell_from index)
+is_res_class_iii index = for_value (λ c. Ok (is_class_iii c)) (cell_from index)

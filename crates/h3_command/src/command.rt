@@ -205,7 +205,8 @@ mod tests {
     fn commands_of_other_words_differ(rt: HostRuntime) {
         let these = commands(Some(1), Some(2), 3, 4);
         assert_eq!(&rt; differences(&these, &these), 0);
-        // 17 commands have a cell and 3 an edge, 2 another cell, 1 a position, 9 a resolution and 3 a radius
+        // 17 commands have a cell and 3 an edge, 2 another cell, 1 a position, 9 a resolution and 3
+        // a radius
         for (others, count) in [
             (commands(None, Some(2), 3, 4), 20),
             (commands(Some(5), Some(2), 3, 4), 20),

@@ -2,8 +2,8 @@
 //! has none. For those over a base cell table, what each asks of it. Which pairs of cells and which
 //! edges are refused is this library's own.
 //!
-//! For each word, the first before the second: `Failed` where it has no index, then `CellInvalid` or
-//! `DirEdgeInvalid` where no cell or edge has it.
+//! For each word, the first before the second: `Failed` where it has no index, then `CellInvalid`
+//! or `DirEdgeInvalid` where no cell or edge has it.
 
 ghost use Rattle.std.specs.Prelude.{◌≡◌};
 ghost use Rattle.std.specs.Iterator.{YieldsFirst};
@@ -61,7 +61,8 @@ pub fn origin_to_directed_edges(index: Option<u64>) -> Result<Edges, H3Error>
     Ok(edges_of(cell))
 }
 
-/// Whether two cells are neighbours, as H3's `areNeighborCells` returns it, over the links of a table.
+/// Whether two cells are neighbours, as H3's `areNeighborCells` returns it, over the links of a
+/// table.
 pub fn are_neighbor_cells(cell: Option<u64>, to: Option<u64>) -> Result<TableQuery, H3Error>
     ensures { with_table table_answer result ≡ request (AreNeighborCells cell to) }
 {
@@ -69,8 +70,8 @@ pub fn are_neighbor_cells(cell: Option<u64>, to: Option<u64>) -> Result<TableQue
     Ok(TableQuery::Neighbors { cell, to })
 }
 
-/// The edge that leaves a cell and leads to another, as H3's `cellsToDirectedEdge` returns it, over the
-/// links of a table.
+/// The edge that leaves a cell and leads to another, as H3's `cellsToDirectedEdge` returns it, over
+/// the links of a table.
 pub fn cells_to_directed_edge(cell: Option<u64>, to: Option<u64>) -> Result<TableQuery, H3Error>
     ensures { with_table table_answer result ≡ request (CellsToDirectedEdge cell to) }
 {
@@ -81,8 +82,8 @@ pub fn cells_to_directed_edge(cell: Option<u64>, to: Option<u64>) -> Result<Tabl
     })
 }
 
-/// The cell that an edge leads to, as H3's `getDirectedEdgeDestination` returns it, over the links of a
-/// table.
+/// The cell that an edge leads to, as H3's `getDirectedEdgeDestination` returns it, over the links
+/// of a table.
 pub fn get_directed_edge_destination(index: Option<u64>) -> Result<TableQuery, H3Error>
     ensures { with_table table_answer result ≡ request (GetDirectedEdgeDestination index) }
 {

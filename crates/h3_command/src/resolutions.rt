@@ -7,7 +7,7 @@ ghost use Rattle.h3_command.specs.Resolutions.{get_num_cells, get_pentagons, get
 ghost use Rattle.h3_command.specs.Items.{Lists};
 
 use crate::bases::{BaseCells, Pentagons};
-use h3_index::{H3Error, num_cells, pentagon};
+use h3_index::{H3Error, num_cells, resolution_from};
 
 /// The number of cells of a resolution, as H3's `getNumCells` returns it. `ResDomain` outside 0 to
 /// 15.
@@ -29,6 +29,6 @@ pub fn get_res0_cells() -> BaseCells
 pub fn get_pentagons(res: i32) -> Result<Pentagons, H3Error>
     ensures { Lists (YieldsFirst pentagons_left) result (get_pentagons res) }
 {
-    let first = pentagon(res, 0)?;
-    Ok(Pentagons::of_resolution(first.resolution()))
+    let res = resolution_from(res)?;
+    Ok(Pentagons::of_resolution(res))
 }

@@ -89,9 +89,9 @@ fn perform<R: Source, T: Source, W: Sink>(
 /// once the indexes of its words are valid. The others read neither and take no memory. Where a
 /// walk over a table is refused on its way, the lines of the cells before that stand on `out`.
 ///
-/// After a write that failed, a beginning of the answer stands on `out`; after a read that failed, or
-/// where memory is refused, nothing does. A source that is not at its end after 2^40 reads counts as
-/// one that failed. A standard error that fails changes no status.
+/// After a write that failed, a beginning of the answer stands on `out`; after a read that failed,
+/// or where memory is refused, nothing does. A source that is not at its end after 2^40 reads
+/// counts as one that failed. A standard error that fails changes no status.
 pub fn run<R: Source, T: Source, W: Sink, E: Sink>(
     alloc: Global,
     command: &Command,

@@ -1,12 +1,12 @@
 //! What the commands over a base cell table ask of it, and how the answer is written.
 //!
 //! The words come first: where one has no index, or no cell or edge has it, the table is not read.
-//! Cells of a walk are written as they are reached, so those before a step that is refused are on the
-//! output when its error is returned.
+//! Cells of a walk are written as they are reached, so those before a step that is refused are on
+//! the output when its error is returned.
 //!
-//! The error of the words comes first; then `Refusal::Read`, `Refusal::Memory` and `Refusal::Table` as
-//! `BaseTable::read` finds them; then that of what is asked; and `Refusal::Write` where a push or the
-//! flush fails.
+//! The error of the words comes first; then `Refusal::Read`, `Refusal::Memory` and `Refusal::Table`
+//! as `BaseTable::read` finds them; then that of what is asked; and `Refusal::Write` where a push
+//! or the flush fails.
 
 ghost use Rattle.std.specs.Prelude.{◌≡◌, false};
 ghost use Rattle.h3_lattice.specs.BaseTable.{link_of};
@@ -26,8 +26,8 @@ use std::alloc::Global;
 /// What is asked of a base cell table.
 #[derive(Clone, Copy)]
 pub enum TableQuery {
-    /// The cells within a radius of a cell. `Domain` for a negative radius, and `Pentagon` where the
-    /// walk is refused, before it begins or on its way.
+    /// The cells within a radius of a cell. `Domain` for a negative radius, and `Pentagon` where
+    /// the walk is refused, before it begins or on its way.
     GridDisk { cell: Cell, k: i32 },
 
     /// The same, each cell with its ring.
@@ -40,13 +40,13 @@ pub enum TableQuery {
     /// different cells, `Pentagon` where either is in a pentagon base cell.
     Neighbors { cell: Cell, to: Cell },
 
-    /// The edge that leaves a cell and leads to another. `ResMismatch` where their resolutions differ;
-    /// then `NotNeighbors` for one cell given twice; then `Pentagon` where either is in a pentagon
-    /// base cell; then `NotNeighbors` where no step leads from the first to the second.
+    /// The edge that leaves a cell and leads to another. `ResMismatch` where their resolutions
+    /// differ; then `NotNeighbors` for one cell given twice; then `Pentagon` where either is in a
+    /// pentagon base cell; then `NotNeighbors` where no step leads from the first to the second.
     EdgeBetween { origin: Cell, destination: Cell },
 
-    /// The cell that an edge leads to. `Pentagon` where the edge's origin or that cell is in a pentagon
-    /// base cell.
+    /// The cell that an edge leads to. `Pentagon` where the edge's origin or that cell is in a
+    /// pentagon base cell.
     EdgeDestination { edge: Edge },
 }
 

@@ -1,5 +1,5 @@
-//! H3's grid traversal functions, for the index of a word, `None` where the word has none: what each
-//! asks of a base cell table. Which walks are refused is this library's own.
+//! H3's grid traversal functions, for the index of a word, `None` where the word has none: what
+//! each asks of a base cell table. Which walks are refused is this library's own.
 //!
 //! `Failed` where there is no index, and `CellInvalid` where no cell has it.
 

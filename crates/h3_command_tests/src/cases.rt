@@ -61,8 +61,8 @@ pub struct Outcome {
 }
 
 impl Outcome {
-    /// Whether this output and this line were written, this status was returned, and nothing was read
-    /// but what the command reads.
+    /// Whether this output and this line were written, this status was returned, and nothing was
+    /// read but what the command reads.
     pub fn is(&self, output: &str, line: &str, status: u8) -> bool {
         self.status == status
             && self.out.bytes() == output.as_bytes()
@@ -112,8 +112,8 @@ impl<'a> Case<'a> {
         }
     }
 
-    /// How many pulls of at most `most` bytes read all that the command reads: the last one finds the
-    /// end.
+    /// How many pulls of at most `most` bytes read all that the command reads: the last one finds
+    /// the end.
     pub fn pulls(&self, most: usize) -> u64 {
         match self.reads {
             Reads::Nothing => 0,
@@ -124,8 +124,8 @@ impl<'a> Case<'a> {
         }
     }
 
-    /// The flushes of the answer: one at its end, and one before an error only where lines stand before
-    /// it.
+    /// The flushes of the answer: one at its end, and one before an error only where lines stand
+    /// before it.
     pub fn flushes(&self) -> u64 {
         u64::from(self.status == 0 || !self.output.is_empty())
     }
@@ -242,8 +242,8 @@ pub fn refused<'a>(command: Command, reads: Reads<'a>, output: &'a str, line: &'
     }
 }
 
-/// Asserts the answer of a command, that it is flushed as it should be, and that nothing else is read
-/// than what the command reads; this is handed out in pieces of so many bytes.
+/// Asserts the answer of a command, that it is flushed as it should be, and that nothing else is
+/// read than what the command reads; this is handed out in pieces of so many bytes.
 pub fn assert_pieces<R: Abort + AllocGlobal>(rt: &R, case: &Case<'_>, pieces: &[usize]) {
     for most in pieces {
         let run = case.read(rt, *most, NO_FAULT);

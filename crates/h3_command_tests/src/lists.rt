@@ -57,7 +57,8 @@ fn assert_known<R: Abort + AllocGlobal>(rt: &R, case: &Case<'_>, bytes: usize) {
     }
 }
 
-/// Asserts that a list is judged at its end alone: a fault of the reader after its last byte counts.
+/// Asserts that a list is judged at its end alone: a fault of the reader after its last byte
+/// counts.
 fn assert_torn<R: Abort + AllocGlobal>(rt: &R, case: &Case<'_>) {
     assert_compacted(rt, case);
     for most in PIECES {

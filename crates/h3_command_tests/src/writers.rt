@@ -15,8 +15,8 @@ use std::process::Abort;
 const WRITE_FAULT: &str = "fault: write\n";
 
 /// Asserts that the whole answer is given, with one flush or none, and returns the number of pushes
-/// and flushes. The answers are shorter than a block of lines, so each push but the last one takes as
-/// many bytes as it can.
+/// and flushes. The answers are shorter than a block of lines, so each push but the last one takes
+/// as many bytes as it can.
 fn answered<R: Abort + AllocGlobal>(rt: &R, case: &Case<'_>, most: usize, faults: Faults) -> u64 {
     let run = case.write(rt, FaultySink::new(most, faults));
     let flushes = case.flushes();
@@ -28,8 +28,8 @@ fn answered<R: Abort + AllocGlobal>(rt: &R, case: &Case<'_>, most: usize, faults
     calls
 }
 
-/// Asserts that a write fault is reported, that what the pushes before it took is written, and that no
-/// push or flush is made after it.
+/// Asserts that a write fault is reported, that what the pushes before it took is written, and that
+/// no push or flush is made after it.
 fn assert_write_fault<R: Abort + AllocGlobal>(
     rt: &R,
     case: &Case<'_>,
@@ -108,8 +108,8 @@ fn assert_error_fault<R: Abort + AllocGlobal>(
     assert!(rt; right, "{:?}, {good}", case.command);
 }
 
-/// Asserts that a standard error that fails at any push, whether this passes or not, changes neither the
-/// output nor the status.
+/// Asserts that a standard error that fails at any push, whether this passes or not, changes
+/// neither the output nor the status.
 fn assert_error_faults<R: Abort + AllocGlobal>(
     rt: &R,
     case: &Case<'_>,

@@ -1,9 +1,12 @@
-//! The files of tables, in both formats: of the test tables, and of one on which a ring does not close.
+//! The files of tables, in both formats: of the test tables, and of one on which a ring does not
+//! close.
+
+ghost use Rattle.std.specs.Prelude.{◌<◌};
 
 use arrayvec::ArrayString;
 use h3_index::is_pentagon_base;
-use h3_lattice::Direction;
 use h3_lattice::vectors::{TestTable, link};
+use h3_lattice::{DIRECTIONS, Direction};
 use itoa::Buffer;
 
 /// The room for a file: a header of 16 bytes, and 660 records of at most 12. A file in format 2 is
@@ -16,45 +19,45 @@ pub type TableFile = ArrayString<FILE_ROOM>;
 /// The links of a base cell, by direction: the base cell that each leads to, and the turns.
 type Links = [(u8, u8); 6];
 
-/// Links along the ring of radius 2 around base cell 0: a base cell, a direction and the base cell that
-/// it leads to. Two lead out to the ring in the direction 4 (I), and twelve around it. The last of
-/// them leads to base cell 16, and not to 2, with which the ring begins. Base cells 1, 2 and 3 are a
-/// triangle.
-const OPEN_RING: [[u8; 3]; 15] = [
-    [0, 4, 1],
-    [1, 4, 2],
-    [1, 6, 3],
-    [2, 2, 3],
-    [3, 2, 5],
-    [5, 3, 6],
-    [6, 3, 7],
-    [7, 1, 8],
-    [8, 1, 9],
-    [9, 5, 10],
-    [10, 5, 11],
-    [11, 4, 12],
-    [12, 4, 13],
-    [13, 6, 15],
-    [15, 6, 16],
+/// Links along the ring of radius 2 around base cell 0: a base cell, a direction and the base cell
+/// that it leads to. Two lead out to the ring in the direction I, and twelve around it. The last of
+/// them leads to base cell 16, and not to 2, with which the ring begins. Base cells 1, 2 and 3 are
+/// a triangle.
+const OPEN_RING: [(u8, Direction, u8); 15] = [
+    (0, Direction::I, 1),
+    (1, Direction::I, 2),
+    (1, Direction::IJ, 3),
+    (2, Direction::J, 3),
+    (3, Direction::J, 5),
+    (5, Direction::JK, 6),
+    (6, Direction::JK, 7),
+    (7, Direction::K, 8),
+    (8, Direction::K, 9),
+    (9, Direction::IK, 10),
+    (10, Direction::IK, 11),
+    (11, Direction::I, 12),
+    (12, Direction::I, 13),
+    (13, Direction::IJ, 15),
+    (15, Direction::IJ, 16),
 ];
 
 /// The links of a base cell of a test table, or nothing for a pentagon.
-fn test_links(table: TestTable, base: u8) -> Option<Links> {
-    if base > 121 || is_pentagon_base(base) {
+fn test_links(table: TestTable, base: u8) -> Option<Links>
+    requires { base < 122 }
+{
+    if is_pentagon_base(base) {
         return None;
     }
     let mut links = [(0, 0); 6];
-    for (digit, place) in (1..7u8).zip(links.iter_mut()) {
-        *place = link(table, base, Direction::from_digit(digit)?);
+    for (direction, place) in DIRECTIONS.iter().zip(links.iter_mut()) {
+        *place = link(table, base, *direction);
     }
     Some(links)
 }
 
-/// Changes the link in the direction with a digit from 1 to 6.
-fn set_link(links: &mut Links, digit: u8, to: u8, turns: u8) {
-    if let Some(place) = links.get_mut(usize::from(digit.saturating_sub(1))) {
-        *place = (to, turns);
-    }
+/// Changes the link in a direction.
+fn set_link(links: &mut Links, direction: Direction, to: u8, turns: u8) {
+    links[direction.digit() as usize - 1] = (to, turns);
 }
 
 /// The links of a base cell that are those of `OPEN_RING` and those back, and otherwise lead to
@@ -64,13 +67,12 @@ fn open_links(base: u8) -> Option<Links> {
         return None;
     }
     let mut links = [(4, 0), (14, 0), (24, 0), (38, 0), (49, 0), (58, 0)];
-    for [from, digit, to] in OPEN_RING {
+    for (from, direction, to) in OPEN_RING {
         if base == from {
-            set_link(&mut links, digit, to, 0);
+            set_link(&mut links, direction, to, 0);
         }
         if base == to {
-            // the opposite direction
-            set_link(&mut links, 7u8.saturating_sub(digit), from, 0);
+            set_link(&mut links, direction.opposite(), from, 0);
         }
     }
     Some(links)
@@ -124,14 +126,16 @@ pub fn table_file(table: TestTable) -> TableFile {
     file
 }
 
-/// The same where the link of base cell 0 in a direction, by its digit, leads to another base cell or
-/// has other turns.
+/// The same where the link of base cell 0 in a direction, by its digit, leads to another base cell
+/// or has other turns.
 pub fn changed_file(table: TestTable, digit: u8, to: u8, turns: u8) -> TableFile {
     let mut file = header();
     for base in 0..122u8 {
         if let Some(mut links) = test_links(table, base) {
-            if base == 0 {
-                set_link(&mut links, digit, to, turns);
+            if base == 0
+                && let Some(direction) = Direction::from_digit(digit)
+            {
+                set_link(&mut links, direction, to, turns);
             }
             push_records(&mut file, base, &links);
         }

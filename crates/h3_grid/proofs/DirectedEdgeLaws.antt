@@ -49,32 +49,6 @@ one_direction d e h =
     let same : Some d ≡ Some e = sym (direction_of-digit d) ∙ ap direction_of h ∙ direction_of-digit e in
     cc
 
--- the digit of the direction that a digit stands for
-direction_is : (n : ℕ) (d : Direction) → n < 7 → direction_of n ≡ Some d → n ≡ digit_of d
-direction_is zero d h e = let no : None ≡ Some d = e in cc
-direction_is (suc zero) d h e = let same : Some K ≡ Some d = e in let is : K ≡ d = cc in ap digit_of is
-direction_is (suc (suc zero)) d h e =
-    let same : Some J ≡ Some d = e in
-    let is : J ≡ d = cc in
-    ap digit_of is
-direction_is (suc (suc (suc zero))) d h e =
-    let same : Some JK ≡ Some d = e in
-    let is : JK ≡ d = cc in
-    ap digit_of is
-direction_is (suc (suc (suc (suc zero)))) d h e =
-    let same : Some I ≡ Some d = e in
-    let is : I ≡ d = cc in
-    ap digit_of is
-direction_is (suc (suc (suc (suc (suc zero))))) d h e =
-    let same : Some IK ≡ Some d = e in
-    let is : IK ≡ d = cc in
-    ap digit_of is
-direction_is (suc (suc (suc (suc (suc (suc zero)))))) d h e =
-    let same : Some IJ ≡ Some d = e in
-    let is : IJ ≡ d = cc in
-    ap digit_of is
-direction_is (suc (suc (suc (suc (suc (suc (suc n))))))) d h e = absurd (omega (arith, h))
-
 -- ---- which directions a cell has edges in
 
 not_deleted : (p : Bool) (d : ℕ) → (p ≡ true → d ≢ 1) → not (p && d == 1) ≡ true
@@ -252,22 +226,22 @@ pub record LeadsTo (link : Links) (e : DirectedEdge) (y : Address) : Type 0 wher
   pub is : Ok y ≡ edge_destination link e
   pub leads : IsDestination link e y
 
-pub leads_to : (link : Links) (e : DirectedEdge) (d : Direction) (y : Address) → IsEdge e → Some d ≡ direction_of e.direction → neighbor link e.origin d ≡ Some y → LeadsTo link e y
+pub leads_to : (link : Links) (e : DirectedEdge) (d : Direction) (y : Address) → digit_of d ≡ e.direction → neighbor link e.origin d ≡ Some y → LeadsTo link e y
 unfolding edge_destination
-leads_to link e d y v some n = record {
-  is = rw (← some, n) refl;
-  leads = record { direction = d; digit_is = direction_is e.direction d v.direction_small (sym some); leads = n };
+leads_to link e d y digit n = record {
+  is = rw (← digit, direction_of-digit d, n) refl;
+  leads = record { direction = d; digit_is = sym digit; leads = n };
 }
 
 pub record LeadsNowhere (link : Links) (e : DirectedEdge) : Type 0 where
   pub is : Err Pentagon ≡ edge_destination link e
   pub none : (y : Address) → IsDestination link e y → ⊥
 
-pub leads_nowhere : (link : Links) (e : DirectedEdge) (d : Direction) → IsEdge e → Some d ≡ direction_of e.direction → neighbor link e.origin d ≡ None → LeadsNowhere link e
+pub leads_nowhere : (link : Links) (e : DirectedEdge) (d : Direction) → digit_of d ≡ e.direction → neighbor link e.origin d ≡ None → LeadsNowhere link e
 unfolding edge_destination
-leads_nowhere link e d v some n = record {
-  is = rw (← some, n) refl;
-  none = λ y h. (let one : h.direction ≡ d = one_direction h.direction d (sym h.digit_is ∙ direction_is e.direction d v.direction_small (sym some)) in
+leads_nowhere link e d digit n = record {
+  is = rw (← digit, direction_of-digit d, n) refl;
+  none = λ y h. (let one : h.direction ≡ d = one_direction h.direction d (sym h.digit_is ∙ sym digit) in
       some_none y (sym h.leads ∙ ap (neighbor link e.origin) one ∙ n));
 }
   where

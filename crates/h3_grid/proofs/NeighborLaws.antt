@@ -1,4 +1,4 @@
--- Neighbours: the direction that leads to one, the way back, and cells that are refused.
+-- Neighbors: the direction that leads to one, the way back, and cells that are refused.
 use Rattle.std.proofs.Common.{ℕ, ◌≡◌, ◌≢◌, ◌<◌, ◌+◌, ◌%◌, ◌==◌, List, [], ◌∷◌, length, map, Contains, Bool, true, false, not, ◌&&◌, ◌||◌, if◌then◌else◌, Option, Some, None, is_some, Result, Ok, Err, refl, arith, sym, ap, ◌∙◌, subst}
 use Rattle.std.specs.List.{find}
 use Rattle.std.proofs.lemmas.List.{length-map}
@@ -152,9 +152,9 @@ true_is link x y e = by_refusal (neighbor_refusal x y) refl
     by_refusal None h = let p = by_same (is_same x y) (is_some (direction_to link x y)) (sym (result-given link x y h) ∙ e) in record { other = p.0; some = p.1 }
     by_refusal (Some f) h = let no : Err f ≡ Ok true = sym (result-refused link x y f h) ∙ e in cc
 
--- ---- the neighbour in a direction
+-- ---- the neighbor in a direction
 
--- a step that reaches the neighbour
+-- a step that reaches the neighbor
 pub step-neighbor : (link : Links) (x y : Address) (d : Direction) → neighbor link x d ≡ Some y → (r : ℕ) × (step_of link (state x 0) d ≡ Some (state y r))
 unfolding neighbor
 step-neighbor link x y d e = by_step (step_of link (state x 0) d) refl e
@@ -173,7 +173,7 @@ is_passes link x y d e = ap (is_some_same y) e ∙ same_number y y refl
 some_none : {A : Type 0} (a : A) → Some a ≡ None → ⊥
 some_none a e = cc
 
--- a cell that has a neighbour is in a hexagon base cell
+-- a cell that has a neighbor is in a hexagon base cell
 pub from_hexagon : (link : Links) (x y : Address) (d : Direction) → IsCell x → neighbor link x d ≡ Some y → IsState (state x 0)
 from_hexagon link x y d v e = by_test (is_pentagon_base x.base) refl
   where
@@ -202,7 +202,7 @@ same_length sums link x y q d hex st = by_out l.out l.list l.sum l.is
 -- ---- over sound links
 
 module _ (w : StepLawsHold) (sums : SumLaws) (link : Links) (sound : IsSound link) where
-  -- a neighbour is a cell, of the same resolution and in a hexagon base cell
+  -- a neighbor is a cell, of the same resolution and in a hexagon base cell
   pub record IsNeighbor (x y : Address) : Type 0 where
     pub valid : IsCell y
     pub resolution_is : resolution y ≡ resolution x
@@ -235,7 +235,7 @@ module _ (w : StepLawsHold) (sums : SumLaws) (link : Links) (sound : IsSound lin
   pub neighbors_mutual : NeighborsAreMutual link
   neighbors_mutual x y v u = (neighbor_back x y v, neighbor_back y x u)
 
-  -- ---- the direction to a neighbour
+  -- ---- the direction to a neighbor
 
   module _ (by_number : NumbersAreUnique) (part : OverSoundLinks StepsDiffer) where
     pub directions_part : DirectionsDiffer link
@@ -258,7 +258,7 @@ module _ (w : StepLawsHold) (sums : SumLaws) (link : Links) (sound : IsSound lin
       λ e. find_one (λ d. is_some_same y (neighbor link x d)) directions d (in_directions d) (is_passes link x y d e) (λ c m t. directions_part x y c d v (passes_is x y c v u t) e),
     )
 
-    -- ---- whether two cells are neighbours
+    -- ---- whether two cells are neighbors
 
     to_related : (x y : Address) → IsCell x → IsCell y → is_some (direction_to link x y) ≡ true → AreNeighbors link x y
     to_related x y v u e =

@@ -29,10 +29,6 @@ pub round-none : (r n s : ℕ) → n ≡ 0 → s ≡ 0 → directions_left r n s
 unfolding directions_left
 round-none r n s e f = rw (e, f) refl
 
-pub round-all : (k : ℕ) → directions_left k k 5 ≡ flat_map (replicate k) sides
-unfolding directions_left
-round-all k = refl
-
 -- some step is left
 pub record SomeLeft (ds : List Direction) : Type 0 where
   pub next : Direction

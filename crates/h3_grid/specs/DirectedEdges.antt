@@ -1,6 +1,6 @@
--- Directed edges between neighbours.
+-- Directed edges between neighbors.
 --
--- H3's directed edges: an edge leaves its origin in one of the six directions, and leads to the neighbour there, its
+-- H3's directed edges: an edge leaves its origin in one of the six directions, and leads to the neighbor there, its
 -- destination.
 use Rattle.std.specs.Prelude.{◌≡◌, ◌↔◌, ◌<◌, List, map, Option, Some, None, Result, Ok, Err, AllPairs, Contains}
 use Rattle.std.specs.List.{filter}
@@ -13,7 +13,7 @@ use Rattle.h3_lattice.specs.Direction.{digit_of, direction_of, directions}
 use Rattle.h3_lattice.specs.Links.{Links}
 use Rattle.h3_grid.specs.Neighbors.{direction_to, neighbor, pair_refusal, unless_refused}
 
--- y is the destination of the edge: the neighbour of its origin in its direction
+-- y is the destination of the edge: the neighbor of its origin in its direction
 pub record IsDestination (link : Links) (e : DirectedEdge) (y : Address) : Type 0 where
   pub direction : Direction
   pub digit_is : e.direction ≡ digit_of direction

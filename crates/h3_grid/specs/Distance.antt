@@ -1,4 +1,4 @@
--- Distances, counted in neighbours.
+-- Distances, counted in neighbors.
 use Rattle.std.specs.Prelude.{◌↔◌, ◌≤◌, ℕ, suc, List, Contains}
 use Rattle.h3_index.specs.Cell.{Address, IsCell}
 use Rattle.h3_lattice.specs.declared.direction.Direction.{Direction}
@@ -9,7 +9,7 @@ use Rattle.h3_grid.specs.Laws.{WritesCells}
 use Rattle.h3_grid.specs.Moves.{spiral}
 use Rattle.h3_grid.specs.Neighbors.{AreNeighbors}
 
--- a path of at most n neighbours joins c to a cell
+-- a path of at most n neighbors joins c to a cell
 pub data Joins (link : Links) (c : Address) : ℕ → Address → Type 0 where
   stay : (n : ℕ) → Joins link c n c
   go_on : (n : ℕ) (x y : Address) → Joins link c n x → AreNeighbors link x y → Joins link c (suc n) y
@@ -20,7 +20,7 @@ pub record IsWritten (cells : List (Address × ℕ)) (j : ℕ) (y : Address) : T
   pub within : ring ≤ j
   pub item : Contains cells (y, ring)
 
--- for each j up to k, the cells with rings up to j are those that a path of at most j neighbours joins to c
+-- for each j up to k, the cells with rings up to j are those that a path of at most j neighbors joins to c
 abbrev pub HasDistances : Links → Address → ℕ → List (Address × ℕ) → Type 0
 HasDistances link c k cells = (j : ℕ) → j ≤ k → (y : Address) → IsWritten cells j y ↔ Joins link c j y
 

@@ -1,8 +1,8 @@
--- Neighbours.
+-- Neighbors.
 --
--- Two cells of one resolution are neighbours where a step leads from the one to the other, as H3's `areNeighborCells`
+-- Two cells of one resolution are neighbors where a step leads from the one to the other, as H3's `areNeighborCells`
 -- has it outside pentagon base cells. Here no step starts or ends in a pentagon base cell, so a cell in one has no
--- neighbours.
+-- neighbors.
 use Rattle.std.specs.Prelude.{◌≡◌, ◌≢◌, ◌↔◌, ◌==◌, ◌&&◌, ◌||◌, Bool, true, false, not, if◌then◌else◌, Option, Some, None, is_some, Result, Ok, Err}
 use Rattle.std.specs.List.{find}
 use Rattle.h3_index.specs.Cell.{Address, IsCell, is_pentagon_base, number_of, resolution}
@@ -19,11 +19,11 @@ abbrev pub cell_reached : Option State → Option Address
 cell_reached None = None
 cell_reached (Some s) = Some s.cell
 
--- the neighbour of x in a direction: the cell of the step of x, with rotation 0, in it; none where the step is refused
+-- the neighbor of x in a direction: the cell of the step of x, with rotation 0, in it; none where the step is refused
 unfoldable pub neighbor : Links → Address → Direction → Option Address
 neighbor link x d = cell_reached (step_of link (state x 0) d)
 
--- y is the neighbour of x in some direction
+-- y is the neighbor of x in some direction
 pub record AreNeighbors (link : Links) (x y : Address) : Type 0 where
   pub direction : Direction
   pub leads : neighbor link x direction ≡ Some y
@@ -39,7 +39,7 @@ abbrev pub is_some_same : Address → Option Address → Bool
 is_some_same y None = false
 is_some_same y (Some z) = is_same z y
 
--- the direction in which y is the neighbour of x, if there is one
+-- the direction in which y is the neighbor of x, if there is one
 unfoldable pub direction_to : Links → Address → Address → Option Direction
 direction_to link x y = find (λ d. is_some_same y (neighbor link x d)) directions
 
@@ -57,23 +57,23 @@ abbrev pub unless_refused : {A : Type 0} → Option H3Error → Result A H3Error
 unless_refused None r = r
 unless_refused (Some e) r = Err e
 
--- for whether two cells are neighbours, one cell given twice is no error
+-- for whether two cells are neighbors, one cell given twice is no error
 abbrev pub neighbor_refusal : Address → Address → Option H3Error
 neighbor_refusal x y = pair_refusal None x y
 
--- whether two cells are neighbours; no cell is its own
+-- whether two cells are neighbors; no cell is its own
 unfoldable pub are_neighbors : Links → Address → Address → Result Bool H3Error
 are_neighbors link x y =
     unless_refused (neighbor_refusal x y) (Ok (not (is_same x y) && is_some (direction_to link x y)))
 
--- ---- laws of neighbours over links
+-- ---- laws of neighbors over links
 
 -- the function finds the direction, which is the only one
 abbrev pub DirectionsAreFound : Links → Type 0
 DirectionsAreFound link =
     (x y : Address) (d : Direction) → IsCell x → IsCell y → (direction_to link x y ≡ Some d) ↔ (neighbor link x d ≡ Some y)
 
--- and so the function is true of neighbours, and of no other cells
+-- and so the function is true of neighbors, and of no other cells
 abbrev pub NeighborsAreFound : Links → Type 0
 NeighborsAreFound link =
     (x y : Address) → IsCell x → IsCell y → (are_neighbors link x y ≡ Ok true) ↔ AreNeighbors link x y
@@ -83,11 +83,11 @@ abbrev pub DirectionsDiffer : Links → Type 0
 DirectionsDiffer link =
     (x y : Address) (d e : Direction) → IsCell x → neighbor link x d ≡ Some y → neighbor link x e ≡ Some y → d ≡ e
 
--- no cell is its own neighbour
+-- no cell is its own neighbor
 abbrev pub NeighborsDiffer : Links → Type 0
 NeighborsDiffer link = (x y : Address) (d : Direction) → IsCell x → neighbor link x d ≡ Some y → y ≢ x
 
--- of two cells each is the other's neighbour, or neither is
+-- of two cells each is the other's neighbor, or neither is
 abbrev pub NeighborsAreMutual : Links → Type 0
 NeighborsAreMutual link = (x y : Address) → IsCell x → IsCell y → AreNeighbors link x y ↔ AreNeighbors link y x
 

@@ -1,8 +1,8 @@
--- Steps from a cell to a neighbour.
+-- Steps from a cell to a neighbor.
 --
 -- A walk over the grid is on a cell, with a rotation: how often its directions are turned in the frame of the base cell
 -- that the cell is in. A step adds its direction, turned that often, to the place of the cell's digits. The sum has an
--- expansion: digits, which are those of a cell of the same base cell, or else a unit and digits, and then the neighbour
+-- expansion: digits, which are those of a cell of the same base cell, or else a unit and digits, and then the neighbor
 -- is in the base cell to which the table links that side. No step starts or ends in a pentagon base cell.
 use Rattle.std.specs.Prelude.{◌≡◌, ℕ, ◌+◌, ◌%◌, List, map, true, false, if◌then◌else◌, Option, Some, None}
 use Rattle.h3_index.specs.Cell.{Address, is_pentagon_base}

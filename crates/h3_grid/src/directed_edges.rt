@@ -1,4 +1,4 @@
-//! Directed edges between neighbours.
+//! Directed edges between neighbors.
 
 ghost use Rattle.std.specs.Prelude.{◌≡◌, IfOk, IfErr, MatchOption};
 ghost use Rattle.h3_index.specs.Cell.{Address};
@@ -12,11 +12,13 @@ use crate::neighbors::{direction_to, neighbor, neighbor_is_lawful, pair_refusal}
 use h3_index::{Cell, Edge, H3Error};
 use h3_lattice::{BaseTable, Direction};
 
-/// The edge that leaves one cell and leads to another, as H3's `cellsToDirectedEdge` returns it outside pentagon base
-/// cells. Which pairs are refused, and with which error, is this library's own.
+/// The edge that leaves one cell and leads to another, as H3's `cellsToDirectedEdge` returns it
+/// outside pentagon base cells. Which pairs are refused, and with which error, is this library's
+/// own.
 ///
-/// `ResMismatch` where their resolutions differ; then `NotNeighbors` for one cell given twice; then `Pentagon` where
-/// either is in a pentagon base cell; then `NotNeighbors` where no step leads from the first to the second.
+/// `ResMismatch` where their resolutions differ; then `NotNeighbors` for one cell given twice; then
+/// `Pentagon` where either is in a pentagon base cell; then `NotNeighbors` where no step leads from
+/// the first to the second.
 pub fn edge_between(table: &BaseTable, a: Cell, b: Cell) -> Result<Edge, H3Error>
     ensures is { result ≡ edge_between (link_of table.now) a b }
 
@@ -26,7 +28,8 @@ pub fn edge_between(table: &BaseTable, a: Cell, b: Cell) -> Result<Edge, H3Error
         (IfErr result (λ e. (e ≡ H3Error.NotNeighbors) × ¬ AreNeighbors (link_of table.now) a b))
         (λ e. result ≡ Err e) }
 
-    // Laws of neighbours over the table: there is no second direction, and the function of the definitions finds it.
+    // Laws of neighbors over the table: there is no second direction, and the function of the
+    // definitions finds it.
     ensures part { DirectionsDiffer (link_of table.now) }
     ensures found { DirectionsAreFound (link_of table.now) }
 {
@@ -40,8 +43,9 @@ pub fn edge_between(table: &BaseTable, a: Cell, b: Cell) -> Result<Edge, H3Error
     }
 }
 
-/// The cell that an edge leads to, as H3's `getDirectedEdgeDestination` returns it outside pentagon base cells: that of
-/// the step from its origin, with rotation 0, in its direction. Which edges are refused is this library's own.
+/// The cell that an edge leads to, as H3's `getDirectedEdgeDestination` returns it outside pentagon
+/// base cells: that of the step from its origin, with rotation 0, in its direction. Which edges are
+/// refused is this library's own.
 ///
 /// `Pentagon` where the origin or that cell is in a pentagon base cell.
 pub fn edge_destination(table: &BaseTable, edge: Edge) -> Result<Cell, H3Error>
@@ -52,17 +56,14 @@ pub fn edge_destination(table: &BaseTable, edge: Edge) -> Result<Cell, H3Error>
     ensures refused { IfErr result (λ e. (e ≡ H3Error.Pentagon)
         × ((cell : Address) → ¬ IsDestination (link_of table.now) edge cell)) }
 {
-    let Some(direction) = Direction::from_digit(edge.direction()) else {
-        unreachable!()
-    };
-    match neighbor(table, edge.origin(), direction) {
+    match neighbor(table, edge.origin(), Direction::from_edge(edge)) {
         Some(cell) => Ok(cell),
         None => Err(H3Error::Pentagon),
     }
 }
 
-/// The edges that leave a cell, in ascending direction: six, or at a pentagon five, without direction 1 (K). H3's
-/// `originToDirectedEdges` leaves a null there. No table is needed for them.
+/// The edges that leave a cell, in ascending direction: six, or at a pentagon five, without
+/// direction 1 (K). H3's `originToDirectedEdges` leaves a null there. No table is needed for them.
 pub fn edges_of(cell: Cell) -> Edges
     ensures items { edges_left result ≡ edges_from cell }
     ensures listed { ListsEdges cell (edges_from cell) }

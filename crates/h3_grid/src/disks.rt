@@ -31,11 +31,12 @@ pub(crate) fn side_before(sides: u8) -> Direction
     }
 }
 
-/// The cells within a radius of a cell: the origin first, and then ring by ring, each cell with the number of its ring.
+/// The cells within a radius of a cell: the origin first, and then ring by ring, each cell with the
+/// number of its ring.
 ///
-/// An iterator. After the error `Pentagon`, which comes where a step meets a pentagon base cell, there is no further
-/// item. It takes no memory: it holds the cell that was reached last and counts what is left, steps of a side, sides of
-/// a ring and rings.
+/// An iterator. After the error `Pentagon`, which comes where a step meets a pentagon base cell,
+/// there is no further item. It takes no memory: it holds the cell that was reached last and counts
+/// what is left, steps of a side, sides of a ring and rings.
 #[derive(Clone, Copy)]
 pub struct Disk<'a> {
     table: &'a BaseTable,
@@ -67,16 +68,18 @@ fn disk_is_lawful(table: &BaseTable, cell: Cell, k: i32)
 impl<'a> Disk<'a> {
     ghost use Rattle.h3_grid.specs.Disk.{disk_left};
 
-    /// The disk of a radius around a cell, as H3's `gridDiskUnsafe` and `gridDiskDistancesUnsafe` walk it; which
-    /// disks are refused is this library's own. Nothing of it is walked yet.
+    /// The disk of a radius around a cell, as H3's `gridDiskUnsafe` and `gridDiskDistancesUnsafe`
+    /// walk it; which disks are refused is this library's own. Nothing of it is walked yet.
     ///
-    /// `Domain` for a negative radius; then `Pentagon` for a pentagon, and for a radius of 1 or more in a pentagon base
-    /// cell.
+    /// `Domain` for a negative radius; then `Pentagon` for a pentagon, and for a radius of 1 or
+    /// more in a pentagon base cell.
     pub fn new(table: &'a BaseTable, cell: Cell, k: i32) -> Result<Disk<'a>, H3Error>
         ensures refused { result_err result ≡ disk_refusal cell k }
-        ensures items { IfOk result (λ walk. disk_left walk ≡ disk (link_of table.now) cell (unsigned_abs k)) }
+        ensures items { IfOk result (λ walk.
+            disk_left walk ≡ disk (link_of table.now) cell (unsigned_abs k)) }
 
-        // Where no move is refused: how many cells there are; and where they are, and how far from the origin.
+        // Where no move is refused: how many cells there are; and where they are, and how far from
+        // the origin.
         ensures size { IfWritten (link_of table.now) cell (unsigned_abs k)
             (λ cells. length cells ≡ 3 * unsigned_abs k * (unsigned_abs k + 1) + 1) }
         ensures whole { IfWritten (link_of table.now) cell (unsigned_abs k)

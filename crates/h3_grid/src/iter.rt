@@ -9,7 +9,8 @@ use h3_index::{Cell, Edge};
 
 /// The edges that leave a cell, in ascending direction.
 ///
-/// An iterator. It takes no memory: it holds the cell and the direction of the next edge, or 7 after the last.
+/// An iterator. It takes no memory: it holds the cell and the direction of the next edge, or 7
+/// after the last.
 #[derive(Clone, Copy, Debug)]
 pub struct Edges {
     origin: Cell,

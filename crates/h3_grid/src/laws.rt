@@ -1,5 +1,5 @@
-//! Laws of the definitions that contracts here cite. Each function does nothing; what it ensures is a law that holds
-//! always, for the proofs of crates that call it.
+//! Laws of the definitions that contracts here cite. Each function does nothing; what it ensures is
+//! a law that holds always, for the proofs of crates that call it.
 
 ghost use Rattle.h3_grid.specs.Chart.{ChartsLeadAlongPaths, DisksAreCharts, OriginsAreAlone, RingsAgree, StatesAreWritten};
 ghost use Rattle.h3_grid.specs.Distance.{RingsAreDistances, SpiralsHoldSums};
@@ -10,15 +10,17 @@ ghost use Rattle.h3_grid.specs.Search.{StepsAreFound};
 use h3_index::laws::numbers_are_unique;
 use h3_lattice::laws::{sums_are_lawful, turns_add_up};
 
-/// A state has exactly one step in each direction, that which the function `step_of` of the definitions gives.
+/// A state has exactly one step in each direction, that which the function `step_of` of the
+/// definitions gives.
 pub fn steps_are_found()
     ensures { StepsAreFound }
 {
     sums_are_lawful();
 }
 
-/// A disk of which no move is refused has 3k(k + 1) + 1 cells, and its moves follow the spiral. Where all of them are
-/// in the origin's base cell, they are at the places of the spiral around the origin's, and no cell comes twice.
+/// A disk of which no move is refused has 3k(k + 1) + 1 cells, and its moves follow the spiral.
+/// Where all of them are in the origin's base cell, they are at the places of the spiral around the
+/// origin's, and no cell comes twice.
 pub fn disks_are_spirals()
     ensures sizes { DisksHaveSizes }
     ensures moves { MovesFollowTheSpiral }
@@ -31,8 +33,9 @@ pub fn disks_are_spirals()
     steps_are_found();
 }
 
-/// Over sound links the opposite direction leads back, different directions lead to different cells, none of them the
-/// cell itself, and the cells in a direction and in the next one are a step apart.
+/// Over sound links the opposite direction leads back, different directions lead to different
+/// cells, none of them the cell itself, and the cells in a direction and in the next one are a step
+/// apart.
 pub fn steps_are_lawful()
     ensures states { OverSoundLinks StepsReachStates }
     ensures reverse { OverSoundLinks StepsReverse }
@@ -44,9 +47,9 @@ pub fn steps_are_lawful()
     turns_add_up();
 }
 
-/// A disk of which no move is refused is a chart: where two places of the spiral are a direction apart, the step in
-/// that direction leads from the state at the one to the state at the other. Its rings are distances, and its last ring
-/// is the ring of its radius.
+/// A disk of which no move is refused is a chart: where two places of the spiral are a direction
+/// apart, the step in that direction leads from the state at the one to the state at the other. Its
+/// rings are distances, and its last ring is the ring of its radius.
 pub fn disks_are_charts()
     ensures charts { DisksAreCharts }
     ensures paths { ChartsLeadAlongPaths }
@@ -61,9 +64,10 @@ pub fn disks_are_charts()
     sums_are_lawful();
 }
 
-/// Over sound links at most one direction leads from a cell to another, and `direction_to` of the definitions finds it,
-/// so that `are_neighbors` is true of neighbours alone; no cell is its own neighbour; of two cells each is the other's
-/// neighbour or neither is, and `are_neighbors` has the same result in either order, errors included.
+/// Over sound links at most one direction leads from a cell to another, and `direction_to` of the
+/// definitions finds it, so that `are_neighbors` is true of neighbors alone; no cell is its own
+/// neighbor; of two cells each is the other's neighbor or neither is, and `are_neighbors` has the
+/// same result in either order, errors included.
 pub fn neighbors_are_lawful()
     ensures found { OverSoundLinks DirectionsAreFound }
     ensures related { OverSoundLinks NeighborsAreFound }

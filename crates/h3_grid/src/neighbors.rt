@@ -1,4 +1,4 @@
-//! Whether two cells are neighbours, and in which direction.
+//! Whether two cells are neighbors, and in which direction.
 
 ghost use Rattle.std.specs.Prelude.{◌≡◌, ◌↔◌, ◌&&◌, not, is_some, Ok, true, false};
 ghost use Rattle.std.specs.Result.{result_err};
@@ -11,7 +11,7 @@ use crate::steps::step;
 use h3_index::{Cell, H3Error};
 use h3_lattice::{BaseTable, DIRECTIONS, Direction};
 
-/// Laws of the neighbours over the links of a table. It does nothing.
+/// Laws of the neighbors over the links of a table. It does nothing.
 pub(crate) fn neighbor_is_lawful(table: &BaseTable)
     ensures found { DirectionsAreFound (link_of table.now) }
     ensures related { NeighborsAreFound (link_of table.now) }
@@ -23,7 +23,8 @@ pub(crate) fn neighbor_is_lawful(table: &BaseTable)
     table.links_are_sound();
 }
 
-/// The neighbour of a cell in a direction: the cell that the step with rotation 0 leads to, unless it is refused.
+/// The neighbor of a cell in a direction: the cell that the step with rotation 0 leads to, unless
+/// it is refused.
 pub(crate) fn neighbor(table: &BaseTable, cell: Cell, direction: Direction) -> Option<Cell>
     ensures { result ≡ neighbor (link_of table.now) cell direction }
 {
@@ -33,7 +34,7 @@ pub(crate) fn neighbor(table: &BaseTable, cell: Cell, direction: Direction) -> O
     }
 }
 
-/// Whether a cell is the neighbour of another in a direction.
+/// Whether a cell is the neighbor of another in a direction.
 fn leads(table: &BaseTable, from: Cell, direction: Direction, to: Cell) -> bool
     ensures { result ≡ is_some_same to (neighbor (link_of table.now) from direction) }
 {
@@ -43,7 +44,7 @@ fn leads(table: &BaseTable, from: Cell, direction: Direction, to: Cell) -> bool
     }
 }
 
-/// The direction in which a cell is the neighbour of another, if there is one.
+/// The direction in which a cell is the neighbor of another, if there is one.
 #[tactic(auto, unfolding(crate::specs::Neighbors::direction_to))]
 pub(crate) fn direction_to(table: &BaseTable, from: Cell, to: Cell) -> Option<Direction>
     ensures { result ≡ direction_to (link_of table.now) from to }
@@ -54,8 +55,9 @@ pub(crate) fn direction_to(table: &BaseTable, from: Cell, to: Cell) -> Option<Di
         .find(|direction| leads(table, from, *direction, to))
 }
 
-/// The error with which two cells are refused, if they are: first that their resolutions differ; then, for one cell
-/// given twice, the one that is passed; then that either is in a pentagon base cell.
+/// The error with which two cells are refused, if they are: first that their resolutions differ;
+/// then, for one cell given twice, the one that is passed; then that either is in a pentagon base
+/// cell.
 pub(crate) fn pair_refusal(twice: Option<H3Error>, a: Cell, b: Cell) -> Option<H3Error>
     ensures is { result ≡ pair_refusal twice a b }
     ensures cells { IsCell a × IsCell b }
@@ -72,27 +74,30 @@ pub(crate) fn pair_refusal(twice: Option<H3Error>, a: Cell, b: Cell) -> Option<H
     None
 }
 
-/// Whether a cell is the neighbour of another in some direction.
+/// Whether a cell is the neighbor of another in some direction.
 fn is_neighbor(table: &BaseTable, a: Cell, b: Cell) -> bool
     ensures { result ≡ not (is_same a b) && is_some (direction_to (link_of table.now) a b) }
 {
     a != b && direction_to(table, a, b).is_some()
 }
 
-/// Whether two cells are neighbours, as H3's `areNeighborCells` returns it outside pentagon base cells: a step leads
-/// from the one to the other. No cell is its own neighbour. Which pairs are refused is this library's own.
+/// Whether two cells are neighbors, as H3's `areNeighborCells` returns it outside pentagon base
+/// cells: a step leads from the one to the other. No cell is its own neighbor. Which pairs are
+/// refused is this library's own.
 ///
-/// `ResMismatch` where their resolutions differ; then, for different cells, `Pentagon` where either is in a pentagon
-/// base cell.
+/// `ResMismatch` where their resolutions differ; then, for different cells, `Pentagon` where either
+/// is in a pentagon base cell.
 pub fn are_neighbors(table: &BaseTable, a: Cell, b: Cell) -> Result<bool, H3Error>
     ensures is { result ≡ are_neighbors (link_of table.now) a b }
 
-    // The same in parts: which pairs are refused, which are neighbours, and that a cell is not its own neighbour.
+    // The same in parts: which pairs are refused, which are neighbors, and that a cell is not its
+    // own neighbor.
     ensures refused { result_err result ≡ neighbor_refusal a b }
     ensures related { (result ≡ Ok true) ↔ AreNeighbors (link_of table.now) a b }
     ensures same { a ≡ b → result ≡ Ok false }
 
-    // Laws of neighbours over the table: the order of the two cells does not matter, for the errors either.
+    // Laws of neighbors over the table: the order of the two cells does not matter, for the errors
+    // either.
     ensures mutual { NeighborsAreMutual (link_of table.now) }
     ensures both { BothOrdersAgree (link_of table.now) }
 {

@@ -18,7 +18,8 @@ use h3_lattice::{BaseTable, Direction};
 /// The cell and the rotation that k steps in the direction I lead to from a cell.
 fn outward(table: &BaseTable, cell: Cell, k: u32) -> Result<(Cell, u8), H3Error>
     ensures led { IfOk result (λ r.
-        (stepped (link_of table.now) (Some (state cell 0)) (replicate k Direction.I) ≡ Some (state r.0 r.1))
+        (stepped (link_of table.now) (Some (state cell 0)) (replicate k Direction.I)
+        ≡ Some (state r.0 r.1))
         × (r.1 < 6)) }
     ensures refused { IfErr result (λ e.
         (stepped (link_of table.now) (Some (state cell 0)) (replicate k Direction.I) ≡ None)
@@ -40,9 +41,10 @@ fn outward(table: &BaseTable, cell: Cell, k: u32) -> Result<(Cell, u8), H3Error>
 
 /// The cells of the ring of a radius around a cell.
 ///
-/// An iterator. After the error `Pentagon`, which comes where a step meets a pentagon base cell, or after the last cell
-/// where the ring does not close, there is no further item. It takes no memory: it holds the cell that was reached last
-/// and the first one, and counts what is left, steps of a side and sides.
+/// An iterator. After the error `Pentagon`, which comes where a step meets a pentagon base cell, or
+/// after the last cell where the ring does not close, there is no further item. It takes no memory:
+/// it holds the cell that was reached last and the first one, and counts what is left, steps of a
+/// side and sides.
 #[derive(Clone, Copy)]
 pub struct Ring<'a> {
     table: &'a BaseTable,
@@ -71,13 +73,16 @@ fn ring_is_lawful(table: &BaseTable, cell: Cell, k: i32)
 impl<'a> Ring<'a> {
     ghost use Rattle.h3_grid.specs.Ring.{ring_left};
 
-    /// The ring of a radius around a cell, as H3's `gridRingUnsafe` walks it. Nothing of it is walked yet: the first
-    /// call of `next` takes as many steps as the radius, every other at most one.
+    /// The ring of a radius around a cell, as H3's `gridRingUnsafe` walks it. Nothing of it is
+    /// walked yet: the first call of `next` takes as many steps as the radius, every other at most
+    /// one.
     ///
-    /// `Domain` for a negative radius; then `Pentagon` for a radius of 1 or more in a pentagon base cell.
+    /// `Domain` for a negative radius; then `Pentagon` for a radius of 1 or more in a pentagon base
+    /// cell.
     pub fn new(table: &'a BaseTable, cell: Cell, k: i32) -> Result<Ring<'a>, H3Error>
         ensures refused { result_err result ≡ ring_refusal cell k }
-        ensures items { IfOk result (λ walk. ring_left walk ≡ ring (link_of table.now) cell (unsigned_abs k)) }
+        ensures items { IfOk result (λ walk.
+            ring_left walk ≡ ring (link_of table.now) cell (unsigned_abs k)) }
 
         // The last ring of a disk of which no move is refused is this ring.
         ensures agree { RingEndsDisk (link_of table.now) cell (unsigned_abs k) }

@@ -22,13 +22,14 @@ fn step_is_lawful(table: &BaseTable)
     table.links_are_sound();
 }
 
-/// The neighbour of a cell in a direction, and the rotation there, as H3's `h3NeighborRotations` outside pentagon base
-/// cells.
+/// The neighbor of a cell in a direction, and the rotation there, as H3's `h3NeighborRotations`
+/// outside pentagon base cells.
 ///
-/// A rotation, 0 to 5, is how often a walk's directions are turned in the base cell that it is in: the step goes in the
-/// direction turned `rot` times, and on crossing into another base cell the turns of the table's link are added.
+/// A rotation, 0 to 5, is how often a walk's directions are turned in the base cell that it is in:
+/// the step goes in the direction turned `rot` times, and on crossing into another base cell the
+/// turns of the table's link are added.
 ///
-/// `Pentagon` where the cell or its neighbour is in a pentagon base cell.
+/// `Pentagon` where the cell or its neighbor is in a pentagon base cell.
 pub fn step(
     table: &BaseTable,
     cell: Cell,
@@ -36,20 +37,23 @@ pub fn step(
     rot: u8,
 ) -> Result<(Cell, u8), H3Error>
     requires { rot < 6 }
-    ensures is { IfOk result (λ r. IsStep (link_of table.now) (state cell rot) direction (Some (state r.0 r.1))) }
+    ensures is { IfOk result (λ r.
+        IsStep (link_of table.now) (state cell rot) direction (Some (state r.0 r.1))) }
     ensures refused { IfErr result (λ e. (e ≡ H3Error.Pentagon)
         × IsStep (link_of table.now) (state cell rot) direction None) }
     ensures valid { IfOk result (λ r. IsCell r.0 × (r.1 < 6)) }
 
     // The same by the function that is the step.
-    ensures leads { IfOk result (λ r. step_of (link_of table.now) (state cell rot) direction ≡ Some (state r.0 r.1)) }
-    ensures ends { IfErr result (λ e. step_of (link_of table.now) (state cell rot) direction ≡ None) }
+    ensures leads { IfOk result (λ r.
+        step_of (link_of table.now) (state cell rot) direction ≡ Some (state r.0 r.1)) }
+    ensures ends { IfErr result (λ e.
+        step_of (link_of table.now) (state cell rot) direction ≡ None) }
 
     ensures one { StepsAreFound }
 
-    // Laws of steps over the table: the opposite direction leads back, with the rotation undone; steps in different
-    // directions lead to different cells, none of them the cell itself; those in a direction and the next one lead to
-    // neighbours.
+    // Laws of steps over the table: the opposite direction leads back, with the rotation undone;
+    // steps in different directions lead to different cells, none of them the cell itself; those in
+    // a direction and the next one lead to neighbors.
     ensures reverse { StepsReverse (link_of table.now) }
     ensures part { StepsDiffer (link_of table.now) }
     ensures move_on { StepsMove (link_of table.now) }

@@ -1,86 +1,28 @@
 mod chart;
 
 use crate::{Disk, Ring, are_neighbors, disk_len, edge_between, edge_destination, edges_of, step};
-use h3_index::{Cell, Edge, H3Error, Streamed, is_pentagon_base};
-use h3_lattice::vectors::{TestTable, link};
+use h3_fakes::{TableFile, open_file, table_file};
+use h3_index::{Cell, Edge, H3Error, Streamed};
+use h3_lattice::vectors::TestTable;
 use h3_lattice::{BaseTable, Direction};
 use std::alloc::AllocError;
 use std::process::Abort;
 use std::test::Fail;
 
-/// Reads the base cell table of these records, those of a base cell and the digit of a direction.
-fn read_table(rt: &HostRuntime, records: &[[u8; 4]]) -> Result<BaseTable, Fail> {
-    let mut text = String::new(rt.alloc());
-    text.push_str("base,dir,to,rot\n")?;
-    for [base, digit, to, turns] in records {
-        let line = format!(in rt.alloc(); "{base},{digit},{to},{turns}\n")?;
-        text.push_str(&line)?;
-    }
-    let mut source = Streamed::new(text.as_bytes());
-    match BaseTable::read(rt.alloc(), &mut source) {
-        Ok(table) => Ok(table),
-        Err(_) => Err(Fail::from("the table is refused")),
-    }
+/// Reads the base cell table of a file.
+fn read_table(rt: &HostRuntime, file: &TableFile) -> Result<BaseTable, Fail> {
+    let mut source = Streamed::new(file.as_bytes());
+    Ok(BaseTable::read(rt.alloc(), &mut source)?)
 }
 
 /// A test table.
 fn test_table(rt: &HostRuntime, table: TestTable) -> Result<BaseTable, Fail> {
-    let mut records = Vec::new(rt.alloc());
-    for base in 0..122u8 {
-        if !is_pentagon_base(base) {
-            for digit in 1..7u8 {
-                let direction = Direction::from_digit(digit).ok_or("no direction")?;
-                let (to, turns) = link(table, base, direction);
-                records.push([base, digit, to, turns])?;
-            }
-        }
-    }
-    read_table(rt, &records)
+    read_table(rt, &table_file(table))
 }
 
-/// Links along the ring of radius 2 around base cell 0: two out to it in the direction 4 (I), and the twelve around it.
-/// The last of them leads to base cell 16, and not to 2, with which the ring begins. Base cells 1, 2 and 3 are a
-/// triangle.
-const OPEN_RING: [[u8; 3]; 15] = [
-    [0, 4, 1],
-    [1, 4, 2],
-    [1, 6, 3],
-    [2, 2, 3],
-    [3, 2, 5],
-    [5, 3, 6],
-    [6, 3, 7],
-    [7, 1, 8],
-    [8, 1, 9],
-    [9, 5, 10],
-    [10, 5, 11],
-    [11, 4, 12],
-    [12, 4, 13],
-    [13, 6, 15],
-    [15, 6, 16],
-];
-
-/// A sound table on which a ring does not close: the links of `OPEN_RING` and those back, and all others lead to
-/// pentagon base cells.
+/// A sound table on which the ring of radius 2 around base cell 0 does not close.
 fn open_table(rt: &HostRuntime) -> Result<BaseTable, Fail> {
-    const PENTAGONS: [u8; 7] = [0, 4, 14, 24, 38, 49, 58];
-    let mut records = Vec::new(rt.alloc());
-    for base in 0..122u8 {
-        if !is_pentagon_base(base) {
-            for digit in 1..7u8 {
-                let mut to = PENTAGONS[digit as usize];
-                for [from, direction, reached] in OPEN_RING {
-                    if base == from && digit == direction {
-                        to = reached;
-                    }
-                    if base == reached && digit == 7 - direction {
-                        to = from;
-                    }
-                }
-                records.push([base, digit, to, 0])?;
-            }
-        }
-    }
-    read_table(rt, &records)
+    read_table(rt, &open_file())
 }
 
 /// The ring of a cell in a disk of radius 2 at most, by its index.
@@ -460,7 +402,7 @@ fn neighbors_are_a_step_apart(rt: HostRuntime) -> Result<(), Fail> {
         (0x85283473fffffff, 0x8528340ffffffff, Ok(true)),
         (0x8528340ffffffff, 0x8528347bfffffff, Ok(false)),
         (0x8528340ffffffff, 0x8528340ffffffff, Ok(false)),
-        // also a pentagon is not its own neighbour
+        // also a pentagon is not its own neighbor
         (0x8009fffffffffff, 0x8009fffffffffff, Ok(false)),
         (0x8009fffffffffff, 0x8011fffffffffff, Err(H3Error::Pentagon)),
         (0x8011fffffffffff, 0x8009fffffffffff, Err(H3Error::Pentagon)),

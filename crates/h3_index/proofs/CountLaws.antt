@@ -1,11 +1,13 @@
 -- The cells of a resolution, and its pentagons, listed and counted.
 use Rattle.std.specs.List.{flat_map, list_all, list_any, range_with_len}
-use Rattle.std.proofs.Common.{ℕ, zero, suc, ◌≡◌, ◌+◌, ◌-◌, ◌*◌, ◌/◌, ◌%◌, ◌^◌, ◌<◌, ◌≤◌, ◌==◌, ◌&&◌, ◌↔◌, nat_lt, List, [], ◌∷◌, ◌++◌, length, map, replicate, get_or, Bool, true, false, cond, AllPairs, Contains, Option, Some, MatchOption, IfSome, slice_get, refl, arith, sym, ap, ◌∙◌, subst, inl, inr, length-append, lit<, ltb-true}
+use Rattle.std.proofs.Common.{ℕ, zero, suc, ◌≡◌, ◌+◌, ◌-◌, ◌*◌, ◌/◌, ◌%◌, ◌^◌, ◌<◌, ◌≤◌, ◌==◌, ◌&&◌, ◌↔◌, nat_lt, List, [], ◌∷◌, ◌++◌, length, map, replicate, get_or, Bool, true, false, cond, AllPairs, Contains, Option, Some, None, MatchOption, IfSome, slice_get, refl, arith, sym, ap, ◌∙◌, subst, inl, inr, length-append, lit<}
 use Rattle.std.proofs.Math.Nat.{pow-suc, pow-zero}
-use Rattle.std.proofs.lemmas.Bool.{agree_below_at, and_parts}
+use Rattle.std.proofs.lemmas.Bool.{and_parts}
 use Rattle.std.proofs.lemmas.Bool.Decides.{nat_tests}
 use Rattle.std.proofs.lemmas.List.Elements.{Contains-append_cases, Contains-get_or}
 use Rattle.std.proofs.lemmas.List.FromFn.{get_or-range_with_len, length-range_with_len}
+use Rattle.std.proofs.lemmas.Option.{slice_get-map}
+use Rattle.std.specs.Option.{option_map}
 use Rattle.h3_index.specs.Cell.{Address, IsCell, is_pentagon, is_pentagon_base, leading, number_of, pentagon_bases}
 use Rattle.h3_index.specs.Count.{CellsAreListed, CellsUpToAreListed, PentagonsAreListed, base_cell, cells_of, cells_up_to, pentagons}
 use Rattle.h3_index.specs.Descendants.{IsDescendant, center_at, descendants}
@@ -239,14 +241,9 @@ pentagons_listed r h = record {
       base_rises (center_at (base_cell a) r) (center_at (base_cell b) r) da.valid db.valid (da.resolution_is ∙ sym db.resolution_is) less) pentagon_bases (λ b m. m) refl;
 }
 
-pub each_base : (n : ℕ) → n < 12 → get_or pentagon_bases n 0 < 122
-each_base n h = ltb-true _ 122 (agree_below_at (λ n. nat_lt (get_or pentagon_bases n 0) 122) (λ _. true) 12 n refl h)
-
-get-map : (f : ℕ → Address) (bs : List ℕ) (n : ℕ) → n < length bs → slice_get (map f bs) n ≡ Some (f (get_or bs n 0))
-get-map f [] n h = absurd (omega (arith, h))
-get-map f (b ∷ bs) zero h = refl
-get-map f (b ∷ bs) (suc n) h = get-map f bs n (omega (arith, h))
-
-pub nth_pentagon : (r n : ℕ) → n < 12 → slice_get (pentagons r) n ≡ Some (center_at (base_cell (get_or pentagon_bases n 0)) r)
+-- the pentagon in the n-th of the base cells, where there is such a base cell
+pub nth_pentagon : (r : ℕ) (n found : Option ℕ) (P : Type 0) → (found ≡ None → P) → MatchOption n (found ≡ None) (λ k. slice_get pentagon_bases k ≡ found) → MatchOption n P (λ k. slice_get (pentagons r) k ≡ option_map (λ b. center_at (base_cell b) r) found)
 unfolding pentagons
-nth_pentagon r n h = get-map (λ b. center_at (base_cell b) r) pentagon_bases n h
+nth_pentagon r None found P none is = none is
+nth_pentagon r (Some k) found P none is =
+    slice_get-map (λ b. center_at (base_cell b) r) pentagon_bases k ∙ ap (option_map (λ b. center_at (base_cell b) r)) is

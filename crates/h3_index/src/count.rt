@@ -1,17 +1,18 @@
 //! Cells by their numbers: base cells, pentagons, and how many cells a resolution has.
 
-ghost use Rattle.std.specs.Prelude.{◌≡◌, ◌+◌, ◌*◌, ◌^◌, ℕ, length, Some, None, IfOk, IfErr, MatchOption, IfSome, slice_get, ◌<◌};
+ghost use Rattle.std.specs.Prelude.{◌≡◌, ◌+◌, ◌*◌, ◌^◌, ℕ, length, Some, None, IfOk, IfErr, MatchOption, IfSome, slice_get, pos, ◌<◌, ◌≤◌};
 ghost use Rattle.std.specs.Result.{result_ok};
+ghost use Rattle.h3_index.specs.Cell.{pentagon_bases};
 ghost use Rattle.h3_index.specs.Count.{CellsAreListed, PentagonsAreListed, base_cell, cells_of, number_below, pentagons, resolution_of};
 
-use crate::cell::Cell;
+use crate::cell::{Cell, is_pentagon_base};
 use crate::error::H3Error;
 
 /// The whole number, where it is from 0 up to below a limit.
 #[tactic(auto, unfolding(crate::specs::Count::number_below))]
 fn below(limit: u8, n: i32) -> Option<u8>
     ensures is { result ≡ number_below limit n }
-    ensures small { IfSome result (λ k. k < limit) }
+    ensures same { IfSome result (λ k. (pos k ≡ n) × (k < limit)) }
 {
     if n < 0 || n >= i32::from(limit) {
         None
@@ -21,8 +22,8 @@ fn below(limit: u8, n: i32) -> Option<u8>
 }
 
 /// The resolution that a whole number is: `ResDomain` outside 0 to 15.
-pub(crate) fn resolution_from(res: i32) -> Result<u8, H3Error>
-    ensures ok { IfOk result (λ r. (resolution_of res ≡ Some r) × (r < 16)) }
+pub fn resolution_from(res: i32) -> Result<u8, H3Error>
+    ensures ok { IfOk result (λ r. (resolution_of res ≡ Some r) × (pos r ≡ res) × (r ≤ 15)) }
     ensures err { IfErr result (λ e. (resolution_of res ≡ None) × (e ≡ H3Error.ResDomain)) }
 {
     match below(16, res) {
@@ -52,7 +53,16 @@ pub fn res0_cell(b: i32) -> Result<Cell, H3Error>
     }
 }
 
-static PENTAGON_BASES: [u8; 12] = [4, 14, 24, 38, 49, 58, 63, 72, 83, 97, 107, 117];
+/// The n-th of the twelve base cells that are pentagons, from 0, in ascending order.
+fn pentagon_base(n: i32) -> Option<u8>
+    ensures nth { MatchOption (number_below 12 n) (result ≡ None) (λ k. slice_get pentagon_bases k ≡ result) }
+    ensures small { IfSome result (λ b. b < 122) }
+{
+    let n = below(12, n)?;
+    (0..122)
+        .filter(|b| is_pentagon_base(*b))
+        .nth(usize::from(n))
+}
 
 /// The n-th pentagon of a resolution, from 0, in ascending order; H3's `getPentagons` gives all: `ResDomain` where the
 /// resolution is outside 0 to 15, then `Domain` where n is outside 0 to 11.
@@ -63,8 +73,8 @@ pub fn pentagon(res: i32, n: i32) -> Result<Cell, H3Error>
     ensures listed { PentagonsAreListed }
 {
     let res = resolution_from(res)?;
-    match below(12, n) {
-        Some(n) => Ok(Cell::in_base(PENTAGON_BASES[n as usize]).center_at(res)),
+    match pentagon_base(n) {
+        Some(base) => Ok(Cell::in_base(base).center_at(res)),
         None => Err(H3Error::Domain),
     }
 }

@@ -2,7 +2,7 @@ ghost use Rattle.std.specs.Prelude.{◌≤◌, IfOk};
 
 use crate::{
     Cell, Edge, H3Error, Sink, Source, StreamFault, Streamed, index_bytes, is_pentagon_base,
-    num_cells, pentagon, read_index, read_plain, res0_cell, write_index,
+    num_cells, pentagon, read_index, read_plain, res0_cell, resolution_from, write_index,
 };
 use std::cmp::Ordering;
 use std::io::{self, Read, Write};
@@ -413,6 +413,15 @@ fn indexes_are_written(rt: HostRuntime) {
     ];
     for (index, text) in texts {
         assert_eq!(rt; write_index(index).as_str(), text);
+    }
+}
+
+#[test]
+fn whole_numbers_are_resolutions(rt: HostRuntime) {
+    assert_eq!(rt; resolution_from(0), Ok(0));
+    assert_eq!(rt; resolution_from(15), Ok(15));
+    for res in [-1, 16, i32::MIN, i32::MAX] {
+        assert_eq!(rt; resolution_from(res), Err(H3Error::ResDomain));
     }
 }
 

@@ -1,7 +1,7 @@
 -- Bytes that are read page by page.
 use Rattle.std.proofs.Common.{◌≡◌, ℕ, zero, suc, ◌+◌, ◌<◌, ◌≤◌, ◌*◌, ◌⊎◌, List, [], ◌∷◌, ◌++◌, length, take, Option, None, Some, ap, ◌∙◌, length-append, length-take, append_assoc, append-nil, add-one, arith, inl, inr, sym}
 use Rattle.std.specs.Io.KnownBytes.{Consumes, IsAtEnd}
-use Rattle.std.proofs.KnownBytes.{Consumes-nil, Consumes-trans}
+use Rattle.std.proofs.KnownBytes.{Consumes-trans}
 use Rattle.h3_index.specs.Stream.{HasLeft, Pulls}
 
 -- The source had the bytes old left and now has those left. The bytes read were appended to the first text, in no more
@@ -12,10 +12,6 @@ pub record Reads (old now : Option (List ℕ)) (limit reads_left size : ℕ) (fi
   pub text_is : text ≡ first ++ bytes
   pub counted : limit ≤ reads_left + length bytes
   pub short : length bytes + reads_left * size ≤ limit * size
-
-pub reads_none : (known : Option (List ℕ)) (limit size : ℕ) (text : List ℕ) → Reads known known limit limit size text text
-reads_none known limit size text =
-    record { bytes = []; consumed = Consumes-nil known; text_is = sym (append-nil text); counted = omega arith; short = omega arith }
 
 -- one page less is left
 one_less : (reads reads' size : ℕ) → reads' + 1 ≡ reads → reads * size ≡ reads' * size + size

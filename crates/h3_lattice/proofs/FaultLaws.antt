@@ -299,8 +299,8 @@ reversed_tests link = record { is = reversed-is link; of = reversed-of link }
 closed_tests : (link : Links) → Tests (closes link) (IsClosed link)
 closed_tests link = record { is = closed-is link; of = closed-of link }
 
-abbrev neighbours_at : ℕ → Direction → TableError
-neighbours_at b d = fault.Neighbours b
+abbrev neighbors_at : ℕ → Direction → TableError
+neighbors_at b d = fault.Neighbours b
 
 -- ---- the parts of the judgement, in turn
 
@@ -368,9 +368,9 @@ record_error records (fault.Corner b d) k is = absurd (omega arith)
 -- an error of the checks
 check_error : (records : List Record) (e : TableError) → IsOfForm records → fault_of_links (links_of records) ≡ Some e → IsFirstFault records e
 check_error records e form is =
-    elim (peel (at_places (fault_at check.Neighbours link)) (option_or (at_places (fault_at check.Reversal link)) (at_places (fault_at check.Corner link))) e 3 (checks-kind check.Neighbours link) is) [
-      | inl here ↦ neighbours here.1
-      | inr rest ↦ (let apart = holds (apart_tests link) neighbours_at rest.0 in
+    elim (peel (at_places (fault_at check.Neighbors link)) (option_or (at_places (fault_at check.Reversal link)) (at_places (fault_at check.Corner link))) e 3 (checks-kind check.Neighbors link) is) [
+      | inl here ↦ neighbors here.1
+      | inr rest ↦ (let apart = holds (apart_tests link) neighbors_at rest.0 in
           elim (peel (at_places (fault_at check.Reversal link)) (at_places (fault_at check.Corner link)) e 4 (checks-kind check.Reversal link) rest.1) [
             | inl here ↦ reversal apart here.1
             | inr last ↦ corner apart (holds (reversed_tests link) fault.Reversal last.0) last.1
@@ -380,10 +380,10 @@ check_error records e form is =
     link : Links
     link = links_of records
 
-    neighbours : at_places (fault_at check.Neighbours link) ≡ Some e → IsFirstFault records e
-    neighbours is =
-        let (b, d, p) = found_first (fault_at check.Neighbours link) e is in
-        let two = fails_first (apart_tests link) neighbours_at e b d p in
+    neighbors : at_places (fault_at check.Neighbors link) ≡ Some e → IsFirstFault records e
+    neighbors is =
+        let (b, d, p) = found_first (fault_at check.Neighbors link) e is in
+        let two = fails_first (apart_tests link) neighbors_at e b d p in
         subst (λ e. IsFirstFault records e) two.1 (form, (d, two.0))
 
     reversal : HoldsEverywhere (LeadsApart link) → at_places (fault_at check.Reversal link) ≡ Some e → IsFirstFault records e
@@ -424,14 +424,14 @@ first_is_error records fault.Missing p =
     (or_some (at_places (missing_of records)) (fault_of_links (links_of records)) fault.Missing (missing-first records p.1))
 first_is_error records (fault.Neighbours b) p =
     after_records records (fault.Neighbours b) p.0
-    (or_some (at_places (fault_at check.Neighbours (links_of records))) _ (fault.Neighbours b) (first_fails (apart_tests (links_of records)) neighbours_at b p.1.0 p.1.1))
+    (or_some (at_places (fault_at check.Neighbors (links_of records))) _ (fault.Neighbours b) (first_fails (apart_tests (links_of records)) neighbors_at b p.1.0 p.1.1))
 first_is_error records (fault.Reversal b d) p =
     after_records records (fault.Reversal b d) p.0
-    (or_none (at_places (fault_at check.Neighbours (links_of records))) _ (fault.Reversal b d) (none_fails (apart_tests (links_of records)) neighbours_at p.1)
+    (or_none (at_places (fault_at check.Neighbors (links_of records))) _ (fault.Reversal b d) (none_fails (apart_tests (links_of records)) neighbors_at p.1)
     (or_some (at_places (fault_at check.Reversal (links_of records))) _ (fault.Reversal b d) (first_fails (reversed_tests (links_of records)) fault.Reversal b d p.2)))
 first_is_error records (fault.Corner b d) p =
     after_records records (fault.Corner b d) p.0
-    (or_none (at_places (fault_at check.Neighbours (links_of records))) _ (fault.Corner b d) (none_fails (apart_tests (links_of records)) neighbours_at p.1)
+    (or_none (at_places (fault_at check.Neighbors (links_of records))) _ (fault.Corner b d) (none_fails (apart_tests (links_of records)) neighbors_at p.1)
     (or_none (at_places (fault_at check.Reversal (links_of records))) _ (fault.Corner b d) (none_fails (reversed_tests (links_of records)) fault.Reversal p.2)
     (first_fails (closed_tests (links_of records)) fault.Corner b d p.3)))
 

@@ -37,14 +37,6 @@ same_fields-true (f ∷ fs) (g ∷ gs) e =
     let rest : fs ≡ gs = same_fields-true fs gs two.1 in
     cc
 
-same_fields-self : (r : Record) → same_fields r r ≡ true
-unfolding same_fields
-same_fields-self [] = refl
-same_fields-self (f ∷ fs) =
-    let first : bytes_eq f f ≡ true = (bytes_eq-Decides f f).1 refl in
-    let rest = same_fields-self fs in
-    rw (first, rest) refl
-
 -- ---- counts
 
 one_if : Bool → ℕ

@@ -29,7 +29,7 @@ kind (fault.Reversal b d) = 4
 kind (fault.Corner b d) = 5
 
 abbrev pub kind_of : Check → ℕ
-kind_of check.Neighbours = 3
+kind_of check.Neighbors = 3
 kind_of check.Reversal = 4
 kind_of check.Corner = 5
 
@@ -59,7 +59,7 @@ from_base-kind k f b (suc n) h =
     (if_kind k (is_hexagon_base b) (in_directions (f b) directions) None (in_directions-kind k (f b) directions (h b)) tt) (from_base-kind k f (b + 1) n h)
 
 fault_at-kind : (c : Check) (link : Links) (b : ℕ) (d : Direction) → IsKind (kind_of c) (fault_at c link b d)
-fault_at-kind check.Neighbours link b d = if_kind 3 (leads_apart link b d) None (Some (fault.Neighbours b)) tt refl
+fault_at-kind check.Neighbors link b d = if_kind 3 (leads_apart link b d) None (Some (fault.Neighbours b)) tt refl
 fault_at-kind check.Reversal link b d = if_kind 4 (reverses link b d) None (Some (fault.Reversal b d)) tt refl
 fault_at-kind check.Corner link b d = if_kind 5 (closes link b d) None (Some (fault.Corner b d)) tt refl
 
@@ -95,17 +95,6 @@ checks-kind c link = from_base-kind (kind_of c) (fault_at c link) 0 122 (fault_a
 
 -- ---- the error of two parts in turn
 
--- that of the first part, where the second has none of its kind
-pub first_part : (a b : Option TableError) (e : TableError) (k : ℕ) → IsKind k b → (kind e ≡ k → ⊥) → option_or a b ≡ Some e → a ≡ Some e
-first_part None None e k i h is = cc is
-first_part None (Some x) e k i h is = absurd (let same : x ≡ e = cc is in h (rw (← same) i))
-first_part (Some x) b e k i h is = is
-
--- that of the second, where the first has none of its kind
-pub second_part : (a b : Option TableError) (e : TableError) (k : ℕ) → IsKind k a → (kind e ≡ k → ⊥) → option_or a b ≡ Some e → (a ≡ None) × (b ≡ Some e)
-second_part None b e k i h is = (refl, is)
-second_part (Some x) b e k i h is = absurd (let same : x ≡ e = cc is in h (rw (← same) i))
-
 -- the error is of one of the parts
 pub either_kind : (a b : Option TableError) (e : TableError) (k : ℕ) (P : ℕ → Type 0) → IsKind k a → P k → ((x : TableError) → b ≡ Some x → P (kind x)) → option_or a b ≡ Some e → P (kind e)
 either_kind None b e k P i p q is = q e is
@@ -121,6 +110,6 @@ table_fault-kind records e is =
     let link = links_of records in
     either_kind (fault_of_records records) (option_or (at_places (missing_of records)) (fault_of_links link)) e 1 (λ k. 0 < k) (records-kind records) (omega arith) (λ x is.
     either_kind (at_places (missing_of records)) (fault_of_links link) x 2 (λ k. 0 < k) (missing-kind records) (omega arith) (λ x is.
-    either_kind (at_places (fault_at check.Neighbours link)) (option_or (at_places (fault_at check.Reversal link)) (at_places (fault_at check.Corner link))) x 3 (λ k. 0 < k) (checks-kind check.Neighbours link) (omega arith) (λ x is.
+    either_kind (at_places (fault_at check.Neighbors link)) (option_or (at_places (fault_at check.Reversal link)) (at_places (fault_at check.Corner link))) x 3 (λ k. 0 < k) (checks-kind check.Neighbors link) (omega arith) (λ x is.
     either_kind (at_places (fault_at check.Reversal link)) (at_places (fault_at check.Corner link)) x 4 (λ k. 0 < k) (checks-kind check.Reversal link) (omega arith) (λ x is.
     let five = is_kind 5 (at_places (fault_at check.Corner link)) x (checks-kind check.Corner link) is in omega arith) is) is) is) is

@@ -22,10 +22,6 @@ digits_back n ds h small =
 around : (n t : ℕ) → n < 6 → t < 6 → ((t + 6 - n) % 6 + n) % 6 ≡ t % 6
 around n t h k = omega arith
 
--- the same place by equal parts
-same_place : (b c m n : ℕ) (ds es : List ℕ) → b ≡ c → m ≡ n → ds ≡ es → reached b m ds ≡ reached c n es
-same_place b c m n ds es p q r = λ i. reached (p i) (q i) (r i)
-
 -- across a link that is known
 across_is : (l : ℕ × ℕ) (c n : ℕ) (es fs : List ℕ) → l ≡ (c, n) → map (digit_turned n) es ≡ fs → reached c n fs ≡ across l es
 across_is l c n es fs e f = sym (ap (λ (l : ℕ × ℕ). across l es) e ∙ ap (reached c n) f)

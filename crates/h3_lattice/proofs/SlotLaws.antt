@@ -1,8 +1,8 @@
 -- The slots hold the links of the records
-use Rattle.std.proofs.Common.{◌≡◌, ◌≢◌, ◌<◌, ◌+◌, ap, ℕ, zero, suc, Bool, true, false, not, Option, Some, None, List, [], ◌∷◌, ◌++◌, length, replicate, refl, arith, sym, ◌∙◌, slice_index_or, slice_index, slice_set}
-use Rattle.std.proofs.lemmas.List.{length-set, get_or-set_same, get_or-set_other, length-replicate}
+use Rattle.std.proofs.Common.{◌≡◌, ◌<◌, ℕ, zero, suc, Bool, true, false, not, Option, Some, None, List, [], ◌∷◌, ◌++◌, length, replicate, refl, arith, sym, ◌∙◌, slice_index_or, slice_index}
+use Rattle.std.proofs.lemmas.List.{length-replicate}
 use Rattle.std.proofs.lemmas.Bool.Decides.{nat_tests}
-use Rattle.std.specs.Prelude.{is_some, if◌then◌else◌, ◌==◌, ◌&&◌, ◌||◌, nat_lt}
+use Rattle.std.specs.Prelude.{is_some, if◌then◌else◌, ◌==◌, ◌&&◌, nat_lt}
 use Rattle.std.specs.List.{list_all}
 use Rattle.std.specs.Option.{option_and_then, option_or}
 use Rattle.h3_lattice.specs.declared.error.TableError.TheVariants as fault
@@ -23,9 +23,6 @@ use Rattle.h3_lattice.proofs.SoundLaws.{and_both, direction_below, eqb-eq, nth_d
 or_none : (o : Option (ℕ × ℕ)) → option_or o None ≡ o
 or_none None = refl
 or_none (Some p) = refl
-
-eqb-ne : (m n : ℕ) → (m == n) ≡ false → m ≢ n
-eqb-ne m n e = grind (arith, nat_tests)
 
 pub first_link-append : (format : Format) (b d : ℕ) (body : List Record) (r : Record) → first_link format b d (body ++ (r ∷ [])) ≡ option_or (first_link format b d body) (record_link format b d r)
 unfolding first_link
@@ -189,80 +186,8 @@ holds-more format slots new body r ns row h e f t =
           rw (first_link-append format b d body r, here, t.each b d low high, before) (either_first (first_link format b d body) (link_in format b d ns) (free-links format b d ns body first));
     }
 
--- ---- one place is set
-
-pub link-set : (slots : List (Option (ℕ × ℕ))) (a c b d : ℕ) (link : ℕ × ℕ) → length slots ≡ 732 → a < 122 → 0 < c → c < 7 → 0 < d → d < 7 → (p q : Bool) → p ≡ (a == b) → q ≡ (c == d)
-    → slice_index_or (slice_set slots (place_of a c) (Some link)) (place_of b d) None ≡ (if p && q then Some link else slice_index_or slots (place_of b d) None)
-link-set slots a c b d link len high c0 c7 d0 d7 true true x y =
-    let same0 : a ≡ b = eqb-eq _ _ (sym x) in
-    let same1 : c ≡ d = eqb-eq _ _ (sym y) in
-    rw (same0, same1) (get_or-set_same slots (place_of b d) (Some link) None (let low : b < 122 = rw same0 at high in omega arith))
-link-set slots a c b d link len high c0 c7 d0 d7 true false x y =
-    let other : c ≢ d = eqb-ne _ _ (sym y) in
-    get_or-set_other slots (place_of a c) (place_of b d) _ None (λ k. other (omega arith))
-link-set slots a c b d link len high c0 c7 d0 d7 false q x y =
-    let other : a ≢ b = eqb-ne _ _ (sym x) in
-    get_or-set_other slots (place_of a c) (place_of b d) _ None (λ k. other (omega arith))
-
-else_or : (c : Bool) (link : ℕ × ℕ) (o : Option (ℕ × ℕ)) → (if c then Some link else o) ≡ option_or (if c then Some link else None) o
-else_or true link o = refl
-else_or false link o = refl
-
--- a record of format 1 sets one
-pub takes_one : (slots : List (Option (ℕ × ℕ))) (ns : List ℕ) → length slots ≡ 732 → IsInRangeOne ns
-    → SetsLinks One ns slots (slice_set slots (place_of (slice_index ns 0) (slice_index ns 1)) (Some (slice_index ns 2, slice_index ns 3)))
-takes_one slots ns len r = record {
-  long = length-set slots (place_of (slice_index ns 0) (slice_index ns 1)) (Some (slice_index ns 2, slice_index ns 3));
-  each = λ b d low high.
-      link-set slots (slice_index ns 0) (slice_index ns 1) b d (slice_index ns 2, slice_index ns 3) len r.0 r.1 r.2 low high (slice_index ns 0 == b) (slice_index ns 1 == d) refl refl
-      ∙ else_or ((slice_index ns 0 == b) && (slice_index ns 1 == d)) (slice_index ns 2, slice_index ns 3) (slice_index_or slots (place_of b d) None);
-}
-
 -- of a record of format 2, the links in directions of digits below n are set
 pub record Kept (ns : List ℕ) (n : ℕ) (old new : List (Option (ℕ × ℕ))) : Type 0 where
   pub long : length new ≡ length old
   pub each : (b d : ℕ) → 0 < d → d < 7
       → slice_index_or new (place_of b d) None ≡ option_or (if (slice_index ns 0 == b) && (nat_lt 0 d && nat_lt d n) then Some (link_at_digit d ns) else None) (slice_index_or old (place_of b d) None)
-
-none_kept : (p : Bool) (d : ℕ) (q : Bool) (x : ℕ × ℕ) (o : Option (ℕ × ℕ)) → q ≡ false → o ≡ option_or (if p && q then Some x else None) o
-none_kept true d true x o e = cc e
-none_kept true d false x o e = refl
-none_kept false d q x o e = refl
-
-below_one : (d : ℕ) → 0 < d → (nat_lt 0 d && nat_lt d 1) ≡ false
-below_one d h = grind (arith, nat_tests)
-
-pub kept-start : (ns : List ℕ) (slots : List (Option (ℕ × ℕ))) → Kept ns 1 slots slots
-kept-start ns slots = record {
-  long = refl;
-  each = λ b d low high. none_kept (slice_index ns 0 == b) d (nat_lt 0 d && nat_lt d 1) (link_at_digit d ns) (slice_index_or slots (place_of b d) None) (below_one d low);
-}
-
--- one more
-kept_at : (p q r s : Bool) (x y : ℕ × ℕ) (o : Option (ℕ × ℕ)) → (q ≡ true → x ≡ y) → (s ≡ (q || r))
-    → (if p && q then Some x else option_or (if p && r then Some y else None) o) ≡ option_or (if p && s then Some y else None) o
-kept_at false q r s x y o same e = refl
-kept_at true true r true x y o same e = let k = same refl in rw k refl
-kept_at true true r false x y o same e = cc e
-kept_at true false true true x y o same e = refl
-kept_at true false true false x y o same e = cc e
-kept_at true false false true x y o same e = cc e
-kept_at true false false false x y o same e = refl
-
-below_next : (d n : ℕ) → 0 < d → (nat_lt 0 d && nat_lt d (n + 1)) ≡ ((n == d) || (nat_lt 0 d && nat_lt d n))
-below_next d n h = grind (arith, nat_tests)
-
-pub kept-more : (ns : List ℕ) (n : ℕ) (old new : List (Option (ℕ × ℕ))) → Kept ns n old new → length old ≡ 732 → slice_index ns 0 < 122 → 0 < n → n < 7
-    → Kept ns (n + 1) old (slice_set new (place_of (slice_index ns 0) n) (Some (link_at_digit n ns)))
-kept-more ns n old new k len low some high = record {
-  long = rw length-set k.long;
-  each = λ b d d0 d7.
-      let long : length new ≡ 732 = k.long ∙ len in
-      link-set new (slice_index ns 0) n b d (link_at_digit n ns) long low some high d0 d7 (slice_index ns 0 == b) (n == d) refl refl
-      ∙ ap (λ o. if (slice_index ns 0 == b) && (n == d) then Some (link_at_digit n ns) else o) (k.each b d d0 d7)
-      ∙ kept_at (slice_index ns 0 == b) (n == d) (nat_lt 0 d && nat_lt d n) (nat_lt 0 d && nat_lt d (n + 1)) (link_at_digit n ns) (link_at_digit d ns) (slice_index_or old (place_of b d) None)
-      (λ e. let same : n ≡ d = eqb-eq _ _ e in rw same refl) (below_next d n d0);
-}
-
-pub kept-all : (ns : List ℕ) (old new : List (Option (ℕ × ℕ))) → Kept ns 7 old new → SetsLinks Two ns old new
-kept-all ns old new k = record { long = k.long; each = k.each }

@@ -200,15 +200,15 @@ closed-is link b d t k l =
 -- what the three tests say at every place
 pub sound_of : (link : Links) → ((b : ℕ) (d : Direction) → IsHexagonBase b → IsLink (link b d)) → fault_of_links link ≡ None → IsSound link
 sound_of link within none =
-    let one = both (at_places (fault_at check.Neighbours link)) (option_or (at_places (fault_at check.Reversal link)) (at_places (fault_at check.Corner link))) none in
+    let one = both (at_places (fault_at check.Neighbors link)) (option_or (at_places (fault_at check.Reversal link)) (at_places (fault_at check.Corner link))) none in
     let two = both (at_places (fault_at check.Reversal link)) (at_places (fault_at check.Corner link)) one.1 in
-    let neighbours : (b : ℕ) (d : Direction) → IsHexagonBase b → leads_apart link b d ≡ true = λ b d h. no_fault (leads_apart link b d) (fault.Neighbours b) (no_fault_at (fault_at check.Neighbours link) b d one.0 (is_hexagon_of b h)) in
+    let neighbors : (b : ℕ) (d : Direction) → IsHexagonBase b → leads_apart link b d ≡ true = λ b d h. no_fault (leads_apart link b d) (fault.Neighbours b) (no_fault_at (fault_at check.Neighbors link) b d one.0 (is_hexagon_of b h)) in
     let reversal : (b : ℕ) (d : Direction) → IsHexagonBase b → reverses link b d ≡ true = λ b d h. no_fault (reverses link b d) (fault.Reversal b d) (no_fault_at (fault_at check.Reversal link) b d two.0 (is_hexagon_of b h)) in
     let corner : (b : ℕ) (d : Direction) → IsHexagonBase b → closes link b d ≡ true = λ b d h. no_fault (closes link b d) (fault.Corner b d) (no_fault_at (fault_at check.Corner link) b d two.1 (is_hexagon_of b h)) in
     record {
       within = within;
-      apart = λ b d e h same. (apart-is link b d (neighbours b d h)).apart e same;
-      away = λ b d h same. (apart-is link b d (neighbours b d h)).away same;
+      apart = λ b d e h same. (apart-is link b d (neighbors b d h)).apart e same;
+      away = λ b d h same. (apart-is link b d (neighbors b d h)).away same;
       reversal = λ b d h k. reversed-is link b d (reversal b d h) k;
       corner = λ b d h k l. closed-is link b d (corner b d h) k l;
     }
@@ -291,10 +291,10 @@ closed-of link b d s =
 sound_none : (link : Links) → IsSound link → fault_of_links link ≡ None
 sound_none link s =
     let apart : (b : ℕ) (d : Direction) → IsHexagonBase b → LeadsApart link b d = λ b d h. record { away = s.away b d h; apart = λ e k. s.apart b d e h k } in
-    let neighbours = from_base-none (fault_at check.Neighbours link) 0 122 (λ b d h. error_unless-none (leads_apart link b d) (fault.Neighbours b) (apart-of link b d (apart b d h))) in
+    let neighbors = from_base-none (fault_at check.Neighbors link) 0 122 (λ b d h. error_unless-none (leads_apart link b d) (fault.Neighbours b) (apart-of link b d (apart b d h))) in
     let reversal = from_base-none (fault_at check.Reversal link) 0 122 (λ b d h. error_unless-none (reverses link b d) (fault.Reversal b d) (reversed-of link b d (λ k. s.reversal b d h k))) in
     let corner = from_base-none (fault_at check.Corner link) 0 122 (λ b d h. error_unless-none (closes link b d) (fault.Corner b d) (closed-of link b d (λ k l. s.corner b d h k l))) in
-    nones _ _ neighbours (nones _ _ reversal corner)
+    nones _ _ neighbors (nones _ _ reversal corner)
 
 pub checks_mean_sound : ChecksMeanSound
 checks_mean_sound link within = (sound_of link within, sound_none link)

@@ -19,7 +19,7 @@ same_link p q = (p.0 == q.0) && (p.1 == q.1)
 abbrev pub parts : Links → ℕ → Direction → Direction → Bool
 parts link b d e = (digit_of e == digit_of d) || not ((link b e).0 == (link b d).0)
 
--- the neighbour in this direction is not b, and in no other direction
+-- the neighbor in this direction is not b, and in no other direction
 abbrev pub leads_apart : Links → ℕ → Direction → Bool
 leads_apart link b d = not ((link b d).0 == b) && list_all (parts link b d) directions
 
@@ -28,7 +28,7 @@ abbrev pub reverses : Links → ℕ → Direction → Bool
 reverses link b d = not (is_hexagon_base (link b d).0)
     || same_link (link (link b d).0 (turned (link b d).1 (opposite d))) (b, (6 - (link b d).1) % 6)
 
--- round the corner of b, this neighbour and the next one, the links agree
+-- round the corner of b, this neighbor and the next one, the links agree
 abbrev pub closes : Links → ℕ → Direction → Bool
 closes link b d = not (is_hexagon_base (link b d).0) || not (is_hexagon_base (link b (turned_once d)).0)
     || same_link (link (link b d).0 (turned (link b d).1 (turned 2 d)))
@@ -55,11 +55,11 @@ at_places f = from_base f 0 122
 
 -- the error of a check at a base cell and a direction
 abbrev pub fault_at : Check → Links → ℕ → Direction → Option TableError
-fault_at check.Neighbours link b d = error_unless (leads_apart link b d) (fault.Neighbours b)
+fault_at check.Neighbors link b d = error_unless (leads_apart link b d) (fault.Neighbours b)
 fault_at check.Reversal link b d = error_unless (reverses link b d) (fault.Reversal b d)
 fault_at check.Corner link b d = error_unless (closes link b d) (fault.Corner b d)
 
 -- the first error of the three checks of a full table: one after the other, each at every base cell and direction
 abbrev pub fault_of_links : Links → Option TableError
 fault_of_links link =
-    option_or (at_places (fault_at check.Neighbours link)) (option_or (at_places (fault_at check.Reversal link)) (at_places (fault_at check.Corner link)))
+    option_or (at_places (fault_at check.Neighbors link)) (option_or (at_places (fault_at check.Reversal link)) (at_places (fault_at check.Corner link)))

@@ -35,17 +35,17 @@ pub record IsMissing (records : List Record) : Type 0 where
 
 -- ---- checks
 
--- the neighbour of b in the direction d is another base cell, and that of no other direction
+-- the neighbor of b in the direction d is another base cell, and that of no other direction
 pub record LeadsApart (link : Links) (b : ℕ) (d : Direction) : Type 0 where
   pub away : (link b d).0 ≢ b
   pub apart : (e : Direction) → (link b d).0 ≡ (link b e).0 → d ≡ e
 
--- if the neighbour is a hexagon base cell, the link back from it undoes the link
+-- if the neighbor is a hexagon base cell, the link back from it undoes the link
 abbrev pub IsReversed : Links → ℕ → Direction → Type 0
 IsReversed link b d =
     IsHexagonBase (link b d).0 → link (link b d).0 (turned (link b d).1 (opposite d)) ≡ (b, (6 - (link b d).1) % 6)
 
--- if this neighbour and that in the direction turned once are hexagon base cells, the links between the three agree
+-- if this neighbor and that in the direction turned once are hexagon base cells, the links between the three agree
 abbrev pub IsClosed : Links → ℕ → Direction → Type 0
 IsClosed link b d =
     IsHexagonBase (link b d).0 → IsHexagonBase (link b (turned_once d)).0

@@ -1,6 +1,6 @@
 -- Format 2 of a table file: a record for each hexagon base cell.
 --
--- After the base cell come its six neighbours in the order of the digits 1 to 6, and then the six numbers of turns in
+-- After the base cell come its six neighbors in the order of the digits 1 to 6, and then the six numbers of turns in
 -- the same order.
 use Rattle.std.specs.Prelude.{ℕ, ◌+◌, Bool, ◌==◌, ◌&&◌, nat_lt, if◌then◌else◌, List, [], ◌∷◌, Option, Some, None, slice_index, codes}
 use Rattle.std.specs.List.{list_all}
@@ -16,7 +16,7 @@ header_two =
     ∷ codes "k" ∷ codes "j" ∷ codes "jk" ∷ codes "i" ∷ codes "ik" ∷ codes "ij"
     ∷ codes "rk" ∷ codes "rj" ∷ codes "rjk" ∷ codes "ri" ∷ codes "rik" ∷ codes "rij" ∷ []
 
--- the neighbour and the turns in the direction of a digit
+-- the neighbor and the turns in the direction of a digit
 abbrev pub link_at_digit : ℕ → List ℕ → ℕ × ℕ
 link_at_digit d ns = (slice_index ns d, slice_index ns (6 + d))
 

@@ -37,9 +37,9 @@ links_in links b d = slice_index_or links (place_of b (digit_of d)) (0, 0)
 
 -- ---- links that fit together
 
--- For each hexagon base cell b and direction d: b's six neighbours differ from each other and from b (apart, away).
--- From a neighbour that is a hexagon base cell, the link in the opposite direction, turned as on crossing, leads back
--- and undoes the turns (reversal). Where the neighbours in d and in d turned once are both hexagon base cells, the link
+-- For each hexagon base cell b and direction d: b's six neighbors differ from each other and from b (apart, away).
+-- From a neighbor that is a hexagon base cell, the link in the opposite direction, turned as on crossing, leads back
+-- and undoes the turns (reversal). Where the neighbors in d and in d turned once are both hexagon base cells, the link
 -- of the first in d turned twice, and as on crossing, leads to the second, and its turns make up the difference
 -- (corner).
 pub record IsSound (link : Links) : Type 0 where

@@ -18,8 +18,8 @@ plain_step I = 1
 plain_step IK = 111
 plain_step IJ = 12
 
-abbrev pub plain_neighbour : ℕ → Direction → ℕ
-plain_neighbour b d = (b + plain_step d) % 122
+abbrev pub plain_neighbor : ℕ → Direction → ℕ
+plain_neighbor b d = (b + plain_step d) % 122
 
 -- two steps that differ from the plain ones, so that some corners do not close
 abbrev pub skew_step : Direction → ℕ
@@ -38,10 +38,10 @@ twist b = b % 6
 abbrev pub turned_back : ℕ → Direction → Direction
 turned_back n d = turned (6 - n) d
 
-abbrev pub twisted_neighbour : ℕ → Direction → ℕ
-twisted_neighbour b d = plain_neighbour b (turned_back (twist b) d)
+abbrev pub twisted_neighbor : ℕ → Direction → ℕ
+twisted_neighbor b d = plain_neighbor b (turned_back (twist b) d)
 
 abbrev pub test_link : TestTable → Links
-test_link Plain b d = (plain_neighbour b d, 0)
-test_link Twisted b d = (twisted_neighbour b d, (twist (twisted_neighbour b d) + 6 - twist b) % 6)
+test_link Plain b d = (plain_neighbor b d, 0)
+test_link Twisted b d = (twisted_neighbor b d, (twist (twisted_neighbor b d) + 6 - twist b) % 6)
 test_link Skew b d = ((b + skew_step d) % 122, 0)

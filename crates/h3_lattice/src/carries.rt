@@ -1,7 +1,8 @@
 //! The carry tables: what each digit and each direction add up to.
 //!
-//! A row for each digit from 0 on, a column for each direction in the order of the digits. An entry is the digit that
-//! is left, and the direction that is carried to the next coarser resolution, where there is one.
+//! A row for each digit from 0 on, a column for each direction in the order of the digits. An entry
+//! is the digit that is left, and the direction that is carried to the next coarser resolution,
+//! where there is one.
 
 use crate::direction::Direction;
 

@@ -12,8 +12,8 @@ use crate::links::{Links, is_hexagon_base, link_at};
 /// A check of a full table.
 #[derive(Clone, Copy, Debug, PartialEq, Eq)]
 enum Check {
-    /// The neighbours of a base cell differ from each other and from it.
-    Neighbours,
+    /// The neighbors of a base cell differ from each other and from it.
+    Neighbors,
 
     /// The link back undoes a link.
     Reversal,
@@ -31,7 +31,7 @@ fn parts(links: &Links, base: u8, direction: Direction, other: Direction) -> boo
         || link_at(links, base, other).0 != link_at(links, base, direction).0
 }
 
-/// Whether the neighbour in a direction is another base cell, and that of no other direction.
+/// Whether the neighbor in a direction is another base cell, and that of no other direction.
 fn leads_apart(links: &Links, base: u8, direction: Direction) -> bool
     requires { base < 122 }
     ensures { result ≡ leads_apart (links_in links.now) base direction }
@@ -47,7 +47,7 @@ fn leads_apart(links: &Links, base: u8, direction: Direction) -> bool
     true
 }
 
-/// Whether the link back from a neighbour undoes the link, if the neighbour is a hexagon base cell.
+/// Whether the link back from a neighbor undoes the link, if the neighbor is a hexagon base cell.
 fn reverses(links: &Links, base: u8, direction: Direction) -> bool
     requires base { base < 122 }
     requires within { All IsLink links.now }
@@ -61,8 +61,8 @@ fn reverses(links: &Links, base: u8, direction: Direction) -> bool
     back.0 == base && back.1 == (6 - turns) % 6
 }
 
-/// Whether the links agree round the corner of a base cell, its neighbour in a direction and its neighbour in the
-/// direction turned once, if both are hexagon base cells.
+/// Whether the links agree round the corner of a base cell, its neighbor in a direction and its
+/// neighbor in the direction turned once, if both are hexagon base cells.
 fn closes(links: &Links, base: u8, direction: Direction) -> bool
     requires base { base < 122 }
     requires within { All IsLink links.now }
@@ -84,7 +84,7 @@ fn fault_at(check: Check, links: &Links, base: u8, direction: Direction) -> Opti
     ensures { result ≡ fault_at check (links_in links.now) base direction }
 {
     match check {
-        Check::Neighbours => {
+        Check::Neighbors => {
             if leads_apart(links, base, direction) {
                 None
             } else {
@@ -144,9 +144,9 @@ pub fn fault_of_links(links: &Links) -> Option<TableError>
     requires within { All IsLink links.now }
     ensures { result ≡ fault_of_links (links_in links.now) }
 {
-    let neighbours = first_fault(Check::Neighbours, links);
-    if neighbours.is_some() {
-        return neighbours;
+    let neighbors = first_fault(Check::Neighbors, links);
+    if neighbors.is_some() {
+        return neighbors;
     }
     let reversal = first_fault(Check::Reversal, links);
     if reversal.is_some() {

@@ -7,13 +7,15 @@ ghost use Rattle.h3_lattice.specs.Class.{class_at, IsCarry, IsOnlyCarry};
 use crate::carries::{CARRIES_THREE, CARRIES_TWO};
 use crate::direction::Direction;
 
-/// The class of a resolution. It has the multiplier by which the grid of that resolution is finer than the one before.
+/// The class of a resolution. It has the multiplier by which the grid of that resolution is finer
+/// than the one before.
 #[derive(Clone, Copy, Debug, PartialEq, Eq)]
 pub enum Class {
     /// Class II, the even resolutions. Their multiplier is 3 + w.
     Two,
 
-    /// Class III, the odd resolutions, those of which H3's `isResClassIII` is true. Their multiplier is 2 - w.
+    /// Class III, the odd resolutions, those of which H3's `isResClassIII` is true. Their
+    /// multiplier is 2 - w.
     Three,
 }
 
@@ -30,8 +32,9 @@ impl Class {
     }
 }
 
-/// What a digit and a direction add up to at a resolution of a class: the digit that is left, and the direction that
-/// is carried to the next coarser resolution, where there is one. Digits are 0 to 6.
+/// What a digit and a direction add up to at a resolution of a class: the digit that is left, and
+/// the direction that is carried to the next coarser resolution, where there is one. Digits are 0
+/// to 6.
 pub fn carry(class: Class, digit: u8, direction: Direction) -> (u8, Option<Direction>)
     requires { digit ≤ 6 }
     ensures digit { result.0 ≤ 6 }

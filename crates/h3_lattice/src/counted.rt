@@ -19,8 +19,10 @@ fn read_pages<'a, R: Source>(
     ensures bytes { OnOk result ((bytes : List ℕ) × HasLeft (R.left reader.old.source.now) bytes ×
         (length bytes + length page.old ≤ reader.old.reads_left * length page.old) ×
         (text.new.items ≡ text.old.items ++ bytes)) }
-    ensures refused { IfErr result (λ e. (bytes : List ℕ) × HasLeft (R.left reader.old.source.now) bytes ×
-        StopsReading ((R.has_failed reader.new.source.now ≡ true) ⊎ (reader.old.reads_left ≤ length bytes)) e) }
+    ensures refused { IfErr result (λ e. (bytes : List ℕ) ×
+        HasLeft (R.left reader.old.source.now) bytes ×
+        StopsReading ((R.has_failed reader.new.source.now ≡ true)
+        ⊎ (reader.old.reads_left ≤ length bytes)) e) }
     ensures kept { result ≢ Err TableError.Read →
         R.has_failed reader.new.source.now ≡ R.has_failed reader.old.source.now }
     ensures whole { OnOk result ((bytes : List ℕ) → R.left reader.old.source.now ≡ Some bytes →
@@ -39,8 +41,8 @@ fn read_pages<'a, R: Source>(
     }
 }
 
-/// All bytes of a source, read page by page: `Read` where the source fails or is not at its end within
-/// the limit of reads, and `Memory` where there is none for the bytes.
+/// All bytes of a source, read page by page: `Read` where the source fails or is not at its end
+/// within the limit of reads, and `Memory` where there is none for the bytes.
 pub fn read_bytes<R: Source>(
     alloc: Global,
     source: &mut R,
@@ -52,8 +54,10 @@ pub fn read_bytes<R: Source>(
         (length text.items + length page.old ≤ limit * length page.old)) }
     ensures refused { IfErr result (λ e. (bytes : List ℕ) × HasLeft (R.left source.old) bytes ×
         StopsReading ((R.has_failed source.new ≡ true) ⊎ (limit ≤ length bytes)) e) }
-    ensures kept { result ≢ Err TableError.Read → R.has_failed source.new ≡ R.has_failed source.old }
-    ensures whole { OnOk result ((bytes : List ℕ) → R.left source.old ≡ Some bytes → R.left source.new ≡ Some []) }
+    ensures kept { result ≢ Err TableError.Read →
+        R.has_failed source.new ≡ R.has_failed source.old }
+    ensures whole { OnOk result ((bytes : List ℕ) → R.left source.old ≡ Some bytes →
+        R.left source.new ≡ Some []) }
 {
     let mut text = Vec::new(alloc);
     let mut reader = CountedReader {

@@ -10,10 +10,11 @@ ghost use Rattle.h3_lattice.specs.Expansion.{place};
 use h3_index::Cell;
 use std::marker::Model;
 
-/// The digits of a cell without its base cell: a digit of 0 to 6 for each resolution from 1 up to its own.
+/// The digits of a cell without its base cell: a digit of 0 to 6 for each resolution from 1 up to
+/// its own.
 ///
-/// They are held in one `u64`, the number of the cell of base cell 0 that has them. Base cell 0 is no pentagon, so each
-/// list of at most 15 digits of 0 to 6 is that of a cell there.
+/// They are held in one `u64`, the number of the cell of base cell 0 that has them. Base cell 0 is
+/// no pentagon, so each list of at most 15 digits of 0 to 6 is that of a cell there.
 #[derive(Clone, Copy, Debug, PartialEq, Eq)]
 pub struct Digits {
     cell: Cell,
@@ -80,8 +81,8 @@ impl Digits {
         self.cell.digit(r)
     }
 
-    /// Each digit turned n times, each turn 60 degrees counter-clockwise. The digit 0 stays. So the place is multiplied
-    /// by the n-th power of 1 + w.
+    /// Each digit turned n times, each turn 60 degrees counter-clockwise. The digit 0 stays. So the
+    /// place is multiplied by the n-th power of 1 + w.
     pub fn turned(self, n: u8) -> Digits
         ensures digits { result ≡ map (digit_turned n) self }
         ensures products { AreTurned n self result }
@@ -95,8 +96,8 @@ impl Digits {
         Digits { cell: turned }
     }
 
-    /// The cell of a base cell that has these digits. The base cell is 0 to 121 and no pentagon, so that no digits are
-    /// deleted there.
+    /// The cell of a base cell that has these digits. The base cell is 0 to 121 and no pentagon, so
+    /// that no digits are deleted there.
     pub fn at(self, base: u8) -> Cell
         requires some { base < 122 }
         requires hexagon { is_pentagon_base base ≡ false }

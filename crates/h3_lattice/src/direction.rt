@@ -4,7 +4,10 @@ ghost use Rattle.std.specs.Prelude.{◌≡◌};
 ghost use Rattle.h3_lattice.specs.Eisenstein.{minus_one, product_of};
 ghost use Rattle.h3_lattice.specs.Direction.{digit_of, direction_of, opposite, turned, turned_once, turns, unit_of};
 
-/// A direction of the grid, as H3's `Direction` names them; its digit 0, the centre, is no direction here.
+use h3_index::Edge;
+
+/// A direction of the grid, as H3's `Direction` names them; its digit 0, the centre, is no
+/// direction here.
 #[derive(Clone, Copy, Debug, PartialEq, Eq)]
 pub enum Direction {
     /// Digit 1, the Eisenstein integer -1 - w.
@@ -66,6 +69,13 @@ impl Direction {
         }
     }
 
+    /// The direction in which an edge leaves its origin.
+    pub fn from_edge(edge: Edge) -> Direction
+        ensures { digit_of result ≡ edge.direction }
+    {
+        DIRECTIONS[edge.direction() as usize - 1]
+    }
+
     /// The direction that leads back: the product with -1.
     pub fn opposite(self) -> Direction
         ensures is { result ≡ opposite self }
@@ -96,7 +106,8 @@ impl Direction {
     }
 }
 
-/// A direction turned n times, each turn 60 degrees counter-clockwise: the product with the n-th power of 1 + w.
+/// A direction turned n times, each turn 60 degrees counter-clockwise: the product with the n-th
+/// power of 1 + w.
 pub fn turn(direction: Direction, n: u8) -> Direction
     ensures is { result ≡ turned n direction }
     ensures product { unit_of result ≡ product_of (turns n) (unit_of direction) }

@@ -44,10 +44,16 @@ pub fn take(
     row: u64,
     fields: &ByteRecord,
 ) -> Result<(), TableError>
-    ensures refused { IfErr result (λ e. fault_in format row (λ b d. slice_index_or slots.old (place_of b d) None) (numbers_in (width format) (fields_of fields.now)) ≡ Some e) }
-    ensures taken { IfOk result (λ _. (fault_in format row (λ b d. slice_index_or slots.old (place_of b d) None) (numbers_in (width format) (fields_of fields.now)) ≡ None)
-        × IfSome (numbers_in (width format) (fields_of fields.now)) (λ ns. SetsLinks format ns slots.old slots.new)) }
-    ensures within { All (λ slot. IfSome slot IsLink) slots.old → All (λ slot. IfSome slot IsLink) slots.new }
+    ensures refused { IfErr result (λ e.
+        fault_in format row (λ b d. slice_index_or slots.old (place_of b d) None)
+        (numbers_in (width format) (fields_of fields.now)) ≡ Some e) }
+    ensures taken { IfOk result (λ _.
+        (fault_in format row (λ b d. slice_index_or slots.old (place_of b d) None)
+        (numbers_in (width format) (fields_of fields.now)) ≡ None)
+        × IfSome (numbers_in (width format) (fields_of fields.now))
+        (λ ns. SetsLinks format ns slots.old slots.new)) }
+    ensures within { All (λ slot. IfSome slot IsLink) slots.old →
+        All (λ slot. IfSome slot IsLink) slots.new }
 {
     match format {
         Format::One => format_one::take(slots, row, numbers_in(fields)),

@@ -13,7 +13,8 @@ use crate::links::{Slots, is_hexagon_number};
 /// The header.
 pub const HEADER: [&[u8]; 4] = [b"base", b"dir", b"to", b"rot"];
 
-/// Whether a record's numbers are a hexagon base cell, the digit of a direction, a base cell and a number of turns.
+/// Whether a record's numbers are a hexagon base cell, the digit of a direction, a base cell and a
+/// number of turns.
 #[tactic(auto, unfolding(crate::specs::Links::is_hexagon_base))]
 fn in_range(numbers: [u16; 4]) -> bool
     ensures is { result ≡ in_range_one numbers }
@@ -25,10 +26,13 @@ fn in_range(numbers: [u16; 4]) -> bool
 
 /// Judges a record by its numbers, and keeps its link.
 pub fn take(slots: &mut Slots, row: u64, numbers: Option<[u16; 4]>) -> Result<(), TableError>
-    ensures refused { IfErr result (λ e. fault_in One row (λ b d. slice_index_or slots.old (place_of b d) None) numbers ≡ Some e) }
-    ensures taken { IfOk result (λ _. (fault_in One row (λ b d. slice_index_or slots.old (place_of b d) None) numbers ≡ None)
+    ensures refused { IfErr result (λ e.
+        fault_in One row (λ b d. slice_index_or slots.old (place_of b d) None) numbers ≡ Some e) }
+    ensures taken { IfOk result (λ _.
+        (fault_in One row (λ b d. slice_index_or slots.old (place_of b d) None) numbers ≡ None)
         × IfSome numbers (λ ns. SetsLinks One ns slots.old slots.new)) }
-    ensures within { All (λ slot. IfSome slot IsLink) slots.old → All (λ slot. IfSome slot IsLink) slots.new }
+    ensures within { All (λ slot. IfSome slot IsLink) slots.old →
+        All (λ slot. IfSome slot IsLink) slots.new }
 {
     let Some(numbers) = numbers else {
         return Err(TableError::Form(row));

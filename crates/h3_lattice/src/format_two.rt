@@ -44,7 +44,8 @@ fn in_range(numbers: &[u16; 13]) -> bool
 fn keep(slots: &mut Slots, numbers: &[u16; 13])
     requires { IsInRangeTwo numbers.now }
     ensures taken { SetsLinks Two numbers.now slots.old slots.new }
-    ensures within { All (λ slot. IfSome slot IsLink) slots.old → All (λ slot. IfSome slot IsLink) slots.new }
+    ensures within { All (λ slot. IfSome slot IsLink) slots.old →
+        All (λ slot. IfSome slot IsLink) slots.new }
 {
     let first = numbers[0] as usize * 6;
     for digit in 1..7 {
@@ -54,10 +55,13 @@ fn keep(slots: &mut Slots, numbers: &[u16; 13])
 
 /// Judges a record by its numbers, and keeps its links.
 pub fn take(slots: &mut Slots, row: u64, numbers: Option<[u16; 13]>) -> Result<(), TableError>
-    ensures refused { IfErr result (λ e. fault_in Two row (λ b d. slice_index_or slots.old (place_of b d) None) numbers ≡ Some e) }
-    ensures taken { IfOk result (λ _. (fault_in Two row (λ b d. slice_index_or slots.old (place_of b d) None) numbers ≡ None)
+    ensures refused { IfErr result (λ e.
+        fault_in Two row (λ b d. slice_index_or slots.old (place_of b d) None) numbers ≡ Some e) }
+    ensures taken { IfOk result (λ _.
+        (fault_in Two row (λ b d. slice_index_or slots.old (place_of b d) None) numbers ≡ None)
         × IfSome numbers (λ ns. SetsLinks Two ns slots.old slots.new)) }
-    ensures within { All (λ slot. IfSome slot IsLink) slots.old → All (λ slot. IfSome slot IsLink) slots.new }
+    ensures within { All (λ slot. IfSome slot IsLink) slots.old →
+        All (λ slot. IfSome slot IsLink) slots.new }
 {
     let Some(numbers) = numbers else {
         return Err(TableError::Form(row));

@@ -1,5 +1,5 @@
-//! Laws of the definitions that contracts here cite. Each function does nothing; what it ensures is a law that holds
-//! always, for the proofs of crates that call it.
+//! Laws of the definitions that contracts here cite. Each function does nothing; what it ensures is
+//! a law that holds always, for the proofs of crates that call it.
 
 ghost use Rattle.h3_lattice.specs.Lifted.{CornersLift, ReversalsLift};
 ghost use Rattle.h3_lattice.specs.Laws.{TurnsAdd, SixTurnsAreNone, OppositesAreThreeTurns, DigitTurnsAdd, SixDigitTurnsAreNone, NoTurnsKeepDigits, SumsExist, SumsAreUnique, SumsReverse, SumsTurn, SumsCloseTriangles};
@@ -14,8 +14,8 @@ pub fn turns_add_up()
     ensures none_of_digits { NoTurnsKeepDigits }
 {}
 
-/// A digit list and a direction have one sum. The opposite direction leads back, the sum of turned ones is the turned
-/// sum, and the sums with a direction and with the next one are a step apart.
+/// A digit list and a direction have one sum. The opposite direction leads back, the sum of turned
+/// ones is the turned sum, and the sums with a direction and with the next one are a step apart.
 pub fn sums_are_lawful()
     ensures exist { SumsExist }
     ensures unique { SumsAreUnique }
@@ -24,8 +24,8 @@ pub fn sums_are_lawful()
     ensures triangles { SumsCloseTriangles }
 {}
 
-/// The checks of a table hold of steps too, at every resolution: over sound links, a step back undoes a step, and the
-/// steps in a direction and in the next one are a step apart.
+/// The checks of a table hold of steps too, at every resolution: over sound links, a step back
+/// undoes a step, and the steps in a direction and in the next one are a step apart.
 pub fn checks_lift_to_steps()
     ensures reversals { ReversalsLift }
     ensures corners { CornersLift }

@@ -1,5 +1,5 @@
-//! The hexagonal grid of H3: directions, digit lists, the sums of a cell and a direction, and the table of the base
-//! cells' neighbours. [`vectors`] has the test tables.
+//! The hexagonal grid of H3: directions, digit lists, the sums of a cell and a direction, and the
+//! table of the base cells' neighbors. [`vectors`] has the test tables.
 #![tactic(auto)]
 
 mod carries;

@@ -10,7 +10,7 @@ use crate::direction::{DIRECTIONS, Direction};
 use crate::error::TableError;
 use h3_index::is_pentagon_base;
 
-/// The neighbour and the turns of each base cell and direction, base cell by base cell.
+/// The neighbor and the turns of each base cell and direction, base cell by base cell.
 pub type Links = [(u8, u8); 732];
 
 /// The same where some are not known.
@@ -98,7 +98,8 @@ fn link_or_zero(slot: Option<(u8, u8)>) -> (u8, u8)
 /// The links of slots.
 pub fn filled(slots: &Slots) -> Links
     requires { All (λ slot. IfSome slot IsLink) slots.now }
-    ensures same { (i : ℕ) → slice_index_or result i (0, 0) ≡ unwrap_or (slice_index_or slots.now i None) (0, 0) }
+    ensures same { (i : ℕ) → slice_index_or result i (0, 0)
+        ≡ unwrap_or (slice_index_or slots.now i None) (0, 0) }
     ensures within { All IsLink result }
 {
     let mut links = [(0, 0); 732];

@@ -16,18 +16,20 @@ pub enum Moved {
     /// In the cell's own base cell.
     Inside(Cell),
 
-    /// Across the side of the base cell in this direction. The digits are those that the sum has in the frame of the
-    /// base cell that was left.
+    /// Across the side of the base cell in this direction. The digits are those that the sum has in
+    /// the frame of the base cell that was left.
     Across(Direction, Digits),
 }
 
-/// The sum of a cell and a direction, for a cell that is in no pentagon base cell: the direction's unit is added to
-/// the cell's place. It is the part of H3's `h3NeighborRotations` before the crossing into another base cell.
+/// The sum of a cell and a direction, for a cell that is in no pentagon base cell: the direction's
+/// unit is added to the cell's place. It is the part of H3's `h3NeighborRotations` before the
+/// crossing into another base cell.
 pub fn add(cell: Cell, direction: Direction) -> Moved
     requires { is_pentagon_base cell.base ≡ false }
     ensures is { IsMoved cell direction result }
 
-    // Laws of expansions: there is always one, and no other; the place is the sum of the digits' own places.
+    // Laws of expansions: there is always one, and no other; the place is the sum of the digits'
+    // own places.
     ensures unique { ExpansionsAreUnique }
     ensures places { PlacesAreSums }
 {

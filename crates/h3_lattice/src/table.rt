@@ -25,9 +25,9 @@ const PAGE: usize = 4096;
 /// How many reads a table may take.
 const READS: u64 = 1 << 40;
 
-/// How the 110 hexagon base cells lie beside each other: in each of six directions the neighbour, and how often each
-/// digit is turned on crossing. Its links fit together: none of the checks of [`TableError`] fails. It has a fixed
-/// size, and allocates nothing.
+/// How the 110 hexagon base cells lie beside each other: in each of six directions the neighbor,
+/// and how often each digit is turned on crossing. Its links fit together: none of the checks of
+/// [`TableError`] fails. It has a fixed size, and allocates nothing.
 #[derive(Drop)]
 pub struct BaseTable {
     links: Links,
@@ -42,7 +42,8 @@ impl BaseTable {
     fn new(links: Links) -> Result<BaseTable, TableError>
         requires { All IsLink links }
         ensures refused { IfErr result (λ e. fault_of_links (links_in links) ≡ Some e) }
-        ensures accepted { IfOk result (λ table. (fault_of_links (links_in links) ≡ None) × (link_of table ≡ links_in links)) }
+        ensures accepted { IfOk result (λ table. (fault_of_links (links_in links) ≡ None)
+            × (link_of table ≡ links_in links)) }
     {
         match fault_of_links(&links) {
             Some(fault) => Err(fault),
@@ -52,33 +53,39 @@ impl BaseTable {
 
     /// Reads a table file to its end and checks it.
     ///
-    /// The file is CSV, in one of two formats, each with its own header. Numbers have 1 to 3 digits, and
-    /// records come in any order.
+    /// The file is CSV, in one of two formats, each with its own header. Numbers have 1 to 3
+    /// digits, and records come in any order.
     ///
-    /// - Format 1: the header is `base,dir,to,rot`, and then comes exactly one record for each hexagon
-    ///   base cell and direction. In the frame of the base cell `base`, the base cell `to` lies in the
-    ///   direction of the digit `dir`, and each digit is turned `rot` times on crossing.
-    /// - Format 2: the header is `base,k,j,jk,i,ik,ij,rk,rj,rjk,ri,rik,rij`, and then comes exactly one
-    ///   record for each hexagon base cell. In its frame, the base cells `k`, `j`, `jk`, `i`, `ik` and
-    ///   `ij` lie in the directions of these names, and each digit is turned `rk`, `rj`, `rjk`, `ri`,
-    ///   `rik` and `rij` times on crossing into them.
+    /// - Format 1: the header is `base,dir,to,rot`, and then comes exactly one record for each
+    ///   hexagon base cell and direction. In the frame of the base cell `base`, the base cell `to`
+    ///   lies in the direction of the digit `dir`, and each digit is turned `rot` times on
+    ///   crossing.
+    /// - Format 2: the header is `base,k,j,jk,i,ik,ij,rk,rj,rjk,ri,rik,rij`, and then comes exactly
+    ///   one record for each hexagon base cell. In its frame, the base cells `k`, `j`, `jk`, `i`,
+    ///   `ik` and `ij` lie in the directions of these names, and each digit is turned `rk`, `rj`,
+    ///   `rjk`, `ri`, `rik` and `rij` times on crossing into them.
     ///
-    /// The errors, in this order: [`TableError::Read`] where the reader fails or is not at its end within 2^40 reads,
-    /// the first faulty record, a missing record, and the first check that fails, by ascending base cell and direction.
-    /// [`TableError::Memory`] where there is no memory for the file or a record.
+    /// The errors, in this order: [`TableError::Read`] where the reader fails or is not at its end
+    /// within 2^40 reads, the first faulty record, a missing record, and the first check that
+    /// fails, by ascending base cell and direction. [`TableError::Memory`] where there is no memory
+    /// for the file or a record.
     pub fn read<R: Source>(alloc: Global, source: &mut R) -> Result<BaseTable, TableError>
-        // The bytes of the file are those left in the source, where it is known which they are. 2^40 reads of a page
-        // find their end.
-        ensures accepted { IfOk result (λ table. (bytes : List ℕ) × HasLeft (R.left source.old) bytes ×
-            (length bytes + 4096 ≤ 2 ^ 40 * 4096) ×
-            (table_fault (records_of bytes) ≡ None) × (link_of table ≡ links_of (records_of bytes))) }
-        ensures refused { IfErr result (λ e. (bytes : List ℕ) × HasLeft (R.left source.old) bytes ×
-            RefusesTable ((R.has_failed source.new ≡ true) ⊎ (2 ^ 40 ≤ length bytes)) (table_fault (records_of bytes)) e ×
+        // The bytes of the file are those left in the source, where it is known which they are.
+        // 2^40 reads of a page find their end.
+        ensures accepted { IfOk result (λ table. (bytes : List ℕ) ×
+            HasLeft (R.left source.old) bytes × (length bytes + 4096 ≤ 2 ^ 40 * 4096) ×
+            (table_fault (records_of bytes) ≡ None) ×
+            (link_of table ≡ links_of (records_of bytes))) }
+        ensures refused { IfErr result (λ e. (bytes : List ℕ) ×
+            HasLeft (R.left source.old) bytes ×
+            RefusesTable ((R.has_failed source.new ≡ true) ⊎ (2 ^ 40 ≤ length bytes))
+            (table_fault (records_of bytes)) e ×
             (e ≢ TableError.Read → e ≢ TableError.Memory → length bytes + 4096 ≤ 2 ^ 40 * 4096)) }
         ensures sound { IfOk result (λ table. IsSound (link_of table)) }
 
         // A read that fails is never passed over.
-        ensures kept { result ≢ Err TableError.Read → R.has_failed source.new ≡ R.has_failed source.old }
+        ensures kept { result ≢ Err TableError.Read →
+            R.has_failed source.new ≡ R.has_failed source.old }
 
         // A table is accepted or refused for what is in it only after all of it was read.
         ensures whole { result ≢ Err TableError.Read → result ≢ Err TableError.Memory →
@@ -103,8 +110,8 @@ impl BaseTable {
         ensures { IsSound (link_of self.now) }
     {}
 
-    /// The neighbour of a hexagon base cell in a direction, 0 to 121, and how often each digit is turned on crossing
-    /// into it, 0 to 5.
+    /// The neighbor of a hexagon base cell in a direction, 0 to 121, and how often each digit is
+    /// turned on crossing into it, 0 to 5.
     pub fn link(&self, base: u8, direction: Direction) -> (u8, u8)
         requires some { base < 122 }
         requires hexagon { is_pentagon_base base ≡ false }

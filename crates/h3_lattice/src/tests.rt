@@ -1,6 +1,6 @@
 use crate::digits::Digits;
 use crate::{Class, DIRECTIONS, Direction, Moved, TableError, add, carry, turn};
-use h3_index::Cell;
+use h3_index::{Cell, Edge};
 use std::test::Fail;
 
 /// A row for each digit, a column for each direction in the order of the digits.
@@ -144,6 +144,22 @@ fn directions_have_opposites_and_turns(rt: HostRuntime) {
     for digit in [0, 7, 255] {
         assert_eq!(rt; Direction::from_digit(digit), None);
     }
+}
+
+#[test]
+fn edges_have_directions(rt: HostRuntime) -> Result<(), Fail> {
+    let table = [
+        (0x115283473fffffff, Direction::K),
+        (0x125283473fffffff, Direction::J),
+        (0x135283473fffffff, Direction::JK),
+        (0x145283473fffffff, Direction::I),
+        (0x155283473fffffff, Direction::IK),
+        (0x165283473fffffff, Direction::IJ),
+    ];
+    for (edge, direction) in table {
+        assert_eq!(&rt; Direction::from_edge(Edge::new(edge)?), direction);
+    }
+    Ok(())
 }
 
 #[test]

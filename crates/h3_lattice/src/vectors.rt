@@ -1,5 +1,5 @@
-//! The test tables: three base cell tables for tests of what reads or uses one. None of them is that of H3's base
-//! cells.
+//! The test tables: three base cell tables for tests of what reads or uses one. None of them is
+//! that of H3's base cells.
 
 ghost use Rattle.std.specs.Prelude.{◌≡◌, ◌<◌, false};
 ghost use Rattle.h3_index.specs.Cell.{is_pentagon_base};
@@ -10,7 +10,8 @@ use crate::direction::{Direction, turn};
 /// A table for tests.
 #[derive(Clone, Copy, Debug, PartialEq, Eq)]
 pub enum TestTable {
-    /// Each direction goes a fixed step along the ring of the 122 base cells, and nothing is turned. A sound table.
+    /// Each direction goes a fixed step along the ring of the 122 base cells, and nothing is
+    /// turned. A sound table.
     Plain,
 
     /// The plain table where the frame of base cell b is turned b mod 6 times. A sound table.
@@ -48,7 +49,8 @@ fn skew_step(direction: Direction) -> u8
     }
 }
 
-/// The neighbour of a hexagon base cell in a direction, and how often each digit is turned on crossing into it.
+/// The neighbor of a hexagon base cell in a direction, and how often each digit is turned on
+/// crossing into it.
 pub fn link(table: TestTable, base: u8, direction: Direction) -> (u8, u8)
     requires some { base < 122 }
     requires hexagon { is_pentagon_base base ≡ false }

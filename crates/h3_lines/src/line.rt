@@ -17,8 +17,8 @@ pub trait Line {
     /// The line, ended by a line feed.
     ghost line_of: { Self → List ℕ };
 
-    /// Puts the line into a block from the byte `at` on, and returns where it ends. The bytes after it
-    /// may change too.
+    /// Puts the line into a block from the byte `at` on, and returns where it ends. The bytes after
+    /// it may change too.
     fn put(&self, block: &mut [u8; BLOCK], at: usize) -> usize
         requires room { at + 32 ≤ 4096 }
         ensures end { result ≤ at + 32 }
@@ -26,8 +26,9 @@ pub trait Line {
         ensures line { take result block.new ≡ take at block.old ++ line_of self.now };
 }
 
-/// Puts the first `count` bytes and one more into a block from the byte `at` on, and returns where they
-/// end. All of the bytes are copied, since that is fast where their number is known to the compiler.
+/// Puts the first `count` bytes and one more into a block from the byte `at` on, and returns where
+/// they end. All of the bytes are copied, since that is fast where their number is known to the
+/// compiler.
 #[inline(always)]
 fn put_ended(block: &mut [u8; BLOCK], at: usize, bytes: &[u8], count: usize, end: u8) -> usize
     requires within { count ≤ length bytes.now }

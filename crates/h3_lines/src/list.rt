@@ -1,6 +1,6 @@
 //! Lists of cells, one a line.
 
-ghost use Rattle.std.specs.Prelude.{◌≡◌, ◌≢◌, ◌≤◌, ◌<◌, ◌*◌, ◌^◌, ◌⊎◌, ℕ, true, false, List, [], ◌∷◌, ◌++◌, length, Some, Result, Ok, IsOk, IfOk, IfErr, IfSome, IfNone, OnOk, OnErr, IsErrOf};
+ghost use Rattle.std.specs.Prelude.{◌≡◌, ◌≢◌, ◌≤◌, ◌<◌, ◌*◌, ◌^◌, ◌⊎◌, ℕ, true, false, List, [], ◌∷◌, ◌++◌, length, Some, Result, Ok, IsOk, IfOk, IfErr, IfSome, IfNone, OnOk, IsErrOf};
 ghost use Rattle.h3_index.specs.Cell.{Address};
 ghost use Rattle.h3_index.specs.CellNumber.{cell_in};
 ghost use Rattle.h3_index.specs.Stream.{HasLeft};
@@ -78,8 +78,8 @@ fn take_line(cells: &mut Vec<Cell>, line: &[u8]) -> Result<(), Refusal>
     take_said(cells, read_line(line))
 }
 
-/// The index of the plain line that bytes begin with, fifteen digits in lower case and a line feed, and
-/// the bytes after it.
+/// The index of the plain line that bytes begin with, fifteen digits in lower case and a line feed,
+/// and the bytes after it.
 #[inline(always)]
 fn plain_line(bytes: &[u8]) -> Option<(u64, &[u8])>
     ensures { IfSome result (λ p. IsPlainLine bytes.now p.0 p.1.now) }
@@ -217,11 +217,14 @@ fn read_pages<'a, R: Source>(
     requires room { 0 < length page.old }
     ensures ok { OnOk result ((bytes : List ℕ) × HasLeft (R.left reader.old.source.now) bytes ×
         IsWithinReads reader.old.reads_left (length page.old) bytes ×
-        GoesOn list.old.cells.items list.old.line.items bytes list.new.cells.items list.new.line.items []) }
+        GoesOn list.old.cells.items list.old.line.items bytes
+        list.new.cells.items list.new.line.items []) }
     ensures whole { OnOk result ((bytes : List ℕ) → R.left reader.old.source.now ≡ Some bytes →
         (R.left reader.new.source.now ≡ Some []) ×
-        GoesOn list.old.cells.items list.old.line.items bytes list.new.cells.items list.new.line.items []) }
-    ensures err { IfErr result (λ e. (bytes : List ℕ) × HasLeft (R.left reader.old.source.now) bytes ×
+        GoesOn list.old.cells.items list.old.line.items bytes
+        list.new.cells.items list.new.line.items []) }
+    ensures err { IfErr result (λ e.
+        (bytes : List ℕ) × HasLeft (R.left reader.old.source.now) bytes ×
         RefusesList
         ((R.has_failed reader.new.source.now ≡ true) ⊎ (reader.old.reads_left ≤ length bytes))
         (listed_after list.old.cells.items list.old.line.items bytes) e ×
@@ -301,8 +304,8 @@ pub fn read_cells<R: Source>(alloc: Global, input: &mut R) -> Result<Vec<Cell>, 
         RefusesList ((R.has_failed input.new ≡ true) ⊎ (2 ^ 40 ≤ length list))
         (listed_cells list) e ×
         (e ≢ Refusal.Read → e ≢ Refusal.Memory → IsListWithinReads (2 ^ 40) 65536 list)) }
-    // All of a list without a faulty line is read, and of any other at most a page more than bytes in
-    // which no line is known to be faulty; so too where memory is refused, or no read is left.
+    // All of a list without a faulty line is read, and of any other at most a page more than bytes
+    // in which no line is known to be faulty; so too where memory is refused, or no read is left.
     ensures whole { IsOk result →
         (list : List ℕ) → R.left input.old ≡ Some list → R.left input.new ≡ Some [] }
     ensures stops { IfErr result (λ e.

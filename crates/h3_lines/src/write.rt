@@ -56,8 +56,8 @@ pub fn write_result<W: Sink, L: Line + Drop>(
     write_answer(out, &block[..end])
 }
 
-/// Makes room for a line in a block of lines that ends at `end`: where too little is left, the block is
-/// written, and begins anew. Returns where the line may begin.
+/// Makes room for a line in a block of lines that ends at `end`: where too little is left, the
+/// block is written, and begins anew. Returns where the line may begin.
 #[inline(always)]
 fn make_room<W: Sink>(out: &mut W, block: &[u8; BLOCK], end: usize) -> Result<usize, StreamFault>
     requires { end ≤ 4096 }
@@ -111,9 +111,9 @@ fn write_refused<W: Sink>(out: &mut W, bytes: &[u8], error: H3Error) -> Result<(
     Err(Refusal::Error(error))
 }
 
-/// Writes a line for each item of a walk up to its first error, which it then returns. The walk is an
-/// iterator that ends. No item is kept, and no more lines than a block has. It flushes at the end, and
-/// before an error only where a line was written.
+/// Writes a line for each item of a walk up to its first error, which it then returns. The walk is
+/// an iterator that ends. No item is kept, and no more lines than a block has. It flushes at the
+/// end, and before an error only where a line was written.
 ///
 /// `Refusal::Write` where a push or the flush fails.
 pub fn write_walk<W: Sink, L: Line + Drop, I: Iterator<Item = Result<L, H3Error>> + Drop>(

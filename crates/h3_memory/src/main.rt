@@ -1,6 +1,6 @@
-//! Runs four commands over streams in fixed arrays, and prints the status of each and what it wrote: a
-//! list of 49 cells that compact to one, one of mixed resolutions, a disk over a table in format 1,
-//! and an edge over one in format 2. `.ci/memory` refuses each allocation of it in turn.
+//! Runs four commands over streams in fixed arrays, and prints the status of each and what it
+//! wrote: a list of 49 cells that compact to one, one of mixed resolutions, a disk over a table in
+//! format 1, and an edge over one in format 2. `.ci/memory` refuses each allocation of it in turn.
 #![tactic(auto)]
 
 use arrayvec::ArrayVec;
@@ -43,8 +43,8 @@ fn print_bytes<W: Write>(name: &str, bytes: &[u8], to: &mut W) -> io::Result<()>
     to.write_all(bytes)
 }
 
-/// Runs a command over a list and a table, and prints its status, its output and its line on standard
-/// error.
+/// Runs a command over a list and a table, and prints its status, its output and its line on
+/// standard error.
 fn print_run<W: Write>(
     alloc: Global,
     command: &Command,

@@ -9,11 +9,12 @@ use arrayvec::ArrayVec;
 use std::io;
 use std::io::{ErrorKind, Write};
 
-/// The bytes of a page. With twice as many the stack would have to grow, which fails where memory is short.
+/// The bytes of a page. With twice as many the stack would have to grow, which fails where memory
+/// is short.
 const PAGE: usize = 32768;
 
-/// A writer that collects bytes in a page of its own, and writes them to the inner writer when the page is full or
-/// flushed. It allocates nothing. When it is dropped, what was not flushed is lost.
+/// A writer that collects bytes in a page of its own, and writes them to the inner writer when the
+/// page is full or flushed. It allocates nothing. When it is dropped, what was not flushed is lost.
 #[derive(Drop)]
 pub struct PageWriter<W> {
     inner: W,
@@ -37,9 +38,11 @@ impl<W: Write> PageWriter<W> {
         }
     }
 
-    /// Writes the page to the inner writer. Where that fails, what was not written stays in the page.
+    /// Writes the page to the inner writer. Where that fails, what was not written stays in the
+    /// page.
     fn send(&mut self) -> io::Result<()>
-        ensures kept { Keeps (page_contents W.contents self.old) (page_contents W.contents self.new) }
+        ensures kept { Keeps (page_contents W.contents self.old)
+            (page_contents W.contents self.new) }
         ensures all { OnOk result (page_rest self.new ≡ []) }
         ensures room { OnOk result (page_len self.new ≡ 0) }
     {
@@ -77,7 +80,8 @@ impl<W: Write> Write for PageWriter<W> {
     }
 
     fn flush(&mut self) -> io::Result<()>
-        ensures bytes { Keeps (page_contents W.contents self.old) (page_contents W.contents self.new) }
+        ensures bytes { Keeps (page_contents W.contents self.old)
+            (page_contents W.contents self.new) }
         ensures all { OnOk result (page_rest self.new ≡ []) }
     {
         self.send()?;

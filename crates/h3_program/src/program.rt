@@ -16,8 +16,8 @@ use h3_lines::{Refusal, report, write_all, write_answer};
 use h3_words::{Words, WordsFault, read_words};
 use std::alloc::Global;
 
-/// Runs a command, and returns the exit status. Its table is opened first, if it has one; where that
-/// fails, nothing is run.
+/// Runs a command, and returns the exit status. Its table is opened first, if it has one; where
+/// that fails, nothing is run.
 fn run_command<R: Source, T: OpenTable, W: Sink, E: Sink>(
     alloc: Global,
     words: &Words,
@@ -32,7 +32,8 @@ fn run_command<R: Source, T: OpenTable, W: Sink, E: Sink>(
       fails_to_open = T.fails_to_open;
       as_source = source_use T.left T.has_failed;
     }) (option_map string_bytes words.now.table) (request words.now.command) result
-        (record { old = input.old; new = input.new }) (record { old = table.old; new = table.new }) (record {
+        (record { old = input.old; new = input.new })
+        (record { old = table.old; new = table.new }) (record {
           input = source_use R.left R.has_failed input.old input.new;
           table = source_use T.left T.has_failed table.old table.new;
           out = sink_use W.taken W.has_failed out.old out.new;
@@ -48,11 +49,12 @@ fn run_command<R: Source, T: OpenTable, W: Sink, E: Sink>(
     }
 }
 
-/// Runs the command that the words of a command line parse as, and returns the exit status. Help goes
-/// to `out`; the text of an invalid command line goes to `err`, with status 2.
+/// Runs the command that the words of a command line parse as, and returns the exit status. Help
+/// goes to `out`; the text of an invalid command line goes to `err`, with status 2.
 ///
-/// The table of a command that has one is opened once the words are parsed, and before anything else
-/// is looked at; where it cannot be opened, the line `table: open` goes to `err`, with status 3.
+/// The table of a command that has one is opened once the words are parsed, and before anything
+/// else is looked at; where it cannot be opened, the line `table: open` goes to `err`, with status
+/// 3.
 pub fn run_words<R: Source, T: OpenTable, W: Sink, E: Sink>(
     alloc: Global,
     words: Vec<String>,
@@ -62,13 +64,15 @@ pub fn run_words<R: Source, T: OpenTable, W: Sink, E: Sink>(
     err: &mut E,
 ) -> u8
     ensures err_kept { result ≡ 0 → err.new ≡ err.old }
-    ensures follows { (parsed : Result Words WordsFault) × ParsesAs (map string_bytes words.items) parsed
+    ensures follows { (parsed : Result Words WordsFault)
+        × ParsesAs (map string_bytes words.items) parsed
         × Follows (record {
           opens = T.opens;
           fails_to_open = T.fails_to_open;
           as_source = source_use T.left T.has_failed;
         }) parsed result
-        (record { old = input.old; new = input.new }) (record { old = table.old; new = table.new }) (record {
+        (record { old = input.old; new = input.new })
+        (record { old = table.old; new = table.new }) (record {
           input = source_use R.left R.has_failed input.old input.new;
           table = source_use T.left T.has_failed table.old table.new;
           out = sink_use W.taken W.has_failed out.old out.new;

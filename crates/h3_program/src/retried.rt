@@ -9,7 +9,8 @@ ghost use Rattle.h3_program.specs.Retried.{retried_inner};
 use std::io;
 use std::io::{ErrorKind, Read, Write};
 
-/// A reader or a writer that makes a call again where a signal interrupted it, as std's own loops do.
+/// A reader or a writer that makes a call again where a signal interrupted it, as std's own loops
+/// do.
 ///
 /// Any other error is returned as it is. A call that is interrupted 2^64 - 1 times fails with
 /// [`ErrorKind::TimedOut`].
@@ -72,7 +73,8 @@ impl<T: Write> Write for Retried<T> {
     }
 
     fn flush(&mut self) -> io::Result<()>
-        ensures bytes { Keeps (T.contents (retried_inner self.old)) (T.contents (retried_inner self.new)) }
+        ensures bytes { Keeps (T.contents (retried_inner self.old))
+            (T.contents (retried_inner self.new)) }
         ensures retried { IfErr result (λ error. error_kind error ≢ ErrorKind.Interrupted) }
     {
         for _ in 0..u64::MAX {

@@ -1,8 +1,10 @@
 -- How cells stand above one another.
-use Rattle.std.proofs.Common.{ℕ, zero, suc, ◌≡◌, ◌-◌, ◌≤◌, List, [], ◌∷◌, length, take, Contains, refl, arith, ◌∙◌, sym, ap}
+use Rattle.std.proofs.Common.{ℕ, ℤ, zero, suc, pos, ◌≡◌, ◌-◌, ◌≤◌, nat_lt, List, [], ◌∷◌, length, take, Contains, Some, None, true, refl, arith, ◌∙◌, sym, ap}
 use Rattle.std.proofs.Math.Seq.{take-length}
+use Rattle.std.proofs.lemmas.Bool.Decides.{nat_tests}
 use Rattle.std.proofs.lemmas.List.{length-take, length-take-le}
-use Rattle.h3_index.specs.Cell.{Address, is_pentagon}
+use Rattle.h3_index.specs.Cell.{Address, is_pentagon, IsCell}
+use Rattle.h3_index.specs.Count.{number_below, resolution_of}
 use Rattle.h3_index.specs.Descendants.{center_at, cut, descendants, IsAncestor}
 use Rattle.h3_index.specs.Laws.{CutsAreCells, DescendantsAreListed, DescendantsAscend, IsChain, PathsAreChains}
 use Rattle.h3_tree.specs.Laws.{CellsFormTrees}
@@ -32,6 +34,15 @@ no_finer : (a c : Address) → IsAncestor a c → length a.digits ≤ length c.d
 no_finer a c h =
     let shown : length (take (length a.digits) c.digits) ≡ length a.digits = ap (λ x. length x.digits) h in
     omega (arith, shown, length-take (length a.digits) c.digits)
+
+-- a cell has no ancestor at a number that is no resolution
+pub none_beyond : (a c : Address) (res : ℤ) → IsCell c → IsAncestor a c → pos (length a.digits) ≡ res → resolution_of res ≡ None → ⊥
+unfolding number_below
+none_beyond a c res valid above at_res none =
+    let small : length a.digits ≤ 15 = omega (arith, no_finer a c above, valid.coarse) in
+    let test : nat_lt (length a.digits) 16 ≡ true = grind (arith, nat_tests) in
+    let some : number_below 16 (pos (length a.digits)) ≡ Some (length a.digits) = rw test refl in
+    absurd (cc (sym some ∙ ap resolution_of at_res ∙ none))
 
 center_listed : (c : Address) (s : ℕ) → IsChain (is_pentagon c) (s - length c.digits) → Contains (descendants c s) (center_at c s)
 unfolding descendants

@@ -7,8 +7,7 @@ ghost use Rattle.h3_index.specs.Cell.{Address, IsCell};
 ghost use Rattle.h3_index.specs.Descendants.{cut, IsAncestor};
 ghost use Rattle.h3_tree.specs.Refusals.{parent_refusal};
 
-use crate::resolutions::resolution_from;
-use h3_index::{Cell, H3Error};
+use h3_index::{Cell, H3Error, resolution_from};
 
 /// The one ancestor of a cell at a resolution, as H3's `cellToParent` gives it: at the cell's own
 /// resolution the cell.
@@ -26,7 +25,7 @@ pub fn parent(cell: Cell, res: i32) -> Result<Cell, H3Error>
         → result ≡ Ok other }
 {
     let own = cell.resolution();
-    let r = resolution_from(0, res)?;
+    let r = resolution_from(res)?;
     if r > own {
         return Err(H3Error::ResMismatch);
     }

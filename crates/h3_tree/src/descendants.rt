@@ -1,7 +1,7 @@
 //! The way down: the descendants of a cell. In contracts `unsigned_abs res` is the resolution as a
 //! natural number.
 
-ghost use Rattle.std.specs.Prelude.{◌≡◌, ◌+◌, ◌-◌, ◌*◌, ◌/◌, ◌^◌, ◌<◌, ◌≤◌, ◌↔◌, length, false, true, IfOk, unsigned_abs, AllPairs, Contains};
+ghost use Rattle.std.specs.Prelude.{◌≡◌, ◌+◌, ◌-◌, ◌*◌, ◌/◌, ◌^◌, ◌<◌, ◌≤◌, ◌↔◌, length, pos, false, true, IfOk, unsigned_abs, AllPairs, Contains};
 ghost use Rattle.std.specs.Result.{result_err};
 ghost use Rattle.h3_index.specs.Cell.{Address, is_pentagon, IsCell, number_of};
 ghost use Rattle.h3_index.specs.Descendants.{center_at, descendants, IsDescendant};
@@ -10,9 +10,21 @@ ghost use Rattle.h3_tree.specs.Refusals.{descent_refusal};
 
 use crate::iter::Children;
 use crate::powers::power_of_seven;
-use crate::resolutions::resolution_from;
 use h3_index::laws::descendants_are_listed;
-use h3_index::{Cell, H3Error};
+use h3_index::{Cell, H3Error, resolution_from};
+
+/// The resolution that a whole number is, where a cell has descendants at it, which is from the
+/// cell's own to 15; `ResDomain` elsewhere.
+fn resolution_below(cell: Cell, res: i32) -> Result<u8, H3Error>
+    ensures refused { result_err result ≡ descent_refusal (length cell.digits) res }
+    ensures is { IfOk result (λ r. (pos r ≡ res) × (length cell.digits ≤ r) × (r ≤ 15)) }
+{
+    let r = resolution_from(res)?;
+    if r < cell.resolution() {
+        return Err(H3Error::ResDomain);
+    }
+    Ok(r)
+}
 
 /// The descendant of a cell at a resolution whose further digits are 0, as H3's `cellToCenterChild`
 /// gives it: at the cell's own resolution the cell.
@@ -23,7 +35,7 @@ pub fn center_child(cell: Cell, res: i32) -> Result<Cell, H3Error>
     ensures zeros { IfOk result (λ child. child ≡ center_at cell (unsigned_abs res)) }
     ensures descendant { IfOk result (λ child. IsDescendant cell (unsigned_abs res) child) }
 {
-    let r = resolution_from(cell.resolution(), res)?;
+    let r = resolution_below(cell, res)?;
     Ok(cell.center_at(r))
 }
 
@@ -60,7 +72,7 @@ pub fn children_size(cell: Cell, res: i32) -> Result<u64, H3Error>
         → IfOk result (λ size.
         size ≡ 1 + 5 * ((7 ^ (unsigned_abs res - length cell.digits) - 1) / 6)) }
 {
-    let r = resolution_from(cell.resolution(), res)?;
+    let r = resolution_below(cell, res)?;
     Ok(size_at(cell, r))
 }
 
@@ -90,6 +102,6 @@ pub fn children(cell: Cell, res: i32) -> Result<Children, H3Error>
     ensures ascending { IfOk result (λ items.
         AllPairs (λ a b. number_of a < number_of b) (children_left items)) }
 {
-    let r = resolution_from(cell.resolution(), res)?;
+    let r = resolution_below(cell, res)?;
     Ok(children_at(cell, r))
 }

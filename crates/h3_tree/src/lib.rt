@@ -8,7 +8,6 @@ pub mod laws;
 mod order;
 mod positions;
 mod powers;
-mod resolutions;
 
 pub use ancestors::parent;
 pub use descendants::{center_child, children, children_at, children_size};

@@ -12,9 +12,8 @@ ghost use Rattle.h3_tree.specs.Refusals.{parent_refusal, position_refusal};
 use crate::ancestors::parent;
 use crate::descendants::size_at;
 use crate::powers::power_of_seven;
-use crate::resolutions::resolution_from;
 use h3_index::laws::descendants_are_listed;
-use h3_index::{Cell, H3Error};
+use h3_index::{Cell, H3Error, resolution_from};
 
 /// The laws of the list of the descendants, as one fact; it does nothing.
 fn descendants_are_known()
@@ -140,7 +139,7 @@ pub fn child_at(position: u64, cell: Cell, res: i32) -> Result<Cell, H3Error>
     ensures positions { PositionsHaveMembers }
 {
     positions_are_lawful();
-    let r = resolution_from(0, res)?;
+    let r = resolution_from(res)?;
     if r < cell.resolution() {
         return Err(H3Error::ResMismatch);
     }

@@ -115,13 +115,29 @@ fn sizes(rt: HostRuntime) -> Result<(), Fail> {
         children_size(Cell::new(0x8009fffffffffff)?, 15)?,
         3956301258286
     );
+    let cell = Cell::new(0x85283473fffffff)?;
+    for res in [-1, 4, 16] {
+        assert_eq!(rt;
+            children_size(cell, res),
+            Err(H3Error::ResDomain),
+            "at {res}"
+        );
+    }
     Ok(())
 }
 
 #[test]
 fn center_children(rt: HostRuntime) -> Result<(), Fail> {
-    let center = center_child(Cell::new(0x85283473fffffff)?, 15)?;
-    assert_eq!(rt; center.raw(), 0x8f2834700000000);
+    let cell = Cell::new(0x85283473fffffff)?;
+    assert_eq!(rt; center_child(cell, 15)?.raw(), 0x8f2834700000000);
+    assert_eq!(rt; center_child(cell, 5)?, cell);
+    for res in [-1, 4, 16] {
+        assert_eq!(rt;
+            center_child(cell, res),
+            Err(H3Error::ResDomain),
+            "at {res}"
+        );
+    }
     Ok(())
 }
 

@@ -65,12 +65,7 @@ every_option = Cell ∷ Resolution ∷ Radius ∷ To ∷ Position ∷ Edge ∷ T
 
 option_found : (o : CommandOption) → find (λ x. bytes_eq (id_of x) (id_of o)) every_option ≡ Some o
 option_found Cell = refl
-option_found Resolution = refl
-option_found Radius = refl
-option_found To = refl
-option_found Position = refl
-option_found Edge = refl
-option_found Table = refl
+option_found o = refl
 
 -- two options of one id, or of names that differ
 abbrev differ_test : CommandOption → CommandOption → Bool
@@ -320,10 +315,7 @@ unfolding encode_utf8
 ascii_short Cell y e = let same : 99 ≡ y = grind arith in ap (λ c. length (encode_utf8 c)) (sym same)
 ascii_short Resolution y e = let same : 114 ≡ y = grind arith in ap (λ c. length (encode_utf8 c)) (sym same)
 ascii_short Radius y e = let same : 107 ≡ y = grind arith in ap (λ c. length (encode_utf8 c)) (sym same)
-ascii_short To y e = cc
-ascii_short Position y e = cc
-ascii_short Edge y e = cc
-ascii_short Table y e = cc
+ascii_short q y e = cc
 
 pub short_is : (o q : CommandOption) (d : Which q o) (word flags : Text) (y : ℕ) → long_of word ≡ None → short_of word ≡ Some flags → slice_get (chars flags) 0 ≡ Some y
     → is_short q y ≡ true → named o word ≡ mine d (attached_value (drop (length (encode_utf8 y)) flags))

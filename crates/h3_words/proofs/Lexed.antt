@@ -12,7 +12,7 @@ use Rattle.h3_words.specs.Given as own
 use Rattle.h3_words.specs.Given.{after, by_character, given_by, long_value, short_value}
 use Rattle.h3_words.specs.Options.{long_name, short_name}
 use Rattle.h3_words.specs.declared.options.CommandOption.{CommandOption}
-use Rattle.h3_words.specs.declared.options.CommandOption.TheVariants.{Cell, Resolution, Radius, To, Position, Edge, Table}
+use Rattle.h3_words.specs.declared.options.CommandOption.TheVariants.{Cell, Radius}
 
 -- the option's long name
 abbrev pub is_long : CommandOption → Text → Bool
@@ -204,22 +204,12 @@ parts_same long short word plain_long plain_short = ap₂ option_or (long_same l
     go (Some p) e = ap (λ f. option_or (long_by long (Some p)) (short_by short f)) (no_flags word p e) ∙ or_none (long_by long (Some p))
 
 plain_long : (o : CommandOption) → PlainLong (long_name o)
-plain_long Cell = refl
-plain_long Resolution = refl
 plain_long Radius = tt
-plain_long To = refl
-plain_long Position = refl
-plain_long Edge = refl
-plain_long Table = refl
+plain_long o = refl
 
 plain_short : (o : CommandOption) → PlainShort (short_name o)
 plain_short Cell = refl
-plain_short Resolution = refl
-plain_short Radius = refl
-plain_short To = refl
-plain_short Position = refl
-plain_short Edge = refl
-plain_short Table = refl
+plain_short o = refl
 
 -- what the words give, cut so, is what they give
 pub given_same : (o : CommandOption) (words : List Text) → own.given o words ≡ given o words

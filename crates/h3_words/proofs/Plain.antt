@@ -1,5 +1,5 @@
 -- A plain call passes: no step of the parse fails.
-use Rattle.std.proofs.Common.{◌≡◌, ◌⊎◌, ◌∙◌, ◌≤◌, ◌+◌, ◌&&◌, ◌||◌, ◌==◌, ◌++◌, ℕ, Bool, cond, true, false, not, refl, sym, ap, ap₂, subst, arith, List, [], ◌∷◌, map, length, drop, Option, Some, None, is_some, inl, inr, true≢false, codes}
+use Rattle.std.proofs.Common.{◌≡◌, ◌⊎◌, ◌∙◌, ◌≤◌, ◌+◌, ◌&&◌, ◌||◌, ◌==◌, ◌++◌, ℕ, ℤ, Bool, cond, true, false, not, refl, sym, ap, ap₂, subst, arith, List, [], ◌∷◌, map, length, drop, Option, Some, None, is_some, inl, inr, true≢false, codes}
 use Rattle.std.specs.Char.{encode_utf8}
 use Rattle.std.specs.Prelude.{slice_get, slice_index, option_and_then, option_map, unwrap_or, pos, find, fold}
 use Rattle.std.specs.List.{list_any}
@@ -197,9 +197,9 @@ fresh_after rows u us fresh o = go (bytes_eq (id_of u.option) (id_of o)) (has_ro
     go false false f e = let le : 0 + uses_in o us ≤ 1 = f.1 in (λ t. absurd (true≢false (sym t ∙ e)), omega arith)
 
 -- a value in the range passes the parser
-in_range : (most : Option ℕ) (v : Text) → IsUpTo most v → accepts false (unwrap_or (option_map (λ m. Signed (pos 0) (pos m)) most) String) v ≡ true
+in_range : (most : Option ℤ) (v : Text) → IsUpTo most v → accepts false (unwrap_or (option_map (Signed (pos 0)) most) String) v ≡ true
 in_range None v h = refl
-in_range (Some most) v h = Accepts-accepts false (Signed (pos 0) (pos most)) v h
+in_range (Some most) v h = Accepts-accepts false (Signed (pos 0) most) v h
 
 -- a use of an option that was not used yet, with a value in its range
 use_passes : (q : CommandOption) (v : Text) (rows : List Row) → has_row (id_of q) rows ≡ false → accepts false (parser_done q) v ≡ true → use_fault false (done_rule q) (v ∷ []) rows ≡ []

@@ -13,7 +13,7 @@ use Rattle.h3_words.specs.Commands.{command_names, app, word_of, options_of}
 use Rattle.h3_words.specs.Options.{id_of}
 use Rattle.h3_words.proofs.Leaf.{Turn, alone, attached, dashes, other, at_word, bytes_same, cons_nil, dash_turn, done_rule, done_rules, idle_held, leaf_done, or_false, or_nil}
 use Rattle.h3_words.specs.declared.options.CommandOption.{CommandOption}
-use Rattle.h3_words.specs.declared.options.CommandOption.TheVariants.{Cell, Resolution, Radius, To, Position, Edge, Table}
+use Rattle.h3_words.specs.declared.options.CommandOption.TheVariants.{Cell}
 use Rattle.h3_words.specs.declared.commands.CommandName.{CommandName}
 
 -- the command as `clap` completes it
@@ -70,12 +70,7 @@ keeps_stop names name before (x ∷ words) = keeps_stop names name (before ++ x 
 
 no_option_at_top : (q : CommandOption) → arg_by_id (done_rules []) (id_of q) ≡ Some (done_rule q) → ⊥
 no_option_at_top Cell e = cc
-no_option_at_top Resolution e = cc
-no_option_at_top Radius e = cc
-no_option_at_top To e = cc
-no_option_at_top Position e = cc
-no_option_at_top Edge e = cc
-no_option_at_top Table e = cc
+no_option_at_top q e = cc
 
 -- the words name a command of the list, whose words pass
 abbrev pub Enters : List CommandName → List Text → Type 0

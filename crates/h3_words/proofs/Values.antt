@@ -1,20 +1,23 @@
 -- What a parse found for the options of a command is the command's values.
-use Rattle.std.proofs.lemmas.Int.{to_z-of_z}
-use Rattle.std.proofs.Common.{w32, to_z, of_z, SFits, ◌≡◌, ◌⊎◌, ◌∙◌, ◌||◌, ℕ, ℤ, true, false, List, [], ◌∷◌, Option, Some, None, refl, sym, ap, subst, inl, inr, true≢false}
-use Rattle.std.specs.Prelude.{MatchBool}
-use Rattle.std.specs.List.{list_any}
+use Rattle.std.proofs.Common.{◌≡◌, ◌⊎◌, ◌∙◌, ◌||◌, ℕ, ℤ, true, false, List, [], ◌∷◌, Option, Some, None, refl, sym, ap, subst, inl, inr, true≢false}
+use Rattle.std.specs.Prelude.{All, MatchBool, filter_map, option_map, pos, unwrap_or}
+use Rattle.std.specs.List.{cons_option, list_any}
+use Rattle.std.proofs.lemmas.List.Elements.{All-nil, All-cons}
 use Rattle.std.specs.Str.{bytes_eq}
 use Rattle.std.specs.Str.Parse.{signed_digits_value}
-use Rattle.clap.specs.Words.{Accepts, Text, first_value}
+use Rattle.clap.specs.Words.{Accepts, IsSignedIn, Text, first_value}
+use Rattle.clap.specs.declared.builder.value_parser.ValueParser.TheVariants.{Signed, String}
 use Rattle.clap.specs.declared.parser.matches.Found.{Found}
 use Rattle.h3_index.specs.Text.{parsed_index}
 use Rattle.h3_words.proofs.Uses.{IsListed, contains}
 use Rattle.h3_words.specs.Options.{IsUpTo, id_of, number_up_to, parser_done}
-use Rattle.h3_words.specs.Commands.{has_option, options_of}
-use Rattle.h3_words.specs.Values.{AreFound, HasTable, IsIndex, IsNumber, IsText}
+use Rattle.h3_words.specs.Commands.{Index, Number, Value, has_option, options_of, values_of_command}
+use Rattle.h3_words.specs.Values.{AreFound, HasTable, HasValues, IsIndex, IsNumber, IsText, IsValue, value_in}
 use Rattle.h3_words.specs.declared.options.CommandOption.{CommandOption}
-use Rattle.h3_words.specs.declared.options.CommandOption.TheVariants.{Cell, To, Table}
+use Rattle.h3_words.specs.declared.options.CommandOption.TheVariants.{Cell, Resolution, Radius, To, Position, Edge, Table}
 use Rattle.h3_words.specs.declared.commands.CommandName.{CommandName}
+use Rattle.h3_words.specs.declared.commands.Values.{Values}
+use Rattle.h3_command.specs.declared.command.Command.{Command}
 use Rattle.h3_words.proofs.Leaf.{Differs, differ}
 
 is_in : (o : CommandOption) (os : List CommandOption) → list_any (λ x. bytes_eq (id_of x) (id_of o)) os ≡ true → IsListed o os
@@ -25,10 +28,9 @@ is_in o (x ∷ os) e = go (differ x o) (is_in o os) e
     go (inl same) later e2 = inl same
     go (inr d) later e2 = inr (later (sym (ap (λ b. b || list_any (λ y. bytes_eq (id_of y) (id_of o)) os) d.0) ∙ e2))
 
--- what a parse found for one of the command's options
-found_for : (o : CommandOption) (self k : CommandName) → self ≡ k → has_option k o ≡ true → (f : Found) (text : CommandOption → Option Text) → AreFound self text f
-    → (v : Text) × (text o ≡ Some v) × (first_value f (id_of o) ≡ Some v) × Accepts false (parser_done o) v
-found_for o self k same is f text are_found = are_found o (contains (options_of self) o (subst (λ x. IsListed o (options_of x)) (sym same) (is_in o (options_of k) is)))
+-- what a parse found for the option, which has a text
+abbrev IsFound : (CommandOption → Option Text) → Found → CommandOption → Type 0
+IsFound text f o = (v : Text) × (text o ≡ Some v) × (first_value f (id_of o) ≡ Some v) × Accepts false (parser_done o) v
 
 -- this index is read for the option
 abbrev pub ReadsIndex : CommandOption → Found → Option ℕ → Type 0
@@ -36,43 +38,60 @@ ReadsIndex o f index = (t : List ℕ) → first_value f (id_of o) ≡ Some t →
 
 -- this number is read for the option
 abbrev pub ReadsNumber : CommandOption → Found → ℤ → Type 0
-ReadsNumber o f n = (t : List ℕ) → first_value f (id_of o) ≡ Some t → IsUpTo (number_up_to o) t → n ≡ signed_digits_value 10 t
+ReadsNumber o f n = (t : List ℕ) (most : ℤ) → first_value f (id_of o) ≡ Some t → number_up_to o ≡ Some most → IsSignedIn (pos 0) most t
+    → n ≡ signed_digits_value 10 t
 
--- what the parse lets through for the option is in its range
-abbrev pub Ranges : CommandOption → Type 0
-Ranges o = (t : Text) → Accepts false (parser_done o) t → IsUpTo (number_up_to o) t
+pub reads_same : (o : CommandOption) (f : Found) (kept n : ℤ) → kept ≡ n → ReadsNumber o f n → ReadsNumber o f kept
+reads_same o f kept n same = subst (ReadsNumber o f) (sym same)
 
 -- ---- the values of the command's options are those that are read
 
-pub index_of : (o : CommandOption) (f : Found) {self k : CommandName} {index : Option ℕ} → self ≡ k → ReadsIndex o f index → has_option k o ≡ true
-    → (text : CommandOption → Option Text) → AreFound self text f → IsIndex (text o) index
-index_of o f {self} {k} {index} same reads is text are_found =
-    let a = found_for o self k same is f text are_found in subst (λ t. IsIndex t index) (sym a.1) (reads a.0 a.2)
+-- what is read for each option
+pub record AreRead (f : Found) (values : Values) : Type 0 where
+  pub cell : ReadsIndex Cell f values.cell
+  pub resolution : ReadsNumber Resolution f values.res
+  pub radius : ReadsNumber Radius f values.k
+  pub to : ReadsIndex To f values.to
+  pub position : ReadsNumber Position f (pos values.position)
+  pub edge : ReadsIndex Edge f values.edge
 
-pub number_of : (o : CommandOption) → Ranges o → (f : Found) {self k : CommandName} {n : ℤ} → self ≡ k → ReadsNumber o f n → has_option k o ≡ true
-    → (text : CommandOption → Option Text) → AreFound self text f → IsNumber o (text o) n
-number_of o in_range f {self} {k} {n} same reads is text are_found =
-    let a = found_for o self k same is f text are_found in
-    subst (λ t. IsNumber o t n) (sym a.1) (in_range a.0 a.3, reads a.0 a.2 (in_range a.0 a.3))
+module _ (text : CommandOption → Option Text) (f : Found) where
+  index_of : (o : CommandOption) (value : Option ℕ) → ReadsIndex o f value → IsFound text f o → IsIndex (text o) value
+  index_of o value reads at = subst (λ t. IsIndex t value) (sym at.1) (reads at.0 at.2)
 
--- a number that is kept in an `i32`
-pub whole_of : (o : CommandOption) → Ranges o → (f : Found) {self k : CommandName} {n : ℤ} → self ≡ k → ReadsNumber o f n → SFits w32 n → has_option k o ≡ true
-    → (text : CommandOption → Option Text) → AreFound self text f → IsNumber o (text o) (to_z w32 (of_z w32 n))
-whole_of o in_range f {n = n} same reads fits is text are_found =
-    subst (IsNumber o (text o)) (sym (to_z-of_z w32 n fits)) (number_of o in_range f same reads is text are_found)
+  number_of : (o : CommandOption) (value most : ℤ) → number_up_to o ≡ Some most → ReadsNumber o f value → IsFound text f o → IsNumber o (text o) value
+  number_of o value most is reads at =
+      let in_range = subst (λ m. Accepts false (unwrap_or (option_map (Signed (pos 0)) m) String) at.0) is at.3 in
+      subst (λ t. IsNumber o t value) (sym at.1) (subst (λ m. IsUpTo m at.0) (sym is) in_range, reads at.0 most at.2 is in_range)
 
--- a cell and such a number
-pub cell_and_whole : (o : CommandOption) → Ranges o → (f : Found) {self k : CommandName} {index : Option ℕ} {n : ℤ} → self ≡ k → ReadsIndex Cell f index → ReadsNumber o f n
-    → SFits w32 n → has_option k Cell ≡ true → has_option k o ≡ true
-    → (text : CommandOption → Option Text) → AreFound self text f → IsIndex (text Cell) index × IsNumber o (text o) (to_z w32 (of_z w32 n))
-cell_and_whole o in_range f same reads_cell reads fits is_cell is text are_found =
-    (index_of Cell f same reads_cell is_cell text are_found, whole_of o in_range f same reads fits is text are_found)
+  -- a value is put before others
+  more : (value : Value) (rest : List Value) → IsValue text value → All (IsValue text) rest → All (IsValue text) (value ∷ rest)
+  more = All-cons (IsValue text)
 
--- two cells
-pub cell_and_to : (f : Found) {self k : CommandName} {index other : Option ℕ} → self ≡ k → ReadsIndex Cell f index → ReadsIndex To f other → has_option k Cell ≡ true → has_option k To ≡ true
-    → (text : CommandOption → Option Text) → AreFound self text f → IsIndex (text Cell) index × IsIndex (text To) other
-cell_and_to f same reads_cell reads_to is_cell is_to text found =
-    (index_of Cell f same reads_cell is_cell text found, index_of To f same reads_to is_to text found)
+  -- the value that is read for an option that has a text is what the text parses as
+  value_read : (values : Values) → AreRead f values → (o : CommandOption) → IsFound text f o
+      → (rest : List Value) → All (IsValue text) rest → All (IsValue text) (cons_option (value_in values o) rest)
+  value_read values read Cell at rest = more (Index Cell values.cell) rest (index_of Cell values.cell read.cell at)
+  value_read values read Resolution at rest = more (Number Resolution values.res) rest (number_of Resolution values.res _ refl read.resolution at)
+  value_read values read Radius at rest = more (Number Radius values.k) rest (number_of Radius values.k _ refl read.radius at)
+  value_read values read To at rest = more (Index To values.to) rest (index_of To values.to read.to at)
+  value_read values read Position at rest =
+      more (Number Position (pos values.position)) rest (number_of Position (pos values.position) _ refl read.position at)
+  value_read values read Edge at rest = more (Index Edge values.edge) rest (index_of Edge values.edge read.edge at)
+  value_read values read Table at rest = λ all. all
+
+  all_read : (values : Values) → AreRead f values → (os : List CommandOption) → ((o : CommandOption) → IsListed o os → IsFound text f o)
+      → All (IsValue text) (filter_map (value_in values) os)
+  all_read values read [] found = All-nil (IsValue text)
+  all_read values read (o ∷ os) found =
+      value_read values read o (found o (inl refl)) _ (all_read values read os (λ x is. found x (inr is)))
+
+-- a command that has the values that are read for its options has what their texts parse as
+pub has_values : (f : Found) (values : Values) (self : CommandName) (c : Command)
+    → values_of_command c ≡ filter_map (value_in values) (options_of self) → AreRead f values
+    → (text : CommandOption → Option Text) → AreFound self text f → HasValues text c
+has_values f values self c same read text found = subst (All (IsValue text)) (sym same)
+    (all_read text f values read (options_of self) (λ o is. found o (contains (options_of self) o is)))
 
 -- a command that has no table
 pub no_table : (self : CommandName) → has_option self Table ≡ false → (text : CommandOption → Option Text) → HasTable text self None
@@ -82,5 +101,5 @@ no_table self has text = subst (λ b. MatchBool b (IsText (text Table) None) (�
 pub table_of : (self : CommandName) (f : Found) (path : Option Text) → has_option self Table ≡ true → first_value f (id_of Table) ≡ path
     → (text : CommandOption → Option Text) → AreFound self text f → HasTable text self path
 table_of self f path has found text are_found =
-    let a = found_for Table self self refl has f text are_found in
+    let a = are_found Table (contains (options_of self) Table (is_in Table (options_of self) has)) in
     subst (λ b. MatchBool b (IsText (text Table) path) (path ≡ None)) (sym has) (subst (λ t. IsText t path) (sym a.1) (sym found ∙ a.2))

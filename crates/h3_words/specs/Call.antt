@@ -1,23 +1,17 @@
 -- A plain call: the program's name, a command's name, and then each option of the command once, in any order,
 -- its name and its value in two words.
-use Rattle.std.specs.Prelude.{◌≡◌, ◌≢◌, ◌∷◌, ℕ, List, [], codes, All, Contains, count_by}
+use Rattle.std.specs.Prelude.{◌≡◌, ◌≢◌, ◌++◌, ◌∷◌, ℕ, List, [], codes, All, Contains, count_by, filter_map, option_map}
 use Rattle.std.specs.Str.{bytes_eq}
 use Rattle.clap.specs.Words.{Text}
 use Rattle.h3_words.specs.Commands.{options_of, word_of}
-use Rattle.h3_words.specs.Options.{IsUpTo, id_of, number_up_to}
+use Rattle.h3_words.specs.Options.{IsUpTo, id_of, long_name, number_up_to, short_name}
 use Rattle.h3_words.specs.declared.options.CommandOption.{CommandOption}
-use Rattle.h3_words.specs.declared.options.CommandOption.TheVariants.{Cell, Resolution, Radius, To, Position, Edge, Table}
 use Rattle.h3_words.specs.declared.commands.CommandName.{CommandName}
 
--- the words that name the option
+-- the words that name the option: its short name after `-`, and its long name after `--`
 abbrev pub names_for : CommandOption → List Text
-names_for Cell = codes "-c" ∷ codes "--cell" ∷ []
-names_for Resolution = codes "-r" ∷ codes "--resolution" ∷ []
-names_for Radius = codes "-k" ∷ []
-names_for To = codes "--to" ∷ []
-names_for Position = codes "--position" ∷ []
-names_for Edge = codes "--edge" ∷ []
-names_for Table = codes "--table" ∷ []
+names_for o = filter_map (λ name. name) (
+    option_map (λ c. codes "-" ++ c ∷ []) (short_name o) ∷ option_map (λ n. codes "--" ++ n) (long_name o) ∷ [])
 
 -- not empty, and not beginning with `-` (45)
 abbrev pub IsPlainValue : Text → Type 0

@@ -1,5 +1,5 @@
 -- The commands, and the command line that is given to `clap`.
-use Rattle.std.specs.Prelude.{Bool, List, [], ◌∷◌, map, true, false, codes}
+use Rattle.std.specs.Prelude.{Bool, ℕ, ℤ, pos, List, [], ◌∷◌, Option, map, true, false, codes}
 use Rattle.std.specs.List.{list_any}
 use Rattle.std.specs.Str.{bytes_eq}
 use Rattle.clap.specs.Words.{App, Shape, Text}
@@ -10,100 +10,104 @@ use Rattle.h3_command.specs.declared.command.Command.TheVariants as command
 use Rattle.h3_words.specs.declared.options.CommandOption.{CommandOption}
 use Rattle.h3_words.specs.declared.options.CommandOption.TheVariants.{Cell, Resolution, Radius, To, Position, Edge, Table}
 use Rattle.h3_words.specs.declared.commands.CommandName.{CommandName}
-use Rattle.h3_words.specs.declared.commands.CommandName.TheVariants.{IsValidCell, GetResolution, GetBaseCellNumber, IsPentagon, IsResClassIII, GetNumCells, GetRes0Cells, GetPentagons, CellToParent, CellToCenterChild, CellToChildren, CellToChildrenSize, CellToChildPos, ChildPosToCell, CompactCells, UncompactCells, GridDiskUnsafe, GridDiskDistancesUnsafe, GridRingUnsafe, AreNeighborCells, CellsToDirectedEdge, IsValidDirectedEdge, GetDirectedEdgeOrigin, GetDirectedEdgeDestination, OriginToDirectedEdges}
+use Rattle.h3_words.specs.declared.commands.CommandName.TheVariants as name
 
 -- all names of commands
 abbrev pub command_names : List CommandName
 command_names =
-    IsValidCell ∷ GetResolution ∷ GetBaseCellNumber ∷ IsPentagon ∷ IsResClassIII ∷ GetNumCells ∷ GetRes0Cells ∷ GetPentagons ∷ CellToParent ∷ CellToCenterChild ∷ CellToChildren ∷ CellToChildrenSize ∷ CellToChildPos ∷ ChildPosToCell ∷ CompactCells ∷ UncompactCells ∷ GridDiskUnsafe ∷ GridDiskDistancesUnsafe ∷ GridRingUnsafe ∷ AreNeighborCells ∷ CellsToDirectedEdge ∷ IsValidDirectedEdge ∷ GetDirectedEdgeOrigin ∷ GetDirectedEdgeDestination ∷ OriginToDirectedEdges ∷ []
+    name.IsValidCell ∷ name.GetResolution ∷ name.GetBaseCellNumber ∷ name.IsPentagon ∷ name.IsResClassIII ∷
+    name.GetNumCells ∷ name.GetRes0Cells ∷ name.GetPentagons ∷ name.CellToParent ∷ name.CellToCenterChild ∷
+    name.CellToChildren ∷ name.CellToChildrenSize ∷ name.CellToChildPos ∷ name.ChildPosToCell ∷ name.CompactCells ∷
+    name.UncompactCells ∷ name.GridDiskUnsafe ∷ name.GridDiskDistancesUnsafe ∷ name.GridRingUnsafe ∷
+    name.AreNeighborCells ∷ name.CellsToDirectedEdge ∷ name.IsValidDirectedEdge ∷ name.GetDirectedEdgeOrigin ∷
+    name.GetDirectedEdgeDestination ∷ name.OriginToDirectedEdges ∷ []
+
+-- a command's word and its options
+pub record Entry : Type 0 where
+  pub word : Text
+  pub options : List CommandOption
+
+-- what stands in the command line for the command
+abbrev pub entry_of : CommandName → Entry
+entry_of name.IsValidCell = record { word = codes "isValidCell"; options = Cell ∷ [] }
+entry_of name.GetResolution = record { word = codes "getResolution"; options = Cell ∷ [] }
+entry_of name.GetBaseCellNumber = record { word = codes "getBaseCellNumber"; options = Cell ∷ [] }
+entry_of name.IsPentagon = record { word = codes "isPentagon"; options = Cell ∷ [] }
+entry_of name.IsResClassIII = record { word = codes "isResClassIII"; options = Cell ∷ [] }
+entry_of name.GetNumCells = record { word = codes "getNumCells"; options = Resolution ∷ [] }
+entry_of name.GetRes0Cells = record { word = codes "getRes0Cells"; options = [] }
+entry_of name.GetPentagons = record { word = codes "getPentagons"; options = Resolution ∷ [] }
+entry_of name.CellToParent = record { word = codes "cellToParent"; options = Cell ∷ Resolution ∷ [] }
+entry_of name.CellToCenterChild = record { word = codes "cellToCenterChild"; options = Cell ∷ Resolution ∷ [] }
+entry_of name.CellToChildren = record { word = codes "cellToChildren"; options = Cell ∷ Resolution ∷ [] }
+entry_of name.CellToChildrenSize = record { word = codes "cellToChildrenSize"; options = Cell ∷ Resolution ∷ [] }
+entry_of name.CellToChildPos = record { word = codes "cellToChildPos"; options = Cell ∷ Resolution ∷ [] }
+entry_of name.ChildPosToCell = record { word = codes "childPosToCell"; options = Position ∷ Cell ∷ Resolution ∷ [] }
+entry_of name.CompactCells = record { word = codes "compactCells"; options = [] }
+entry_of name.UncompactCells = record { word = codes "uncompactCells"; options = Resolution ∷ [] }
+entry_of name.GridDiskUnsafe = record { word = codes "gridDiskUnsafe"; options = Cell ∷ Radius ∷ Table ∷ [] }
+entry_of name.GridDiskDistancesUnsafe = record { word = codes "gridDiskDistancesUnsafe"; options = Cell ∷ Radius ∷ Table ∷ [] }
+entry_of name.GridRingUnsafe = record { word = codes "gridRingUnsafe"; options = Cell ∷ Radius ∷ Table ∷ [] }
+entry_of name.AreNeighborCells = record { word = codes "areNeighborCells"; options = Cell ∷ To ∷ Table ∷ [] }
+entry_of name.CellsToDirectedEdge = record { word = codes "cellsToDirectedEdge"; options = Cell ∷ To ∷ Table ∷ [] }
+entry_of name.IsValidDirectedEdge = record { word = codes "isValidDirectedEdge"; options = Edge ∷ [] }
+entry_of name.GetDirectedEdgeOrigin = record { word = codes "getDirectedEdgeOrigin"; options = Edge ∷ [] }
+entry_of name.GetDirectedEdgeDestination = record { word = codes "getDirectedEdgeDestination"; options = Edge ∷ Table ∷ [] }
+entry_of name.OriginToDirectedEdges = record { word = codes "originToDirectedEdges"; options = Cell ∷ [] }
 
 -- the word that names the command
 abbrev pub word_of : CommandName → Text
-word_of IsValidCell = codes "isValidCell"
-word_of GetResolution = codes "getResolution"
-word_of GetBaseCellNumber = codes "getBaseCellNumber"
-word_of IsPentagon = codes "isPentagon"
-word_of IsResClassIII = codes "isResClassIII"
-word_of GetNumCells = codes "getNumCells"
-word_of GetRes0Cells = codes "getRes0Cells"
-word_of GetPentagons = codes "getPentagons"
-word_of CellToParent = codes "cellToParent"
-word_of CellToCenterChild = codes "cellToCenterChild"
-word_of CellToChildren = codes "cellToChildren"
-word_of CellToChildrenSize = codes "cellToChildrenSize"
-word_of CellToChildPos = codes "cellToChildPos"
-word_of ChildPosToCell = codes "childPosToCell"
-word_of CompactCells = codes "compactCells"
-word_of UncompactCells = codes "uncompactCells"
-word_of GridDiskUnsafe = codes "gridDiskUnsafe"
-word_of GridDiskDistancesUnsafe = codes "gridDiskDistancesUnsafe"
-word_of GridRingUnsafe = codes "gridRingUnsafe"
-word_of AreNeighborCells = codes "areNeighborCells"
-word_of CellsToDirectedEdge = codes "cellsToDirectedEdge"
-word_of IsValidDirectedEdge = codes "isValidDirectedEdge"
-word_of GetDirectedEdgeOrigin = codes "getDirectedEdgeOrigin"
-word_of GetDirectedEdgeDestination = codes "getDirectedEdgeDestination"
-word_of OriginToDirectedEdges = codes "originToDirectedEdges"
+word_of k = (entry_of k).word
 
 -- the options that the command has
 abbrev pub options_of : CommandName → List CommandOption
-options_of IsValidCell = Cell ∷ []
-options_of GetResolution = Cell ∷ []
-options_of GetBaseCellNumber = Cell ∷ []
-options_of IsPentagon = Cell ∷ []
-options_of IsResClassIII = Cell ∷ []
-options_of GetNumCells = Resolution ∷ []
-options_of GetRes0Cells = []
-options_of GetPentagons = Resolution ∷ []
-options_of CellToParent = Cell ∷ Resolution ∷ []
-options_of CellToCenterChild = Cell ∷ Resolution ∷ []
-options_of CellToChildren = Cell ∷ Resolution ∷ []
-options_of CellToChildrenSize = Cell ∷ Resolution ∷ []
-options_of CellToChildPos = Cell ∷ Resolution ∷ []
-options_of ChildPosToCell = Position ∷ Cell ∷ Resolution ∷ []
-options_of CompactCells = []
-options_of UncompactCells = Resolution ∷ []
-options_of GridDiskUnsafe = Cell ∷ Radius ∷ Table ∷ []
-options_of GridDiskDistancesUnsafe = Cell ∷ Radius ∷ Table ∷ []
-options_of GridRingUnsafe = Cell ∷ Radius ∷ Table ∷ []
-options_of AreNeighborCells = Cell ∷ To ∷ Table ∷ []
-options_of CellsToDirectedEdge = Cell ∷ To ∷ Table ∷ []
-options_of IsValidDirectedEdge = Edge ∷ []
-options_of GetDirectedEdgeOrigin = Edge ∷ []
-options_of GetDirectedEdgeDestination = Edge ∷ Table ∷ []
-options_of OriginToDirectedEdges = Cell ∷ []
+options_of k = (entry_of k).options
 
 -- the command has the option; options are compared by their ids
 abbrev pub has_option : CommandName → CommandOption → Bool
 has_option k o = list_any (λ x. bytes_eq (id_of x) (id_of o)) (options_of k)
 
--- the name of a command with its values
+-- the value that a command has for an option: an index, or none, or a number
+pub data Value : Type 0 where
+  Index : CommandOption → Option ℕ → Value
+  Number : CommandOption → ℤ → Value
+
+-- a command's name, and the values that it has for its options
+abbrev pub call_of : Command → CommandName × List Value
+call_of (command.IsValidCell cell) = (name.IsValidCell, Index Cell cell ∷ [])
+call_of (command.GetResolution cell) = (name.GetResolution, Index Cell cell ∷ [])
+call_of (command.GetBaseCellNumber cell) = (name.GetBaseCellNumber, Index Cell cell ∷ [])
+call_of (command.IsPentagon cell) = (name.IsPentagon, Index Cell cell ∷ [])
+call_of (command.IsResClassIII cell) = (name.IsResClassIII, Index Cell cell ∷ [])
+call_of (command.GetNumCells res) = (name.GetNumCells, Number Resolution res ∷ [])
+call_of command.GetRes0Cells = (name.GetRes0Cells, [])
+call_of (command.GetPentagons res) = (name.GetPentagons, Number Resolution res ∷ [])
+call_of (command.CellToParent cell res) = (name.CellToParent, Index Cell cell ∷ Number Resolution res ∷ [])
+call_of (command.CellToCenterChild cell res) = (name.CellToCenterChild, Index Cell cell ∷ Number Resolution res ∷ [])
+call_of (command.CellToChildren cell res) = (name.CellToChildren, Index Cell cell ∷ Number Resolution res ∷ [])
+call_of (command.CellToChildrenSize cell res) = (name.CellToChildrenSize, Index Cell cell ∷ Number Resolution res ∷ [])
+call_of (command.CellToChildPos cell res) = (name.CellToChildPos, Index Cell cell ∷ Number Resolution res ∷ [])
+call_of (command.ChildPosToCell position cell res) =
+    (name.ChildPosToCell, Number Position (pos position) ∷ Index Cell cell ∷ Number Resolution res ∷ [])
+call_of command.CompactCells = (name.CompactCells, [])
+call_of (command.UncompactCells res) = (name.UncompactCells, Number Resolution res ∷ [])
+call_of (command.GridDiskUnsafe cell k) = (name.GridDiskUnsafe, Index Cell cell ∷ Number Radius k ∷ [])
+call_of (command.GridDiskDistancesUnsafe cell k) = (name.GridDiskDistancesUnsafe, Index Cell cell ∷ Number Radius k ∷ [])
+call_of (command.GridRingUnsafe cell k) = (name.GridRingUnsafe, Index Cell cell ∷ Number Radius k ∷ [])
+call_of (command.AreNeighborCells cell to) = (name.AreNeighborCells, Index Cell cell ∷ Index To to ∷ [])
+call_of (command.CellsToDirectedEdge cell to) = (name.CellsToDirectedEdge, Index Cell cell ∷ Index To to ∷ [])
+call_of (command.IsValidDirectedEdge edge) = (name.IsValidDirectedEdge, Index Edge edge ∷ [])
+call_of (command.GetDirectedEdgeOrigin edge) = (name.GetDirectedEdgeOrigin, Index Edge edge ∷ [])
+call_of (command.GetDirectedEdgeDestination edge) = (name.GetDirectedEdgeDestination, Index Edge edge ∷ [])
+call_of (command.OriginToDirectedEdges cell) = (name.OriginToDirectedEdges, Index Cell cell ∷ [])
+
+-- the name of a command
 abbrev pub name_of_command : Command → CommandName
-name_of_command (command.IsValidCell cell) = IsValidCell
-name_of_command (command.GetResolution cell) = GetResolution
-name_of_command (command.GetBaseCellNumber cell) = GetBaseCellNumber
-name_of_command (command.IsPentagon cell) = IsPentagon
-name_of_command (command.IsResClassIII cell) = IsResClassIII
-name_of_command (command.GetNumCells res) = GetNumCells
-name_of_command command.GetRes0Cells = GetRes0Cells
-name_of_command (command.GetPentagons res) = GetPentagons
-name_of_command (command.CellToParent cell res) = CellToParent
-name_of_command (command.CellToCenterChild cell res) = CellToCenterChild
-name_of_command (command.CellToChildren cell res) = CellToChildren
-name_of_command (command.CellToChildrenSize cell res) = CellToChildrenSize
-name_of_command (command.CellToChildPos cell res) = CellToChildPos
-name_of_command (command.ChildPosToCell position cell res) = ChildPosToCell
-name_of_command command.CompactCells = CompactCells
-name_of_command (command.UncompactCells res) = UncompactCells
-name_of_command (command.GridDiskUnsafe cell k) = GridDiskUnsafe
-name_of_command (command.GridDiskDistancesUnsafe cell k) = GridDiskDistancesUnsafe
-name_of_command (command.GridRingUnsafe cell k) = GridRingUnsafe
-name_of_command (command.AreNeighborCells cell to) = AreNeighborCells
-name_of_command (command.CellsToDirectedEdge cell to) = CellsToDirectedEdge
-name_of_command (command.IsValidDirectedEdge edge) = IsValidDirectedEdge
-name_of_command (command.GetDirectedEdgeOrigin edge) = GetDirectedEdgeOrigin
-name_of_command (command.GetDirectedEdgeDestination edge) = GetDirectedEdgeDestination
-name_of_command (command.OriginToDirectedEdges cell) = OriginToDirectedEdges
+name_of_command c = (call_of c).0
+
+-- the values that a command has for its options
+abbrev pub values_of_command : Command → List Value
+values_of_command c = (call_of c).1
 
 -- a command of this name that has these options
 abbrev pub leaf_with : Text → List CommandOption → Shape

@@ -1,18 +1,18 @@
 -- The command and the values that the words of a command line parse as.
-use Rattle.std.specs.Prelude.{Contains, ⊤, ◌≡◌, ℕ, ℤ, pos, List, Option, Some, None, drop, option_map, slice_get, string_bytes, false, MatchBool}
+use Rattle.std.specs.Prelude.{All, Contains, ◌≡◌, ℕ, ℤ, pos, List, Option, Some, None, drop, option_map, slice_get, string_bytes, false, MatchBool}
 use Rattle.std.specs.Str.Parse.{signed_digits_value}
 use Rattle.clap.specs.Words.{Accepts, Text, first_value}
 use Rattle.clap.specs.declared.parser.matches.Found.{Found}
 use Rattle.h3_index.specs.Text.{parsed_index}
 use Rattle.h3_words.specs.Options.{IsUpTo, id_of, number_up_to, parser_done}
-use Rattle.h3_words.specs.Commands.{has_option, name_of_command, options_of, word_of}
+use Rattle.h3_words.specs.Commands.{Index, Number, Value, has_option, name_of_command, options_of, values_of_command, word_of}
 use Rattle.h3_words.specs.Given.{given}
 use Rattle.h3_words.specs.declared.options.CommandOption.{CommandOption}
 use Rattle.h3_words.specs.declared.options.CommandOption.TheVariants.{Cell, Resolution, Radius, To, Position, Edge, Table}
 use Rattle.h3_words.specs.declared.commands.CommandName.{CommandName}
+use Rattle.h3_words.specs.declared.commands.Values.{Values}
 use Rattle.h3_words.specs.declared.words.Words.{Words}
 use Rattle.h3_command.specs.declared.command.Command.{Command}
-use Rattle.h3_command.specs.declared.command.Command.TheVariants.{IsValidCell, GetResolution, GetBaseCellNumber, IsPentagon, IsResClassIII, GetNumCells, GetRes0Cells, GetPentagons, CellToParent, CellToCenterChild, CellToChildren, CellToChildrenSize, CellToChildPos, ChildPosToCell, CompactCells, UncompactCells, GridDiskUnsafe, GridDiskDistancesUnsafe, GridRingUnsafe, AreNeighborCells, CellsToDirectedEdge, IsValidDirectedEdge, GetDirectedEdgeOrigin, GetDirectedEdgeDestination, OriginToDirectedEdges}
 
 -- there is a text, and this is the index that it parses as, or none where it parses as none
 abbrev pub IsIndex : Option Text → Option ℕ → Type 0
@@ -25,33 +25,24 @@ abbrev pub IsNumber : CommandOption → Option Text → ℤ → Type 0
 IsNumber o None number = ⊥
 IsNumber o (Some text) number = IsUpTo (number_up_to o) text × (number ≡ signed_digits_value 10 text)
 
--- the command has for each of its options the value that the option's text parses as
+-- the value is what the option's text parses as
+abbrev pub IsValue : (CommandOption → Option Text) → Value → Type 0
+IsValue text (Index o value) = IsIndex (text o) value
+IsValue text (Number o value) = IsNumber o (text o) value
+
+-- each value that the command has for an option is what the option's text parses as
 abbrev pub HasValues : (CommandOption → Option Text) → Command → Type 0
-HasValues text (IsValidCell cell) = IsIndex (text Cell) cell
-HasValues text (GetResolution cell) = IsIndex (text Cell) cell
-HasValues text (GetBaseCellNumber cell) = IsIndex (text Cell) cell
-HasValues text (IsPentagon cell) = IsIndex (text Cell) cell
-HasValues text (IsResClassIII cell) = IsIndex (text Cell) cell
-HasValues text (GetNumCells res) = IsNumber Resolution (text Resolution) res
-HasValues text GetRes0Cells = ⊤
-HasValues text (GetPentagons res) = IsNumber Resolution (text Resolution) res
-HasValues text (CellToParent cell res) = IsIndex (text Cell) cell × IsNumber Resolution (text Resolution) res
-HasValues text (CellToCenterChild cell res) = IsIndex (text Cell) cell × IsNumber Resolution (text Resolution) res
-HasValues text (CellToChildren cell res) = IsIndex (text Cell) cell × IsNumber Resolution (text Resolution) res
-HasValues text (CellToChildrenSize cell res) = IsIndex (text Cell) cell × IsNumber Resolution (text Resolution) res
-HasValues text (CellToChildPos cell res) = IsIndex (text Cell) cell × IsNumber Resolution (text Resolution) res
-HasValues text (ChildPosToCell position cell res) = IsNumber Position (text Position) (pos position) × IsIndex (text Cell) cell × IsNumber Resolution (text Resolution) res
-HasValues text CompactCells = ⊤
-HasValues text (UncompactCells res) = IsNumber Resolution (text Resolution) res
-HasValues text (GridDiskUnsafe cell k) = IsIndex (text Cell) cell × IsNumber Radius (text Radius) k
-HasValues text (GridDiskDistancesUnsafe cell k) = IsIndex (text Cell) cell × IsNumber Radius (text Radius) k
-HasValues text (GridRingUnsafe cell k) = IsIndex (text Cell) cell × IsNumber Radius (text Radius) k
-HasValues text (AreNeighborCells cell to) = IsIndex (text Cell) cell × IsIndex (text To) to
-HasValues text (CellsToDirectedEdge cell to) = IsIndex (text Cell) cell × IsIndex (text To) to
-HasValues text (IsValidDirectedEdge edge) = IsIndex (text Edge) edge
-HasValues text (GetDirectedEdgeOrigin edge) = IsIndex (text Edge) edge
-HasValues text (GetDirectedEdgeDestination edge) = IsIndex (text Edge) edge
-HasValues text (OriginToDirectedEdges cell) = IsIndex (text Cell) cell
+HasValues text c = All (IsValue text) (values_of_command c)
+
+-- the value that is read for the option; none for the path of a table. Private contracts and proofs alone cite it.
+abbrev pub value_in : Values → CommandOption → Option Value
+value_in values Cell = Some (Index Cell values.cell)
+value_in values Resolution = Some (Number Resolution values.res)
+value_in values Radius = Some (Number Radius values.k)
+value_in values To = Some (Index To values.to)
+value_in values Position = Some (Number Position (pos values.position))
+value_in values Edge = Some (Index Edge values.edge)
+value_in values Table = None
 
 -- there is a text, and this is it
 abbrev pub IsText : Option Text → Option Text → Type 0

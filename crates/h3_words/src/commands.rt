@@ -1,14 +1,14 @@
 //! The names of the commands, and the command line that `clap` parses.
 
-ghost use Rattle.std.specs.Prelude.{◌≡◌, Option, IfOk, find, false, option_map, string_bytes};
+ghost use Rattle.std.specs.Prelude.{◌≡◌, Option, IfOk, find, false, filter_map, option_map, string_bytes};
 ghost use Rattle.std.specs.Str.{bytes_eq};
 ghost use Rattle.clap.specs.Words.{Text, app_of, found_of, shape_of};
 ghost use Rattle.clap.specs.declared.builder.command.Command.TheViews.{out-Command};
-ghost use Rattle.h3_words.specs.Commands.{app, command_names, has_option, name_of_command, options_of, shape_for, word_of};
-ghost use Rattle.h3_words.specs.Values.{AreFound, HasTable, HasValues};
+ghost use Rattle.h3_words.specs.Commands.{app, command_names, has_option, name_of_command, options_of, shape_for, values_of_command, word_of};
+ghost use Rattle.h3_words.specs.Values.{AreFound, HasTable, HasValues, value_in};
 ghost use Rattle.h3_words.specs.declared.options.CommandOption.{CommandOption};
 
-use crate::options::CommandOption;
+use crate::options::CommandOption::{self, Cell, Edge, Position, Radius, Resolution, Table, To};
 use clap::{ArgMatches, Command as Parser};
 use h3_command::Command;
 use std::alloc::{AllocError, Global};
@@ -71,68 +71,177 @@ static COMMAND_NAMES: [CommandName; 25] = [
     CommandName::OriginToDirectedEdges,
 ];
 
-static NO_OPTIONS: [CommandOption; 0] = [];
+/// What stands in the command line for a command.
+#[derive(Drop)]
+struct Entry {
+    /// The word that names the command.
+    word: &'static str,
 
-static CELL: [CommandOption; 1] = [CommandOption::Cell];
+    /// The options that the command has.
+    options: &'static [CommandOption],
 
-static RESOLUTION: [CommandOption; 1] = [CommandOption::Resolution];
+    /// What help says of the command.
+    about: &'static str,
+}
 
-static CELL_RESOLUTION: [CommandOption; 2] = [CommandOption::Cell, CommandOption::Resolution];
-
-static POSITION_CELL_RESOLUTION: [CommandOption; 3] = [
-    CommandOption::Position,
-    CommandOption::Cell,
-    CommandOption::Resolution,
-];
-
-static CELL_RADIUS_TABLE: [CommandOption; 3] = [
-    CommandOption::Cell,
-    CommandOption::Radius,
-    CommandOption::Table,
-];
-
-static CELL_TO_TABLE: [CommandOption; 3] = [
-    CommandOption::Cell,
-    CommandOption::To,
-    CommandOption::Table,
-];
-
-static EDGE: [CommandOption; 1] = [CommandOption::Edge];
-
-static EDGE_TABLE: [CommandOption; 2] = [CommandOption::Edge, CommandOption::Table];
+/// What the options' texts parse as. An option that the command does not have has no text: its
+/// value here, `None` or 0, is not used.
+struct Values {
+    cell: Option<u64>,
+    to: Option<u64>,
+    edge: Option<u64>,
+    res: i32,
+    k: i32,
+    position: u64,
+}
 
 impl CommandName {
+    /// What stands in the command line for the command.
+    fn entry(self) -> Entry
+        ensures word { result.word.now ≡ word_of self }
+        ensures options { result.options.now ≡ options_of self }
+    {
+        match self {
+            CommandName::IsValidCell => Entry {
+                word: "isValidCell",
+                options: &[Cell],
+                about: "Whether an index is a valid cell",
+            },
+            CommandName::GetResolution => Entry {
+                word: "getResolution",
+                options: &[Cell],
+                about: "The resolution of a cell",
+            },
+            CommandName::GetBaseCellNumber => Entry {
+                word: "getBaseCellNumber",
+                options: &[Cell],
+                about: "The base cell of a cell",
+            },
+            CommandName::IsPentagon => Entry {
+                word: "isPentagon",
+                options: &[Cell],
+                about: "Whether a cell is a pentagon",
+            },
+            CommandName::IsResClassIII => Entry {
+                word: "isResClassIII",
+                options: &[Cell],
+                about: "Whether the resolution of a cell is Class III",
+            },
+            CommandName::GetNumCells => Entry {
+                word: "getNumCells",
+                options: &[Resolution],
+                about: "How many cells a resolution has",
+            },
+            CommandName::GetRes0Cells => Entry {
+                word: "getRes0Cells",
+                options: &[],
+                about: "The 122 cells of resolution 0",
+            },
+            CommandName::GetPentagons => Entry {
+                word: "getPentagons",
+                options: &[Resolution],
+                about: "The twelve pentagons of a resolution",
+            },
+            CommandName::CellToParent => Entry {
+                word: "cellToParent",
+                options: &[Cell, Resolution],
+                about: "The ancestor of a cell at a resolution",
+            },
+            CommandName::CellToCenterChild => Entry {
+                word: "cellToCenterChild",
+                options: &[Cell, Resolution],
+                about: "The center descendant of a cell at a resolution",
+            },
+            CommandName::CellToChildren => Entry {
+                word: "cellToChildren",
+                options: &[Cell, Resolution],
+                about: "The descendants of a cell at a resolution, ascending",
+            },
+            CommandName::CellToChildrenSize => Entry {
+                word: "cellToChildrenSize",
+                options: &[Cell, Resolution],
+                about: "How many descendants a cell has at a resolution",
+            },
+            CommandName::CellToChildPos => Entry {
+                word: "cellToChildPos",
+                options: &[Cell, Resolution],
+                about: "The position of a cell among the descendants of its ancestor at a resolution",
+            },
+            CommandName::ChildPosToCell => Entry {
+                word: "childPosToCell",
+                options: &[Position, Cell, Resolution],
+                about: "The descendant of a cell that stands at a position among those of a resolution",
+            },
+            CommandName::CompactCells => Entry {
+                word: "compactCells",
+                options: &[],
+                about: "The compacted list of the cells, of any resolutions, on standard input; error 10 where two overlap",
+            },
+            CommandName::UncompactCells => Entry {
+                word: "uncompactCells",
+                options: &[Resolution],
+                about: "The descendants at a resolution of each cell listed on standard input",
+            },
+            CommandName::GridDiskUnsafe => Entry {
+                word: "gridDiskUnsafe",
+                options: &[Cell, Radius, Table],
+                about: "The cells within a radius of a cell, ring by ring",
+            },
+            CommandName::GridDiskDistancesUnsafe => Entry {
+                word: "gridDiskDistancesUnsafe",
+                options: &[Cell, Radius, Table],
+                about: "The cells within a radius of a cell, each with the number of its ring",
+            },
+            CommandName::GridRingUnsafe => Entry {
+                word: "gridRingUnsafe",
+                options: &[Cell, Radius, Table],
+                about: "The cells of the ring of a radius around a cell",
+            },
+            CommandName::AreNeighborCells => Entry {
+                word: "areNeighborCells",
+                options: &[Cell, To, Table],
+                about: "Whether two cells are neighbors",
+            },
+            CommandName::CellsToDirectedEdge => Entry {
+                word: "cellsToDirectedEdge",
+                options: &[Cell, To, Table],
+                about: "The directed edge from a cell to its neighbor",
+            },
+            CommandName::IsValidDirectedEdge => Entry {
+                word: "isValidDirectedEdge",
+                options: &[Edge],
+                about: "Whether an index is a valid directed edge",
+            },
+            CommandName::GetDirectedEdgeOrigin => Entry {
+                word: "getDirectedEdgeOrigin",
+                options: &[Edge],
+                about: "The cell that a directed edge leaves",
+            },
+            CommandName::GetDirectedEdgeDestination => Entry {
+                word: "getDirectedEdgeDestination",
+                options: &[Edge, Table],
+                about: "The cell that a directed edge leads to",
+            },
+            CommandName::OriginToDirectedEdges => Entry {
+                word: "originToDirectedEdges",
+                options: &[Cell],
+                about: "The directed edges that leave a cell",
+            },
+        }
+    }
+
     /// The word that names the command.
     pub fn word<'a>(self) -> &'a str
         ensures { result.now ≡ word_of self }
     {
-        match self {
-            CommandName::IsValidCell => "isValidCell",
-            CommandName::GetResolution => "getResolution",
-            CommandName::GetBaseCellNumber => "getBaseCellNumber",
-            CommandName::IsPentagon => "isPentagon",
-            CommandName::IsResClassIII => "isResClassIII",
-            CommandName::GetNumCells => "getNumCells",
-            CommandName::GetRes0Cells => "getRes0Cells",
-            CommandName::GetPentagons => "getPentagons",
-            CommandName::CellToParent => "cellToParent",
-            CommandName::CellToCenterChild => "cellToCenterChild",
-            CommandName::CellToChildren => "cellToChildren",
-            CommandName::CellToChildrenSize => "cellToChildrenSize",
-            CommandName::CellToChildPos => "cellToChildPos",
-            CommandName::ChildPosToCell => "childPosToCell",
-            CommandName::CompactCells => "compactCells",
-            CommandName::UncompactCells => "uncompactCells",
-            CommandName::GridDiskUnsafe => "gridDiskUnsafe",
-            CommandName::GridDiskDistancesUnsafe => "gridDiskDistancesUnsafe",
-            CommandName::GridRingUnsafe => "gridRingUnsafe",
-            CommandName::AreNeighborCells => "areNeighborCells",
-            CommandName::CellsToDirectedEdge => "cellsToDirectedEdge",
-            CommandName::IsValidDirectedEdge => "isValidDirectedEdge",
-            CommandName::GetDirectedEdgeOrigin => "getDirectedEdgeOrigin",
-            CommandName::GetDirectedEdgeDestination => "getDirectedEdgeDestination",
-            CommandName::OriginToDirectedEdges => "originToDirectedEdges",
-        }
+        self.entry().word
+    }
+
+    /// The options that the command has.
+    pub fn options(self) -> &'static [CommandOption]
+        ensures { result.now ≡ options_of self }
+    {
+        self.entry().options
     }
 
     /// The command that the word names.
@@ -145,78 +254,9 @@ impl CommandName {
             .find(|name| name.word() == word)
     }
 
-    /// The options that the command has.
-    pub fn options(self) -> &'static [CommandOption]
-        ensures { result.now ≡ options_of self }
-    {
-        match self {
-            CommandName::IsValidCell => CELL.as_slice(),
-            CommandName::GetResolution => CELL.as_slice(),
-            CommandName::GetBaseCellNumber => CELL.as_slice(),
-            CommandName::IsPentagon => CELL.as_slice(),
-            CommandName::IsResClassIII => CELL.as_slice(),
-            CommandName::GetNumCells => RESOLUTION.as_slice(),
-            CommandName::GetRes0Cells => NO_OPTIONS.as_slice(),
-            CommandName::GetPentagons => RESOLUTION.as_slice(),
-            CommandName::CellToParent => CELL_RESOLUTION.as_slice(),
-            CommandName::CellToCenterChild => CELL_RESOLUTION.as_slice(),
-            CommandName::CellToChildren => CELL_RESOLUTION.as_slice(),
-            CommandName::CellToChildrenSize => CELL_RESOLUTION.as_slice(),
-            CommandName::CellToChildPos => CELL_RESOLUTION.as_slice(),
-            CommandName::ChildPosToCell => POSITION_CELL_RESOLUTION.as_slice(),
-            CommandName::CompactCells => NO_OPTIONS.as_slice(),
-            CommandName::UncompactCells => RESOLUTION.as_slice(),
-            CommandName::GridDiskUnsafe => CELL_RADIUS_TABLE.as_slice(),
-            CommandName::GridDiskDistancesUnsafe => CELL_RADIUS_TABLE.as_slice(),
-            CommandName::GridRingUnsafe => CELL_RADIUS_TABLE.as_slice(),
-            CommandName::AreNeighborCells => CELL_TO_TABLE.as_slice(),
-            CommandName::CellsToDirectedEdge => CELL_TO_TABLE.as_slice(),
-            CommandName::IsValidDirectedEdge => EDGE.as_slice(),
-            CommandName::GetDirectedEdgeOrigin => EDGE.as_slice(),
-            CommandName::GetDirectedEdgeDestination => EDGE_TABLE.as_slice(),
-            CommandName::OriginToDirectedEdges => CELL.as_slice(),
-        }
-    }
-
     /// What help says of the command.
     fn about<'a>(self) -> &'a str {
-        match self {
-            Self::IsValidCell => "Whether an index is a valid cell",
-            Self::GetResolution => "The resolution of a cell",
-            Self::GetBaseCellNumber => "The base cell of a cell",
-            Self::IsPentagon => "Whether a cell is a pentagon",
-            Self::IsResClassIII => "Whether the resolution of a cell is Class III",
-            Self::GetNumCells => "How many cells a resolution has",
-            Self::GetRes0Cells => "The 122 cells of resolution 0",
-            Self::GetPentagons => "The twelve pentagons of a resolution",
-            Self::CellToParent => "The ancestor of a cell at a resolution",
-            Self::CellToCenterChild => "The center descendant of a cell at a resolution",
-            Self::CellToChildren => "The descendants of a cell at a resolution, ascending",
-            Self::CellToChildrenSize => "How many descendants a cell has at a resolution",
-            Self::CellToChildPos => {
-                "The position of a cell among the descendants of its ancestor at a resolution"
-            }
-            Self::ChildPosToCell => {
-                "The descendant of a cell that stands at a position among those of a resolution"
-            }
-            Self::CompactCells => {
-                "The compacted list of the cells, of any resolutions, on standard input; error 10 where two overlap"
-            }
-            Self::UncompactCells => {
-                "The descendants at a resolution of each cell listed on standard input"
-            }
-            Self::GridDiskUnsafe => "The cells within a radius of a cell, ring by ring",
-            Self::GridDiskDistancesUnsafe => {
-                "The cells within a radius of a cell, each with the number of its ring"
-            }
-            Self::GridRingUnsafe => "The cells of the ring of a radius around a cell",
-            Self::AreNeighborCells => "Whether two cells are neighbors",
-            Self::CellsToDirectedEdge => "The directed edge from a cell to its neighbor",
-            Self::IsValidDirectedEdge => "Whether an index is a valid directed edge",
-            Self::GetDirectedEdgeOrigin => "The cell that a directed edge leaves",
-            Self::GetDirectedEdgeDestination => "The cell that a directed edge leads to",
-            Self::OriginToDirectedEdges => "The directed edges that leave a cell",
-        }
+        self.entry().about
     }
 
     /// The command as `clap` takes it.
@@ -231,19 +271,35 @@ impl CommandName {
         Ok(parser)
     }
 
-    /// The command with the values that a parse found. An option that the command does not have has no
-    /// text: what is read for it, `None` or 0, is not used.
+    /// The command with the values that a parse found.
     pub fn command(self, matches: &ArgMatches<'_>) -> Command
         ensures named { name_of_command result ≡ self }
-        ensures values { (text : CommandOption → Option Text) → AreFound self text (found_of matches.now)
-            → HasValues text result }
+        ensures values { (text : CommandOption → Option Text)
+            → AreFound self text (found_of matches.now) → HasValues text result }
     {
-        let cell = CommandOption::Cell.index(matches);
-        let to = CommandOption::To.index(matches);
-        let edge = CommandOption::Edge.index(matches);
-        let res = CommandOption::Resolution.whole(matches);
-        let k = CommandOption::Radius.whole(matches);
-        let position = CommandOption::Position.position(matches);
+        self.with_values(Values {
+            cell: Cell.index(matches),
+            to: To.index(matches),
+            edge: Edge.index(matches),
+            res: Resolution.number(matches) as i32,
+            k: Radius.number(matches) as i32,
+            position: Position.number(matches) as u64,
+        })
+    }
+
+    /// The command with these values.
+    fn with_values(self, values: Values) -> Command
+        ensures named { name_of_command result ≡ self }
+        ensures values { values_of_command result ≡ filter_map (value_in values) (options_of self) }
+    {
+        let Values {
+            cell,
+            to,
+            edge,
+            res,
+            k,
+            position,
+        } = values;
         match self {
             CommandName::IsValidCell => Command::IsValidCell { cell },
             CommandName::GetResolution => Command::GetResolution { cell },
@@ -296,10 +352,10 @@ impl CommandName {
             AreFound self text (found_of matches.now)
             → HasTable text self (option_map string_bytes path)) }
     {
-        if !self.has_option(CommandOption::Table) {
+        if !self.has_option(Table) {
             return Ok(None);
         }
-        match matches.get_str(CommandOption::Table.id()) {
+        match matches.get_str(Table.id()) {
             Some(path) => Ok(Some(String::from_str(alloc, path)?)),
             None => Ok(None),
         }

@@ -1,23 +1,14 @@
 //! The options of the commands.
 
-ghost use Rattle.std.specs.Prelude.{◌≡◌, Some, false, pos};
+ghost use Rattle.std.specs.Prelude.{◌≡◌, ◌≤ℤ◌, ℤ, Some, false, pos, unwrap_or};
 ghost use Rattle.std.specs.Str.Parse.{signed_digits_value};
 ghost use Rattle.clap.specs.Words.{IsSignedIn, Text, first_value, found_of, rule_of};
 ghost use Rattle.h3_index.specs.Text.{parsed_index};
-ghost use Rattle.h3_words.specs.Options.{id_of, rule_for};
+ghost use Rattle.h3_words.specs.Options.{id_of, named_rule, number_up_to, rule_for};
 
 use clap::{Arg, ArgMatches, value_parser};
 use h3_index::read_index;
 use std::alloc::Global;
-
-/// The largest number that `-r` takes; which of them are resolutions, the command decides.
-const MOST_RESOLUTION: i64 = 2147483647;
-
-/// The largest number that `-k` takes.
-const MOST_RADIUS: i64 = 2147483647;
-
-/// The largest position that `--position` takes.
-const MOST_POSITION: i64 = 9223372036854775807;
 
 /// An option of a command.
 #[derive(Clone, Copy)]
@@ -73,25 +64,34 @@ impl CommandOption {
         }
     }
 
-    /// The option as `clap` takes it, but for what help says.
-    fn bare_argument<'a>(self, alloc: Global) -> Arg<'a>
-        ensures rule { rule_of result ≡ rule_for self }
+    /// The most that a number of the option may be; `None` where its value is any text. Which
+    /// numbers are resolutions, the command decides.
+    fn most(self) -> Option<i64>
+        ensures { result ≡ number_up_to self }
+    {
+        match self {
+            CommandOption::Resolution => Some(i64::from(i32::MAX)),
+            CommandOption::Radius => Some(i64::from(i32::MAX)),
+            CommandOption::Position => Some(i64::MAX),
+            CommandOption::Cell => None,
+            CommandOption::To => None,
+            CommandOption::Edge => None,
+            CommandOption::Table => None,
+        }
+    }
+
+    /// The option with its names, as `clap` takes it.
+    fn named<'a>(self, alloc: Global) -> Arg<'a>
+        ensures rule { rule_of result ≡ named_rule self }
         ensures local { result.global ≡ false }
     {
         let argument = Arg::new(alloc, self.id()).required(true);
         match self {
             CommandOption::Cell => argument.short('c').long("cell"),
-            CommandOption::Resolution => argument
-                .short('r')
-                .long("resolution")
-                .value_parser(value_parser!(i64).range(0..=MOST_RESOLUTION)),
-            CommandOption::Radius => argument
-                .short('k')
-                .value_parser(value_parser!(i64).range(0..=MOST_RADIUS)),
+            CommandOption::Resolution => argument.short('r').long("resolution"),
+            CommandOption::Radius => argument.short('k'),
             CommandOption::To => argument.long("to"),
-            CommandOption::Position => argument
-                .long("position")
-                .value_parser(value_parser!(i64).range(0..=MOST_POSITION)),
+            CommandOption::Position => argument.long("position"),
             CommandOption::Edge => argument.long("edge"),
             CommandOption::Table => argument.long("table"),
         }
@@ -102,7 +102,11 @@ impl CommandOption {
         ensures rule { rule_of result ≡ rule_for self }
         ensures local { result.global ≡ false }
     {
-        self.bare_argument(alloc).help(self.about())
+        let argument = self.named(alloc).help(self.about());
+        match self.most() {
+            Some(most) => argument.value_parser(value_parser!(i64).range(0..=most)),
+            None => argument,
+        }
     }
 
     /// The index that the option's text parses as.
@@ -113,24 +117,17 @@ impl CommandOption {
         read_index(matches.get_str(self.id())?.as_bytes()).ok()
     }
 
-    /// The whole number from 0 to `i32::MAX` that the option's text parses as.
-    pub fn whole(self, matches: &ArgMatches<'_>) -> i32
-        ensures { (text : Text) → first_value (found_of matches.now) (id_of self) ≡ Some text
-            → IsSignedIn (pos 0) i32.MAX text → result ≡ signed_digits_value 10 text }
+    /// The whole number, from 0 to the option's most, that the option's text parses as.
+    pub fn number(self, matches: &ArgMatches<'_>) -> i64
+        ensures within { (pos 0 ≤ℤ result) × (result ≤ℤ unwrap_or (number_up_to self) (pos 0)) }
+        ensures read { (text : Text) (most : ℤ)
+            → first_value (found_of matches.now) (id_of self) ≡ Some text
+            → number_up_to self ≡ Some most → IsSignedIn (pos 0) most text
+            → result ≡ signed_digits_value 10 text }
     {
+        let most = self.most().unwrap_or(0);
         match matches.get_str(self.id()) {
-            Some(text) => text.parse().unwrap_or(0),
-            None => 0,
-        }
-    }
-
-    /// The whole number from 0 to `i64::MAX` that the option's text parses as.
-    pub fn position(self, matches: &ArgMatches<'_>) -> u64
-        ensures { (text : Text) → first_value (found_of matches.now) (id_of self) ≡ Some text
-            → IsSignedIn (pos 0) i64.MAX text → pos result ≡ signed_digits_value 10 text }
-    {
-        match matches.get_str(self.id()) {
-            Some(text) => text.parse::<i64>().unwrap_or(0).unsigned_abs(),
+            Some(text) => text.parse::<i64>().unwrap_or(0).clamp(0, most),
             None => 0,
         }
     }

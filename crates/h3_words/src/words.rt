@@ -70,7 +70,8 @@ impl WordsFault {
 pub fn read_words(alloc: Global, words: Vec<String>) -> Result<Words, WordsFault>
     ensures read { IfOk result (AsksFor (map string_bytes words.items)) }
     ensures accepted { OnOk result (fault_of app (map string_bytes words.items) ≡ []) }
-    ensures taken { IsPlainCall (map string_bytes words.items) → IfErr result (λ fault. fault ≡ WordsFault.Memory) }
+    ensures taken { IsPlainCall (map string_bytes words.items)
+        → IfErr result (λ fault. fault ≡ WordsFault.Memory) }
     ensures faults { IfErr result (IsFaultOf (fault_of app (map string_bytes words.items))) }
 {
     let parser = command_line(alloc)?;

@@ -1,5 +1,6 @@
-//! Each disk of radius 1 or 2 around a cell of resolution 1 of which no step is refused: steps between its cells lead
-//! where the places of the spiral say, and its cells are those that as many rounds of steps reach.
+//! Each disk of radius 1 or 2 around a cell of resolution 1 of which no step is refused: steps
+//! between its cells lead where the places of the spiral say, and its cells are those that as many
+//! rounds of steps reach.
 
 use super::test_table;
 use crate::{Disk, step};
@@ -10,7 +11,8 @@ use std::alloc::Global;
 use std::process::Abort;
 use std::test::Fail;
 
-/// The moves of a disk of radius 2, and whether each writes a cell. The first seven are those of radius 1.
+/// The moves of a disk of radius 2, and whether each writes a cell. The first seven are those of
+/// radius 1.
 const MOVES: [(Direction, bool); 20] = [
     (Direction::I, false),
     (Direction::J, true),
@@ -121,8 +123,8 @@ fn assert_visits(rt: &impl Abort, all: &[Visit], cells: &[Cell]) {
     }
 }
 
-/// Asserts that a step leads from one cell of a disk to that at the place beside it in a direction, if the disk has
-/// one; whether it has.
+/// Asserts that a step leads from one cell of a disk to that at the place beside it in a direction,
+/// if the disk has one; whether it has.
 fn assert_beside(
     rt: &impl Abort,
     table: &BaseTable,
@@ -201,7 +203,8 @@ fn assert_reached(
     Ok(())
 }
 
-/// Asserts all this of the disk of a radius with these moves, if it is not refused; whether it is not.
+/// Asserts all this of the disk of a radius with these moves, if it is not refused; whether it is
+/// not.
 fn assert_disk_is_charted(
     rt: &impl Abort,
     alloc: Global,

@@ -10,7 +10,7 @@ mod format_two;
 
 const HEADER: &str = "base,dir,to,rot\n";
 
-/// The records of a table: a base cell, the digit of a direction, the neighbour and the turns.
+/// The records of a table: a base cell, the digit of a direction, the neighbor and the turns.
 fn records(rt: &HostRuntime, table: TestTable) -> Result<Vec<[u8; 4]>, Fail> {
     let mut records = Vec::new(rt.alloc());
     for base in 0..122u8 {
@@ -221,8 +221,8 @@ fn the_first_check_that_fails_decides(rt: HostRuntime) -> Result<(), Fail> {
 
 #[test]
 fn corners_are_checked_at_every_base_cell(rt: HostRuntime) -> Result<(), Fail> {
-    // The neighbours of 50 and 80 in the direction I change places, and each link is still undone. The first corner
-    // with one of these links is that of 39, 51 and 50.
+    // The neighbors of 50 and 80 in the direction I change places, and each link is still undone.
+    // The first corner with one of these links is that of 39, 51 and 50.
     let exchanged = [
         [50, 4, 81, 0],
         [51, 3, 80, 0],
@@ -247,7 +247,8 @@ fn corners_are_checked_at_every_base_cell(rt: HostRuntime) -> Result<(), Fail> {
     Ok(())
 }
 
-/// A source that counts its calls and keeps the lengths of their buffers. Calls after the end of the bytes fail.
+/// A source that counts its calls and keeps the lengths of their buffers. Calls after the end of
+/// the bytes fail.
 #[derive(Drop)]
 struct CountingSource<'a> {
     text: &'a [u8],

@@ -6,8 +6,8 @@ use std::test::Fail;
 
 #[test]
 fn many_lines_go_out_by_blocks(rt: HostRuntime) {
-    // 10 * 2 + 90 * 3 + 900 * 4 + 1000 * 5 bytes, in blocks of at least 4065: two of them, the rest,
-    // and a flush
+    // 10 * 2 + 90 * 3 + 900 * 4 + 1000 * 5 bytes, in blocks of at least 4065: two of them, the
+    // rest, and a flush
     let mut out: FaultySink<8890> = FaultySink::new(65536, Faults::From(4));
     assert!(&rt; write_lines(&mut out, 0..2000u64).is_ok());
     assert_eq!(&rt; out.bytes().len(), 8890);

@@ -199,8 +199,8 @@ fn opens_no_table(rt: HostRuntime) -> Result<(), Fail> {
     Ok(())
 }
 
-/// The rows of a table: the base cell in direction d is the one whose number is greater by d's step,
-/// around 122, and no digit is turned.
+/// The rows of a table: the base cell in direction d is the one whose number is greater by d's
+/// step, around 122, and no digit is turned.
 fn plain_rows(alloc: Global) -> Result<String, AllocError> {
     let steps = [(1, 110), (2, 11), (3, 121), (4, 1), (5, 111), (6, 12)];
     let mut rows = String::from_str(alloc, "base,dir,to,rot\n")?;

@@ -7,7 +7,7 @@ use Rattle.h3_index.specs.Descendants.{descendants}
 use Rattle.h3_tree.specs.Children.{children_left}
 use Rattle.h3_tree.specs.Refusals.{descent_refusal}
 use Rattle.h3_command.specs.Hierarchy.{cell_to_children, unless}
-use Rattle.h3_command.specs.Inspection.{cell_from, for_cell}
+use Rattle.h3_command.specs.Inspection.{cell_from, for_value}
 use Rattle.h3_command.specs.Items.{Lists}
 use Rattle.h3_command.proofs.Written.{lists_first}
 use Rattle.h3_command.proofs.hierarchy.cell_to_children.Goals as goal
@@ -17,7 +17,7 @@ listed : (index : Option ℕ) (res read : ℤ) (cell : Address) → read ≡ res
     → unless (descent_refusal (resolution cell) read) (descendants cell (unsigned_abs read)) ≡ cell_to_children index res
 listed index res read cell same is =
     ap (λ (z : ℤ). unless (descent_refusal (resolution cell) z) (descendants cell (unsigned_abs z))) same
-    ∙ ap (for_cell (λ c. unless (descent_refusal (resolution c) res) (descendants c (unsigned_abs res)))) is
+    ∙ ap (for_value (λ c. unless (descent_refusal (resolution c) res) (descendants c (unsigned_abs res)))) is
 
 pub returns : goal.returns
 returns c =

@@ -9,13 +9,13 @@ sevens_small : (r : ℕ) → r ≤ 15 → 7 ^ r ≤ 4747561509943
 sevens_small r h = let p : 7 ^ r ≤ 7 ^ 15 = pow-le-pow_right (lit< tt) h in p
 
 pub pow-requires : goal.pow-requires
-pow-requires c = omega (arith, sevens_small c.from.result (omega (arith, c.in_ok-res.ensures.ok.1)))
+pow-requires c = omega (arith, sevens_small c.from.result (omega (arith, c.in_ok-res.ensures.ok.2)))
 
 pub overflow_mul-result : goal.overflow_mul-result
-overflow_mul-result c = record { fits = omega (arith, sevens_small c.from.result (omega (arith, c.in_ok-res.ensures.ok.1))) }
+overflow_mul-result c = record { fits = omega (arith, sevens_small c.from.result (omega (arith, c.in_ok-res.ensures.ok.2))) }
 
 pub overflow_add-result : goal.overflow_add-result
-overflow_add-result c = record { fits = omega (arith, sevens_small c.from.result (omega (arith, c.in_ok-res.ensures.ok.1))) }
+overflow_add-result c = record { fits = omega (arith, sevens_small c.from.result (omega (arith, c.in_ok-res.ensures.ok.2))) }
 
 pub returns-clause-counted : goal.returns-clause-counted
 returns-clause-counted c =

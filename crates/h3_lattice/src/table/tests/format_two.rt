@@ -9,7 +9,7 @@ use std::test::Fail;
 
 const HEADER: &str = "base,k,j,jk,i,ik,ij,rk,rj,rjk,ri,rik,rij\n";
 
-/// The records of a table: a base cell, six neighbours and six numbers of turns.
+/// The records of a table: a base cell, six neighbors and six numbers of turns.
 fn records(rt: &HostRuntime, table: TestTable) -> Result<Vec<[u8; 13]>, Fail> {
     let mut records = Vec::new(rt.alloc());
     for base in 0..122u8 {
