@@ -18,7 +18,8 @@ pub struct CountedReader<'a, R> {
 impl<'a, R: Source> CountedReader<'a, R> {
     /// Reads once, to the front of a page, and returns the number of bytes read.
     ///
-    /// A [`StreamFault`] where the read fails, which counts as a read too, or where no read is left: then none is made.
+    /// A [`StreamFault`] where the read fails, which counts as a read too, or where no
+    /// read is left: then none is made.
     pub fn read(&mut self, page: &mut [u8]) -> Result<usize, StreamFault>
         ensures bound { IfOk result (λ n. n ≤ length page.new) }
         ensures bytes { IfOk result (λ n.

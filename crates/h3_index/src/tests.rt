@@ -52,7 +52,8 @@ fn other_numbers_are_no_cells(rt: HostRuntime) {
         0x885283473fffffff,
         0x115283473fffffff,
         0,
-        // an unused digit that is not 7, a used one that is, and the deleted subsequence in a second digit
+        // an unused digit that is not 7, a used one that is, and the
+        // deleted subsequence in a second digit
         0x85283473ffffff8,
         0x85283473fffefff,
         0x8528347ffffffff,
