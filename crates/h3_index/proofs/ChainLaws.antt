@@ -34,11 +34,6 @@ pub record IsLongChain (p : Bool) (n : ℕ) : Type 0 where
   pub long : AllLong n others
   pub links : AreLinked (next_path p) (replicate n 0) others None
 
--- blocks of digits, one after another
-abbrev blocks : (p : Bool) (n : ℕ) → List (List ℕ) → List ℕ → List (List ℕ)
-blocks p n ys [] = []
-blocks p n ys (d ∷ ds) = ((d ∷ replicate n 0) ∷ map (λ es. d ∷ es) ys) ++ blocks p n ys ds
-
 pub chain : (p : Bool) (n : ℕ) → IsLongChain p n
 unfolding paths
 chain p zero = record { others = []; is = refl; long = tt; links = refl }

@@ -2,7 +2,7 @@
 use Rattle.std.specs.Int.Bits.{bit_and, and_zero_r}
 use Rattle.std.specs.Int.Digits.{AllBelowBase}
 use Rattle.std.proofs.Common.{ℕ, zero, suc, ◌≡◌, ◌≢◌, ◌+◌, ◌-◌, ◌*◌, ◌/◌, ◌%◌, ◌^◌, ◌<◌, ◌≤◌, ◌==◌, nat_lt, ◌&&◌, not, List, [], ◌∷◌, ◌++◌, length, take, drop, get_or, Bool, true, false, refl, arith, ◌∙◌, sym, ap, if◌then◌else◌, lit<, length-append}
-use Rattle.std.proofs.Math.Nat.{div-eq_of_lt, mul-div_cancel, one-le-pow, pow-suc}
+use Rattle.std.proofs.Math.Nat.{mul-div_cancel, one-le-pow, pow-suc}
 use Rattle.std.proofs.Math.Seq.{drop-cons}
 use Rattle.std.proofs.lemmas.Bool.{and_parts}
 use Rattle.std.proofs.lemmas.Bool.Decides.{nat_tests}
@@ -103,9 +103,6 @@ last_small c m u h some = digit_small c.digits (length c.digits - 1) h.cell.digi
 -- products with a unit that is not 0 differ where the factors do
 times_six : (d u : ℕ) → 0 < u → d * u ≡ 6 * u → d ≡ 6
 times_six d u some e = sym (mul-div_cancel d some) ∙ ap (λ n. n / u) e ∙ mul-div_cancel 6 some
-
-times_zero : (d u : ℕ) → 0 < u → d * u ≡ 0 → d ≡ 0
-times_zero d u some e = sym (mul-div_cancel d some) ∙ ap (λ n. n / u) e ∙ (let none : 0 / u ≡ 0 = div-eq_of_lt some in none)
 
 -- ---- where there is none
 

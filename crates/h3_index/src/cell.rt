@@ -42,8 +42,8 @@ fn leads_with_one(digits: u64) -> bool
     digits.leading_zeros() % 3 == 0
 }
 
-/// Whether the fifteen digits of a number are those of a cell: 0 to 6 up to the resolution, and 7 above. In a
-/// pentagon base cell the first that is not 0 is not 1.
+/// Whether the fifteen digits of a number are those of a cell: 0 to 6 up to the resolution, and 7
+/// above. In a pentagon base cell the first that is not 0 is not 1.
 #[inline(always)]
 fn has_valid_digits(raw: u64, resolution: u64, pentagon_base: bool) -> bool
     requires { resolution < 16 }
@@ -77,7 +77,8 @@ impl Model for Cell {
 }
 
 impl Cell {
-    /// The cell with this number, as H3's `isValidCell` tests it: `CellInvalid` where no cell has it.
+    /// The cell with this number, as H3's `isValidCell` tests it:
+    /// `CellInvalid` where no cell has it.
     pub fn new(raw: u64) -> Result<Cell, H3Error>
         ensures read { result_ok result ≡ cell_in raw }
         ensures accepted { IfOk result (λ cell. IsCell cell × (number_of cell ≡ raw)) }
@@ -155,7 +156,8 @@ impl Cell {
         is_pentagon_base(self.base_cell())
     }
 
-    /// Whether the cell's resolution is odd, which is Class III, as H3's `isResClassIII` returns it.
+    /// Whether the cell's resolution is odd, which is Class III,
+    /// as H3's `isResClassIII` returns it.
     pub fn is_class_iii(self) -> bool
         ensures { result ≡ is_class_iii self }
     {

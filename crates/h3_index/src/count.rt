@@ -32,20 +32,24 @@ pub fn resolution_from(res: i32) -> Result<u8, H3Error>
     }
 }
 
-/// The number of cells of a resolution, as H3's `getNumCells` returns it: `ResDomain` outside 0 to 15.
+/// The number of cells of a resolution, as H3's `getNumCells` returns it:
+/// `ResDomain` outside 0 to 15.
 pub fn num_cells(res: i32) -> Result<u64, H3Error>
     ensures formula { MatchOption (resolution_of res) (result ≡ Err H3Error.ResDomain)
         (λ r. result ≡ Ok (2 + 120 * 7 ^ r)) }
-    ensures counted { IfOk result (λ count. IfSome (resolution_of res) (λ r. length (cells_of r) ≡ count)) }
+    ensures counted { IfOk result (λ count.
+        IfSome (resolution_of res) (λ r. length (cells_of r) ≡ count)) }
     ensures listed { CellsAreListed }
 {
     let res = resolution_from(res)?;
     Ok(2 + 120 * 7u64.pow(u32::from(res)))
 }
 
-/// The cell of resolution 0 in a base cell, of which H3's `getRes0Cells` gives all: `Domain` outside 0 to 121.
+/// The cell of resolution 0 in a base cell, of which H3's `getRes0Cells` gives all:
+/// `Domain` outside 0 to 121.
 pub fn res0_cell(b: i32) -> Result<Cell, H3Error>
-    ensures { MatchOption (number_below 122 b) (result ≡ Err H3Error.Domain) (λ b. result ≡ Ok (base_cell b)) }
+    ensures { MatchOption (number_below 122 b) (result ≡ Err H3Error.Domain)
+        (λ b. result ≡ Ok (base_cell b)) }
 {
     match below(122, b) {
         Some(base) => Ok(Cell::in_base(base)),
@@ -55,7 +59,8 @@ pub fn res0_cell(b: i32) -> Result<Cell, H3Error>
 
 /// The n-th of the twelve base cells that are pentagons, from 0, in ascending order.
 fn pentagon_base(n: i32) -> Option<u8>
-    ensures nth { MatchOption (number_below 12 n) (result ≡ None) (λ k. slice_get pentagon_bases k ≡ result) }
+    ensures nth { MatchOption (number_below 12 n) (result ≡ None)
+        (λ k. slice_get pentagon_bases k ≡ result) }
     ensures small { IfSome result (λ b. b < 122) }
 {
     let n = below(12, n)?;
@@ -64,8 +69,8 @@ fn pentagon_base(n: i32) -> Option<u8>
         .nth(usize::from(n))
 }
 
-/// The n-th pentagon of a resolution, from 0, in ascending order; H3's `getPentagons` gives all: `ResDomain` where the
-/// resolution is outside 0 to 15, then `Domain` where n is outside 0 to 11.
+/// The n-th pentagon of a resolution, from 0, in ascending order; H3's `getPentagons` gives all:
+/// `ResDomain` where the resolution is outside 0 to 15, then `Domain` where n is outside 0 to 11.
 pub fn pentagon(res: i32, n: i32) -> Result<Cell, H3Error>
     ensures nth { MatchOption (resolution_of res) (result ≡ Err H3Error.ResDomain)
         (λ r. MatchOption (number_below 12 n) (result ≡ Err H3Error.Domain)

@@ -18,7 +18,8 @@ pub struct CountedReader<'a, R> {
 impl<'a, R: Source> CountedReader<'a, R> {
     /// Reads once, to the front of a page, and returns the number of bytes read.
     ///
-    /// A [`StreamFault`] where the read fails, which counts as a read too, or where no read is left: then none is made.
+    /// A [`StreamFault`] where the read fails, which counts as a read too, or where no
+    /// read is left: then none is made.
     pub fn read(&mut self, page: &mut [u8]) -> Result<usize, StreamFault>
         ensures bound { IfOk result (λ n. n ≤ length page.new) }
         ensures bytes { IfOk result (λ n.
@@ -44,30 +45,7 @@ impl<'a, R: Source> CountedReader<'a, R> {
 mod tests {
     use super::CountedReader;
     use crate::stream::{Source, StreamFault, Streamed};
-
-    /// A source that gives one byte a pull, and fails after `pulls_left` pulls.
-    #[derive(Drop)]
-    struct TornSource {
-        pulls_left: u64,
-        failed: bool,
-    }
-
-    impl Source for TornSource {
-        ghost use Rattle.std.specs.Prelude.{None};
-
-        ghost left = { λ _. None };
-
-        ghost has_failed = { λ s. s.failed };
-
-        fn pull(&mut self, buf: &mut [u8]) -> Result<usize, StreamFault> {
-            if self.pulls_left == 0 || buf.is_empty() {
-                self.failed = true;
-                return Err(StreamFault);
-            }
-            self.pulls_left -= 1;
-            Ok(1)
-        }
-    }
+    use crate::tests::stream_with;
 
     #[test]
     fn a_read_past_the_limit_is_not_made(rt: HostRuntime) {
@@ -104,11 +82,8 @@ mod tests {
     #[test]
     fn a_read_that_fails_below_the_limit_is_a_fault(rt: HostRuntime) {
         let mut page = [0; 1];
-        for good in 0..3u64 {
-            let mut source = TornSource {
-                pulls_left: good,
-                failed: false,
-            };
+        for good in 0..3u32 {
+            let mut source = stream_with(good, 1);
             let mut reader = CountedReader {
                 source: &mut source,
                 reads_left: 3,
@@ -117,8 +92,8 @@ mod tests {
                 assert_eq!(rt; reader.read(&mut page), Ok(1));
             }
             assert_eq!(rt; reader.read(&mut page), Err(StreamFault));
-            assert_eq!(rt; reader.reads_left, 2 - good);
-            assert!(rt; source.failed);
+            assert_eq!(rt; reader.reads_left, 2 - u64::from(good));
+            assert!(rt; source.failed());
         }
     }
 }

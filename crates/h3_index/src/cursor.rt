@@ -7,8 +7,8 @@ ghost use Rattle.h3_index.specs.Siblings.{has_raised, raised};
 use crate::cell::Cell;
 use std::marker::Model;
 
-/// A cell, and how much one more in its last digit adds to its number. So a walk over cells of one resolution need not
-/// find the bits of that digit again for each cell.
+/// A cell, and how much one more in its last digit adds to its number. So a walk over cells of one
+/// resolution need not find the bits of that digit again for each cell.
 #[derive(Clone, Copy, Debug)]
 pub struct Cursor {
     raw: u64,
@@ -54,8 +54,8 @@ impl Cursor {
         Cell::from_number(self.raw)
     }
 
-    /// The cursor at the cell under the same parent whose last digit is one more; `None` where there is none, which is
-    /// so at resolution 0, after the digit 6, and at a pentagon.
+    /// The cursor at the cell under the same parent whose last digit is one more; `None` where
+    /// there is none, which is so at resolution 0, after the digit 6, and at a pentagon.
     #[inline(always)]
     pub fn raised(self) -> Option<Cursor>
         ensures is { IfSome result (λ next. next ≡ raised self) }

@@ -9,22 +9,24 @@ use crate::cell::Cell;
 use crate::error::H3Error;
 use std::marker::Model;
 
-/// The number with the mode of a cell and no direction: that of the origin, where the number is an edge's.
+/// The number with the mode of a cell and no direction: that of the origin,
+/// where the number is an edge's.
 fn origin_number(raw: u64) -> u64
     ensures { result ≡ raw % 2 ^ 56 + 2 ^ 59 }
 {
     (raw & 0x00ff_ffff_ffff_ffff) + (1 << 59)
 }
 
-/// Whether a cell has an edge in the direction of a digit: in each of 1 to 6, except 1 (K) at a pentagon.
+/// Whether a cell has an edge in the direction of a digit: in each of 1 to
+/// 6, except 1 (K) at a pentagon.
 fn has_edge(cell: Cell, direction: u8) -> bool
     ensures { result ≡ has_edge cell direction }
 {
     direction > 0 && direction < 7 && !(direction == 1 && cell.is_pentagon())
 }
 
-/// A valid H3 directed edge: it leaves its origin, a cell, in one of the six directions. Edges are ordered by their
-/// numbers: by direction, then as the cells that they leave.
+/// A valid H3 directed edge: it leaves its origin, a cell, in one of the six directions. Edges are
+/// ordered by their numbers: by direction, then as the cells that they leave.
 #[derive(Clone, Copy, Debug, PartialEq, Eq, PartialOrd, Ord, Hash)]
 pub struct Edge {
     raw: u64,
@@ -46,7 +48,8 @@ impl Model for Edge {
 }
 
 impl Edge {
-    /// The edge with this number, as H3's `isValidDirectedEdge` tests it: `DirEdgeInvalid` where no edge has it.
+    /// The edge with this number, as H3's `isValidDirectedEdge` tests it:
+    /// `DirEdgeInvalid` where no edge has it.
     pub fn new(raw: u64) -> Result<Edge, H3Error>
         ensures read { result_ok result ≡ edge_in raw }
         ensures accepted { IfOk result (λ edge. IsEdge edge × (edge_number edge ≡ raw)) }

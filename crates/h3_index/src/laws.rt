@@ -1,5 +1,5 @@
-//! Laws of the definitions that contracts here cite. Each function does nothing; what it ensures is a law that holds
-//! always, for the proofs of crates that call it.
+//! Laws of the definitions that contracts here cite. Each function does nothing; what it ensures is
+//! a law that holds always, for the proofs of crates that call it.
 
 ghost use Rattle.std.specs.Prelude.{◌≡◌, ◌==◌, Some};
 ghost use Rattle.std.specs.Ordering.{nat_cmp};
@@ -18,19 +18,21 @@ use std::hash::Hash;
 pub fn cells_compare_by_number()
     ensures equal { (a b : Address) →
         ⟦<Cell as PartialEq>⟧.eq a b ≡ (number_of a == number_of b) }
-    ensures order { (a b : Address) → ⟦<Cell as Ord>⟧.cmp a b ≡ nat_cmp (number_of a) (number_of b) }
+    ensures order { (a b : Address) →
+        ⟦<Cell as Ord>⟧.cmp a b ≡ nat_cmp (number_of a) (number_of b) }
     ensures partial { (a b : Address) →
         ⟦<Cell as PartialOrd>⟧.partial_cmp a b ≡ Some (nat_cmp (number_of a) (number_of b)) }
     ensures hash { (c : Address) → ⟦<Cell as Hash>⟧.hash_input c ≡ fed.u64 (number_of c) }
     ensures fields { NumbersFollowFields }
 {}
 
-/// Edges are equal, ordered and hashed as their numbers are, and numbers are ordered by direction, then the resolution
-/// of the origin, then its base cell, then its digits.
+/// Edges are equal, ordered and hashed as their numbers are, and numbers are ordered by direction,
+/// then the resolution of the origin, then its base cell, then its digits.
 pub fn edges_compare_by_number()
     ensures equal { (a b : DirectedEdge) →
         ⟦<Edge as PartialEq>⟧.eq a b ≡ (edge_number a == edge_number b) }
-    ensures order { (a b : DirectedEdge) → ⟦<Edge as Ord>⟧.cmp a b ≡ nat_cmp (edge_number a) (edge_number b) }
+    ensures order { (a b : DirectedEdge) →
+        ⟦<Edge as Ord>⟧.cmp a b ≡ nat_cmp (edge_number a) (edge_number b) }
     ensures partial { (a b : DirectedEdge) →
         ⟦<Edge as PartialOrd>⟧.partial_cmp a b ≡ Some (nat_cmp (edge_number a) (edge_number b)) }
     ensures hash { (e : DirectedEdge) → ⟦<Edge as Hash>⟧.hash_input e ≡ fed.u64 (edge_number e) }
@@ -47,8 +49,8 @@ pub fn cuts_are_cells()
     ensures { CutsAreCells }
 {}
 
-/// The list of a cell's descendants holds them and nothing else, ascends, and is as long as said: of length 7^n below
-/// a hexagon and 1 + 5 * ((7^n - 1) / 6) below a pentagon, n levels down.
+/// The list of a cell's descendants holds them and nothing else, ascends, and is as long as said:
+/// of length 7^n below a hexagon and 1 + 5 * ((7^n - 1) / 6) below a pentagon, n levels down.
 pub fn descendants_are_listed()
     ensures members { DescendantsAreListed }
     ensures ascending { DescendantsAscend }

@@ -1,4 +1,5 @@
-//! H3 indexes: cells, directed edges, the texts of indexes, errors, and the streams that the `h3` command runs over.
+//! H3 indexes: cells, directed edges, the texts of indexes, errors, and the streams
+//! that the `h3` command runs over.
 #![tactic(auto)]
 
 mod cell;

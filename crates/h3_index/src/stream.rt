@@ -39,18 +39,19 @@ pub trait Sink {
     /// It has failed.
     ghost has_failed: { Self → Bool };
 
-    /// Writes bytes, and returns how many were taken from their front: at least one, unless there are
-    /// none. A failure takes none.
+    /// Writes bytes, and returns how many were taken from their front: at least one, unless there
+    /// are none. A failure takes none.
     fn push(&mut self, bytes: &[u8]) -> Result<usize, StreamFault>
         ensures bound { IfOk result (λ n. n ≤ length bytes.now) }
         ensures some { IfOk result (λ n. 0 < length bytes.now → 0 < n) }
-        ensures bytes { IfOk result (λ n. Appends (taken self.old) (taken self.new) (take n bytes.now)) }
+        ensures bytes { IfOk result (λ n.
+            Appends (taken self.old) (taken self.new) (take n bytes.now)) }
         ensures ok { OnOk result (has_failed self.new ≡ has_failed self.old) }
         ensures refused { OnErr result (Keeps (taken self.old) (taken self.new)) }
         ensures err { OnErr result (has_failed self.new ≡ true) };
 
-    /// Passes on the bytes that were taken and held back. After a failure they may be lost: then the
-    /// bytes are no longer known.
+    /// Passes on the bytes that were taken and held back. After a failure they may be lost: then
+    /// the bytes are no longer known.
     fn flush(&mut self) -> Result<(), StreamFault>
         ensures bytes { OnOk result (Keeps (taken self.old) (taken self.new)) }
         ensures ok { OnOk result (has_failed self.new ≡ has_failed self.old) }
@@ -60,8 +61,8 @@ pub trait Sink {
 
 /// A reader as a [`Source`], or a writer as a [`Sink`].
 ///
-/// Each call is passed on once. A write that takes none of some bytes is a failure, and whether a call failed is kept.
-/// The stream allocates nothing.
+/// Each call is passed on once. A write that takes none of some bytes is a failure, and whether a
+/// call failed is kept. The stream allocates nothing.
 #[derive(Drop)]
 pub struct Streamed<T> {
     inner: T,

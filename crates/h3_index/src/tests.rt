@@ -52,7 +52,8 @@ fn other_numbers_are_no_cells(rt: HostRuntime) {
         0x885283473fffffff,
         0x115283473fffffff,
         0,
-        // an unused digit that is not 7, a used one that is, and the deleted subsequence in a second digit
+        // an unused digit that is not 7, a used one that is, and the
+        // deleted subsequence in a second digit
         0x85283473ffffff8,
         0x85283473fffefff,
         0x8528347ffffffff,
@@ -291,12 +292,12 @@ fn a_streamed_writer_is_written(rt: HostRuntime) -> Result<(), Fail> {
 
 /// A reader and writer that counts its calls, and what they were handed.
 ///
-/// It fails, or takes or gives as many bytes as it was made for at most.
+/// Its first calls take or give as many bytes as it was made for at most, and all others fail.
 #[derive(Drop)]
-struct Counting {
+pub(crate) struct Counting {
     calls: u32,
     handed: usize,
-    fails: bool,
+    good_calls: u32,
     at_most: usize,
 }
 
@@ -305,9 +306,10 @@ impl Counting {
     fn call(&mut self, size: usize) -> io::Result<usize>
         ensures { IfOk result (λ n. n ≤ size) }
     {
+        let fails = self.calls >= self.good_calls;
         self.calls = self.calls.saturating_add(1);
         self.handed = size;
-        if self.fails {
+        if fails {
             return Err(io::Error::from(io::ErrorKind::Other));
         }
         Ok(size.min(self.at_most))
@@ -331,11 +333,12 @@ impl Write for Counting {
     }
 }
 
-fn stream_that(fails: bool, at_most: usize) -> Streamed<Counting> {
+/// A stream whose calls fail after some good ones, each of which moves a number of bytes at most.
+pub(crate) fn stream_with(good_calls: u32, at_most: usize) -> Streamed<Counting> {
     Streamed::new(Counting {
         calls: 0,
         handed: 0,
-        fails,
+        good_calls,
         at_most,
     })
 }
@@ -347,19 +350,19 @@ static LENGTHS: [usize; 3] = [0, 3, 5000];
 fn each_call_is_handed_on_once(rt: HostRuntime) {
     let mut page = [7; 5000];
     for length in LENGTHS {
-        let mut pulled = stream_that(false, 5000);
+        let mut pulled = stream_with(1, 5000);
         assert_eq!(rt; pulled.pull(&mut page[..length]), Ok(length));
         assert!(rt; !pulled.failed());
         let inner = pulled.into_inner();
         assert_eq!(rt; (inner.calls, inner.handed), (1, length));
 
-        let mut pushed = stream_that(false, 5000);
+        let mut pushed = stream_with(1, 5000);
         assert_eq!(rt; pushed.push(&page[..length]), Ok(length));
         assert!(rt; !pushed.failed());
         let inner = pushed.into_inner();
         assert_eq!(rt; (inner.calls, inner.handed), (1, length));
     }
-    let mut flushed = stream_that(false, 5000);
+    let mut flushed = stream_with(1, 5000);
     assert_eq!(rt; flushed.flush(), Ok(()));
     assert!(rt; !flushed.failed());
     assert_eq!(rt; flushed.into_inner().calls, 1);
@@ -369,17 +372,17 @@ fn each_call_is_handed_on_once(rt: HostRuntime) {
 fn a_failure_is_returned_and_kept(rt: HostRuntime) {
     let mut page = [7; 5000];
     for length in LENGTHS {
-        let mut pulled = stream_that(true, 5000);
+        let mut pulled = stream_with(0, 5000);
         assert_eq!(rt; pulled.pull(&mut page[..length]), Err(StreamFault));
         assert!(rt; pulled.failed());
         assert_eq!(rt; pulled.into_inner().calls, 1);
 
-        let mut pushed = stream_that(true, 5000);
+        let mut pushed = stream_with(0, 5000);
         assert_eq!(rt; pushed.push(&page[..length]), Err(StreamFault));
         assert!(rt; pushed.failed());
         assert_eq!(rt; pushed.into_inner().calls, 1);
     }
-    let mut flushed = stream_that(true, 5000);
+    let mut flushed = stream_with(0, 5000);
     assert_eq!(rt; flushed.flush(), Err(StreamFault));
     assert!(rt; flushed.failed());
     assert_eq!(rt; flushed.into_inner().calls, 1);
@@ -389,13 +392,13 @@ fn a_failure_is_returned_and_kept(rt: HostRuntime) {
 fn a_call_that_moves_no_byte(rt: HostRuntime) {
     let mut page = [7; 5000];
     // for a reader it is the end
-    let mut pulled = stream_that(false, 0);
+    let mut pulled = stream_with(1, 0);
     assert_eq!(rt; pulled.pull(&mut page), Ok(0));
     assert!(rt; !pulled.failed());
     assert_eq!(rt; pulled.into_inner().calls, 1);
 
     // for a writer it is a failure, unless there was none to write
-    let mut pushed = stream_that(false, 0);
+    let mut pushed = stream_with(2, 0);
     assert_eq!(rt; pushed.push(b""), Ok(0));
     assert!(rt; !pushed.failed());
     assert_eq!(rt; pushed.push(b"abc"), Err(StreamFault));

@@ -83,10 +83,12 @@ fn read_digits(digits: &[u8]) -> Option<u64>
     Some(number)
 }
 
-/// The index that a text parses as; stricter than H3's `stringToH3`, which accepts text after the digits.
+/// The index that a text parses as; stricter than H3's `stringToH3`, which
+/// accepts text after the digits.
 ///
-/// Spaces, tabs and carriage returns at both ends are dropped, then an optional `0x` or `0X`; what is left must be 1
-/// to 16 hexadecimal digits of either case. Any other text is refused with `Failed`. The index need not be valid.
+/// Spaces, tabs and carriage returns at both ends are dropped, then an optional `0x` or `0X`; what
+/// is left must be 1 to 16 hexadecimal digits of either case. Any other text is refused with
+/// `Failed`. The index need not be valid.
 pub fn read_index(bytes: &[u8]) -> Result<u64, H3Error>
     ensures parsed { result_ok result ≡ parsed_index bytes.now }
     ensures refused { IfErr result (λ e. e ≡ H3Error.Failed) }
@@ -114,7 +116,8 @@ fn digits_of(index: u64) -> [u8; 16]
 fn zeros_in_front(index: u64) -> u32
     ensures few { result ≤ 15 }
     ensures small { index < 16 ^ (16 - result) }
-    ensures rest { without_leading_zeros (last_digits 16 16 index) ≡ last_digits 16 (16 - result) index }
+    ensures rest { without_leading_zeros (last_digits 16 16 index)
+        ≡ last_digits 16 (16 - result) index }
 {
     if index < 16 {
         15
@@ -144,11 +147,13 @@ pub fn index_bytes(index: u64) -> ([u8; 16], usize)
     ensures ascii { IsAscii result.0 }
 {
     let zeros = zeros_in_front(index);
-    // The zeros are shifted out and all sixteen digits put at once, which is faster than a copy of some.
+    // The zeros are shifted out and all sixteen digits put at once, which
+    // is faster than a copy of some.
     (digits_of(index << (4 * zeros)), 16 - zeros as usize)
 }
 
-/// The text of an index, as H3's `h3ToString` writes it: lower-case hexadecimal without leading zeros, `0` for 0.
+/// The text of an index, as H3's `h3ToString` writes it: lower-case hexadecimal
+/// without leading zeros, `0` for 0.
 pub fn write_index(index: u64) -> ArrayString<16>
     ensures text { result.bytes ≡ text_of index }
     ensures parses { parsed_index (text_of index) ≡ Some index }

@@ -75,9 +75,6 @@ module _ (tree : CellsFormTrees) (intervals : CellsFormIntervals) (all : List Ad
       rw e at done
 
   module _ (i w : ℕ) (now : List Address) (x : Address) (inv : IsMerging all q i w now) (lt : i < length now) (is : x ≡ get_or now i x) where
-    loop : IsRoundLoop all q i w now
-    loop = inv.so_far
-
     within : i < length all
     within = omega (arith, inv.so_far.size, lt)
 

@@ -23,9 +23,6 @@ take_same d (x ∷ xs) (y ∷ ys) h =
 module _ (tree : CellsFormTrees) (intervals : CellsFormIntervals) where
   -- M begins at a child of p, and has all of them
   module _ (M : List Address) (p : Address) (cells : All IsCell M) (order : IsInOrder M) (apart : AllPairs (λ a b. ¬ Overlap a b) M) (complete : HasChildren (Contains M) p) (d : Address) (some : 0 < length M) (first : IsChild p (get_or M 0 d)) where
-    abbrev children : List Address
-    children = descendants p (length p.digits + 1)
-
     abbrev At : ℕ → Type 0
     At t = (t < length M) × (get_or M t d ≡ get_or (descendants p (length p.digits + 1)) t d)
 

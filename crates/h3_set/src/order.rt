@@ -27,8 +27,8 @@ pub(crate) fn put_in_order(cells: &mut [Cell])
     cells.sort_unstable_by_key(|c: &Cell| post_order_key(*c));
 }
 
-/// How many keys there are for a cell and the cells below it: an interval of that length ends at the
-/// cell's own key.
+/// How many keys there are for a cell and the cells below it: an interval of that
+/// length ends at the cell's own key.
 pub(crate) fn keys_below(cell: Cell) -> u64
     ensures is { result ≡ 8 ^ (15 - resolution cell) }
     ensures at_most { result ≤ 2 ^ 45 }

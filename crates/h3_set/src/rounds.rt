@@ -40,8 +40,9 @@ impl Compaction {
 
         ensures started { IfOk result (IsStarted cells.now slots.new) }
 
-        // At level 0, where no round is left, these are the top cells. The test of the refusal finds
-        // the cells that overlap; those of one resolution do so only where one is listed twice.
+        // At level 0, where no round is left, these are the top cells. The test of
+        // the refusal finds the cells that overlap; those of one resolution do so
+        // only where one is listed twice.
         ensures last { RoundsReachTheTop }
         ensures overlaps { OverlapsAreFound }
         ensures repeats { OneResolutionIsApart }

@@ -212,8 +212,8 @@ fn no_cells_are_compacted(rt: HostRuntime) -> Result<(), Fail> {
     Ok(())
 }
 
-/// Asserts that a list of two cells, which overlap, is refused, and that the first two of four slots
-/// hold these then.
+/// Asserts that a list of two cells, which overlap, is refused, and that the first two
+/// of four slots hold these then.
 fn assert_refused(rt: &impl Abort, first: Cell, second: Cell) -> Result<(), Fail> {
     let other = Cell::new(0x80f3fffffffffff)?;
     let refused = Err(H3Error::DuplicateInput);

@@ -20,7 +20,8 @@ impl Cell {
         }
     }
 
-    /// The ancestor at a resolution that is not finer than the cell's: the digits above it are dropped.
+    /// The ancestor at a resolution that is not finer than the cell's:
+    /// the digits above it are dropped.
     pub fn cut(self, r: u8) -> Cell
         requires { r ≤ length self.digits }
         ensures is { result ≡ cut self r }
@@ -33,7 +34,8 @@ impl Cell {
         }
     }
 
-    /// The cell of a digit, 0 to 6, one level below a cell coarser than resolution 15. A pentagon has none of digit 1.
+    /// The cell of a digit, 0 to 6, one level below a cell coarser than resolution 15.
+    /// A pentagon has none of digit 1.
     pub fn child(self, digit: u8) -> Cell
         requires coarse { length self.digits < 15 }
         requires at_most_six { digit < 7 }
@@ -47,7 +49,8 @@ impl Cell {
         }
     }
 
-    /// The descendant at a resolution that is not coarser than the cell's whose further digits are 0.
+    /// The descendant at a resolution that is not coarser than the cell's
+    /// whose further digits are 0.
     pub fn center_at(self, r: u8) -> Cell
         requires not_coarser { length self.digits ≤ r }
         requires at_most_fifteen { r ≤ 15 }
@@ -62,8 +65,9 @@ impl Cell {
         }
     }
 
-    /// The cell with this digit, 0 to 6, at a resolution from 1 up to its own, and all else as it is, as H3's
-    /// `H3_SET_INDEX_DIGIT` sets it. The cell's base cell must be no pentagon, so that no digits are deleted there.
+    /// The cell with this digit, 0 to 6, at a resolution from 1 up to its own, and all else as it
+    /// is, as H3's `H3_SET_INDEX_DIGIT` sets it. The cell's base cell must be no pentagon, so that
+    /// no digits are deleted there.
     pub fn with_digit(self, r: u8, digit: u8) -> Cell
         requires some { 1 ≤ r }
         requires at_most { r ≤ length self.digits }
@@ -79,8 +83,8 @@ impl Cell {
         }
     }
 
-    /// The cell with this base cell, 0 to 121, and the same digits, as H3's `H3_SET_BASE_CELL` sets it. The new base
-    /// cell must be no pentagon.
+    /// The cell with this base cell, 0 to 121, and the same digits, as H3's `H3_SET_BASE_CELL` sets
+    /// it. The new base cell must be no pentagon.
     pub fn with_base(self, base: u8) -> Cell
         requires small { base < 122 }
         requires hexagon { is_pentagon_base base ≡ false }

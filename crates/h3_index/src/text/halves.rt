@@ -30,12 +30,14 @@ pub fn characters(half: u64) -> u64
     digits + 0x3030_3030_3030_3030 + 39 * letters
 }
 
-/// The half of an index whose eight hexadecimal digits, in lower case, a word holds; some number for a word of other
-/// bytes.
+/// The half of an index whose eight hexadecimal digits, in lower case, a word holds; some number
+/// for a word of other bytes.
 #[inline(always)]
 pub fn gathered(word: u64) -> u64
     ensures small { result < 2 ^ 32 }
-    ensures back { (half : ℕ) → half < 2 ^ 32 → word ≡ number_from_digits 256 (map digit_char (last_digits 16 8 half)) → result ≡ half }
+    ensures back { (half : ℕ) → half < 2 ^ 32
+        → word ≡ number_from_digits 256 (map digit_char (last_digits 16 8 half))
+        → result ≡ half }
 {
     let letters = word >> 6 & 0x0101_0101_0101_0101;
     let digits = (word & 0x0f0f_0f0f_0f0f_0f0f).wrapping_add(letters.wrapping_mul(9));

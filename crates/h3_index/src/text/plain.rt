@@ -7,8 +7,8 @@ ghost use Rattle.h3_index.specs.Text.{plain_index, parsed_index};
 
 use super::halves::{characters, gathered, word_of};
 
-/// The number that 8 to 16 hexadecimal digits in lower case stand for; none for all other bytes, which may be the text
-/// of an index in another form.
+/// The number that 8 to 16 hexadecimal digits in lower case stand for; none for all other bytes,
+/// which may be the text of an index in another form.
 #[inline(always)]
 pub fn read_plain(bytes: &[u8]) -> Option<u64>
     ensures is { result ≡ plain_index bytes.now }

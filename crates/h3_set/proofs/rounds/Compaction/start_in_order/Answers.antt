@@ -8,10 +8,7 @@ use Rattle.h3_set.proofs.PartLaws.{starts}
 use Rattle.h3_set.proofs.PermutedLaws.{apart_permuted, copied_front, members_permuted, reordered, reordered_front}
 use Rattle.h3_set.proofs.ResolutionLaws.{none_finer}
 use Rattle.h3_set.proofs.rounds.Compaction.start_in_order.Goals as goal
-use Rattle.h3_set.proofs.rounds.Compaction.start_in_order.Goals.{After-copy_from_slice, After-sort_and_find_overlap}
-
-copied : (c : After-copy_from_slice) → take (length c.args.cells.now) (c.copy_from_slice.new.self ++ drop (length c.args.cells.now) c.args.slots.now) ≡ c.args.cells.now
-copied c = copied_front c.args.cells.now c.copy_from_slice.new.self _ c.copy_from_slice.ensures.after
+use Rattle.h3_set.proofs.rounds.Compaction.start_in_order.Goals.{After-sort_and_find_overlap}
 
 ordered : (c : After-sort_and_find_overlap) → IsPermutation c.args.cells.now c.sort_and_find_overlap.new.cells
 ordered c = reordered c.args.cells.now c.copy_from_slice.new.self c.sort_and_find_overlap.new.cells _ [] c.copy_from_slice.ensures.after c.sort_and_find_overlap.ensures.same
