@@ -180,8 +180,8 @@ module _ (w : Lattice) (link : Links) (sound : IsSound link) (x : State) (st : I
       unit_moves (place x.cell.digits) (turned x.rotation d) (sym (ap place digits) ∙ sum_inside x.cell.digits es (turned x.rotation d) sum)
   moved d y (goes_over u es sum h) same = sound.away x.cell.base u st.hexagon (ap (λ (a : Address). a.base) same)
 
-pub steps_part : Lattice → OverSoundLinks StepsDiffer
-steps_part w link sound x y z d e st p q same =
+pub steps_differ : Lattice → OverSoundLinks StepsDiffer
+steps_differ w link sound x y z d e st p q same =
     parted w link sound x st d e y z (way w link x y d st p) (way w link x z e st q) same
 
 pub steps_move : Lattice → OverSoundLinks StepsMove

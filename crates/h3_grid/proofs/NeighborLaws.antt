@@ -237,12 +237,12 @@ module _ (w : StepLawsHold) (sums : SumLaws) (link : Links) (sound : IsSound lin
 
   -- ---- the direction to a neighbor
 
-  module _ (by_number : NumbersAreUnique) (part : OverSoundLinks StepsDiffer) where
-    pub directions_part : DirectionsDiffer link
-    directions_part x y d e v p q =
+  module _ (by_number : NumbersAreUnique) (differ : OverSoundLinks StepsDiffer) where
+    pub directions_differ : DirectionsDiffer link
+    directions_differ x y d e v p q =
         let s = step-neighbor link x y d p in
         let t = step-neighbor link x y e q in
-        part link sound (state x 0) (state y s.0) (state y t.0) d e (from_hexagon link x y d v p) s.1 t.1 refl
+        differ link sound (state x 0) (state y s.0) (state y t.0) d e (from_hexagon link x y d v p) s.1 t.1 refl
 
     passes_is : (x y : Address) (d : Direction) → IsCell x → IsCell y → is_some_same y (neighbor link x d) ≡ true → neighbor link x d ≡ Some y
     passes_is x y d v u e = by_neighbor (neighbor link x d) refl e
@@ -255,7 +255,7 @@ module _ (w : StepLawsHold) (sums : SumLaws) (link : Links) (sound : IsSound lin
     unfolding direction_to
     directions_found x y d v u = (
       λ e. passes_is x y d v u (found_passes (λ d. is_some_same y (neighbor link x d)) directions d e),
-      λ e. find_one (λ d. is_some_same y (neighbor link x d)) directions d (in_directions d) (is_passes link x y d e) (λ c m t. directions_part x y c d v (passes_is x y c v u t) e),
+      λ e. find_one (λ d. is_some_same y (neighbor link x d)) directions d (in_directions d) (is_passes link x y d e) (λ c m t. directions_differ x y c d v (passes_is x y c v u t) e),
     )
 
     -- ---- whether two cells are neighbors

@@ -7,7 +7,7 @@ use Rattle.std.specs.List.{flat_map, range_with_len}
 use Rattle.h3_lattice.specs.declared.direction.Direction.{Direction}
 use Rattle.h3_lattice.specs.declared.direction.Direction.TheVariants.{K, J, JK, I, IK, IJ}
 use Rattle.h3_lattice.specs.Eisenstein.{Eisenstein, eisenstein, product_of, sum_of, zero_point}
-use Rattle.h3_lattice.specs.Direction.{turns, unit_of}
+use Rattle.h3_lattice.specs.Direction.{turning, unit_of}
 
 -- a move in a direction, on the way around a ring, and whether the cell that it leads to is written
 pub record Move : Type 0 where
@@ -41,7 +41,7 @@ moves k = flat_map ring_moves (range_with_len 1 k)
 
 -- the j-th place of side i of ring r: (1 + w)^i * (r + j*w)
 abbrev pub spiral_place : ℕ → ℕ → ℕ → Eisenstein
-spiral_place r i j = product_of (turns i) (eisenstein (pos r) (pos j))
+spiral_place r i j = product_of (turning i) (eisenstein (pos r) (pos j))
 
 -- the places of a side: its corner is the last place of the side before
 abbrev pub side_places : ℕ → ℕ → List Eisenstein

@@ -30,7 +30,7 @@ pub fn edge_between(table: &BaseTable, a: Cell, b: Cell) -> Result<Edge, H3Error
 
     // Laws of neighbors over the table: there is no second direction, and the function of the
     // definitions finds it.
-    ensures part { DirectionsDiffer (link_of table.now) }
+    ensures one_direction { DirectionsDiffer (link_of table.now) }
     ensures found { DirectionsAreFound (link_of table.now) }
 {
     neighbor_is_lawful(table);

@@ -39,7 +39,7 @@ pub fn disks_are_spirals()
 pub fn steps_are_lawful()
     ensures states { OverSoundLinks StepsReachStates }
     ensures reverse { OverSoundLinks StepsReverse }
-    ensures part { OverSoundLinks StepsDiffer }
+    ensures differ { OverSoundLinks StepsDiffer }
     ensures move_on { OverSoundLinks StepsMove }
     ensures triangles { OverSoundLinks StepsCloseTriangles }
 {
@@ -71,7 +71,7 @@ pub fn disks_are_charts()
 pub fn neighbors_are_lawful()
     ensures found { OverSoundLinks DirectionsAreFound }
     ensures related { OverSoundLinks NeighborsAreFound }
-    ensures part { OverSoundLinks DirectionsDiffer }
+    ensures one_direction { OverSoundLinks DirectionsDiffer }
     ensures differ { OverSoundLinks NeighborsDiffer }
     ensures mutual { OverSoundLinks NeighborsAreMutual }
     ensures both { OverSoundLinks BothOrdersAgree }

@@ -15,7 +15,7 @@ use h3_lattice::{BaseTable, DIRECTIONS, Direction};
 pub(crate) fn neighbor_is_lawful(table: &BaseTable)
     ensures found { DirectionsAreFound (link_of table.now) }
     ensures related { NeighborsAreFound (link_of table.now) }
-    ensures part { DirectionsDiffer (link_of table.now) }
+    ensures one_direction { DirectionsDiffer (link_of table.now) }
     ensures mutual { NeighborsAreMutual (link_of table.now) }
     ensures both { BothOrdersAgree (link_of table.now) }
 {

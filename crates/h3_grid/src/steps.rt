@@ -14,7 +14,7 @@ use h3_lattice::{BaseTable, Direction, Moved, add, turn};
 /// Laws of steps over the links of a table. It does nothing.
 fn step_is_lawful(table: &BaseTable)
     ensures reverse { StepsReverse (link_of table.now) }
-    ensures part { StepsDiffer (link_of table.now) }
+    ensures differ { StepsDiffer (link_of table.now) }
     ensures move_on { StepsMove (link_of table.now) }
     ensures triangles { StepsCloseTriangles (link_of table.now) }
 {
@@ -55,7 +55,7 @@ pub fn step(
     // steps in different directions lead to different cells, none of them the cell itself; those in
     // a direction and the next one lead to neighbors.
     ensures reverse { StepsReverse (link_of table.now) }
-    ensures part { StepsDiffer (link_of table.now) }
+    ensures differ { StepsDiffer (link_of table.now) }
     ensures move_on { StepsMove (link_of table.now) }
     ensures triangles { StepsCloseTriangles (link_of table.now) }
 {

@@ -11,7 +11,7 @@ use Rattle.h3_lattice.specs.Direction.{digit_of, directions}
 use Rattle.h3_lattice.specs.Fields.{Record}
 use Rattle.h3_lattice.specs.First.{AreGood, FailsFirst, FaultsAreFirst, HoldsEverywhere, LeadsApart, IsEarlier, IsClosed, IsFirstFault, IsFirstFaulty, IsMissing, IsReversed}
 use Rattle.h3_lattice.specs.Links.{IsHexagonBase, Links, is_hexagon_base}
-use Rattle.h3_lattice.specs.Checks.{at_places, closes, fault_at, fault_of_links, from_base, in_directions, leads_apart, reverses, error_unless}
+use Rattle.h3_lattice.specs.Checks.{at_links, closes, fault_at, fault_of_links, from_base, in_directions, leads_apart, reverses, error_unless}
 use Rattle.h3_lattice.specs.Records.{body_of, fault_of, fault_of_records, first_fault, format_of, first_link}
 use Rattle.h3_lattice.specs.Table.{IsOfForm, links_of, missing_of, table_fault}
 use Rattle.h3_lattice.proofs.FormLaws.{form_of, no_fault_of, none_missing}
@@ -124,7 +124,7 @@ record FirstAt (f : ℕ → Direction → Option TableError) (x : TableError) (b
   there : f b d ≡ Some x
   earlier : (a : ℕ) (e : Direction) → IsHexagonBase a → IsEarlier a e b d → f a e ≡ None
 
-found_first : (f : ℕ → Direction → Option TableError) (x : TableError) → at_places f ≡ Some x → (b : ℕ) × (d : Direction) × FirstAt f x b d
+found_first : (f : ℕ → Direction → Option TableError) (x : TableError) → at_links f ≡ Some x → (b : ℕ) × (d : Direction) × FirstAt f x b d
 found_first f x e = (base.base, get_or directions direction.index K, record { hexagon = hexagon_of base.base base.hexagon; there = direction.there; earlier = earlier })
   where
     base : FirstFrom f 0 122 x
@@ -144,7 +144,7 @@ found_first f x e = (base.base, get_or directions direction.index K, record { he
     earlier a e h (inl less) = in_each (f a) e (base.before a (omega arith) less (is_hexagon_of a h))
     earlier a e h (inr (same, less)) = subst (λ a. f a e ≡ None) (sym same) (none_at e less)
 
-first_found : (f : ℕ → Direction → Option TableError) (x : TableError) (b : ℕ) (d : Direction) → FirstAt f x b d → at_places f ≡ Some x
+first_found : (f : ℕ → Direction → Option TableError) (x : TableError) (b : ℕ) (d : Direction) → FirstAt f x b d → at_links f ≡ Some x
 first_found f x b d p = from_base-some f 0 122 b x (omega arith) small (is_hexagon_of b p.hexagon) here before
   where
     small : b < 122
@@ -276,7 +276,7 @@ fails_first {test} {Check} t found x b d p =
     )
 
 first_fails : {test : ℕ → Direction → Bool} {Check : ℕ → Direction → Type 0} → Tests test Check → (found : ℕ → Direction → TableError) (b : ℕ) (d : Direction)
-    → FailsFirst Check b d → at_places (λ b d. error_unless (test b d) (found b d)) ≡ Some (found b d)
+    → FailsFirst Check b d → at_links (λ b d. error_unless (test b d) (found b d)) ≡ Some (found b d)
 first_fails {test} {Check} t found b d p =
     first_found (λ b d. error_unless (test b d) (found b d)) (found b d) b d (record {
       hexagon = p.hexagon;
@@ -284,10 +284,10 @@ first_fails {test} {Check} t found b d p =
       earlier = λ a e h k. error_unless-none (test a e) (found a e) (t.of a e (p.earlier a e h k));
     })
 
-holds : {test : ℕ → Direction → Bool} {Check : ℕ → Direction → Type 0} → Tests test Check → (found : ℕ → Direction → TableError) → at_places (λ b d. error_unless (test b d) (found b d)) ≡ None → HoldsEverywhere Check
+holds : {test : ℕ → Direction → Bool} {Check : ℕ → Direction → Type 0} → Tests test Check → (found : ℕ → Direction → TableError) → at_links (λ b d. error_unless (test b d) (found b d)) ≡ None → HoldsEverywhere Check
 holds {test} {Check} t found e = λ b d h. t.is b d (no_fault (test b d) (found b d) (no_fault_at (λ b d. error_unless (test b d) (found b d)) b d e (is_hexagon_of b h)))
 
-none_fails : {test : ℕ → Direction → Bool} {Check : ℕ → Direction → Type 0} → Tests test Check → (found : ℕ → Direction → TableError) → HoldsEverywhere Check → at_places (λ b d. error_unless (test b d) (found b d)) ≡ None
+none_fails : {test : ℕ → Direction → Bool} {Check : ℕ → Direction → Type 0} → Tests test Check → (found : ℕ → Direction → TableError) → HoldsEverywhere Check → at_links (λ b d. error_unless (test b d) (found b d)) ≡ None
 none_fails {test} {Check} t found h = from_base-none (λ b d. error_unless (test b d) (found b d)) 0 122 (λ b d k. error_unless-none (test b d) (found b d) (t.of b d (h b d k)))
 
 apart_tests : (link : Links) → Tests (leads_apart link) (LeadsApart link)
@@ -333,21 +333,21 @@ missing_is (fault.Neighbours b) k = absurd (omega arith)
 missing_is (fault.Reversal b d) k = absurd (omega arith)
 missing_is (fault.Corner b d) k = absurd (omega arith)
 
-missing-first : (records : List Record) → IsMissing records → at_places (missing_of records) ≡ Some fault.Missing
-missing-first records m = by (at_places (missing_of records)) refl (missing-kind records)
+missing-first : (records : List Record) → IsMissing records → at_links (missing_of records) ≡ Some fault.Missing
+missing-first records m = by (at_links (missing_of records)) refl (missing-kind records)
   where
     named : is_some (first_link (format_of records) m.base (digit_of m.direction) (body_of records)) ≡ true → ⊥
     named h =
         let none : is_some (first_link (format_of records) m.base (digit_of m.direction) (body_of records)) ≡ false = rw m.none refl in
         both_ways (is_some (first_link (format_of records) m.base (digit_of m.direction) (body_of records))) h none
 
-    by : (o : Option TableError) → at_places (missing_of records) ≡ o → IsKind 2 o → o ≡ Some fault.Missing
+    by : (o : Option TableError) → at_links (missing_of records) ≡ o → IsKind 2 o → o ≡ Some fault.Missing
     by None is k =
         absurd (named (no_fault (is_some (first_link (format_of records) m.base (digit_of m.direction) (body_of records))) fault.Missing
         (no_fault_at (missing_of records) m.base m.direction is (is_hexagon_of m.base m.hexagon))))
     by (Some x) is k = ap Some (missing_is x k)
 
-first-missing : (records : List Record) (e : TableError) → at_places (missing_of records) ≡ Some e → IsMissing records × (fault.Missing ≡ e)
+first-missing : (records : List Record) (e : TableError) → at_links (missing_of records) ≡ Some e → IsMissing records × (fault.Missing ≡ e)
 first-missing records e is =
     let (b, d, p) = found_first (missing_of records) e is in
     let here = error_unless-some (is_some (first_link (format_of records) b (digit_of d) (body_of records))) fault.Missing e p.there in
@@ -368,10 +368,10 @@ record_error records (fault.Corner b d) k is = absurd (omega arith)
 -- an error of the checks
 check_error : (records : List Record) (e : TableError) → IsOfForm records → fault_of_links (links_of records) ≡ Some e → IsFirstFault records e
 check_error records e form is =
-    elim (peel (at_places (fault_at check.Neighbors link)) (option_or (at_places (fault_at check.Reversal link)) (at_places (fault_at check.Corner link))) e 3 (checks-kind check.Neighbors link) is) [
+    elim (peel (at_links (fault_at check.Neighbors link)) (option_or (at_links (fault_at check.Reversal link)) (at_links (fault_at check.Corner link))) e 3 (checks-kind check.Neighbors link) is) [
       | inl here ↦ neighbors here.1
       | inr rest ↦ (let apart = holds (apart_tests link) neighbors_at rest.0 in
-          elim (peel (at_places (fault_at check.Reversal link)) (at_places (fault_at check.Corner link)) e 4 (checks-kind check.Reversal link) rest.1) [
+          elim (peel (at_links (fault_at check.Reversal link)) (at_links (fault_at check.Corner link)) e 4 (checks-kind check.Reversal link) rest.1) [
             | inl here ↦ reversal apart here.1
             | inr last ↦ corner apart (holds (reversed_tests link) fault.Reversal last.0) last.1
           ])
@@ -380,19 +380,19 @@ check_error records e form is =
     link : Links
     link = links_of records
 
-    neighbors : at_places (fault_at check.Neighbors link) ≡ Some e → IsFirstFault records e
+    neighbors : at_links (fault_at check.Neighbors link) ≡ Some e → IsFirstFault records e
     neighbors is =
         let (b, d, p) = found_first (fault_at check.Neighbors link) e is in
         let two = fails_first (apart_tests link) neighbors_at e b d p in
         subst (λ e. IsFirstFault records e) two.1 (form, (d, two.0))
 
-    reversal : HoldsEverywhere (LeadsApart link) → at_places (fault_at check.Reversal link) ≡ Some e → IsFirstFault records e
+    reversal : HoldsEverywhere (LeadsApart link) → at_links (fault_at check.Reversal link) ≡ Some e → IsFirstFault records e
     reversal apart is =
         let (b, d, p) = found_first (fault_at check.Reversal link) e is in
         let two = fails_first (reversed_tests link) fault.Reversal e b d p in
         subst (λ e. IsFirstFault records e) two.1 (form, apart, two.0)
 
-    corner : HoldsEverywhere (LeadsApart link) → HoldsEverywhere (IsReversed link) → at_places (fault_at check.Corner link) ≡ Some e → IsFirstFault records e
+    corner : HoldsEverywhere (LeadsApart link) → HoldsEverywhere (IsReversed link) → at_links (fault_at check.Corner link) ≡ Some e → IsFirstFault records e
     corner apart reversed is =
         let (b, d, p) = found_first (fault_at check.Corner link) e is in
         let two = fails_first (closed_tests link) fault.Corner e b d p in
@@ -400,9 +400,9 @@ check_error records e form is =
 
 error_is_first : (records : List Record) (e : TableError) → table_fault records ≡ Some e → IsFirstFault records e
 error_is_first records e is =
-    elim (peel (fault_of_records records) (option_or (at_places (missing_of records)) (fault_of_links (links_of records))) e 1 (records-kind records) is) [
+    elim (peel (fault_of_records records) (option_or (at_links (missing_of records)) (fault_of_links (links_of records))) e 1 (records-kind records) is) [
       | inl here ↦ record_error records e here.0 here.1
-      | inr rest ↦ elim (peel (at_places (missing_of records)) (fault_of_links (links_of records)) e 2 (missing-kind records) rest.1) [
+      | inr rest ↦ elim (peel (at_links (missing_of records)) (fault_of_links (links_of records)) e 2 (missing-kind records) rest.1) [
         | inl here ↦ (let two = first-missing records e here.1 in subst (λ e. IsFirstFault records e) two.1 (records-good records rest.0, two.0))
         | inr last ↦ check_error records e (form_of records rest.0 last.0) last.1
       ]
@@ -410,7 +410,7 @@ error_is_first records e is =
 
 after_records : (records : List Record) (e : TableError) → IsOfForm records → fault_of_links (links_of records) ≡ Some e → table_fault records ≡ Some e
 after_records records e form is =
-    or_none (fault_of_records records) _ e (no_fault_of records form) (or_none (at_places (missing_of records)) (fault_of_links (links_of records)) e (none_missing records form) is)
+    or_none (fault_of_records records) _ e (no_fault_of records form) (or_none (at_links (missing_of records)) (fault_of_links (links_of records)) e (none_missing records form) is)
 
 first_is_error : (records : List Record) (e : TableError) → IsFirstFault records e → table_fault records ≡ Some e
 first_is_error records fault.Read p = absurd p
@@ -421,18 +421,18 @@ first_is_error records (fault.Range row) p = or_some (fault_of_records records) 
 first_is_error records (fault.Repeated row) p = or_some (fault_of_records records) _ (fault.Repeated row) (first-records records (fault.Repeated row) p)
 first_is_error records fault.Missing p =
     or_none (fault_of_records records) _ fault.Missing (good-records records p.0)
-    (or_some (at_places (missing_of records)) (fault_of_links (links_of records)) fault.Missing (missing-first records p.1))
+    (or_some (at_links (missing_of records)) (fault_of_links (links_of records)) fault.Missing (missing-first records p.1))
 first_is_error records (fault.Neighbours b) p =
     after_records records (fault.Neighbours b) p.0
-    (or_some (at_places (fault_at check.Neighbors (links_of records))) _ (fault.Neighbours b) (first_fails (apart_tests (links_of records)) neighbors_at b p.1.0 p.1.1))
+    (or_some (at_links (fault_at check.Neighbors (links_of records))) _ (fault.Neighbours b) (first_fails (apart_tests (links_of records)) neighbors_at b p.1.0 p.1.1))
 first_is_error records (fault.Reversal b d) p =
     after_records records (fault.Reversal b d) p.0
-    (or_none (at_places (fault_at check.Neighbors (links_of records))) _ (fault.Reversal b d) (none_fails (apart_tests (links_of records)) neighbors_at p.1)
-    (or_some (at_places (fault_at check.Reversal (links_of records))) _ (fault.Reversal b d) (first_fails (reversed_tests (links_of records)) fault.Reversal b d p.2)))
+    (or_none (at_links (fault_at check.Neighbors (links_of records))) _ (fault.Reversal b d) (none_fails (apart_tests (links_of records)) neighbors_at p.1)
+    (or_some (at_links (fault_at check.Reversal (links_of records))) _ (fault.Reversal b d) (first_fails (reversed_tests (links_of records)) fault.Reversal b d p.2)))
 first_is_error records (fault.Corner b d) p =
     after_records records (fault.Corner b d) p.0
-    (or_none (at_places (fault_at check.Neighbors (links_of records))) _ (fault.Corner b d) (none_fails (apart_tests (links_of records)) neighbors_at p.1)
-    (or_none (at_places (fault_at check.Reversal (links_of records))) _ (fault.Corner b d) (none_fails (reversed_tests (links_of records)) fault.Reversal p.2)
+    (or_none (at_links (fault_at check.Neighbors (links_of records))) _ (fault.Corner b d) (none_fails (apart_tests (links_of records)) neighbors_at p.1)
+    (or_none (at_links (fault_at check.Reversal (links_of records))) _ (fault.Corner b d) (none_fails (reversed_tests (links_of records)) fault.Reversal p.2)
     (first_fails (closed_tests (links_of records)) fault.Corner b d p.3)))
 
 pub faults_are_first : FaultsAreFirst

@@ -17,7 +17,7 @@ use Rattle.h3_lattice.specs.Format.{own_digit, header_format, format_after, head
 use Rattle.h3_lattice.specs.FormatOne.{header_one}
 use Rattle.h3_lattice.specs.FormatTwo.{header_two, is_link_two, link_at_digit}
 use Rattle.h3_lattice.specs.Links.{IsHexagonBase, IsLink, IsSound, is_hexagon_base}
-use Rattle.h3_lattice.specs.Checks.{at_places, fault_of_links}
+use Rattle.h3_lattice.specs.Checks.{at_links, fault_of_links}
 use Rattle.h3_lattice.specs.Records.{body_of, fault_in, fault_of, fault_of_records, first_fault, format_of, record_link, first_link}
 use Rattle.h3_lattice.specs.Table.{IsLinkRecord, IsOfForm, SoundFilesAreAccepted, has_link, links_of, missing_of, table_fault}
 use Rattle.h3_lattice.proofs.ReadingLaws.{format-under}
@@ -250,7 +250,7 @@ one_of : (format : Format) (b d : ℕ) (body : List Record) (more : ℕ) → 1 �
 unfolding count
 one_of format b d body more h k = omega arith
 
-pub form_of : (records : List Record) → fault_of_records records ≡ None → at_places (missing_of records) ≡ None → IsOfForm records
+pub form_of : (records : List Record) → fault_of_records records ≡ None → at_links (missing_of records) ≡ None → IsOfForm records
 unfolding first_fault
 form_of [] e full = cc e
 form_of (front ∷ body) e full =
@@ -300,7 +300,7 @@ some_of records f b d h =
     let is = format_is records f in
     rw is (counts-linked f.format b (digit_of d) (body_of records) (omega arith))
 
-pub none_missing : (records : List Record) → IsOfForm records → at_places (missing_of records) ≡ None
+pub none_missing : (records : List Record) → IsOfForm records → at_links (missing_of records) ≡ None
 none_missing records f =
     from_base-none (missing_of records) 0 122
     (λ b d h. error_unless-none (is_some (first_link (format_of records) b (digit_of d) (body_of records))) fault.Missing (some_of records f b d h))
@@ -313,12 +313,12 @@ sound_files_are_accepted records = (accepted, refused_not)
 
     accepted : table_fault records ≡ None → IsOfForm records × IsSound (links_of records)
     accepted e =
-        let one = both (fault_of_records records) (option_or (at_places (missing_of records)) (fault_of_links (links_of records))) e in
-        let two = both (at_places (missing_of records)) (fault_of_links (links_of records)) one.1 in
+        let one = both (fault_of_records records) (option_or (at_links (missing_of records)) (fault_of_links (links_of records))) e in
+        let two = both (at_links (missing_of records)) (fault_of_links (links_of records)) one.1 in
         let form = form_of records one.0 two.0 in
         (form, (checks_mean_sound (links_of records) (within form)).0 two.1)
 
     refused_not : IsOfForm records × IsSound (links_of records) → table_fault records ≡ None
     refused_not h =
-        nones (fault_of_records records) (option_or (at_places (missing_of records)) (fault_of_links (links_of records))) (no_fault_of records h.0)
-        (nones (at_places (missing_of records)) (fault_of_links (links_of records)) (none_missing records h.0) ((checks_mean_sound (links_of records) (within h.0)).1 h.1))
+        nones (fault_of_records records) (option_or (at_links (missing_of records)) (fault_of_links (links_of records))) (no_fault_of records h.0)
+        (nones (at_links (missing_of records)) (fault_of_links (links_of records)) (none_missing records h.0) ((checks_mean_sound (links_of records) (within h.0)).1 h.1))

@@ -12,7 +12,7 @@ use Rattle.h3_lattice.specs.declared.format.Format.{Format}
 use Rattle.h3_lattice.specs.Fields.{Record, numbers_in}
 use Rattle.h3_lattice.specs.Format.{own_digit, header_format, format_after, in_range, width}
 use Rattle.h3_lattice.specs.Links.{Links, is_hexagon_base}
-use Rattle.h3_lattice.specs.Checks.{at_places, closes, fault_at, fault_of_links, from_base, in_directions, leads_apart, reverses}
+use Rattle.h3_lattice.specs.Checks.{at_links, closes, fault_at, fault_of_links, from_base, in_directions, leads_apart, reverses}
 use Rattle.h3_lattice.specs.Records.{body_of, fault_in, fault_of, fault_of_records, first_fault, format_of, first_link}
 use Rattle.h3_lattice.specs.Table.{links_of, missing_of, table_fault}
 
@@ -86,11 +86,11 @@ pub records-kind : (records : List Record) → IsKind 1 (fault_of_records record
 records-kind [] = refl
 records-kind (front ∷ body) = first_fault-kind [] (front ∷ body)
 
-pub missing-kind : (records : List Record) → IsKind 2 (at_places (missing_of records))
+pub missing-kind : (records : List Record) → IsKind 2 (at_links (missing_of records))
 missing-kind records =
     from_base-kind 2 (missing_of records) 0 122 (λ b d. if_kind 2 (is_some (first_link (format_of records) b (digit_of d) (body_of records))) None (Some fault.Missing) tt refl)
 
-pub checks-kind : (c : Check) (link : Links) → IsKind (kind_of c) (at_places (fault_at c link))
+pub checks-kind : (c : Check) (link : Links) → IsKind (kind_of c) (at_links (fault_at c link))
 checks-kind c link = from_base-kind (kind_of c) (fault_at c link) 0 122 (fault_at-kind c link)
 
 -- ---- the error of two parts in turn
@@ -108,8 +108,8 @@ is_kind k (Some x) e i is = let same : x ≡ e = cc is in rw (← same) i
 pub table_fault-kind : (records : List Record) (e : TableError) → table_fault records ≡ Some e → 0 < kind e
 table_fault-kind records e is =
     let link = links_of records in
-    either_kind (fault_of_records records) (option_or (at_places (missing_of records)) (fault_of_links link)) e 1 (λ k. 0 < k) (records-kind records) (omega arith) (λ x is.
-    either_kind (at_places (missing_of records)) (fault_of_links link) x 2 (λ k. 0 < k) (missing-kind records) (omega arith) (λ x is.
-    either_kind (at_places (fault_at check.Neighbors link)) (option_or (at_places (fault_at check.Reversal link)) (at_places (fault_at check.Corner link))) x 3 (λ k. 0 < k) (checks-kind check.Neighbors link) (omega arith) (λ x is.
-    either_kind (at_places (fault_at check.Reversal link)) (at_places (fault_at check.Corner link)) x 4 (λ k. 0 < k) (checks-kind check.Reversal link) (omega arith) (λ x is.
-    let five = is_kind 5 (at_places (fault_at check.Corner link)) x (checks-kind check.Corner link) is in omega arith) is) is) is) is
+    either_kind (fault_of_records records) (option_or (at_links (missing_of records)) (fault_of_links link)) e 1 (λ k. 0 < k) (records-kind records) (omega arith) (λ x is.
+    either_kind (at_links (missing_of records)) (fault_of_links link) x 2 (λ k. 0 < k) (missing-kind records) (omega arith) (λ x is.
+    either_kind (at_links (fault_at check.Neighbors link)) (option_or (at_links (fault_at check.Reversal link)) (at_links (fault_at check.Corner link))) x 3 (λ k. 0 < k) (checks-kind check.Neighbors link) (omega arith) (λ x is.
+    either_kind (at_links (fault_at check.Reversal link)) (at_links (fault_at check.Corner link)) x 4 (λ k. 0 < k) (checks-kind check.Reversal link) (omega arith) (λ x is.
+    let five = is_kind 5 (at_links (fault_at check.Corner link)) x (checks-kind check.Corner link) is in omega arith) is) is) is) is

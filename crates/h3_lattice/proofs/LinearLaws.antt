@@ -4,7 +4,7 @@ use borrow.Author.Differences.{up, down, same_in, same_out, sum_is_lem, neg_is, 
 use Rattle.h3_lattice.specs.declared.direction.Direction.{Direction}
 use Rattle.h3_lattice.specs.declared.direction.Direction.TheVariants.{K, J, JK, I, IK, IJ}
 use Rattle.h3_lattice.specs.Eisenstein.{Eisenstein, eisenstein, product_of}
-use Rattle.h3_lattice.specs.Direction.{turned, turned_once, turns, unit_of}
+use Rattle.h3_lattice.specs.Direction.{turned, turned_once, turning, unit_of}
 
 pub point_in : (x y : Eisenstein) → (up x.a + down y.a ≡ up y.a + down x.a) × (up x.b + down y.b ≡ up y.b + down x.b) → x ≡ y
 point_in x y h =
@@ -44,10 +44,10 @@ one_times_unit I = refl
 one_times_unit IK = refl
 one_times_unit IJ = refl
 
-pub unit_of-turned : (n : ℕ) (d : Direction) → unit_of (turned n d) ≡ product_of (turns n) (unit_of d)
+pub unit_of-turned : (n : ℕ) (d : Direction) → unit_of (turned n d) ≡ product_of (turning n) (unit_of d)
 unit_of-turned zero d = one_times_unit d
 unit_of-turned (suc n) d =
-    unit_of-turned_once (turned n d) ∙ ap (product_of (eisenstein (pos 1) (pos 1))) (unit_of-turned n d) ∙ turn_times_unit d (turns n)
+    unit_of-turned_once (turned n d) ∙ ap (product_of (eisenstein (pos 1) (pos 1))) (unit_of-turned n d) ∙ turn_times_unit d (turning n)
 
 -- ---- a product with 1 + w of a product of any two
 

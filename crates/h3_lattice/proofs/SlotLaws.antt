@@ -15,7 +15,7 @@ use Rattle.h3_lattice.specs.Fields.{Record, numbers_in}
 use Rattle.h3_lattice.specs.Format.{own_digit, in_range, link_in, width}
 use Rattle.h3_lattice.specs.FormatOne.{in_range_one, link_one}
 use Rattle.h3_lattice.specs.FormatTwo.{in_range_two, is_link_two, link_at_digit, link_two}
-use Rattle.h3_lattice.specs.Links.{IsLink, is_hexagon_base, is_link, place_of}
+use Rattle.h3_lattice.specs.Links.{IsLink, is_hexagon_base, is_link, slot_of}
 use Rattle.h3_lattice.specs.Records.{fault_in, record_link, first_link}
 use Rattle.h3_lattice.specs.Slots.{Holds, IsInRangeOne, IsInRangeTwo, SetsLinks}
 use Rattle.h3_lattice.proofs.SoundLaws.{and_both, direction_below, eqb-eq, nth_direction, true-nat_lt}
@@ -97,8 +97,8 @@ fault-same format known other row None h = refl
 fault-same format known other row (Some ns) h = same_if (known (slice_index ns 0) (own_digit format ns)) (other (slice_index ns 0) (own_digit format ns)) row (in_range format ns) (h ns)
 
 pub fault-held : (format : Format) (slots : List (Option (ℕ × ℕ))) (body : List Record) (row : ℕ) (o : Option (List ℕ)) → Holds format slots body
-    → fault_in format row (λ b d. slice_index_or slots (place_of b d) None) o ≡ fault_in format row (λ b d. first_link format b d body) o
-fault-held format slots body row o h = fault-same format (λ b d. slice_index_or slots (place_of b d) None) (λ b d. first_link format b d body) row o
+    → fault_in format row (λ b d. slice_index_or slots (slot_of b d) None) o ≡ fault_in format row (λ b d. first_link format b d body) o
+fault-held format slots body row o h = fault-same format (λ b d. slice_index_or slots (slot_of b d) None) (λ b d. first_link format b d body) row o
     (λ ns e. let k = first_place format ns e in h.same (slice_index ns 0) (own_digit format ns) k.1 k.2)
 
 -- no slot is known before the first record
@@ -110,7 +110,7 @@ none_known (suc n) (suc i) = none_known n i
 pub holds-none : (format : Format) → Holds format (replicate 732 None) []
 holds-none format = record {
   long = length-replicate {A = Option (ℕ × ℕ)} 732 None;
-  same = λ b d k l. none_known 732 (place_of b d) ∙ sym (first_link-none format b d);
+  same = λ b d k l. none_known 732 (slot_of b d) ∙ sym (first_link-none format b d);
 }
 
 -- numbers without a fault are in range, and their slot is free
@@ -173,9 +173,9 @@ either_first None (Some y) h = refl
 either_first (Some x) (Some y) h = cc (h refl)
 
 pub holds-more : (format : Format) (slots new : List (Option (ℕ × ℕ))) (body : List Record) (r : Record) (ns : List ℕ) (row : ℕ) → Holds format slots body → numbers_in (width format) r ≡ Some ns
-    → fault_in format row (λ b d. slice_index_or slots (place_of b d) None) (Some ns) ≡ None → SetsLinks format ns slots new → Holds format new (body ++ (r ∷ []))
+    → fault_in format row (λ b d. slice_index_or slots (slot_of b d) None) (Some ns) ≡ None → SetsLinks format ns slots new → Holds format new (body ++ (r ∷ []))
 holds-more format slots new body r ns row h e f t =
-    let free = free-slot format row (λ b d. slice_index_or slots (place_of b d) None) ns f in
+    let free = free-slot format row (λ b d. slice_index_or slots (slot_of b d) None) ns f in
     let k = first_place format ns free.0 in
     let first : first_link format (slice_index ns 0) (own_digit format ns) body ≡ None = sym (h.same (slice_index ns 0) (own_digit format ns) k.1 k.2) ∙ free.1 in
     record {
@@ -190,4 +190,4 @@ holds-more format slots new body r ns row h e f t =
 pub record Kept (ns : List ℕ) (n : ℕ) (old new : List (Option (ℕ × ℕ))) : Type 0 where
   pub long : length new ≡ length old
   pub each : (b d : ℕ) → 0 < d → d < 7
-      → slice_index_or new (place_of b d) None ≡ option_or (if (slice_index ns 0 == b) && (nat_lt 0 d && nat_lt d n) then Some (link_at_digit d ns) else None) (slice_index_or old (place_of b d) None)
+      → slice_index_or new (slot_of b d) None ≡ option_or (if (slice_index ns 0 == b) && (nat_lt 0 d && nat_lt d n) then Some (link_at_digit d ns) else None) (slice_index_or old (slot_of b d) None)

@@ -15,8 +15,8 @@ use Rattle.h3_lattice.specs.declared.error.TableError.TheVariants as fault
 use Rattle.h3_lattice.specs.declared.checks.Check.TheVariants as check
 use Rattle.h3_index.specs.Cell.{is_pentagon_base}
 use Rattle.h3_lattice.specs.Direction.{digit_of, directions, turned_once}
-use Rattle.h3_lattice.specs.Links.{IsHexagonBase, IsLink, IsSound, Links, is_hexagon_base, links_in, place_of}
-use Rattle.h3_lattice.specs.Checks.{at_places, closes, fault_at, fault_of_links, from_base, in_directions, leads_apart, parts, reverses, same_link, error_unless}
+use Rattle.h3_lattice.specs.Links.{IsHexagonBase, IsLink, IsSound, Links, is_hexagon_base, links_in, slot_of}
+use Rattle.h3_lattice.specs.Checks.{at_links, closes, fault_at, fault_of_links, from_base, in_directions, leads_apart, are_apart, reverses, same_link, error_unless}
 use Rattle.h3_lattice.specs.First.{LeadsApart, IsClosed, IsReversed}
 use Rattle.h3_lattice.specs.Table.{ChecksMeanSound}
 
@@ -100,7 +100,7 @@ pub is_hexagon_of : (b : ℕ) → IsHexagonBase b → is_hexagon_base b ≡ true
 unfolding is_hexagon_base
 is_hexagon_of b h = let small : nat_lt b 122 ≡ true = nat_lt-true b 122 h.0 in rw (small, h.1) refl
 
-pub no_fault_at : (f : ℕ → Direction → Option TableError) (b : ℕ) (d : Direction) → at_places f ≡ None → is_hexagon_base b ≡ true → f b d ≡ None
+pub no_fault_at : (f : ℕ → Direction → Option TableError) (b : ℕ) (d : Direction) → at_links f ≡ None → is_hexagon_base b ≡ true → f b d ≡ None
 no_fault_at f b d e h = let k = hexagon_of b h in at_each f 122 0 b d e (omega arith) (omega arith) h
 
 or_true : (a b : Bool) → not a || b ≡ true → a ≡ true → b ≡ true
@@ -163,7 +163,7 @@ not_self m n e h = grind (arith, nat_tests)
 same_not : (m n : ℕ) → m ≡ n → not (m == n) ≡ false
 same_not m n h = grind (arith, nat_tests)
 
-one_direction : (link : Links) (b : ℕ) (d e : Direction) → parts link b d e ≡ true → (link b d).0 ≡ (link b e).0 → d ≡ e
+one_direction : (link : Links) (b : ℕ) (d e : Direction) → are_apart link b d e ≡ true → (link b d).0 ≡ (link b e).0 → d ≡ e
 one_direction link b d e t h =
     same_numbers d e (sym (eqb-eq (digit_of e) (digit_of d) (or_left (digit_of e == digit_of d) (not ((link b e).0 == (link b d).0)) t (same_not (link b e).0 (link b d).0 (sym h)))))
 
@@ -177,16 +177,16 @@ unfolding links_in
 links_within links long all b d h =
     let small : digit_of d < 7 = digit_of-lt d in
     let below : b < 122 = h.0 in
-    All-get_or IsLink links (place_of b (digit_of d)) (0, 0) (omega arith) all
+    All-get_or IsLink links (slot_of b (digit_of d)) (0, 0) (omega arith) all
 
 -- ---- what each test says
 
 pub apart-is : (link : Links) (b : ℕ) (d : Direction) → leads_apart link b d ≡ true → LeadsApart link b d
 apart-is link b d t =
-    let two = and_both (not ((link b d).0 == b)) (list_all (parts link b d) directions) t in
+    let two = and_both (not ((link b d).0 == b)) (list_all (are_apart link b d) directions) t in
     record {
       away = λ same. not_self (link b d).0 b two.0 same;
-      apart = λ e same. one_direction link b d e (each_at (parts link b d) e two.1) same;
+      apart = λ e same. one_direction link b d e (each_at (are_apart link b d) e two.1) same;
     }
 
 pub reversed-is : (link : Links) (b : ℕ) (d : Direction) → reverses link b d ≡ true → IsReversed link b d
@@ -200,8 +200,8 @@ closed-is link b d t k l =
 -- what the three tests say at every place
 pub sound_of : (link : Links) → ((b : ℕ) (d : Direction) → IsHexagonBase b → IsLink (link b d)) → fault_of_links link ≡ None → IsSound link
 sound_of link within none =
-    let one = both (at_places (fault_at check.Neighbors link)) (option_or (at_places (fault_at check.Reversal link)) (at_places (fault_at check.Corner link))) none in
-    let two = both (at_places (fault_at check.Reversal link)) (at_places (fault_at check.Corner link)) one.1 in
+    let one = both (at_links (fault_at check.Neighbors link)) (option_or (at_links (fault_at check.Reversal link)) (at_links (fault_at check.Corner link))) none in
+    let two = both (at_links (fault_at check.Reversal link)) (at_links (fault_at check.Corner link)) one.1 in
     let neighbors : (b : ℕ) (d : Direction) → IsHexagonBase b → leads_apart link b d ≡ true = λ b d h. no_fault (leads_apart link b d) (fault.Neighbours b) (no_fault_at (fault_at check.Neighbors link) b d one.0 (is_hexagon_of b h)) in
     let reversal : (b : ℕ) (d : Direction) → IsHexagonBase b → reverses link b d ≡ true = λ b d h. no_fault (reverses link b d) (fault.Reversal b d) (no_fault_at (fault_at check.Reversal link) b d two.0 (is_hexagon_of b h)) in
     let corner : (b : ℕ) (d : Direction) → IsHexagonBase b → closes link b d ≡ true = λ b d h. no_fault (closes link b d) (fault.Corner b d) (no_fault_at (fault_at check.Corner link) b d two.1 (is_hexagon_of b h)) in
@@ -274,11 +274,11 @@ same_or_or false k p q e = refl
 pub apart-of : (link : Links) (b : ℕ) (d : Direction) → LeadsApart link b d → leads_apart link b d ≡ true
 apart-of link b d s =
     let away : not ((link b d).0 == b) ≡ true = not_eqb (link b d).0 b s.away in
-    let each : list_all (parts link b d) directions ≡ true = list_all-true (parts link b d) directions parts_of in
+    let each : list_all (are_apart link b d) directions ≡ true = list_all-true (are_apart link b d) directions are_apart_of in
     rw (away, each) refl
   where
-    parts_of : (e : Direction) → parts link b d e ≡ true
-    parts_of e = parts_true (digit_of e) (digit_of d) (link b e).0 (link b d).0 (λ k. ap digit_of (sym (s.apart e (sym k))))
+    are_apart_of : (e : Direction) → are_apart link b d e ≡ true
+    are_apart_of e = parts_true (digit_of e) (digit_of d) (link b e).0 (link b d).0 (λ k. ap digit_of (sym (s.apart e (sym k))))
 
 pub reversed-of : (link : Links) (b : ℕ) (d : Direction) → IsReversed link b d → reverses link b d ≡ true
 reversed-of link b d s = same_or (is_hexagon_base (link b d).0) _ _ (λ k. s (hexagon_of (link b d).0 k))

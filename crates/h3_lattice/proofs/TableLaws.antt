@@ -6,8 +6,8 @@ use Rattle.h3_lattice.specs.declared.error.TableError.{TableError}
 use Rattle.h3_lattice.specs.declared.error.TableError.TheVariants as fault
 use Rattle.h3_lattice.specs.Direction.{digit_of}
 use Rattle.h3_lattice.specs.Fields.{Record, records_of}
-use Rattle.h3_lattice.specs.Links.{Links, links_in, place_of}
-use Rattle.h3_lattice.specs.Checks.{at_places, fault_of_links, error_unless}
+use Rattle.h3_lattice.specs.Links.{Links, links_in, slot_of}
+use Rattle.h3_lattice.specs.Checks.{at_links, fault_of_links, error_unless}
 use Rattle.h3_lattice.specs.Records.{body_of, fault_of_records, format_of}
 use Rattle.h3_lattice.specs.Slots.{Holds, IsFaultOrMemory, StopsReading, missing_at}
 use Rattle.h3_lattice.specs.Table.{RefusesTable, links_of, missing_of, table_fault}
@@ -34,14 +34,14 @@ refuses_file fails records e is = refuses_kind fails (table_fault records) e (ta
 
 -- ---- the slots hold the links of the records
 
-missing-same : (slots : List (Option (ℕ × ℕ))) (records : List Record) → Holds (format_of records) slots (body_of records) → at_places (missing_at slots) ≡ at_places (missing_of records)
+missing-same : (slots : List (Option (ℕ × ℕ))) (records : List Record) → Holds (format_of records) slots (body_of records) → at_links (missing_at slots) ≡ at_links (missing_of records)
 missing-same slots records h =
-    ap at_places (λ i b d. ap (λ (o : Option (ℕ × ℕ)). error_unless (is_some o) fault.Missing) (h.same b (digit_of d) (digit_of-gt d) (digit_of-lt d)) i)
+    ap at_links (λ i b d. ap (λ (o : Option (ℕ × ℕ)). error_unless (is_some o) fault.Missing) (h.same b (digit_of d) (digit_of-gt d) (digit_of-lt d)) i)
 
 pub links-same : (slots : List (Option (ℕ × ℕ))) (links : List (ℕ × ℕ)) (records : List Record) → Holds (format_of records) slots (body_of records) → AreFilled slots links → links_in links ≡ links_of records
 unfolding links_in
 links-same slots links records h same =
-    λ i b d. (same (place_of b (digit_of d)) ∙ ap (λ (o : Option (ℕ × ℕ)). unwrap_or o (0, 0)) (h.same b (digit_of d) (digit_of-gt d) (digit_of-lt d))) i
+    λ i b d. (same (slot_of b (digit_of d)) ∙ ap (λ (o : Option (ℕ × ℕ)). unwrap_or o (0, 0)) (h.same b (digit_of d) (digit_of-gt d) (digit_of-lt d))) i
 
 -- ---- the file's fault, part by part
 
@@ -51,9 +51,9 @@ next_some a b e is = rw is refl
 next_none : (a b : Option TableError) → a ≡ None → option_or a b ≡ b
 next_none a b is = rw is refl
 
-table_fault-missing : (records : List Record) (o : Option TableError) → fault_of_records records ≡ None → at_places (missing_of records) ≡ o → table_fault records ≡ option_or o (fault_of_links (links_of records))
+table_fault-missing : (records : List Record) (o : Option TableError) → fault_of_records records ≡ None → at_links (missing_of records) ≡ o → table_fault records ≡ option_or o (fault_of_links (links_of records))
 table_fault-missing records o none is =
-    next_none (fault_of_records records) (option_or (at_places (missing_of records)) (fault_of_links (links_of records))) none
+    next_none (fault_of_records records) (option_or (at_links (missing_of records)) (fault_of_links (links_of records))) none
     ∙ ap (λ (p : Option TableError). option_or p (fault_of_links (links_of records))) is
 
 -- ---- how the reading of a file ends
@@ -73,7 +73,7 @@ abbrev pub IsGood : List (Option (ℕ × ℕ)) → List ℕ → Type 0
 IsGood slots text = (fault_of_records (records_of text) ≡ None) × Holds (format_of (records_of text)) slots (body_of (records_of text))
 
 pub refuses_missing : (fails : Type 0) (slots : List (Option (ℕ × ℕ))) (text bytes : List ℕ) (o : Option TableError) (e : TableError) → text ≡ bytes → IsGood slots text
-    → o ≡ at_places (missing_at slots) → o ≡ Some e → RefusesTable fails (table_fault (records_of bytes)) e
+    → o ≡ at_links (missing_at slots) → o ≡ Some e → RefusesTable fails (table_fault (records_of bytes)) e
 refuses_missing fails slots text bytes o e same good first is =
     let good' : IsGood slots bytes = subst (IsGood slots) same good in
     refuses_file fails (records_of bytes) e
@@ -81,7 +81,7 @@ refuses_missing fails slots text bytes o e same good first is =
 
 -- the error of the filled slots is that of the file
 table_fault-links : (slots : List (Option (ℕ × ℕ))) (links : List (ℕ × ℕ)) (records : List Record) (o p : Option TableError) → fault_of_records records ≡ None → Holds (format_of records) slots (body_of records)
-    → o ≡ at_places (missing_at slots) → o ≡ None
+    → o ≡ at_links (missing_at slots) → o ≡ None
     → AreFilled slots links
     → fault_of_links (links_in links) ≡ p → table_fault records ≡ p
 table_fault-links slots links records o p none holds first full same is =
@@ -89,7 +89,7 @@ table_fault-links slots links records o p none holds first full same is =
     ∙ sym (ap fault_of_links (links-same slots links records holds same)) ∙ is
 
 pub refuses_links : (fails : Type 0) (slots : List (Option (ℕ × ℕ))) (links : List (ℕ × ℕ)) (text bytes : List ℕ) (o : Option TableError) (e : TableError) → text ≡ bytes → IsGood slots text
-    → o ≡ at_places (missing_at slots) → o ≡ None
+    → o ≡ at_links (missing_at slots) → o ≡ None
     → AreFilled slots links
     → fault_of_links (links_in links) ≡ Some e → RefusesTable fails (table_fault (records_of bytes)) e
 refuses_links fails slots links text bytes o e same good first full filled is =
@@ -97,7 +97,7 @@ refuses_links fails slots links text bytes o e same good first full filled is =
     refuses_file fails (records_of bytes) e (table_fault-links slots links (records_of bytes) o (Some e) good'.0 good'.1 first full filled is)
 
 pub accepts : (slots : List (Option (ℕ × ℕ))) (links : List (ℕ × ℕ)) (text bytes : List ℕ) (o : Option TableError) (link : Links) → text ≡ bytes → IsGood slots text
-    → o ≡ at_places (missing_at slots) → o ≡ None
+    → o ≡ at_links (missing_at slots) → o ≡ None
     → AreFilled slots links
     → fault_of_links (links_in links) ≡ None → link ≡ links_in links → (table_fault (records_of bytes) ≡ None) × (link ≡ links_of (records_of bytes))
 accepts slots links text bytes o link same good first full filled none is =

@@ -8,7 +8,7 @@ use Rattle.h3_lattice.specs.declared.error.TableError.{TableError}
 use Rattle.h3_lattice.specs.declared.format.Format.{Format}
 use Rattle.h3_lattice.specs.Fields.{Record, numbers_in, records_of}
 use Rattle.h3_lattice.specs.Format.{header_format, format_after, width}
-use Rattle.h3_lattice.specs.Links.{place_of}
+use Rattle.h3_lattice.specs.Links.{slot_of}
 use Rattle.h3_lattice.specs.Records.{fault_in, fault_of, fault_of_records}
 use Rattle.h3_lattice.specs.Slots.{Holds, SetsLinks}
 use Rattle.h3_lattice.proofs.RecordLaws.{reached-few}
@@ -16,13 +16,13 @@ use Rattle.h3_lattice.proofs.ReadingLaws.{IsRead, read-faulty, read-more, format
 use Rattle.h3_lattice.proofs.SlotLaws.{holds-more, fault-held}
 
 taken-holds : (format : Format) (slots new : List (Option (ℕ × ℕ))) (body : List Record) (r : Record) (row : ℕ) (o : Option (List ℕ)) → Holds format slots body → o ≡ numbers_in (width format) r
-    → fault_in format row (λ b d. slice_index_or slots (place_of b d) None) o ≡ None
+    → fault_in format row (λ b d. slice_index_or slots (slot_of b d) None) o ≡ None
     → IfSome o (λ ns. SetsLinks format ns slots new) → Holds format new (body ++ (r ∷ []))
 taken-holds format slots new body r row None h e f k = cc f
 taken-holds format slots new body r row (Some ns) h e f k = holds-more format slots new body r ns row h (sym e) f k
 
 fault-is : (format : Format) (slots : List (Option (ℕ × ℕ))) (front r : Record) (body : List Record) (number : ℕ) → header_format front ≡ Some format → Holds format slots body → length body + 1 ≡ number
-    → fault_of (front ∷ body) r ≡ fault_in format (number + 1) (λ b d. slice_index_or slots (place_of b d) None) (numbers_in (width format) r)
+    → fault_of (front ∷ body) r ≡ fault_in format (number + 1) (λ b d. slice_index_or slots (slot_of b d) None) (numbers_in (width format) r)
 fault-is format slots front r body number t h c =
     let n : length body + 2 ≡ number + 1 = omega arith in
     let under : format_after front ≡ format = format-under front format t in
@@ -30,7 +30,7 @@ fault-is format slots front r body number t h c =
 
 pub step-good : (text : List ℕ) (format : Format) (number : ℕ) (slots new : List (Option (ℕ × ℕ))) (s s2 : State) (y z : List ℕ) (w : IsRead text format number slots s y) (r : Record)
     → Reached default_config st.StartRecord (strip_bom text) ((w.front ∷ w.body) ++ (r ∷ [])) s2 z
-    → fault_in format (number + 1) (λ b d. slice_index_or slots (place_of b d) None) (numbers_in (width format) r) ≡ None
+    → fault_in format (number + 1) (λ b d. slice_index_or slots (slot_of b d) None) (numbers_in (width format) r) ≡ None
     → IfSome (numbers_in (width format) r) (λ ns. SetsLinks format ns slots new)
     → IsRead text format (number + 1) new s2 z
 step-good text format number slots new s s2 y z w r h f k =
@@ -39,7 +39,7 @@ step-good text format number slots new s s2 y z w r h f k =
 
 pub step-bad : (text : List ℕ) (format : Format) (number : ℕ) (slots : List (Option (ℕ × ℕ))) (s s2 : State) (y z : List ℕ) (w : IsRead text format number slots s y) (r : Record) (fault : TableError)
     → Reached default_config st.StartRecord (strip_bom text) ((w.front ∷ w.body) ++ (r ∷ [])) s2 z
-    → fault_in format (number + 1) (λ b d. slice_index_or slots (place_of b d) None) (numbers_in (width format) r) ≡ Some fault → fault_of_records (records_of text) ≡ Some fault
+    → fault_in format (number + 1) (λ b d. slice_index_or slots (slot_of b d) None) (numbers_in (width format) r) ≡ Some fault → fault_of_records (records_of text) ≡ Some fault
 step-bad text format number slots s s2 y z w r fault h f =
     read-faulty text format number slots s s2 y z w r fault h (fault-is format slots w.front r w.body number w.header_is w.holds w.counted ∙ f)
 

@@ -8,7 +8,7 @@ use Rattle.h3_lattice.specs.declared.direction.Direction.TheVariants.{K, J, JK, 
 use Rattle.h3_lattice.specs.declared.class.Class.{Class}
 use Rattle.h3_lattice.specs.declared.class.Class.TheVariants.{Two, Three}
 use Rattle.h3_lattice.specs.Eisenstein.{Eisenstein, eisenstein, one, product_of, sum_of, zero_point}
-use Rattle.h3_lattice.specs.Direction.{digit_or_zero, digit_turned, digit_value, direction_of, option_turned, turned, turned_once, turns, value_of, AreTurned}
+use Rattle.h3_lattice.specs.Direction.{digit_or_zero, digit_turned, digit_value, direction_of, option_turned, turned, turned_once, turning, value_of, AreTurned}
 use Rattle.h3_lattice.specs.Class.{class_at, multiplier}
 use Rattle.h3_lattice.specs.Expansion.{place_from, place}
 use Rattle.h3_lattice.specs.Laws.{DigitTurnsAdd, OppositesAreThreeTurns, SixDigitTurnsAreNone, SixTurnsAreNone, TurnsAdd}
@@ -18,11 +18,11 @@ use Rattle.h3_lattice.proofs.DivisionLaws.{digit_or_zero-direction_of, digit_or_
 times_zero : (p : Eisenstein) → zero_point ≡ product_of p zero_point
 times_zero p = omega (arith, points)
 
-value_of-turned : (n : ℕ) (x : Option Direction) → value_of (option_turned n x) ≡ product_of (turns n) (value_of x)
-value_of-turned n None = times_zero (turns n)
+value_of-turned : (n : ℕ) (x : Option Direction) → value_of (option_turned n x) ≡ product_of (turning n) (value_of x)
+value_of-turned n None = times_zero (turning n)
 value_of-turned n (Some d) = unit_of-turned n d
 
-pub digit_value-turned : (n d : ℕ) → digit_value (digit_turned n d) ≡ product_of (turns n) (digit_value d)
+pub digit_value-turned : (n d : ℕ) → digit_value (digit_turned n d) ≡ product_of (turning n) (digit_value d)
 digit_value-turned n d =
     ap value_of (direction_of-digit_or_zero (option_turned n (direction_of d))) ∙ value_of-turned n (direction_of d)
 
@@ -98,13 +98,13 @@ place_from-no_turns n z (d ∷ ds) =
     ∙ place_from-no_turns (n + 1) (sum_of (product_of (multiplier c) z) (digit_value d)) ds
 
 -- the place of the turned digits
-pub place-turned : (n : ℕ) (ds : List ℕ) → place (map (digit_turned n) ds) ≡ product_of (turns n) (place ds)
+pub place-turned : (n : ℕ) (ds : List ℕ) → place (map (digit_turned n) ds) ≡ product_of (turning n) (place ds)
 place-turned zero ds = place_from-no_turns 0 zero_point ds ∙ one_times (place ds)
 place-turned (suc n) ds =
     ap place (map-turned-suc n ds)
     ∙ place_from-turned_once 0 zero_point (map (digit_turned n) ds)
     ∙ ap once (place-turned n ds)
-    ∙ turn-product (turns n) (place ds)
+    ∙ turn-product (turning n) (place ds)
 
 -- ---- turns of turns
 

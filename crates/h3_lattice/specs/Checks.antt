@@ -16,12 +16,12 @@ abbrev pub same_link : ℕ × ℕ → ℕ × ℕ → Bool
 same_link p q = (p.0 == q.0) && (p.1 == q.1)
 
 -- two directions are one, or lead to different base cells
-abbrev pub parts : Links → ℕ → Direction → Direction → Bool
-parts link b d e = (digit_of e == digit_of d) || not ((link b e).0 == (link b d).0)
+abbrev pub are_apart : Links → ℕ → Direction → Direction → Bool
+are_apart link b d e = (digit_of e == digit_of d) || not ((link b e).0 == (link b d).0)
 
 -- the neighbor in this direction is not b, and in no other direction
 abbrev pub leads_apart : Links → ℕ → Direction → Bool
-leads_apart link b d = not ((link b d).0 == b) && list_all (parts link b d) directions
+leads_apart link b d = not ((link b d).0 == b) && list_all (are_apart link b d) directions
 
 -- the link back leads to b and undoes the turns
 abbrev pub reverses : Links → ℕ → Direction → Bool
@@ -50,8 +50,8 @@ from_base f b zero = None
 from_base f b (suc n) = option_or (if is_hexagon_base b then in_directions (f b) directions else None) (from_base f (b + 1) n)
 
 -- the first fault of all, by ascending base cell and then direction
-abbrev pub at_places : (ℕ → Direction → Option TableError) → Option TableError
-at_places f = from_base f 0 122
+abbrev pub at_links : (ℕ → Direction → Option TableError) → Option TableError
+at_links f = from_base f 0 122
 
 -- the error of a check at a base cell and a direction
 abbrev pub fault_at : Check → Links → ℕ → Direction → Option TableError
@@ -62,4 +62,4 @@ fault_at check.Corner link b d = error_unless (closes link b d) (fault.Corner b 
 -- the first error of the three checks of a full table: one after the other, each at every base cell and direction
 abbrev pub fault_of_links : Links → Option TableError
 fault_of_links link =
-    option_or (at_places (fault_at check.Neighbors link)) (option_or (at_places (fault_at check.Reversal link)) (at_places (fault_at check.Corner link)))
+    option_or (at_links (fault_at check.Neighbors link)) (option_or (at_links (fault_at check.Reversal link)) (at_links (fault_at check.Corner link)))

@@ -52,10 +52,10 @@ digit_value digit = value_of (direction_of digit)
 
 -- ---- turns
 
--- (1 + w)^n
-abbrev pub turns : ℕ → Eisenstein
-turns zero = one
-turns (suc n) = product_of (eisenstein (pos 1) (pos 1)) (turns n)
+-- (1 + w)^n: the product with it is n turns
+abbrev pub turning : ℕ → Eisenstein
+turning zero = one
+turning (suc n) = product_of (eisenstein (pos 1) (pos 1)) (turning n)
 
 abbrev pub turned_once : Direction → Direction
 turned_once K = IK
@@ -93,4 +93,4 @@ opposite IJ = K
 
 -- each digit of a list is multiplied by (1 + w)^n
 abbrev pub AreTurned : ℕ → List ℕ → List ℕ → Type 0
-AreTurned n ds es = map digit_value es ≡ map (λ d. product_of (turns n) (digit_value d)) ds
+AreTurned n ds es = map digit_value es ≡ map (λ d. product_of (turning n) (digit_value d)) ds

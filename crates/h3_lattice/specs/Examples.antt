@@ -9,7 +9,7 @@ use Rattle.h3_lattice.specs.declared.error.TableError.TheVariants.{Corner, Form,
 use Rattle.h3_lattice.specs.declared.vectors.TestTable.TheVariants.{Plain, Skew, Twisted}
 use Rattle.h3_lattice.specs.declared.format.Format.TheVariants as format
 use Rattle.h3_lattice.specs.Eisenstein.{Eisenstein, eisenstein, minus_one, one, product_of, sum_of, zero_point}
-use Rattle.h3_lattice.specs.Direction.{digit_of, digit_turned, digit_value, direction_of, directions, opposite, turned, turns, unit_of, value_of}
+use Rattle.h3_lattice.specs.Direction.{digit_of, digit_turned, digit_value, direction_of, directions, opposite, turned, turning, unit_of, value_of}
 use Rattle.h3_lattice.specs.Class.{class_at, multiplier}
 use Rattle.h3_lattice.specs.Expansion.{place, scaled, sum_from}
 use Rattle.h3_lattice.specs.Fields.{Record, all_numbers, number_from, number_in, same_fields}
@@ -62,7 +62,7 @@ half_turn = refl
 whole_turn : map (turned 6) directions ≡ directions
 whole_turn = refl
 
-whole_turn_number : turns 6 ≡ one
+whole_turn_number : turning 6 ≡ one
 whole_turn_number = refl
 
 turned_digits : map (digit_turned 1) (0 ∷ 1 ∷ 2 ∷ 3 ∷ 4 ∷ 5 ∷ 6 ∷ []) ≡ 0 ∷ 5 ∷ 3 ∷ 1 ∷ 6 ∷ 4 ∷ 2 ∷ []

@@ -27,13 +27,13 @@ is_link link = nat_lt link.0 122 && nat_lt link.1 6
 abbrev pub Links : Type 0
 Links = ℕ → Direction → ℕ × ℕ
 
--- where a list, base cell by base cell, has what belongs to a base cell and the direction of a digit
-abbrev pub place_of : ℕ → ℕ → ℕ
-place_of b d = b * 6 + (d - 1)
+-- the slot of a base cell and the direction of a digit in a list with six for each base cell
+abbrev pub slot_of : ℕ → ℕ → ℕ
+slot_of b d = b * 6 + (d - 1)
 
 -- the links of such a list
 unfoldable pub links_in : List (ℕ × ℕ) → Links
-links_in links b d = slice_index_or links (place_of b (digit_of d)) (0, 0)
+links_in links b d = slice_index_or links (slot_of b (digit_of d)) (0, 0)
 
 -- ---- links that fit together
 

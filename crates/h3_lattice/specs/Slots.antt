@@ -9,7 +9,7 @@ use Rattle.h3_lattice.specs.declared.format.Format.{Format}
 use Rattle.h3_lattice.specs.Fields.{Record}
 use Rattle.h3_lattice.specs.Format.{link_in}
 use Rattle.h3_lattice.specs.FormatTwo.{link_at_digit}
-use Rattle.h3_lattice.specs.Links.{IsLink, place_of}
+use Rattle.h3_lattice.specs.Links.{IsLink, slot_of}
 use Rattle.h3_lattice.specs.Checks.{error_unless}
 use Rattle.h3_lattice.specs.Records.{first_link}
 
@@ -24,16 +24,16 @@ IsInRangeTwo ns = (slice_index ns 0 < 122) × ((d : ℕ) → 0 < d → d < 7 →
 -- the new slots have the links in a record's numbers, and elsewhere what the old ones have
 pub record SetsLinks (format : Format) (ns : List ℕ) (old new : List (Option (ℕ × ℕ))) : Type 0 where
   pub long : length new ≡ length old
-  pub each : (b d : ℕ) → 0 < d → d < 7 → slice_index_or new (place_of b d) None ≡ option_or (link_in format b d ns) (slice_index_or old (place_of b d) None)
+  pub each : (b d : ℕ) → 0 < d → d < 7 → slice_index_or new (slot_of b d) None ≡ option_or (link_in format b d ns) (slice_index_or old (slot_of b d) None)
 
 -- the slots hold the links of these records
 pub record Holds (format : Format) (slots : List (Option (ℕ × ℕ))) (body : List Record) : Type 0 where
   pub long : length slots ≡ 732
-  pub same : (b d : ℕ) → 0 < d → d < 7 → slice_index_or slots (place_of b d) None ≡ first_link format b d body
+  pub same : (b d : ℕ) → 0 < d → d < 7 → slice_index_or slots (slot_of b d) None ≡ first_link format b d body
 
 -- no link stands in the slot of this base cell and direction
 abbrev pub missing_at : List (Option (ℕ × ℕ)) → ℕ → Direction → Option TableError
-missing_at slots b d = error_unless (is_some (slice_index_or slots (place_of b (digit_of d)) None)) fault.Missing
+missing_at slots b d = error_unless (is_some (slice_index_or slots (slot_of b (digit_of d)) None)) fault.Missing
 
 -- an error is this one, or out of memory
 abbrev pub IsFaultOrMemory : Option TableError → TableError → Type 0

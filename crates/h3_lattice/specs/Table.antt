@@ -10,7 +10,7 @@ use Rattle.h3_lattice.specs.declared.format.Format.{Format}
 use Rattle.h3_lattice.specs.Fields.{Record, numbers_in}
 use Rattle.h3_lattice.specs.Format.{header, in_range, width}
 use Rattle.h3_lattice.specs.Links.{IsHexagonBase, IsLink, IsSound, Links}
-use Rattle.h3_lattice.specs.Checks.{at_places, fault_of_links, error_unless}
+use Rattle.h3_lattice.specs.Checks.{at_links, fault_of_links, error_unless}
 use Rattle.h3_lattice.specs.Records.{body_of, fault_of_records, format_of, record_link, first_link}
 
 -- the table of these records
@@ -23,7 +23,7 @@ missing_of records b d = error_unless (is_some (first_link (format_of records) b
 
 -- why a table file is refused: its first faulty record, or else a missing one, or else the first check that fails
 abbrev pub table_fault : List Record → Option TableError
-table_fault records = option_or (fault_of_records records) (option_or (at_places (missing_of records)) (fault_of_links (links_of records)))
+table_fault records = option_or (fault_of_records records) (option_or (at_links (missing_of records)) (fault_of_links (links_of records)))
 
 -- An error fits the file: out of memory says nothing of it, a read fault comes only where reads fail, and any other
 -- is the file's first fault.

@@ -3,7 +3,7 @@
 ghost use Rattle.std.specs.Prelude.{◌≡◌, ◌<◌, All};
 ghost use Rattle.h3_lattice.specs.Direction.{directions};
 ghost use Rattle.h3_lattice.specs.Links.{IsLink, links_in};
-ghost use Rattle.h3_lattice.specs.Checks.{at_places, closes, fault_at, fault_of_links, in_directions, leads_apart, parts, reverses};
+ghost use Rattle.h3_lattice.specs.Checks.{at_links, closes, fault_at, fault_of_links, in_directions, leads_apart, are_apart, reverses};
 
 use crate::direction::{DIRECTIONS, Direction, turn};
 use crate::error::TableError;
@@ -23,9 +23,9 @@ enum Check {
 }
 
 /// Whether two directions lead to different base cells, or are one.
-fn parts(links: &Links, base: u8, direction: Direction, other: Direction) -> bool
+fn are_apart(links: &Links, base: u8, direction: Direction, other: Direction) -> bool
     requires { base < 122 }
-    ensures { result ≡ parts (links_in links.now) base direction other }
+    ensures { result ≡ are_apart (links_in links.now) base direction other }
 {
     other.digit() == direction.digit()
         || link_at(links, base, other).0 != link_at(links, base, direction).0
@@ -40,7 +40,7 @@ fn leads_apart(links: &Links, base: u8, direction: Direction) -> bool
         return false;
     }
     for other in DIRECTIONS {
-        if !parts(links, base, direction, other) {
+        if !are_apart(links, base, direction, other) {
             return false;
         }
     }
@@ -126,7 +126,7 @@ fn fault_from(check: Check, links: &Links, base: u8) -> Option<TableError>
 /// The first error of a check.
 fn first_fault(check: Check, links: &Links) -> Option<TableError>
     requires within { All IsLink links.now }
-    ensures { result ≡ at_places (fault_at check (links_in links.now)) }
+    ensures { result ≡ at_links (fault_at check (links_in links.now)) }
 {
     for base in 0..122u8 {
         if is_hexagon_base(base) {

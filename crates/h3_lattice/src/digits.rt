@@ -3,7 +3,7 @@
 ghost use Rattle.std.specs.Prelude.{◌≡◌, ◌-◌, ◌<◌, ◌≤◌, [], ◌∷◌, ◌++◌, length, map, slice_index_or, false};
 ghost use Rattle.h3_index.specs.Cell.{is_pentagon_base, IsCell};
 ghost use Rattle.h3_lattice.specs.Eisenstein.{product_of};
-ghost use Rattle.h3_lattice.specs.Direction.{digit_turned, turns, AreTurned};
+ghost use Rattle.h3_lattice.specs.Direction.{digit_turned, turning, AreTurned};
 ghost use Rattle.h3_lattice.specs.Digits.{cell_of, IsDigits};
 ghost use Rattle.h3_lattice.specs.Expansion.{place};
 
@@ -86,7 +86,7 @@ impl Digits {
     pub fn turned(self, n: u8) -> Digits
         ensures digits { result ≡ map (digit_turned n) self }
         ensures products { AreTurned n self result }
-        ensures place { place result ≡ product_of (turns n) (place self) }
+        ensures place { place result ≡ product_of (turning n) (place self) }
         ensures valid { IsDigits result }
     {
         let mut turned = self.cell;

@@ -2,7 +2,7 @@
 
 ghost use Rattle.std.specs.Prelude.{◌≡◌};
 ghost use Rattle.h3_lattice.specs.Eisenstein.{minus_one, product_of};
-ghost use Rattle.h3_lattice.specs.Direction.{digit_of, direction_of, opposite, turned, turned_once, turns, unit_of};
+ghost use Rattle.h3_lattice.specs.Direction.{digit_of, direction_of, opposite, turned, turned_once, turning, unit_of};
 
 use h3_index::Edge;
 
@@ -110,7 +110,7 @@ impl Direction {
 /// power of 1 + w.
 pub fn turn(direction: Direction, n: u8) -> Direction
     ensures is { result ≡ turned n direction }
-    ensures product { unit_of result ≡ product_of (turns n) (unit_of direction) }
+    ensures product { unit_of result ≡ product_of (turning n) (unit_of direction) }
 {
     let mut turned = direction;
     for _done in 0..n {

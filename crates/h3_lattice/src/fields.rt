@@ -23,16 +23,16 @@ fn number_in(field: &[u8]) -> Option<u16>
     Some(number)
 }
 
-/// The numbers of a record of N fields.
-pub fn numbers_in<const N: usize>(row: &ByteRecord) -> Option<[u16; N]>
-    ensures { result ≡ numbers_in N (fields_of row.now) }
+/// The numbers in the fields of a record, which has N of them.
+pub fn numbers_in<const N: usize>(fields: &ByteRecord) -> Option<[u16; N]>
+    ensures { result ≡ numbers_in N (fields_of fields.now) }
 {
-    if row.len() != N {
+    if fields.len() != N {
         return None;
     }
     let mut numbers = [0u16; N];
     for i in 0..N {
-        let Some(field) = row.get(i) else {
+        let Some(field) = fields.get(i) else {
             return None;
         };
         let Some(number) = number_in(field) else {
@@ -43,18 +43,18 @@ pub fn numbers_in<const N: usize>(row: &ByteRecord) -> Option<[u16; N]>
     Some(numbers)
 }
 
-/// Whether a record has these fields.
-pub fn has_fields(row: &ByteRecord, fields: &[&[u8]]) -> bool
-    ensures { result ≡ same_fields (fields_of row.now) (map (λ f. f.now) fields.now) }
+/// Whether the fields of a record are these names.
+pub fn has_fields(fields: &ByteRecord, names: &[&[u8]]) -> bool
+    ensures { result ≡ same_fields (fields_of fields.now) (map (λ name. name.now) names.now) }
 {
-    if row.len() != fields.len() {
+    if fields.len() != names.len() {
         return false;
     }
-    for i in 0..fields.len() {
-        let Some(field) = row.get(i) else {
+    for i in 0..names.len() {
+        let Some(field) = fields.get(i) else {
             return false;
         };
-        if field != fields[i] {
+        if field != names[i] {
             return false;
         }
     }

@@ -4,7 +4,7 @@ ghost use Rattle.std.specs.Prelude.{◌≡◌, None, Some, slice_index_or, IfOk,
 ghost use Rattle.csv.specs.Records.{fields_of};
 ghost use Rattle.h3_lattice.specs.Format.{header_format, width};
 ghost use Rattle.h3_lattice.specs.Fields.{numbers_in};
-ghost use Rattle.h3_lattice.specs.Links.{IsLink, place_of};
+ghost use Rattle.h3_lattice.specs.Links.{IsLink, slot_of};
 ghost use Rattle.h3_lattice.specs.Records.{fault_in};
 ghost use Rattle.h3_lattice.specs.Slots.{SetsLinks};
 
@@ -45,10 +45,10 @@ pub fn take(
     fields: &ByteRecord,
 ) -> Result<(), TableError>
     ensures refused { IfErr result (λ e.
-        fault_in format row (λ b d. slice_index_or slots.old (place_of b d) None)
+        fault_in format row (λ b d. slice_index_or slots.old (slot_of b d) None)
         (numbers_in (width format) (fields_of fields.now)) ≡ Some e) }
     ensures taken { IfOk result (λ _.
-        (fault_in format row (λ b d. slice_index_or slots.old (place_of b d) None)
+        (fault_in format row (λ b d. slice_index_or slots.old (slot_of b d) None)
         (numbers_in (width format) (fields_of fields.now)) ≡ None)
         × IfSome (numbers_in (width format) (fields_of fields.now))
         (λ ns. SetsLinks format ns slots.old slots.new)) }

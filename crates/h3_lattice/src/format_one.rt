@@ -3,7 +3,7 @@
 ghost use Rattle.std.specs.Prelude.{◌≡◌, true, None, Some, slice_index_or, IfOk, IfErr, IfSome, All};
 ghost use Rattle.h3_lattice.specs.declared.format.Format.TheVariants.{One};
 ghost use Rattle.h3_lattice.specs.FormatOne.{in_range_one};
-ghost use Rattle.h3_lattice.specs.Links.{IsLink, place_of};
+ghost use Rattle.h3_lattice.specs.Links.{IsLink, slot_of};
 ghost use Rattle.h3_lattice.specs.Records.{fault_in};
 ghost use Rattle.h3_lattice.specs.Slots.{IsInRangeOne, SetsLinks};
 
@@ -27,9 +27,9 @@ fn in_range(numbers: [u16; 4]) -> bool
 /// Judges a record by its numbers, and keeps its link.
 pub fn take(slots: &mut Slots, row: u64, numbers: Option<[u16; 4]>) -> Result<(), TableError>
     ensures refused { IfErr result (λ e.
-        fault_in One row (λ b d. slice_index_or slots.old (place_of b d) None) numbers ≡ Some e) }
+        fault_in One row (λ b d. slice_index_or slots.old (slot_of b d) None) numbers ≡ Some e) }
     ensures taken { IfOk result (λ _.
-        (fault_in One row (λ b d. slice_index_or slots.old (place_of b d) None) numbers ≡ None)
+        (fault_in One row (λ b d. slice_index_or slots.old (slot_of b d) None) numbers ≡ None)
         × IfSome numbers (λ ns. SetsLinks One ns slots.old slots.new)) }
     ensures within { All (λ slot. IfSome slot IsLink) slots.old →
         All (λ slot. IfSome slot IsLink) slots.new }
@@ -41,10 +41,10 @@ pub fn take(slots: &mut Slots, row: u64, numbers: Option<[u16; 4]>) -> Result<()
     if !in_range(numbers) {
         return Err(TableError::Range(row));
     }
-    let place = base as usize * 6 + (direction as usize - 1);
-    if slots[place].is_some() {
+    let slot = base as usize * 6 + (direction as usize - 1);
+    if slots[slot].is_some() {
         return Err(TableError::Repeated(row));
     }
-    slots[place] = Some((to as u8, turns as u8));
+    slots[slot] = Some((to as u8, turns as u8));
     Ok(())
 }

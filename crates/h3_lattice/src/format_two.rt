@@ -3,7 +3,7 @@
 ghost use Rattle.std.specs.Prelude.{◌≡◌, true, None, Some, slice_index_or, IfOk, IfErr, IfSome, All};
 ghost use Rattle.h3_lattice.specs.declared.format.Format.TheVariants.{Two};
 ghost use Rattle.h3_lattice.specs.FormatTwo.{in_range_two, is_link_two};
-ghost use Rattle.h3_lattice.specs.Links.{IsLink, place_of};
+ghost use Rattle.h3_lattice.specs.Links.{IsLink, slot_of};
 ghost use Rattle.h3_lattice.specs.Records.{fault_in};
 ghost use Rattle.h3_lattice.specs.Slots.{IsInRangeTwo, SetsLinks};
 
@@ -56,9 +56,9 @@ fn keep(slots: &mut Slots, numbers: &[u16; 13])
 /// Judges a record by its numbers, and keeps its links.
 pub fn take(slots: &mut Slots, row: u64, numbers: Option<[u16; 13]>) -> Result<(), TableError>
     ensures refused { IfErr result (λ e.
-        fault_in Two row (λ b d. slice_index_or slots.old (place_of b d) None) numbers ≡ Some e) }
+        fault_in Two row (λ b d. slice_index_or slots.old (slot_of b d) None) numbers ≡ Some e) }
     ensures taken { IfOk result (λ _.
-        (fault_in Two row (λ b d. slice_index_or slots.old (place_of b d) None) numbers ≡ None)
+        (fault_in Two row (λ b d. slice_index_or slots.old (slot_of b d) None) numbers ≡ None)
         × IfSome numbers (λ ns. SetsLinks Two ns slots.old slots.new)) }
     ensures within { All (λ slot. IfSome slot IsLink) slots.old →
         All (λ slot. IfSome slot IsLink) slots.new }

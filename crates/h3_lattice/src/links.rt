@@ -3,7 +3,7 @@
 ghost use Rattle.std.specs.Prelude.{◌≡◌, ◌+◌, ◌*◌, ◌<◌, ◌≤◌, ℕ, true, None, Some, IfSome, unwrap_or, slice_index_or, All};
 ghost use Rattle.h3_lattice.specs.Direction.{directions};
 ghost use Rattle.h3_lattice.specs.Links.{IsHexagonBase, IsLink, is_hexagon_base, links_in};
-ghost use Rattle.h3_lattice.specs.Checks.{at_places, in_directions};
+ghost use Rattle.h3_lattice.specs.Checks.{at_links, in_directions};
 ghost use Rattle.h3_lattice.specs.Slots.{missing_at};
 
 use crate::direction::{DIRECTIONS, Direction};
@@ -71,7 +71,7 @@ fn missing_from(slots: &Slots, base: u8) -> Option<TableError>
 
 /// The same for any hexagon base cell.
 pub fn first_missing(slots: &Slots) -> Option<TableError>
-    ensures { result ≡ at_places (missing_at slots.now) }
+    ensures { result ≡ at_links (missing_at slots.now) }
 {
     for base in 0..122u8 {
         if is_hexagon_base(base) {

@@ -1,6 +1,6 @@
 use Rattle.h3_grid.proofs.InsideLaws.{SumLaws}
 use Rattle.h3_grid.proofs.LatticeLaws.{StepLawsHold}
-use Rattle.h3_grid.proofs.NeighborLaws.{both_agree, directions_found, directions_part, neighbors_differ, neighbors_found, neighbors_mutual}
+use Rattle.h3_grid.proofs.NeighborLaws.{both_agree, directions_found, directions_differ, neighbors_differ, neighbors_found, neighbors_mutual}
 use Rattle.h3_grid.proofs.laws.neighbors_are_lawful.Goals as goal
 
 steps : (c : goal.After-sums_are_lawful) → StepLawsHold
@@ -14,23 +14,23 @@ sums c = let u = c.sums_are_lawful.ensures in record { exist = u.exist; unique =
 
 pub returns-clause-found : goal.returns-clause-found
 returns-clause-found c = λ link sound.
-    directions_found (steps c) (sums c) link sound c.numbers_are_unique.ensures c.steps_are_lawful.ensures.part
+    directions_found (steps c) (sums c) link sound c.numbers_are_unique.ensures c.steps_are_lawful.ensures.differ
 
-pub returns-clause-part : goal.returns-clause-part
-returns-clause-part c = λ link sound.
-    directions_part (steps c) (sums c) link sound c.numbers_are_unique.ensures c.steps_are_lawful.ensures.part
+pub returns-clause-one_direction : goal.returns-clause-one_direction
+returns-clause-one_direction c = λ link sound.
+    directions_differ (steps c) (sums c) link sound c.numbers_are_unique.ensures c.steps_are_lawful.ensures.differ
 
 pub returns-clause-mutual : goal.returns-clause-mutual
 returns-clause-mutual c = λ link sound. neighbors_mutual (steps c) (sums c) link sound
 
 pub returns-clause-both : goal.returns-clause-both
 returns-clause-both c = λ link sound.
-    both_agree (steps c) (sums c) link sound c.numbers_are_unique.ensures c.steps_are_lawful.ensures.part
+    both_agree (steps c) (sums c) link sound c.numbers_are_unique.ensures c.steps_are_lawful.ensures.differ
 
 pub returns-clause-differ : goal.returns-clause-differ
 returns-clause-differ c = λ link sound.
-    neighbors_differ (steps c) (sums c) link sound c.numbers_are_unique.ensures c.steps_are_lawful.ensures.part c.steps_are_lawful.ensures.move_on
+    neighbors_differ (steps c) (sums c) link sound c.numbers_are_unique.ensures c.steps_are_lawful.ensures.differ c.steps_are_lawful.ensures.move_on
 
 pub returns-clause-related : goal.returns-clause-related
 returns-clause-related c = λ link sound.
-    neighbors_found (steps c) (sums c) link sound c.numbers_are_unique.ensures c.steps_are_lawful.ensures.part c.steps_are_lawful.ensures.move_on
+    neighbors_found (steps c) (sums c) link sound c.numbers_are_unique.ensures c.steps_are_lawful.ensures.differ c.steps_are_lawful.ensures.move_on

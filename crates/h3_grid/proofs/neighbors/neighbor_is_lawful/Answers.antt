@@ -4,8 +4,8 @@ use Rattle.h3_grid.proofs.neighbors.neighbor_is_lawful.Goals as goal
 pub returns-clause-found : goal.returns-clause-found
 returns-clause-found c = c.neighbors_are_lawful.ensures.found (link_of c.args.table.now) c.links_are_sound.ensures
 
-pub returns-clause-part : goal.returns-clause-part
-returns-clause-part c = c.neighbors_are_lawful.ensures.part (link_of c.args.table.now) c.links_are_sound.ensures
+pub returns-clause-one_direction : goal.returns-clause-one_direction
+returns-clause-one_direction c = c.neighbors_are_lawful.ensures.one_direction (link_of c.args.table.now) c.links_are_sound.ensures
 
 pub returns-clause-mutual : goal.returns-clause-mutual
 returns-clause-mutual c = c.neighbors_are_lawful.ensures.mutual (link_of c.args.table.now) c.links_are_sound.ensures

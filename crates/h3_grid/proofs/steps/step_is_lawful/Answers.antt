@@ -4,8 +4,8 @@ use Rattle.h3_grid.proofs.steps.step_is_lawful.Goals as goal
 pub returns-clause-reverse : goal.returns-clause-reverse
 returns-clause-reverse c = c.steps_are_lawful.ensures.reverse (link_of c.args.table.now) c.links_are_sound.ensures
 
-pub returns-clause-part : goal.returns-clause-part
-returns-clause-part c = c.steps_are_lawful.ensures.part (link_of c.args.table.now) c.links_are_sound.ensures
+pub returns-clause-differ : goal.returns-clause-differ
+returns-clause-differ c = c.steps_are_lawful.ensures.differ (link_of c.args.table.now) c.links_are_sound.ensures
 
 pub returns-clause-move_on : goal.returns-clause-move_on
 returns-clause-move_on c = c.steps_are_lawful.ensures.move_on (link_of c.args.table.now) c.links_are_sound.ensures

@@ -4,4 +4,4 @@ use Rattle.h3_lattice.specs.Fields.{same_fields}
 use Rattle.h3_lattice.proofs.fields.has_fields.Given as goal
 
 abbrev pub invariant-loop-i : goal.invariant-loop-i
-invariant-loop-i l = same_fields (fields_of l.row) (map (λ f. f.now) l.fields) ≡ same_fields (drop l.i (fields_of l.row)) (drop l.i (map (λ f. f.now) l.fields))
+invariant-loop-i l = same_fields (fields_of l.fields) (map (λ f. f.now) l.names) ≡ same_fields (drop l.i (fields_of l.fields)) (drop l.i (map (λ f. f.now) l.names))
