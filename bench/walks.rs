@@ -48,7 +48,7 @@ fn turned_digits(cell: u64, turns: u8) -> u64 {
     (1..=resolution(cell)).fold(cell, |turned, r| with_digit(turned, r, TURNS[turns as usize][digit(cell, r) as usize].into()))
 }
 
-/// The neighbour in the direction of a digit, and the rotation there.
+/// The neighbor in the direction of a digit, and the rotation there.
 fn step(links: &Links, cell: u64, direction: usize, rotation: u8) -> Option<(u64, u8)> {
     let own = base(cell) as u8;
     if !is_hexagon(own) {

@@ -1,4 +1,4 @@
--- The answers about neighbours and edges at worked values, by computation.
+-- The answers about neighbors and edges at worked values, by computation.
 use Rattle.std.specs.Prelude.{◌≡◌, ℕ, [], ◌∷◌, ◌++◌, map, codes, None, Some, Err, refl}
 use Rattle.h3_index.specs.Cell.{number_of}
 use Rattle.h3_index.specs.CellNumber.{address_in, cell_in}

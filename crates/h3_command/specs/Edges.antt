@@ -1,4 +1,4 @@
--- What H3's functions on neighbours and directed edges return for the indexes of words, if the words have them, and for
+-- What H3's functions on neighbors and directed edges return for the indexes of words, if the words have them, and for
 -- the links of a base cell table where they need them. Which pairs of cells and which edges are refused is this
 -- project's own.
 use Rattle.std.specs.Prelude.{ℕ, Bool, List, Option, None, Some, is_some, ok_or, Result, Ok, Err}
@@ -25,7 +25,7 @@ cell_pair_from cell to = for_value (λ a. for_value (λ b. Ok (a, b)) (cell_from
 
 -- ---- over the links of a table
 
--- whether a step leads from the one cell to the other; no cell is its own neighbour
+-- whether a step leads from the one cell to the other; no cell is its own neighbor
 abbrev pub are_neighbor_cells : Links → Address × Address → Result Bool H3Error
 are_neighbor_cells link cells = are_neighbors link cells.0 cells.1
 

@@ -107,7 +107,7 @@ pub enum Command {
         k: i32,
     },
 
-    /// Whether two cells are neighbours, over a base cell table.
+    /// Whether two cells are neighbors, over a base cell table.
     AreNeighborCells {
         cell: Option<u64>,
         to: Option<u64>,

@@ -1,4 +1,4 @@
-//! H3's functions on neighbours and directed edges, for the indexes of words: `None` where a word
+//! H3's functions on neighbors and directed edges, for the indexes of words: `None` where a word
 //! has none. For those over a base cell table, what each asks of it. Which pairs of cells and which
 //! edges are refused is this library's own.
 //!
@@ -61,7 +61,7 @@ pub fn origin_to_directed_edges(index: Option<u64>) -> Result<Edges, H3Error>
     Ok(edges_of(cell))
 }
 
-/// Whether two cells are neighbours, as H3's `areNeighborCells` returns it, over the links of a
+/// Whether two cells are neighbors, as H3's `areNeighborCells` returns it, over the links of a
 /// table.
 pub fn are_neighbor_cells(cell: Option<u64>, to: Option<u64>) -> Result<TableQuery, H3Error>
     ensures { with_table table_answer result ≡ request (AreNeighborCells cell to) }

@@ -36,7 +36,7 @@ pub enum TableQuery {
     /// The cells of the ring of a radius around a cell. Errors as of a disk.
     GridRing { cell: Cell, k: i32 },
 
-    /// Whether two cells are neighbours. `ResMismatch` where their resolutions differ; then, for
+    /// Whether two cells are neighbors. `ResMismatch` where their resolutions differ; then, for
     /// different cells, `Pentagon` where either is in a pentagon base cell.
     Neighbors { cell: Cell, to: Cell },
 

@@ -361,7 +361,7 @@ pub fn walk_cases(file: &str) -> [Case<'_>; 7] {
     ]
 }
 
-/// Commands on neighbours and edges over a table.
+/// Commands on neighbors and edges over a table.
 pub fn edge_cases(file: &str) -> [Case<'_>; 4] {
     let cell = HEXAGON;
     let to = index_of("85283477fffffff");

@@ -1,4 +1,4 @@
-//! Commands on neighbours and directed edges.
+//! Commands on neighbors and directed edges.
 
 use crate::cases::{assert_refused, assert_run, assert_written, index_of};
 use h3_command::Command;

@@ -35,8 +35,8 @@ pub enum H3Error {
     #[error("a cell is listed twice")]
     DuplicateInput,
 
-    /// Two cells are no neighbours.
-    #[error("the cells are no neighbours")]
+    /// Two cells are no neighbors.
+    #[error("the cells are no neighbors")]
     NotNeighbors,
 
     /// Two resolutions are incompatible.

@@ -256,7 +256,7 @@ fn errors_have_texts(rt: HostRuntime) -> Result<(), Fail> {
         ),
         (H3Error::Pentagon, "a pentagon was met"),
         (H3Error::DuplicateInput, "a cell is listed twice"),
-        (H3Error::NotNeighbors, "the cells are no neighbours"),
+        (H3Error::NotNeighbors, "the cells are no neighbors"),
         (H3Error::ResMismatch, "the resolutions do not go together"),
         (H3Error::MemoryAlloc, "out of memory"),
     ];

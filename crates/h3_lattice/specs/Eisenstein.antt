@@ -29,3 +29,7 @@ sum_of x y = eisenstein (x.a +ℤ y.a) (x.b +ℤ y.b)
 abbrev pub product_of : Eisenstein → Eisenstein → Eisenstein
 product_of x y =
     eisenstein (x.a *ℤ y.a -ℤ x.b *ℤ y.b) ((x.a *ℤ y.b +ℤ x.b *ℤ y.a) -ℤ x.b *ℤ y.b)
+
+-- a*a - a*b + b*b, the square of the distance from 0
+abbrev pub norm : Eisenstein → ℤ
+norm x = (x.a *ℤ x.a -ℤ x.a *ℤ x.b) +ℤ x.b *ℤ x.b

@@ -8,7 +8,7 @@ use Rattle.h3_lattice.specs.declared.class.Class.TheVariants.{Two, Three}
 use Rattle.h3_lattice.specs.declared.error.TableError.TheVariants.{Corner, Form, Range, Repeated}
 use Rattle.h3_lattice.specs.declared.vectors.TestTable.TheVariants.{Plain, Skew, Twisted}
 use Rattle.h3_lattice.specs.declared.format.Format.TheVariants as format
-use Rattle.h3_lattice.specs.Eisenstein.{Eisenstein, eisenstein, minus_one, one, product_of, sum_of, zero_point}
+use Rattle.h3_lattice.specs.Eisenstein.{Eisenstein, eisenstein, minus_one, norm, one, product_of, sum_of, zero_point}
 use Rattle.h3_lattice.specs.Direction.{digit_of, digit_turned, digit_value, direction_of, directions, opposite, turned, turning, unit_of, value_of}
 use Rattle.h3_lattice.specs.Class.{class_at, multiplier}
 use Rattle.h3_lattice.specs.Expansion.{place, scaled, sum_from}
@@ -20,7 +20,7 @@ use Rattle.h3_lattice.specs.Checks.{fault_of_links, from_base, in_directions}
 use Rattle.h3_lattice.specs.Records.{fault_of_records, first_fault, first_link}
 use Rattle.h3_lattice.specs.Vectors.{test_link}
 
--- ---- products
+-- ---- products and norms
 
 abbrev w : Eisenstein
 w = eisenstein (pos 0) (pos 1)
@@ -31,6 +31,9 @@ w_squared = refl
 
 multipliers : product_of (multiplier Three) (multiplier Two) ≡ eisenstein (pos 7) (pos 0)
 multipliers = refl
+
+norms : map norm (multiplier Three ∷ multiplier Two ∷ unit_of K ∷ unit_of J ∷ one ∷ []) ≡ pos 7 ∷ pos 7 ∷ pos 1 ∷ pos 1 ∷ pos 1 ∷ []
+norms = refl
 
 classes : map class_at (0 ∷ 1 ∷ 2 ∷ 15 ∷ []) ≡ Two ∷ Three ∷ Two ∷ Three ∷ []
 classes = refl

@@ -1,4 +1,4 @@
--- Which lists have cells that overlap; in a list in order two neighbours do where any two cells do.
+-- Which lists have cells that overlap; in a list in order two neighbors do where any two cells do.
 use Rattle.std.specs.Bool.{Decides}
 use Rattle.std.specs.List.{list_any, AllWithin}
 use Rattle.std.specs.List.Sorted.{IsPermutation}
@@ -96,7 +96,7 @@ module _ (intervals : CellsFormIntervals) (cells : List Address) (valid : All Is
         | inr not ↦ let e : i ≡ j = omega (arith, le, not) in rw e (omega arith)
       ]
 
-  -- where no neighbours overlap, no two cells do
+  -- where no neighbors overlap, no two cells do
   pub by_neighbors : ((k : ℕ) (d : Address) → 0 < k → k < length cells → IsBeforeBlock (get_or cells (k - 1) d) (get_or cells k d)) → IsApart cells
   by_neighbors h i j d lt lj o =
       let a = get_or cells i d in

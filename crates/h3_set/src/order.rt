@@ -36,7 +36,7 @@ pub(crate) fn keys_below(cell: Cell) -> u64
     1 << (3 * (15 - cell.resolution()))
 }
 
-/// Whether cells at two places of a list in order overlap: then two neighbouring ones do.
+/// Whether cells at two places of a list in order overlap: then two neighboring ones do.
 fn has_overlap(cells: &[Cell]) -> bool
     requires { IsInOrder cells.now }
     ensures { result ≡ has_overlap cells.now }

@@ -12,7 +12,7 @@ pub overflow_add-post_order_key : goal.overflow_add-post_order_key
 overflow_add-post_order_key c =
     omega (arith, c.post_order_key-in-loop-i.ensures.is, key_small c.index-cells-i.result, c.keys_below.ensures.at_most)
 
--- the two neighbours, whatever the default
+-- the two neighbors, whatever the default
 before : (c : After-keys_below) (d : Address) → get_or c.args.cells.now (c.loop-i.i - 1) d ≡ c.index-cells-i.result
 before c d =
     let lt : c.loop-i.i < length c.args.cells.now = omega arith in
