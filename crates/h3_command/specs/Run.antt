@@ -41,8 +41,8 @@ ReadFails source bytes = (source.has_failed ≡ true) ⊎ (2 ^ 40 ≤ length byt
 
 -- ---- how a run ends
 
--- The answer to these bytes of a source is written, no read fails, and this holds of the bytes. Or there is no memory,
--- or a read fails, and then nothing is written.
+-- The answer to these bytes of a source is written, no read fails, and `was_read` holds. Or there is no memory, or a
+-- read fails, and then nothing is written.
 abbrev pub WritesReading : Answer → List ℕ → Type 0 → SourceUse → Result (Unit {0}) Refusal → SinkUse → Type 0
 WritesReading a bytes was_read source (Err Memory) out = NoReadFails source × IsLeft out
 WritesReading a bytes was_read source (Err Read) out = ReadFails source bytes × IsLeft out

@@ -1,8 +1,7 @@
 //! What the commands over a base cell table ask of it, and how the answer is written.
 //!
 //! The words come first: where one has no index, or no cell or edge has it, the table is not read.
-//! Cells of a walk are written as they are reached, so those before a step that is refused are on
-//! the output when its error is returned.
+//! The cells before a step that is refused are written, and then its error is returned.
 //!
 //! The error of the words comes first; then `Refusal::Read`, `Refusal::Memory` and `Refusal::Table`
 //! as `BaseTable::read` finds them; then that of what is asked; and `Refusal::Write` where a push

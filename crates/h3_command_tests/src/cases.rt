@@ -138,7 +138,7 @@ impl<'a> Case<'a> {
         run(alloc, &self.command, &mut input, &mut table, out, err)
     }
 
-    /// Runs the command over a reader that fails so, and two sinks.
+    /// Runs the command over a reader with these faults, and two sinks.
     fn outcome<R: AllocGlobal>(
         &self,
         rt: &R,
@@ -175,7 +175,7 @@ impl<'a> Case<'a> {
         self.outcome(rt, (streams.most, streams.reads), out, err)
     }
 
-    /// The same over a reader that fails so, where no write fails.
+    /// The same over a reader with these faults, where no write fails.
     pub fn read<R: AllocGlobal>(&self, rt: &R, most: usize, faults: Faults) -> Outcome {
         let streams = Streams {
             most,
@@ -185,7 +185,7 @@ impl<'a> Case<'a> {
         self.over(rt, streams)
     }
 
-    /// The same over a writer that fails so, where no read fails.
+    /// The same over a writer with these faults, where no read fails.
     pub fn write<R: AllocGlobal>(&self, rt: &R, out: FaultySink<2048>) -> Outcome {
         let err = FaultySink::new(64, NO_FAULT);
         self.outcome(rt, (65536, NO_FAULT), out, err)
@@ -243,7 +243,7 @@ pub fn refused<'a>(command: Command, reads: Reads<'a>, output: &'a str, line: &'
 }
 
 /// Asserts the answer of a command, that it is flushed as it should be, and that nothing else is
-/// read than what the command reads; this is handed out in pieces of so many bytes.
+/// read than what the command reads; this is handed out `most` bytes at a time.
 pub fn assert_pieces<R: Abort + AllocGlobal>(rt: &R, case: &Case<'_>, pieces: &[usize]) {
     for most in pieces {
         let run = case.read(rt, *most, NO_FAULT);
@@ -323,7 +323,7 @@ pub fn list_cases() -> [Case<'static>; 5] {
     ]
 }
 
-/// Walks over a table: whole ones, and such as are refused on their way or before it.
+/// Walks over a table: whole ones, and walks that are refused on their way or before it.
 pub fn walk_cases(file: &str) -> [Case<'_>; 7] {
     let disk = "85283473fffffff\n85283447fffffff\n8528347bfffffff\n85283463fffffff\n\
                 85283477fffffff\n8528340ffffffff\n8528340bfffffff\n";

@@ -40,8 +40,8 @@ fn assert_compacted<R: Abort + AllocGlobal>(rt: &R, case: &Case<'_>) {
     }
 }
 
-/// Asserts that a list is known to be faulty by so many of its bytes: a fault of the reader before
-/// that counts, and no pull is made after it, whether it would fail or not.
+/// Asserts that a list is known to be faulty after its first `bytes` bytes: a fault of the reader
+/// before that counts, and no pull is made after it, whether it would fail or not.
 fn assert_known<R: Abort + AllocGlobal>(rt: &R, case: &Case<'_>, bytes: usize) {
     for most in PIECES {
         let known = bytes.div_ceil(most) as u64;
@@ -68,10 +68,10 @@ fn assert_torn<R: Abort + AllocGlobal>(rt: &R, case: &Case<'_>) {
     }
 }
 
-/// The line of a line that parses as no index, or is too long.
+/// The error line for a line that parses as no index, or is too long.
 const FAILED: &str = "error 1: E_FAILED\n";
 
-/// The line of the index of no cell.
+/// The error line for a line that parses as the index of no cell.
 const CELL_INVALID: &str = "error 5: E_CELL_INVALID\n";
 
 #[test]

@@ -87,7 +87,7 @@ fn cells_are_counted(rt: HostRuntime) {
     );
 }
 
-/// Asserts that a command writes so many indexes, of which these are the first and the last lines.
+/// Asserts that a command writes `count` indexes, of which these are the first and the last lines.
 fn assert_ends<R: Abort + AllocGlobal>(rt: &R, command: Command, count: usize, ends: (&str, &str)) {
     let (first, last) = ends;
     let run = whole(command, Reads::Nothing, "").read(rt, 1, NO_FAULT);

@@ -49,7 +49,8 @@ pub fn steps_are_lawful()
 
 /// A disk of which no move is refused is a chart: where two places of the spiral are a direction
 /// apart, the step in that direction leads from the state at the one to the state at the other. Its
-/// rings are distances, and its last ring is the ring of its radius.
+/// rings are distances, and for a radius of 1 or more it ends with the cells of the ring of that
+/// radius.
 pub fn disks_are_charts()
     ensures charts { DisksAreCharts }
     ensures paths { ChartsLeadAlongPaths }

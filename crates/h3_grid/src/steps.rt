@@ -43,7 +43,7 @@ pub fn step(
         × IsStep (link_of table.now) (state cell rot) direction None) }
     ensures valid { IfOk result (λ r. IsCell r.0 × (r.1 < 6)) }
 
-    // The same by the function that is the step.
+    // The same by the definition of a step as a function.
     ensures leads { IfOk result (λ r.
         step_of (link_of table.now) (state cell rot) direction ≡ Some (state r.0 r.1)) }
     ensures ends { IfErr result (λ e.

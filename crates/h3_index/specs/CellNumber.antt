@@ -28,6 +28,6 @@ abbrev pub is_cell : Address → Bool
 is_cell c =
     nat_lt c.base 122 && nat_lt (length c.digits) 16 && list_all (λ d. nat_lt d 7) c.digits && not (is_pentagon_base c.base && leading c.digits == 1)
 
--- the cell that a number stands for, where it does for one
+-- the cell with this number, if there is one
 unfoldable pub cell_in : ℕ → Option Address
 cell_in m = if is_cell (address_in m) && number_of (address_in m) == m then Some (address_in m) else None

@@ -32,13 +32,14 @@ fn has_no_seven(digits: u64) -> bool
     digits & digits >> 1 & digits >> 2 & 0o111_111_111_111_111 == 0
 }
 
-/// Whether the first octal digit that is not 0 of a number of fifteen digits is 1.
+/// Whether the first octal digit that is not 0 of a number of fifteen octal digits is 1.
 #[inline(always)]
 fn leads_with_one(digits: u64) -> bool
     requires { digits < 2 ^ 45 }
     ensures { result ≡ (leading (last_digits 8 15 digits) == 1) }
 {
-    // Then whole digits follow the highest set bit, and 63 bits are whole digits too.
+    // It is 1 exactly where a multiple of three bits follows the highest set bit, and so where a
+    // multiple of three stands before it in 64 bits, of which the highest set one is one.
     digits.leading_zeros() % 3 == 0
 }
 

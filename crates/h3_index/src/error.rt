@@ -32,7 +32,7 @@ pub enum H3Error {
     Pentagon,
 
     /// A cell is listed twice, or together with an ancestor of it.
-    #[error("a cell is listed twice")]
+    #[error("cells of the list overlap")]
     DuplicateInput,
 
     /// Two cells are no neighbors.

@@ -18,7 +18,7 @@ pub trait Source {
     /// The bytes left, where they are known.
     ghost left: { Self → Option (List ℕ) };
 
-    /// It has failed.
+    /// Whether a call has failed.
     ghost has_failed: { Self → Bool };
 
     /// Reads the next bytes into the front of a buffer, and returns how many they are: none only at
@@ -36,7 +36,7 @@ pub trait Sink {
     /// The bytes taken, where they are known.
     ghost taken: { Self → Option (List ℕ) };
 
-    /// It has failed.
+    /// Whether a call has failed.
     ghost has_failed: { Self → Bool };
 
     /// Writes bytes, and returns how many were taken from their front: at least one, unless there
@@ -61,8 +61,8 @@ pub trait Sink {
 
 /// A reader as a [`Source`], or a writer as a [`Sink`].
 ///
-/// Each call is passed on once. A write that takes none of some bytes is a failure, and whether a
-/// call failed is kept. The stream allocates nothing.
+/// Each call is passed on once. A write that takes no byte of a buffer that is not empty is a
+/// failure. The stream allocates nothing.
 #[derive(Drop)]
 pub struct Streamed<T> {
     inner: T,
@@ -96,7 +96,7 @@ impl<T> Streamed<T> {
     }
 }
 
-/// Keeps that a call failed.
+/// Records that a call failed.
 fn fault(failed: &mut bool) -> StreamFault
     ensures { failed.new ≡ true }
 {

@@ -255,7 +255,7 @@ fn errors_have_texts(rt: HostRuntime) -> Result<(), Fail> {
             "the index is no valid directed edge",
         ),
         (H3Error::Pentagon, "a pentagon was met"),
-        (H3Error::DuplicateInput, "a cell is listed twice"),
+        (H3Error::DuplicateInput, "cells of the list overlap"),
         (H3Error::NotNeighbors, "the cells are no neighbors"),
         (H3Error::ResMismatch, "the resolutions do not go together"),
         (H3Error::MemoryAlloc, "out of memory"),

@@ -22,7 +22,7 @@ fn is_blank(byte: u8) -> bool
     byte == b' ' || byte == b'\t' || byte == b'\r'
 }
 
-/// The bytes from the first that is no blank on.
+/// The bytes from the first one on that is not a blank.
 fn without_leading_blanks(bytes: &[u8]) -> &[u8]
     ensures { result.now ≡ without_leading_blanks bytes.now }
 {
@@ -36,7 +36,7 @@ fn without_leading_blanks(bytes: &[u8]) -> &[u8]
     rest
 }
 
-/// The bytes up to the last that is no blank.
+/// The bytes up to the last one that is not a blank.
 fn without_trailing_blanks(bytes: &[u8]) -> &[u8]
     ensures { result.now ≡ without_trailing_blanks bytes.now }
 {

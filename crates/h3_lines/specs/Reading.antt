@@ -20,8 +20,8 @@ abbrev pub said_lines : List (List ℕ) → Result (List Address) H3Error → Re
 said_lines [] later = later
 said_lines (line ∷ lines) later = said_before (said_by line) (said_lines lines later)
 
--- These cells were read, this is the line so far, and these bytes come. Some lines end in them, none of them faulty; then
--- those cells were read, that is the line so far, and those bytes come.
+-- from one moment of a reading to a later one: the cells that were read, the line so far, and the bytes that come; the
+-- lines that end on the way are not faulty
 pub record GoesOn (cells : List Address) (line bytes : List ℕ) (cells' : List Address) (line' bytes' : List ℕ) : Type 0 where
   pub ended : List (List ℕ)
   pub lines : lines_of (line ++ bytes) ≡ ended ++ lines_of (line' ++ bytes')

@@ -4,7 +4,7 @@ use Rattle.h3_index.specs.declared.error.H3Error.{H3Error}
 use Rattle.h3_lines.specs.Beginning.{SomeBeginning}
 use Rattle.h3_lines.specs.List.{cells_said, lines_of, listed_cells}
 
--- this many reads of a page of this many bytes can find the end of the bytes: of these reads the last takes none
+-- this many reads of a page of this many bytes can find the end of the bytes; the last of them reads nothing
 abbrev pub IsWithinReads : ℕ → ℕ → List ℕ → Type 0
 IsWithinReads reads page bytes = length bytes + page ≤ reads * page
 

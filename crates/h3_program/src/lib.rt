@@ -1,4 +1,4 @@
-//! The program `h3` but for what only the system can give: the words and the streams.
+//! The program `h3`, except for what only the system can give: the words and the streams.
 #![tactic(auto)]
 
 mod page;

@@ -27,7 +27,7 @@ pub struct PageWriter<W> {
 impl<W: Write> PageWriter<W> {
     ghost use Rattle.h3_program.specs.PageWriter.{page_contents, page_len, page_rest};
 
-    /// A writer over this one, with nothing in its page.
+    /// Wraps a writer; its page is empty.
     pub fn new(inner: W) -> Self
         ensures { page_contents W.contents result ≡ W.contents inner }
     {

@@ -13,14 +13,15 @@ use std::io::{ErrorKind, Read, Write};
 /// do.
 ///
 /// Any other error is returned as it is. A call that is interrupted 2^64 - 1 times fails with
-/// [`ErrorKind::TimedOut`].
+/// [`ErrorKind::TimedOut`]. The contracts say that no call returns an interruption, and not that it
+/// is made again.
 #[derive(Drop)]
 pub struct Retried<T> {
     inner: T,
 }
 
 impl<T> Retried<T> {
-    /// The reader or the writer over this one.
+    /// Wraps a reader or a writer.
     pub fn new(inner: T) -> Self
         ensures { retried_inner result ≡ inner }
     {

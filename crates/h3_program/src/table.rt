@@ -31,7 +31,7 @@ pub trait OpenTable: Source {
 
 /// A table in a file of the system. To read it before it is opened is a failure.
 ///
-/// No clause says which bytes a file has.
+/// No clause says which file is open, or which bytes it has.
 #[derive(Drop)]
 pub struct TableFile<'a, R: Files> {
     files: &'a R,

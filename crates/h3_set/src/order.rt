@@ -46,7 +46,8 @@ fn has_overlap(cells: &[Cell]) -> bool
     for i in 1..cells.len() {
         let before = cells[i - 1];
         let cell = cells[i];
-        // one that stands before a cell in order, but not before all cells below it, is below it
+        // `before` comes before `cell`; where it does not come before all cells below `cell`, it
+        // is one of them.
         if post_order_key(cell) < post_order_key(before) + keys_below(cell) {
             return true;
         }

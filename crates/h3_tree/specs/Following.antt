@@ -3,7 +3,7 @@ use Rattle.std.specs.Prelude.{ℕ, zero, suc, List, [], ◌∷◌, unwrap_or}
 use Rattle.h3_index.specs.Cell.{Address, is_pentagon_base}
 use Rattle.h3_index.specs.Paths.{next_path}
 
--- the next cell of the same base cell and resolution; the last is its own
+-- the next cell of the same base cell and resolution; after the last one, the last one itself
 unfoldable pub following : Address → Address
 following c = record { base = c.base; digits = unwrap_or (next_path (is_pentagon_base c.base) c.digits) c.digits }
 

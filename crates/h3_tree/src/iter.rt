@@ -11,7 +11,7 @@ use crate::descendants::size_at;
 use h3_index::laws::{descendants_are_listed, paths_are_chains};
 use h3_index::{Cell, Cursor};
 
-/// The next cell of the same base cell and resolution. The last is its own.
+/// The next cell of the same base cell and resolution; after the last one, the last one itself.
 #[inline(always)]
 fn following(cell: Cell) -> Cell
     ensures { result ≡ following cell }

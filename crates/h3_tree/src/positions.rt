@@ -133,8 +133,8 @@ pub fn child_at(position: u64, cell: Cell, res: i32) -> Result<Cell, H3Error>
         slice_get (descendants cell (unsigned_abs res)) position ≡ Some member) }
     ensures place { IfOk result (λ member. HasPosition cell (unsigned_abs res) member position) }
 
-    // Laws of positions: the member at one has it, and the member at a descendant's is that
-    // descendant.
+    // Laws of positions: the descendant at a position has it, and at a descendant's position
+    // stands that descendant.
     ensures members { MembersHavePositions }
     ensures positions { PositionsHaveMembers }
 {

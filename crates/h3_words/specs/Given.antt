@@ -6,7 +6,7 @@ use Rattle.clap.specs.Words.{Text}
 use Rattle.h3_words.specs.Options.{long_name, short_name}
 use Rattle.h3_words.specs.declared.options.CommandOption.{CommandOption}
 
--- what follows a beginning in the word, where the word begins so
+-- the rest of the word after a prefix, if it has that prefix
 abbrev pub after : Text → Text → Option Text
 after [] word = Some word
 after (x ∷ xs) [] = None

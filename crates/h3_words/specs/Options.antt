@@ -44,16 +44,16 @@ long_name o = (option_entry o).long
 abbrev pub short_name : CommandOption → Option ℕ
 short_name o = (option_entry o).short
 
--- the most that the option's number may be; none where its value is any text
+-- the option's maximum; none where its value is any text
 abbrev pub number_up_to : CommandOption → Option ℤ
 number_up_to o = (option_entry o).most
 
--- a whole number from 0 to the most, as an `i64` is read; any text where there is no most
+-- a whole number from 0 to the maximum, parsed as an `i64`; any text where there is no maximum
 abbrev pub IsUpTo : Option ℤ → Text → Type 0
 IsUpTo None text = ⊤
 IsUpTo (Some most) text = IsSignedIn (pos 0) most text
 
--- a number is read from 0 to the option's most
+-- a number from 0 to the option's maximum
 abbrev pub parser_for : CommandOption → Option ValueParser
 parser_for o = option_map (Signed (pos 0)) (number_up_to o)
 

@@ -19,8 +19,8 @@ abbrev pub IsIndex : Option Text → Option ℕ → Type 0
 IsIndex None index = ⊥
 IsIndex (Some text) index = index ≡ parsed_index text
 
--- the option has a text, which is a whole number from 0 to the option's most, as an `i64` is read, and this is that
--- number
+-- the option has a text, which is a whole number from 0 to the option's maximum, parsed as an `i64`, and this is
+-- that number
 abbrev pub IsNumber : CommandOption → Option Text → ℤ → Type 0
 IsNumber o None number = ⊥
 IsNumber o (Some text) number = IsUpTo (number_up_to o) text × (number ≡ signed_digits_value 10 text)
@@ -49,7 +49,7 @@ abbrev pub IsText : Option Text → Option Text → Type 0
 IsText None path = ⊥
 IsText (Some text) path = path ≡ Some text
 
--- a command that has a table has the path that the option's text is, and another command has none
+-- a command with a table has the option's text as its path, and any other command has none
 abbrev pub HasTable : (CommandOption → Option Text) → CommandName → Option Text → Type 0
 HasTable text k path = MatchBool (has_option k Table) (IsText (text Table) path) (path ≡ None)
 

@@ -65,7 +65,7 @@ impl WordsFault {
 /// Parses the words of a command line, of which the first is the program's name.
 ///
 /// [`WordsFault::Help`] where they ask for help, [`WordsFault::Usage`] where the command line is
-/// invalid: no command with each of its options once and a value in range, and
+/// invalid: it is not a command with each of its options once, each value in range; and
 /// [`WordsFault::Memory`] where there is no memory for the parse.
 pub fn read_words(alloc: Global, words: Vec<String>) -> Result<Words, WordsFault>
     ensures read { IfOk result (AsksFor (map string_bytes words.items)) }

@@ -124,7 +124,7 @@ fn assert_visits(rt: &impl Abort, all: &[Visit], cells: &[Cell]) {
 }
 
 /// Asserts that a step leads from one cell of a disk to that at the place beside it in a direction,
-/// if the disk has one; whether it has.
+/// if the disk has one, and returns whether it has.
 fn assert_beside(
     rt: &impl Abort,
     table: &BaseTable,
@@ -143,7 +143,7 @@ fn assert_beside(
     false
 }
 
-/// Asserts the same in each direction; in how many the disk has a place.
+/// Asserts the same in each direction, and returns in how many of them the disk has a cell.
 fn assert_around(rt: &impl Abort, table: &BaseTable, all: &[Visit], from: &Visit) -> u32 {
     let mut count: u32 = 0;
     for direction in DIRECTIONS {
