@@ -31,7 +31,7 @@ leading (d ∷ ds) = if d == 0 then leading ds else d
 -- an address is a cell's
 pub record IsCell (c : Address) : Type 0 where
   pub base_small : c.base < 122
-  pub coarse : length c.digits < 16
+  pub coarse : resolution c < 16
   pub digits_small : AllBelowBase 7 c.digits
   pub not_deleted : IsTrue (is_pentagon_base c.base) → leading c.digits ≢ 1
 
@@ -41,7 +41,7 @@ is_pentagon c = is_pentagon_base c.base && leading c.digits == 0
 
 -- cells of odd resolution are Class III, the others Class II
 abbrev pub is_class_iii : Address → Bool
-is_class_iii c = length c.digits % 2 == 1
+is_class_iii c = resolution c % 2 == 1
 
 -- the fifteen digits of an index: 7 above the resolution
 abbrev pub padded : List ℕ → List ℕ
@@ -50,4 +50,4 @@ padded ds = ds ++ replicate (15 - length ds) 7
 -- the number of a cell
 unfoldable pub number_of : Address → ℕ
 number_of c =
-    2 ^ 59 + length c.digits * 2 ^ 52 + c.base * 2 ^ 45 + number_from_digits 8 (padded c.digits)
+    2 ^ 59 + resolution c * 2 ^ 52 + c.base * 2 ^ 45 + number_from_digits 8 (padded c.digits)

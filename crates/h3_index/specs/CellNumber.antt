@@ -1,7 +1,7 @@
 -- What the fields of a number say of a cell.
-use Rattle.std.specs.Prelude.{ℕ, ◌≡◌, ◌/◌, ◌%◌, ◌^◌, ◌==◌, nat_lt, List, length, take, Bool, ◌&&◌, not, Option, Some, None, if◌then◌else◌}
+use Rattle.std.specs.Prelude.{ℕ, ◌≡◌, ◌/◌, ◌%◌, ◌^◌, ◌==◌, nat_lt, List, take, Bool, ◌&&◌, not, Option, Some, None, if◌then◌else◌}
 use Rattle.std.specs.List.{list_all}
-use Rattle.h3_index.specs.Cell.{Address, IsCell, is_pentagon_base, leading, number_of}
+use Rattle.h3_index.specs.Cell.{Address, IsCell, is_pentagon_base, leading, number_of, resolution}
 use Rattle.h3_index.specs.Digits.{last_digits}
 
 abbrev pub resolution_in : ℕ → ℕ
@@ -26,7 +26,7 @@ pub record IsCellNumber (m : ℕ) : Type 0 where
 -- the test of `IsCell`
 abbrev pub is_cell : Address → Bool
 is_cell c =
-    nat_lt c.base 122 && nat_lt (length c.digits) 16 && list_all (λ d. nat_lt d 7) c.digits && not (is_pentagon_base c.base && leading c.digits == 1)
+    nat_lt c.base 122 && nat_lt (resolution c) 16 && list_all (λ d. nat_lt d 7) c.digits && not (is_pentagon_base c.base && leading c.digits == 1)
 
 -- the cell with this number, if there is one
 unfoldable pub cell_in : ℕ → Option Address

@@ -23,12 +23,12 @@ EdgeNumbersFollowFields =
 
 -- a cell cut at a resolution that is not finer than its own is a cell
 abbrev pub CutsAreCells : Type 0
-CutsAreCells = (c : Address) (r : ℕ) → IsCell c → r ≤ length c.digits → IsCell (cut c r)
+CutsAreCells = (c : Address) (r : ℕ) → IsCell c → r ≤ resolution c → IsCell (cut c r)
 
 -- the list of the descendants holds them and nothing else
 abbrev pub DescendantsAreListed : Type 0
 DescendantsAreListed =
-    (c : Address) (s : ℕ) → IsCell c → length c.digits ≤ s → s ≤ 15 → (x : Address) → Contains (descendants c s) x ↔ IsDescendant c s x
+    (c : Address) (s : ℕ) → IsCell c → resolution c ≤ s → s ≤ 15 → (x : Address) → Contains (descendants c s) x ↔ IsDescendant c s x
 
 -- it ascends
 abbrev pub DescendantsAscend : Type 0
@@ -38,12 +38,12 @@ DescendantsAscend =
 -- how many descendants a hexagon has
 abbrev pub HexagonsHaveSevens : Type 0
 HexagonsHaveSevens =
-    (c : Address) (s : ℕ) → is_pentagon c ≡ false → length (descendants c s) ≡ 7 ^ (s - length c.digits)
+    (c : Address) (s : ℕ) → is_pentagon c ≡ false → length (descendants c s) ≡ 7 ^ (s - resolution c)
 
 -- how many descendants a pentagon has
 abbrev pub PentagonsHaveFewer : Type 0
 PentagonsHaveFewer =
-    (c : Address) (s : ℕ) → is_pentagon c ≡ true → length (descendants c s) ≡ 1 + 5 * ((7 ^ (s - length c.digits) - 1) / 6)
+    (c : Address) (s : ℕ) → is_pentagon c ≡ true → length (descendants c s) ≡ 1 + 5 * ((7 ^ (s - resolution c) - 1) / 6)
 
 -- the paths begin with zeros, each but the first is the next of the one before, and the last has none
 pub record IsChain (pentagon : Bool) (n : ℕ) : Type 0 where

@@ -1,9 +1,9 @@
 //! Cells, each a base cell and a digit for each resolution up to its own.
 
-ghost use Rattle.std.specs.Prelude.{◌≡◌, ◌≢◌, ◌-◌, ◌^◌, ◌<◌, ◌≤◌, ◌==◌, nat_lt, length, IfOk, IfErr, slice_index_or};
+ghost use Rattle.std.specs.Prelude.{◌≡◌, ◌≢◌, ◌-◌, ◌^◌, ◌<◌, ◌≤◌, ◌==◌, nat_lt, IfOk, IfErr, slice_index_or};
 ghost use Rattle.std.specs.List.{list_all};
 ghost use Rattle.std.specs.Result.{result_ok};
-ghost use Rattle.h3_index.specs.Cell.{Address, IsCell, is_class_iii, is_pentagon, is_pentagon_base, leading, number_of};
+ghost use Rattle.h3_index.specs.Cell.{Address, IsCell, is_class_iii, is_pentagon, is_pentagon_base, leading, number_of, resolution};
 ghost use Rattle.h3_index.specs.CellNumber.{address_in, cell_in, digits_in, IsCellNumber};
 ghost use Rattle.h3_index.specs.Digits.{last_digits};
 ghost use Rattle.h3_index.specs.DigitTest.{are_digits};
@@ -116,7 +116,7 @@ impl Cell {
 
     /// The resolution, 0 to 15, as H3's `getResolution` gives it.
     pub fn resolution(self) -> u8
-        ensures number { result ≡ length self.digits }
+        ensures number { result ≡ resolution self }
         ensures valid { IsCell self }
     {
         (self.raw >> 52 & 15) as u8

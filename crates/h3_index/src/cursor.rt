@@ -1,7 +1,7 @@
 //! A cell from which its next sibling is one addition away.
 
 ghost use Rattle.std.specs.Prelude.{◌≡◌, IfSome, is_some};
-ghost use Rattle.h3_index.specs.Cell.{IsCell};
+ghost use Rattle.h3_index.specs.Cell.{IsCell, resolution};
 ghost use Rattle.h3_index.specs.Siblings.{has_raised, raised};
 
 use crate::cell::Cell;
@@ -16,7 +16,7 @@ pub struct Cursor {
 }
 
 impl Model for Cursor {
-    ghost use Rattle.std.specs.Prelude.{◌-◌, ◌^◌, length};
+    ghost use Rattle.std.specs.Prelude.{◌-◌, ◌^◌};
     ghost use Rattle.h3_index.specs.Cell.{Address, number_of};
     ghost use Rattle.h3_index.specs.CellNumber.{address_in};
     ghost use Rattle.h3_index.specs.Siblings.{IsCursor};
@@ -27,7 +27,7 @@ impl Model for Cursor {
 
     ghost invariant = { λ c. IsCursor c.raw c.unit };
 
-    ghost inverse = { λ c. record { raw = number_of c; unit = 8 ^ (15 - length c.digits) } };
+    ghost inverse = { λ c. record { raw = number_of c; unit = 8 ^ (15 - resolution c) } };
 
     ghost inverse_ok = { λ c h i. record { raw = h.cell.is i; unit = h.place i } };
 }

@@ -22,4 +22,5 @@ descent_refusal r res =
 -- position past all descendants
 abbrev pub position_refusal : Address → ℤ → ℕ → Option H3Error
 position_refusal c res place =
-    option_map_or (λ s. if nat_lt s (resolution c) then Some ResMismatch else (if nat_le (length (descendants c s)) place then Some Domain else None)) (resolution_of res) (Some ResDomain)
+    option_map_or (λ s. if nat_lt s (resolution c) then Some ResMismatch
+    else (if nat_le (length (descendants c s)) place then Some Domain else None)) (resolution_of res) (Some ResDomain)

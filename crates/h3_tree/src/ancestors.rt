@@ -1,9 +1,9 @@
 //! The way up: the ancestors of a cell. In contracts `unsigned_abs res` is the resolution as a
 //! natural number.
 
-ghost use Rattle.std.specs.Prelude.{◌≡◌, length, pos, IfOk, unsigned_abs};
+ghost use Rattle.std.specs.Prelude.{◌≡◌, pos, IfOk, unsigned_abs};
 ghost use Rattle.std.specs.Result.{result_err};
-ghost use Rattle.h3_index.specs.Cell.{Address, IsCell};
+ghost use Rattle.h3_index.specs.Cell.{Address, IsCell, resolution};
 ghost use Rattle.h3_index.specs.Descendants.{cut, IsAncestor};
 ghost use Rattle.h3_tree.specs.Refusals.{parent_refusal};
 
@@ -15,13 +15,13 @@ use h3_index::{Cell, H3Error, resolution_from};
 /// `ResDomain` where the resolution is outside 0 to 15, and then `ResMismatch` where it is finer
 /// than the cell's.
 pub fn parent(cell: Cell, res: i32) -> Result<Cell, H3Error>
-    ensures refused { result_err result ≡ parent_refusal (length cell.digits) res }
+    ensures refused { result_err result ≡ parent_refusal (resolution cell) res }
     ensures is { IfOk result (λ ancestor. ancestor ≡ cut cell (unsigned_abs res)) }
     ensures ancestor { IfOk result (λ ancestor. IsCell ancestor × IsAncestor ancestor cell
-        × (pos (length ancestor.digits) ≡ res)) }
+        × (pos (resolution ancestor) ≡ res)) }
 
     // any ancestor at the resolution is the one returned
-    ensures one { (other : Address) → IsAncestor other cell → pos (length other.digits) ≡ res
+    ensures one { (other : Address) → IsAncestor other cell → pos (resolution other) ≡ res
         → result ≡ Ok other }
 {
     let own = cell.resolution();

@@ -3,7 +3,7 @@
 
 ghost use Rattle.std.specs.Prelude.{◌≡◌, ◌+◌, ◌-◌, ◌*◌, ◌/◌, ◌^◌, ◌<◌, ◌≤◌, ◌↔◌, length, pos, false, true, IfOk, unsigned_abs, AllPairs, Contains};
 ghost use Rattle.std.specs.Result.{result_err};
-ghost use Rattle.h3_index.specs.Cell.{Address, is_pentagon, IsCell, number_of};
+ghost use Rattle.h3_index.specs.Cell.{Address, is_pentagon, IsCell, number_of, resolution};
 ghost use Rattle.h3_index.specs.Descendants.{center_at, descendants, IsDescendant};
 ghost use Rattle.h3_tree.specs.Children.{children_left};
 ghost use Rattle.h3_tree.specs.Refusals.{descent_refusal};
@@ -16,8 +16,8 @@ use h3_index::{Cell, H3Error, resolution_from};
 /// The resolution that a whole number is, where a cell has descendants at it, which is from the
 /// cell's own to 15; `ResDomain` elsewhere.
 fn resolution_below(cell: Cell, res: i32) -> Result<u8, H3Error>
-    ensures refused { result_err result ≡ descent_refusal (length cell.digits) res }
-    ensures is { IfOk result (λ r. (pos r ≡ res) × (length cell.digits ≤ r) × (r ≤ 15)) }
+    ensures refused { result_err result ≡ descent_refusal (resolution cell) res }
+    ensures is { IfOk result (λ r. (pos r ≡ res) × (resolution cell ≤ r) × (r ≤ 15)) }
 {
     let r = resolution_from(res)?;
     if r < cell.resolution() {
@@ -31,7 +31,7 @@ fn resolution_below(cell: Cell, res: i32) -> Result<u8, H3Error>
 ///
 /// `ResDomain` where the resolution is outside the cell's own to 15.
 pub fn center_child(cell: Cell, res: i32) -> Result<Cell, H3Error>
-    ensures refused { result_err result ≡ descent_refusal (length cell.digits) res }
+    ensures refused { result_err result ≡ descent_refusal (resolution cell) res }
     ensures zeros { IfOk result (λ child. child ≡ center_at cell (unsigned_abs res)) }
     ensures descendant { IfOk result (λ child. IsDescendant cell (unsigned_abs res) child) }
 {
@@ -41,13 +41,13 @@ pub fn center_child(cell: Cell, res: i32) -> Result<Cell, H3Error>
 
 /// The number of descendants of a cell at a resolution from its own to 15.
 pub(crate) fn size_at(cell: Cell, r: u8) -> u64
-    requires not_coarser { length cell.digits ≤ r }
+    requires not_coarser { resolution cell ≤ r }
     requires at_most_fifteen { r ≤ 15 }
     ensures valid { IsCell cell }
     ensures count { result ≡ length (descendants cell r) }
-    ensures hexagon { is_pentagon cell ≡ false → result ≡ 7 ^ (r - length cell.digits) }
+    ensures hexagon { is_pentagon cell ≡ false → result ≡ 7 ^ (r - resolution cell) }
     ensures pentagon { is_pentagon cell ≡ true
-        → result ≡ 1 + 5 * ((7 ^ (r - length cell.digits) - 1) / 6) }
+        → result ≡ 1 + 5 * ((7 ^ (r - resolution cell) - 1) / 6) }
 {
     descendants_are_listed();
     let sevens = power_of_seven(r - cell.resolution());
@@ -64,13 +64,13 @@ pub(crate) fn size_at(cell: Cell, r: u8) -> u64
 ///
 /// `ResDomain` where the resolution is outside the cell's own to 15.
 pub fn children_size(cell: Cell, res: i32) -> Result<u64, H3Error>
-    ensures refused { result_err result ≡ descent_refusal (length cell.digits) res }
+    ensures refused { result_err result ≡ descent_refusal (resolution cell) res }
     ensures count { IfOk result (λ size. size ≡ length (descendants cell (unsigned_abs res))) }
     ensures hexagon { is_pentagon cell ≡ false
-        → IfOk result (λ size. size ≡ 7 ^ (unsigned_abs res - length cell.digits)) }
+        → IfOk result (λ size. size ≡ 7 ^ (unsigned_abs res - resolution cell)) }
     ensures pentagon { is_pentagon cell ≡ true
         → IfOk result (λ size.
-        size ≡ 1 + 5 * ((7 ^ (unsigned_abs res - length cell.digits) - 1) / 6)) }
+        size ≡ 1 + 5 * ((7 ^ (unsigned_abs res - resolution cell) - 1) / 6)) }
 {
     let r = resolution_below(cell, res)?;
     Ok(size_at(cell, r))
@@ -79,7 +79,7 @@ pub fn children_size(cell: Cell, res: i32) -> Result<u64, H3Error>
 /// The descendants of a cell at a resolution from its own to 15, in ascending order and each once:
 /// at the cell's own resolution the cell alone. `children` tests its resolution.
 pub fn children_at(cell: Cell, r: u8) -> Children
-    requires not_coarser { length cell.digits ≤ r }
+    requires not_coarser { resolution cell ≤ r }
     requires at_most_fifteen { r ≤ 15 }
     ensures list { children_left result ≡ descendants cell r }
     ensures members { (x : Address) → Contains (children_left result) x ↔ IsDescendant cell r x }
@@ -94,7 +94,7 @@ pub fn children_at(cell: Cell, r: u8) -> Children
 ///
 /// `ResDomain` where the resolution is outside the cell's own to 15.
 pub fn children(cell: Cell, res: i32) -> Result<Children, H3Error>
-    ensures refused { result_err result ≡ descent_refusal (length cell.digits) res }
+    ensures refused { result_err result ≡ descent_refusal (resolution cell) res }
     ensures list { IfOk result (λ items.
         children_left items ≡ descendants cell (unsigned_abs res)) }
     ensures members { IfOk result (λ items. (x : Address)

@@ -1,8 +1,8 @@
 //! The iterator over the descendants of a cell.
 
-ghost use Rattle.std.specs.Prelude.{◌≡◌, ◌≤◌, length};
+ghost use Rattle.std.specs.Prelude.{◌≡◌, ◌≤◌};
 ghost use Rattle.std.specs.Iterator.{YieldsFirst, item_count};
-ghost use Rattle.h3_index.specs.Cell.{IsCell};
+ghost use Rattle.h3_index.specs.Cell.{IsCell, resolution};
 ghost use Rattle.h3_index.specs.Descendants.{descendants};
 ghost use Rattle.h3_tree.specs.Children.{children_left};
 ghost use Rattle.h3_tree.specs.Following.{following};
@@ -56,7 +56,7 @@ pub struct Children {
 impl Children {
     /// All descendants of a cell at a resolution.
     pub(crate) fn below(cell: Cell, r: u8) -> Children
-        requires not_coarser { length cell.digits ≤ r }
+        requires not_coarser { resolution cell ≤ r }
         requires at_most_fifteen { r ≤ 15 }
         ensures list { children_left result ≡ descendants cell r }
         ensures valid { IsCell cell }

@@ -24,12 +24,12 @@ fn descendants_are_known()
 
 /// How many descendants of the parent of a cell stand before the cell's own, at a resolution.
 fn before_own(cell: Cell, r: u8) -> u64
-    requires has_parent { 0 < length cell.digits }
-    requires not_coarser { length cell.digits ≤ r }
+    requires has_parent { 0 < resolution cell }
+    requires not_coarser { resolution cell ≤ r }
     requires at_most_fifteen { r ≤ 15 }
     ensures small { result ≤ 4747561509943 }
     ensures before { (x : Address) → IsDescendant cell r x
-        → position_under (cut cell (length cell.digits - 1)) x ≡ result + position_under cell x }
+        → position_under (cut cell (resolution cell - 1)) x ≡ result + position_under cell x }
 {
     descendants_are_known();
     let own = cell.resolution();
@@ -51,12 +51,12 @@ fn before_own(cell: Cell, r: u8) -> u64
 /// descendant's position under that child.
 fn child_below(position: u64, cell: Cell, level: u8, r: u8) -> (Cell, u64)
     requires valid { IsCell cell }
-    requires own { level ≡ length cell.digits }
+    requires own { level ≡ resolution cell }
     requires finer { level < r }
     requires at_most_fifteen { r ≤ 15 }
     requires within { position < length (descendants cell r) }
     ensures valid { IsCell result.0 }
-    ensures level { length result.0.digits ≡ length cell.digits + 1 }
+    ensures level { resolution result.0 ≡ resolution cell + 1 }
     ensures below { (x : Address)
         → HasPosition cell r x position → HasPosition result.0 r x result.1 }
 {
@@ -84,7 +84,7 @@ fn positions_are_lawful()
 
 /// The descendant of a cell at a position.
 fn member_at(position: u64, cell: Cell, r: u8) -> Cell
-    requires not_coarser { length cell.digits ≤ r }
+    requires not_coarser { resolution cell ≤ r }
     requires at_most_fifteen { r ≤ 15 }
     requires within { position < length (descendants cell r) }
     ensures is { slice_get (descendants cell r) position ≡ Some result }

@@ -1,7 +1,7 @@
 //! Moves from one cell to another: up and down the hierarchy, and at its own resolution.
 
-ghost use Rattle.std.specs.Prelude.{◌≡◌, ◌≢◌, ◌<◌, ◌≤◌, length, true, false};
-ghost use Rattle.h3_index.specs.Cell.{IsCell, is_pentagon, is_pentagon_base};
+ghost use Rattle.std.specs.Prelude.{◌≡◌, ◌≢◌, ◌<◌, ◌≤◌, true, false};
+ghost use Rattle.h3_index.specs.Cell.{IsCell, is_pentagon, is_pentagon_base, resolution};
 ghost use Rattle.h3_index.specs.Count.{base_cell};
 ghost use Rattle.h3_index.specs.Descendants.{center_at, child, cut};
 ghost use Rattle.h3_index.specs.Moves.{with_base, with_digit};
@@ -23,7 +23,7 @@ impl Cell {
     /// The ancestor at a resolution that is not finer than the cell's:
     /// the digits above it are dropped.
     pub fn cut(self, r: u8) -> Cell
-        requires { r ≤ length self.digits }
+        requires { r ≤ resolution self }
         ensures is { result ≡ cut self r }
         ensures valid { IsCell result }
     {
@@ -37,7 +37,7 @@ impl Cell {
     /// The cell of a digit, 0 to 6, one level below a cell coarser than resolution 15.
     /// A pentagon has none of digit 1.
     pub fn child(self, digit: u8) -> Cell
-        requires coarse { length self.digits < 15 }
+        requires coarse { resolution self < 15 }
         requires at_most_six { digit < 7 }
         requires not_deleted { is_pentagon self ≡ true → digit ≢ 1 }
         ensures is { result ≡ child self digit }
@@ -52,7 +52,7 @@ impl Cell {
     /// The descendant at a resolution that is not coarser than the cell's
     /// whose further digits are 0.
     pub fn center_at(self, r: u8) -> Cell
-        requires not_coarser { length self.digits ≤ r }
+        requires not_coarser { resolution self ≤ r }
         requires at_most_fifteen { r ≤ 15 }
         ensures is { result ≡ center_at self r }
         ensures valid { IsCell result }
@@ -70,7 +70,7 @@ impl Cell {
     /// no digits are deleted there.
     pub fn with_digit(self, r: u8, digit: u8) -> Cell
         requires some { 1 ≤ r }
-        requires at_most { r ≤ length self.digits }
+        requires at_most { r ≤ resolution self }
         requires at_most_six { digit < 7 }
         requires hexagon { is_pentagon_base self.base ≡ false }
         ensures is { result ≡ with_digit self r digit }
