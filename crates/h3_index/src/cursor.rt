@@ -1,7 +1,7 @@
 //! A cell from which its next sibling is one addition away.
 
 ghost use Rattle.std.specs.Prelude.{◌≡◌, IfSome, is_some};
-ghost use Rattle.h3_index.specs.Cell.{IsCell, resolution};
+ghost use Rattle.h3_index.specs.Cell.{IsCell};
 ghost use Rattle.h3_index.specs.Siblings.{has_raised, raised};
 
 use crate::cell::Cell;
@@ -17,7 +17,7 @@ pub struct Cursor {
 
 impl Model for Cursor {
     ghost use Rattle.std.specs.Prelude.{◌-◌, ◌^◌};
-    ghost use Rattle.h3_index.specs.Cell.{Address, number_of};
+    ghost use Rattle.h3_index.specs.Cell.{Address, number_of, resolution};
     ghost use Rattle.h3_index.specs.CellNumber.{address_in};
     ghost use Rattle.h3_index.specs.Siblings.{IsCursor};
 

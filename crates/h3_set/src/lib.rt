@@ -5,8 +5,8 @@ mod compact;
 mod iter;
 mod merge;
 mod order;
-mod resolutions;
 mod rounds;
+mod survey;
 mod uncompaction;
 
 pub use compact::compact_cells;

@@ -12,7 +12,7 @@ ghost use Rattle.h3_set.specs.Rounds.{InRound};
 
 use crate::merge::{merge, merge_runs};
 use crate::order::{are_cells, sort_and_find_overlap};
-use crate::resolutions::{finest_up_to, survey};
+use crate::survey::{finest_up_to, survey};
 use h3_index::{Cell, H3Error};
 use h3_tree::laws::cells_form_trees;
 

@@ -9,14 +9,14 @@ position_under c x =
     count_by (λ y. nat_lt (number_of y) (number_of x)) (descendants c (resolution x))
 
 -- x is a descendant of c, of resolution s, and has that position under it
-pub record HasPosition (c : Address) (s : ℕ) (x : Address) (place : ℕ) : Type 0 where
+pub record HasPosition (c : Address) (s : ℕ) (x : Address) (position : ℕ) : Type 0 where
   pub descendant : IsDescendant c s x
-  pub is : position_under c x ≡ place
+  pub is : position_under c x ≡ position
 
 -- the member at a position has that position
 abbrev pub MembersHavePositions : Type 0
 MembersHavePositions =
-    (c x : Address) (s place : ℕ) → IsCell c → resolution c ≤ s → s ≤ 15 → slice_get (descendants c s) place ≡ Some x → position_under c x ≡ place
+    (c x : Address) (s position : ℕ) → IsCell c → resolution c ≤ s → s ≤ 15 → slice_get (descendants c s) position ≡ Some x → position_under c x ≡ position
 
 -- the member at a descendant's position is that descendant
 abbrev pub PositionsHaveMembers : Type 0

@@ -21,6 +21,6 @@ descent_refusal r res =
 -- of the descendant of c at a position: first a number that is no resolution, then one that is coarser than c, then a
 -- position past all descendants
 abbrev pub position_refusal : Address → ℤ → ℕ → Option H3Error
-position_refusal c res place =
+position_refusal c res position =
     option_map_or (λ s. if nat_lt s (resolution c) then Some ResMismatch
-    else (if nat_le (length (descendants c s)) place then Some Domain else None)) (resolution_of res) (Some ResDomain)
+    else (if nat_le (length (descendants c s)) position then Some Domain else None)) (resolution_of res) (Some ResDomain)

@@ -5,15 +5,15 @@ mod ancestors;
 mod descendants;
 mod iter;
 pub mod laws;
-mod order;
 mod positions;
+mod post_order;
 mod powers;
 
 pub use ancestors::parent;
 pub use descendants::{center_child, children, children_at, children_size};
 pub use iter::Children;
-pub use order::post_order_key;
 pub use positions::{child_at, child_pos};
+pub use post_order::post_order_key;
 
 #[cfg(test)]
 mod tests;

@@ -88,7 +88,7 @@ fn member_at(position: u64, cell: Cell, r: u8) -> Cell
     requires at_most_fifteen { r ≤ 15 }
     requires within { position < length (descendants cell r) }
     ensures is { slice_get (descendants cell r) position ≡ Some result }
-    ensures place { HasPosition cell r result position }
+    ensures position_is { HasPosition cell r result position }
 {
     descendants_are_known();
     let mut member = cell;
@@ -131,7 +131,7 @@ pub fn child_at(position: u64, cell: Cell, res: i32) -> Result<Cell, H3Error>
     ensures refused { result_err result ≡ position_refusal cell res position }
     ensures is { IfOk result (λ member.
         slice_get (descendants cell (unsigned_abs res)) position ≡ Some member) }
-    ensures place { IfOk result (λ member. HasPosition cell (unsigned_abs res) member position) }
+    ensures position_is { IfOk result (λ member. HasPosition cell (unsigned_abs res) member position) }
 
     // Laws of positions: the descendant at a position has it, and at a descendant's position
     // stands that descendant.

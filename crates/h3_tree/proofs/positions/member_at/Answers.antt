@@ -22,6 +22,6 @@ pub returns-clause-is : goal.returns-clause-is
 returns-clause-is c =
     reached_end c.args.cell c.args.r c.args.position c.loop-level.level c.loop-level.left c.loop-level.member c.loop-level-test.false c.requires.within c.loop-level.invariant
 
-pub returns-clause-place : goal.returns-clause-place
-returns-clause-place c =
+pub returns-clause-position_is : goal.returns-clause-position_is
+returns-clause-position_is c =
     reached_place c.descendants_are_known.ensures c.args.cell c.args.r c.args.position c.loop-level.member c.resolution-level.ensures.valid c.requires.not_coarser c.requires.at_most_fifteen (returns-clause-is c)

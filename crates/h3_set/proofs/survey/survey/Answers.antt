@@ -5,7 +5,7 @@ use Rattle.h3_set.specs.Coverage.{finest}
 use Rattle.h3_set.proofs.KeyLaws.{key_small}
 use Rattle.h3_set.proofs.OverlapLaws.{rise_more, within_more}
 use Rattle.h3_set.proofs.ResolutionLaws.{finest_push}
-use Rattle.h3_set.proofs.resolutions.survey.Goals as goal
+use Rattle.h3_set.proofs.survey.survey.Goals as goal
 
 pub overflow_add-next : goal.overflow_add-next
 overflow_add-next c = omega (arith, c.post_order_key-next.ensures.is, key_small c.cell-item.result)

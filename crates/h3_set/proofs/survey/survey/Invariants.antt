@@ -3,7 +3,7 @@ use Rattle.std.specs.List.{AllWithin}
 use Rattle.h3_index.specs.Cell.{IsCell}
 use Rattle.h3_set.specs.Coverage.{finest}
 use Rattle.h3_set.proofs.OverlapLaws.{Rises}
-use Rattle.h3_set.proofs.resolutions.survey.Given as goal
+use Rattle.h3_set.proofs.survey.survey.Given as goal
 
 abbrev pub invariant-loop-cell : goal.invariant-loop-cell
 invariant-loop-cell l =

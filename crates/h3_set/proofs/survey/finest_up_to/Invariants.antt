@@ -1,7 +1,7 @@
 use Rattle.std.proofs.Common.{◌<◌, ◌≤◌}
 use Rattle.std.specs.List.{AllWithin}
 use Rattle.h3_index.specs.Cell.{resolution}
-use Rattle.h3_set.proofs.resolutions.finest_up_to.Given as goal
+use Rattle.h3_set.proofs.survey.finest_up_to.Given as goal
 
 abbrev pub invariant-loop-cell : goal.invariant-loop-cell
 invariant-loop-cell l =
