@@ -112,7 +112,7 @@ impl<const N: usize> FaultySink<N> {
         }
     }
 
-    /// A sink of which no push fails, and each flush.
+    /// A sink whose pushes succeed and whose flushes fail.
     pub fn refusing_flush(most: usize) -> Self {
         FaultySink {
             bytes: ArrayVec::new(),

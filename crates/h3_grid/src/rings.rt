@@ -84,7 +84,7 @@ impl<'a> Ring<'a> {
         ensures items { IfOk result (λ walk.
             ring_left walk ≡ ring (link_of table.now) cell (unsigned_abs k)) }
 
-        // The last ring of a disk of which no move is refused is this ring.
+        // The last ring of a disk of which no step is refused is this ring.
         ensures agree { RingEndsDisk (link_of table.now) cell (unsigned_abs k) }
         ensures origin { OriginsAreAlone }
     {

@@ -12,7 +12,7 @@ use Rattle.h3_lattice.specs.Class.{class_at, multiplier}
 abbrev pub multiplier_at : ℕ → Eisenstein
 multiplier_at n = multiplier (class_at n)
 
--- from z at resolution n on along finer digits
+-- the place that z, at resolution n, becomes by these finer digits
 abbrev pub place_from : ℕ → Eisenstein → List ℕ → Eisenstein
 place_from n z [] = z
 place_from n z (d ∷ ds) =

@@ -6,7 +6,7 @@ ghost use Rattle.h3_lattice.specs.Direction.{digit_of, direction_of, opposite, t
 
 use h3_index::Edge;
 
-/// A direction of the grid, as H3's `Direction` names them; its digit 0, the centre, is no
+/// A direction of the grid, as H3's `Direction` names them; digit 0, the centre, is not a
 /// direction here.
 #[derive(Clone, Copy, Debug, PartialEq, Eq)]
 pub enum Direction {

@@ -15,8 +15,8 @@ pub enum TableError {
     #[error("out of memory")]
     Memory,
 
-    /// The first record is no header, or a later one has not as many fields as the header, or one
-    /// that is not 1 to 3 digits.
+    /// The first record is no header, or a later one has more or fewer fields than the header, or a
+    /// field that is not 1 to 3 digits.
     #[error("record {0} is malformed")]
     Form(u64),
 

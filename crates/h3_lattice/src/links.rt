@@ -13,7 +13,7 @@ use h3_index::is_pentagon_base;
 /// The neighbor and the turns of each base cell and direction, base cell by base cell.
 pub type Links = [(u8, u8); 732];
 
-/// The same where some are not known.
+/// Links of which some are not known yet.
 pub type Slots = [Option<(u8, u8)>; 732];
 
 /// Whether a base cell is a hexagon.
@@ -25,7 +25,7 @@ pub fn is_hexagon_base(base: u8) -> bool
     base < 122 && !is_pentagon_base(base)
 }
 
-/// The same of any number.
+/// Whether a number is that of a hexagon base cell.
 #[tactic(auto, unfolding(crate::specs::Links::is_hexagon_base))]
 pub fn is_hexagon_number(number: u16) -> bool
     ensures is { result ≡ is_hexagon_base number }
@@ -55,7 +55,7 @@ fn missing_at(slots: &Slots, base: u8, direction: Direction) -> Option<TableErro
     }
 }
 
-/// The same for a base cell in any direction.
+/// The fault that no link is known for a base cell in some direction.
 fn missing_from(slots: &Slots, base: u8) -> Option<TableError>
     requires { base < 122 }
     ensures { result ≡ in_directions (missing_at slots.now base) directions }
@@ -69,7 +69,7 @@ fn missing_from(slots: &Slots, base: u8) -> Option<TableError>
     None
 }
 
-/// The same for any hexagon base cell.
+/// The fault that no link is known for some hexagon base cell and direction.
 pub fn first_missing(slots: &Slots) -> Option<TableError>
     ensures { result ≡ at_links (missing_at slots.now) }
 {

@@ -12,7 +12,7 @@ use crate::links::Slots;
 use csv::{ByteRecord, ReaderBuilder};
 use std::alloc::Global;
 
-/// A bound of the records that a text can have.
+/// An upper bound on the number of records in a text.
 fn most_records(text: &[u8]) -> usize
     ensures { length text.now + 1 < 2 ^ 64 }
 {
