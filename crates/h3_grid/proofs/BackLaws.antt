@@ -11,7 +11,7 @@ use Rattle.h3_lattice.specs.Expansion.{place, scaled}
 use Rattle.h3_lattice.specs.Laws.{OppositesAreThreeTurns, SumsCloseTriangles, SumsReverse, Triangle, all_inside, z_across, x_across, y_across, all_across}
 use Rattle.h3_lattice.specs.Links.{IsSound, Links}
 use Rattle.h3_lattice.specs.Moved.{IsSum}
-use Rattle.h3_grid.specs.Laws.{IsState, OverSoundLinks, StepsCloseTriangles, StepsMove, StepsDiffer, StepsReachStates, StepsReverse}
+use Rattle.h3_grid.specs.Laws.{IsState, OverSoundLinks, StepsCloseTriangles, StepsLeave, StepsDiffer, StepsReachStates, StepsReverse}
 use Rattle.h3_grid.specs.Search.{step_of}
 use Rattle.h3_grid.specs.Steps.{Leads, State, crossed, led_to, state}
 use Rattle.h3_grid.proofs.DiskLaws.{unit_moves}
@@ -184,8 +184,8 @@ pub steps_differ : Lattice → OverSoundLinks StepsDiffer
 steps_differ w link sound x y z d e st p q same =
     parted w link sound x st d e y z (way w link x y d st p) (way w link x z e st q) same
 
-pub steps_move : Lattice → OverSoundLinks StepsMove
-steps_move w link sound x y d st e same = moved w link sound x st d y (way w link x y d st e) same
+pub steps_leave : Lattice → OverSoundLinks StepsLeave
+steps_leave w link sound x y d st e same = moved w link sound x st d y (way w link x y d st e) same
 
 -- ---- triangles
 

@@ -13,7 +13,7 @@ use Rattle.h3_lattice.specs.Digits.{cell_of}
 use Rattle.h3_lattice.specs.Direction.{digit_turned, directions, opposite, turned}
 use Rattle.h3_lattice.specs.Links.{IsSound, Links}
 use Rattle.h3_lattice.specs.Moved.{IsSum}
-use Rattle.h3_grid.specs.Laws.{IsState, OverSoundLinks, StepsMove, StepsDiffer}
+use Rattle.h3_grid.specs.Laws.{IsState, OverSoundLinks, StepsLeave, StepsDiffer}
 use Rattle.h3_grid.specs.Neighbors.{AreNeighbors, BothOrdersAgree, DirectionsAreFound, DirectionsDiffer, NeighborsAreFound, NeighborsAreMutual, NeighborsDiffer, are_neighbors, cell_reached, direction_to, is_same, is_some_same, neighbor, neighbor_refusal, pair_refusal}
 use Rattle.h3_grid.specs.Search.{step_of}
 use Rattle.h3_grid.specs.Steps.{Leads, State, led_to, state}
@@ -268,11 +268,11 @@ module _ (w : StepLawsHold) (sums : SumLaws) (link : Links) (sound : IsSound lin
     from_related : (x y : Address) → IsCell x → IsCell y → AreNeighbors link x y → is_some (direction_to link x y) ≡ true
     from_related x y v u n = ap is_some ((directions_found x y n.direction v u).1 n.leads)
 
-    module _ (move_on : OverSoundLinks StepsMove) where
+    module _ (leave : OverSoundLinks StepsLeave) where
       pub neighbors_differ : NeighborsDiffer link
       neighbors_differ x y d v p e =
           let s = step-neighbor link x y d p in
-          move_on link sound (state x 0) (state y s.0) d (from_hexagon link x y d v p) s.1 e
+          leave link sound (state x 0) (state y s.0) d (from_hexagon link x y d v p) s.1 e
 
       true_of_neighbors : (x y : Address) → IsCell x → IsCell y → AreNeighbors link x y → are_neighbors link x y ≡ Ok true
       true_of_neighbors x y v u n =

@@ -1,4 +1,4 @@
--- What the laws of disks are about: a disk over several base cells of which no move is refused, and links that are not
+-- What the laws of disks are about: a disk over several base cells of which no step is refused, and links that are not
 -- sound, for which they fail.
 use Rattle.std.specs.Prelude.{◌≡◌, ℕ, [], ◌∷◌, pos, Option, Some, None, refl, slice_get}
 use Rattle.std.proofs.Common.{ap, sym, ◌∙◌, arith}
@@ -14,7 +14,7 @@ use Rattle.h3_grid.specs.Search.{candidates, digit_lists, found_sum, step_of}
 use Rattle.h3_grid.specs.Steps.{State, state}
 use Rattle.h3_grid.specs.Walks.{disk, followed}
 
--- of this disk, which lies in nineteen base cells, no move is refused: so all that is said of such disks holds of it
+-- of this disk, which lies in nineteen base cells, no step is refused: so all that is said of such disks holds of it
 disk_of_radius_2 : WritesCells (test_link Plain) (cell_of 30 []) 2
     ((cell_of 30 [], 0) ∷ (cell_of 42 [], 1) ∷ (cell_of 41 [], 1) ∷ (cell_of 29 [], 1) ∷ (cell_of 18 [], 1) ∷ (cell_of 19 [], 1) ∷ (cell_of 31 [], 1)
     ∷ (cell_of 43 [], 2) ∷ (cell_of 54 [], 2) ∷ (cell_of 53 [], 2) ∷ (cell_of 52 [], 2) ∷ (cell_of 40 [], 2) ∷ (cell_of 28 [], 2) ∷ (cell_of 17 [], 2)
@@ -22,7 +22,7 @@ disk_of_radius_2 : WritesCells (test_link Plain) (cell_of 30 []) 2
 unfolding disk moves ring_moves followed step_of found_sum candidates digit_lists
 disk_of_radius_2 = refl
 
--- over links whose corners do not close, a disk of which no move is refused
+-- over links whose corners do not close, a disk of which no step is refused
 skew_disk : WritesCells (test_link Skew) (cell_of 30 []) 1
     ((cell_of 30 [], 0) ∷ (cell_of 42 [], 1) ∷ (cell_of 41 [], 1) ∷ (cell_of 28 [], 1) ∷ (cell_of 17 [], 1) ∷ (cell_of 18 [], 1) ∷ (cell_of 31 [], 1) ∷ [])
 unfolding disk moves ring_moves followed step_of found_sum candidates digit_lists

@@ -24,7 +24,7 @@ pub record IsWritten (cells : List (Address × ℕ)) (j : ℕ) (y : Address) : T
 abbrev pub HasDistances : Links → Address → ℕ → List (Address × ℕ) → Type 0
 HasDistances link c k cells = (j : ℕ) → j ≤ k → (y : Address) → IsWritten cells j y ↔ Joins link c j y
 
--- it is so in a disk of which no move is refused
+-- it is so in a disk of which no step is refused
 abbrev pub RingsAreDistances : Type 0
 RingsAreDistances =
     (link : Links) (c : Address) (k : ℕ) (cells : List (Address × ℕ)) → IsSound link → IsCell c → WritesCells link c k cells → HasDistances link c k cells

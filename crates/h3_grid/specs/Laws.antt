@@ -38,8 +38,8 @@ abbrev pub StepsDiffer : Links → Type 0
 StepsDiffer link =
     (x y z : State) (d e : Direction) → IsState x → step_of link x d ≡ Some y → step_of link x e ≡ Some z → y.cell ≡ z.cell → d ≡ e
 
-abbrev pub StepsMove : Links → Type 0
-StepsMove link = (x y : State) (d : Direction) → IsState x → step_of link x d ≡ Some y → y.cell ≢ x.cell
+abbrev pub StepsLeave : Links → Type 0
+StepsLeave link = (x y : State) (d : Direction) → IsState x → step_of link x d ≡ Some y → y.cell ≢ x.cell
 
 -- the cells in a direction and in the next one are a step apart
 abbrev pub StepsCloseTriangles : Links → Type 0
@@ -56,7 +56,7 @@ WritesCells link c k cells = disk link c k ≡ map (λ i. Ok i) cells
 abbrev pub IfWritten : Links → Address → ℕ → (List (Address × ℕ) → Type 0) → Type 0
 IfWritten link c k P = (cells : List (Address × ℕ)) → WritesCells link c k cells → P cells
 
--- a disk of which no move is refused writes 3k(k + 1) + 1 cells
+-- a disk of which no step is refused writes 3k(k + 1) + 1 cells
 abbrev pub DisksHaveSizes : Type 0
 DisksHaveSizes =
     (link : Links) (c : Address) (k : ℕ) (cells : List (Address × ℕ)) → WritesCells link c k cells → length cells ≡ 3 * k * (k + 1) + 1

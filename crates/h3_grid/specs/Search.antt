@@ -47,6 +47,6 @@ unfoldable pub step_of : Links → State → Direction → Option State
 step_of link s d =
     if is_pentagon_base s.cell.base then None else found_state link s (found_sum s.cell.digits (turned s.rotation d))
 
--- the function is the step
+-- the function finds the step, and no other
 abbrev pub StepsAreFound : Type 0
 StepsAreFound = (link : Links) (s : State) (d : Direction) (r : Option State) → IsStep link s d r ↔ (step_of link s d ≡ r)

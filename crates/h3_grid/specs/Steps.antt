@@ -3,7 +3,7 @@
 -- A walk over the grid is on a cell, with a rotation: how often its directions are turned in the frame of the base cell
 -- that the cell is in. A step adds its direction, turned that often, to the place of the cell's digits. The sum has an
 -- expansion: digits, which are those of a cell of the same base cell, or else a unit and digits, and then the neighbor
--- is in the base cell to which the table links that side. No step starts or ends in a pentagon base cell.
+-- is in the base cell to which the table links that border. No step starts or ends in a pentagon base cell.
 use Rattle.std.specs.Prelude.{◌≡◌, ℕ, ◌+◌, ◌%◌, List, map, true, false, if◌then◌else◌, Option, Some, None}
 use Rattle.h3_index.specs.Cell.{Address, is_pentagon_base}
 use Rattle.h3_lattice.specs.declared.direction.Direction.{Direction}
@@ -26,10 +26,10 @@ abbrev pub crossed : ℕ × ℕ → ℕ → List ℕ → Option State
 crossed link rot es =
     if is_pentagon_base link.0 then None else Some (state (cell_of link.0 (map (digit_turned link.1) es)) ((rot + link.1) % 6))
 
--- where a sum leads from a state: to the cell of its digits, or across the side where it lies
+-- where a sum leads from a state: to the cell of its digits, or across the border where it lies
 abbrev pub led_to : Links → State → Option Direction → List ℕ → Option State
 led_to link s None es = Some (state (cell_of s.cell.base es) s.rotation)
-led_to link s (Some side) es = crossed (link s.cell.base side) s.rotation es
+led_to link s (Some border) es = crossed (link s.cell.base border) s.rotation es
 
 -- a sum of the cell's digits and the direction turned by the rotation, and where it leads
 pub record Leads (link : Links) (s : State) (d : Direction) (r : Option State) : Type 0 where

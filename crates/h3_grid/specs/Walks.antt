@@ -22,7 +22,7 @@ or_refused (Some s) rest = rest s
 abbrev pub noted : Bool → Address → ℕ → List (Result (Address × ℕ) H3Error) → List (Result (Address × ℕ) H3Error)
 noted written c r rest = if written then Ok (c, r) ∷ rest else rest
 
--- the cells that moves from a state write, with their rings, up to the first move that is refused, and then the error
+-- the cells that moves from a state write, with their rings, up to the first step that is refused, and then the error
 unfoldable pub followed : Links → State → List Move → List (Result (Address × ℕ) H3Error)
 followed link s [] = []
 followed link s (m ∷ ms) = or_refused (step_of link s m.direction) (λ t. noted m.written t.cell m.ring (followed link t ms))

@@ -1,4 +1,4 @@
--- What holds of a disk of which no move is refused, beside the number of its cells.
+-- What holds of a disk of which no step is refused, beside the number of its cells.
 use Rattle.std.specs.Prelude.{◌≡◌, ℕ, List, All}
 use Rattle.h3_index.specs.Cell.{Address}
 use Rattle.h3_lattice.specs.Links.{Links}

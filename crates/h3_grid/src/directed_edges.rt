@@ -22,7 +22,7 @@ use h3_lattice::{BaseTable, Direction};
 pub fn edge_between(table: &BaseTable, a: Cell, b: Cell) -> Result<Edge, H3Error>
     ensures is { result ≡ edge_between (link_of table.now) a b }
 
-    // The same, a fact a clause: what the edge is, and which pairs are refused.
+    // The same, one fact a clause: what the edge is, and which pairs are refused.
     ensures leads { IfOk result (λ edge. IsEdgeBetween (link_of table.now) a b edge) }
     ensures refused { MatchOption (edge_refusal a b)
         (IfErr result (λ e. (e ≡ H3Error.NotNeighbors) × ¬ AreNeighbors (link_of table.now) a b))
@@ -51,7 +51,7 @@ pub fn edge_between(table: &BaseTable, a: Cell, b: Cell) -> Result<Edge, H3Error
 pub fn edge_destination(table: &BaseTable, edge: Edge) -> Result<Cell, H3Error>
     ensures is { result ≡ edge_destination (link_of table.now) edge }
 
-    // The same, a fact a clause.
+    // The same, one fact a clause.
     ensures leads { IfOk result (λ cell. IsDestination (link_of table.now) edge cell) }
     ensures refused { IfErr result (λ e. (e ≡ H3Error.Pentagon)
         × ((cell : Address) → ¬ IsDestination (link_of table.now) edge cell)) }

@@ -78,7 +78,7 @@ impl<'a> Disk<'a> {
         ensures items { IfOk result (λ walk.
             disk_left walk ≡ disk (link_of table.now) cell (unsigned_abs k)) }
 
-        // Where no move is refused: how many cells there are; and where they are, and how far from
+        // Where no step is refused: how many cells there are; and where they are, and how far from
         // the origin.
         ensures size { IfWritten (link_of table.now) cell (unsigned_abs k)
             (λ cells. length cells ≡ 3 * unsigned_abs k * (unsigned_abs k + 1) + 1) }

@@ -3,7 +3,7 @@
 
 ghost use Rattle.h3_grid.specs.Chart.{ChartsLeadAlongPaths, DisksAreCharts, OriginsAreAlone, RingsAgree, StatesAreWritten};
 ghost use Rattle.h3_grid.specs.Distance.{RingsAreDistances, SpiralsHoldSums};
-ghost use Rattle.h3_grid.specs.Laws.{DisksHaveSizes, DisksInsideAreCharted, MovesFollowTheSpiral, OverSoundLinks, SpiralsAreSimple, SpiralsHaveSizes, StepsCloseTriangles, StepsMove, StepsDiffer, StepsReachStates, StepsReverse};
+ghost use Rattle.h3_grid.specs.Laws.{DisksHaveSizes, DisksInsideAreCharted, MovesFollowTheSpiral, OverSoundLinks, SpiralsAreSimple, SpiralsHaveSizes, StepsCloseTriangles, StepsLeave, StepsDiffer, StepsReachStates, StepsReverse};
 ghost use Rattle.h3_grid.specs.Neighbors.{BothOrdersAgree, DirectionsAreFound, DirectionsDiffer, NeighborsAreFound, NeighborsAreMutual, NeighborsDiffer};
 ghost use Rattle.h3_grid.specs.Search.{StepsAreFound};
 
@@ -18,7 +18,7 @@ pub fn steps_are_found()
     sums_are_lawful();
 }
 
-/// A disk of which no move is refused has 3k(k + 1) + 1 cells, and its moves follow the spiral.
+/// A disk of which no step is refused has 3k(k + 1) + 1 cells, and its moves follow the spiral.
 /// Where all of them are in the origin's base cell, they are at the places of the spiral around the
 /// origin's, and no cell comes twice.
 pub fn disks_are_spirals()
@@ -40,14 +40,14 @@ pub fn steps_are_lawful()
     ensures states { OverSoundLinks StepsReachStates }
     ensures reverse { OverSoundLinks StepsReverse }
     ensures differ { OverSoundLinks StepsDiffer }
-    ensures move_on { OverSoundLinks StepsMove }
+    ensures leave { OverSoundLinks StepsLeave }
     ensures triangles { OverSoundLinks StepsCloseTriangles }
 {
     sums_are_lawful();
     turns_add_up();
 }
 
-/// A disk of which no move is refused is a chart: where two places of the spiral are a direction
+/// A disk of which no step is refused is a chart: where two places of the spiral are a direction
 /// apart, the step in that direction leads from the state at the one to the state at the other. Its
 /// rings are distances, and for a radius of 1 or more it ends with the cells of the ring of that
 /// radius.

@@ -90,7 +90,7 @@ fn is_neighbor(table: &BaseTable, a: Cell, b: Cell) -> bool
 pub fn are_neighbors(table: &BaseTable, a: Cell, b: Cell) -> Result<bool, H3Error>
     ensures is { result ≡ are_neighbors (link_of table.now) a b }
 
-    // The same, a fact a clause: which pairs are refused, which are neighbors, and that a cell is
+    // The same, one fact a clause: which pairs are refused, which are neighbors, and that a cell is
     // not its own neighbor.
     ensures refused { result_err result ≡ neighbor_refusal a b }
     ensures related { (result ≡ Ok true) ↔ AreNeighbors (link_of table.now) a b }

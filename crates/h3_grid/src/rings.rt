@@ -84,8 +84,8 @@ impl<'a> Ring<'a> {
         ensures items { IfOk result (λ walk.
             ring_left walk ≡ ring (link_of table.now) cell (unsigned_abs k)) }
 
-        // For a radius of 1 or more, a disk of which no move is refused ends with this ring's
-        // cells, in the same order but for the ring's first, which is the disk's last.
+        // For a radius of 1 or more, a disk of which no step is refused ends with this ring's cells,
+        // in the same order but for the ring's first, which is the disk's last.
         ensures agree { RingEndsDisk (link_of table.now) cell (unsigned_abs k) }
         ensures origin { OriginsAreAlone }
     {

@@ -17,7 +17,7 @@ pub fn disk_len(k: i32) -> Result<u64, H3Error>
     ensures count { IfOk result (λ n. n ≡ 3 * unsigned_abs k * (unsigned_abs k + 1) + 1) }
     ensures places { IfOk result (λ n. n ≡ length (spiral (unsigned_abs k))) }
 
-    // A disk of which no move is refused has this many cells.
+    // A disk of which no step is refused has this many cells.
     ensures disks { DisksHaveSizes }
 {
     disks_are_spirals();

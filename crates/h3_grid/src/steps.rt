@@ -3,7 +3,7 @@
 ghost use Rattle.std.specs.Prelude.{◌≡◌, ◌<◌, None, Some, IfOk, IfErr};
 ghost use Rattle.h3_index.specs.Cell.{IsCell};
 ghost use Rattle.h3_lattice.specs.BaseTable.{link_of};
-ghost use Rattle.h3_grid.specs.Laws.{StepsCloseTriangles, StepsMove, StepsDiffer, StepsReverse};
+ghost use Rattle.h3_grid.specs.Laws.{StepsCloseTriangles, StepsLeave, StepsDiffer, StepsReverse};
 ghost use Rattle.h3_grid.specs.Search.{step_of, StepsAreFound};
 ghost use Rattle.h3_grid.specs.Steps.{state, IsStep};
 
@@ -15,7 +15,7 @@ use h3_lattice::{BaseTable, Direction, Moved, add, turn};
 fn step_is_lawful(table: &BaseTable)
     ensures reverse { StepsReverse (link_of table.now) }
     ensures differ { StepsDiffer (link_of table.now) }
-    ensures move_on { StepsMove (link_of table.now) }
+    ensures leave { StepsLeave (link_of table.now) }
     ensures triangles { StepsCloseTriangles (link_of table.now) }
 {
     steps_are_lawful();
@@ -43,7 +43,7 @@ pub fn step(
         × IsStep (link_of table.now) (state cell rot) direction None) }
     ensures valid { IfOk result (λ r. IsCell r.0 × (r.1 < 6)) }
 
-    // The same by the definition of a step as a function.
+    // The same by `step_of`, the step as a function.
     ensures leads { IfOk result (λ r.
         step_of (link_of table.now) (state cell rot) direction ≡ Some (state r.0 r.1)) }
     ensures ends { IfErr result (λ e.
@@ -56,7 +56,7 @@ pub fn step(
     // a direction and the next one lead to neighbors.
     ensures reverse { StepsReverse (link_of table.now) }
     ensures differ { StepsDiffer (link_of table.now) }
-    ensures move_on { StepsMove (link_of table.now) }
+    ensures leave { StepsLeave (link_of table.now) }
     ensures triangles { StepsCloseTriangles (link_of table.now) }
 {
     steps_are_found();
@@ -66,8 +66,8 @@ pub fn step(
     }
     match add(cell, turn(direction, rot)) {
         Moved::Inside(moved) => Ok((moved, rot)),
-        Moved::Across(side, digits) => {
-            let (base, turns) = table.link(cell.base_cell(), side);
+        Moved::Across(border, digits) => {
+            let (base, turns) = table.link(cell.base_cell(), border);
             if is_pentagon_base(base) {
                 return Err(H3Error::Pentagon);
             }

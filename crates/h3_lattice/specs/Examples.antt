@@ -119,7 +119,7 @@ place_as_sum = refl
 sum_inside : sum_of (place (0 ∷ 6 ∷ 4 ∷ 3 ∷ 4 ∷ [])) (unit_of IJ) ≡ sum_of (scaled 0 5 zero_point) (place (0 ∷ 6 ∷ 4 ∷ 2 ∷ 1 ∷ []))
 sum_inside = refl
 
--- 813d3ffffffffff by I lies across the side I of its base cell, at the digit 2
+-- 813d3ffffffffff by I lies across the border I of its base cell, at the digit 2
 sum_across : sum_of (place (4 ∷ [])) (unit_of I) ≡ sum_of (scaled 0 1 (unit_of I)) (place (2 ∷ []))
 sum_across = refl
 

@@ -56,7 +56,7 @@ abbrev pub SumsTurn : Type 0
 SumsTurn =
     (n : ℕ) (ds : List ℕ) (d : Direction) (u : Option Direction) (es : List ℕ) → IsSum ds d u es → IsSum (map (digit_turned n) ds) (turned n d) (option_turned n u) (map (digit_turned n) es)
 
--- which sides of a triangle x, y, z lie across which sides of x's and y's base cells: from x to y, from y to z and
+-- which sides of a triangle x, y, z lie across which borders of x's and y's base cells: from x to y, from y to z and
 -- from x to z
 pub data Triangle : Option Direction → Option Direction → Option Direction → Type 0 where
   all_inside : Triangle None None None

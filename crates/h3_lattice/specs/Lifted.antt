@@ -2,8 +2,8 @@
 --
 -- The checks of a table are about base cells: the link back undoes a link, and the links around a corner agree. The
 -- same holds of steps between cells, whatever their resolution. A step adds a direction to the place of a cell's
--- digits. The sum is in the same base cell, or across a side of it; there the digits are turned, as the link of the
--- side says.
+-- digits. The sum is in the same base cell, or across a border of it; there the digits are turned, as the link of the
+-- border says.
 use Rattle.std.specs.Prelude.{◌≡◌, ℕ, ◌+◌, ◌-◌, ◌%◌, List, map, Option, Some, None}
 use Rattle.std.specs.Int.Digits.{AllBelowBase}
 use Rattle.h3_lattice.specs.declared.direction.Direction.{Direction}
@@ -27,7 +27,7 @@ across l es = reached l.0 l.1 (map (digit_turned l.1) es)
 -- where a sum lies that starts in base cell b
 abbrev pub led_by : Links → ℕ → Option Direction → List ℕ → Reached
 led_by link b None es = reached b 0 es
-led_by link b (Some side) es = across (link b side) es
+led_by link b (Some border) es = across (link b border) es
 
 -- the step from the cell of base cell b and digits ds in the direction d leads there
 pub record Reaches (link : Links) (b : ℕ) (ds : List ℕ) (d : Direction) (r : Reached) : Type 0 where

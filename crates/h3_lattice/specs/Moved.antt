@@ -15,8 +15,8 @@ abbrev pub IsSum : List ℕ → Direction → Option Direction → List ℕ → 
 IsSum ds direction out es =
     IsExpansion (sum_of (place ds) (unit_of direction)) (length ds) (value_of out) es
 
--- by 0: the sum is a cell of the same base cell. By a unit: it lies across the side of the base cell in that direction
+-- by 0: the sum is a cell of the same base cell. By a unit: it lies across the border of the base cell in that direction
 abbrev pub IsMoved : Address → Direction → Moved → Type 0
 IsMoved cell direction (Inside moved) =
     (moved.base ≡ cell.base) × IsSum cell.digits direction None moved.digits × IsCell moved
-IsMoved cell direction (Across side ds) = IsSum cell.digits direction (Some side) ds × IsDigits ds
+IsMoved cell direction (Across border ds) = IsSum cell.digits direction (Some border) ds × IsDigits ds

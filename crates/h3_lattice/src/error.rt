@@ -15,8 +15,8 @@ pub enum TableError {
     #[error("out of memory")]
     Memory,
 
-    /// The first record is no header, or a later one has more or fewer fields than the header, or
-    /// a field that is not 1 to 3 digits.
+    /// The first record is no header, or a later one has more or fewer fields than the header, or a
+    /// field that is not 1 to 3 digits.
     #[error("record {0} is malformed")]
     Form(u64),
 
@@ -34,7 +34,7 @@ pub enum TableError {
     Missing,
 
     /// The neighbors of the base cell do not differ from each other and from it.
-    #[error("base cell {0} and its neighbors are not seven different base cells")]
+    #[error("base cell {0} and its neighbours are not seven different base cells")]
     Neighbours(u8),
 
     /// The link back from the neighbor of the base cell in the direction does not undo the link.
@@ -70,7 +70,7 @@ mod tests {
             ),
             (
                 TableError::Neighbours(121),
-                "base cell 121 and its neighbors are not seven different base cells",
+                "base cell 121 and its neighbours are not seven different base cells",
             ),
             (
                 TableError::Reversal(30, Direction::I),

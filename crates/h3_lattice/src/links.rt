@@ -55,7 +55,7 @@ fn missing_at(slots: &Slots, base: u8, direction: Direction) -> Option<TableErro
     }
 }
 
-/// The fault that a link is not known for a base cell, in the first direction of which that is so.
+/// The fault that no link is known for a base cell in some direction.
 fn missing_from(slots: &Slots, base: u8) -> Option<TableError>
     requires { base < 122 }
     ensures { result ≡ in_directions (missing_at slots.now base) directions }
@@ -69,7 +69,7 @@ fn missing_from(slots: &Slots, base: u8) -> Option<TableError>
     None
 }
 
-/// The same for any hexagon base cell.
+/// The fault that no link is known for some hexagon base cell and direction.
 pub fn first_missing(slots: &Slots) -> Option<TableError>
     ensures { result ≡ at_links (missing_at slots.now) }
 {

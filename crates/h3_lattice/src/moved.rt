@@ -16,8 +16,8 @@ pub enum Moved {
     /// In the cell's own base cell.
     Inside(Cell),
 
-    /// Across the side of the base cell in this direction. The digits are those that the sum has in
-    /// the frame of the base cell that was left.
+    /// Across the border of the base cell in this direction. The digits are those that the sum has
+    /// in the frame of the base cell that was left.
     Across(Direction, Digits),
 }
 

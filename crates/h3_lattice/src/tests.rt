@@ -195,8 +195,8 @@ fn a_sum_lies_across(rt: HostRuntime) -> Result<(), Fail> {
     assert!(rt; !cell.in_pentagon_base());
     match add(cell, Direction::I) {
         Moved::Inside(_) => assert!(rt; false),
-        Moved::Across(side, digits) => {
-            assert_eq!(rt; side, Direction::I);
+        Moved::Across(border, digits) => {
+            assert_eq!(rt; border, Direction::I);
             assert_eq!(rt; digits.resolution(), 1);
             assert_eq!(rt; digits.digit(1), 2);
             assert_eq!(rt; digits.digit(2), 7);
@@ -213,8 +213,8 @@ fn a_base_cell_has_no_digit_to_add_to(rt: HostRuntime) -> Result<(), Fail> {
     assert!(rt; !cell.in_pentagon_base());
     match add(cell, Direction::JK) {
         Moved::Inside(_) => assert!(rt; false),
-        Moved::Across(side, digits) => {
-            assert_eq!(rt; side, Direction::JK);
+        Moved::Across(border, digits) => {
+            assert_eq!(rt; border, Direction::JK);
             assert_eq!(rt; digits.resolution(), 0);
             assert_eq!(rt; digits.at(0), Cell::new(0x8001fffffffffff)?);
         }

@@ -35,7 +35,7 @@ fn plain_step(direction: Direction) -> u8
     }
 }
 
-/// The step of a direction in the table whose corners do not close.
+/// The step of a direction in the skew table.
 fn skew_step(direction: Direction) -> u8
     ensures { result ≡ skew_step direction }
 {

@@ -124,7 +124,7 @@ fn assert_visits(rt: &impl Abort, all: &[Visit], cells: &[Cell]) {
 }
 
 /// Asserts that a step leads from one cell of a disk to that at the place beside it in a direction,
-/// if the disk has one, and returns whether it has.
+/// if the disk has one. Returns whether it has one.
 fn assert_beside(
     rt: &impl Abort,
     table: &BaseTable,
@@ -143,7 +143,7 @@ fn assert_beside(
     false
 }
 
-/// Asserts the same in each direction, and returns in how many of them the disk has a cell.
+/// Asserts the same in each direction. Returns in how many the disk has a place.
 fn assert_around(rt: &impl Abort, table: &BaseTable, all: &[Visit], from: &Visit) -> u32 {
     let mut count: u32 = 0;
     for direction in DIRECTIONS {
@@ -154,7 +154,7 @@ fn assert_around(rt: &impl Abort, table: &BaseTable, all: &[Visit], from: &Visit
     count
 }
 
-/// Asserts the same of each cell; how many pairs of places are a direction apart.
+/// Asserts the same of each cell. Returns how many pairs of places are a direction apart.
 fn assert_chart(rt: &impl Abort, table: &BaseTable, all: &[Visit]) -> u32 {
     let mut count: u32 = 0;
     for from in all {
@@ -203,8 +203,8 @@ fn assert_reached(
     Ok(())
 }
 
-/// Asserts all this of the disk of a radius with these moves, if it is not refused; whether it is
-/// not.
+/// Asserts all this of the disk of a radius with these moves, if it is not refused. Returns whether
+/// it is not.
 fn assert_disk_is_charted(
     rt: &impl Abort,
     alloc: Global,
@@ -236,7 +236,7 @@ fn assert_cell_is_charted(
     Ok(())
 }
 
-/// Asserts it of the cells of resolution 1 in a base cell; how many they are.
+/// Asserts it of the cells of resolution 1 in a base cell. Returns how many they are.
 fn assert_base_is_charted(
     rt: &impl Abort,
     alloc: Global,

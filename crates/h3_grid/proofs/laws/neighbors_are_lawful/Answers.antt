@@ -29,8 +29,8 @@ returns-clause-both c = λ link sound.
 
 pub returns-clause-differ : goal.returns-clause-differ
 returns-clause-differ c = λ link sound.
-    neighbors_differ (steps c) (sums c) link sound c.numbers_are_unique.ensures c.steps_are_lawful.ensures.differ c.steps_are_lawful.ensures.move_on
+    neighbors_differ (steps c) (sums c) link sound c.numbers_are_unique.ensures c.steps_are_lawful.ensures.differ c.steps_are_lawful.ensures.leave
 
 pub returns-clause-related : goal.returns-clause-related
 returns-clause-related c = λ link sound.
-    neighbors_found (steps c) (sums c) link sound c.numbers_are_unique.ensures c.steps_are_lawful.ensures.differ c.steps_are_lawful.ensures.move_on
+    neighbors_found (steps c) (sums c) link sound c.numbers_are_unique.ensures c.steps_are_lawful.ensures.differ c.steps_are_lawful.ensures.leave

@@ -7,8 +7,8 @@ returns-clause-reverse c = c.steps_are_lawful.ensures.reverse (link_of c.args.ta
 pub returns-clause-differ : goal.returns-clause-differ
 returns-clause-differ c = c.steps_are_lawful.ensures.differ (link_of c.args.table.now) c.links_are_sound.ensures
 
-pub returns-clause-move_on : goal.returns-clause-move_on
-returns-clause-move_on c = c.steps_are_lawful.ensures.move_on (link_of c.args.table.now) c.links_are_sound.ensures
+pub returns-clause-leave : goal.returns-clause-leave
+returns-clause-leave c = c.steps_are_lawful.ensures.leave (link_of c.args.table.now) c.links_are_sound.ensures
 
 pub returns-clause-triangles : goal.returns-clause-triangles
 returns-clause-triangles c = c.steps_are_lawful.ensures.triangles (link_of c.args.table.now) c.links_are_sound.ensures

@@ -7,8 +7,8 @@ use crate::vectors::TestTable;
 use h3_index::{Source, StreamFault};
 use std::test::Fail;
 
-/// A source of a text that reads at most `most` bytes a call. The call with the number `fault`,
-/// from 0, fails, and no other.
+/// A source of a text, at most `most` bytes a read. The read with the number `fault`, from 0,
+/// fails, and no other.
 #[derive(Drop)]
 struct FaultySource<'a> {
     text: &'a [u8],
