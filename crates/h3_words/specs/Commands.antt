@@ -27,7 +27,7 @@ pub record Entry : Type 0 where
   pub word : Text
   pub options : List CommandOption
 
--- what stands in the command line for the command
+-- the word and the options of each command
 abbrev pub entry_of : CommandName → Entry
 entry_of name.IsValidCell = record { word = codes "isValidCell"; options = Cell ∷ [] }
 entry_of name.GetResolution = record { word = codes "getResolution"; options = Cell ∷ [] }
@@ -67,7 +67,7 @@ options_of k = (entry_of k).options
 abbrev pub has_option : CommandName → CommandOption → Bool
 has_option k o = list_any (λ x. bytes_eq (id_of x) (id_of o)) (options_of k)
 
--- the value that a command has for an option: an index, or none, or a number
+-- the value that a command has for an option: an index or none, or a number
 pub data Value : Type 0 where
   Index : CommandOption → Option ℕ → Value
   Number : CommandOption → ℤ → Value

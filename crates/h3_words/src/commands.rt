@@ -71,7 +71,7 @@ static COMMAND_NAMES: [CommandName; 25] = [
     CommandName::OriginToDirectedEdges,
 ];
 
-/// What stands in the command line for a command.
+/// The word, the options and the help of a command.
 #[derive(Drop)]
 struct Entry {
     /// The word that names the command.
@@ -96,7 +96,7 @@ struct Values {
 }
 
 impl CommandName {
-    /// What stands in the command line for the command.
+    /// The command's word, options and help.
     fn entry(self) -> Entry
         ensures word { result.word.now ≡ word_of self }
         ensures options { result.options.now ≡ options_of self }
@@ -244,6 +244,11 @@ impl CommandName {
         self.entry().options
     }
 
+    /// What help says of the command.
+    fn about<'a>(self) -> &'a str {
+        self.entry().about
+    }
+
     /// The command that the word names.
     pub fn named_by(word: &str) -> Option<CommandName>
         ensures { result ≡ find (λ name. bytes_eq (word_of name) word.now) command_names }
@@ -252,11 +257,6 @@ impl CommandName {
             .iter()
             .copied()
             .find(|name| name.word() == word)
-    }
-
-    /// What help says of the command.
-    fn about<'a>(self) -> &'a str {
-        self.entry().about
     }
 
     /// The command as `clap` takes it.

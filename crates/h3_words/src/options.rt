@@ -118,6 +118,9 @@ impl CommandOption {
     }
 
     /// The whole number, from 0 to the option's most, that the option's text parses as.
+    ///
+    /// `clap` has refused every other text. For such a one this is the nearest number in that range,
+    /// or 0 where it is no `i64`; and 0 where there is no text, or the option takes no number.
     pub fn number(self, matches: &ArgMatches<'_>) -> i64
         ensures within { (pos 0 ≤ℤ result) × (result ≤ℤ unwrap_or (number_up_to self) (pos 0)) }
         ensures read { (text : Text) (most : ℤ)
