@@ -92,6 +92,6 @@ answer_to (plain a) list file = a
 answer_to (of_list about) list file = answer_or_error about (listed_cells list)
 answer_to (of_table about) list file = about_table about file
 
--- the answer to a command
+-- the answer to a command. Examples alone cite it.
 abbrev pub answer : Command → List ℕ → List ℕ → Answer
 answer c list file = answer_to (request c) list file

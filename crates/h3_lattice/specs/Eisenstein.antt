@@ -30,6 +30,6 @@ abbrev pub product_of : Eisenstein → Eisenstein → Eisenstein
 product_of x y =
     eisenstein (x.a *ℤ y.a -ℤ x.b *ℤ y.b) ((x.a *ℤ y.b +ℤ x.b *ℤ y.a) -ℤ x.b *ℤ y.b)
 
--- a*a - a*b + b*b, the square of the distance from 0
+-- a*a - a*b + b*b, the square of the distance from 0. Examples alone cite it.
 abbrev pub norm : Eisenstein → ℤ
 norm x = (x.a *ℤ x.a -ℤ x.a *ℤ x.b) +ℤ x.b *ℤ x.b

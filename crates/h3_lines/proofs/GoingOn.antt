@@ -7,10 +7,6 @@ use Rattle.h3_lines.specs.Reading.{GoesOn, StopsAfter, cells_before, is_unended,
 use Rattle.h3_lines.specs.Reads.{HasNoFaultYet, StopsAtFault}
 use Rattle.h3_lines.proofs.ListLines.{lines_at_end}
 
--- no line ends
-pub goes_none : (cells : List Address) (line bytes : List ℕ) → GoesOn cells line bytes cells line bytes
-goes_none cells line bytes = record { ended = []; lines = refl; said = λ later. refl }
-
 -- bytes are kept of a line that does not end in them
 pub goes_kept : (cells cells' : List Address) (line line' bytes rest : List ℕ) → cells' ≡ cells → line' ≡ line ++ bytes → GoesOn cells line (bytes ++ rest) cells' line' rest
 goes_kept cells cells' line line' bytes rest same is =

@@ -11,7 +11,7 @@ use Rattle.h3_lines.specs.List.{RefusesList, listed_cells}
 use Rattle.h3_lines.specs.Beginning.{SomeBeginning}
 use Rattle.h3_lines.specs.Reading.{GoesOn, IsKnownFaultyAfter, StopsAfter, is_unended, listed_after}
 use Rattle.h3_lines.specs.Reads.{IsKnownFaulty, IsListWithinReads, IsWithinReads}
-use Rattle.h3_lines.proofs.GoingOn.{goes_none, goes_then, same_list}
+use Rattle.h3_lines.proofs.GoingOn.{goes_then, same_list}
 use Rattle.h3_lines.proofs.ListLines.{listed_from_start}
 
 -- The source had the bytes old left and now has those left. What was read turned the first cells and line into these,
@@ -22,9 +22,6 @@ pub record Reads (old now : Option (List ℕ)) (limit reads_left size : ℕ) (fi
   pub goes : (rest : List ℕ) → GoesOn first-cells first-line (bytes ++ rest) cells line rest
   pub counted : limit ≤ reads_left + length bytes
   pub short : length bytes + reads_left * size ≤ limit * size
-
-pub reads_none : (told : Option (List ℕ)) (limit size : ℕ) (cells : List Address) (line : List ℕ) → Reads told told limit limit size cells line cells line
-reads_none told limit size cells line = record { bytes = []; told = Consumes-nil told; goes = λ rest. goes_none cells line rest; counted = omega arith; short = omega arith }
 
 -- one page less is left
 one_less : (reads reads' size : ℕ) → reads' + 1 ≡ reads → reads * size ≡ reads' * size + size
@@ -217,7 +214,3 @@ pub refuses_at_end : (reads : Type 0) (cells cells' : List Address) (line line' 
     → GoesOn cells line bytes cells' line' [] → RefusesList ⊥ (listed_after cells' line' []) e → RefusesList reads (listed_cells bytes) e
 refuses_at_end reads cells cells' line line' bytes e p q goes h =
     fits_any reads _ e (subst (λ list. RefusesList ⊥ list e) (sym (same_list goes) ∙ listed_from_start cells line bytes p q) h)
-
--- a refusal of a page or of the last line is never a read fault
-pub never_read : (list : Result (List Address) H3Error) (e : Refusal) → RefusesList ⊥ list e → e ≡ Read → ⊥
-never_read list e refused is = subst (λ r. RefusesList ⊥ list r) is refused

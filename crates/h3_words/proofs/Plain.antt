@@ -351,12 +351,6 @@ top_turn k rest = (
   ap (λ r. fold (walked (done_rules []) (names_of (app_done command_names))) (first_state (word_of k) r) rest) (name_first k) ∙ keeps_stop (names_of (app_done command_names)) (word_of k) [] rest,
 )
 
--- the kinds of the first step that fails after the walk
-abbrev level_of : Walk → Option (Shape) → Kinds → Kinds
-level_of w s inner = or_else (option_map_or (λ _. inner) s [])
-    (or_else (settle_fault (done_rules []) false w.held) (or_else (defaults_fault (settled (done_rules []) w.held).rows (done_rules []))
-    (check_fault top_done (finished (done_rules []) w.held) (is_some s))))
-
 pub app_passes : (program : Text) (k : CommandName) (rest : List Text) → level_fault (leaf k) [] nothing_held rest false [] ≡ [] → fault_of app (program ∷ word_of k ∷ rest) ≡ []
 unfolding defaults_fault
 app_passes program k rest f =

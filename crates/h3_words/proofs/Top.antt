@@ -28,9 +28,6 @@ top_done = record (new_shape (codes "h3")) { rules = done_rules []; subcommand_r
 abbrev pub app_done : List CommandName → App
 app_done ks = record { top = top_done; subs = map leaf ks }
 
-pub built_is : built app ≡ app_done command_names
-built_is = refl
-
 pub app_is_simple : is_simple_and_free app ≡ true
 app_is_simple = refl
 

@@ -93,10 +93,6 @@ pub has_values : (f : Found) (values : Values) (self : CommandName) (c : Command
 has_values f values self c same read text found = subst (All (IsValue text)) (sym same)
     (all_read text f values read (options_of self) (λ o is. found o (contains (options_of self) o is)))
 
--- a command that has no table
-pub no_table : (self : CommandName) → has_option self Table ≡ false → (text : CommandOption → Option Text) → HasTable text self None
-no_table self has text = subst (λ b. MatchBool b (IsText (text Table) None) (◌≡◌ {A = Option Text} None None)) (sym has) refl
-
 -- the path of a command that has one is what is found for it
 pub table_of : (self : CommandName) (f : Found) (path : Option Text) → has_option self Table ≡ true → first_value f (id_of Table) ≡ path
     → (text : CommandOption → Option Text) → AreFound self text f → HasTable text self path

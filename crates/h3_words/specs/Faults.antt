@@ -7,7 +7,7 @@ use Rattle.h3_words.specs.declared.words.WordsFault.{WordsFault}
 use Rattle.h3_words.specs.declared.words.WordsFault.TheVariants.{Help, Usage, Memory}
 
 -- what is reported for an error of this kind: help only where help is asked for, an invalid command line only for any
--- other error of the parse, and out of memory at any time
+-- other error of the parse, and out of memory at any time. Private contracts alone cite it.
 abbrev pub IsReportedAs : ErrorKind → WordsFault → Type 0
 IsReportedAs kind (Help text) = kind ≡ DisplayHelp
 IsReportedAs kind (Usage text) = (kind ≢ DisplayHelp) × (kind ≢ OutOfMemory)

@@ -57,7 +57,7 @@ IsUpTo (Some most) text = IsSignedIn (pos 0) most text
 abbrev pub parser_for : CommandOption → Option ValueParser
 parser_for o = option_map (Signed (pos 0)) (number_up_to o)
 
--- what `clap` holds each value of the option to
+-- what `clap` holds each value of the option to. Private contracts and proofs alone cite it.
 abbrev pub parser_done : CommandOption → ValueParser
 parser_done o = unwrap_or (parser_for o) String
 
