@@ -11,7 +11,7 @@ use Rattle.std.proofs.lemmas.Bool.{ne_eqb}
 use Rattle.clap.specs.ValueTests.{accepts}
 use Rattle.clap.proofs.ValueTestLemmas.{Accepts-accepts}
 use Rattle.clap.specs.Walk.{Names, answers_to, finished, nothing_held, walk, Outcome, trailing, attached_value, after_flag, bundle_step, done, long_met, long_or_other, option_met, plain, plain_word, short_met, short_or_plain, Held, Row, Rule, Step, Text, Waiting, Walk, after_step, arg_by_id, arg_by_long, arg_by_short, bundle_met, has_long, has_row, has_short, idle, next, option, settled, used_by_id, walked, word_met}
-use Rattle.clap.specs.Kinds.{Kinds, or_else}
+use Rattle.clap.specs.Kinds.{or_else}
 use Rattle.clap.specs.Values.{refused_kind}
 use Rattle.clap.specs.Takes.{is_given}
 use Rattle.clap.specs.Facts.{explicit_source}
