@@ -1,9 +1,9 @@
-use Rattle.std.proofs.Common.{w32, rules, of_z, to_z, ◌≡◌, ◌∙◌, ℤ, Some, Ok, Err, ap, sym, subst}
+use Rattle.std.proofs.Common.{w32, rules, of_z, to_z, ◌≡◌, ◌∙◌, ℤ, Ok, Err, ap, sym, subst}
 use Rattle.std.specs.Iterator.{YieldsFirst}
 use Rattle.std.specs.Option.{option_map_or}
 use Rattle.std.proofs.lemmas.Int.{to_z-of_z}
 use Rattle.std.proofs.lemmas.Iterator.Consumers.{YieldsList-from_first}
-use Rattle.h3_index.specs.Count.{pentagons, resolution_of}
+use Rattle.h3_index.specs.Count.{pentagons}
 use Rattle.h3_index.specs.declared.error.H3Error.TheVariants.{ResDomain}
 use Rattle.h3_command.specs.Bases.{pentagons_left}
 use Rattle.h3_command.specs.Resolutions.{get_pentagons}
