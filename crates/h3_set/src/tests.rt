@@ -344,6 +344,18 @@ fn cells_of_several_resolutions_are_compacted(rt: HostRuntime) -> Result<(), Fai
     assert_compacted(&rt, &two, &[0x81083ffffffffff, 0x85283473fffffff])
 }
 
+/// A coarser cell has a smaller number than any finer one, wherever their base cells are.
+#[test]
+fn coarser_cells_come_first(rt: HostRuntime) -> Result<(), Fail> {
+    let finer = Cell::new(0x81003ffffffffff)?;
+    let coarser = Cell::new(0x800bfffffffffff)?;
+    assert_compacted(
+        &rt,
+        &[finer, coarser],
+        &[0x800bfffffffffff, 0x81003ffffffffff],
+    )
+}
+
 #[test]
 fn cells_of_two_resolutions_below_a_pentagon_are_compacted(rt: HostRuntime) -> Result<(), Fail> {
     let mut cells = Vec::new(rt.alloc());
