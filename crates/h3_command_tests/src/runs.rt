@@ -173,6 +173,21 @@ fn positions_are_written(rt: HostRuntime) {
     assert_refused(&rt, outside, "error 4: E_RES_DOMAIN\n");
 }
 
+#[test]
+fn resolutions_without_descendants_are_refused(rt: HostRuntime) {
+    let cell = HEXAGON;
+    for res in [4, 16] {
+        let commands = [
+            Command::CellToCenterChild { cell, res },
+            Command::CellToChildren { cell, res },
+            Command::CellToChildrenSize { cell, res },
+        ];
+        for command in commands {
+            assert_refused(&rt, command, "error 4: E_RES_DOMAIN\n");
+        }
+    }
+}
+
 /// The command for the descendant of a cell at a position.
 fn at_position(position: u64, word: &str, res: i32) -> Command {
     Command::ChildPosToCell {
