@@ -2,12 +2,13 @@
 use Rattle.std.specs.Char.{digit_char}
 use Rattle.std.specs.Int.Bits.{bit_and, bit_or, or_zero_l, or_zero_r}
 use Rattle.std.specs.Int.Digits.{number_from_digits}
-use Rattle.std.proofs.Common.{ℕ, zero, suc, ◌≡◌, ◌+◌, ◌-◌, ◌*◌, ◌/◌, ◌%◌, ◌^◌, ◌<◌, ◌==◌, nat_lt, map, true, refl, arith, ap, ◌∙◌, lit<, eqb-true, ltb-true}
-use Rattle.std.proofs.Math.Nat.{mod-eq_of_lt}
+use Rattle.std.proofs.Common.{ℕ, zero, suc, ◌≡◌, ◌+◌, ◌-◌, ◌*◌, ◌/◌, ◌%◌, ◌^◌, ◌<◌, ◌≤◌, ◌==◌, nat_lt, ◌||◌, not, map, true, refl, arith, sym, ap, ◌∙◌, lit<, eqb-true, ltb-true}
+use Rattle.std.proofs.Math.Nat.{mod-eq_of_lt, pow-suc}
 use Rattle.std.proofs.lemmas.Bool.{agree_below_at}
 use Rattle.std.proofs.lemmas.Nat.{and_block, or_block, and_mask, mod_below, div_below, or_lt, pow_pos, shr_split, div-mul-add, mod-mul-add}
 use Rattle.h3_index.specs.Digits.{last_digits}
-use Rattle.h3_index.proofs.SpreadLaws.{packed, packed_map, packed_sum, packed_times, packed_same, packed_below, four_digits, two_digits, moved, moved_is}
+use Rattle.h3_index.specs.Text.{HoldsHalf}
+use Rattle.h3_index.proofs.SpreadLaws.{packed, packed_digits, packed_map, packed_sum, packed_times, packed_same, packed_below, four_digits, two_digits, moved, moved_is}
 
 -- ---- digits from characters
 
@@ -138,23 +139,90 @@ lanes_of v =
     ∙ (rw (two_digits id (v / 65536), two_digits id v, ← moved_is (v / 65536 / 256), ← moved_is (v / 65536), ← moved_is (v / 256), ← moved_is v) refl)
     ∙ regrouped _ _ _ _
 
--- what `gathered` computes from the characters of v
-pub gathered_is : (v : ℕ) → v < 2 ^ 32 → (word letters digits bytes quarters result : ℕ)
-    → word ≡ number_from_digits 256 (map digit_char (last_digits 16 8 v))
-    → letters ≡ bit_and (word / 64) 0x0101_0101_0101_0101
-    → digits ≡ (bit_and word 0x0f0f_0f0f_0f0f_0f0f + letters * 9 % 2 ^ 64) % 2 ^ 64
+-- what `gathered` computes from the digits of v
+pub gathered_is : (v : ℕ) → v < 2 ^ 32 → (digits bytes quarters result : ℕ)
+    → digits ≡ number_from_digits 256 (last_digits 16 8 v)
     → bytes ≡ bit_and (bit_or digits (digits / 16)) 0x00ff_00ff_00ff_00ff
     → quarters ≡ bit_and (bit_or bytes (bytes / 256)) 0x0000_ffff_0000_ffff
     → result ≡ bit_and (bit_or quarters (quarters / 65536)) 0xffff_ffff
     → result ≡ v
-gathered_is v less word letters digits bytes quarters result is_word is_letters is_digits is_bytes is_quarters is_result =
+gathered_is v less digits bytes quarters result is_digits is_bytes is_quarters is_result =
     let h = v / 65536 in
     let l = v % 65536 in
     let less_h : h < 65536 = omega (arith, less) in
     let less_l : l < 65536 = omega arith in
     let first : bytes ≡ ((h / 256 % 256 * 65536 + h % 256) * 65536 + v / 256 % 256) * 65536 + v % 256 =
-    is_bytes ∙ bytes_in (h / 256 % 256) (h % 256) (v / 256 % 256) (v % 256) digits (omega arith) (omega arith) (omega arith) (omega arith) (values_in v word letters digits is_word is_letters is_digits ∙ lanes_of v) in
+    is_bytes ∙ bytes_in (h / 256 % 256) (h % 256) (v / 256 % 256) (v % 256) digits (omega arith) (omega arith) (omega arith) (omega arith) (is_digits ∙ packed_digits 8 v ∙ lanes_of v) in
     let pairs : ((h / 256 % 256 * 65536 + h % 256) * 65536 + v / 256 % 256) * 65536 + v % 256 ≡ moved 8 h * 2 ^ 32 + moved 8 l = omega (arith, less_h) in
     let second : quarters ≡ h * 2 ^ 32 + l = is_quarters ∙ quarters_in h l bytes less_h less_l (first ∙ pairs) in
     let apart : h * 2 ^ 32 + l ≡ moved 16 v = omega arith in
     is_result ∙ ap (λ x. bit_and (bit_or x (x / 65536)) 0xffff_ffff) (second ∙ apart) ∙ one_lane 16 v less
+
+-- ---- bytes below 16 are digits
+
+no_high : (b : ℕ) → b < 16 → bit_and b 240 ≡ 0
+no_high b h = eqb-true _ _ (agree_below_at (λ b. bit_and b 240 == 0) (λ _. true) 16 b refl h)
+
+low_digit : (b : ℕ) → b < 256 → bit_and b 240 ≡ 0 → b < 16
+low_digit b h e =
+    let test = agree_below_at (λ b. not (bit_and b 240 == 0) || nat_lt b 16) (λ _. true) 256 b refl h in
+    let small : nat_lt b 16 ≡ true = rw e at test in
+    ltb-true _ _ small
+
+-- digits have nothing in the high four bits of their bytes
+pub packed_high : (n v : ℕ) → bit_and (packed n (λ d. d) v) (packed n (λ d. 240) v) ≡ 0
+packed_high zero v = refl
+packed_high (suc n) v =
+    let less : v % 16 < 16 = mod_below v 16 (lit< tt) in
+    rw (and_block 8 (packed n (λ d. d) (v / 16)) (packed n (λ d. 240) (v / 16)) (v % 16) 240 (omega (arith, less)) (lit< tt), packed_high n (v / 16), no_high (v % 16) less) refl
+
+-- the number whose digits the bytes of a word are
+abbrev pub IsPacked : ℕ → ℕ → Type 0
+IsPacked n w = (v : ℕ) × (v < 16 ^ n) × (w ≡ packed n (λ d. d) v)
+
+pub digits_in : (n w : ℕ) → w < 256 ^ n → bit_and w (packed n (λ d. 240) 0) ≡ 0 → IsPacked n w
+digits_in zero w less e = (0, lit< tt, omega (arith, less))
+digits_in (suc n) w less e =
+    let high = w / 256 in
+    let low = w % 256 in
+    let less_low : low < 256 = omega arith in
+    let whole : high * 256 + low ≡ w = omega arith in
+    let split : bit_and w (packed n (λ d. 240) 0 * 256 + 240) ≡ bit_and high (packed n (λ d. 240) 0) * 256 + bit_and low 240 =
+    ap (λ x. bit_and x (packed n (λ d. 240) 0 * 256 + 240)) (sym whole) ∙ and_block 8 high (packed n (λ d. 240) 0) low 240 less_low (lit< tt) in
+    let none : bit_and high (packed n (λ d. 240) 0) * 256 + bit_and low 240 ≡ 0 = sym split ∙ e in
+    let none_high : bit_and high (packed n (λ d. 240) 0) ≡ 0 = omega (arith, none) in
+    let none_low : bit_and low 240 ≡ 0 = omega (arith, none) in
+    let digit : low < 16 = low_digit low less_low none_low in
+    let fewer : high < 256 ^ n = omega (arith, less, pow-suc 256 n) in
+    let (v, less_v, is) = digits_in n high fewer none_high in
+    let up : (v * 16 + low) / 16 ≡ v = omega (arith, digit) in
+    let last : (v * 16 + low) % 16 ≡ low = omega (arith, digit) in
+    let bound : v * 16 + low < 16 ^ suc n = omega (arith, less_v, digit, pow-suc 16 n) in
+    let front : high * 256 + low ≡ packed n (λ d. d) ((v * 16 + low) / 16) * 256 + low = ap (λ x. x * 256 + low) (is ∙ ap (packed n (λ d. d)) (sym up)) in
+    (v * 16 + low, bound, sym whole ∙ front ∙ ap (λ x. packed n (λ d. d) ((v * 16 + low) / 16) * 256 + x) (sym last))
+
+-- ---- the half that a word holds
+
+pub values_of : (v word letters digits : ℕ) → HoldsHalf word v
+    → letters ≡ bit_and (word / 64) 0x0101_0101_0101_0101
+    → digits ≡ (bit_and word 0x0f0f_0f0f_0f0f_0f0f + letters * 9 % 2 ^ 64) % 2 ^ 64
+    → digits ≡ number_from_digits 256 (last_digits 16 8 v)
+values_of v word letters digits is_word is_letters is_digits = values_in v word letters digits is_word is_letters is_digits ∙ sym (packed_digits 8 v)
+
+-- the digits of a number, each in a byte, are small and have nothing in the high four bits
+pub held_high : (v digits : ℕ) → digits ≡ number_from_digits 256 (last_digits 16 8 v) → bit_and digits 0xf0f0_f0f0_f0f0_f0f0 ≡ 0
+held_high v digits is = ap (λ n. bit_and n 0xf0f0_f0f0_f0f0_f0f0) (is ∙ packed_digits 8 v) ∙ packed_high 8 v
+
+packed_most : (n v : ℕ) → packed n (λ d. d) v ≤ packed n (λ d. 15) v
+packed_most zero v = omega arith
+packed_most (suc n) v = omega (arith, packed_most n (v / 16), mod_below v 16 (lit< tt))
+
+pub digits_small : (digits : ℕ) → digits < 2 ^ 64 → bit_and digits 0xf0f0_f0f0_f0f0_f0f0 ≡ 0 → digits ≤ 0x0f0f_0f0f_0f0f_0f0f
+digits_small digits less e =
+    let (v, less_v, is) = digits_in 8 digits less e in
+    omega (arith, is, packed_most 8 v)
+
+pub digits_held : (digits : ℕ) → digits < 2 ^ 64 → bit_and digits 0xf0f0_f0f0_f0f0_f0f0 ≡ 0 → (v : ℕ) × (v < 2 ^ 32) × (digits ≡ number_from_digits 256 (last_digits 16 8 v))
+digits_held digits less e =
+    let (v, less_v, is) = digits_in 8 digits less e in
+    (v, less_v, is ∙ sym (packed_digits 8 v))

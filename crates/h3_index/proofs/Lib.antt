@@ -3,7 +3,6 @@ pub mod CellLaws
 pub mod CellTestLaws
 pub mod ChainLaws
 pub mod CountLaws
-pub mod CursorLaws
 pub mod DescendantLaws
 pub mod DigitBitLaws
 pub mod DigitsLaws
@@ -16,6 +15,7 @@ pub mod OrderLaws
 pub mod PathLaws
 pub mod PlainLaws
 pub mod ReplaceLaws
+pub mod SiblingLaws
 pub mod SpreadLaws
 pub mod TextLaws
 pub mod WriteLaws

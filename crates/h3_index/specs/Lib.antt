@@ -1,9 +1,11 @@
 pub mod Cell
 pub mod CellNumber
 pub mod Count
+pub mod Counted
 pub mod Descendants
 pub mod DigitTest
 pub mod Digits
+pub mod Display
 pub mod Edge
 pub mod EdgeNumber
 pub mod Error

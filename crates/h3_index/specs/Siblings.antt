@@ -1,7 +1,6 @@
 -- The children of one cell, one after another.
-use Rattle.std.specs.Prelude.{ℕ, ◌≡◌, ◌+◌, ◌-◌, ◌^◌, nat_lt, length, slice_index_or, Bool, ◌&&◌, not}
+use Rattle.std.specs.Prelude.{ℕ, ◌+◌, ◌-◌, nat_lt, slice_index_or, Bool, ◌&&◌, not}
 use Rattle.h3_index.specs.Cell.{Address, is_pentagon, resolution}
-use Rattle.h3_index.specs.CellNumber.{IsCellNumber, address_in}
 use Rattle.h3_index.specs.Descendants.{child, cut}
 
 -- the digit of the cell's own resolution, or 7 at resolution 0
@@ -15,8 +14,3 @@ raised c = child (cut c (resolution c - 1)) (last_digit c + 1)
 -- there is none at resolution 0, nor after the digit 6, nor after a pentagon, which has no sibling of digit 1
 abbrev pub has_raised : Address → Bool
 has_raised c = nat_lt (last_digit c) 6 && not (is_pentagon c)
-
--- the number is a cell's, and one more in its last digit adds the unit
-pub record IsCursor (m unit : ℕ) : Type 0 where
-  pub cell : IsCellNumber m
-  pub place : 8 ^ (15 - length (address_in m).digits) ≡ unit

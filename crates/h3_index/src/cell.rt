@@ -9,11 +9,13 @@ ghost use Rattle.h3_index.specs.Digits.{last_digits};
 ghost use Rattle.h3_index.specs.DigitTest.{are_digits};
 
 mod moves;
+mod siblings;
 
 use crate::error::H3Error;
 use std::marker::Model;
 
 /// Whether a base cell is one of the twelve pentagons.
+#[inline(always)]
 pub fn is_pentagon_base(b: u8) -> bool
     ensures { result ≡ is_pentagon_base b }
 {
@@ -80,6 +82,7 @@ impl Model for Cell {
 impl Cell {
     /// The cell with this number, as H3's `isValidCell` tests it:
     /// `CellInvalid` where no cell has it.
+    #[inline(always)]
     pub fn new(raw: u64) -> Result<Cell, H3Error>
         ensures read { result_ok result ≡ cell_in raw }
         ensures accepted { IfOk result (λ cell. IsCell cell × (number_of cell ≡ raw)) }

@@ -5,17 +5,35 @@ ghost use Rattle.h3_index.specs.Stream.{Pulls};
 
 use crate::stream::{Source, StreamFault};
 
-/// A source that may be read a given number of times.
+/// A source that may be read a given number of times. The number is given once, when it is made.
 #[derive(Drop)]
 pub struct CountedReader<'a, R> {
-    /// What is read.
-    pub source: &'a mut R,
-
-    /// How many reads are still allowed.
-    pub reads_left: u64,
+    source: &'a mut R,
+    reads_left: u64,
 }
 
 impl<'a, R: Source> CountedReader<'a, R> {
+    ghost use Rattle.h3_index.specs.Counted.{IsOver, KeepsSource, reads_allowed, source_of};
+
+    /// A reader of a source that may be read at most this many times.
+    pub fn new(source: &'a mut R, limit: u64) -> CountedReader<'a, R>
+        ensures source { source_of result ≡ source.old }
+        ensures same { IsOver result source.entry }
+        ensures limit { reads_allowed result ≡ limit }
+    {
+        CountedReader {
+            source,
+            reads_left: limit,
+        }
+    }
+
+    /// How many reads are still allowed.
+    pub fn reads_left(&self) -> u64
+        ensures { result ≡ reads_allowed self.now }
+    {
+        self.reads_left
+    }
+
     /// Reads once, to the front of a page, and returns the number of bytes read.
     ///
     /// A [`StreamFault`] where the read fails, which counts as a read too, or where no
@@ -23,15 +41,16 @@ impl<'a, R: Source> CountedReader<'a, R> {
     pub fn read(&mut self, page: &mut [u8]) -> Result<usize, StreamFault>
         ensures bound { IfOk result (λ n. n ≤ length page.new) }
         ensures bytes { IfOk result (λ n.
-            Pulls (R.left self.old.source.now) (R.left self.new.source.now) page.new n) }
-        ensures counted { OnOk result (self.new.reads_left + 1 ≡ self.old.reads_left) }
-        ensures less { self.old.reads_left ≢ 0 → self.new.reads_left + 1 ≡ self.old.reads_left }
-        ensures spent { self.old.reads_left ≡ 0 → self.new.source.now ≡ self.old.source.now }
+            Pulls (R.left (source_of self.old)) (R.left (source_of self.new)) page.new n) }
+        ensures counted { OnOk result (reads_allowed self.new + 1 ≡ reads_allowed self.old) }
+        ensures less { reads_allowed self.old ≢ 0
+            → reads_allowed self.new + 1 ≡ reads_allowed self.old }
+        ensures spent { reads_allowed self.old ≡ 0 → source_of self.new ≡ source_of self.old }
         ensures ok { OnOk result
-            (R.has_failed self.new.source.now ≡ R.has_failed self.old.source.now) }
+            (R.has_failed (source_of self.new) ≡ R.has_failed (source_of self.old)) }
         ensures err { OnErr result
-            ((self.old.reads_left ≡ 0) ⊎ (R.has_failed self.new.source.now ≡ true)) }
-        ensures same { self.new.source.ghost_name ≡ self.old.source.ghost_name }
+            ((reads_allowed self.old ≡ 0) ⊎ (R.has_failed (source_of self.new) ≡ true)) }
+        ensures same { KeepsSource self.old self.new }
     {
         if self.reads_left == 0 {
             return Err(StreamFault);
@@ -51,16 +70,13 @@ mod tests {
     fn a_read_past_the_limit_is_not_made(rt: HostRuntime) {
         let mut page = [0; 1];
         let mut source = Streamed::new(b"abcd".as_slice());
-        let mut reader = CountedReader {
-            source: &mut source,
-            reads_left: 3,
-        };
+        let mut reader = CountedReader::new(&mut source, 3);
         for byte in *b"abc" {
             assert_eq!(rt; reader.read(&mut page), Ok(1));
             assert_eq!(rt; page[0], byte);
         }
         assert_eq!(rt; reader.read(&mut page), Err(StreamFault));
-        assert_eq!(rt; reader.reads_left, 0);
+        assert_eq!(rt; reader.reads_left(), 0);
         assert!(rt; !source.failed());
         assert_eq!(rt; source.pull(&mut page), Ok(1));
         assert_eq!(rt; page[0], b'd');
@@ -69,14 +85,11 @@ mod tests {
     #[test]
     fn the_end_and_empty_pages_are_read(rt: HostRuntime) {
         let mut source = Streamed::new(b"a".as_slice());
-        let mut reader = CountedReader {
-            source: &mut source,
-            reads_left: 3,
-        };
+        let mut reader = CountedReader::new(&mut source, 3);
         assert_eq!(rt; reader.read(&mut []), Ok(0));
         assert_eq!(rt; reader.read(&mut [0; 2]), Ok(1));
         assert_eq!(rt; reader.read(&mut [0; 2]), Ok(0));
-        assert_eq!(rt; reader.reads_left, 0);
+        assert_eq!(rt; reader.reads_left(), 0);
     }
 
     #[test]
@@ -84,16 +97,25 @@ mod tests {
         let mut page = [0; 1];
         for good in 0..3u32 {
             let mut source = stream_with(good, 1);
-            let mut reader = CountedReader {
-                source: &mut source,
-                reads_left: 3,
-            };
+            let mut reader = CountedReader::new(&mut source, 3);
             for _ in 0..good {
                 assert_eq!(rt; reader.read(&mut page), Ok(1));
             }
             assert_eq!(rt; reader.read(&mut page), Err(StreamFault));
-            assert_eq!(rt; reader.reads_left, 2 - u64::from(good));
+            assert_eq!(rt; reader.reads_left(), 2 - u64::from(good));
             assert!(rt; source.failed());
+        }
+    }
+
+    #[test]
+    fn a_page_is_asked_for_whole(rt: HostRuntime) {
+        let mut page = [7; 5000];
+        for length in [0, 3, 5000usize] {
+            let mut source = stream_with(1, 5000);
+            let mut reader = CountedReader::new(&mut source, 3);
+            assert_eq!(rt; reader.read(&mut page[..length]), Ok(length));
+            let inner = source.into_inner();
+            assert_eq!(rt; (inner.calls, inner.handed), (1, length));
         }
     }
 }

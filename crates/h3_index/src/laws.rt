@@ -7,10 +7,14 @@ ghost use Rattle.std.specs.Hash as fed;
 ghost use Rattle.h3_index.specs.Cell.{Address, number_of};
 ghost use Rattle.h3_index.specs.Count.{CellsUpToAreListed};
 ghost use Rattle.h3_index.specs.Edge.{DirectedEdge, edge_number};
+ghost use Rattle.h3_index.specs.declared.error.H3Error.{H3Error};
+ghost use Rattle.h3_index.specs.declared.stream.StreamFault.{StreamFault};
 ghost use Rattle.h3_index.specs.Laws.{EdgeNumbersFollowFields, NumbersFollowFields, NumbersAreUnique, CutsAreCells, DescendantsAreListed, DescendantsAscend, HexagonsHaveSevens, PentagonsHaveFewer, PathsAreChains};
 
 use crate::cell::Cell;
 use crate::edge::Edge;
+use crate::error::H3Error;
+use crate::stream::StreamFault;
 use std::hash::Hash;
 
 /// Cells are equal, ordered and hashed as their numbers are, and numbers are ordered by resolution,
@@ -37,6 +41,18 @@ pub fn edges_compare_by_number()
         ⟦<Edge as PartialOrd>⟧.partial_cmp a b ≡ Some (nat_cmp (edge_number a) (edge_number b)) }
     ensures hash { (e : DirectedEdge) → ⟦<Edge as Hash>⟧.hash_input e ≡ fed.u64 (edge_number e) }
     ensures fields { EdgeNumbersFollowFields }
+{}
+
+/// A clone of a cell, an edge, an error or a stream's fault is made, and is equal to it.
+pub fn clones_are_equal()
+    ensures cells { (a b : Address) → ⟦<Cell as Clone>⟧.is_clone a b → b ≡ a }
+    ensures cells_made { (a : Address) → ⟦<Cell as Clone>⟧.is_infallible a }
+    ensures edges { (a b : DirectedEdge) → ⟦<Edge as Clone>⟧.is_clone a b → b ≡ a }
+    ensures edges_made { (a : DirectedEdge) → ⟦<Edge as Clone>⟧.is_infallible a }
+    ensures errors { (a b : H3Error) → ⟦<H3Error as Clone>⟧.is_clone a b → b ≡ a }
+    ensures errors_made { (a : H3Error) → ⟦<H3Error as Clone>⟧.is_infallible a }
+    ensures faults { (a b : StreamFault) → ⟦<StreamFault as Clone>⟧.is_clone a b → b ≡ a }
+    ensures faults_made { (a : StreamFault) → ⟦<StreamFault as Clone>⟧.is_infallible a }
 {}
 
 /// Cells with the same number are equal.

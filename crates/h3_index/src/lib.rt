@@ -5,7 +5,7 @@
 mod cell;
 mod count;
 mod counted;
-mod cursor;
+mod display;
 mod edge;
 mod error;
 pub mod laws;
@@ -15,7 +15,6 @@ mod text;
 pub use cell::{Cell, is_pentagon_base};
 pub use count::{num_cells, pentagon, res0_cell, resolution_from};
 pub use counted::CountedReader;
-pub use cursor::Cursor;
 pub use edge::Edge;
 pub use error::H3Error;
 pub use stream::{Sink, Source, StreamFault, Streamed};

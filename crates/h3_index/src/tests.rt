@@ -292,12 +292,14 @@ fn a_streamed_writer_is_written(rt: HostRuntime) -> Result<(), Fail> {
 
 /// A reader and writer that counts its calls, and what they were handed.
 ///
-/// Its first calls take or give as many bytes as it was made for at most, and all others fail.
+/// Its first calls are good, some after them fail, and the others are good again. A good one takes
+/// or gives as many bytes as it was made for at most.
 #[derive(Drop)]
 pub(crate) struct Counting {
-    calls: u32,
-    handed: usize,
+    pub(crate) calls: u32,
+    pub(crate) handed: usize,
     good_calls: u32,
+    bad_calls: u32,
     at_most: usize,
 }
 
@@ -306,7 +308,7 @@ impl Counting {
     fn call(&mut self, size: usize) -> io::Result<usize>
         ensures { IfOk result (λ n. n ≤ size) }
     {
-        let fails = self.calls >= self.good_calls;
+        let fails = self.calls >= self.good_calls && self.calls - self.good_calls < self.bad_calls;
         self.calls = self.calls.saturating_add(1);
         self.handed = size;
         if fails {
@@ -339,7 +341,19 @@ pub(crate) fn stream_with(good_calls: u32, at_most: usize) -> Streamed<Counting>
         calls: 0,
         handed: 0,
         good_calls,
+        bad_calls: u32::MAX,
         at_most,
+    })
+}
+
+/// A stream of which the first call fails and no other does.
+fn stream_that_fails_once() -> Streamed<Counting> {
+    Streamed::new(Counting {
+        calls: 0,
+        handed: 0,
+        good_calls: 0,
+        bad_calls: 1,
+        at_most: 5000,
     })
 }
 
@@ -389,6 +403,31 @@ fn a_failure_is_returned_and_kept(rt: HostRuntime) {
 }
 
 #[test]
+fn a_call_after_a_failed_one_is_handed_on_once(rt: HostRuntime) {
+    let mut page = [7; 5000];
+    for length in LENGTHS {
+        let mut pulled = stream_that_fails_once();
+        assert_eq!(rt; pulled.pull(&mut [0; 1]), Err(StreamFault));
+        assert_eq!(rt; pulled.pull(&mut page[..length]), Ok(length));
+        assert!(rt; pulled.failed());
+        let inner = pulled.into_inner();
+        assert_eq!(rt; (inner.calls, inner.handed), (2, length));
+
+        let mut pushed = stream_that_fails_once();
+        assert_eq!(rt; pushed.push(b"a"), Err(StreamFault));
+        assert_eq!(rt; pushed.push(&page[..length]), Ok(length));
+        assert!(rt; pushed.failed());
+        let inner = pushed.into_inner();
+        assert_eq!(rt; (inner.calls, inner.handed), (2, length));
+    }
+    let mut flushed = stream_that_fails_once();
+    assert_eq!(rt; flushed.flush(), Err(StreamFault));
+    assert_eq!(rt; flushed.flush(), Ok(()));
+    assert!(rt; flushed.failed());
+    assert_eq!(rt; flushed.into_inner().calls, 2);
+}
+
+#[test]
 fn a_call_that_moves_no_byte(rt: HostRuntime) {
     let mut page = [7; 5000];
     // for a reader it is the end
@@ -404,6 +443,42 @@ fn a_call_that_moves_no_byte(rt: HostRuntime) {
     assert_eq!(rt; pushed.push(b"abc"), Err(StreamFault));
     assert!(rt; pushed.failed());
     assert_eq!(rt; pushed.into_inner().calls, 2);
+}
+
+#[test]
+fn cells_and_edges_are_displayed(rt: HostRuntime) -> Result<(), Fail> {
+    let cell = Cell::new(0x85283473fffffff)?;
+    let edge = Edge::new(0x115283473fffffff)?;
+    let text = format!(in rt.alloc(); "{cell} {edge}")?;
+    assert_eq!(rt; text.as_str(), "85283473fffffff 115283473fffffff");
+    let padded = format!(in rt.alloc(); "{cell:>17}|{edge:<18}|")?;
+    assert_eq!(rt; padded.as_str(), "  85283473fffffff|115283473fffffff  |");
+    Ok(())
+}
+
+#[test]
+fn cells_and_edges_are_parsed(rt: HostRuntime) -> Result<(), Fail> {
+    let cell = Cell::new(0x85283473fffffff)?;
+    for text in [
+        "85283473fffffff",
+        "0x85283473FFFFFFF",
+        " 085283473fffffff\r",
+    ] {
+        assert_eq!(rt; text.parse::<Cell>(), Ok(cell), "of {text}");
+    }
+    assert_eq!(rt; "xyz".parse::<Cell>(), Err(H3Error::Failed));
+    assert_eq!(rt;
+        "115283473fffffff".parse::<Cell>(),
+        Err(H3Error::CellInvalid)
+    );
+    let edge = Edge::new(0x115283473fffffff)?;
+    assert_eq!(rt; "115283473fffffff".parse::<Edge>(), Ok(edge));
+    assert_eq!(rt; "".parse::<Edge>(), Err(H3Error::Failed));
+    assert_eq!(rt;
+        "85283473fffffff".parse::<Edge>(),
+        Err(H3Error::DirEdgeInvalid)
+    );
+    Ok(())
 }
 
 #[test]

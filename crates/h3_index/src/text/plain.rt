@@ -5,7 +5,7 @@ ghost use Rattle.std.specs.Char.{is_digit};
 ghost use Rattle.std.specs.List.{list_all};
 ghost use Rattle.h3_index.specs.Text.{plain_index, parsed_index};
 
-use super::halves::{characters, gathered, word_of};
+use super::halves::{half_in, word_of};
 
 /// The number that 8 to 16 hexadecimal digits in lower case stand for; none for all other bytes,
 /// which may be the text of an index in another form.
@@ -19,16 +19,8 @@ pub fn read_plain(bytes: &[u8]) -> Option<u64>
         return None;
     }
     let more = bytes.len() - 8;
-    let first = word_of(&bytes[..8]);
-    let last = word_of(&bytes[more..]);
     // Both words hold the digits in the middle.
-    let index = gathered(first) << (4 * more) | gathered(last);
-    // Whatever was gathered, it is the index of this text where it is written as these bytes.
-    let head = characters(index >> (4 * more));
-    let tail = characters(index & 0xffff_ffff);
-    if head == first && tail == last {
-        Some(index)
-    } else {
-        None
-    }
+    let first = half_in(word_of(&bytes[..8]))?;
+    let last = half_in(word_of(&bytes[more..]))?;
+    Some(first << (4 * more) | last)
 }

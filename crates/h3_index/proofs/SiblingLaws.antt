@@ -1,7 +1,7 @@
 -- The next sibling of a cell, by one addition.
 use Rattle.std.specs.Int.Bits.{bit_and, and_zero_r}
 use Rattle.std.specs.Int.Digits.{AllBelowBase}
-use Rattle.std.proofs.Common.{ℕ, zero, suc, ◌≡◌, ◌≢◌, ◌+◌, ◌-◌, ◌*◌, ◌/◌, ◌%◌, ◌^◌, ◌<◌, ◌≤◌, ◌==◌, nat_lt, ◌&&◌, not, List, [], ◌∷◌, ◌++◌, length, take, drop, get_or, Bool, true, false, refl, arith, ◌∙◌, sym, ap, if◌then◌else◌, lit<, length-append}
+use Rattle.std.proofs.Common.{ℕ, zero, suc, ◌≡◌, ◌≢◌, ◌+◌, ◌-◌, ◌*◌, ◌/◌, ◌%◌, ◌^◌, ◌<◌, ◌≤◌, ◌==◌, nat_lt, ◌&&◌, not, List, [], ◌∷◌, ◌++◌, length, take, drop, get_or, Bool, true, false, refl, arith, ◌∙◌, sym, ap, if◌then◌else◌, lit<}
 use Rattle.std.proofs.Math.Nat.{mul-div_cancel, one-le-pow, pow-suc}
 use Rattle.std.proofs.Math.Seq.{drop-cons}
 use Rattle.std.proofs.lemmas.Bool.{and_parts}
@@ -11,7 +11,7 @@ use Rattle.std.proofs.lemmas.Nat.{and_block, and_mask, mod_below, pow_pos, shr_s
 use Rattle.h3_index.specs.Cell.{Address, IsCell, is_pentagon, is_pentagon_base, leading, number_of}
 use Rattle.h3_index.specs.CellNumber.{IsCellNumber, address_in}
 use Rattle.h3_index.specs.Descendants.{along, child, cut}
-use Rattle.h3_index.specs.Siblings.{IsCursor, has_raised, last_digit, raised}
+use Rattle.h3_index.specs.Siblings.{has_raised, last_digit, raised}
 use Rattle.h3_index.proofs.AncestorLaws.{cut_cell, length-cut}
 use Rattle.h3_index.proofs.CellLaws.{digit-address_in}
 use Rattle.h3_index.proofs.DigitsLaws.{eights}
@@ -39,7 +39,7 @@ pentagon_above c some zero_last =
 back_at : (c : Address) → 0 < length c.digits → along (cut c (length c.digits - 1)) (get_or c.digits (length c.digits - 1) 7 ∷ []) ≡ c
 back_at c some = ap {B = Address} (λ ds. record { base = c.base; digits = ds }) (last_apart c.digits some)
 
--- what is known inside a cursor
+-- what is known of a cell's number and unit
 pub record IsAt (c : Address) (m u : ℕ) : Type 0 where
   pub cell : IsCell c
   pub number : m ≡ number_of c
@@ -47,20 +47,20 @@ pub record IsAt (c : Address) (m u : ℕ) : Type 0 where
   pub code : IsCellNumber m
   pub is : address_in m ≡ c
 
-pub at_cursor : (c : Address) (m u : ℕ) → IsCursor m u → address_in m ≡ c → IsAt c m u
-at_cursor c m u h e = record {
-  cell = rw e at h.cell.valid;
-  number = inside_is m c h.cell e;
-  place = rw e at h.place;
-  code = h.cell;
+pub at_cell : (c : Address) (m u : ℕ) → IsCellNumber m → address_in m ≡ c → u ≡ 8 ^ (15 - length c.digits) → IsAt c m u
+at_cell c m u h e unit = record {
+  cell = rw e at h.valid;
+  number = inside_is m c h e;
+  place = sym unit;
+  code = h;
   is = e;
 }
 
 unit_some : (c : Address) (m u : ℕ) → IsAt c m u → 0 < u
 unit_some c m u h = rw (← h.place) (one-le-pow (15 - length c.digits) 8 (lit< tt))
 
-pub unit_small : (c : Address) (m u : ℕ) → IsAt c m u → u ≤ 2 ^ 45
-unit_small c m u h = rw (← h.place) (power_small (15 - length c.digits) (omega arith))
+pub unit_small : (c : Address) (u : ℕ) → u ≡ 8 ^ (15 - length c.digits) → u ≤ 2 ^ 45
+unit_small c u is = rw is (power_small (15 - length c.digits) (omega arith))
 
 -- the unit of resolution 0
 finer_unit : (l u : ℕ) → 8 ^ (15 - l) ≡ u → 0 < l → l < 16 → u ≢ 2 ^ 45
@@ -144,7 +144,7 @@ none_deleted c p = rw p (and-false (nat_lt (last_digit c) 6))
 
 pub record IsRaised (c : Address) (m u : ℕ) : Type 0 where
   pub fits : m + u < 2 ^ 64
-  pub cursor : IsCursor (m + u) u
+  pub code : IsCellNumber (m + u)
   pub is : address_in (m + u) ≡ raised c
   pub has : has_raised c ≡ true
 
@@ -193,29 +193,17 @@ raised_at c m u h other not_six rule =
     let apart : (7 - d) * u ≡ (7 - (d + 1)) * u + u = (let parts : 7 - d ≡ 7 - (d + 1) + 1 = omega (arith, less) in rw parts (grind arith)) in
     let grown : m + u ≡ number_of (child above (d + 1)) = omega (arith, h.number, rw unit at low, rw unit at high, apart) in
     let same : address_in (m + u) ≡ child above (d + 1) = made_is (m + u) (child above (d + 1)) next grown in
-    let deep : length (child above (d + 1)).digits ≡ length c.digits = omega (arith, some, size, length-append above.digits ((d + 1) ∷ [])) in
     let test : nat_lt d 6 ≡ true = grind (arith, nat_tests) in
     record {
-      fits = omega (arith, h.number, number_small c h.cell, unit_small c m u h);
-      cursor = record { cell = made_valid (m + u) (child above (d + 1)) next grown; place = rw (same, deep) h.place };
+      fits = omega (arith, h.number, number_small c h.cell, unit_small c u (sym h.place));
+      code = made_valid (m + u) (child above (d + 1)) next grown;
       is = same;
       has = rw (test, hexagon) refl;
     }
 
--- a cursor has one number and one unit
-pub raised_again : (c : Address) (m u n v : ℕ) → IsAt c m u → IsAt c n v → IsRaised c m u → IsRaised c n v
-raised_again c m u n v h k r =
-    let number : m ≡ n = h.number ∙ sym k.number in
-    let unit : u ≡ v = sym h.place ∙ k.place in
-    rw (← number, ← unit) r
+-- ---- the unit
 
--- ---- a new cursor
-
-pub new_cursor : (c : Address) (m r : ℕ) → IsCell c → m ≡ number_of c → r ≡ length c.digits → IsCursor m (1 * 2 ^ (3 * (15 - r)) % 2 ^ 64)
-new_cursor c m r h e er =
-    let same : address_in m ≡ c = made_is m c h e in
+pub unit_is : (c : Address) (r : ℕ) → r ≡ length c.digits → 1 * 2 ^ (3 * (15 - r)) % 2 ^ 64 ≡ 8 ^ (15 - length c.digits)
+unit_is c r er =
     let one_times : 1 * 8 ^ (15 - length c.digits) ≡ 8 ^ (15 - length c.digits) = omega arith in
-    record {
-      cell = made_valid m c h e;
-      place = rw (same, er) (sym (shifted 1 (15 - length c.digits) (omega arith) (omega arith) ∙ one_times));
-    }
+    rw er (shifted 1 (15 - length c.digits) (omega arith) (omega arith) ∙ one_times)
