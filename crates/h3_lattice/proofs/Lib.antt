@@ -1,3 +1,4 @@
+pub mod ClosedLaws
 pub mod ByteLaws
 pub mod CarryLaws
 pub mod DivisionLaws

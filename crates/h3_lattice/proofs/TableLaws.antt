@@ -105,3 +105,15 @@ accepts slots links text bytes o link same good first full filled none is =
       table_fault-links slots links (records_of bytes) o None good'.0 good'.1 first full filled none,
       is ∙ links-same slots links (records_of bytes) good'.1 filled,
     )
+
+-- a file that is refused without a read fault is refused
+pub refuses_more : (fails : Type 0) (first : Option TableError) (e : TableError) → RefusesTable ⊥ first e → RefusesTable fails first e
+refuses_more fails first fault.Read is = absurd is
+refuses_more fails first fault.Memory is = is
+refuses_more fails first (fault.Form row) is = is
+refuses_more fails first (fault.Range row) is = is
+refuses_more fails first (fault.Repeated row) is = is
+refuses_more fails first fault.Missing is = is
+refuses_more fails first (fault.Neighbours b) is = is
+refuses_more fails first (fault.Reversal b d) is = is
+refuses_more fails first (fault.Corner b d) is = is

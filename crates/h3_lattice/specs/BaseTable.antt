@@ -1,6 +1,7 @@
 -- The links of a table.
+use Rattle.std.specs.Prelude.{map}
 use Rattle.h3_lattice.specs.declared.table.BaseTable.{BaseTable}
-use Rattle.h3_lattice.specs.Links.{Links, links_in}
+use Rattle.h3_lattice.specs.Links.{Links, links_in, pair_of}
 
 abbrev pub link_of : BaseTable → Links
-link_of table = links_in table.links
+link_of table = links_in (map pair_of table.links)

@@ -1,6 +1,7 @@
 pub mod BaseTable
 pub mod Checks
 pub mod Class
+pub mod Closed
 pub mod Digits
 pub mod Direction
 pub mod Eisenstein

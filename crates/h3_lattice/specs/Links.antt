@@ -5,6 +5,7 @@
 use Rattle.std.specs.Prelude.{◌≡◌, ◌≢◌, ℕ, ◌+◌, ◌-◌, ◌*◌, ◌%◌, ◌<◌, Bool, false, not, ◌&&◌, nat_lt, List, slice_index_or}
 use Rattle.h3_index.specs.Cell.{is_pentagon_base}
 use Rattle.h3_lattice.specs.declared.direction.Direction.{Direction}
+use Rattle.h3_lattice.specs.declared.links.Link.{Link}
 use Rattle.h3_lattice.specs.Direction.{digit_of, opposite, turned, turned_once}
 
 -- the base cells that are hexagons
@@ -26,6 +27,10 @@ is_link link = nat_lt link.0 122 && nat_lt link.1 6
 -- the link of each base cell and direction
 abbrev pub Links : Type 0
 Links = ℕ → Direction → ℕ × ℕ
+
+-- a link as C sees it
+abbrev pub pair_of : Link → ℕ × ℕ
+pair_of l = (l.to, l.turns)
 
 -- the slot of a base cell and the direction of a digit in a list with six for each base cell
 abbrev pub slot_of : ℕ → ℕ → ℕ

@@ -7,7 +7,7 @@
 use crate::direction::Direction;
 
 /// The carries of the odd resolutions.
-pub static CARRIES_THREE: [[(u8, Option<Direction>); 6]; 7] = [
+pub(crate) static CARRIES_THREE: [[(u8, Option<Direction>); 6]; 7] = [
     [
         (1, None),
         (2, None),
@@ -67,7 +67,7 @@ pub static CARRIES_THREE: [[(u8, Option<Direction>); 6]; 7] = [
 ];
 
 /// The carries of the even resolutions.
-pub static CARRIES_TWO: [[(u8, Option<Direction>); 6]; 7] = [
+pub(crate) static CARRIES_TWO: [[(u8, Option<Direction>); 6]; 7] = [
     [
         (1, None),
         (2, None),

@@ -140,7 +140,7 @@ fn first_fault(check: Check, links: &Links) -> Option<TableError>
 }
 
 /// The first error of the checks, one after the other.
-pub fn fault_of_links(links: &Links) -> Option<TableError>
+pub(crate) fn fault_of_links(links: &Links) -> Option<TableError>
     requires within { All IsLink links.now }
     ensures { result ≡ fault_of_links (links_in links.now) }
 {

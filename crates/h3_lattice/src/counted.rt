@@ -1,6 +1,7 @@
 //! All bytes of a source, in a limited number of reads.
 
 ghost use Rattle.std.specs.Prelude.{◌≡◌, ◌≢◌, ◌<◌, ◌≤◌, ◌+◌, ◌*◌, ◌++◌, ◌⊎◌, ℕ, true, List, [], length, Some, Err, IfOk, IfErr, OnOk};
+ghost use Rattle.h3_index.specs.Counted.{KeepsSource, reads_allowed, source_of};
 ghost use Rattle.h3_index.specs.Stream.{HasLeft};
 ghost use Rattle.h3_lattice.specs.declared.error.TableError.{TableError};
 ghost use Rattle.h3_lattice.specs.Slots.{StopsReading};
@@ -16,18 +17,18 @@ fn read_pages<'a, R: Source>(
     page: &mut [u8],
 ) -> Result<(), TableError>
     requires room { 0 < length page.old }
-    ensures bytes { OnOk result ((bytes : List ℕ) × HasLeft (R.left reader.old.source.now) bytes ×
-        (length bytes + length page.old ≤ reader.old.reads_left * length page.old) ×
+    ensures bytes { OnOk result ((bytes : List ℕ) × HasLeft (R.left (source_of reader.old)) bytes ×
+        (length bytes + length page.old ≤ reads_allowed reader.old * length page.old) ×
         (text.new.items ≡ text.old.items ++ bytes)) }
     ensures refused { IfErr result (λ e. (bytes : List ℕ) ×
-        HasLeft (R.left reader.old.source.now) bytes ×
-        StopsReading ((R.has_failed reader.new.source.now ≡ true)
-        ⊎ (reader.old.reads_left ≤ length bytes)) e) }
+        HasLeft (R.left (source_of reader.old)) bytes ×
+        StopsReading ((R.has_failed (source_of reader.new) ≡ true)
+        ⊎ (reads_allowed reader.old ≤ length bytes)) e) }
     ensures kept { result ≢ Err TableError.Read →
-        R.has_failed reader.new.source.now ≡ R.has_failed reader.old.source.now }
-    ensures whole { OnOk result ((bytes : List ℕ) → R.left reader.old.source.now ≡ Some bytes →
-        R.left reader.new.source.now ≡ Some []) }
-    ensures same { reader.new.source.ghost_name ≡ reader.old.source.ghost_name }
+        R.has_failed (source_of reader.new) ≡ R.has_failed (source_of reader.old) }
+    ensures whole { OnOk result ((bytes : List ℕ) → R.left (source_of reader.old) ≡ Some bytes →
+        R.left (source_of reader.new) ≡ Some []) }
+    ensures same { KeepsSource reader.old reader.new }
 {
     loop {
         let Ok(count) = reader.read(page) else {
@@ -43,7 +44,7 @@ fn read_pages<'a, R: Source>(
 
 /// All bytes of a source, read page by page: `Read` where the source fails or is not at its end
 /// within the limit of reads, and `Memory` where there is none for the bytes.
-pub fn read_bytes<R: Source>(
+pub(crate) fn read_bytes<R: Source>(
     alloc: Global,
     source: &mut R,
     limit: u64,
@@ -60,10 +61,7 @@ pub fn read_bytes<R: Source>(
         R.left source.new ≡ Some []) }
 {
     let mut text = Vec::new(alloc);
-    let mut reader = CountedReader {
-        source: &mut *source,
-        reads_left: limit,
-    };
+    let mut reader = CountedReader::new(&mut *source, limit);
     let read = read_pages(&mut text, &mut reader, page);
     // The proof reads what the source is after the reads from this use of it.
     let _ = &*source;

@@ -24,7 +24,7 @@ fn number_in(field: &[u8]) -> Option<u16>
 }
 
 /// The numbers in the fields of a record, which has N of them.
-pub fn numbers_in<const N: usize>(fields: &ByteRecord) -> Option<[u16; N]>
+pub(crate) fn numbers_in<const N: usize>(fields: &ByteRecord) -> Option<[u16; N]>
     ensures { result ≡ numbers_in N (fields_of fields.now) }
 {
     if fields.len() != N {
@@ -44,7 +44,7 @@ pub fn numbers_in<const N: usize>(fields: &ByteRecord) -> Option<[u16; N]>
 }
 
 /// Whether the fields of a record are these names.
-pub fn has_fields(fields: &ByteRecord, names: &[&[u8]]) -> bool
+pub(crate) fn has_fields(fields: &ByteRecord, names: &[&[u8]]) -> bool
     ensures { result ≡ same_fields (fields_of fields.now) (map (λ name. name.now) names.now) }
 {
     if fields.len() != names.len() {

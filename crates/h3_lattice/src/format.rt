@@ -16,7 +16,7 @@ use csv::ByteRecord;
 
 /// The format of a table file, which its header says.
 #[derive(Clone, Copy, Debug, PartialEq, Eq)]
-pub enum Format {
+pub(crate) enum Format {
     /// A record for each hexagon base cell and direction.
     One,
 
@@ -25,7 +25,7 @@ pub enum Format {
 }
 
 /// The format whose header a file's first record is: none where it is no header.
-pub fn header_format(front: &ByteRecord) -> Option<Format>
+pub(crate) fn header_format(front: &ByteRecord) -> Option<Format>
     ensures { result ≡ header_format (fields_of front.now) }
 {
     if has_fields(front, &format_one::HEADER) {
@@ -38,7 +38,7 @@ pub fn header_format(front: &ByteRecord) -> Option<Format>
 }
 
 /// Judges a record of a file of this format, and keeps its links.
-pub fn take(
+pub(crate) fn take(
     format: Format,
     slots: &mut Slots,
     row: u64,

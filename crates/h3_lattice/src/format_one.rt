@@ -11,7 +11,7 @@ use crate::error::TableError;
 use crate::links::{Slots, is_hexagon_number};
 
 /// The header.
-pub const HEADER: [&[u8]; 4] = [b"base", b"dir", b"to", b"rot"];
+pub(crate) const HEADER: [&[u8]; 4] = [b"base", b"dir", b"to", b"rot"];
 
 /// Whether a record's numbers are a hexagon base cell, the digit of a direction, a base cell and a
 /// number of turns.
@@ -25,7 +25,7 @@ fn in_range(numbers: [u16; 4]) -> bool
 }
 
 /// Judges a record by its numbers, and keeps its link.
-pub fn take(slots: &mut Slots, row: u64, numbers: Option<[u16; 4]>) -> Result<(), TableError>
+pub(crate) fn take(slots: &mut Slots, row: u64, numbers: Option<[u16; 4]>) -> Result<(), TableError>
     ensures refused { IfErr result (λ e.
         fault_in One row (λ b d. slice_index_or slots.old (slot_of b d) None) numbers ≡ Some e) }
     ensures taken { IfOk result (λ _.

@@ -12,7 +12,7 @@ use crate::error::TableError;
 use crate::links::{Slots, is_hexagon_number};
 
 /// The header.
-pub const HEADER: [&[u8]; 13] = [
+pub(crate) const HEADER: [&[u8]; 13] = [
     b"base", b"k", b"j", b"jk", b"i", b"ik", b"ij", b"rk", b"rj", b"rjk", b"ri", b"rik", b"rij",
 ];
 
@@ -54,7 +54,11 @@ fn keep(slots: &mut Slots, numbers: &[u16; 13])
 }
 
 /// Judges a record by its numbers, and keeps its links.
-pub fn take(slots: &mut Slots, row: u64, numbers: Option<[u16; 13]>) -> Result<(), TableError>
+pub(crate) fn take(
+    slots: &mut Slots,
+    row: u64,
+    numbers: Option<[u16; 13]>,
+) -> Result<(), TableError>
     ensures refused { IfErr result (λ e.
         fault_in Two row (λ b d. slice_index_or slots.old (slot_of b d) None) numbers ≡ Some e) }
     ensures taken { IfOk result (λ _.

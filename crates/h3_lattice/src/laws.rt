@@ -1,8 +1,21 @@
 //! Laws of the definitions that contracts here cite. Each function does nothing; what it ensures is
 //! a law that holds always, for the proofs of crates that call it.
 
+ghost use Rattle.std.specs.Prelude.{◌≡◌, ℕ, List};
+ghost use Rattle.h3_lattice.specs.declared.class.Class.{Class};
+ghost use Rattle.h3_lattice.specs.declared.direction.Direction.{Direction};
+ghost use Rattle.h3_lattice.specs.declared.error.TableError.{TableError};
+ghost use Rattle.h3_lattice.specs.declared.moved.Moved.{Moved};
+ghost use Rattle.h3_lattice.specs.declared.vectors.TestTable.{TestTable};
 ghost use Rattle.h3_lattice.specs.Lifted.{CornersLift, ReversalsLift};
 ghost use Rattle.h3_lattice.specs.Laws.{TurnsAdd, SixTurnsAreNone, OppositesAreThreeTurns, DigitTurnsAdd, SixDigitTurnsAreNone, NoTurnsKeepDigits, SumsExist, SumsAreUnique, SumsReverse, SumsTurn, SumsCloseTriangles};
+
+use crate::class::Class;
+use crate::digits::Digits;
+use crate::direction::Direction;
+use crate::error::TableError;
+use crate::moved::Moved;
+use crate::vectors::TestTable;
 
 /// Turns of a direction and of a digit list add up, and six of them are none.
 pub fn turns_add_up()
@@ -29,4 +42,14 @@ pub fn sums_are_lawful()
 pub fn checks_lift_to_steps()
     ensures reversals { ReversalsLift }
     ensures corners { CornersLift }
+{}
+
+/// A clone is equal to its original.
+pub fn clones_are_equal()
+    ensures directions { (a b : Direction) → ⟦<Direction as Clone>⟧.is_clone a b → b ≡ a }
+    ensures classes { (a b : Class) → ⟦<Class as Clone>⟧.is_clone a b → b ≡ a }
+    ensures digits { (a b : List ℕ) → ⟦<Digits as Clone>⟧.is_clone a b → b ≡ a }
+    ensures sums { (a b : Moved) → ⟦<Moved as Clone>⟧.is_clone a b → b ≡ a }
+    ensures errors { (a b : TableError) → ⟦<TableError as Clone>⟧.is_clone a b → b ≡ a }
+    ensures tables { (a b : TestTable) → ⟦<TestTable as Clone>⟧.is_clone a b → b ≡ a }
 {}

@@ -1,8 +1,8 @@
 //! Links between base cells, and slots for them.
 
-ghost use Rattle.std.specs.Prelude.{◌≡◌, ◌+◌, ◌*◌, ◌<◌, ◌≤◌, ℕ, true, None, Some, IfSome, unwrap_or, slice_index_or, All};
+ghost use Rattle.std.specs.Prelude.{◌≡◌, ◌+◌, ◌*◌, ◌<◌, ◌≤◌, ℕ, true, None, Some, IfSome, unwrap_or, slice_index_or, map, All};
 ghost use Rattle.h3_lattice.specs.Direction.{directions};
-ghost use Rattle.h3_lattice.specs.Links.{IsHexagonBase, IsLink, is_hexagon_base, links_in};
+ghost use Rattle.h3_lattice.specs.Links.{IsHexagonBase, IsLink, is_hexagon_base, links_in, pair_of};
 ghost use Rattle.h3_lattice.specs.Checks.{at_links, in_directions};
 ghost use Rattle.h3_lattice.specs.Slots.{missing_at};
 
@@ -11,14 +11,34 @@ use crate::error::TableError;
 use h3_index::is_pentagon_base;
 
 /// The neighbor and the turns of each base cell and direction, base cell by base cell.
-pub type Links = [(u8, u8); 732];
+pub(crate) type Links = [(u8, u8); 732];
+
+/// A link in two bytes, in the order that C sees: the neighbor, and the turns.
+#[repr(C)]
+#[derive(Clone, Copy, Debug)]
+pub struct Link {
+    pub(crate) to: u8,
+    pub(crate) turns: u8,
+}
+
+/// The links, each in two bytes.
+pub(crate) fn packed(links: &Links) -> [Link; 732]
+    ensures { map pair_of result ≡ links.now }
+{
+    let mut packed = [Link { to: 0, turns: 0 }; 732];
+    for i in 0..732 {
+        let (to, turns) = links[i];
+        packed[i] = Link { to, turns };
+    }
+    packed
+}
 
 /// Links of which some are not known yet.
-pub type Slots = [Option<(u8, u8)>; 732];
+pub(crate) type Slots = [Option<(u8, u8)>; 732];
 
 /// Whether a base cell is a hexagon.
 #[tactic(auto, unfolding(crate::specs::Links::is_hexagon_base))]
-pub fn is_hexagon_base(base: u8) -> bool
+pub(crate) fn is_hexagon_base(base: u8) -> bool
     ensures is { result ≡ is_hexagon_base base }
     ensures below { result ≡ true → base < 122 }
 {
@@ -27,7 +47,7 @@ pub fn is_hexagon_base(base: u8) -> bool
 
 /// Whether a number is that of a hexagon base cell.
 #[tactic(auto, unfolding(crate::specs::Links::is_hexagon_base))]
-pub fn is_hexagon_number(number: u16) -> bool
+pub(crate) fn is_hexagon_number(number: u16) -> bool
     ensures is { result ≡ is_hexagon_base number }
     ensures below { result ≡ true → number < 122 }
 {
@@ -35,12 +55,21 @@ pub fn is_hexagon_number(number: u16) -> bool
 }
 
 /// The link of a base cell in a direction.
-pub fn link_at(links: &Links, base: u8, direction: Direction) -> (u8, u8)
+pub(crate) fn link_at(links: &Links, base: u8, direction: Direction) -> (u8, u8)
     requires { base < 122 }
     ensures is { result ≡ links_in links.now base direction }
     ensures within { All IsLink links.now → IsLink result }
 {
     links[base as usize * 6 + (direction.digit() as usize - 1)]
+}
+
+/// The link of a base cell in a direction.
+pub(crate) fn packed_at(links: &[Link; 732], base: u8, direction: Direction) -> (u8, u8)
+    requires { base < 122 }
+    ensures { result ≡ links_in (map pair_of links.now) base direction }
+{
+    let link = links[base as usize * 6 + (direction.digit() as usize - 1)];
+    (link.to, link.turns)
 }
 
 /// The fault that no link is known for a base cell in a direction.
@@ -70,7 +99,7 @@ fn missing_from(slots: &Slots, base: u8) -> Option<TableError>
 }
 
 /// The fault that no link is known for some hexagon base cell and direction.
-pub fn first_missing(slots: &Slots) -> Option<TableError>
+pub(crate) fn first_missing(slots: &Slots) -> Option<TableError>
     ensures { result ≡ at_links (missing_at slots.now) }
 {
     for base in 0..122u8 {
@@ -96,7 +125,7 @@ fn link_or_zero(slot: Option<(u8, u8)>) -> (u8, u8)
 }
 
 /// The links of slots.
-pub fn filled(slots: &Slots) -> Links
+pub(crate) fn filled(slots: &Slots) -> Links
     requires { All (λ slot. IfSome slot IsLink) slots.now }
     ensures same { (i : ℕ) → slice_index_or result i (0, 0)
         ≡ unwrap_or (slice_index_or slots.now i None) (0, 0) }

@@ -20,7 +20,7 @@ fn most_records(text: &[u8]) -> usize
 }
 
 /// The links of the records of a file, or the error of the first faulty record.
-pub fn read_records(alloc: Global, text: &[u8]) -> Result<Slots, TableError>
+pub(crate) fn read_records(alloc: Global, text: &[u8]) -> Result<Slots, TableError>
     ensures refused { IfErr result (λ e.
         IsFaultOrMemory (fault_of_records (records_of text.now)) e) }
     ensures read { IfOk result (λ slots. (fault_of_records (records_of text.now) ≡ None)

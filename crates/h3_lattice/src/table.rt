@@ -1,10 +1,12 @@
 //! The base cell table.
 
-ghost use Rattle.std.specs.Prelude.{◌+◌, ◌≡◌, ◌≢◌, ◌≤◌, ◌<◌, ◌*◌, ◌^◌, ◌⊎◌, ℕ, true, false, List, [], length, None, Some, Err, IfOk, IfErr, All};
+ghost use Rattle.std.specs.Prelude.{◌+◌, ◌≡◌, ◌≢◌, ◌≤◌, ◌<◌, ◌*◌, ◌^◌, ◌⊎◌, ℕ, true, false, List, [], length, None, Some, Err, IfOk, IfErr, map, All};
 ghost use Rattle.h3_index.specs.Cell.{is_pentagon_base};
 ghost use Rattle.h3_index.specs.Stream.{HasLeft};
 ghost use Rattle.h3_lattice.specs.Fields.{records_of};
-ghost use Rattle.h3_lattice.specs.Links.{IsLink, IsSound, links_in};
+ghost use Rattle.h3_lattice.specs.Closed.{closed_link};
+ghost use Rattle.h3_lattice.specs.Links.{IsLink, IsSound, links_in, pair_of};
+ghost use Rattle.h3_lattice.specs.declared.direction.Direction.{Direction};
 ghost use Rattle.h3_lattice.specs.declared.error.TableError.{TableError};
 ghost use Rattle.h3_lattice.specs.Checks.{fault_of_links};
 ghost use Rattle.h3_lattice.specs.First.{FaultsAreFirst};
@@ -14,7 +16,7 @@ use crate::checks::fault_of_links;
 use crate::counted::read_bytes;
 use crate::direction::Direction;
 use crate::error::TableError;
-use crate::links::{Links, filled, first_missing, link_at};
+use crate::links::{Link, Links, filled, first_missing, packed, packed_at};
 use crate::records::read_records;
 use h3_index::Source;
 use std::alloc::Global;
@@ -25,14 +27,18 @@ const PAGE: usize = 4096;
 /// How many reads a table may take.
 const READS: u64 = 1 << 40;
 
+/// The first six of the pentagon base cells.
+const PENTAGONS: [u8; 6] = [4, 14, 24, 38, 49, 58];
+
 /// How the 110 hexagon base cells lie beside each other: in each of six directions the neighbor,
 /// and how often each digit is turned on crossing. Its links fit together: none of the checks of
 /// [`TableError`] fails. It has a fixed size, and allocates nothing.
-#[derive(Drop)]
+#[repr(C)]
+#[derive(Debug, Drop)]
 pub struct BaseTable {
-    links: Links,
-    ghost within: { All IsLink links },
-    ghost sound: { IsSound (links_in links) },
+    links: [Link; 732],
+    ghost within: { All IsLink (map pair_of links) },
+    ghost sound: { IsSound (links_in (map pair_of links)) },
 }
 
 impl BaseTable {
@@ -47,7 +53,40 @@ impl BaseTable {
     {
         match fault_of_links(&links) {
             Some(fault) => Err(fault),
-            None => Ok(BaseTable { links }),
+            None => Ok(BaseTable {
+                links: packed(&links),
+            }),
+        }
+    }
+
+    /// A table of which every link leads to a pentagon base cell, so that over it every step out of
+    /// a base cell is refused. It stands in the place of a table that there is not.
+    pub fn closed() -> BaseTable
+        ensures { (b : ℕ) → (d : Direction) → b < 122 → link_of result b d ≡ closed_link d }
+    {
+        let mut links = [Link { to: 0, turns: 0 }; 732];
+        for i in 0..732 {
+            let to = PENTAGONS[i % 6];
+            links[i] = Link { to, turns: 0 };
+        }
+        BaseTable { links }
+    }
+
+    /// The table in the bytes of a file, which has one of the two formats of [`BaseTable::read`].
+    ///
+    /// The errors, in this order: the first faulty record, a missing record, and the first check
+    /// that fails, by ascending base cell and direction. [`TableError::Memory`] where there is no
+    /// memory for a record; never [`TableError::Read`].
+    pub fn from_csv(alloc: Global, file: &[u8]) -> Result<BaseTable, TableError>
+        ensures accepted { IfOk result (λ table. (table_fault (records_of file.now) ≡ None) ×
+            (link_of table ≡ links_of (records_of file.now))) }
+        ensures refused { IfErr result (λ e.
+            RefusesTable ⊥ (table_fault (records_of file.now)) e) }
+    {
+        let slots = read_records(alloc, file)?;
+        match first_missing(&slots) {
+            Some(fault) => Err(fault),
+            None => BaseTable::new(filled(&slots)),
         }
     }
 
@@ -98,11 +137,7 @@ impl BaseTable {
     {
         let mut page = [0; PAGE];
         let text = read_bytes(alloc, source, READS, &mut page)?;
-        let slots = read_records(alloc, text.as_slice())?;
-        match first_missing(&slots) {
-            Some(fault) => Err(fault),
-            None => BaseTable::new(filled(&slots)),
-        }
+        BaseTable::from_csv(alloc, text.as_slice())
     }
 
     /// A law: the links of every table are sound. It does nothing.
@@ -119,7 +154,7 @@ impl BaseTable {
         ensures within { IsLink result }
         ensures sound { IsSound (link_of self.now) }
     {
-        link_at(&self.links, base, direction)
+        packed_at(&self.links, base, direction)
     }
 }
 

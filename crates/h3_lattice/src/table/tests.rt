@@ -1,6 +1,7 @@
 use super::BaseTable;
 use crate::direction::{DIRECTIONS, Direction};
 use crate::error::TableError;
+use crate::links::Link;
 use crate::vectors::{TestTable, link};
 use h3_index::{Source, StreamFault, Streamed, is_pentagon_base};
 use std::test::Fail;
@@ -68,6 +69,15 @@ fn has_links(rt: &HostRuntime, text: &str, table: TestTable) -> bool {
 }
 
 #[test]
+fn a_table_holds_links_alone(_rt: HostRuntime) {
+    let parts = |table: BaseTable| {
+        let BaseTable { links } = table;
+        let _links: [Link; 732] = links;
+    };
+    let _parts = parts;
+}
+
+#[test]
 fn sound_tables_are_accepted(rt: HostRuntime) -> Result<(), Fail> {
     for table in [TestTable::Plain, TestTable::Twisted] {
         let records = records(&rt, table)?;
@@ -77,6 +87,39 @@ fn sound_tables_are_accepted(rt: HostRuntime) -> Result<(), Fail> {
         }
     }
     Ok(())
+}
+
+#[test]
+fn bytes_are_read_as_sources_are(rt: HostRuntime) -> Result<(), Fail> {
+    let plain = text(&rt, &records(&rt, TestTable::Plain)?, "\n")?;
+    let table = BaseTable::from_csv(rt.alloc(), plain.as_bytes())?;
+    assert_eq!(&rt; table.link(0, Direction::K), (110, 0));
+    assert_eq!(&rt; table.link(121, Direction::IJ), (11, 0));
+    let skew = text(&rt, &records(&rt, TestTable::Skew)?, "\n")?;
+    for (file, error) in [
+        ("", TableError::Form(1)),
+        ("base,dir,to,rot\n", TableError::Missing),
+        ("base,dir,to,rot\n4,1,0,0\n", TableError::Range(2)),
+        (skew.as_str(), TableError::Corner(0, Direction::K)),
+    ] {
+        let read = BaseTable::from_csv(rt.alloc(), file.as_bytes());
+        assert!(&rt; matches!(read, Err(found) if found == error));
+    }
+    Ok(())
+}
+
+#[test]
+fn a_closed_table_leads_to_pentagons(rt: HostRuntime) {
+    let table = BaseTable::closed();
+    for base in 0..122u8 {
+        if !is_pentagon_base(base) {
+            for direction in DIRECTIONS {
+                let (to, turns) = table.link(base, direction);
+                assert!(&rt; is_pentagon_base(to));
+                assert_eq!(&rt; turns, 0);
+            }
+        }
+    }
 }
 
 #[test]
@@ -112,6 +155,18 @@ fn a_byte_order_mark_and_quotes_are_let_through(rt: HostRuntime) -> Result<(), F
         quoted.push_str(&line)?;
     }
     assert!(&rt; has_links(&rt, &quoted, TestTable::Plain));
+    Ok(())
+}
+
+#[test]
+fn blank_lines_are_let_through(rt: HostRuntime) -> Result<(), Fail> {
+    let mut long = text(&rt, &records(&rt, TestTable::Plain)?, "\n")?;
+    for _line in 0..20_000 {
+        long.push('\n')?;
+    }
+    assert!(&rt; has_links(&rt, &long, TestTable::Plain));
+    long.push_str("0,1,110,0\n")?;
+    assert_eq!(&rt; refusal(&rt, &long), Some(TableError::Repeated(662)));
     Ok(())
 }
 
