@@ -5,11 +5,12 @@ use Rattle.h3_index.specs.Cell.{Address, is_pentagon_base}
 use Rattle.h3_lattice.specs.declared.direction.Direction.{Direction}
 use Rattle.h3_lattice.specs.declared.direction.Direction.TheVariants.{K, J, JK, I, IK, IJ}
 use Rattle.h3_lattice.specs.Eisenstein.{Eisenstein, sum_of}
-use Rattle.h3_lattice.specs.Direction.{digit_turned, opposite, option_turned, turned, turned_once, unit_of, value_of}
+use Rattle.h3_lattice.specs.Direction.{digit_turned, opposite, turned, turned_once, unit_of, value_of}
 use Rattle.h3_lattice.specs.Digits.{cell_of}
 use Rattle.h3_lattice.specs.Expansion.{place, scaled}
-use Rattle.h3_lattice.specs.Laws.{OppositesAreThreeTurns, SumsCloseTriangles, SumsReverse, Triangle, all_inside, z_across, x_across, y_across, all_across}
-use Rattle.h3_lattice.specs.Links.{IsSound, Links}
+use Rattle.h3_lattice.specs.Laws.{OppositesAreThreeTurns}
+use Rattle.h3_lattice.specs.Lifted.{CornersLift, Reached, Reaches, ReversalsLift, across, led_by, reached}
+use Rattle.h3_lattice.specs.Links.{IsHexagonBase, IsSound, Links}
 use Rattle.h3_lattice.specs.Moved.{IsSum}
 use Rattle.h3_grid.specs.Laws.{IsState, OverSoundLinks, StepsCloseTriangles, StepsLeave, StepsDiffer, StepsReachStates, StepsReverse}
 use Rattle.h3_grid.specs.Search.{step_of}
@@ -23,8 +24,8 @@ pub record Lattice : Type 0 where
   pub turns : TurnLaws
   pub opposites : OppositesAreThreeTurns
   pub sums : SumLaws
-  pub reverse : SumsReverse
-  pub triangles : SumsCloseTriangles
+  pub back : ReversalsLift
+  pub corners : CornersLift
 
 -- ---- turns
 
@@ -43,14 +44,10 @@ module _ (w : Lattice) where
   in_frame rot n d =
       w.turns.six (rot + n) d ∙ ap (λ k. turned k d) (swapped_sum rot n) ∙ sym (w.turns.directions n rot d)
 
-  digits_on : (m n t : ℕ) (ds : List ℕ) → (m + n) % 6 ≡ t % 6 → map (digit_turned m) (map (digit_turned n) ds) ≡ map (digit_turned t) ds
-  digits_on m n t ds e =
-      w.turns.digits m n ds ∙ sym (w.turns.six_of_digits (m + n) ds) ∙ ap (λ k. map (digit_turned k) ds) e ∙ w.turns.six_of_digits t ds
-
 -- ---- one step
 
-pub crossed_to : (l : ℕ × ℕ) (c t rot : ℕ) (es : List ℕ) → l ≡ (c, t) → is_pentagon_base c ≡ false → crossed l rot es ≡ Some (state (cell_of c (map (digit_turned t) es)) ((rot + t) % 6))
-crossed_to l c t rot es e h = rw (e, h) refl
+pub crossed_over : (l : ℕ × ℕ) (rot : ℕ) (es : List ℕ) → is_pentagon_base l.0 ≡ false → crossed l rot es ≡ Some (state (cell_of l.0 (map (digit_turned l.1) es)) ((rot + l.1) % 6))
+crossed_over l rot es h = rw h refl
 
 -- the two ways of a step
 data Way (link : Links) (x : State) (d : Direction) : State → Type 0 where
@@ -77,46 +74,76 @@ back_rotation rot n h k = omega arith
 corner_rotation : (rot n t : ℕ) → rot < 6 → n < 6 → t < 6 → ((rot + n) % 6 + (t + 6 - n) % 6) % 6 ≡ (rot + t) % 6
 corner_rotation rot n t h k l = omega arith
 
-corner_turns : (n t : ℕ) → n < 6 → t < 6 → ((t + 6 - n) % 6 + n) % 6 ≡ t % 6
-corner_turns n t h k = omega arith
+no_turns : (rot : ℕ) → rot < 6 → rot ≡ (rot + 0) % 6
+no_turns rot h = omega arith
+
+-- where a step leads: a base cell, how often digits are turned on the way into it, and the digits there
+record Goes (link : Links) (x : State) (d : Direction) (y : State) : Type 0 where
+  to : Reached
+  reaches : Reaches link x.cell.base x.cell.digits (turned x.rotation d) to
+  hexagon : IsHexagonBase to.base
+  few : to.turns < 6
+  is : y ≡ state (cell_of to.base to.digits) ((x.rotation + to.turns) % 6)
+
+-- the step of a state to where a sum reaches
+arrives : (w : Lattice) (link : Links) (y : State) (d e : Direction) (to : Reached) → is_pentagon_base y.cell.base ≡ false → y.rotation < 6 → Reaches link y.cell.base y.cell.digits e to → e ≡ turned y.rotation d
+    → is_pentagon_base to.base ≡ false → step_of link y d ≡ Some (state (cell_of to.base to.digits) ((y.rotation + to.turns) % 6))
+arrives w link y d e to hexagon few r same h = by_out r.out r.list r.sum r.is
+  where
+    Led : Reached → Type 0
+    Led t = step_of link y d ≡ Some (state (cell_of t.base t.digits) ((y.rotation + t.turns) % 6))
+
+    by_out : (u : Option Direction) (es : List ℕ) → IsSum y.cell.digits e u es → to ≡ led_by link y.cell.base u es → Led to
+    by_out None es sum is =
+        subst Led (sym is)
+        (step-hexagon w.sums.unique link y d None es hexagon (subst (λ p. IsSum y.cell.digits p None es) same sum)
+        ∙ ap (λ n. Some (state (cell_of y.cell.base es) n)) (no_turns y.rotation few))
+    by_out (Some u) es sum is =
+        subst Led (sym is)
+        (step-hexagon w.sums.unique link y d (Some u) es hexagon (subst (λ p. IsSum y.cell.digits p (Some u) es) same sum)
+        ∙ crossed_over (link y.cell.base u) y.rotation es (subst (λ (t : Reached). is_pentagon_base t.base ≡ false) is h))
 
 module _ (w : Lattice) (link : Links) (sound : IsSound link) (x : State) (st : IsState x) where
-  reached : (d : Direction) (y : State) → Way link x d y → IsState y
-  reached d y (stays_in es sum) = record { hexagon = st.hexagon; digits = sum.digits; few = st.few }
-  reached d y (goes_over u es sum h) =
+  is_state : (d : Direction) (y : State) → Way link x d y → IsState y
+  is_state d y (stays_in es sum) = record { hexagon = st.hexagon; digits = sum.digits; few = st.few }
+  is_state d y (goes_over u es sum h) =
       let n = (link x.cell.base u).1 in
       let over = w.sums.turn n x.cell.digits (turned x.rotation d) (Some u) es sum in
       record { hexagon = ((sound.within x.cell.base u st.hexagon).0, h); digits = over.digits; few = omega arith }
 
-  reversed : (d : Direction) (y : State) → Way link x d y → step_of link y (opposite d) ≡ Some x
-  reversed d y (stays_in es sum) =
+  goes : (d : Direction) (y : State) → Way link x d y → Goes link x d y
+  goes d y (stays_in es sum) = record {
+    to = reached x.cell.base 0 es;
+    reaches = record { out = None; list = es; sum = sum; is = refl };
+    hexagon = st.hexagon;
+    few = omega arith;
+    is = ap (state (cell_of x.cell.base es)) (no_turns x.rotation st.few);
+  }
+  goes d y (goes_over u es sum h) = record {
+    to = across (link x.cell.base u) es;
+    reaches = record { out = Some u; list = es; sum = sum; is = refl };
+    hexagon = ((sound.within x.cell.base u st.hexagon).0, h);
+    few = (sound.within x.cell.base u st.hexagon).1;
+    is = refl;
+  }
+
+  reversed : (d : Direction) (y : State) → Goes link x d y → step_of link y (opposite d) ≡ Some x
+  reversed d y g =
       let rot = x.rotation in
-      let back = w.reverse x.cell.digits (turned rot d) None es st.digits sum in
-      step-hexagon w.sums.unique link (state (cell_of x.cell.base es) rot) (opposite d) None x.cell.digits st.hexagon.1 (subst (λ p. IsSum es p None x.cell.digits) (sym (turned-opposite w rot d)) back)
-  reversed d y (goes_over u es sum h) =
-      let b = x.cell.base in
-      let other = (link b u).0 in
-      let n = (link b u).1 in
-      let rot = x.rotation in
-      let few = (sound.within b u st.hexagon).1 in
-      let there = state (cell_of other (map (digit_turned n) es)) ((rot + n) % 6) in
-      let back = w.reverse x.cell.digits (turned rot d) (Some u) es st.digits sum in
-      let over = w.sums.turn n es (opposite (turned rot d)) (Some (opposite u)) x.cell.digits back in
-      let frame : turned n (opposite (turned rot d)) ≡ turned there.rotation (opposite d) = sym (in_frame w rot n (opposite d) ∙ ap (turned n) (turned-opposite w rot d)) in
-      let sum2 : IsSum there.cell.digits (turned there.rotation (opposite d)) (Some (turned n (opposite u))) (map (digit_turned n) x.cell.digits) =
-      subst (λ p. IsSum (map (digit_turned n) es) p (Some (turned n (opposite u))) (map (digit_turned n) x.cell.digits)) frame over in
-      let rev = sound.reversal b u st.hexagon ((sound.within b u st.hexagon).0, h) in
-      let digits = digits_back w.turns n x.cell.digits few st.digits in
-      let rotation = back_rotation rot n st.few few in
-      step-hexagon w.sums.unique link there (opposite d) (Some (turned n (opposite u))) (map (digit_turned n) x.cell.digits) h sum2
-      ∙ crossed_to (link other (turned n (opposite u))) b ((6 - n) % 6) there.rotation (map (digit_turned n) x.cell.digits) rev st.hexagon.1
-      ∙ λ i. Some (state (cell_of b (digits i)) (rotation i))
+      let n = g.to.turns in
+      let there = state (cell_of g.to.base g.to.digits) ((rot + n) % 6) in
+      let back = w.back link sound x.cell.base x.cell.digits (turned rot d) g.to st.hexagon st.digits g.reaches g.hexagon in
+      let frame : turned n (opposite (turned rot d)) ≡ turned ((rot + n) % 6) (opposite d) = sym (in_frame w rot n (opposite d) ∙ ap (turned n) (turned-opposite w rot d)) in
+      let few : (rot + n) % 6 < 6 = omega arith in
+      ap (λ s. step_of link s (opposite d)) g.is
+      ∙ arrives w link there (opposite d) (turned n (opposite (turned rot d))) (reached x.cell.base ((6 - n) % 6) x.cell.digits) g.hexagon.1 few back frame st.hexagon.1
+      ∙ ap (λ r. Some (state x.cell r)) (back_rotation rot n st.few g.few)
 
 pub steps_reach : Lattice → OverSoundLinks StepsReachStates
-steps_reach w link sound x y d st e = reached w link sound x st d y (way w link x y d st e)
+steps_reach w link sound x y d st e = is_state w link sound x st d y (way w link x y d st e)
 
 pub steps_reverse : Lattice → OverSoundLinks StepsReverse
-steps_reverse w link sound x y d st e = reversed w link sound x st d y (way w link x y d st e)
+steps_reverse w link sound x y d st e = reversed w link sound x st d y (goes w link sound x st d y (way w link x y d st e))
 
 -- ---- different steps
 
@@ -189,74 +216,20 @@ steps_leave w link sound x y d st e same = moved w link sound x st d y (way w li
 
 -- ---- triangles
 
-module _ (w : Lattice) (link : Links) (sound : IsSound link) (x : State) (st : IsState x) (d : Direction) (y z : State) where
-  -- the third side, in the frame across a side
-  over : (e : Direction) (out : Option Direction) (es fs : List ℕ) → IsSum es (turned 2 (turned x.rotation d)) out fs
-      → IsSum (map (digit_turned (link x.cell.base e).1) es) (turned ((x.rotation + (link x.cell.base e).1) % 6) (turned 2 d)) (option_turned (link x.cell.base e).1 out) (map (digit_turned (link x.cell.base e).1) fs)
-  over e out es fs third =
-      let n = (link x.cell.base e).1 in
-      let frame : turned n (turned 2 (turned x.rotation d)) ≡ turned ((x.rotation + n) % 6) (turned 2 d) = sym (in_frame w x.rotation n (turned 2 d) ∙ ap (turned n) (commute w x.rotation 2 d)) in
-      subst (λ r. IsSum (map (digit_turned n) es) r (option_turned n out) (map (digit_turned n) fs)) frame (w.sums.turn n es (turned 2 (turned x.rotation d)) out fs third)
-
-  by_form : (u v out : Option Direction) → Triangle u out v → (es fs : List ℕ) → IsSum es (turned 2 (turned x.rotation d)) out fs → Some y ≡ led_to link x u es → Some z ≡ led_to link x v fs → step_of link y (turned 2 d) ≡ Some z
-  by_form u v out all_inside es fs third py pz =
-      let at : y ≡ state (cell_of x.cell.base es) x.rotation = cc in
-      let direction : turned 2 (turned x.rotation d) ≡ turned x.rotation (turned 2 d) = commute w 2 x.rotation d in
-      ap (λ r. step_of link r (turned 2 d)) at
-      ∙ step-hexagon w.sums.unique link (state (cell_of x.cell.base es) x.rotation) (turned 2 d) None fs st.hexagon.1 (subst (λ p. IsSum es p None fs) direction third)
-      ∙ sym pz
-  by_form u v out (z_across e) es fs third py pz =
-      let at : y ≡ state (cell_of x.cell.base es) x.rotation = cc in
-      let direction : turned 2 (turned x.rotation d) ≡ turned x.rotation (turned 2 d) = commute w 2 x.rotation d in
-      ap (λ r. step_of link r (turned 2 d)) at
-      ∙ step-hexagon w.sums.unique link (state (cell_of x.cell.base es) x.rotation) (turned 2 d) (Some e) fs st.hexagon.1 (subst (λ p. IsSum es p (Some e) fs) direction third)
-      ∙ sym pz
-  by_form u v out (x_across e) es fs third py pz =
-      let n = (link x.cell.base e).1 in
-      let cy = crossed_is (link x.cell.base e) x.rotation es y py in
-      let cz = crossed_is (link x.cell.base e) x.rotation fs z pz in
-      let there = state (cell_of (link x.cell.base e).0 (map (digit_turned n) es)) ((x.rotation + n) % 6) in
-      ap (λ r. step_of link r (turned 2 d)) cy.is
-      ∙ step-hexagon w.sums.unique link there (turned 2 d) None (map (digit_turned n) fs) cy.hexagon (over e None es fs third)
-      ∙ ap (λ r. Some r) (sym cz.is)
-  by_form u v out (y_across e) es fs third py pz =
-      let b = x.cell.base in
-      let n = (link b e).1 in
-      let few = (sound.within b e st.hexagon).1 in
-      let cy = crossed_is (link b e) x.rotation es y py in
-      let there = state (cell_of (link b e).0 (map (digit_turned n) es)) ((x.rotation + n) % 6) in
-      let rev = sound.reversal b e st.hexagon ((sound.within b e st.hexagon).0, cy.hexagon) in
-      let digits = digits_back w.turns n fs few third.digits in
-      let rotation = back_rotation x.rotation n st.few few in
-      ap (λ r. step_of link r (turned 2 d)) cy.is
-      ∙ step-hexagon w.sums.unique link there (turned 2 d) (Some (turned n (opposite e))) (map (digit_turned n) fs) cy.hexagon (over e (Some (opposite e)) es fs third)
-      ∙ crossed_to (link (link b e).0 (turned n (opposite e))) b ((6 - n) % 6) there.rotation (map (digit_turned n) fs) rev st.hexagon.1
-      ∙ (λ i. Some (state (cell_of b (digits i)) (rotation i)))
-      ∙ sym pz
-  by_form u v out (all_across e) es fs third py pz =
-      let b = x.cell.base in
-      let n = (link b e).1 in
-      let c = (link b (turned_once e)).0 in
-      let t = (link b (turned_once e)).1 in
-      let few = (sound.within b e st.hexagon).1 in
-      let few_t = (sound.within b (turned_once e) st.hexagon).1 in
-      let cy = crossed_is (link b e) x.rotation es y py in
-      let cz = crossed_is (link b (turned_once e)) x.rotation fs z pz in
-      let there = state (cell_of (link b e).0 (map (digit_turned n) es)) ((x.rotation + n) % 6) in
-      let corner = sound.corner b e st.hexagon ((sound.within b e st.hexagon).0, cy.hexagon) ((sound.within b (turned_once e) st.hexagon).0, cz.hexagon) in
-      let digits = digits_on w ((t + 6 - n) % 6) n t fs (corner_turns n t few few_t) in
-      let rotation = corner_rotation x.rotation n t st.few few few_t in
-      ap (λ r. step_of link r (turned 2 d)) cy.is
-      ∙ step-hexagon w.sums.unique link there (turned 2 d) (Some (turned n (turned 2 e))) (map (digit_turned n) fs) cy.hexagon (over e (Some (turned 2 e)) es fs third)
-      ∙ crossed_to (link (link b e).0 (turned n (turned 2 e))) c ((t + 6 - n) % 6) there.rotation (map (digit_turned n) fs) corner cz.hexagon
-      ∙ (λ i. Some (state (cell_of c (digits i)) (rotation i)))
-      ∙ ap (λ r. Some r) (sym cz.is)
-
 pub steps_close : Lattice → OverSoundLinks StepsCloseTriangles
 steps_close w link sound x y z d st p q =
-    let ly = leads w.sums link x y d st.hexagon.1 p in
-    let lz = leads w.sums link x z (turned_once d) st.hexagon.1 q in
-    let next : turned x.rotation (turned_once d) ≡ turned_once (turned x.rotation d) = commute w x.rotation 1 d in
-    let sum : IsSum x.cell.digits (turned_once (turned x.rotation d)) lz.out lz.list = subst (λ r. IsSum x.cell.digits r lz.out lz.list) next lz.sum in
-    let tri = w.triangles x.cell.digits (turned x.rotation d) ly.out lz.out ly.list lz.list ly.sum sum in
-    by_form w link sound x st d y z ly.out lz.out tri.out tri.form ly.list lz.list tri.third ly.is lz.is
+    let b = x.cell.base in
+    let rot = x.rotation in
+    let g = goes w link sound x st d y (way w link x y d st p) in
+    let h = goes w link sound x st (turned_once d) z (way w link x z (turned_once d) st q) in
+    let n = g.to.turns in
+    let t = h.to.turns in
+    let there = state (cell_of g.to.base g.to.digits) ((rot + n) % 6) in
+    let second : Reaches link b x.cell.digits (turned_once (turned rot d)) h.to = subst (λ r. Reaches link b x.cell.digits r h.to) (commute w rot 1 d) h.reaches in
+    let corner = w.corners link sound b x.cell.digits (turned rot d) g.to h.to st.hexagon g.reaches second g.hexagon h.hexagon in
+    let frame : turned n (turned 2 (turned rot d)) ≡ turned ((rot + n) % 6) (turned 2 d) = sym (in_frame w rot n (turned 2 d) ∙ ap (turned n) (commute w rot 2 d)) in
+    let few : (rot + n) % 6 < 6 = omega arith in
+    ap (λ s. step_of link s (turned 2 d)) g.is
+    ∙ arrives w link there (turned 2 d) (turned n (turned 2 (turned rot d))) (reached h.to.base ((t + 6 - n) % 6) h.to.digits) g.hexagon.1 few corner frame h.hexagon.1
+    ∙ ap (λ r. Some (state (cell_of h.to.base h.to.digits) r)) (corner_rotation rot n t st.few g.few h.few)
+    ∙ ap (λ r. Some r) (sym h.is)

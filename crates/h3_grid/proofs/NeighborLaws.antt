@@ -17,7 +17,7 @@ use Rattle.h3_grid.specs.Laws.{IsState, OverSoundLinks, StepsLeave, StepsDiffer}
 use Rattle.h3_grid.specs.Neighbors.{AreNeighbors, BothOrdersAgree, DirectionsAreFound, DirectionsDiffer, NeighborsAreFound, NeighborsAreMutual, NeighborsDiffer, are_neighbors, cell_reached, direction_to, is_same, is_some_same, neighbor, neighbor_refusal, pair_refusal}
 use Rattle.h3_grid.specs.Search.{step_of}
 use Rattle.h3_grid.specs.Steps.{Leads, State, led_to, state}
-use Rattle.h3_grid.proofs.BackLaws.{crossed_to}
+use Rattle.h3_grid.proofs.BackLaws.{crossed_over}
 use Rattle.h3_grid.proofs.InsideLaws.{SumLaws, crossed_is, leads}
 use Rattle.h3_grid.proofs.LatticeLaws.{StepLawsHold}
 use Rattle.h3_grid.proofs.ListLaws.{find_one}
@@ -42,7 +42,7 @@ same_turn sums link x y rot q p d e hex same st = by_out l.out l.list l.sum l.is
         let cell : y ≡ cell_of (link x.base u).0 (map (digit_turned (link x.base u).1) es) = ap (λ (s : State). s.cell) c.is in (
           (p + (link x.base u).1) % 6,
           step-hexagon sums.unique link (state x p) e (Some u) es hex (subst (λ t. IsSum x.digits t (Some u) es) same sum)
-              ∙ crossed_to (link x.base u) (link x.base u).0 (link x.base u).1 p es refl c.hexagon ∙ ap (λ a. Some (state a ((p + (link x.base u).1) % 6))) (sym cell),
+              ∙ crossed_over (link x.base u) p es c.hexagon ∙ ap (λ a. Some (state a ((p + (link x.base u).1) % 6))) (sym cell),
         )
 
 -- ---- tests

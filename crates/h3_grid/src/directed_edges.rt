@@ -5,6 +5,7 @@ ghost use Rattle.h3_index.specs.Cell.{Address};
 ghost use Rattle.h3_lattice.specs.BaseTable.{link_of};
 ghost use Rattle.h3_grid.specs.DirectedEdges.{IsDestination, IsEdgeBetween, ListsEdges, edge_between, edge_destination, edge_refusal, edges_from};
 ghost use Rattle.h3_grid.specs.Edges.{edges_left};
+ghost use Rattle.h3_grid.specs.declared.iter.Edges.{Edges};
 ghost use Rattle.h3_grid.specs.Neighbors.{AreNeighbors, DirectionsAreFound, DirectionsDiffer};
 
 use crate::iter::Edges;
@@ -67,6 +68,9 @@ pub fn edge_destination(table: &BaseTable, edge: Edge) -> Result<Cell, H3Error>
 pub fn edges_of(cell: Cell) -> Edges
     ensures items { edges_left result ≡ edges_from cell }
     ensures listed { ListsEdges cell (edges_from cell) }
+
+    // A clone of the iterator is equal to it.
+    ensures clone { (a b : Edges) → ⟦<Edges as Clone>⟧.is_clone a b → b ≡ a }
 {
     Edges::from(cell)
 }

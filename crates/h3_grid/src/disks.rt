@@ -4,16 +4,17 @@ ghost use Rattle.std.specs.Prelude.{◌≡◌, ◌≤◌, ◌<◌, ◌+◌, ◌*
 ghost use Rattle.std.specs.Iterator.{YieldsFirst, item_count};
 ghost use Rattle.std.specs.Result.{result_err};
 ghost use Rattle.h3_lattice.specs.BaseTable.{link_of};
+ghost use Rattle.h3_grid.specs.Chart.{ChartsLeadAlongPaths, DisksAreCharts, OriginsAreAlone, RingsAgree, StatesAreWritten};
 ghost use Rattle.h3_grid.specs.Counters.{side_before};
-ghost use Rattle.h3_grid.specs.Distance.{SpiralsHoldSums};
-ghost use Rattle.h3_grid.specs.Laws.{IfWritten, MovesFollowTheSpiral, SpiralsAreSimple};
+ghost use Rattle.h3_grid.specs.Distance.{RingsAreDistances, SpiralsHoldSums};
+ghost use Rattle.h3_grid.specs.Laws.{DisksHaveSizes, DisksInsideAreCharted, IfWritten, MovesFollowTheSpiral, SpiralsAreSimple, SpiralsHaveSizes};
 ghost use Rattle.h3_grid.specs.Refusals.{disk_refusal};
 ghost use Rattle.h3_grid.specs.Walks.{disk};
 ghost use Rattle.h3_grid.specs.WholeDisk.{IsWholeDisk};
 
-use crate::laws::{disks_are_charts, disks_are_spirals};
-use crate::steps::step;
+use crate::steps::{step, steps_are_found, steps_are_lawful};
 use h3_index::{Cell, H3Error};
+use h3_lattice::laws::{sums_are_lawful, turns_add_up};
 use h3_lattice::{BaseTable, Direction};
 
 /// The direction of the side of a ring that has this many sides after it.
@@ -37,7 +38,7 @@ pub(crate) fn side_before(sides: u8) -> Direction
 /// An iterator. After the error `Pentagon`, which comes where a step meets a pentagon base cell,
 /// there is no further item. It takes no memory: it holds the cell that was reached last and counts
 /// what is left, steps of a side, sides of a ring and rings.
-#[derive(Clone, Copy)]
+#[derive(Clone, Copy, Debug)]
 pub struct Disk<'a> {
     table: &'a BaseTable,
     cell: Cell,
@@ -51,6 +52,37 @@ pub struct Disk<'a> {
     ghost on_ring: { sides ≤ 5 * ring },
     ghost in_ring: { sides ≤ 5 },
     ghost in_range: { ring + rings < 2 ^ 31 },
+}
+
+/// Laws of disks of which no step is refused, and of the spiral that their moves follow: how many
+/// cells there are, and where they are within one base cell. It does nothing.
+pub(crate) fn disks_are_spirals()
+    ensures sizes { DisksHaveSizes }
+    ensures moves { MovesFollowTheSpiral }
+    ensures places { SpiralsHaveSizes }
+    ensures simple { SpiralsAreSimple }
+    ensures sums { SpiralsHoldSums }
+    ensures inside { DisksInsideAreCharted }
+{
+    sums_are_lawful();
+    turns_add_up();
+    steps_are_found();
+}
+
+/// Laws of disks of which no step is refused, over sound links: where steps between their cells
+/// lead, how far the cells are from the origin, and that the last ones are those of a ring. It does
+/// nothing.
+pub(crate) fn disks_are_charts()
+    ensures charts { DisksAreCharts }
+    ensures paths { ChartsLeadAlongPaths }
+    ensures written { StatesAreWritten }
+    ensures rings { RingsAgree }
+    ensures origins { OriginsAreAlone }
+    ensures distances { RingsAreDistances }
+{
+    steps_are_lawful();
+    turns_add_up();
+    sums_are_lawful();
 }
 
 /// A law of the disk of a radius around a cell, over the links of a table. It does nothing.
@@ -67,6 +99,7 @@ fn disk_is_lawful(table: &BaseTable, cell: Cell, k: i32)
 
 impl<'a> Disk<'a> {
     ghost use Rattle.h3_grid.specs.Disk.{disk_left};
+    ghost use Rattle.h3_grid.specs.declared.disks.Disk.{Disk};
 
     /// The disk of a radius around a cell, as H3's `gridDiskUnsafe` and `gridDiskDistancesUnsafe`
     /// walk it; which disks are refused is this library's own. Nothing of it is walked yet.
@@ -78,21 +111,24 @@ impl<'a> Disk<'a> {
         ensures items { IfOk result (λ walk.
             disk_left walk ≡ disk (link_of table.now) cell (unsigned_abs k)) }
 
-        // Where no step is refused: how many cells there are; and where they are, and how far from
-        // the origin.
+        // Where no step is refused: how many cells there are; and where they are, where the steps
+        // between them lead, and how far they are from the origin.
         ensures size { IfWritten (link_of table.now) cell (unsigned_abs k)
             (λ cells. length cells ≡ 3 * unsigned_abs k * (unsigned_abs k + 1) + 1) }
         ensures whole { IfWritten (link_of table.now) cell (unsigned_abs k)
             (IsWholeDisk (link_of table.now) cell (unsigned_abs k)) }
 
-        // Laws of the moves and of the spiral alone.
+        // Laws of the moves and of the spiral alone: it has 3k(k + 1) + 1 places, each once.
         ensures spiral { MovesFollowTheSpiral }
+        ensures places { SpiralsHaveSizes }
         ensures simple { SpiralsAreSimple }
         ensures sums { SpiralsHoldSums }
+
+        // A clone of a disk is equal to it.
+        ensures clone { (a b : Disk) → ⟦<Disk<'a> as Clone>⟧.is_clone a b → b ≡ a }
     {
         disk_is_lawful(table, cell, k);
         disks_are_spirals();
-        disks_are_charts();
         if k < 0 {
             return Err(H3Error::Domain);
         }

@@ -4,18 +4,36 @@ ghost use Rattle.std.specs.Prelude.{◌≡◌, ◌↔◌, ◌&&◌, not, is_some
 ghost use Rattle.std.specs.Result.{result_err};
 ghost use Rattle.h3_index.specs.Cell.{IsCell};
 ghost use Rattle.h3_lattice.specs.BaseTable.{link_of};
-ghost use Rattle.h3_grid.specs.Neighbors.{AreNeighbors, BothOrdersAgree, DirectionsAreFound, DirectionsDiffer, NeighborsAreFound, NeighborsAreMutual, are_neighbors, direction_to, is_same, is_some_same, neighbor, neighbor_refusal, pair_refusal};
+ghost use Rattle.h3_grid.specs.Laws.{OverSoundLinks};
+ghost use Rattle.h3_grid.specs.Neighbors.{AreNeighbors, BothOrdersAgree, DirectionsAreFound, DirectionsDiffer, NeighborsAreFound, NeighborsAreMutual, NeighborsDiffer, are_neighbors, direction_to, is_same, is_some_same, neighbor, neighbor_refusal, pair_refusal};
 
-use crate::laws::neighbors_are_lawful;
-use crate::steps::step;
+use crate::steps::{step, steps_are_lawful};
+use h3_index::laws::numbers_are_unique;
 use h3_index::{Cell, H3Error};
+use h3_lattice::laws::{sums_are_lawful, turns_add_up};
 use h3_lattice::{BaseTable, DIRECTIONS, Direction};
+
+/// Laws of neighbors over sound links. It does nothing.
+fn neighbors_are_lawful()
+    ensures found { OverSoundLinks DirectionsAreFound }
+    ensures related { OverSoundLinks NeighborsAreFound }
+    ensures one_direction { OverSoundLinks DirectionsDiffer }
+    ensures differ { OverSoundLinks NeighborsDiffer }
+    ensures mutual { OverSoundLinks NeighborsAreMutual }
+    ensures both { OverSoundLinks BothOrdersAgree }
+{
+    numbers_are_unique();
+    steps_are_lawful();
+    turns_add_up();
+    sums_are_lawful();
+}
 
 /// Laws of the neighbors over the links of a table. It does nothing.
 pub(crate) fn neighbor_is_lawful(table: &BaseTable)
     ensures found { DirectionsAreFound (link_of table.now) }
     ensures related { NeighborsAreFound (link_of table.now) }
     ensures one_direction { DirectionsDiffer (link_of table.now) }
+    ensures differ { NeighborsDiffer (link_of table.now) }
     ensures mutual { NeighborsAreMutual (link_of table.now) }
     ensures both { BothOrdersAgree (link_of table.now) }
 {
@@ -96,8 +114,9 @@ pub fn are_neighbors(table: &BaseTable, a: Cell, b: Cell) -> Result<bool, H3Erro
     ensures related { (result ≡ Ok true) ↔ AreNeighbors (link_of table.now) a b }
     ensures same { a ≡ b → result ≡ Ok false }
 
-    // Laws of neighbors over the table: the order of the two cells does not matter, for the errors
-    // either.
+    // Laws of neighbors over the table: no step leads to the cell itself; the order of the two cells
+    // does not matter, for the errors either.
+    ensures differ { NeighborsDiffer (link_of table.now) }
     ensures mutual { NeighborsAreMutual (link_of table.now) }
     ensures both { BothOrdersAgree (link_of table.now) }
 {

@@ -9,8 +9,7 @@ ghost use Rattle.h3_grid.specs.Refusals.{ring_refusal};
 ghost use Rattle.h3_grid.specs.Steps.{state};
 ghost use Rattle.h3_grid.specs.Walks.{ring, stepped};
 
-use crate::disks::side_before;
-use crate::laws::disks_are_charts;
+use crate::disks::{disks_are_charts, side_before};
 use crate::steps::step;
 use h3_index::{Cell, H3Error};
 use h3_lattice::{BaseTable, Direction};
@@ -45,7 +44,7 @@ fn outward(table: &BaseTable, cell: Cell, k: u32) -> Result<(Cell, u8), H3Error>
 /// after the last cell where the ring does not close, there is no further item. It takes no memory:
 /// it holds the cell that was reached last and the first one, and counts what is left, steps of a
 /// side and sides.
-#[derive(Clone, Copy)]
+#[derive(Clone, Copy, Debug)]
 pub struct Ring<'a> {
     table: &'a BaseTable,
     cell: Cell,
@@ -72,6 +71,7 @@ fn ring_is_lawful(table: &BaseTable, cell: Cell, k: i32)
 
 impl<'a> Ring<'a> {
     ghost use Rattle.h3_grid.specs.Ring.{ring_left};
+    ghost use Rattle.h3_grid.specs.declared.rings.Ring.{Ring};
 
     /// The ring of a radius around a cell, as H3's `gridRingUnsafe` walks it. Nothing of it is
     /// walked yet: the first call of `next` takes as many steps as the radius, every other at most
@@ -88,6 +88,9 @@ impl<'a> Ring<'a> {
         // in the same order but for the ring's first, which is the disk's last.
         ensures agree { RingEndsDisk (link_of table.now) cell (unsigned_abs k) }
         ensures origin { OriginsAreAlone }
+
+        // A clone of a ring is equal to it.
+        ensures clone { (a b : Ring) → ⟦<Ring<'a> as Clone>⟧.is_clone a b → b ≡ a }
     {
         disks_are_charts();
         ring_is_lawful(table, cell, k);

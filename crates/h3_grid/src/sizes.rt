@@ -6,7 +6,7 @@ ghost use Rattle.h3_grid.specs.Laws.{DisksHaveSizes};
 ghost use Rattle.h3_grid.specs.Moves.{spiral};
 ghost use Rattle.h3_grid.specs.Refusals.{radius_refusal};
 
-use crate::laws::disks_are_spirals;
+use crate::disks::disks_are_spirals;
 use h3_index::H3Error;
 
 /// The number of cells of a disk of radius k of which no step is refused: 3k(k + 1) + 1.

@@ -3,16 +3,38 @@
 ghost use Rattle.std.specs.Prelude.{◌≡◌, ◌<◌, None, Some, IfOk, IfErr};
 ghost use Rattle.h3_index.specs.Cell.{IsCell};
 ghost use Rattle.h3_lattice.specs.BaseTable.{link_of};
-ghost use Rattle.h3_grid.specs.Laws.{StepsCloseTriangles, StepsLeave, StepsDiffer, StepsReverse};
+ghost use Rattle.h3_grid.specs.Laws.{OverSoundLinks, StepsCloseTriangles, StepsDiffer, StepsLeave, StepsReachStates, StepsReverse};
 ghost use Rattle.h3_grid.specs.Search.{step_of, StepsAreFound};
 ghost use Rattle.h3_grid.specs.Steps.{state, IsStep};
 
-use crate::laws::{steps_are_found, steps_are_lawful};
 use h3_index::{Cell, H3Error, is_pentagon_base};
+use h3_lattice::laws::{checks_lift_to_steps, sums_are_lawful, turns_add_up};
 use h3_lattice::{BaseTable, Direction, Moved, add, turn};
+
+/// A law: a state has exactly one step in each direction, that which the function `step_of` of the
+/// definitions gives. It does nothing.
+pub(crate) fn steps_are_found()
+    ensures { StepsAreFound }
+{
+    sums_are_lawful();
+}
+
+/// Laws of steps over sound links. It does nothing.
+pub(crate) fn steps_are_lawful()
+    ensures states { OverSoundLinks StepsReachStates }
+    ensures reverse { OverSoundLinks StepsReverse }
+    ensures differ { OverSoundLinks StepsDiffer }
+    ensures leave { OverSoundLinks StepsLeave }
+    ensures triangles { OverSoundLinks StepsCloseTriangles }
+{
+    sums_are_lawful();
+    turns_add_up();
+    checks_lift_to_steps();
+}
 
 /// Laws of steps over the links of a table. It does nothing.
 fn step_is_lawful(table: &BaseTable)
+    ensures states { StepsReachStates (link_of table.now) }
     ensures reverse { StepsReverse (link_of table.now) }
     ensures differ { StepsDiffer (link_of table.now) }
     ensures leave { StepsLeave (link_of table.now) }
@@ -51,9 +73,11 @@ pub fn step(
 
     ensures one { StepsAreFound }
 
-    // Laws of steps over the table: the opposite direction leads back, with the rotation undone;
-    // steps in different directions lead to different cells, none of them the cell itself; those in
-    // a direction and the next one lead to neighbors.
+    // Laws of steps over the table: a step leads to a cell in a hexagon base cell, with a rotation
+    // of 0 to 5; the opposite direction leads back, with the rotation undone; steps in different
+    // directions lead to different cells, none of them the cell itself; those in a direction and the
+    // next one lead to neighbors.
+    ensures states { StepsReachStates (link_of table.now) }
     ensures reverse { StepsReverse (link_of table.now) }
     ensures differ { StepsDiffer (link_of table.now) }
     ensures leave { StepsLeave (link_of table.now) }

@@ -10,6 +10,7 @@ returns c = λ cells written.
     let valid = c.resolution-resolution.ensures.valid in
     record {
       inside = c.disks_are_spirals.ensures.inside link c.args.cell k cells sound valid written;
+      states = c.disks_are_charts.ensures.written link c.args.cell k cells written;
       chart = c.disks_are_charts.ensures.charts link c.args.cell k cells sound valid written;
       paths = c.disks_are_charts.ensures.paths link c.args.cell k cells sound valid written;
       distances = c.disks_are_charts.ensures.distances link c.args.cell k cells sound valid written;

@@ -1,6 +1,9 @@
 use Rattle.h3_lattice.specs.BaseTable.{link_of}
 use Rattle.h3_grid.proofs.steps.step_is_lawful.Goals as goal
 
+pub returns-clause-states : goal.returns-clause-states
+returns-clause-states c = c.steps_are_lawful.ensures.states (link_of c.args.table.now) c.links_are_sound.ensures
+
 pub returns-clause-reverse : goal.returns-clause-reverse
 returns-clause-reverse c = c.steps_are_lawful.ensures.reverse (link_of c.args.table.now) c.links_are_sound.ensures
 

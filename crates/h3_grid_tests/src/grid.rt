@@ -1,7 +1,9 @@
-mod chart;
+//! Steps, disks, rings, neighbors and edges over tables.
 
-use crate::{Disk, Ring, are_neighbors, disk_len, edge_between, edge_destination, edges_of, step};
 use h3_fakes::{TableFile, open_file, table_file};
+use h3_grid::{
+    Disk, Ring, are_neighbors, disk_len, edge_between, edge_destination, edges_of, step,
+};
 use h3_index::{Cell, Edge, H3Error, Streamed};
 use h3_lattice::vectors::TestTable;
 use h3_lattice::{BaseTable, Direction};
@@ -16,7 +18,7 @@ fn read_table(rt: &HostRuntime, file: &TableFile) -> Result<BaseTable, Fail> {
 }
 
 /// A test table.
-fn test_table(rt: &HostRuntime, table: TestTable) -> Result<BaseTable, Fail> {
+pub fn test_table(rt: &HostRuntime, table: TestTable) -> Result<BaseTable, Fail> {
     read_table(rt, &table_file(table))
 }
 

@@ -1,7 +1,7 @@
 use Rattle.h3_grid.proofs.InsideLaws.{SumLaws}
 use Rattle.h3_grid.proofs.LatticeLaws.{StepLawsHold}
 use Rattle.h3_grid.proofs.NeighborLaws.{both_agree, directions_found, directions_differ, neighbors_differ, neighbors_found, neighbors_mutual}
-use Rattle.h3_grid.proofs.laws.neighbors_are_lawful.Goals as goal
+use Rattle.h3_grid.proofs.neighbors.neighbors_are_lawful.Goals as goal
 
 steps : (c : goal.After-sums_are_lawful) → StepLawsHold
 steps c =

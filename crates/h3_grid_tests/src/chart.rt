@@ -2,8 +2,8 @@
 //! between its cells lead where the places of the spiral say, and its cells are those that as many
 //! rounds of steps reach.
 
-use super::test_table;
-use crate::{Disk, step};
+use crate::grid::test_table;
+use h3_grid::{Disk, step};
 use h3_index::Cell;
 use h3_lattice::vectors::TestTable;
 use h3_lattice::{BaseTable, DIRECTIONS, Direction};
