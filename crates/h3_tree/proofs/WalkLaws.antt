@@ -4,12 +4,13 @@ use Rattle.std.proofs.Math.Nat.{pow-suc}
 use Rattle.std.proofs.Math.Seq.{take-length}
 use Rattle.std.proofs.lemmas.Bool.{cases_Bool}
 use Rattle.std.proofs.lemmas.Bool.Decides.{nat_tests}
-use Rattle.std.proofs.lemmas.List.{length-take-le, take-take, take_all}
+use Rattle.std.proofs.lemmas.List.{get_or-take, length-take-le, take-take, take_all}
 use Rattle.std.proofs.lemmas.List.Elements.{Contains-get_or}
-use Rattle.std.proofs.lemmas.Nat.{div-add-mod', mod_below, div_below}
+use Rattle.std.proofs.lemmas.Nat.{div-add-mod', div_below, mod_below, mul-le}
 use Rattle.std.proofs.lemmas.Option.{get_or_from_slice_get, slice_get-get_or, slice_get_within}
 use Rattle.h3_index.specs.Cell.{Address, IsCell, is_pentagon}
 use Rattle.h3_index.specs.Descendants.{child, cut, descendants, IsDescendant}
+use Rattle.h3_index.specs.Laws.{CutsAreCells}
 use Rattle.h3_index.specs.Paths.{next_step}
 use Rattle.h3_tree.specs.Known.{DescendantsAreKnown}
 use Rattle.h3_tree.specs.Positions.{position_under, HasPosition}
@@ -287,3 +288,62 @@ counted_end laws c q l so_far v le h =
     let at = get-position_under laws c c (length c.digits) v (omega arith) (omega (arith, v.coarse)) self in
     let none : position_under c c ≡ 0 = omega (arith, at.within, alone laws c) in
     omega (arith, h.is, ap (λ m. position_under m c) same, none)
+
+-- ---- below a hexagon a position is the number of the digits in base 7
+
+-- the digits up to a level are the number so far
+pub record IsInSevens (c : Address) (q level so_far : ℕ) : Type 0 where
+  pub hexagon : is_pentagon (cut c level) ≡ false
+  pub is : so_far * 7 ^ (length c.digits - level) + position_under (cut c level) c ≡ position_under (cut c q) c
+
+last_of_cut : CutsAreCells → (c : Address) (l d : ℕ) → IsCell c → l < length c.digits → d ≡ get_or c.digits l 7 → IsLastDigit (cut c (l + 1)) (length c.digits) d
+last_of_cut cuts c l d v lt e =
+    let size : length (take (l + 1) c.digits) ≡ l + 1 = length-take-le (l + 1) c.digits (omega arith) in
+    let last : length (take (l + 1) c.digits) - 1 ≡ l = omega (arith, size) in
+    let read : get_or (take (l + 1) c.digits) l 7 ≡ get_or c.digits l 7 = get_or-take (l + 1) c.digits l 7 (omega arith) in
+    record {
+      valid = cuts c (l + 1) v (omega arith);
+      parent_valid = subst IsCell (sym (cut_address c l lt)) (cuts c l v (omega arith));
+      some = omega (arith, size);
+      low = omega (arith, size);
+      high = omega (arith, v.coarse);
+      is = ap (λ n. get_or (take (l + 1) c.digits) n 7) last ∙ read ∙ sym e;
+      small = rw e (digit_small c.digits l v.digits_small lt);
+    }
+
+sevens_more : (so_far d outer under rest whole : ℕ) (n : ℕ) → outer ≡ 7 ^ n → under ≡ d * outer + rest → so_far * 7 ^ suc n + under ≡ whole → (7 * so_far + d) * outer + rest ≡ whole
+sevens_more so_far d outer under rest whole n o u h =
+    let power : 7 ^ suc n ≡ outer * 7 = pow-suc 7 n ∙ ap (λ m. m * 7) (sym o) in
+    let before : so_far * (outer * 7) + (d * outer + rest) ≡ whole = rw (← power, ← u) h in
+    let spread : (7 * so_far + d) * outer + rest ≡ so_far * (outer * 7) + (d * outer + rest) = grind arith in
+    spread ∙ before
+
+pub sevens_step : DescendantsAreKnown → CutsAreCells → (c : Address) (q l so_far d : ℕ) → IsCell c → l < length c.digits → d ≡ get_or c.digits l 7 → IsInSevens c q l so_far → IsInSevens c q (l + 1) (7 * so_far + d)
+sevens_step laws cuts c q l so_far d v lt e h =
+    let last = last_of_cut cuts c l d v lt e in
+    let size : length (take (l + 1) c.digits) ≡ l + 1 = length-take-le (l + 1) c.digits (omega arith) in
+    let above : cut (cut c (l + 1)) (length (cut c (l + 1)).digits - 1) ≡ cut c l = cut_address c l lt in
+    let hexagon : is_pentagon (cut (cut c (l + 1)) (length (cut c (l + 1)).digits - 1)) ≡ false = ap is_pentagon above ∙ h.hexagon in
+    let power : 7 ^ (length c.digits - (l + 1)) ≡ 7 ^ (length c.digits - length (take (l + 1) c.digits)) = ap (λ n. 7 ^ (length c.digits - n)) (sym size) in
+    let before = before_hexagon laws (cut c (l + 1)) (length c.digits) d last (7 ^ (length c.digits - (l + 1))) hexagon power in
+    let ahead : position_under (cut c l) c ≡ d * 7 ^ (length c.digits - (l + 1)) + position_under (cut c (l + 1)) c =
+    ap (λ m. position_under m c) (sym above) ∙ before.ahead c (cut_above c (l + 1) v (omega arith)) in
+    let next : suc (length c.digits - (l + 1)) ≡ length c.digits - l = omega arith in
+    let whole : so_far * 7 ^ suc (length c.digits - (l + 1)) + position_under (cut c l) c ≡ position_under (cut c q) c = rw next h.is in
+    record {
+      hexagon = ap is_pentagon (sym (ap (λ m. child m d) (sym above) ∙ whole_cell laws (cut c (l + 1)) (length c.digits) d last)) ∙ pentagon-child (cut c l) d ∙ (rw h.hexagon refl);
+      is = sevens_more so_far d (7 ^ (length c.digits - (l + 1))) (position_under (cut c l) c) (position_under (cut c (l + 1)) c) (position_under (cut c q) c) (length c.digits - (l + 1)) refl ahead whole;
+    }
+
+pub sevens_small : DescendantsAreKnown → CutsAreCells → (c : Address) (q l so_far : ℕ) → IsCell c → q ≤ length c.digits → IsInSevens c q l so_far → so_far < 4747561509943
+sevens_small laws cuts c q l so_far v le h =
+    let some : 0 < 7 ^ (length c.digits - l) = sevens_some (length c.digits - l) in
+    let most = counted_small laws c q v (cuts c q v le) le in
+    let more : so_far * 1 ≤ so_far * 7 ^ (length c.digits - l) = mul-le so_far 1 so_far (7 ^ (length c.digits - l)) (omega arith) some in
+    omega (arith, h.is, most, more)
+
+pub sevens_end : DescendantsAreKnown → (c : Address) (q l so_far : ℕ) → IsCell c → length c.digits ≤ l → IsInSevens c q l so_far → so_far ≡ position_under (cut c q) c
+sevens_end laws c q l so_far v le h =
+    let none : length c.digits - l ≡ 0 = omega arith in
+    let one : so_far * 7 ^ (length c.digits - l) ≡ so_far = rw none (omega arith) in
+    counted_end laws c q l so_far v le (record { is = ap (λ n. n + position_under (cut c l) c) (sym one) ∙ h.is })

@@ -1,15 +1,14 @@
 //! The iterator over the descendants of a cell.
 
-ghost use Rattle.std.specs.Prelude.{◌≡◌, ◌≤◌};
+ghost use Rattle.std.specs.Prelude.{◌≡◌, ◌≤◌, ◌-◌, ◌^◌};
 ghost use Rattle.std.specs.Iterator.{YieldsFirst, item_count};
 ghost use Rattle.h3_index.specs.Cell.{IsCell, resolution};
 ghost use Rattle.h3_index.specs.Descendants.{descendants};
-ghost use Rattle.h3_tree.specs.Children.{children_left};
 ghost use Rattle.h3_tree.specs.Following.{following};
 
 use crate::descendants::size_at;
+use h3_index::Cell;
 use h3_index::laws::{descendants_are_listed, paths_are_chains};
-use h3_index::{Cell, Cursor};
 
 /// The next cell of the same base cell and resolution; after the last one, the last one itself.
 #[inline(always)]
@@ -34,26 +33,31 @@ fn following(cell: Cell) -> Cell
     cell
 }
 
-/// The cursor at the next cell, which six times in seven has the same parent.
+/// The next cell, which six times in seven has the same parent. The cell's unit is given.
 #[inline(always)]
-fn next_cursor(cursor: Cursor) -> Cursor
-    ensures { result ≡ following cursor }
+fn next_cell(cell: Cell, unit: u64) -> Cell
+    requires { unit ≡ 8 ^ (15 - resolution cell) }
+    ensures { result ≡ following cell }
 {
-    match cursor.raised() {
+    match cell.raised(unit) {
         Some(next) => next,
-        None => Cursor::new(following(cursor.cell())),
+        None => following(cell),
     }
 }
 
-/// The descendants of a cell at one resolution, in ascending order. It holds a cursor at the next
-/// of them and how many are left.
+/// The descendants of a cell at one resolution, in ascending order. It holds the next of them, how
+/// much one more in its last digit adds to its number, and how many are left.
 #[derive(Clone, Copy, Debug)]
 pub struct Children {
-    next: Cursor,
+    next: Cell,
+    unit: u64,
     left: u64,
+    ghost unit_is: { unit ≡ 8 ^ (15 - resolution next) },
 }
 
 impl Children {
+    ghost use Rattle.h3_tree.specs.Children.{children_left};
+
     /// All descendants of a cell at a resolution.
     pub(crate) fn below(cell: Cell, r: u8) -> Children
         requires not_coarser { resolution cell ≤ r }
@@ -62,14 +66,18 @@ impl Children {
         ensures valid { IsCell cell }
     {
         paths_are_chains();
+        let next = cell.center_at(r);
         Children {
-            next: Cursor::new(cell.center_at(r)),
+            next,
+            unit: next.unit(),
             left: size_at(cell, r),
         }
     }
 }
 
 impl Iterator for Children {
+    ghost use Rattle.h3_tree.specs.Children.{children_left};
+
     type Item = Cell;
 
     ghost next_gives = { YieldsFirst children_left };
@@ -81,11 +89,11 @@ impl Iterator for Children {
         if self.left == 0 {
             return None;
         }
-        let cell = self.next.cell();
+        let cell = self.next;
         self.left -= 1;
         // After the last cell none is asked for: a list of one cell is common.
         if self.left > 0 {
-            self.next = next_cursor(self.next);
+            self.next = next_cell(self.next, self.unit);
         }
         Some(cell)
     }
@@ -95,7 +103,7 @@ impl Iterator for Children {
 mod tests {
     use super::Children;
     use crate::children;
-    use h3_index::{Cell, Cursor};
+    use h3_index::Cell;
     use std::test::Fail;
 
     fn copy_of<T: Copy>(value: T) -> T {
@@ -112,11 +120,13 @@ mod tests {
     }
 
     #[test]
-    fn children_hold_a_cursor_and_a_count(rt: HostRuntime) -> Result<(), Fail> {
-        let Children { next, left } = children(Cell::new(0x85283473fffffff)?, 6)?;
-        let next: Cursor = next;
+    fn children_hold_a_cell_and_two_numbers(rt: HostRuntime) -> Result<(), Fail> {
+        let Children { next, unit, left } = children(Cell::new(0x85283473fffffff)?, 6)?;
+        let next: Cell = next;
+        let unit: u64 = unit;
         let left: u64 = left;
-        assert_eq!(rt; next.cell().raw(), 0x862834707ffffff);
+        assert_eq!(rt; next.raw(), 0x862834707ffffff);
+        assert_eq!(rt; unit, 0x8000000);
         assert_eq!(rt; left, 7);
         Ok(())
     }

@@ -1,9 +1,13 @@
 //! Laws of the hierarchy of cells. Each function does nothing; what it ensures is a law that holds
 //! always, for the proofs of crates that call it.
 
+ghost use Rattle.std.specs.Prelude.{◌≡◌};
+ghost use Rattle.h3_tree.specs.Children.{children_left};
+ghost use Rattle.h3_tree.specs.declared.iter.Children.{Children};
 ghost use Rattle.h3_tree.specs.Laws.{CellsFormTrees};
 ghost use Rattle.h3_tree.specs.PostOrder.{CellsFormIntervals};
 
+use crate::iter::Children;
 use h3_index::laws::{cuts_are_cells, descendants_are_listed, paths_are_chains};
 
 /// The cells of a base cell form a tree: of two ancestors of a cell one stands above the other,
@@ -21,4 +25,11 @@ pub fn cells_form_trees()
 /// ends at the cell. Among cells of one resolution that order is the order of the numbers.
 pub fn cells_form_intervals()
     ensures { CellsFormIntervals }
+{}
+
+/// A clone of `Children` is made, and has the same cells still to come.
+pub fn clones_go_on()
+    ensures same { (a b : Children) →
+        ⟦<Children as Clone>⟧.is_clone a b → children_left b ≡ children_left a }
+    ensures made { (a : Children) → ⟦<Children as Clone>⟧.is_infallible a }
 {}

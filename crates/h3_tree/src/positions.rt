@@ -1,9 +1,9 @@
 //! Positions: where a cell stands among the descendants of a cell above it, in ascending order,
 //! from 0 on.
 
-ghost use Rattle.std.specs.Prelude.{◌≡◌, ◌+◌, ◌-◌, ◌<◌, ◌≤◌, length, IfOk, Some, slice_get, unsigned_abs};
+ghost use Rattle.std.specs.Prelude.{◌≡◌, ◌+◌, ◌-◌, ◌<◌, ◌≤◌, false, length, IfOk, Some, slice_get, unsigned_abs};
 ghost use Rattle.std.specs.Result.{result_err};
-ghost use Rattle.h3_index.specs.Cell.{Address, IsCell, resolution};
+ghost use Rattle.h3_index.specs.Cell.{Address, IsCell, is_pentagon, resolution};
 ghost use Rattle.h3_index.specs.Descendants.{cut, descendants, IsDescendant};
 ghost use Rattle.h3_tree.specs.Known.{DescendantsAreKnown};
 ghost use Rattle.h3_tree.specs.Positions.{position_under, HasPosition, MembersHavePositions, PositionsHaveMembers};
@@ -12,7 +12,7 @@ ghost use Rattle.h3_tree.specs.Refusals.{parent_refusal, position_refusal};
 use crate::ancestors::parent;
 use crate::descendants::size_at;
 use crate::powers::power_of_seven;
-use h3_index::laws::descendants_are_listed;
+use h3_index::laws::{cuts_are_cells, descendants_are_listed};
 use h3_index::{Cell, H3Error, resolution_from};
 
 /// The laws of the list of the descendants, as one fact; it does nothing.
@@ -99,6 +99,36 @@ fn member_at(position: u64, cell: Cell, r: u8) -> Cell
     member
 }
 
+/// The position of a cell among the descendants of its ancestor at a resolution.
+fn position_below(cell: Cell, ancestor_res: u8) -> u64
+    requires not_finer { ancestor_res ≤ resolution cell }
+    ensures { result ≡ position_under (cut cell ancestor_res) cell }
+{
+    descendants_are_known();
+    cuts_are_cells();
+    let own = cell.resolution();
+    let mut position: u64 = 0;
+    for level in ancestor_res..own {
+        position += before_own(cell.cut(level + 1), own);
+    }
+    position
+}
+
+/// The same where the ancestor is a hexagon: the digits below it, as a number in base 7.
+fn position_below_hexagon(cell: Cell, ancestor_res: u8) -> u64
+    requires not_finer { ancestor_res ≤ resolution cell }
+    requires hexagon { is_pentagon (cut cell ancestor_res) ≡ false }
+    ensures { result ≡ position_under (cut cell ancestor_res) cell }
+{
+    descendants_are_known();
+    cuts_are_cells();
+    let mut position: u64 = 0;
+    for level in ancestor_res..cell.resolution() {
+        position = 7 * position + u64::from(cell.digit(level + 1));
+    }
+    position
+}
+
 /// The position of a cell among the descendants of its ancestor at a resolution, as H3's
 /// `cellToChildPos` gives it: how many of those that have the cell's resolution have a smaller
 /// number than the cell. At the cell's own resolution it is 0.
@@ -110,14 +140,12 @@ pub fn child_pos(cell: Cell, parent_res: i32) -> Result<u64, H3Error>
     ensures is { IfOk result (λ position.
         position ≡ position_under (cut cell (unsigned_abs parent_res)) cell) }
 {
-    descendants_are_known();
     let ancestor = parent(cell, parent_res)?;
-    let own = cell.resolution();
-    let mut position: u64 = 0;
-    for level in ancestor.resolution()..own {
-        position += before_own(cell.cut(level + 1), own);
+    if ancestor.is_pentagon() {
+        Ok(position_below(cell, ancestor.resolution()))
+    } else {
+        Ok(position_below_hexagon(cell, ancestor.resolution()))
     }
-    Ok(position)
 }
 
 /// The descendant of a cell at a resolution that stands at a position, counted from 0, among all of
