@@ -3,6 +3,7 @@
 
 mod compact;
 mod iter;
+pub mod laws;
 mod merge;
 mod order;
 mod rounds;

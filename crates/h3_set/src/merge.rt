@@ -8,7 +8,7 @@ ghost use Rattle.h3_set.specs.Coverage.{IsApart};
 ghost use Rattle.h3_set.specs.Order.{IsInOrder};
 ghost use Rattle.h3_set.specs.Rounds.{InRound};
 
-use crate::order::{are_cells, put_in_order};
+use crate::order::put_in_order;
 use h3_index::Cell;
 use h3_index::laws::numbers_are_unique;
 use h3_tree::laws::{cells_form_intervals, cells_form_trees};
@@ -84,16 +84,17 @@ pub(crate) fn merge_runs(cells: &mut [Cell], level: u8) -> usize
 /// Whether a list has a cell that is the first of its siblings of a resolution.
 fn has_first_sibling(cells: &[Cell], level: u8) -> bool
     requires { 0 < level }
-    ensures valid { IsTrue (not result) → All IsCell cells.now }
+    ensures valid { All IsCell cells.now }
     ensures none { IsTrue (not result)
         → All (λ c. resolution c ≡ level → slice_index_or c.digits (level - 1) 7 ≢ 0) cells.now }
 {
+    let mut found = false;
     for cell in cells {
         if cell.resolution() == level && cell.digit(level) == 0 {
-            return true;
+            found = true;
         }
     }
-    false
+    found
 }
 
 /// Replaces each complete set of siblings of a resolution by the parent, and keeps all other cells.
@@ -113,6 +114,5 @@ pub(crate) fn merge(cells: &mut [Cell], level: u8) -> usize
         return cells.len();
     }
     put_in_order(cells);
-    are_cells(cells);
     merge_runs(cells, level)
 }

@@ -10,15 +10,6 @@ use h3_index::Cell;
 use h3_tree::laws::cells_form_intervals;
 use h3_tree::post_order_key;
 
-/// Ensures that the cells of a list are valid ones; it only reads them.
-pub(crate) fn are_cells(cells: &[Cell])
-    ensures { All IsCell cells.now }
-{
-    for cell in cells {
-        let _ = cell.raw();
-    }
-}
-
 /// Puts cells in order. Where they are in order already, that takes one pass.
 pub(crate) fn put_in_order(cells: &mut [Cell])
     ensures same { IsPermutation cells.old cells.new }
@@ -38,11 +29,11 @@ pub(crate) fn keys_below(cell: Cell) -> u64
 
 /// Whether cells at two places of a list in order overlap: then two neighboring ones do.
 fn has_overlap(cells: &[Cell]) -> bool
-    requires { IsInOrder cells.now }
+    requires valid { All IsCell cells.now }
+    requires in_order { IsInOrder cells.now }
     ensures { result ≡ has_overlap cells.now }
 {
     cells_form_intervals();
-    are_cells(cells);
     for i in 1..cells.len() {
         let before = cells[i - 1];
         let cell = cells[i];
@@ -58,14 +49,14 @@ fn has_overlap(cells: &[Cell]) -> bool
 /// Puts cells in order, and returns whether cells at two places overlap. Where they are known to be
 /// in order with no two that overlap, nothing is to be done.
 pub(crate) fn sort_and_find_overlap(cells: &mut [Cell], rises: bool) -> bool
-    requires { rises ≡ true → AllPairs IsBeforeBlock cells.old }
+    requires valid { All IsCell cells.old }
+    requires rises { rises ≡ true → AllPairs IsBeforeBlock cells.old }
     ensures same { IsPermutation cells.old cells.new }
     ensures in_order { IsInOrder cells.new }
     ensures overlap { result ≡ has_overlap cells.old }
 {
     if rises {
         cells_form_intervals();
-        are_cells(cells);
         return false;
     }
     put_in_order(cells);

@@ -1,8 +1,8 @@
 //! Compaction in rounds, in slots that the caller provides at each call.
 
-ghost use Rattle.std.specs.Prelude.{◌≡◌, ◌≢◌, ◌<◌, ◌≤◌, ◌↔◌, length, take, drop, AllPairs, Contains, IfOk, IsPermutation};
+ghost use Rattle.std.specs.Prelude.{◌≡◌, ◌≢◌, ◌<◌, ◌≤◌, ◌↔◌, length, take, drop, All, AllPairs, Contains, IfOk, IsPermutation};
 ghost use Rattle.std.specs.Result.{result_err};
-ghost use Rattle.h3_index.specs.Cell.{Address, number_of};
+ghost use Rattle.h3_index.specs.Cell.{Address, IsCell, number_of};
 ghost use Rattle.h3_set.specs.Compaction.{level_of, slots_in_use, IsNextLevel, IsStarted, LeadsOn};
 ghost use Rattle.h3_set.specs.Coverage.{IsApart};
 ghost use Rattle.h3_set.specs.Laws.{OneResolutionIsApart, OverlapsAreFound, RoundsReachTheTop};
@@ -11,7 +11,7 @@ ghost use Rattle.h3_set.specs.Refusals.{compaction_refusal};
 ghost use Rattle.h3_set.specs.Rounds.{InRound};
 
 use crate::merge::{merge, merge_runs};
-use crate::order::{are_cells, sort_and_find_overlap};
+use crate::order::sort_and_find_overlap;
 use crate::survey::{finest_up_to, survey};
 use h3_index::{Cell, H3Error};
 use h3_tree::laws::cells_form_trees;
@@ -114,12 +114,12 @@ impl Compaction {
         requires some_level { 0 < level_of self }
         requires room { slots_in_use self ≤ length slots.old }
         requires apart { IsApart (take (slots_in_use self) slots.old) }
+        requires valid { All IsCell (take (slots_in_use self) slots.old) }
         requires in_order { IsInOrder (take (slots_in_use self) slots.old) }
         ensures next { IsNextLevel self slots.old result slots.new }
         ensures in_order { IsInOrder (take (slots_in_use result) slots.new) }
     {
         cells_form_trees();
-        are_cells(&slots[..self.len]);
         let len = merge_runs(&mut slots[..self.len], self.level);
         let level = self.level - 1;
         Compaction { len, level }

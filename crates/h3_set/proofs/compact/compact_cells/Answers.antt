@@ -5,6 +5,7 @@ use Rattle.h3_set.specs.Coverage.{finest, IsCovered}
 use Rattle.h3_set.specs.Rounds.{InPart}
 use Rattle.h3_set.proofs.CompactLaws.{compacts, cover_themselves, drop_later}
 use Rattle.h3_set.proofs.OverlapLaws.{one_resolution, overlaps_found}
+use Rattle.h3_set.proofs.PartLaws.{part_valid}
 use Rattle.h3_set.proofs.PartitionLaws.{in_parts}
 use Rattle.h3_set.proofs.SetLaws.{member_top, one_compacted, top_member}
 use Rattle.h3_set.proofs.StreamLaws.{streams_once}
@@ -27,6 +28,11 @@ loop-slots-preserved c =
       part = rw left.same (left.part c.args.cells.now (finest c.args.cells.now) i.compactable i.small (omega (arith, i.level, after.level)) (after.part c.args.cells.now (finest c.args.cells.now) i.compactable i.small i.level i.part));
       others = drop_later _ _ _ _ i.in_use after.others ∙ i.others;
     }
+
+pub round_in_order-requires-clause-valid : goal.round_in_order-requires-clause-valid
+round_in_order-requires-clause-valid c =
+    let i = c.loop-slots.invariant in
+    part_valid c.args.cells.now _ (finest c.args.cells.now) (level_of c.loop-slots.compaction) i.compactable.cells_valid (λ x m. (i.part x).0 m)
 
 pub returns-clause-others : goal.returns-clause-others
 returns-clause-others c =

@@ -32,7 +32,7 @@ returns-then-post_order_key-keys_below c =
     let back : c.loop-i.i - 1 < length c.args.cells.now = omega (arith, lt) in
     let key_is : key (get_or c.args.cells.now c.loop-i.i d) < key (get_or c.args.cells.now (c.loop-i.i - 1) d) + 8 ^ (15 - resolution (get_or c.args.cells.now c.loop-i.i d)) =
     rw (before c.before d, here c.before d) (omega (arith, c.if-post_order_key-keys_below.true, c.post_order_key.ensures.is, c.post_order_key-in-loop-i.ensures.is, c.keys_below.ensures.is)) in
-    sym (overlap_at cells (i - 1) i d (omega arith) lt (not_before c.cells_form_intervals.ensures _ _ (c.are_cells.ensures (i - 1) d back) (c.are_cells.ensures i d lt) (c.requires (i - 1) i d (omega arith) lt) key_is))
+    sym (overlap_at cells (i - 1) i d (omega arith) lt (not_before c.cells_form_intervals.ensures _ _ (c.requires.valid (i - 1) d back) (c.requires.valid i d lt) (c.requires.in_order (i - 1) i d (omega arith) lt) key_is))
 
 pub loop-i-preserved : goal.loop-i-preserved
 loop-i-preserved c = λ k d pos lt.
@@ -45,4 +45,4 @@ loop-i-preserved c = λ k d pos lt.
 
 pub returns : goal.returns
 returns c =
-    sym (none_where c.args.cells.now (by_neighbors c.cells_form_intervals.ensures c.args.cells.now c.are_cells.ensures c.requires (λ k d pos lt. c.loop-i.invariant k d pos (omega (arith, lt)))))
+    sym (none_where c.args.cells.now (by_neighbors c.cells_form_intervals.ensures c.args.cells.now c.requires.valid c.requires.in_order (λ k d pos lt. c.loop-i.invariant k d pos (omega (arith, lt)))))

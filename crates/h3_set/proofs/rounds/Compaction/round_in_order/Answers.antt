@@ -25,7 +25,7 @@ returns-clause-next c =
     record {
       level = omega arith;
       fewer = omega (arith, whole, c.merge_runs-len.ensures.fewer);
-      apart = stays_apart c.cells_form_trees.ensures old _ c.args.self.level c.requires.apart c.are_cells.ensures (made c) (once c);
+      apart = stays_apart c.cells_form_trees.ensures old _ c.args.self.level c.requires.apart c.requires.valid (made c) (once c);
       others = drop_at c.merge_runs-len.new.cells _ c.args.self.len size;
       part = λ cells r compactable fine le. goes_on c.cells_form_trees.ensures cells old _ r _ c.args.self.level (omega arith) compactable fine le (made c);
     }

@@ -1,4 +1,5 @@
-use Rattle.std.proofs.Common.{◌≡◌, ◌++◌, [], length, take, drop, AllPairs, IsPermutation, arith, refl, sym, ap, subst, ◌∙◌}
+use Rattle.std.proofs.Common.{◌≡◌, ◌++◌, [], length, take, drop, All, AllPairs, IsPermutation, arith, refl, sym, ap, subst, ◌∙◌}
+use Rattle.h3_index.specs.Cell.{IsCell}
 use Rattle.h3_set.specs.Compaction.{HoldsPart}
 use Rattle.h3_set.specs.Coverage.{IsApart, IsCompactable}
 use Rattle.h3_set.specs.Order.{IsBeforeBlock}
@@ -19,8 +20,12 @@ front c = reordered_front c.args.cells.now c.copy_from_slice.new.self c.sort_and
 overlap_found : (c : After-sort_and_find_overlap) → has_overlap c.args.cells.now ≡ c.sort_and_find_overlap.result
 overlap_found c = ap has_overlap (sym (copied_front c.args.cells.now c.copy_from_slice.new.self (drop (length c.args.cells.now) c.args.slots.now) c.copy_from_slice.ensures.after)) ∙ sym c.sort_and_find_overlap.ensures.overlap
 
-pub sort_and_find_overlap-requires : goal.sort_and_find_overlap-requires
-sort_and_find_overlap-requires c = λ t.
+pub sort_and_find_overlap-requires-clause-valid : goal.sort_and_find_overlap-requires-clause-valid
+sort_and_find_overlap-requires-clause-valid c =
+    subst (All IsCell) (sym (copied_front c.args.cells.now c.copy_from_slice.new.self _ c.copy_from_slice.ensures.after)) c.survey-level.ensures.valid
+
+pub sort_and_find_overlap-requires-clause-rises : goal.sort_and_find_overlap-requires-clause-rises
+sort_and_find_overlap-requires-clause-rises c = λ t.
     subst (AllPairs IsBeforeBlock) (sym (copied_front c.args.cells.now c.copy_from_slice.new.self _ c.copy_from_slice.ensures.after)) (c.survey-level.ensures.rises t)
 
 pub returns-clause-started : goal.returns-clause-started

@@ -1,0 +1,20 @@
+//! Laws of compactions and uncompactions. Each function does nothing; what it ensures is a law that
+//! holds always.
+
+ghost use Rattle.std.specs.Prelude.{◌≡◌};
+ghost use Rattle.h3_set.specs.Uncompact.{cells_left};
+ghost use Rattle.h3_set.specs.declared.iter.Uncompact.{Uncompact};
+ghost use Rattle.h3_set.specs.declared.rounds.Compaction.{Compaction};
+
+use crate::iter::Uncompact;
+use crate::rounds::Compaction;
+
+/// A clone of an `Uncompact` is made, and has the same cells still to come; one of a `Compaction`
+/// is made, and is equal to it.
+pub fn clones_go_on<'a>()
+    ensures uncompact { (a b : Uncompact) →
+        ⟦<Uncompact<'a> as Clone>⟧.is_clone a b → cells_left b ≡ cells_left a }
+    ensures uncompact_made { (a : Uncompact) → ⟦<Uncompact<'a> as Clone>⟧.is_infallible a }
+    ensures compaction { (a b : Compaction) → ⟦<Compaction as Clone>⟧.is_clone a b → b ≡ a }
+    ensures compaction_made { (a : Compaction) → ⟦<Compaction as Clone>⟧.is_infallible a }
+{}
