@@ -1,8 +1,11 @@
+pub mod AnsweredLines
 pub mod Blocks
-pub mod GoingOn
+pub mod EndsEach
 pub mod Lengths
 pub mod Lines
 pub mod ListLines
+pub mod Listed
 pub mod Pages
 pub mod PlainLines
+pub mod Split
 pub mod Written

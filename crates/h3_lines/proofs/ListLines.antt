@@ -1,16 +1,12 @@
 -- Lines that end, that go on, and that grow too long.
-use Rattle.std.proofs.Common.{◌≡◌, ℕ, ◌+◌, ◌-◌, ◌<◌, ◌≤◌, ◌==◌, Bool, true, false, not, ◌&&◌, nat_lt, List, [], ◌∷◌, ◌++◌, length, take, drop, get_or, Result, Ok, Err, IsOk, ◌↔◌, if◌then◌else◌, sym, ap, ◌∙◌, refl, subst, append_assoc, append-nil, length-append, length-take, take-append-drop, add-one, arith}
+use Rattle.std.proofs.Common.{◌≡◌, ℕ, ◌+◌, ◌-◌, ◌<◌, ◌≤◌, ◌==◌, Bool, true, false, not, ◌&&◌, List, [], ◌∷◌, ◌++◌, length, take, drop, get_or, Result, Ok, Err, IsOk, ◌↔◌, if◌then◌else◌, sym, ap, ◌∙◌, refl, length-take, take-append-drop, add-one, arith}
 use Rattle.std.proofs.Math.Seq.{drop-cons}
 use Rattle.std.proofs.lemmas.Bool.Decides.{nat_tests}
 use Rattle.std.proofs.lemmas.List.{get_or-take, take_rest}
 use Rattle.std.proofs.lemmas.List.Elements.{All-from_get_or}
 use Rattle.std.proofs.lemmas.List.Sums.{list_all-from_AllPass}
-use Rattle.h3_index.specs.Cell.{Address}
-use Rattle.h3_index.specs.declared.error.H3Error.{H3Error}
-use Rattle.h3_index.specs.declared.error.H3Error.TheVariants.{Failed}
-use Rattle.h3_lines.specs.declared.refusal.Refusal.{Refusal}
-use Rattle.h3_lines.specs.List.{RefusesList, lines_of, listed_cells, said_before, said_by, with_first}
-use Rattle.h3_lines.specs.Reading.{GoesOn, cells_before, is_unended, listed_after}
+use Rattle.h3_lines.specs.List.{lines_of, with_first}
+use Rattle.h3_lines.specs.Reading.{is_unended}
 
 both : (b n : Bool) → (not b && n) ≡ true → (b ≡ false) × (n ≡ true)
 both true n h = absurd (cc)
@@ -42,7 +38,7 @@ longer : (b : ℕ) (bytes q : List ℕ) (ls : List (List ℕ)) → (b == 10) ≡
 longer b bytes q ls n e = rw (n, e) refl
 
 -- a line that goes on begins with what came of it
-line_goes_on : (line rest : List ℕ) → is_unended line ≡ true → (q : List ℕ) × (ls : List (List ℕ)) × (lines_of (line ++ rest) ≡ (line ++ q) ∷ ls)
+pub line_goes_on : (line rest : List ℕ) → is_unended line ≡ true → (q : List ℕ) × (ls : List (List ℕ)) × (lines_of (line ++ rest) ≡ (line ++ q) ∷ ls)
 line_goes_on [] rest h = first_line rest
 line_goes_on (b ∷ bs) rest h =
     let (other, more) = both (b == 10) (is_unended bs) h in
@@ -54,64 +50,6 @@ is_unended-append [] bytes h k = k
 is_unended-append (b ∷ bs) bytes h k =
     let (other, more) = both (b == 10) (is_unended bs) h in
     rw other (is_unended-append bs bytes more k)
-
--- ---- the list
-
-listed_at_end : (cells : List Address) (line : List ℕ) → is_unended line ≡ true
-    → listed_after cells line [] ≡ cells_before cells (said_before (said_by line) (Ok []))
-listed_at_end cells line h = rw (append-nil line, lines_at_end line h) refl
-
-too_long : (line : List ℕ) → 64 < length line → said_by line ≡ Err Failed
-too_long line h = let test : nat_lt 64 (length line) ≡ true = grind (arith, nat_tests) in rw test refl
-
-pub listed_too_long : (cells : List Address) (line bytes rest : List ℕ) → is_unended line ≡ true → is_unended bytes ≡ true → 64 < length line + length bytes
-    → listed_after cells line (bytes ++ rest) ≡ Err Failed
-listed_too_long cells line bytes rest h k full =
-    let (q, ls, e) = line_goes_on (line ++ bytes) rest (is_unended-append line bytes h k) in
-    let long : 64 < length ((line ++ bytes) ++ q) = simp length-append (omega arith) in
-    let regroup : line ++ (bytes ++ rest) ≡ (line ++ bytes) ++ rest = sym (append_assoc line bytes rest) in
-    rw (regroup, e, too_long _ long) refl
-
--- the list before its first byte
-pub listed_from_start : (cells : List Address) (line bytes : List ℕ) → cells ≡ [] → line ≡ [] → listed_after cells line bytes ≡ listed_cells bytes
-listed_from_start cells line bytes e f =
-    rw (e, f) (elim (listed_cells bytes) as (λ r. cells_before [] r ≡ r) [ Ok found ↦ refl | Err d ↦ refl ])
-
--- ---- what the end of a line gives
-
-listed_ended : (cells kept : List Address) (line bytes whole rest : List ℕ) → kept ≡ cells → whole ≡ line ++ bytes → is_unended line ≡ true → is_unended bytes ≡ true
-    → listed_after cells line (bytes ++ 10 ∷ rest) ≡ cells_before kept (said_before (said_by whole) (listed_cells rest))
-listed_ended cells kept line bytes whole rest same is h k =
-    let regroup : line ++ (bytes ++ 10 ∷ rest) ≡ (line ++ bytes) ++ 10 ∷ rest = sym (append_assoc line bytes (10 ∷ rest)) in
-    rw (same, is, regroup, lines_at_feed (line ++ bytes) rest (is_unended-append line bytes h k)) refl
-
-pub line_taken : (cells kept cells' : List Address) (line bytes whole line' : List ℕ) → kept ≡ cells → whole ≡ line ++ bytes → is_unended line ≡ true → is_unended bytes ≡ true → line' ≡ []
-    → ((later : Result (List Address) H3Error) → cells_before kept (said_before (said_by whole) later) ≡ cells_before cells' later)
-    → (rest : List ℕ) → GoesOn cells line (bytes ++ 10 ∷ rest) cells' line' rest
-line_taken cells kept cells' line bytes whole line' same is h k none taken rest =
-    let regroup : line ++ (bytes ++ 10 ∷ rest) ≡ (line ++ bytes) ++ 10 ∷ rest = sym (append_assoc line bytes (10 ∷ rest)) in
-    let ends : lines_of (line ++ (bytes ++ 10 ∷ rest)) ≡ (line ++ bytes) ∷ lines_of rest = ap lines_of regroup ∙ lines_at_feed (line ++ bytes) rest (is_unended-append line bytes h k) in
-    record {
-      ended = whole ∷ [];
-      lines = rw (none, is) ends;
-      said = λ later. ap (λ found. cells_before found (said_before (said_by whole) later)) (sym same) ∙ taken later;
-    }
-
-pub line_refused : (cells kept : List Address) (line bytes whole : List ℕ) → kept ≡ cells → whole ≡ line ++ bytes → is_unended line ≡ true → is_unended bytes ≡ true → (e : Refusal)
-    → ((later : Result (List Address) H3Error) → RefusesList ⊥ (cells_before kept (said_before (said_by whole) later)) e)
-    → (rest : List ℕ) → RefusesList ⊥ (listed_after cells line (bytes ++ 10 ∷ rest)) e
-line_refused cells kept line bytes whole same is h k e refused rest =
-    subst (λ list. RefusesList ⊥ list e) (sym (listed_ended cells kept line bytes whole rest same is h k)) (refused (listed_cells rest))
-
-pub last_taken : (cells cells' : List Address) (line whole : List ℕ) → whole ≡ line → is_unended line ≡ true
-    → ((later : Result (List Address) H3Error) → cells_before cells (said_before (said_by whole) later) ≡ cells_before cells' later) → listed_after cells line [] ≡ Ok cells'
-last_taken cells cells' line whole is h taken =
-    listed_at_end cells line h ∙ ap (λ l. cells_before cells (said_before (said_by l) (Ok []))) (sym is) ∙ taken (Ok []) ∙ ap Ok (append-nil cells')
-
-pub last_refused : (cells : List Address) (line whole : List ℕ) → whole ≡ line → is_unended line ≡ true → (e : Refusal)
-    → ((later : Result (List Address) H3Error) → RefusesList ⊥ (cells_before cells (said_before (said_by whole) later)) e) → RefusesList ⊥ (listed_after cells line []) e
-last_refused cells line whole is h e refused =
-    subst (λ list. RefusesList ⊥ list e) (sym (listed_at_end cells line h ∙ ap (λ l. cells_before cells (said_before (said_by l) (Ok []))) (sym is))) (refused (Ok []))
 
 -- ---- the first line feed
 
@@ -140,10 +78,3 @@ split_whole bytes k within is = rw (take_rest bytes (k + 1)) (split_at_feed byte
 pub no_room : {T E : Type 0} (r : Result T E) (e : E) (n : ℕ) → r ≡ Err e → (IsOk r ↔ (n ≤ 64)) → 64 < n
 no_room (Ok u) e n is fits = absurd (cc)
 no_room (Err d) e n is fits = let no : n ≤ 64 → ⊥ = λ h. (let never = fits.1 h in cc) in omega (arith, no)
-
--- a refusal of a line is one of the page that it is in
-pub page_refused : (whole : Result (List Address) H3Error) (cells : List Address) (before bytes line after rest : List ℕ) (e : Refusal)
-    → whole ≡ listed_after cells before (bytes ++ rest) → bytes ≡ line ++ 10 ∷ after → RefusesList ⊥ (listed_after cells before (line ++ 10 ∷ (after ++ rest))) e → RefusesList ⊥ whole e
-page_refused whole cells before bytes line after rest e is split refused =
-    let regroup : bytes ++ rest ≡ line ++ 10 ∷ (after ++ rest) = ap (λ l. l ++ rest) split ∙ append_assoc line (10 ∷ after) rest in
-    subst (λ list. RefusesList ⊥ list e) (sym (is ∙ ap (listed_after cells before) regroup)) refused

@@ -8,7 +8,7 @@ use Rattle.h3_lines.specs.Answer.{Answer, before, refused, written}
 use Rattle.h3_lines.specs.Refusal.{refusal_line, refusal_status}
 use Rattle.h3_lines.specs.Writing.{AppendsPart, IsErrorAlone, Reports, SinkUse, Takes, TakesPart, Writes, sink_use}
 use Rattle.h3_lines.specs.declared.refusal.Refusal.{Refusal}
-use Rattle.h3_lines.specs.declared.refusal.Refusal.TheVariants.{Error, Memory, Read, Write, Table, TableOpen}
+use Rattle.h3_lines.specs.declared.refusal.Refusal.TheVariants.{Error, At, Memory, Read, Write, Table, TableOpen}
 
 -- ---- `Writes`, by how a run ends
 
@@ -60,6 +60,7 @@ module _ {S : Type 0} (taken : S → Option (List ℕ)) (failed : S → Bool) (f
   unfolding Writes
   writes_after a done (Ok u) grown same w = (w.0, (Appends-trans (taken first) (taken mid) (taken last) done a.output grown w.1.0, w.1.1 ∙ same))
   writes_after a done (Err (Error e)) grown same w = (w.0, (Appends-trans (taken first) (taken mid) (taken last) done a.output grown w.1.0, w.1.1 ∙ same))
+  writes_after a done (Err (At line e)) grown same w = (w.0, (Appends-trans (taken first) (taken mid) (taken last) done a.output grown w.1.0, w.1.1 ∙ same))
   writes_after a done (Err (Table e)) grown same w = (w.0, (Appends-trans (taken first) (taken mid) (taken last) done a.output grown w.1.0, w.1.1 ∙ same))
   writes_after a done (Err Memory) grown same never = absurd never
   writes_after a done (Err Read) grown same never = absurd never
@@ -84,6 +85,7 @@ begins_part b bytes out some p failed = (
 pub fault_before : (e : H3Error) (bytes : List ℕ) (r : Refusal) (out : SinkUse) → 0 < length bytes → Writes (written bytes) (Err r) out → Writes (before bytes (refused e)) (Err r) out
 unfolding Writes
 fault_before e bytes (Error d) out some w = absurd (whole_has_no_error bytes (Error d) w.0)
+fault_before e bytes (At line d) out some w = absurd (whole_has_no_error bytes (At line d) w.0)
 fault_before e bytes (Table d) out some w = absurd (whole_has_no_error bytes (Table d) w.0)
 fault_before e bytes Memory out some never = absurd never
 fault_before e bytes Read out some never = absurd never

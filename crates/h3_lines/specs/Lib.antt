@@ -1,8 +1,13 @@
 pub mod Answer
+pub mod Answering
 pub mod Beginning
+pub mod EachLaws
+pub mod EachLine
 pub mod Examples
 pub mod List
+pub mod ListLaws
 pub mod Reading
 pub mod Reads
 pub mod Refusal
+pub mod Splitting
 pub mod Writing

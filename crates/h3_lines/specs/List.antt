@@ -6,7 +6,7 @@ use Rattle.h3_index.specs.Text.{parsed_index, trimmed}
 use Rattle.h3_index.specs.declared.error.H3Error.{H3Error}
 use Rattle.h3_index.specs.declared.error.H3Error.TheVariants.{Failed, CellInvalid}
 use Rattle.h3_lines.specs.declared.refusal.Refusal.{Refusal}
-use Rattle.h3_lines.specs.declared.refusal.Refusal.TheVariants.{Error, Memory, Read, Write, Table, TableOpen}
+use Rattle.h3_lines.specs.declared.refusal.Refusal.TheVariants.{Error, At, Memory, Read, Write, Table, TableOpen}
 
 -- ---- lines
 
@@ -59,6 +59,7 @@ listed_cells bytes = cells_said (lines_of bytes)
 -- where reads fail
 abbrev pub RefusesList : Type 0 → Result (List Address) H3Error → Refusal → Type 0
 RefusesList read_fails list (Error e) = list ≡ Err e
+RefusesList read_fails list (At line e) = ⊥
 RefusesList read_fails list Memory = ⊤
 RefusesList read_fails list Read = read_fails
 RefusesList read_fails list Write = ⊥

@@ -8,11 +8,15 @@ use Rattle.h3_lattice.specs.declared.direction.Direction.{Direction}
 use Rattle.h3_lattice.specs.declared.error.TableError.{TableError}
 use Rattle.h3_lattice.specs.declared.error.TableError.TheVariants as fault
 use Rattle.h3_lines.specs.declared.refusal.Refusal.{Refusal}
-use Rattle.h3_lines.specs.declared.refusal.Refusal.TheVariants.{Error, Memory, Read, Write, Table, TableOpen}
+use Rattle.h3_lines.specs.declared.refusal.Refusal.TheVariants.{Error, At, Memory, Read, Write, Table, TableOpen}
 
 -- the number of an H3 error and its name, as `error 9: E_PENTAGON`
 abbrev pub error_line : H3Error → List ℕ
 error_line e = codes "error " ++ decimal (error_number e) ++ codes ": " ++ error_name e ++ 10 ∷ []
+
+-- the same at a line of a list, as `line 1042: error 5: E_CELL_INVALID`
+abbrev pub error_line_at : ℕ → H3Error → List ℕ
+error_line_at line e = codes "line " ++ decimal line ++ codes ": " ++ error_line e
 
 -- words and a number, as `table: form 5`
 abbrev pub numbered_line : List ℕ → ℕ → List ℕ
@@ -41,6 +45,7 @@ table_line (fault.Corner base d) = link_line (codes "table: corner ") base d
 -- the line of a refusal, ended by a line feed
 abbrev pub refusal_line : Refusal → List ℕ
 refusal_line (Error e) = error_line e
+refusal_line (At line e) = error_line_at line e
 refusal_line Memory = error_line MemoryAlloc
 refusal_line Read = read_fault_line
 refusal_line Write = codes "fault: write" ++ 10 ∷ []
@@ -50,6 +55,7 @@ refusal_line TableOpen = codes "table: open" ++ 10 ∷ []
 -- 1 for an H3 error, 3 for an error of a base cell table, and 4 for a fault of a stream
 abbrev pub refusal_status : Refusal → ℕ
 refusal_status (Error e) = 1
+refusal_status (At line e) = 1
 refusal_status Memory = 1
 refusal_status Read = 4
 refusal_status Write = 4

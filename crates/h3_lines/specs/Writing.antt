@@ -6,7 +6,7 @@ use Rattle.h3_lines.specs.Answer.{Answer}
 use Rattle.h3_lines.specs.Beginning.{SomeBeginning}
 use Rattle.h3_lines.specs.Refusal.{ending_line, ending_status}
 use Rattle.h3_lines.specs.declared.refusal.Refusal.{Refusal}
-use Rattle.h3_lines.specs.declared.refusal.Refusal.TheVariants.{Error, Memory, Read, Write, Table, TableOpen}
+use Rattle.h3_lines.specs.declared.refusal.Refusal.TheVariants.{Error, At, Memory, Read, Write, Table, TableOpen}
 
 -- There is a state of the sink in which it has taken these bytes, with no failed call, and in the new one they are kept or
 -- no longer known, as by a flush that fails. A function over any sink knows of such a state only by pushing the bytes.
@@ -60,6 +60,7 @@ IsErrorAlone a = (a.output ≡ []) × IsErr a.ending
 unfoldable pub Writes : Answer → Result (Unit {0}) Refusal → SinkUse → Type 0
 Writes a (Ok u) out = (a.ending ≡ Ok u) × Takes out a.output
 Writes a (Err (Error e)) out = (a.ending ≡ Err (Error e)) × Takes out a.output
+Writes a (Err (At line e)) out = (a.ending ≡ Err (At line e)) × Takes out a.output
 Writes a (Err (Table e)) out = (a.ending ≡ Err (Table e)) × Takes out a.output
 Writes a (Err Memory) out = ⊥
 Writes a (Err Read) out = ⊥

@@ -2,12 +2,16 @@
 //! with the line and the exit status of each.
 #![tactic(auto)]
 
+mod each;
 mod ending;
+pub mod laws;
 mod line;
 mod list;
 mod refusal;
+mod splitting;
 mod write;
 
+pub use each::{IndexFunction, answer_each, put_result};
 pub use ending::report;
 pub use line::{BLOCK, Line, ROOM};
 pub use list::read_cells;

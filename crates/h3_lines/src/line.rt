@@ -44,16 +44,21 @@ fn put_ended(block: &mut [u8; BLOCK], at: usize, bytes: &[u8], count: usize, end
 impl Line for bool {
     ghost line_of = { truth_line };
 
+    #[inline(always)]
     fn put(&self, block: &mut [u8; BLOCK], at: usize) -> usize {
-        let text = if *self { "true" } else { "false" };
-        put_ended(block, at, text.as_bytes(), text.len(), b'\n')
+        let (text, count) = if *self { (b"true ", 4) } else { (b"false", 5) };
+        put_ended(block, at, text, count, b'\n')
     }
 }
 
 impl Line for u64 {
     ghost line_of = { number_line };
 
+    #[inline(always)]
     fn put(&self, block: &mut [u8; BLOCK], at: usize) -> usize {
+        if *self < 10 {
+            return put_ended(block, at, &[b'0' + *self as u8], 1, b'\n');
+        }
         let mut buffer = Buffer::new();
         let text = buffer.format(*self);
         put_ended(block, at, text.as_bytes(), text.len(), b'\n')

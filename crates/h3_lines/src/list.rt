@@ -1,26 +1,20 @@
 //! Lists of cells, one a line.
 
-ghost use Rattle.std.specs.Prelude.{◌≡◌, ◌≢◌, ◌≤◌, ◌<◌, ◌*◌, ◌^◌, ◌⊎◌, ℕ, true, false, List, [], ◌∷◌, ◌++◌, length, Some, Result, Ok, IsOk, IfOk, IfErr, IfSome, IfNone, OnOk, IsErrOf};
+ghost use Rattle.std.proofs.Common.{refl};
+ghost use Rattle.std.specs.Prelude.{◌≡◌, ◌≢◌, ◌≤◌, ◌<◌, ◌*◌, ◌^◌, ◌⊎◌, ⊤, ℕ, true, false, List, [], length, Some, Result, Ok, IsOk, IfOk, IfErr, OnOk, IsErrOf};
 ghost use Rattle.h3_index.specs.Cell.{Address};
 ghost use Rattle.h3_index.specs.CellNumber.{cell_in};
 ghost use Rattle.h3_index.specs.Stream.{HasLeft};
 ghost use Rattle.h3_index.specs.declared.error.H3Error.{H3Error};
-ghost use Rattle.h3_lines.specs.Beginning.{SomeBeginning};
 ghost use Rattle.h3_lines.specs.List.{RefusesList, listed_cells, said_before, said_by, said_by_cell};
-ghost use Rattle.h3_lines.specs.Reading.{GoesOn, IsKnownFaultyAfter, IsPlainLine, StopsAfter, cells_before, is_unended, listed_after};
+ghost use Rattle.h3_lines.specs.ListLaws.{gives_then, refuses_after};
+ghost use Rattle.h3_lines.specs.Reading.{GivesCells, RefusesLines, cells_before};
 ghost use Rattle.h3_lines.specs.Reads.{IsListWithinReads, IsWithinReads, StopsAtFault};
 
 use crate::refusal::Refusal;
-use arrayvec::ArrayVec;
-use h3_index::{Cell, CountedReader, H3Error, Source, is_blank_text, read_index, read_plain};
-use memchr::memchr;
+use crate::splitting::{LONGEST_LINE, LineTaker, take_lines};
+use h3_index::{Cell, CountedReader, H3Error, Source, is_blank_text, read_index};
 use std::alloc::Global;
-
-/// The bytes that a line may have.
-const LONGEST_LINE: usize = 64;
-
-/// The digits of a plain line: those of a cell's index.
-const PLAIN: usize = 15;
 
 /// The bytes that are read at once.
 const PAGE: usize = 65536;
@@ -67,188 +61,44 @@ fn take_said(cells: &mut Vec<Cell>, said: Result<Option<Cell>, H3Error>) -> Resu
     }
 }
 
-/// Adds the cell of a line, if it has one, to the cells.
-fn take_line(cells: &mut Vec<Cell>, line: &[u8]) -> Result<(), Refusal>
-    ensures ok { OnOk result ((later : Result (List Address) H3Error) →
-        cells_before cells.old.items (said_before (said_by line.now) later)
-        ≡ cells_before cells.new.items later) }
-    ensures err { IfErr result (λ e. (later : Result (List Address) H3Error) →
-        RefusesList ⊥ (cells_before cells.old.items (said_before (said_by line.now) later)) e) }
-{
-    take_said(cells, read_line(line))
-}
-
-/// The index of the plain line that bytes begin with, fifteen digits in lower case and a line feed,
-/// and the bytes after it.
-#[inline(always)]
-fn plain_line(bytes: &[u8]) -> Option<(u64, &[u8])>
-    ensures { IfSome result (λ p. IsPlainLine bytes.now p.0 p.1.now) }
-{
-    if bytes.len() <= PLAIN || bytes[PLAIN] != b'\n' {
-        return None;
-    }
-    let index = read_plain(&bytes[..PLAIN])?;
-    Some((index, &bytes[PLAIN + 1..]))
-}
-
-/// The bytes before the first line feed, and those after it.
-fn split_line(bytes: &[u8]) -> Option<(&[u8], &[u8])>
-    ensures ended { IfSome result (λ p.
-        (is_unended p.0.now ≡ true) × (bytes.now ≡ p.0.now ++ 10 ∷ p.1.now)) }
-    ensures unended { IfNone result (is_unended bytes.now ≡ true) }
-{
-    let end = memchr(b'\n', bytes)?;
-    Some((&bytes[..end], &bytes[end + 1..]))
-}
-
-/// The cells of the lines so far, and the beginning of a line that is not ended yet.
+/// The cells of the lines so far.
 #[derive(Drop)]
-struct ListReader {
+struct ListedCells {
     cells: Vec<Cell>,
-    line: ArrayVec<u8, LONGEST_LINE>,
-    ghost unended: { is_unended line.items ≡ true },
-    ghost short: { length line.items ≤ 64 },
 }
 
-impl ListReader {
-    fn new(alloc: Global) -> Self
-        ensures cells { result.cells.items ≡ [] }
-        ensures line { result.line.items ≡ [] }
-    {
-        ListReader {
-            cells: Vec::new(alloc),
-            line: ArrayVec::new(),
-        }
+impl LineTaker for ListedCells {
+    ghost count = { λ v. 0 };
+
+    ghost settled = { λ v. ⊤ };
+
+    ghost taken = { λ v lines w. GivesCells v.cells.items lines w.cells.items };
+
+    ghost refused = { λ v lines w e. RefusesLines v.cells.items lines e };
+
+    fn take(&mut self, line: &[u8]) -> Result<(), Refusal> {
+        take_said(&mut self.cells, read_line(line))
     }
 
-    /// Keeps more bytes of the line, which is faulty once it has more than it may have.
-    fn keep(&mut self, bytes: &[u8]) -> Result<(), Refusal>
-        requires { is_unended bytes.now ≡ true }
-        ensures line { OnOk result (self.new.line.items ≡ self.old.line.items ++ bytes.now) }
-        ensures cells { self.new.cells.items ≡ self.old.cells.items }
-        ensures err { IfErr result (λ e. (rest : List ℕ) →
-            RefusesList ⊥
-            (listed_after self.old.cells.items self.old.line.items (bytes.now ++ rest)) e) }
-    {
-        match self.line.try_extend_from_slice(bytes) {
-            Ok(()) => Ok(()),
-            Err(_) => Err(Refusal::Error(H3Error::Failed)),
-        }
+    #[inline(always)]
+    fn take_index(&mut self, index: u64) -> Result<(), Refusal> {
+        take_said(&mut self.cells, cell_with(index))
     }
 
-    /// Ends the line by these bytes, and takes what it says.
-    fn end_line(&mut self, bytes: &[u8]) -> Result<(), Refusal>
-        requires { is_unended bytes.now ≡ true }
-        ensures ok { OnOk result ((rest : List ℕ) →
-            GoesOn self.old.cells.items self.old.line.items (bytes.now ++ 10 ∷ rest)
-            self.new.cells.items self.new.line.items rest) }
-        ensures err { IfErr result (λ e. (rest : List ℕ) →
-            RefusesList ⊥
-            (listed_after self.old.cells.items self.old.line.items (bytes.now ++ 10 ∷ rest)) e) }
-    {
-        if self.line.is_empty() {
-            return take_line(&mut self.cells, bytes);
-        }
-        self.keep(bytes)?;
-        take_line(&mut self.cells, self.line.as_slice())?;
-        self.line.clear();
+    fn refuse_long(&mut self) -> Refusal {
+        Refusal::Error(H3Error::Failed)
+    }
+
+    #[inline(always)]
+    fn settle(&mut self) -> Result<(), Refusal> {
         Ok(())
     }
 
-    /// Takes the plain lines that a page begins with, unless a line is begun, and returns the bytes
-    /// after them. They are neither copied nor searched for their end.
-    #[inline(always)]
-    fn take_plain<'b>(&mut self, page: &'b [u8]) -> Result<&'b [u8], Refusal>
-        ensures ok { IfOk result (λ left. (rest : List ℕ) →
-            GoesOn self.old.cells.items self.old.line.items (page.now ++ rest)
-            self.new.cells.items self.new.line.items (left.now ++ rest)) }
-        ensures fewer { IfOk result (λ left. length left.now ≤ length page.now) }
-        ensures err { IfErr result (λ e. (rest : List ℕ) →
-            RefusesList ⊥
-            (listed_after self.old.cells.items self.old.line.items (page.now ++ rest)) e) }
-    {
-        let mut bytes = page;
-        let at_start = self.line.is_empty();
-        if at_start {
-            while let Some((index, after)) = plain_line(bytes) {
-                take_said(&mut self.cells, cell_with(index))?;
-                bytes = after;
-            }
-        }
-        Ok(bytes)
-    }
+    ghost none_taken = { λ v later. refl };
 
-    /// Takes the lines that end in a page, and keeps the beginning of the next one.
-    fn take(&mut self, page: &[u8]) -> Result<(), Refusal>
-        ensures ok { OnOk result ((rest : List ℕ) →
-            GoesOn self.old.cells.items self.old.line.items (page.now ++ rest)
-            self.new.cells.items self.new.line.items rest) }
-        ensures err { IfErr result (λ e. (rest : List ℕ) →
-            RefusesList ⊥
-            (listed_after self.old.cells.items self.old.line.items (page.now ++ rest)) e) }
-    {
-        let mut bytes = self.take_plain(page)?;
-        while let Some((line, after)) = split_line(bytes) {
-            self.end_line(line)?;
-            bytes = self.take_plain(after)?;
-        }
-        self.keep(bytes)
-    }
+    ghost taken_then = { λ u v w xs ys p q. gives_then _ _ _ xs ys p q };
 
-    /// Ends the last line.
-    fn finish(self) -> Result<Vec<Cell>, Refusal>
-        ensures ok { IfOk result (λ cells.
-            listed_after self.cells.items self.line.items [] ≡ Ok cells.items) }
-        ensures err { IfErr result (λ e.
-            RefusesList ⊥ (listed_after self.cells.items self.line.items []) e) }
-    {
-        let ListReader { mut cells, line } = self;
-        take_line(&mut cells, line.as_slice())?;
-        Ok(cells)
-    }
-}
-
-/// Takes all pages of a source.
-fn read_pages<'a, R: Source>(
-    list: &mut ListReader,
-    reader: &mut CountedReader<'a, R>,
-    page: &mut [u8],
-) -> Result<(), Refusal>
-    requires room { 0 < length page.old }
-    ensures ok { OnOk result ((bytes : List ℕ) × HasLeft (R.left reader.old.source.now) bytes ×
-        IsWithinReads reader.old.reads_left (length page.old) bytes ×
-        GoesOn list.old.cells.items list.old.line.items bytes
-        list.new.cells.items list.new.line.items []) }
-    ensures whole { OnOk result ((bytes : List ℕ) → R.left reader.old.source.now ≡ Some bytes →
-        (R.left reader.new.source.now ≡ Some []) ×
-        GoesOn list.old.cells.items list.old.line.items bytes
-        list.new.cells.items list.new.line.items []) }
-    ensures err { IfErr result (λ e.
-        (bytes : List ℕ) × HasLeft (R.left reader.old.source.now) bytes ×
-        RefusesList
-        ((R.has_failed reader.new.source.now ≡ true) ⊎ (reader.old.reads_left ≤ length bytes))
-        (listed_after list.old.cells.items list.old.line.items bytes) e ×
-        (e ≢ Refusal.Read → e ≢ Refusal.Memory → SomeBeginning
-        (λ part. IsKnownFaultyAfter list.old.cells.items list.old.line.items part ×
-        (length part ≤ reader.old.reads_left * length page.old)) bytes)) }
-    ensures stops { IfErr result (λ e.
-        (e ≡ Refusal.Read → R.has_failed reader.new.source.now ≡ false) →
-        (bytes : List ℕ) → R.left reader.old.source.now ≡ Some bytes →
-        (left : List ℕ) × (R.left reader.new.source.now ≡ Some left) ×
-        StopsAfter list.old.cells.items list.old.line.items (length page.old) bytes left) }
-    ensures sound { ¬ (IsErrOf result Refusal.Read) →
-        R.has_failed reader.new.source.now ≡ R.has_failed reader.old.source.now }
-    ensures same { reader.new.source.ghost_name ≡ reader.old.source.ghost_name }
-{
-    loop {
-        let Ok(count) = reader.read(page) else {
-            return Err(Refusal::Read);
-        };
-        if count == 0 {
-            return Ok(());
-        }
-        list.take(&page[..count])?;
-    }
+    ghost refused_then = { λ u v w xs ys e p q. refuses_after _ _ xs ys e p q };
 }
 
 /// Reads a list in at most a given number of reads, each to a page.
@@ -259,6 +109,7 @@ fn read_list<R: Source>(
     page: &mut [u8],
 ) -> Result<Vec<Cell>, Refusal>
     requires room { 0 < length page.old }
+    requires few { limit * length page.old < 2 ^ 62 }
     ensures cells { IfOk result (λ cells. (list : List ℕ) × HasLeft (R.left input.old) list ×
         IsWithinReads limit (length page.old) list × (listed_cells list ≡ Ok cells.items)) }
     ensures refused { IfErr result (λ e. (list : List ℕ) × HasLeft (R.left input.old) list ×
@@ -274,16 +125,16 @@ fn read_list<R: Source>(
     ensures sound { ¬ (IsErrOf result Refusal.Read)
         → R.has_failed input.new ≡ R.has_failed input.old }
 {
-    let mut list = ListReader::new(alloc);
-    let mut reader = CountedReader {
-        source: &mut *input,
-        reads_left: limit,
+    let mut list = ListedCells {
+        cells: Vec::new(alloc),
     };
-    let read = read_pages(&mut list, &mut reader, page);
+    let mut reader = CountedReader::new(&mut *input, limit);
+    let read = take_lines(&mut list, &mut reader, page);
     // The proof reads what the source is after the reads from this use of it.
     let _ = &*input;
     read?;
-    list.finish()
+    let ListedCells { cells } = list;
+    Ok(cells)
 }
 
 /// Reads a list of cells, one a line, to its end or its first faulty line.

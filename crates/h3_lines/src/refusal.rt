@@ -1,7 +1,7 @@
 //! The errors that end a run, with the line and the exit status of each.
 
 ghost use Rattle.std.specs.Prelude.{◌≡◌, ◌≤◌, length};
-ghost use Rattle.h3_lines.specs.Refusal.{error_line, link_line, numbered_line, read_fault_line, table_line};
+ghost use Rattle.h3_lines.specs.Refusal.{error_line, error_line_at, link_line, numbered_line, read_fault_line, table_line};
 
 use arrayvec::ArrayString;
 use h3_index::{H3Error, StreamFault};
@@ -16,6 +16,9 @@ const LINE_ROOM: usize = 80;
 pub enum Refusal {
     /// A call gave an H3 error.
     Error(H3Error),
+
+    /// A call gave an H3 error at a line of a list. The first line is 1, and blank lines count.
+    At(u64, H3Error),
 
     /// Out of memory, which H3 has an error for.
     Memory,
@@ -43,6 +46,7 @@ impl Refusal {
     {
         match self {
             Refusal::Error(error) => error_line(*error),
+            Refusal::At(line, error) => error_line_at(*line, *error),
             Refusal::Memory => error_line(H3Error::MemoryAlloc),
             Refusal::Read => read_fault_line(),
             Refusal::Write => fixed_line("fault: write\n"),
@@ -56,7 +60,7 @@ impl Refusal {
         ensures { result ≡ refusal_status self.now }
     {
         match self {
-            Refusal::Error(_) | Refusal::Memory => 1,
+            Refusal::Error(_) | Refusal::At(_, _) | Refusal::Memory => 1,
             Refusal::Table(TableError::Memory) => 1,
             Refusal::Table(TableError::Read) => 4,
             Refusal::Table(_) | Refusal::TableOpen => 3,
@@ -104,7 +108,8 @@ impl From<TableError> for Refusal {
 
 /// The line of an H3 error.
 fn error_line(error: H3Error) -> ArrayString<LINE_ROOM>
-    ensures { result.bytes ≡ error_line error }
+    ensures line { result.bytes ≡ error_line error }
+    ensures short { length result.bytes ≤ 32 }
 {
     let mut number = Buffer::new();
     let mut line = ArrayString::new();
@@ -113,6 +118,19 @@ fn error_line(error: H3Error) -> ArrayString<LINE_ROOM>
     line.push_str(": ");
     line.push_str(error.name());
     line.push_str("\n");
+    line
+}
+
+/// The line of an H3 error at a line of a list.
+fn error_line_at(number: u64, error: H3Error) -> ArrayString<LINE_ROOM>
+    ensures { result.bytes ≡ error_line_at number error }
+{
+    let mut decimal = Buffer::new();
+    let mut line = ArrayString::new();
+    line.push_str("line ");
+    line.push_str(decimal.format(number));
+    line.push_str(": ");
+    line.push_str(error_line(error).as_str());
     line
 }
 
@@ -189,6 +207,9 @@ mod tests {
         let refusals = [
             Refusal::Error(H3Error::Failed),
             Refusal::Error(H3Error::MemoryAlloc),
+            Refusal::At(1, H3Error::Failed),
+            Refusal::At(1, H3Error::MemoryAlloc),
+            Refusal::At(2, H3Error::Failed),
             Refusal::Memory,
             Refusal::Read,
             Refusal::Write,

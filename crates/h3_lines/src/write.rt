@@ -138,6 +138,3 @@ pub fn write_walk<W: Sink, L: Line + Drop, I: Iterator<Item = Result<L, H3Error>
     }
     write_answer(out, &block[..end])
 }
-
-#[cfg(test)]
-mod tests;

@@ -2,7 +2,7 @@ use Rattle.std.proofs.Common.{rules, ◌≡◌, length, arith}
 use Rattle.std.proofs.lemmas.Grind.{common_steps}
 use Rattle.std.proofs.lemmas.Result.{err_from_is_err_and, IfErr-weaker, IfOk-weaker}
 use Rattle.h3_lines.specs.declared.refusal.Refusal.TheVariants.{Memory}
-use Rattle.h3_lines.proofs.GoingOn.{stops_at_start}
+use Rattle.h3_lines.proofs.Listed.{stops_at_start}
 use Rattle.h3_lines.proofs.Pages.{some_held}
 use Rattle.h3_lines.proofs.list.read_cells.Goals as goal
 

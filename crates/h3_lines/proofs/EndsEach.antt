@@ -1,0 +1,149 @@
+-- How the answering of the lines of a list ends.
+use Rattle.std.proofs.Common.{◌≡◌, ℕ, ◌^◌, ◌⊎◌, Bool, true, List, [], ◌++◌, Option, Result, Ok, Err, IfErr, OnOk, sym, ap, ◌∙◌, subst, inl, inr, append-nil}
+use Rattle.std.proofs.KnownBytes.{Appends-trans}
+use Rattle.h3_index.specs.declared.error.H3Error.{H3Error}
+use Rattle.h3_lines.specs.Answer.{Answer, before, written}
+use Rattle.h3_lines.specs.Answering.{Answered, EndsBy, RefusesEach}
+use Rattle.h3_lines.specs.EachLine.{AnswersBeforeFault, EndsEach, StopsInPage, TakesBeginning, lines_answer}
+use Rattle.h3_lines.specs.Splitting.{StopsReading, StopsTaking, TakesAll}
+use Rattle.h3_lines.specs.Writing.{Writes, sink_use}
+use Rattle.h3_lines.specs.declared.refusal.Refusal.{Refusal}
+use Rattle.h3_lines.specs.declared.refusal.Refusal.TheVariants.{At, Error, Memory, Read, Table, TableOpen, Write}
+use Rattle.h3_lines.proofs.Written.{writes_after, writes_whole}
+
+module _ {S : Type 0} (taken : S → Option (List ℕ)) (failed : S → Bool) (answer : Option ℕ → Answer) where
+  -- the answer to lines that are answered to their end
+  whole_answer : {m : ℕ} {s t : S} {h : List ℕ} {ls : List (List ℕ)} → h ≡ [] → (a : Answered taken failed answer 1 m [] h s t ls) → lines_answer answer 1 ls ≡ written a.part
+  whole_answer {ls = ls} none a =
+      let text : a.text ≡ a.part = a.split ∙ ap (λ l. a.part ++ l) none ∙ append-nil a.part in
+      ap (lines_answer answer 1) (sym (append-nil ls)) ∙ a.says [] ∙ ap written (append-nil a.text ∙ text)
+
+  all_written : {m : ℕ} {s t : S} {h : List ℕ} {ls : List (List ℕ)} → h ≡ [] → Answered taken failed answer 1 m [] h s t ls → Writes (lines_answer answer 1 ls) (Ok tt) (sink_use taken failed s t)
+  all_written {s = s} {t} none a =
+      subst (λ b. Writes b (Ok tt) (sink_use taken failed s t)) (sym (whole_answer none a)) (writes_whole a.part (sink_use taken failed s t) (a.grown, a.sound))
+
+  -- the answer to lines, of which these are answered to their end
+  split_answer : {m : ℕ} {s t : S} {h : List ℕ} {ls : List (List ℕ)} → h ≡ [] → (a : Answered taken failed answer 1 m [] h s t ls) (later : List (List ℕ)) → lines_answer answer 1 (ls ++ later) ≡ before a.part (lines_answer answer m later)
+  split_answer {m} none a later =
+      let text : a.text ≡ a.part = a.split ∙ ap (λ l. a.part ++ l) none ∙ append-nil a.part in
+      a.says later ∙ ap (λ l. before l (lines_answer answer m later)) text
+
+  error_written : {m : ℕ} {s t : S} (u : S) {h : List ℕ} {ls : List (List ℕ)} (later all : List (List ℕ)) (line : ℕ) (e : H3Error) → h ≡ [] → Answered taken failed answer 1 m [] h s t ls → all ≡ ls ++ later
+      → RefusesEach answer m h later (At line e) (sink_use taken failed t u) → Writes (lines_answer answer 1 all) (Err (At line e)) (sink_use taken failed s u)
+  unfolding Writes
+  error_written {m} {s} {t} u {h} later all line e none a split ends =
+      let rest = lines_answer answer m later in
+      let same : before h rest ≡ rest = ap (λ l. before l rest) none in
+      let now : EndsBy rest (At line e) (sink_use taken failed t u) = subst (λ b. EndsBy b (At line e) (sink_use taken failed t u)) same ends in
+      subst (λ b. Writes b (Err (At line e)) (sink_use taken failed s u)) (sym (ap (lines_answer answer 1) split ∙ split_answer none a later))
+      (writes_after taken failed s t u rest a.part (Err (At line e)) a.grown a.sound now)
+
+  part_written : {m : ℕ} {s t : S} (u : S) {h : List ℕ} {ls : List (List ℕ)} (later all : List (List ℕ)) → h ≡ [] → Answered taken failed answer 1 m [] h s t ls → all ≡ ls ++ later
+      → RefusesEach answer m h later Write (sink_use taken failed t u) → TakesBeginning (lines_answer answer 1 ls).output (lines_answer answer 1 all).output (sink_use taken failed s u)
+  part_written {m} {s} {t} u {h} {ls} later all none a split ends =
+      let rest = lines_answer answer m later in
+      let same : before h rest ≡ rest = ap (λ l. before l rest) none in
+      let (some, (b, fault)) : EndsBy rest Write (sink_use taken failed t u) = subst (λ b. EndsBy b Write (sink_use taken failed t u)) same ends in
+      let first : (lines_answer answer 1 ls).output ≡ a.part = ap (λ b. b.output) (whole_answer none a) in
+      rw first (record {
+        after = rest.output;
+        split = ap (λ b. b.output) (ap (lines_answer answer 1) split ∙ split_answer none a later);
+        some = some;
+        part = record {
+          part = b.part;
+          rest = b.rest;
+          split = b.split;
+          holds = elim b.holds [
+            | inl more ↦ inl (Appends-trans (taken s) (taken t) (taken u) a.part b.part a.grown more)
+            | inr (whole, more, sound, kept) ↦ inr (whole, Appends-trans (taken s) (taken t) (taken whole) a.part b.part a.grown more, sound ∙ a.sound, kept)
+          ];
+        };
+        failed = fault;
+      })
+
+-- what takes the lines, and how it answers them
+module _ {S V : Type 0} (taken : S → Option (List ℕ)) (failed : S → Bool) (answer_of : V → Option ℕ → Answer) (number : V → ℕ) (held : V → List ℕ) (out : V → S)
+    (takes : V → List (List ℕ) → V → Type 0) (refused : V → List (List ℕ) → V → Refusal → Type 0) (settled : V → Type 0)
+    (answers : (v w : V) (ls : List (List ℕ)) → takes v ls w → Answered taken failed (answer_of v) (number v) (number w) (held v) (held w) (out v) (out w) ls)
+    (same : (v w : V) (ls : List (List ℕ)) → takes v ls w → answer_of w ≡ answer_of v)
+    (refuses : (v w : V) (ls : List (List ℕ)) (e : Refusal) → refused v ls w e → RefusesEach (answer_of v) (number v) (held v) ls e (sink_use taken failed (out v) (out w)))
+    (empty : (v : V) → settled v → held v ≡ []) where
+  -- from the first line on, with nothing held back
+  from_start : (v w : V) (ls : List (List ℕ)) → number v ≡ 1 → held v ≡ [] → takes v ls w → Answered taken failed (answer_of v) 1 (number w) [] (held w) (out v) (out w) ls
+  from_start v w ls one none t =
+      subst (λ h. Answered taken failed (answer_of v) 1 (number w) h (held w) (out v) (out w) ls) none
+      (subst (λ n. Answered taken failed (answer_of v) n (number w) (held v) (held w) (out v) (out w) ls) one (answers v w ls t))
+
+  stops_in_page : (v w : V) (e : Refusal) (old new : Option (List ℕ)) → number v ≡ 1 → held v ≡ [] → StopsTaking takes refused settled v w e old new (2 ^ 40) 65536 → StopsInPage (answer_of v) old new
+  stops_in_page v w e old new one none s = record {
+    part = s.part;
+    last = s.last;
+    rest = s.rest;
+    held = s.held;
+    told = s.told;
+    short = s.short;
+    within = s.within;
+    ended = s.ended;
+    begun = s.unended;
+    lines = s.lines;
+    good = ap (λ b. b.ending) (whole_answer taken failed (answer_of v) (empty s.mid s.settles) (from_start v s.mid s.ended one none s.takes));
+  }
+
+  refuses_mid : (v w : V) (e : Refusal) (old new : Option (List ℕ)) → (s : StopsTaking takes refused settled v w e old new (2 ^ 40) 65536)
+      → RefusesEach (answer_of v) (number s.mid) (held s.mid) s.refuses.later e (sink_use taken failed (out s.mid) (out w))
+  refuses_mid v w e old new s = subst (λ a. RefusesEach a (number s.mid) (held s.mid) s.refuses.later e (sink_use taken failed (out s.mid) (out w))) (same v s.mid s.ended s.takes) (refuses s.mid w s.refuses.later e s.refuses.refuses)
+
+  stopped : (v w : V) (e : Refusal) (old new : Option (List ℕ)) (had has : Bool) → number v ≡ 1 → held v ≡ [] → has ≡ had → StopsTaking takes refused settled v w e old new (2 ^ 40) 65536
+      → EndsEach (answer_of v) old new had has (Err e) (sink_use taken failed (out v) (out w))
+  unfolding stops_in_page
+  stopped v w (At line e) old new had has one none sound s = (
+    sound,
+    stops_in_page v w (At line e) old new one none s,
+    error_written taken failed (answer_of v) (out w) s.refuses.later _ line e (empty s.mid s.settles) (from_start v s.mid s.ended one none s.takes) s.refuses.lines (refuses_mid v w (At line e) old new s),
+  )
+  stopped v w Write old new had has one none sound s = (
+    sound,
+    stops_in_page v w Write old new one none s,
+    part_written taken failed (answer_of v) (out w) s.refuses.later _ (empty s.mid s.settles) (from_start v s.mid s.ended one none s.takes) s.refuses.lines (refuses_mid v w Write old new s),
+  )
+  stopped v w (Error e) old new had has one none sound s = absurd (refuses_mid v w (Error e) old new s)
+  stopped v w Memory old new had has one none sound s = absurd (refuses_mid v w Memory old new s)
+  stopped v w Read old new had has one none sound s = absurd (refuses_mid v w Read old new s)
+  stopped v w (Table e) old new had has one none sound s = absurd (refuses_mid v w (Table e) old new s)
+  stopped v w TableOpen old new had has one none sound s = absurd (refuses_mid v w TableOpen old new s)
+
+  fault : (v w : V) (old new : Option (List ℕ)) (has : Bool) → number v ≡ 1 → held v ≡ [] → StopsReading takes settled v w old new (has ≡ true) (2 ^ 40) → AnswersBeforeFault (answer_of v) old new has (sink_use taken failed (out v) (out w))
+  fault v w old new has one none s = record {
+    part = s.part;
+    rest = s.rest;
+    held = s.held;
+    fails = s.why;
+    told = s.told;
+    ended = s.ended;
+    last = s.last;
+    lines = s.lines;
+    writes = all_written taken failed (answer_of v) (empty w s.settles) (from_start v w s.ended one none s.takes);
+  }
+
+  -- how it ends, by what is known of the reading
+  pub ends_each : (v w : V) (old new : Option (List ℕ)) (had has : Bool) (r : Result (Unit {0}) Refusal) → number v ≡ 1 → held v ≡ [] → OnOk r (TakesAll takes v w old new (2 ^ 40) 65536) → OnOk r (settled w) → OnOk r (has ≡ had)
+      → IfErr r (λ e. ((e ≡ Read) × StopsReading takes settled v w old new (has ≡ true) (2 ^ 40)) ⊎ (StopsTaking takes refused settled v w e old new (2 ^ 40) 65536 × (has ≡ had)))
+      → EndsEach (answer_of v) old new had has r (sink_use taken failed (out v) (out w))
+  ends_each v w old new had has (Ok u) one none all settles sound stops = (
+    sound,
+    record {
+      list = all.bytes;
+      held = all.held;
+      told = all.told;
+      within = all.within;
+      writes = all_written taken failed (answer_of v) (empty w settles) (from_start v w _ one none all.takes);
+    },
+  )
+  ends_each v w old new had has (Err e) one none all settles sound (inr (s, kept)) = stopped v w e old new had has one none kept s
+  ends_each v w old new had has (Err Read) one none all settles sound (inl (is, s)) = fault v w old new has one none s
+  ends_each v w old new had has (Err (At line e)) one none all settles sound (inl (is, s)) = absurd (cc is)
+  ends_each v w old new had has (Err Write) one none all settles sound (inl (is, s)) = absurd (cc is)
+  ends_each v w old new had has (Err (Error e)) one none all settles sound (inl (is, s)) = absurd (cc is)
+  ends_each v w old new had has (Err Memory) one none all settles sound (inl (is, s)) = absurd (cc is)
+  ends_each v w old new had has (Err (Table e)) one none all settles sound (inl (is, s)) = absurd (cc is)
+  ends_each v w old new had has (Err TableOpen) one none all settles sound (inl (is, s)) = absurd (cc is)

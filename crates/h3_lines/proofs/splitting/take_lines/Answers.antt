@@ -1,0 +1,70 @@
+use Rattle.std.proofs.Common.{◌≡◌, ◌<◌, ◌≤◌, ◌+◌, ◌*◌, ◌∙◌, ℕ, length, length-take, take, ap, refl, inl, inr, arith}
+use Rattle.std.proofs.lemmas.Result.{err_from_is_err_and, on_ok_weaker, IfErr-weaker}
+use Rattle.h3_index.specs.Counted.{reads_allowed, source_of}
+use Rattle.h3_lines.proofs.Pages.{one_less}
+use Rattle.h3_lines.proofs.Split.{took_all, took_more, took_none, took_refused, took_refused_last, took_stopped}
+use Rattle.h3_lines.proofs.splitting.take_lines.Goals as goal
+
+pub loop-count-init : goal.loop-count-init
+loop-count-init g c = record {
+  took = took_none g.V.LineTaker.taken _ _ _ _ _ c.new-start.ensures (g.met.V.LineTaker.none_taken _);
+  settled = c.requires.settled;
+  few = omega arith;
+  sound = refl;
+  same = refl;
+}
+
+pub returns-in_default-clause-err : goal.returns-in_default-clause-err
+returns-in_default-clause-err g c =
+    inl (
+      refl,
+      took_stopped g.V.LineTaker.taken g.V.LineTaker.settled c.loop-count.start.unended c.loop-count.start.short c.loop-count.invariant.took c.loop-count.invariant.settled (g.R.Source.has_failed (source_of c.read.new.self) ≡ _) _
+          (elim c.in_default.ensures.err [ inl none ↦ inl (none, ap (g.R.Source.left) (c.read.ensures.spent none)) | inr failed ↦ inr failed ]),
+    )
+
+pub returns-then-count-eq0-clause-ok : goal.returns-then-count-eq0-clause-ok
+returns-then-count-eq0-clause-ok g c =
+    let full : length c.read.new.page ≡ length c.args.page.now = c.read.auto.page ∙ c.loop-count.auto.page in
+    let some : 0 < (reads_allowed c.loop-count.reader) = omega (arith, c.in-Ok.ensures.counted) in
+    on_ok_weaker c.finish.result
+    (λ last. took_all g.V.LineTaker.taken g.met.V.LineTaker.taken_then c.loop-count.invariant.took _ c.read.new.page c.in-Ok.count c.in-Ok.ensures.bytes c.if-count-eq0.true (omega (arith, full, c.requires.room)) some last) c.finish.ensures.ok
+
+pub returns-then-count-eq0-clause-err : goal.returns-then-count-eq0-clause-err
+returns-then-count-eq0-clause-err g c =
+    let full : length c.read.new.page ≡ length c.args.page.now = c.read.auto.page ∙ c.loop-count.auto.page in
+    let some : 0 < (reads_allowed c.loop-count.reader) = omega (arith, c.in-Ok.ensures.counted) in
+    IfErr-weaker c.finish.result _ _
+    (λ e refuses. inr (
+      took_refused_last g.V.LineTaker.taken g.V.LineTaker.refused g.V.LineTaker.settled c.loop-count.start.unended c.loop-count.start.short c.loop-count.invariant.took c.loop-count.invariant.settled _ c.read.new.page c.in-Ok.count c.in-Ok.ensures.bytes
+          c.if-count-eq0.true (omega (arith, full, c.requires.room)) some refuses,
+      c.in-Ok.ensures.ok ∙ c.loop-count.invariant.sound,
+    )) c.finish.ensures.err
+
+pub loop-count-preserved : goal.loop-count-preserved
+loop-count-preserved g c =
+    let some : 0 < c.in-Ok.count = omega (arith, c.if-count-eq0.false) in
+    let full : length c.read.new.page ≡ length c.args.page.now = c.read.auto.page ∙ c.loop-count.auto.page in
+    let size = length c.args.page.now in
+    let less : (reads_allowed c.loop-count.reader) * size ≡ (reads_allowed c.read.new.self) * size + size = one_less (reads_allowed c.loop-count.reader) (reads_allowed c.read.new.self) size c.in-Ok.ensures.counted in
+    let before : g.V.LineTaker.count c.loop-count.taker + (reads_allowed c.loop-count.reader) * size ≤ g.V.LineTaker.count c.args.taker.now + (reads_allowed c.args.reader.now) * size = c.loop-count.invariant.few in
+    let taken : length (take c.in-Ok.count c.read.new.page) ≤ size = omega (arith, length-take {A = ℕ}, full) in
+    record {
+      took = took_more g.V.LineTaker.taken g.met.V.LineTaker.taken_then c.loop-count.invariant.took _ (reads_allowed c.read.new.self) c.read.new.page c.in-Ok.count _ _ c.in-Ok.ensures.bytes some c.in-Ok.ensures.bound
+          full c.in-Ok.ensures.counted c.in_ok-take_page.ensures.ok;
+      settled = c.in_ok-take_page.ensures.settled;
+      few = omega (arith, less, before, taken, c.in_ok-take_page.ensures.counted, length-take {A = ℕ}, c.in-Ok.ensures.bound, full);
+      sound = c.in-Ok.ensures.ok ∙ c.loop-count.invariant.sound;
+      same = c.in-Ok.ensures.same ∙ c.loop-count.invariant.same;
+    }
+
+pub returns-in_err-take_page-clause-err : goal.returns-in_err-take_page-clause-err
+returns-in_err-take_page-clause-err g c =
+    let p = err_from_is_err_and c.from_residual.result c.from_residual.ensures.1 in
+    let full : length c.read.new.page ≡ length c.args.page.now = c.read.auto.page ∙ c.loop-count.auto.page in
+    let fits : c.in-Ok.count ≤ length c.args.page.now = omega (arith, full, c.in-Ok.ensures.bound) in
+    let some : 0 < (reads_allowed c.loop-count.reader) = omega (arith, c.in-Ok.ensures.counted) in
+    rw (p.1, p.2) (inr (
+      took_refused g.V.LineTaker.taken g.V.LineTaker.refused g.V.LineTaker.settled c.loop-count.start.unended c.loop-count.start.short c.loop-count.invariant.took c.loop-count.invariant.settled _ c.read.new.page c.in-Ok.count c.in-Ok.ensures.bytes
+          fits some c.in_err-take_page.ensures.err,
+      c.in-Ok.ensures.ok ∙ c.loop-count.invariant.sound,
+    ))

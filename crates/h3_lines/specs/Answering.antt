@@ -1,0 +1,52 @@
+-- Lines that are answered one after another, with answers held back in a block. Private contracts and proofs alone cite
+-- this file.
+use Rattle.std.specs.Prelude.{◌≡◌, ℕ, ◌<◌, ◌⊎◌, Bool, true, List, [], ◌++◌, length, take, Option, None, Some, Result, Ok, Err}
+use Rattle.std.specs.Io.KnownBytes.{Appends}
+use Rattle.h3_index.specs.declared.error.H3Error.{H3Error}
+use Rattle.h3_lines.specs.declared.refusal.Refusal.{Refusal}
+use Rattle.h3_lines.specs.declared.refusal.Refusal.TheVariants.{At, Error, Memory, Read, Table, TableOpen, Write}
+use Rattle.h3_lines.specs.Answer.{Answer, before, refused, written}
+use Rattle.h3_lines.specs.Beginning.{SomeBeginning}
+use Rattle.h3_lines.specs.EachLine.{lines_answer}
+use Rattle.h3_lines.specs.Writing.{SinkUse, Takes}
+
+-- an answer that is put into a block from the byte `at` on, and ends at `end`
+pub record Puts (a : Answer) (old new : List ℕ) (at end : ℕ) : Type 0 where
+  pub text : List ℕ
+  pub is : a ≡ written text
+  pub put : take end new ≡ take at old ++ text
+
+-- what is answered to a line that has an index, or none, or an error
+abbrev pub answer_said : (Option ℕ → Answer) → Result (Option (Option ℕ)) H3Error → Answer
+answer_said answer (Ok (Some index)) = answer index
+answer_said answer (Ok None) = written []
+answer_said answer (Err e) = refused e
+
+module _ {S : Type 0} (taken : S → Option (List ℕ)) (failed : S → Bool) where
+  -- From one moment to a later one these lines are answered, from the line n up to the line m: some of the answers is
+  -- taken by the sink, and the rest held back.
+  pub record Answered (answer : Option ℕ → Answer) (n m : ℕ) (held held' : List ℕ) (old new : S) (lines : List (List ℕ)) : Type 0 where
+    pub text : List ℕ
+    pub part : List ℕ
+    pub says : (more : List (List ℕ)) → lines_answer answer n (lines ++ more) ≡ before text (lines_answer answer m more)
+    pub split : held ++ text ≡ part ++ held'
+    pub grown : Appends (taken old) (taken new) part
+    pub sound : failed new ≡ failed old
+
+-- a call of the sink failed: it took a beginning of the bytes, or it took one, and then a flush failed
+abbrev pub TakesSome : SinkUse → List ℕ → Type 0
+TakesSome sink bytes = SomeBeginning (λ part. Appends sink.before sink.after part ⊎ sink.may_have_taken part) bytes × (sink.has_failed ≡ true)
+
+-- an answer ends by an error at a line, all before it taken, or by a write that fails
+abbrev pub EndsBy : Answer → Refusal → SinkUse → Type 0
+EndsBy a (At line e) out = (a.ending ≡ Err (At line e)) × Takes out a.output
+EndsBy a Write out = (0 < length a.output) × TakesSome out a.output
+EndsBy a (Error e) out = ⊥
+EndsBy a Memory out = ⊥
+EndsBy a Read out = ⊥
+EndsBy a (Table e) out = ⊥
+EndsBy a TableOpen out = ⊥
+
+-- these bytes and the answer to these lines, of which the first is the line n, end so
+abbrev pub RefusesEach : (Option ℕ → Answer) → ℕ → List ℕ → List (List ℕ) → Refusal → SinkUse → Type 0
+RefusesEach answer n held lines e out = EndsBy (before held (lines_answer answer n lines)) e out

@@ -1,0 +1,108 @@
+-- The answer to a list of which each line is answered on its own: for each line that is not blank what a function of one
+-- index answers to the index that the line parses as, in order, up to the first error, which is told with its line.
+use Rattle.std.specs.Prelude.{◌≡◌, ℕ, ◌+◌, ◌*◌, ◌^◌, ◌<◌, ◌≤◌, ◌==◌, ◌⊎◌, nat_lt, Bool, true, List, [], ◌∷◌, ◌++◌, length, Option, Result, Ok, Err, if◌then◌else◌}
+use Rattle.std.specs.Io.KnownBytes.{Appends, Consumes, Keeps}
+use Rattle.h3_index.specs.Stream.{HasLeft}
+use Rattle.h3_index.specs.Text.{parsed_index, trimmed}
+use Rattle.h3_index.specs.declared.error.H3Error.TheVariants.{Failed}
+use Rattle.h3_lines.specs.declared.refusal.Refusal.{Refusal}
+use Rattle.h3_lines.specs.declared.refusal.Refusal.TheVariants.{At, Error, Memory, Read, Table, TableOpen, Write}
+use Rattle.h3_lines.specs.Answer.{Answer, before, refused, written}
+use Rattle.h3_lines.specs.Beginning.{SomeBeginning}
+use Rattle.h3_lines.specs.List.{lines_of}
+use Rattle.h3_lines.specs.Reads.{IsWithinReads}
+use Rattle.h3_lines.specs.Writing.{IsLeft, SinkUse, Writes}
+
+-- how the answer to the line with this number ends: an H3 error is told with the number
+abbrev pub ending_at : ℕ → Result (Unit {0}) Refusal → Result (Unit {0}) Refusal
+ending_at number (Ok u) = Ok u
+ending_at number (Err (Error e)) = Err (At number e)
+ending_at number (Err r) = Err r
+
+-- these bytes, and then the next answer where they do not end in an error
+abbrev pub then_answer : List ℕ → Result (Unit {0}) Refusal → Answer → Answer
+then_answer output (Ok u) next = before output next
+then_answer output (Err r) next = record { output = output; ending = Err r }
+
+-- the answer to a line: an error where it has more than 64 bytes, nothing where it is blank, and else that to the index
+-- that it parses as, if it parses as one
+abbrev pub line_answer : (Option ℕ → Answer) → List ℕ → Answer
+line_answer answer line =
+    if nat_lt 64 (length line) then refused Failed else if length (trimmed line) == 0 then written [] else answer (parsed_index line)
+
+-- the answer to the line with this number, and then the next answer
+abbrev pub followed_by : ℕ → Answer → Answer → Answer
+followed_by number a next = then_answer a.output (ending_at number a.ending) next
+
+-- the answer to lines, of which the first has this number
+abbrev pub lines_answer : (Option ℕ → Answer) → ℕ → List (List ℕ) → Answer
+lines_answer answer number [] = written []
+lines_answer answer number (line ∷ lines) = followed_by number (line_answer answer line) (lines_answer answer (number + 1) lines)
+
+-- the answer to the list in these bytes; the first line is 1, and blank lines count
+abbrev pub list_answer : (Option ℕ → Answer) → List ℕ → Answer
+list_answer answer bytes = lines_answer answer 1 (lines_of bytes)
+
+-- ---- how it ends
+
+-- there are bytes of the list, those left in the source where they are known; all of them are read, in reads that may be
+-- made, and the answer is written
+pub record AnswersAll (answer : Option ℕ → Answer) (old new : Option (List ℕ)) (ending : Result (Unit {0}) Refusal) (out : SinkUse) : Type 0 where
+  pub list : List ℕ
+  pub held : HasLeft old list
+  pub told : Consumes old new list
+  pub within : IsWithinReads (2 ^ 40) 65536 list
+  pub writes : Writes (list_answer answer list) ending out
+
+-- A read fails, or none is left. The lines that end in what was read before are answered, and no other: not the one that
+-- the fault cuts.
+pub record AnswersBeforeFault (answer : Option ℕ → Answer) (old new : Option (List ℕ)) (has_failed : Bool) (out : SinkUse) : Type 0 where
+  pub part : List ℕ
+  pub rest : List ℕ
+  pub held : HasLeft old (part ++ rest)
+  pub fails : (has_failed ≡ true) ⊎ (2 ^ 40 ≤ length (part ++ rest))
+  pub told : (has_failed ≡ true) ⊎ Consumes old new part
+  pub ended : List (List ℕ)
+  pub last : List ℕ
+  pub lines : lines_of part ≡ ended ++ last ∷ []
+  pub writes : Writes (lines_answer answer 1 ended) (Ok tt) out
+
+-- The bytes of the list, those left in the source where they are known. A part of them is read, and then at most a page
+-- more; the lines that end in that part have no error.
+pub record StopsInPage (answer : Option ℕ → Answer) (old new : Option (List ℕ)) : Type 0 where
+  pub part : List ℕ
+  pub last : List ℕ
+  pub rest : List ℕ
+  pub held : HasLeft old (part ++ last ++ rest)
+  pub told : Consumes old new (part ++ last)
+  pub short : length last ≤ 65536
+  pub within : length (part ++ last) ≤ 2 ^ 40 * 65536
+  pub ended : List (List ℕ)
+  pub begun : List ℕ
+  pub lines : lines_of part ≡ ended ++ begun ∷ []
+  pub good : (lines_answer answer 1 ended).ending ≡ Ok tt
+
+-- the answer to the list whose reading stops so
+abbrev pub answer_at : {answer : Option ℕ → Answer} {old new : Option (List ℕ)} → StopsInPage answer old new → Answer
+answer_at {answer} s = list_answer answer (s.part ++ s.last ++ s.rest)
+
+-- A write fails: the answers to the lines that end in the part are taken, and then a beginning of what the answer has
+-- after them, which is not empty; or it is taken, and then a flush fails.
+pub record TakesBeginning (first whole : List ℕ) (out : SinkUse) : Type 0 where
+  pub after : List ℕ
+  pub split : whole ≡ first ++ after
+  pub some : 0 < length after
+  pub part : SomeBeginning (λ more. Appends out.before out.after (first ++ more) ⊎ out.may_have_taken (first ++ more)) after
+  pub failed : out.has_failed ≡ true
+
+-- How the answering of a list ends that is read from a source with the bytes old left, and new after it. Where a line has
+-- an error or a write fails, nothing is read beyond the page.
+abbrev pub EndsEach : (Option ℕ → Answer) → Option (List ℕ) → Option (List ℕ) → Bool → Bool → Result (Unit {0}) Refusal → SinkUse → Type 0
+EndsEach answer old new had has (Ok u) out = (has ≡ had) × AnswersAll answer old new (Ok u) out
+EndsEach answer old new had has (Err (At line e)) out = (has ≡ had) × (stop : StopsInPage answer old new) × Writes (answer_at stop) (Err (At line e)) out
+EndsEach answer old new had has (Err Write) out = (has ≡ had) × (stop : StopsInPage answer old new) × TakesBeginning (lines_answer answer 1 stop.ended).output (answer_at stop).output out
+EndsEach answer old new had has (Err Read) out = AnswersBeforeFault answer old new has out
+EndsEach answer old new had has (Err Memory) out = (has ≡ had) × Keeps old new × IsLeft out
+EndsEach answer old new had has (Err (Error e)) out = ⊥
+EndsEach answer old new had has (Err (Table e)) out = ⊥
+EndsEach answer old new had has (Err TableOpen) out = ⊥

@@ -1,0 +1,310 @@
+//! Lists of which each line is answered on its own.
+
+ghost use Rattle.std.proofs.Common.{◌∙◌, refl};
+ghost use Rattle.std.specs.Prelude.{◌≡◌, ◌+◌, ◌<◌, ◌≤◌, ◌++◌, ◌∷◌, ◌^◌, [], ℕ, List, length, Option, take, IfOk, IfErr, OnOk};
+ghost use Rattle.h3_lines.specs.Answer.{Answer, printed, refused};
+ghost use Rattle.h3_lines.specs.Answering.{Answered, EndsBy, Puts, RefusesEach, TakesSome, answer_said};
+ghost use Rattle.h3_lines.specs.EachLaws.{answered_none, answered_then, refuses_then};
+ghost use Rattle.h3_lines.specs.EachLine.{EndsEach, line_answer};
+ghost use Rattle.h3_lines.specs.Writing.{Takes, sink_use};
+ghost use Rattle.h3_lines.specs.declared.refusal.Refusal.{Refusal};
+ghost use Rattle.h3_lines.specs.declared.refusal.Refusal.TheVariants.{Write};
+
+use crate::line::{BLOCK, Line};
+use crate::refusal::Refusal;
+use crate::splitting::{LONGEST_LINE, LineTaker, take_lines};
+use crate::write::{write_all, write_answer};
+use h3_index::{CountedReader, H3Error, Sink, Source, is_blank_text, read_index};
+use std::alloc::Global;
+
+/// The room that the answer to a line may take.
+const ANSWER: usize = 192;
+
+/// The bytes that are read at once.
+const PAGE: usize = 65536;
+
+/// The reads that a list may take.
+const READS: u64 = 1 << 40;
+
+/// A function of one index.
+pub trait IndexFunction {
+    /// What its own command answers to an index, or to a word that parses as none.
+    ghost answer_of: { Self → Option ℕ → Answer };
+
+    /// Puts the answer into a block from the byte `at` on, and returns where it ends; or returns
+    /// its error. The bytes after it may change too.
+    fn put(&self, index: Option<u64>, block: &mut [u8; BLOCK], at: usize) -> Result<usize, H3Error>
+        requires room { at + 192 ≤ 4096 }
+        ensures end { IfOk result (λ end. end ≤ at + 192) }
+        ensures ok { IfOk result (λ end.
+            Puts (answer_of self.now index) block.old block.new at end) }
+        ensures err { IfErr result (λ e. answer_of self.now index ≡ refused e) }
+        ensures kept { IfErr result (λ e. take at block.new ≡ take at block.old) };
+}
+
+/// Puts the line of a result's value into a block from the byte `at` on, and returns where it ends;
+/// or returns the result's error.
+#[inline(always)]
+pub fn put_result<L: Line + Drop>(
+    value: Result<L, H3Error>,
+    block: &mut [u8; BLOCK],
+    at: usize,
+) -> Result<usize, H3Error>
+    requires room { at + 32 ≤ 4096 }
+    ensures end { IfOk result (λ end. end ≤ at + 32) }
+    ensures ok { IfOk result (λ end.
+        Puts (printed L.line_of value) block.old block.new at end) }
+    ensures err { IfErr result (λ e. printed L.line_of value ≡ refused e) }
+    ensures kept { IfErr result (λ e. take at block.new ≡ take at block.old) }
+{
+    Ok(value?.put(block, at))
+}
+
+/// The index that a line parses as, `None` where it is blank; or the error of a line that is too
+/// long.
+fn index_on(line: &[u8]) -> Result<Option<Option<u64>>, H3Error>
+    ensures { (answer : Option ℕ → Answer) →
+        line_answer answer line.now ≡ answer_said answer result }
+{
+    if line.len() > LONGEST_LINE {
+        return Err(H3Error::Failed);
+    }
+    match read_index(line) {
+        Ok(index) => Ok(Some(Some(index))),
+        Err(_) if is_blank_text(line) => Ok(None),
+        Err(_) => Ok(Some(None)),
+    }
+}
+
+/// Writes the bytes and flushes, if there are any.
+fn write_held<W: Sink>(out: &mut W, bytes: &[u8]) -> Result<(), Refusal>
+    ensures ok { OnOk result (Takes (sink_use W.taken W.has_failed out.old out.new) bytes.now) }
+    ensures err { IfErr result (λ e. (e ≡ Write) × (0 < length bytes.now)
+        × TakesSome (sink_use W.taken W.has_failed out.old out.new) bytes.now) }
+{
+    if bytes.is_empty() {
+        return Ok(());
+    }
+    write_answer(out, bytes)
+}
+
+/// Writes the answers held back, and refuses the line with this number.
+#[cold]
+fn refuse<W: Sink>(out: &mut W, held: &[u8], number: u64, error: H3Error) -> Refusal
+    ensures { (answer : Option ℕ → Answer) (line : List ℕ) (later : List (List ℕ)) →
+        line_answer answer line ≡ refused error →
+        RefusesEach answer number held.now (line ∷ later) result
+        (sink_use W.taken W.has_failed out.old out.new) }
+{
+    match write_held(out, held) {
+        Ok(()) => Refusal::At(number, error),
+        Err(fault) => fault,
+    }
+}
+
+/// Makes room for an answer in a block of answers that ends at `end`: where too little is left, the
+/// block is written, but for its last byte, so that it is empty only after a flush. Returns where
+/// it ends.
+#[inline(always)]
+fn make_room<W: Sink>(out: &mut W, block: &mut [u8; BLOCK], end: usize) -> Result<usize, Refusal>
+    requires { end ≤ 4096 }
+    ensures room { IfOk result (λ at. at + 192 ≤ 4096) }
+    ensures ok { IfOk result (λ at. (answer : Option ℕ → Answer) (n : ℕ) →
+        Answered W.taken W.has_failed answer n n (take end block.old) (take at block.new)
+        out.old out.new []) }
+    ensures err { IfErr result (λ e. (e ≡ Write) × (0 < length (take end block.old))
+        × TakesSome (sink_use W.taken W.has_failed out.old out.new) (take end block.old)) }
+{
+    if end <= BLOCK - ANSWER {
+        return Ok(end);
+    }
+    let last = end - 1;
+    write_all(out, &block[..last])?;
+    block[0] = block[last];
+    Ok(1)
+}
+
+/// Puts the answer to the line with this number into a block of answers that ends at `end`, and
+/// returns where it ends.
+#[inline(always)]
+fn answer_index<W: Sink, F: IndexFunction>(
+    out: &mut W,
+    block: &mut [u8; BLOCK],
+    end: usize,
+    number: u64,
+    function: &F,
+    index: Option<u64>,
+) -> Result<usize, Refusal>
+    requires { end ≤ 4096 }
+    ensures within { IfOk result (λ last. last ≤ 4096) }
+    ensures ok { IfOk result (λ last. (line : List ℕ) →
+        line_answer (F.answer_of function.now) line ≡ F.answer_of function.now index →
+        Answered W.taken W.has_failed (F.answer_of function.now) number (number + 1)
+        (take end block.old) (take last block.new) out.old out.new (line ∷ [])) }
+    ensures err { IfErr result (λ e. (line : List ℕ) →
+        line_answer (F.answer_of function.now) line ≡ F.answer_of function.now index →
+        (later : List (List ℕ)) →
+        RefusesEach (F.answer_of function.now) number (take end block.old) (line ∷ later) e
+        (sink_use W.taken W.has_failed out.old out.new)) }
+{
+    let at = make_room(out, block, end)?;
+    match function.put(index, block, at) {
+        Ok(last) => Ok(last),
+        Err(error) => Err(refuse(out, &block[..at], number, error)),
+    }
+}
+
+/// The answers to the lines of a list, in a block that is written when it is full.
+#[derive(Drop)]
+struct Answers<'a, 'f, W, F> {
+    out: &'a mut W,
+    function: &'f F,
+    number: u64,
+    block: [u8; BLOCK],
+    end: usize,
+    ghost within: { end ≤ 4096 },
+}
+
+impl<'a, 'f, W: Sink, F: IndexFunction> LineTaker for Answers<'a, 'f, W, F> {
+    ghost count = { λ v. v.number };
+
+    ghost settled = { λ v. v.end ≡ 0 };
+
+    ghost taken = { λ v lines w.
+        Answered W.taken W.has_failed (F.answer_of v.function.now) v.number w.number
+        (take v.end v.block) (take w.end w.block) v.out.now w.out.now lines
+        × (w.function ≡ v.function) × (w.out.ghost_name ≡ v.out.ghost_name) };
+
+    ghost refused = { λ v lines w e.
+        RefusesEach (F.answer_of v.function.now) v.number (take v.end v.block) lines e
+        (sink_use W.taken W.has_failed v.out.now w.out.now)
+        × (w.out.ghost_name ≡ v.out.ghost_name) };
+
+    fn take(&mut self, line: &[u8]) -> Result<(), Refusal> {
+        let held = &self.block[..self.end];
+        match index_on(line) {
+            Ok(Some(index)) => {
+                self.end = answer_index(
+                    self.out,
+                    &mut self.block,
+                    self.end,
+                    self.number,
+                    self.function,
+                    index,
+                )?;
+                self.number += 1;
+                Ok(())
+            }
+            Ok(None) => {
+                self.number += 1;
+                Ok(())
+            }
+            Err(error) => Err(refuse(self.out, held, self.number, error)),
+        }
+    }
+
+    #[inline(always)]
+    fn take_index(&mut self, index: u64) -> Result<(), Refusal> {
+        self.end = answer_index(
+            self.out,
+            &mut self.block,
+            self.end,
+            self.number,
+            self.function,
+            Some(index),
+        )?;
+        self.number += 1;
+        Ok(())
+    }
+
+    fn refuse_long(&mut self) -> Refusal {
+        let held = &self.block[..self.end];
+        refuse(self.out, held, self.number, H3Error::Failed)
+    }
+
+    fn settle(&mut self) -> Result<(), Refusal> {
+        let held = &self.block[..self.end];
+        write_held(self.out, held)?;
+        self.end = 0;
+        Ok(())
+    }
+
+    ghost none_taken = { λ v. (answered_none _ _ _ _ _ _, refl, refl) };
+
+    ghost taken_then = { λ u v w xs ys p q.
+        (answered_then _ _ (λ f. F.answer_of f.now) xs ys p.1 p.0 q.0, q.1 ∙ p.1, q.2 ∙ p.2) };
+
+    ghost refused_then = { λ u v w xs ys e p q.
+        (refuses_then _ _ (λ f. F.answer_of f.now) _ xs ys e p.1 p.0 q.0, q.1 ∙ p.2) };
+}
+
+/// Answers each line of a list, read in pages.
+fn answer_lines<'a, 'f, R: Source, W: Sink, F: IndexFunction>(
+    answers: &mut Answers<'a, 'f, W, F>,
+    input: &mut R,
+    page: &mut [u8],
+) -> Result<(), Refusal>
+    requires first { answers.old.number ≡ 1 }
+    requires empty { answers.old.end ≡ 0 }
+    requires page { length page.old ≡ 65536 }
+    ensures ends { EndsEach (F.answer_of answers.old.function.now)
+        (R.left input.old) (R.left input.new)
+        (R.has_failed input.old) (R.has_failed input.new) result
+        (sink_use W.taken W.has_failed answers.old.out.now answers.new.out.now) }
+    ensures same { answers.new.out.ghost_name ≡ answers.old.out.ghost_name }
+{
+    let mut reader = CountedReader::new(&mut *input, READS);
+    let ending = take_lines(answers, &mut reader, page);
+    // The proof reads what the source is after the reads from this use of it.
+    let _ = &*input;
+    ending
+}
+
+/// The same to a sink.
+fn answer_pages<R: Source, W: Sink, F: IndexFunction>(
+    function: &F,
+    input: &mut R,
+    out: &mut W,
+    page: &mut [u8],
+) -> Result<(), Refusal>
+    requires { length page.old ≡ 65536 }
+    ensures { EndsEach (F.answer_of function.now) (R.left input.old) (R.left input.new)
+        (R.has_failed input.old) (R.has_failed input.new) result
+        (sink_use W.taken W.has_failed out.old out.new) }
+{
+    let mut answers = Answers {
+        out: &mut *out,
+        function,
+        number: 1,
+        block: [0; BLOCK],
+        end: 0,
+    };
+    let ending = answer_lines(&mut answers, input, page);
+    // The proof reads what the sink is after the writes from this use of it.
+    let _ = &*out;
+    ending
+}
+
+/// Answers each line of a list that is not blank, in order, up to its end or its first error.
+///
+/// A line of more than 64 bytes is `Failed`; any other is answered as the index that it parses as,
+/// or as a word that parses as none. The answers are written page by page, as the list is read; a
+/// line that a read fault cuts is not answered. Nothing is read once a line has an error or a write
+/// fails.
+///
+/// `Refusal::At` with the line of the first error. `Refusal::Read` where a read fails, or the end
+/// is not found in 2^40 reads. `Refusal::Write` where a push or a flush fails. `Refusal::Memory`
+/// where there is none for the page.
+pub fn answer_each<R: Source, W: Sink, F: IndexFunction>(
+    alloc: Global,
+    function: &F,
+    input: &mut R,
+    out: &mut W,
+) -> Result<(), Refusal>
+    ensures { EndsEach (F.answer_of function.now) (R.left input.old) (R.left input.new)
+        (R.has_failed input.old) (R.has_failed input.new) result
+        (sink_use W.taken W.has_failed out.old out.new) }
+{
+    let mut page = vec![in alloc; 0u8; PAGE].map_err(|_| Refusal::Memory)?;
+    answer_pages(function, input, out, &mut page)
+}
