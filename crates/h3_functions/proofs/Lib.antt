@@ -1,0 +1,2 @@
+pub mod BasesLaws
+pub mod Listed

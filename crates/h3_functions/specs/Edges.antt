@@ -1,0 +1,52 @@
+-- What H3's functions on neighbors and directed edges return for the indexes of words, if the words have them, and for
+-- the links of a base cell table where they need them. Which pairs of cells and which edges are refused is this
+-- project's own.
+use Rattle.std.specs.Prelude.{ℕ, Bool, List, Option, None, Some, is_some, ok_or, Result, Ok, Err}
+use Rattle.h3_index.specs.Cell.{Address}
+use Rattle.h3_index.specs.Edge.{DirectedEdge}
+use Rattle.h3_index.specs.EdgeNumber.{edge_in}
+use Rattle.h3_index.specs.declared.error.H3Error.{H3Error}
+use Rattle.h3_index.specs.declared.error.H3Error.TheVariants.{DirEdgeInvalid, Failed}
+use Rattle.h3_lattice.specs.Links.{Links}
+use Rattle.h3_grid.specs.DirectedEdges.{edge_between, edge_destination, edges_from}
+use Rattle.h3_grid.specs.Neighbors.{are_neighbors}
+use Rattle.h3_functions.specs.Inspection.{cell_from, for_value}
+
+-- ---- the values of words
+
+-- the edge with this index: an error where there is no index, and then where no edge has it
+abbrev pub edge_from : Option ℕ → Result DirectedEdge H3Error
+edge_from None = Err Failed
+edge_from (Some index) = ok_or (edge_in index) DirEdgeInvalid
+
+-- the cells with these two indexes: the error of the first, and then that of the second
+abbrev pub cell_pair_from : Option ℕ → Option ℕ → Result (Address × Address) H3Error
+cell_pair_from cell to = for_value (λ a. for_value (λ b. Ok (a, b)) (cell_from to)) (cell_from cell)
+
+-- ---- over the links of a table
+
+-- whether a step leads from the one cell to the other; no cell is its own neighbor
+abbrev pub are_neighbor_cells : Links → Address × Address → Result Bool H3Error
+are_neighbor_cells link cells = are_neighbors link cells.0 cells.1
+
+-- the edge that leaves the first cell and leads to the second
+abbrev pub cells_to_directed_edge : Links → Address × Address → Result DirectedEdge H3Error
+cells_to_directed_edge link cells = edge_between link cells.0 cells.1
+
+-- the cell that the edge leads to
+abbrev pub get_directed_edge_destination : Links → DirectedEdge → Result Address H3Error
+get_directed_edge_destination link edge = edge_destination link edge
+
+-- ---- without a table
+
+abbrev pub is_valid_directed_edge : Option ℕ → Result Bool H3Error
+is_valid_directed_edge None = Err Failed
+is_valid_directed_edge (Some index) = Ok (is_some (edge_in index))
+
+-- the cell that the edge leaves
+abbrev pub get_directed_edge_origin : Option ℕ → Result Address H3Error
+get_directed_edge_origin index = for_value (λ e. Ok e.origin) (edge_from index)
+
+-- the edges that leave the cell, in ascending direction
+abbrev pub origin_to_directed_edges : Option ℕ → Result (List DirectedEdge) H3Error
+origin_to_directed_edges index = for_value (λ c. Ok (edges_from c)) (cell_from index)

@@ -1,0 +1,9 @@
+pub mod Bases
+pub mod DiskCells
+pub mod Edges
+pub mod Hierarchy
+pub mod Inspection
+pub mod Items
+pub mod Resolutions
+pub mod Sets
+pub mod Walks

@@ -1,0 +1,14 @@
+-- What H3's functions on lists of cells return.
+use Rattle.std.specs.Prelude.{ℤ, List, unsigned_abs, Result}
+use Rattle.h3_index.specs.Cell.{Address}
+use Rattle.h3_index.specs.declared.error.H3Error.{H3Error}
+use Rattle.h3_set.specs.Compacted.{compacted}
+use Rattle.h3_set.specs.Refusals.{compaction_refusal}
+use Rattle.h3_set.specs.Uncompaction.{uncompacted, uncompact_refusal}
+use Rattle.h3_functions.specs.Hierarchy.{unless}
+
+abbrev pub compact_cells : List Address → Result (List Address) H3Error
+compact_cells cells = unless (compaction_refusal cells) (compacted cells)
+
+abbrev pub uncompact_cells : ℤ → List Address → Result (List Address) H3Error
+uncompact_cells res cells = unless (uncompact_refusal cells res) (uncompacted cells (unsigned_abs res))

@@ -1,0 +1,67 @@
+//! H3's hierarchy functions, for the index of a word: `None` where the word has none.
+//!
+//! Each returns `Failed` where there is no index, then `CellInvalid` where no cell has the index,
+//! and then the error of the function for that cell.
+
+ghost use Rattle.std.specs.Prelude.{◌≡◌};
+ghost use Rattle.std.specs.Iterator.{YieldsFirst};
+ghost use Rattle.h3_tree.specs.Children.{children_left};
+ghost use Rattle.h3_functions.specs.Hierarchy.{cell_to_center_child, cell_to_child_pos, cell_to_children, cell_to_children_size, cell_to_parent, child_pos_to_cell};
+ghost use Rattle.h3_functions.specs.Items.{Lists};
+
+use crate::inspection::cell_from;
+use h3_index::{Cell, H3Error};
+use h3_tree::{Children, center_child, child_at, child_pos, children, children_size, parent};
+
+/// The ancestor of a cell at a resolution, as H3's `cellToParent` returns it.
+pub fn cell_to_parent(index: Option<u64>, res: i32) -> Result<Cell, H3Error>
+    ensures { result ≡ cell_to_parent index res }
+{
+    let cell = cell_from(index)?;
+    parent(cell, res)
+}
+
+/// The descendant of a cell at a resolution whose further digits are 0, as H3's `cellToCenterChild`
+/// returns it.
+pub fn cell_to_center_child(index: Option<u64>, res: i32) -> Result<Cell, H3Error>
+    ensures { result ≡ cell_to_center_child index res }
+{
+    let cell = cell_from(index)?;
+    center_child(cell, res)
+}
+
+/// The descendants of a cell at a resolution, in ascending order, as H3's `cellToChildren` lists
+/// them.
+pub fn cell_to_children(index: Option<u64>, res: i32) -> Result<Children, H3Error>
+    ensures { Lists (YieldsFirst children_left) result (cell_to_children index res) }
+{
+    let cell = cell_from(index)?;
+    children(cell, res)
+}
+
+/// The number of descendants that a cell has at a resolution, as H3's `cellToChildrenSize` returns
+/// it.
+pub fn cell_to_children_size(index: Option<u64>, res: i32) -> Result<u64, H3Error>
+    ensures { result ≡ cell_to_children_size index res }
+{
+    let cell = cell_from(index)?;
+    children_size(cell, res)
+}
+
+/// The position of a cell among the descendants of its ancestor at a resolution, as H3's
+/// `cellToChildPos` returns it.
+pub fn cell_to_child_pos(index: Option<u64>, res: i32) -> Result<u64, H3Error>
+    ensures { result ≡ cell_to_child_pos index res }
+{
+    let cell = cell_from(index)?;
+    child_pos(cell, res)
+}
+
+/// The descendant of a cell at a resolution that stands at a position, as H3's `childPosToCell`
+/// returns it.
+pub fn child_pos_to_cell(position: u64, index: Option<u64>, res: i32) -> Result<Cell, H3Error>
+    ensures { result ≡ child_pos_to_cell position index res }
+{
+    let cell = cell_from(index)?;
+    child_at(position, cell, res)
+}
