@@ -1,5 +1,5 @@
 -- How a run ends that reads a list or a table, and what a run does whose ending is known.
-use Rattle.std.proofs.Common.{◌≡◌, ℕ, ◌^◌, ◌⊎◌, Bool, true, false, List, Option, None, Some, Result, Ok, Err, IsTrue, [], sym, subst, refl, inl, inr}
+use Rattle.std.proofs.Common.{◌≡◌, ℕ, ◌^◌, ◌⊎◌, Bool, true, false, List, Option, None, Some, Result, Ok, Err, IsTrue, [], ◌++◌, sym, subst, refl, inl, inr}
 use Rattle.h3_index.specs.Cell.{Address}
 use Rattle.h3_index.specs.Stream.{HasLeft}
 use Rattle.h3_index.specs.declared.error.H3Error.{H3Error}
@@ -9,14 +9,15 @@ use Rattle.h3_lattice.specs.Table.{RefusesTable, links_of, table_fault}
 use Rattle.h3_lattice.specs.declared.error.TableError.{TableError}
 use Rattle.h3_lattice.specs.declared.error.TableError.TheVariants as fault
 use Rattle.h3_lines.specs.Answer.{Answer, answer_or_error, out_of_memory}
+use Rattle.h3_lines.specs.EachLine.{EndsEach, answer_at, list_answer}
 use Rattle.h3_lines.specs.List.{RefusesList, listed_cells}
 use Rattle.h3_lines.specs.Reads.{IsListWithinReads, IsWithinReads}
 use Rattle.h3_lines.specs.Refusal.{table_refusal}
 use Rattle.h3_lines.specs.declared.refusal.Refusal.{Refusal}
-use Rattle.h3_lines.specs.declared.refusal.Refusal.TheVariants.{Error, Memory, Read, Write, Table, TableOpen}
+use Rattle.h3_lines.specs.declared.refusal.Refusal.TheVariants.{Error, At, Memory, Read, Write, Table, TableOpen}
 use Rattle.h3_lines.specs.Writing.{IsLeft, Reports, SinkUse, Writes}
 use Rattle.h3_command.specs.Answer.{Request, about_table, with_table, unless_faulty}
-use Rattle.h3_command.specs.Answer.Request.{of_list, of_table, plain}
+use Rattle.h3_command.specs.Answer.Request.{of_lines, of_list, of_table, plain}
 use Rattle.h3_command.specs.Run.{Answers, Ends, Gives, NoReadFails, ReadFails, Runs, SourceUse, Streams, WritesReading}
 use Rattle.h3_command.proofs.Written.{nothing, writes_refused}
 
@@ -26,6 +27,7 @@ reading_written : (a : Answer) (bytes : List ℕ) (was_read : Type 0) (source : 
 unfolding Writes
 reading_written a bytes was_read source (Ok u) out all sound writes = (all, sound, writes)
 reading_written a bytes was_read source (Err (Error e)) out all sound writes = (all, sound, writes)
+reading_written a bytes was_read source (Err (At n e)) out all sound writes = (all, sound, writes)
 reading_written a bytes was_read source (Err (Table e)) out all sound writes = (all, sound, writes)
 reading_written a bytes was_read source (Err TableOpen) out all sound never = absurd never
 reading_written a bytes was_read source (Err Memory) out all sound never = absurd never
@@ -40,6 +42,7 @@ pub list_refused : (about : List Address → Answer) (list : List ℕ) (input : 
     → WritesReading (answer_or_error about (listed_cells list)) list (IsListWithinReads (2 ^ 40) 65536 list) input (Err e) out
 list_refused about list input (Error d) out is within sound left =
     (within (λ never. cc never) (λ never. cc never), sound (λ never. cc never), subst (λ cells. Writes (answer_or_error about cells) (Err (Error d)) out) (sym is) (writes_refused d out left))
+list_refused about list input (At n d) out never within sound left = absurd never
 list_refused about list input Memory out is within sound left = (sound (λ never. cc never), left)
 list_refused about list input Read out fails within sound left = (fails, left)
 list_refused about list input Write out never within sound left = absurd never
@@ -109,6 +112,7 @@ gives_written : (a : Answer) (ending : Result (Unit {0}) Refusal) (status : ℕ)
 unfolding Writes
 gives_written a (Ok u) status s writes w reports = record { output = writes.1; report = subst (λ e. Reports e status s.err) (sym writes.0) reports }
 gives_written a (Err (Error e)) status s writes w reports = record { output = writes.1; report = subst (λ e. Reports e status s.err) (sym writes.0) reports }
+gives_written a (Err (At n e)) status s writes w reports = record { output = writes.1; report = subst (λ e. Reports e status s.err) (sym writes.0) reports }
 gives_written a (Err (Table e)) status s writes w reports = record { output = writes.1; report = subst (λ e. Reports e status s.err) (sym writes.0) reports }
 gives_written a (Err Memory) status s never w reports = absurd never
 gives_written a (Err Read) status s never w reports = absurd never
@@ -120,12 +124,28 @@ gives_reading : (a : Answer) (bytes : List ℕ) (was_read : Type 0) (source : So
     → (ReadFails source bytes → ⊥) → s.out.has_failed ≡ false → Reports ending status s.err → Gives a status s ⊎ Gives out_of_memory status s
 gives_reading a bytes was_read source (Ok u) status s writes r w reports = inl (gives_written a (Ok u) status s writes.2 w reports)
 gives_reading a bytes was_read source (Err (Error e)) status s writes r w reports = inl (gives_written a (Err (Error e)) status s writes.2 w reports)
+gives_reading a bytes was_read source (Err (At n e)) status s writes r w reports = inl (gives_written a (Err (At n e)) status s writes.2 w reports)
 gives_reading a bytes was_read source (Err (Table e)) status s writes r w reports = inl (gives_written a (Err (Table e)) status s writes.2 w reports)
 gives_reading a bytes was_read source (Err TableOpen) status s writes r w reports = inl (gives_written a (Err TableOpen) status s writes.2 w reports)
 gives_reading a bytes was_read source (Err Memory) status s writes r w reports =
     inr (record { output = (nothing _ _ writes.1.0, writes.1.1); report = reports })
 gives_reading a bytes was_read source (Err Read) status s writes r w reports = absurd (r writes.0)
 gives_reading a bytes was_read source (Err Write) status s writes r w reports = inl (gives_written a (Err Write) status s writes.2 w reports)
+
+-- the same of a list whose lines are answered
+gives_each : (about : Option ℕ → Answer) (ending : Result (Unit {0}) Refusal) (status : ℕ) (s : Streams) → EndsEach about s.input.left s.input.left_after s.input.had_failed s.input.has_failed ending s.out → Reports ending status s.err
+    → (list : List ℕ) × HasLeft s.input.left list × ((ReadFails s.input list → ⊥) → s.out.has_failed ≡ false → Gives (list_answer about list) status s ⊎ Gives out_of_memory status s)
+gives_each about (Ok u) status s (sound, all) reports = (all.list, all.held, λ r w. inl (gives_written (list_answer about all.list) (Ok u) status s all.writes w reports))
+gives_each about (Err (At n e)) status s (sound, stop, writes) reports =
+    (stop.part ++ stop.last ++ stop.rest, stop.held, λ r w. inl (gives_written (answer_at stop) (Err (At n e)) status s writes w reports))
+gives_each about (Err Write) status s (sound, stop, takes) reports = (stop.part ++ stop.last ++ stop.rest, stop.held, λ r w. absurd (cc (takes.failed, w)))
+gives_each about (Err Read) status s fault reports = (fault.part ++ fault.rest, fault.held, λ r w. absurd (r fault.fails))
+gives_each about (Err Memory) status s (sound, kept, left) reports =
+    let (list, held) = some_left s.input.left in
+    (list, held, λ r w. inr (record { output = (nothing _ _ left.0, left.1); report = reports }))
+gives_each about (Err (Error e)) status s never reports = absurd never
+gives_each about (Err (Table e)) status s never reports = absurd never
+gives_each about (Err TableOpen) status s never reports = absurd never
 
 with_memory : {A B : Type 0} (memory : Bool) → IsTrue memory → A ⊎ B → A ⊎ (IsTrue memory × B)
 with_memory memory takes (inl a) = inl a
@@ -145,6 +165,10 @@ answers (of_list about) ending status s (list, held, writes) reports =
       file_is = kept;
       given = λ none. with_memory true refl (gives_reading _ list _ s.input ending status s writes (none.list_read refl) none.answer_written reports);
     }
+answers (of_lines about) ending status s ends reports =
+    let (list, held, given) = gives_each about ending status s ends reports in
+    let (file, kept) = some_left s.table.left in
+    record { list = list; file = file; list_is = held; file_is = kept; given = λ none. with_memory true refl (given (none.list_read refl) none.answer_written) }
 answers (of_table about) ending status s (file, held, writes) reports =
     let (list, kept) = some_left s.input.left in
     record {

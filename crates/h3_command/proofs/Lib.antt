@@ -1,3 +1,3 @@
-pub mod BasesLaws
+pub mod EdgeLines
 pub mod Endings
 pub mod Written

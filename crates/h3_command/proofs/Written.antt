@@ -1,9 +1,7 @@
 -- What a command's writing is where an error stands in place of its answer, or where it has items.
 use Rattle.std.proofs.Common.{◌≡◌, ℕ, ℤ, List, [], Option, None, Some, Result, Ok, Err, sym, ap, ◌∙◌, subst, refl, append-nil}
 use Rattle.std.specs.Io.KnownBytes.{Appends, Keeps}
-use Rattle.std.specs.Prelude.{IfOk}
 use Rattle.std.specs.Iterator.{YieldsFirst}
-use Rattle.std.specs.Result.{result_err}
 use Rattle.std.proofs.lemmas.Iterator.{YieldsList}
 use Rattle.std.proofs.lemmas.Iterator.Consumers.{YieldsList-from_first}
 use Rattle.h3_index.specs.declared.error.H3Error.{H3Error}
@@ -11,8 +9,8 @@ use Rattle.h3_lines.specs.Answer.{Answer, answer_or_error, refused, walked}
 use Rattle.h3_lines.specs.Writing.{IsLeft, SinkUse, Writes}
 use Rattle.h3_lines.specs.declared.refusal.Refusal.{Refusal}
 use Rattle.h3_lines.specs.declared.refusal.Refusal.TheVariants.{Error}
-use Rattle.h3_command.specs.Hierarchy.{unless}
-use Rattle.h3_command.specs.Items.{Lists}
+use Rattle.h3_functions.specs.Hierarchy.{unless}
+use Rattle.h3_functions.specs.Items.{Lists}
 
 -- nothing was appended
 pub nothing : (old new : Option (List ℕ)) → Keeps old new → Appends old new []
@@ -45,13 +43,6 @@ pub answered_error : {S A : Type 0} (about : List A → Answer) (steps : S → O
     → Writes (answer_or_error about all) (Err (Error e)) out
 answered_error about steps (Ok xs) all e out same never left = absurd never
 answered_error about steps (Err d) all e out same is left = answered_refused about all e out (sym same ∙ ap Err (sym is)) left
-
--- an iterator that yields what it has left, or an error
-pub lists_first : {S A : Type 0} (rest : S → List A) (items : Result S H3Error) (error : Option H3Error) (all : List A) → result_err items ≡ error → IfOk items (λ s. rest s ≡ all)
-    → Lists (YieldsFirst rest) items (unless error all)
-lists_first rest (Ok s) error all refused left =
-    subst (λ e. Lists (YieldsFirst rest) (Ok s) (unless e all)) refused (YieldsList-from_first (λ x. x) rest all left)
-lists_first rest (Err e) error all refused left = subst (λ d. Lists (YieldsFirst rest) (Err e) (unless d all)) refused refl
 
 -- ---- a walk
 

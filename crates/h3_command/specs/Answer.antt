@@ -7,21 +7,25 @@ use Rattle.h3_lattice.specs.Links.{Links}
 use Rattle.h3_lattice.specs.Table.{links_of, table_fault}
 use Rattle.h3_lattice.specs.declared.error.TableError.{TableError}
 use Rattle.h3_lines.specs.Answer.{Answer, answer_or_error, cell_line, cell_lines, edge_line, edge_lines, number_line, printed, refused, ring_line, table_refused, truth_line, walked, written}
+use Rattle.h3_lines.specs.EachLine.{list_answer}
 use Rattle.h3_lines.specs.List.{listed_cells}
-use Rattle.h3_command.specs.Edges.{are_neighbor_cells, cell_pair_from, cells_to_directed_edge, edge_from, get_directed_edge_destination, get_directed_edge_origin, is_valid_directed_edge, origin_to_directed_edges}
-use Rattle.h3_command.specs.Hierarchy.{cell_to_center_child, cell_to_child_pos, cell_to_children, cell_to_children_size, cell_to_parent, child_pos_to_cell}
-use Rattle.h3_command.specs.Inspection.{cell_from, get_base_cell_number, get_resolution, is_pentagon, is_res_class_iii, is_valid_cell}
-use Rattle.h3_command.specs.Resolutions.{get_num_cells, get_pentagons, get_res0_cells}
-use Rattle.h3_command.specs.Sets.{compact_cells, uncompact_cells}
-use Rattle.h3_command.specs.Walks.{grid_disk_distances_unsafe, grid_disk_unsafe, grid_ring_unsafe}
+use Rattle.h3_functions.specs.Edges.{are_neighbor_cells, cell_pair_from, cells_to_directed_edge, edge_from, get_directed_edge_destination, get_directed_edge_origin, is_valid_directed_edge, origin_to_directed_edges}
+use Rattle.h3_functions.specs.Hierarchy.{cell_to_center_child, cell_to_child_pos, cell_to_children, cell_to_children_size, cell_to_parent, child_pos_to_cell}
+use Rattle.h3_functions.specs.Inspection.{cell_from, get_base_cell_number, get_resolution, is_pentagon, is_res_class_iii, is_valid_cell}
+use Rattle.h3_functions.specs.Resolutions.{get_num_cells, get_pentagons, get_res0_cells}
+use Rattle.h3_functions.specs.Sets.{compact_cells, uncompact_cells}
+use Rattle.h3_functions.specs.Walks.{grid_disk_distances_unsafe, grid_disk_unsafe, grid_ring_unsafe}
+use Rattle.h3_command.specs.declared.command.CellFunction.{CellFunction}
+use Rattle.h3_command.specs.declared.command.CellFunction.TheVariants as each
 use Rattle.h3_command.specs.declared.command.Command.{Command}
 use Rattle.h3_command.specs.declared.command.Command.TheVariants as command
 
--- what a command reads and writes: an answer that its words alone fix, one about the cells listed on standard input, or
--- one about the links of a base cell table
+-- what a command reads and writes: an answer that its words alone fix, one about the cells listed on standard input, one
+-- for each line of it, or one about the links of a base cell table
 pub data Request : Type 0 where
   plain : Answer → Request
   of_list : (List Address → Answer) → Request
+  of_lines : (Option ℕ → Answer) → Request
   of_table : (Links → Answer) → Request
 
 -- one about a value and a table; where there is an error in place of the value, the table is not read
@@ -29,21 +33,36 @@ abbrev pub with_table : {A : Type 0} → (A → Links → Answer) → Result A H
 with_table about (Ok value) = of_table (about value)
 with_table about (Err e) = plain (refused e)
 
+-- what the command of a function of one index answers to an index
+abbrev pub answer_for : CellFunction → Option ℕ → Answer
+answer_for each.IsValidCell index = printed truth_line (is_valid_cell index)
+answer_for each.IsValidDirectedEdge index = printed truth_line (is_valid_directed_edge index)
+answer_for each.GetResolution index = printed number_line (get_resolution index)
+answer_for each.GetBaseCellNumber index = printed number_line (get_base_cell_number index)
+answer_for each.IsPentagon index = printed truth_line (is_pentagon index)
+answer_for each.IsResClassIII index = printed truth_line (is_res_class_iii index)
+answer_for (each.CellToParent res) index = printed cell_line (cell_to_parent index res)
+answer_for (each.CellToCenterChild res) index = printed cell_line (cell_to_center_child index res)
+answer_for (each.CellToChildrenSize res) index = printed number_line (cell_to_children_size index res)
+answer_for (each.CellToChildPos res) index = printed number_line (cell_to_child_pos index res)
+answer_for each.GetDirectedEdgeOrigin index = printed cell_line (get_directed_edge_origin index)
+answer_for each.OriginToDirectedEdges index = printed edge_lines (origin_to_directed_edges index)
+
 -- what each command reads and writes
 abbrev pub request : Command → Request
-request (command.IsValidCell cell) = plain (printed truth_line (is_valid_cell cell))
-request (command.GetResolution cell) = plain (printed number_line (get_resolution cell))
-request (command.GetBaseCellNumber cell) = plain (printed number_line (get_base_cell_number cell))
-request (command.IsPentagon cell) = plain (printed truth_line (is_pentagon cell))
-request (command.IsResClassIII cell) = plain (printed truth_line (is_res_class_iii cell))
+request (command.IsValidCell cell) = plain (answer_for each.IsValidCell cell)
+request (command.GetResolution cell) = plain (answer_for each.GetResolution cell)
+request (command.GetBaseCellNumber cell) = plain (answer_for each.GetBaseCellNumber cell)
+request (command.IsPentagon cell) = plain (answer_for each.IsPentagon cell)
+request (command.IsResClassIII cell) = plain (answer_for each.IsResClassIII cell)
 request (command.GetNumCells res) = plain (printed number_line (get_num_cells res))
 request command.GetRes0Cells = plain (written (cell_lines get_res0_cells))
 request (command.GetPentagons res) = plain (printed cell_lines (get_pentagons res))
-request (command.CellToParent cell res) = plain (printed cell_line (cell_to_parent cell res))
-request (command.CellToCenterChild cell res) = plain (printed cell_line (cell_to_center_child cell res))
+request (command.CellToParent cell res) = plain (answer_for (each.CellToParent res) cell)
+request (command.CellToCenterChild cell res) = plain (answer_for (each.CellToCenterChild res) cell)
 request (command.CellToChildren cell res) = plain (printed cell_lines (cell_to_children cell res))
-request (command.CellToChildrenSize cell res) = plain (printed number_line (cell_to_children_size cell res))
-request (command.CellToChildPos cell res) = plain (printed number_line (cell_to_child_pos cell res))
+request (command.CellToChildrenSize cell res) = plain (answer_for (each.CellToChildrenSize res) cell)
+request (command.CellToChildPos cell res) = plain (answer_for (each.CellToChildPos res) cell)
 request (command.ChildPosToCell position cell res) = plain (printed cell_line (child_pos_to_cell position cell res))
 request command.CompactCells = of_list (λ cells. printed cell_lines (compact_cells cells))
 request (command.UncompactCells res) = of_list (λ cells. printed cell_lines (uncompact_cells res cells))
@@ -52,27 +71,31 @@ request (command.GridDiskDistancesUnsafe cell k) = with_table (λ c link. answer
 request (command.GridRingUnsafe cell k) = with_table (λ c link. answer_or_error (walked cell_line) (grid_ring_unsafe link c k)) (cell_from cell)
 request (command.AreNeighborCells cell to) = with_table (λ cells link. printed truth_line (are_neighbor_cells link cells)) (cell_pair_from cell to)
 request (command.CellsToDirectedEdge cell to) = with_table (λ cells link. printed edge_line (cells_to_directed_edge link cells)) (cell_pair_from cell to)
-request (command.IsValidDirectedEdge edge) = plain (printed truth_line (is_valid_directed_edge edge))
-request (command.GetDirectedEdgeOrigin edge) = plain (printed cell_line (get_directed_edge_origin edge))
+request (command.IsValidDirectedEdge edge) = plain (answer_for each.IsValidDirectedEdge edge)
+request (command.GetDirectedEdgeOrigin edge) = plain (answer_for each.GetDirectedEdgeOrigin edge)
 request (command.GetDirectedEdgeDestination edge) = with_table (λ e link. printed cell_line (get_directed_edge_destination link e)) (edge_from edge)
-request (command.OriginToDirectedEdges cell) = plain (printed edge_lines (origin_to_directed_edges cell))
+request (command.OriginToDirectedEdges cell) = plain (answer_for each.OriginToDirectedEdges cell)
+request (command.ForEach function) = of_lines (answer_for function)
 
 -- the list of cells is read from standard input
 abbrev pub reads_list : Request → Bool
 reads_list (plain a) = false
 reads_list (of_list about) = true
+reads_list (of_lines about) = true
 reads_list (of_table about) = false
 
 -- the table is read
 abbrev pub reads_table : Request → Bool
 reads_table (plain a) = false
 reads_table (of_list about) = false
+reads_table (of_lines about) = false
 reads_table (of_table about) = true
 
--- what is read is kept in memory
+-- memory is taken for what is read
 abbrev pub takes_memory : Request → Bool
 takes_memory (plain a) = false
 takes_memory (of_list about) = true
+takes_memory (of_lines about) = true
 takes_memory (of_table about) = true
 
 -- ---- the answer
@@ -90,6 +113,7 @@ about_table about file = unless_faulty (table_fault (records_of file)) (about (l
 abbrev pub answer_to : Request → List ℕ → List ℕ → Answer
 answer_to (plain a) list file = a
 answer_to (of_list about) list file = answer_or_error about (listed_cells list)
+answer_to (of_lines about) list file = list_answer about list
 answer_to (of_table about) list file = about_table about file
 
 -- the answer to a command. Examples alone cite it.

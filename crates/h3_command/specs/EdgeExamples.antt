@@ -13,7 +13,7 @@ use Rattle.h3_grid.specs.Neighbors.{are_neighbors, pair_refusal}
 use Rattle.h3_lines.specs.Answer.{refused, written}
 use Rattle.h3_command.specs.Answer.{answer, request}
 use Rattle.h3_command.specs.Answer.Request.{plain}
-use Rattle.h3_command.specs.Edges.{are_neighbor_cells, cells_to_directed_edge}
+use Rattle.h3_functions.specs.Edges.{are_neighbor_cells, cells_to_directed_edge}
 use Rattle.h3_command.specs.declared.command.Command.TheVariants.{AreNeighborCells, CellsToDirectedEdge, GetDirectedEdgeDestination, GetDirectedEdgeOrigin, IsValidDirectedEdge, OriginToDirectedEdges}
 
 -- an edge; direction 1 at a pentagon; a cell

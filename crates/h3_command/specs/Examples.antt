@@ -3,8 +3,8 @@ use Rattle.std.specs.Prelude.{◌≡◌, ℕ, List, [], ◌∷◌, ◌++◌, cod
 use Rattle.h3_index.specs.Cell.{number_of}
 use Rattle.h3_index.specs.CellNumber.{address_in, cell_in}
 use Rattle.h3_index.specs.Count.{base_cell, number_below}
-use Rattle.h3_index.specs.Text.{text_of}
-use Rattle.h3_index.specs.declared.error.H3Error.TheVariants.{Domain, Failed, Pentagon}
+use Rattle.h3_index.specs.Text.{parsed_index, text_of}
+use Rattle.h3_index.specs.declared.error.H3Error.TheVariants.{CellInvalid, Domain, Failed, Pentagon}
 use Rattle.h3_lattice.specs.Fields.{records_of}
 use Rattle.h3_lattice.specs.Table.{table_fault}
 use Rattle.h3_lattice.specs.Vectors.{test_link}
@@ -13,11 +13,13 @@ use Rattle.h3_lattice.specs.declared.vectors.TestTable.TheVariants.{Plain}
 use Rattle.h3_grid.specs.Moves.{moves, ring_moves}
 use Rattle.h3_grid.specs.Search.{candidates, digit_lists, found_sum, step_of}
 use Rattle.h3_grid.specs.Walks.{disk, followed}
+use Rattle.h3_lines.specs.declared.refusal.Refusal.TheVariants.{At}
 use Rattle.h3_lines.specs.Answer.{answer_or_error, before, cell_line, refused, table_refused, walked, written}
 use Rattle.h3_command.specs.Answer.{answer, request}
 use Rattle.h3_command.specs.Answer.Request.{plain}
-use Rattle.h3_command.specs.Walks.{grid_disk_unsafe}
-use Rattle.h3_command.specs.declared.command.Command.TheVariants.{CellToParent, GridDiskUnsafe, IsValidCell}
+use Rattle.h3_functions.specs.Walks.{grid_disk_unsafe}
+use Rattle.h3_command.specs.declared.command.CellFunction.TheVariants as each
+use Rattle.h3_command.specs.declared.command.Command.TheVariants.{CellToParent, ForEach, GridDiskUnsafe, IsValidCell}
 
 -- ---- answers
 
@@ -31,6 +33,19 @@ parent = refl
 
 no_index : answer (CellToParent None (pos 4)) [] [] ≡ refused Failed
 no_index = refl
+
+-- a list of two cells with a blank line between them, and one with a text that is no index behind a blank line
+two_cells : answer (ForEach (each.CellToParent (pos 4))) (codes "85283473fffffff" ++ 10 ∷ 32 ∷ 10 ∷ codes "8528340ffffffff") [] ≡ written (codes "8428347ffffffff" ++ 10 ∷ codes "8428341ffffffff" ++ 10 ∷ [])
+unfolding cell_in address_in number_of number_below parsed_index text_of
+two_cells = refl
+
+third_line : answer (ForEach each.IsValidCell) (codes "85283473fffffff" ++ 10 ∷ 10 ∷ codes "xyz" ++ 10 ∷ codes "85283473fffffff") [] ≡ record { output = codes "true" ++ 10 ∷ []; ending = Err (At 3 Failed) }
+unfolding cell_in address_in number_of parsed_index
+third_line = refl
+
+no_cell : (answer (ForEach each.GetResolution) (codes "81087ffffffffff") []).ending ≡ Err (At 1 CellInvalid)
+unfolding cell_in address_in number_of parsed_index
+no_cell = refl
 
 -- ---- walks
 

@@ -1,14 +1,5 @@
 pub mod Answer
-pub mod Bases
-pub mod DiskCells
 pub mod EdgeExamples
-pub mod Edges
 pub mod Examples
-pub mod Hierarchy
-pub mod Inspection
-pub mod Items
-pub mod Resolutions
 pub mod Run
-pub mod Sets
 pub mod TableQuery
-pub mod Walks

@@ -7,22 +7,24 @@ use Rattle.h3_lines.specs.declared.refusal.Refusal.{Refusal}
 use Rattle.h3_lines.specs.declared.refusal.Refusal.TheVariants.{Memory, Read}
 use Rattle.h3_lines.specs.Answer.{Answer, answer_or_error, out_of_memory}
 use Rattle.h3_lines.specs.Writing.{IsLeft, Reports, SinkUse, Takes, Writes}
+use Rattle.h3_lines.specs.EachLine.{EndsEach}
 use Rattle.h3_lines.specs.List.{listed_cells}
 use Rattle.h3_lines.specs.Reads.{IsListWithinReads, IsWithinReads}
 use Rattle.h3_command.specs.Answer.{Request, about_table, answer_to, reads_list, reads_table, takes_memory}
-use Rattle.h3_command.specs.Answer.Request.{plain, of_list, of_table}
+use Rattle.h3_command.specs.Answer.Request.{plain, of_lines, of_list, of_table}
 
 -- ---- streams
 
--- a source over a call: the bytes that it had left, where they are known, and whether it had failed before and has
--- after
+-- a source over a call: the bytes that it had left and has left, where they are known, and whether it had failed before
+-- and has after
 pub record SourceUse : Type 0 where
   pub left : Option (List ℕ)
+  pub left_after : Option (List ℕ)
   pub had_failed : Bool
   pub has_failed : Bool
 
 abbrev pub source_use : {S : Type 0} → (S → Option (List ℕ)) → (S → Bool) → S → S → SourceUse
-source_use left failed old new = record { left = left old; had_failed = failed old; has_failed = failed new }
+source_use left failed old new = record { left = left old; left_after = left new; had_failed = failed old; has_failed = failed new }
 
 -- the streams of a run
 pub record Streams : Type 1 where
@@ -63,6 +65,7 @@ WritesOfTable about table ending out =
 abbrev pub Ends : Request → SourceUse → SourceUse → Result (Unit {0}) Refusal → SinkUse → Type 0
 Ends (plain a) input table ending out = Writes a ending out
 Ends (of_list about) input table ending out = WritesOfList about input ending out
+Ends (of_lines about) input table ending out = EndsEach about input.left input.left_after input.had_failed input.has_failed ending out
 Ends (of_table about) input table ending out = WritesOfTable about table ending out
 
 -- ---- where nothing fails

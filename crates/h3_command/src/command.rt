@@ -1,5 +1,45 @@
 //! The commands.
 
+/// A function of one index: a command in the plural answers it for each line of a list.
+#[derive(Clone, Copy, Debug, Eq, PartialEq)]
+pub enum CellFunction {
+    /// `isValidCell`
+    IsValidCell,
+
+    /// `isValidDirectedEdge`
+    IsValidDirectedEdge,
+
+    /// `getResolution`
+    GetResolution,
+
+    /// `getBaseCellNumber`
+    GetBaseCellNumber,
+
+    /// `isPentagon`
+    IsPentagon,
+
+    /// `isResClassIII`
+    IsResClassIII,
+
+    /// `cellToParent`
+    CellToParent { res: i32 },
+
+    /// `cellToCenterChild`
+    CellToCenterChild { res: i32 },
+
+    /// `cellToChildrenSize`
+    CellToChildrenSize { res: i32 },
+
+    /// `cellToChildPos`
+    CellToChildPos { res: i32 },
+
+    /// `getDirectedEdgeOrigin`
+    GetDirectedEdgeOrigin,
+
+    /// `originToDirectedEdges`
+    OriginToDirectedEdges,
+}
+
 /// A command with what its words parse as: one variant a command, named as H3's functions are.
 ///
 /// An index is `None` where its word parses as none.
@@ -138,14 +178,17 @@ pub enum Command {
     OriginToDirectedEdges {
         cell: Option<u64>,
     },
+
+    /// What a function of one index returns for each index of a list.
+    ForEach(CellFunction),
 }
 
 #[cfg(test)]
 mod tests {
-    use super::Command;
+    use super::{CellFunction, Command};
 
-    /// A command of each variant, of these words.
-    fn commands(cell: Option<u64>, to: Option<u64>, position: u64, res: i32) -> [Command; 25] {
+    /// A command of each variant, of these words, with each function of one index.
+    fn commands(cell: Option<u64>, to: Option<u64>, position: u64, res: i32) -> [Command; 37] {
         let edge = cell;
         let k = res;
         [
@@ -178,6 +221,18 @@ mod tests {
             Command::GetDirectedEdgeOrigin { edge },
             Command::GetDirectedEdgeDestination { edge },
             Command::OriginToDirectedEdges { cell },
+            Command::ForEach(CellFunction::IsValidCell),
+            Command::ForEach(CellFunction::IsValidDirectedEdge),
+            Command::ForEach(CellFunction::GetResolution),
+            Command::ForEach(CellFunction::GetBaseCellNumber),
+            Command::ForEach(CellFunction::IsPentagon),
+            Command::ForEach(CellFunction::IsResClassIII),
+            Command::ForEach(CellFunction::CellToParent { res }),
+            Command::ForEach(CellFunction::CellToCenterChild { res }),
+            Command::ForEach(CellFunction::CellToChildrenSize { res }),
+            Command::ForEach(CellFunction::CellToChildPos { res }),
+            Command::ForEach(CellFunction::GetDirectedEdgeOrigin),
+            Command::ForEach(CellFunction::OriginToDirectedEdges),
         ]
     }
 
@@ -205,7 +260,7 @@ mod tests {
     fn commands_of_other_words_differ(rt: HostRuntime) {
         let these = commands(Some(1), Some(2), 3, 4);
         assert_eq!(&rt; differences(&these, &these), 0);
-        // 17 commands have a cell and 3 an edge, 2 another cell, 1 a position, 9 a resolution and 3
+        // 17 commands have a cell and 3 an edge, 2 another cell, 1 a position, 13 a resolution and 3
         // a radius
         for (others, count) in [
             (commands(None, Some(2), 3, 4), 20),
@@ -213,7 +268,7 @@ mod tests {
             (commands(Some(1), None, 3, 4), 2),
             (commands(Some(1), Some(5), 3, 4), 2),
             (commands(Some(1), Some(2), 5, 4), 1),
-            (commands(Some(1), Some(2), 3, 5), 12),
+            (commands(Some(1), Some(2), 3, 5), 16),
         ] {
             assert_eq!(&rt; differences(&these, &others), count);
         }

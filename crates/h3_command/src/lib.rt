@@ -1,16 +1,13 @@
 //! The commands of the program `h3`, and how they run over streams.
 #![tactic(auto)]
 
-mod bases;
 mod command;
-mod disk_cells;
 mod edges;
-mod hierarchy;
-mod inspection;
-mod resolutions;
+mod for_each;
+pub mod laws;
 pub mod run;
 mod sets;
 mod table_query;
 mod walks;
 
-pub use command::Command;
+pub use command::{CellFunction, Command};

@@ -7,23 +7,18 @@ ghost use Rattle.h3_command.specs.Run.{Ends, Runs, source_use};
 
 use crate::command::Command;
 use crate::command::Command::*;
-use crate::edges::{
-    are_neighbor_cells, cells_to_directed_edge, get_directed_edge_destination,
-    get_directed_edge_origin, is_valid_directed_edge, origin_to_directed_edges,
-};
-use crate::hierarchy::{
-    cell_to_center_child, cell_to_child_pos, cell_to_children, cell_to_children_size,
-    cell_to_parent, child_pos_to_cell,
-};
-use crate::inspection::{
-    get_base_cell_number, get_resolution, is_pentagon, is_res_class_iii, is_valid_cell,
-};
-use crate::resolutions::{get_num_cells, get_pentagons, get_res0_cells};
+use crate::edges::{are_neighbor_cells, cells_to_directed_edge, get_directed_edge_destination};
 use crate::sets::{compact_cells, uncompact_cells};
 use crate::table_query::over_table;
 use crate::walks::{grid_disk_distances_unsafe, grid_disk_unsafe, grid_ring_unsafe};
+use h3_functions::{
+    cell_to_center_child, cell_to_child_pos, cell_to_children, cell_to_children_size,
+    cell_to_parent, child_pos_to_cell, get_base_cell_number, get_directed_edge_origin,
+    get_num_cells, get_pentagons, get_res0_cells, get_resolution, is_pentagon, is_res_class_iii,
+    is_valid_cell, is_valid_directed_edge, origin_to_directed_edges,
+};
 use h3_index::{Sink, Source};
-use h3_lines::{Refusal, report, write_lines, write_result};
+use h3_lines::{Refusal, answer_each, report, write_lines, write_result};
 use std::alloc::Global;
 
 /// Does the work of a command, up to the line on standard error.
@@ -78,6 +73,7 @@ fn perform<R: Source, T: Source, W: Sink>(
             over_table(alloc, get_directed_edge_destination(edge), table, out)
         }
         OriginToDirectedEdges { cell } => write_lines(out, origin_to_directed_edges(cell)?),
+        ForEach(function) => answer_each(alloc, &function, input, out),
     }
 }
 

@@ -4,7 +4,7 @@ ghost use Rattle.std.specs.Prelude.{◌≡◌, ◌≤◌, length};
 ghost use Rattle.h3_lines.specs.Answer.{cell_lines, printed};
 ghost use Rattle.h3_lines.specs.Writing.{Writes, sink_use};
 ghost use Rattle.h3_command.specs.Run.{WritesOfList, source_use};
-ghost use Rattle.h3_command.specs.Sets.{compact_cells, uncompact_cells};
+ghost use Rattle.h3_functions.specs.Sets.{compact_cells, uncompact_cells};
 
 use h3_index::{Cell, Sink, Source};
 use h3_lines::{Refusal, read_cells, write_lines};

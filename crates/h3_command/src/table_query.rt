@@ -15,7 +15,7 @@ ghost use Rattle.h3_command.specs.Run.{Ends, SourceUse, source_use};
 ghost use Rattle.h3_command.specs.TableQuery.{table_answer};
 ghost use Rattle.h3_command.specs.declared.table_query.TableQuery.TheVariants.{GridDisk, GridDiskDistances, GridRing};
 
-use crate::disk_cells::DiskCells;
+use h3_functions::DiskCells;
 use h3_grid::{Disk, Ring, are_neighbors, edge_between, edge_destination};
 use h3_index::{Cell, Edge, H3Error, Sink, Source};
 use h3_lattice::BaseTable;

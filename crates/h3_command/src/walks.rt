@@ -8,8 +8,8 @@ ghost use Rattle.h3_command.specs.Answer.{request, with_table};
 ghost use Rattle.h3_command.specs.TableQuery.{table_answer};
 ghost use Rattle.h3_command.specs.declared.command.Command.TheVariants.{GridDiskDistancesUnsafe, GridDiskUnsafe, GridRingUnsafe};
 
-use crate::inspection::cell_from;
 use crate::table_query::TableQuery;
+use h3_functions::cell_from;
 use h3_index::H3Error;
 
 /// The cells within a radius of a cell, as H3's `gridDiskUnsafe` walks them.

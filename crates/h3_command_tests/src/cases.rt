@@ -1,7 +1,7 @@
 //! Commands and their answers, for tests over streams that fail.
 
-use h3_command::Command;
 use h3_command::run::run;
+use h3_command::{CellFunction, Command};
 use h3_fakes::{Faults, FaultySink, FaultySource};
 use h3_index::{Sink, read_index};
 use std::process::Abort;
@@ -319,6 +319,38 @@ pub fn list_cases() -> [Case<'static>; 5] {
             Reads::List(twice),
             "",
             "error 10: E_DUPLICATE_INPUT\n",
+        ),
+    ]
+}
+
+/// Functions of each index of a list, all of whose lines are ended: those that are answered whole,
+/// and those that are refused at a line.
+pub fn plural_cases() -> [Case<'static>; 5] {
+    let parents = Command::ForEach(CellFunction::CellToParent { res: 4 });
+    let edges = Command::ForEach(CellFunction::OriginToDirectedEdges);
+    let five = "12009fffffffffff\n13009fffffffffff\n14009fffffffffff\n15009fffffffffff\n\
+                16009fffffffffff\n";
+    let sizes = Command::ForEach(CellFunction::CellToChildrenSize { res: 15 });
+    let two = "\n8029fffffffffff\n8009fffffffffff\n";
+    [
+        whole(
+            parents,
+            Reads::List("85283473fffffff\r\n\n0X85283473FFFFFFF\n"),
+            "8428347ffffffff\n8428347ffffffff\n",
+        ),
+        whole(edges, Reads::List("8009fffffffffff\n"), five),
+        whole(sizes, Reads::List(two), "4747561509943\n3956301258286\n"),
+        refused(
+            parents,
+            Reads::List("85283473fffffff\n8009fffffffffff\n85283473fffffff\n"),
+            "8428347ffffffff\n",
+            "line 2: error 12: E_RES_MISMATCH\n",
+        ),
+        refused(
+            edges,
+            Reads::List("\n81087ffffffffff\n"),
+            "",
+            "line 2: error 5: E_CELL_INVALID\n",
         ),
     ]
 }

@@ -8,6 +8,12 @@ mod edges;
 #[cfg(test)]
 mod lists;
 #[cfg(test)]
+mod plural_faults;
+#[cfg(test)]
+mod plural_pages;
+#[cfg(test)]
+mod plurals;
+#[cfg(test)]
 mod readers;
 #[cfg(test)]
 mod runs;

@@ -2,7 +2,7 @@
 
 use crate::cases::{
     Case, NO_FAULT, Reads, Streams, WELL, edge_cases, index_of, list_cases, plain_cases,
-    walk_cases, whole,
+    plural_cases, walk_cases, whole,
 };
 use arrayvec::ArrayVec;
 use h3_command::Command;
@@ -176,6 +176,14 @@ fn a_command_on_a_list_whose_write_fails_is_a_write_fault(rt: HostRuntime) {
 }
 
 #[test]
+fn a_function_of_each_index_whose_write_fails_is_a_write_fault(rt: HostRuntime) {
+    for case in &plural_cases() {
+        assert_writers(&rt, case, &[1, 5, 64]);
+        assert_endings(&rt, case);
+    }
+}
+
+#[test]
 fn a_walk_whose_write_fails_is_a_write_fault(rt: HostRuntime) {
     let file = bases_file(TestTable::Plain);
     for case in &walk_cases(file.as_str()) {
@@ -203,17 +211,40 @@ fn a_writer_with_room_for_20_bytes_has_the_first_20(rt: HostRuntime) {
     assert!(&rt; err.bytes() == WRITE_FAULT.as_bytes());
 }
 
+/// Asserts the first 40 bytes that a command writes, over a writer that has room for no more. The
+/// command has so many cells that none of them comes out in time, if all are computed first.
+fn assert_begun<R: Abort + AllocGlobal>(rt: &R, command: Command, reads: Reads<'_>, begun: &str) {
+    let case = whole(command, reads, "");
+    let mut out: FaultySink<40> = FaultySink::new(64, NO_FAULT);
+    let mut err: FaultySink<64> = FaultySink::new(64, NO_FAULT);
+    assert_eq!(rt; case.status(rt, &mut out, &mut err), 4);
+    assert!(rt; out.bytes() == begun.as_bytes(), "{command:?}");
+    assert!(rt; err.bytes() == WRITE_FAULT.as_bytes(), "{command:?}");
+}
+
 #[test]
 fn a_long_list_is_written_from_the_start(rt: HostRuntime) {
     let cell = index_of("8001fffffffffff");
-    let case = whole(
-        Command::CellToChildren { cell, res: 15 },
-        Reads::Nothing,
-        "",
+    let begun = "8f0000000000000\n8f0000000000001\n8f000000";
+    let children = Command::CellToChildren { cell, res: 15 };
+    assert_begun(&rt, children, Reads::Nothing, begun);
+    let list = Reads::List("8001fffffffffff\n8003fffffffffff\n");
+    assert_begun(&rt, Command::UncompactCells { res: 15 }, list, begun);
+}
+
+#[test]
+fn a_long_disk_is_written_from_the_start(rt: HostRuntime) {
+    let file = bases_file(TestTable::Plain);
+    let table = Reads::Table(file.as_str());
+    let cell = index_of("8f2834700000000");
+    let k = i32::MAX;
+    let begun = "8f2834700000000\n8f2834700000006\n8f283470";
+    assert_begun(&rt, Command::GridDiskUnsafe { cell, k }, table, begun);
+    let begun = "8f2834700000000 0\n8f2834700000006 1\n8f28";
+    assert_begun(
+        &rt,
+        Command::GridDiskDistancesUnsafe { cell, k },
+        table,
+        begun,
     );
-    let mut out: FaultySink<40> = FaultySink::new(64, NO_FAULT);
-    let mut err: FaultySink<64> = FaultySink::new(64, NO_FAULT);
-    assert_eq!(&rt; case.status(&rt, &mut out, &mut err), 4);
-    assert!(&rt; out.bytes() == b"8f0000000000000\n8f0000000000001\n8f000000".as_slice());
-    assert!(&rt; err.bytes() == WRITE_FAULT.as_bytes());
 }

@@ -1,11 +1,12 @@
-//! Runs four commands over streams in fixed arrays, and prints the status of each and what it
+//! Runs five commands over streams in fixed arrays, and prints the status of each and what it
 //! wrote: a list of 49 cells that compact to one, one of mixed resolutions, a disk over a table in
-//! format 1, and an edge over one in format 2. `.ci/memory` refuses each allocation of it in turn.
+//! format 1, an edge over one in format 2, and the resolution of each cell of a list. `.ci/memory`
+//! refuses each allocation of it in turn.
 #![tactic(auto)]
 
 use arrayvec::ArrayVec;
-use h3_command::Command;
 use h3_command::run::run;
+use h3_command::{CellFunction, Command};
 use h3_fakes::{bases_file, table_file};
 use h3_index::Streamed;
 use h3_lattice::vectors::TestTable;
@@ -77,6 +78,7 @@ fn main(rt: HostRuntime) -> io::Result<()> {
         (Command::CompactCells, (MIXED, "")),
         (disk, ("", file.as_str())),
         (edge, ("", bases.as_str())),
+        (Command::ForEach(CellFunction::GetResolution), (MIXED, "")),
     ];
     let mut stdout = rt.stdout();
     for (command, reads) in &runs {

@@ -7,9 +7,9 @@ use Rattle.std.proofs.lemmas.Result.{err_from_is_err_and}
 use Rattle.h3_tree.specs.Children.{children_left}
 use Rattle.h3_grid.specs.Edges.{edges_left}
 use Rattle.h3_lines.specs.Answer.{cell_lines, edge_lines, written}
-use Rattle.h3_command.specs.Bases.{base_cells_left, pentagons_left}
-use Rattle.h3_command.specs.Hierarchy.{cell_to_children}
-use Rattle.h3_command.specs.Resolutions.{get_pentagons}
+use Rattle.h3_functions.specs.Bases.{base_cells_left, pentagons_left}
+use Rattle.h3_functions.specs.Hierarchy.{cell_to_children}
+use Rattle.h3_functions.specs.Resolutions.{get_pentagons}
 use Rattle.h3_command.proofs.Written.{answered_error}
 use Rattle.h3_command.proofs.run.perform.Goals as goal
 

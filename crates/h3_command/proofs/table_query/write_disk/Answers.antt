@@ -6,8 +6,8 @@ use Rattle.h3_grid.specs.Refusals.{disk_refusal}
 use Rattle.h3_grid.specs.Walks.{disk}
 use Rattle.h3_lattice.specs.BaseTable.{link_of}
 use Rattle.h3_lines.specs.Answer.{cell_line}
-use Rattle.h3_command.specs.DiskCells.{disk_cells_left}
-use Rattle.h3_command.specs.Walks.{without_ring}
+use Rattle.h3_functions.specs.DiskCells.{disk_cells_left}
+use Rattle.h3_functions.specs.Walks.{without_ring}
 use Rattle.h3_command.proofs.Written.{walk_unbegun, walk_written}
 use Rattle.h3_command.proofs.table_query.write_disk.Goals as goal
 

@@ -1,8 +1,0 @@
-use Rattle.std.proofs.Common.{refl}
-use Rattle.h3_index.specs.Count.{pentagons}
-use Rattle.h3_command.specs.Bases.{pentagons_left}
-use Rattle.h3_command.proofs.bases.Pentagons.of_resolution.Goals as goal
-
-pub returns : goal.returns
-unfolding pentagons_left pentagons
-returns c = refl
