@@ -5,6 +5,7 @@ use Rattle.std.specs.Str.{bytes_eq}
 use Rattle.clap.specs.Words.{App, Shape, Text}
 use Rattle.clap.specs.Simple.{new_shape}
 use Rattle.h3_words.specs.Options.{id_of, rule_for}
+use Rattle.h3_command.specs.declared.command.CellFunction.TheVariants as each
 use Rattle.h3_command.specs.declared.command.Command.{Command}
 use Rattle.h3_command.specs.declared.command.Command.TheVariants as command
 use Rattle.h3_words.specs.declared.options.CommandOption.{CommandOption}
@@ -20,7 +21,9 @@ command_names =
     name.CellToChildren ∷ name.CellToChildrenSize ∷ name.CellToChildPos ∷ name.ChildPosToCell ∷ name.CompactCells ∷
     name.UncompactCells ∷ name.GridDiskUnsafe ∷ name.GridDiskDistancesUnsafe ∷ name.GridRingUnsafe ∷
     name.AreNeighborCells ∷ name.CellsToDirectedEdge ∷ name.IsValidDirectedEdge ∷ name.GetDirectedEdgeOrigin ∷
-    name.GetDirectedEdgeDestination ∷ name.OriginToDirectedEdges ∷ []
+    name.GetDirectedEdgeDestination ∷ name.OriginToDirectedEdges ∷
+    name.AreValidCells ∷ name.AreValidDirectedEdges ∷ name.GetResolutions ∷ name.GetBaseCellNumbers ∷ name.ArePentagons ∷ name.AreResClassIII ∷
+    name.CellsToParents ∷ name.CellsToCenterChildren ∷ name.CellsToChildrenSizes ∷ name.CellsToChildPositions ∷ name.GetDirectedEdgeOrigins ∷ name.OriginsToDirectedEdges ∷ []
 
 -- a command's word and its options
 pub record Entry : Type 0 where
@@ -54,6 +57,18 @@ entry_of name.IsValidDirectedEdge = record { word = codes "isValidDirectedEdge";
 entry_of name.GetDirectedEdgeOrigin = record { word = codes "getDirectedEdgeOrigin"; options = Edge ∷ [] }
 entry_of name.GetDirectedEdgeDestination = record { word = codes "getDirectedEdgeDestination"; options = Edge ∷ Table ∷ [] }
 entry_of name.OriginToDirectedEdges = record { word = codes "originToDirectedEdges"; options = Cell ∷ [] }
+entry_of name.AreValidCells = record { word = codes "areValidCells"; options = [] }
+entry_of name.AreValidDirectedEdges = record { word = codes "areValidDirectedEdges"; options = [] }
+entry_of name.GetResolutions = record { word = codes "getResolutions"; options = [] }
+entry_of name.GetBaseCellNumbers = record { word = codes "getBaseCellNumbers"; options = [] }
+entry_of name.ArePentagons = record { word = codes "arePentagons"; options = [] }
+entry_of name.AreResClassIII = record { word = codes "areResClassIII"; options = [] }
+entry_of name.CellsToParents = record { word = codes "cellsToParents"; options = Resolution ∷ [] }
+entry_of name.CellsToCenterChildren = record { word = codes "cellsToCenterChildren"; options = Resolution ∷ [] }
+entry_of name.CellsToChildrenSizes = record { word = codes "cellsToChildrenSizes"; options = Resolution ∷ [] }
+entry_of name.CellsToChildPositions = record { word = codes "cellsToChildPositions"; options = Resolution ∷ [] }
+entry_of name.GetDirectedEdgeOrigins = record { word = codes "getDirectedEdgeOrigins"; options = [] }
+entry_of name.OriginsToDirectedEdges = record { word = codes "originsToDirectedEdges"; options = [] }
 
 -- the word that names the command
 abbrev pub word_of : CommandName → Text
@@ -100,6 +115,18 @@ call_of (command.IsValidDirectedEdge edge) = (name.IsValidDirectedEdge, Index Ed
 call_of (command.GetDirectedEdgeOrigin edge) = (name.GetDirectedEdgeOrigin, Index Edge edge ∷ [])
 call_of (command.GetDirectedEdgeDestination edge) = (name.GetDirectedEdgeDestination, Index Edge edge ∷ [])
 call_of (command.OriginToDirectedEdges cell) = (name.OriginToDirectedEdges, Index Cell cell ∷ [])
+call_of (command.ForEach each.IsValidCell) = (name.AreValidCells, [])
+call_of (command.ForEach each.IsValidDirectedEdge) = (name.AreValidDirectedEdges, [])
+call_of (command.ForEach each.GetResolution) = (name.GetResolutions, [])
+call_of (command.ForEach each.GetBaseCellNumber) = (name.GetBaseCellNumbers, [])
+call_of (command.ForEach each.IsPentagon) = (name.ArePentagons, [])
+call_of (command.ForEach each.IsResClassIII) = (name.AreResClassIII, [])
+call_of (command.ForEach (each.CellToParent res)) = (name.CellsToParents, Number Resolution res ∷ [])
+call_of (command.ForEach (each.CellToCenterChild res)) = (name.CellsToCenterChildren, Number Resolution res ∷ [])
+call_of (command.ForEach (each.CellToChildrenSize res)) = (name.CellsToChildrenSizes, Number Resolution res ∷ [])
+call_of (command.ForEach (each.CellToChildPos res)) = (name.CellsToChildPositions, Number Resolution res ∷ [])
+call_of (command.ForEach each.GetDirectedEdgeOrigin) = (name.GetDirectedEdgeOrigins, [])
+call_of (command.ForEach each.OriginToDirectedEdges) = (name.OriginsToDirectedEdges, [])
 
 -- the name of a command
 abbrev pub name_of_command : Command → CommandName

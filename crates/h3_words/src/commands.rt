@@ -10,7 +10,7 @@ ghost use Rattle.h3_words.specs.declared.options.CommandOption.{CommandOption};
 
 use crate::options::CommandOption::{self, Cell, Edge, Position, Radius, Resolution, Table, To};
 use clap::{ArgMatches, Command as Parser};
-use h3_command::Command;
+use h3_command::{CellFunction, Command};
 use std::alloc::{AllocError, Global};
 
 /// The name of a command.
@@ -41,9 +41,21 @@ pub enum CommandName {
     GetDirectedEdgeOrigin,
     GetDirectedEdgeDestination,
     OriginToDirectedEdges,
+    AreValidCells,
+    AreValidDirectedEdges,
+    GetResolutions,
+    GetBaseCellNumbers,
+    ArePentagons,
+    AreResClassIII,
+    CellsToParents,
+    CellsToCenterChildren,
+    CellsToChildrenSizes,
+    CellsToChildPositions,
+    GetDirectedEdgeOrigins,
+    OriginsToDirectedEdges,
 }
 
-static COMMAND_NAMES: [CommandName; 25] = [
+static COMMAND_NAMES: [CommandName; 37] = [
     CommandName::IsValidCell,
     CommandName::GetResolution,
     CommandName::GetBaseCellNumber,
@@ -69,6 +81,18 @@ static COMMAND_NAMES: [CommandName; 25] = [
     CommandName::GetDirectedEdgeOrigin,
     CommandName::GetDirectedEdgeDestination,
     CommandName::OriginToDirectedEdges,
+    CommandName::AreValidCells,
+    CommandName::AreValidDirectedEdges,
+    CommandName::GetResolutions,
+    CommandName::GetBaseCellNumbers,
+    CommandName::ArePentagons,
+    CommandName::AreResClassIII,
+    CommandName::CellsToParents,
+    CommandName::CellsToCenterChildren,
+    CommandName::CellsToChildrenSizes,
+    CommandName::CellsToChildPositions,
+    CommandName::GetDirectedEdgeOrigins,
+    CommandName::OriginsToDirectedEdges,
 ];
 
 /// The word, the options and the help of a command.
@@ -227,6 +251,66 @@ impl CommandName {
                 options: &[Cell],
                 about: "The directed edges that leave a cell",
             },
+            CommandName::AreValidCells => Entry {
+                word: "areValidCells",
+                options: &[],
+                about: "Whether each index listed on standard input is a valid cell",
+            },
+            CommandName::AreValidDirectedEdges => Entry {
+                word: "areValidDirectedEdges",
+                options: &[],
+                about: "Whether each index listed on standard input is a valid directed edge",
+            },
+            CommandName::GetResolutions => Entry {
+                word: "getResolutions",
+                options: &[],
+                about: "The resolution of each cell listed on standard input",
+            },
+            CommandName::GetBaseCellNumbers => Entry {
+                word: "getBaseCellNumbers",
+                options: &[],
+                about: "The base cell of each cell listed on standard input",
+            },
+            CommandName::ArePentagons => Entry {
+                word: "arePentagons",
+                options: &[],
+                about: "Whether each cell listed on standard input is a pentagon",
+            },
+            CommandName::AreResClassIII => Entry {
+                word: "areResClassIII",
+                options: &[],
+                about: "Whether the resolution of each cell listed on standard input is Class III",
+            },
+            CommandName::CellsToParents => Entry {
+                word: "cellsToParents",
+                options: &[Resolution],
+                about: "The ancestor at a resolution of each cell listed on standard input",
+            },
+            CommandName::CellsToCenterChildren => Entry {
+                word: "cellsToCenterChildren",
+                options: &[Resolution],
+                about: "The center descendant at a resolution of each cell listed on standard input",
+            },
+            CommandName::CellsToChildrenSizes => Entry {
+                word: "cellsToChildrenSizes",
+                options: &[Resolution],
+                about: "How many descendants at a resolution each cell listed on standard input has",
+            },
+            CommandName::CellsToChildPositions => Entry {
+                word: "cellsToChildPositions",
+                options: &[Resolution],
+                about: "The position of each cell listed on standard input among the descendants of its ancestor at a resolution",
+            },
+            CommandName::GetDirectedEdgeOrigins => Entry {
+                word: "getDirectedEdgeOrigins",
+                options: &[],
+                about: "The cell that each directed edge listed on standard input leaves",
+            },
+            CommandName::OriginsToDirectedEdges => Entry {
+                word: "originsToDirectedEdges",
+                options: &[],
+                about: "The directed edges that leave each cell listed on standard input",
+            },
         }
     }
 
@@ -330,6 +414,30 @@ impl CommandName {
             CommandName::GetDirectedEdgeOrigin => Command::GetDirectedEdgeOrigin { edge },
             CommandName::GetDirectedEdgeDestination => Command::GetDirectedEdgeDestination { edge },
             CommandName::OriginToDirectedEdges => Command::OriginToDirectedEdges { cell },
+            CommandName::AreValidCells => Command::ForEach(CellFunction::IsValidCell),
+            CommandName::AreValidDirectedEdges => Command::ForEach(
+                CellFunction::IsValidDirectedEdge,
+            ),
+            CommandName::GetResolutions => Command::ForEach(CellFunction::GetResolution),
+            CommandName::GetBaseCellNumbers => Command::ForEach(CellFunction::GetBaseCellNumber),
+            CommandName::ArePentagons => Command::ForEach(CellFunction::IsPentagon),
+            CommandName::AreResClassIII => Command::ForEach(CellFunction::IsResClassIII),
+            CommandName::CellsToParents => Command::ForEach(CellFunction::CellToParent { res }),
+            CommandName::CellsToCenterChildren => Command::ForEach(CellFunction::CellToCenterChild {
+                res,
+            }),
+            CommandName::CellsToChildrenSizes => Command::ForEach(CellFunction::CellToChildrenSize {
+                res,
+            }),
+            CommandName::CellsToChildPositions => Command::ForEach(CellFunction::CellToChildPos {
+                res,
+            }),
+            CommandName::GetDirectedEdgeOrigins => Command::ForEach(
+                CellFunction::GetDirectedEdgeOrigin,
+            ),
+            CommandName::OriginsToDirectedEdges => Command::ForEach(
+                CellFunction::OriginToDirectedEdges,
+            ),
         }
     }
 

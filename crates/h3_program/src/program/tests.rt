@@ -4,6 +4,8 @@ use crate::table::{OpenFault, OpenTable};
 use arrayvec::ArrayVec;
 use h3_index::{Sink, Source, StreamFault, Streamed, is_pentagon_base};
 use std::alloc::{AllocError, Global};
+use std::io;
+use std::io::Write;
 use std::test::Fail;
 
 /// A table in memory, at one path.
@@ -57,6 +59,32 @@ impl<'a> OpenTable for MemoryTable<'a> {
         self.source = Streamed::new(self.rows);
         Ok(())
     }
+}
+
+/// A writer that counts its flushes.
+#[derive(Drop)]
+struct Flushed {
+    bytes: ArrayVec<u8, 4096>,
+    flushes: u8,
+}
+
+impl Write for Flushed {
+    fn write(&mut self, bytes: &[u8]) -> io::Result<usize> {
+        self.bytes.write(bytes)
+    }
+
+    fn flush(&mut self) -> io::Result<()> {
+        self.flushes = self.flushes.saturating_add(1);
+        Ok(())
+    }
+}
+
+/// A stream that counts its flushes.
+fn flush_counter() -> Streamed<Flushed> {
+    Streamed::new(Flushed {
+        bytes: ArrayVec::new(),
+        flushes: 0,
+    })
 }
 
 /// The status of a command line, run over a list, a table and these streams.
@@ -121,6 +149,25 @@ fn help_is_written_to_standard_output(rt: HostRuntime) -> Result<(), Fail> {
         );
         assert!(&rt; !out.into_inner().is_empty(), "{line}");
         assert!(&rt; err.into_inner().is_empty(), "{line}");
+    }
+    Ok(())
+}
+
+#[test]
+fn an_output_is_flushed_once(rt: HostRuntime) -> Result<(), Fail> {
+    let lines = [
+        ("h3 --help", 1),
+        ("h3 isValidCell -c 85283473fffffff", 1),
+        ("h3 isValidCell -c xyz", 0),
+        ("h3 isValidCell", 0),
+    ];
+    for (line, flushes) in lines {
+        let (mut out, mut err) = (flush_counter(), flush_counter());
+        status_of(rt.alloc(), line, "", &mut out, &mut err)?;
+        let (out, err) = (out.into_inner(), err.into_inner());
+        assert!(&rt; out.bytes.is_empty() != err.bytes.is_empty(), "{line}");
+        assert_eq!(&rt; out.flushes, flushes, "{line}");
+        assert_eq!(&rt; err.flushes, 0, "{line}");
     }
     Ok(())
 }

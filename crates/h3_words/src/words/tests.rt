@@ -1,5 +1,5 @@
 use crate::words::{Words, WordsFault, read_words};
-use h3_command::Command;
+use h3_command::{CellFunction, Command};
 use std::alloc::{AllocError, Global};
 use std::test::Fail;
 
@@ -139,6 +139,67 @@ fn reads_a_cell_and_a_resolution(rt: HostRuntime) -> Result<(), Fail> {
     for (line, command) in cases {
         let parsed = read(alloc, line)?;
         assert!(rt; asks_for(&parsed, command), "{line}");
+    }
+    Ok(())
+}
+
+#[test]
+fn reads_functions_of_each_index_of_a_list(rt: HostRuntime) -> Result<(), Fail> {
+    let alloc = rt.alloc();
+    let cases = [
+        ("h3 areValidCells", CellFunction::IsValidCell),
+        (
+            "h3 areValidDirectedEdges",
+            CellFunction::IsValidDirectedEdge,
+        ),
+        ("h3 getResolutions", CellFunction::GetResolution),
+        ("h3 getBaseCellNumbers", CellFunction::GetBaseCellNumber),
+        ("h3 arePentagons", CellFunction::IsPentagon),
+        ("h3 areResClassIII", CellFunction::IsResClassIII),
+        (
+            "h3 getDirectedEdgeOrigins",
+            CellFunction::GetDirectedEdgeOrigin,
+        ),
+        (
+            "h3 originsToDirectedEdges",
+            CellFunction::OriginToDirectedEdges,
+        ),
+    ];
+    for (line, function) in cases {
+        let parsed = read(alloc, line)?;
+        assert!(rt; asks_for(&parsed, Command::ForEach(function)), "{line}");
+    }
+    Ok(())
+}
+
+#[test]
+fn reads_functions_of_each_cell_of_a_list_and_a_resolution(rt: HostRuntime) -> Result<(), Fail> {
+    let alloc = rt.alloc();
+    let cases = [
+        (
+            "h3 cellsToParents -r 4",
+            CellFunction::CellToParent { res: 4 },
+        ),
+        (
+            "h3 cellsToParents --resolution=2147483647",
+            CellFunction::CellToParent { res: 2147483647 },
+        ),
+        (
+            "h3 cellsToCenterChildren -r +6",
+            CellFunction::CellToCenterChild { res: 6 },
+        ),
+        (
+            "h3 cellsToChildrenSizes -r16",
+            CellFunction::CellToChildrenSize { res: 16 },
+        ),
+        (
+            "h3 cellsToChildPositions -r=0",
+            CellFunction::CellToChildPos { res: 0 },
+        ),
+    ];
+    for (line, function) in cases {
+        let parsed = read(alloc, line)?;
+        assert!(rt; asks_for(&parsed, Command::ForEach(function)), "{line}");
     }
     Ok(())
 }
@@ -429,6 +490,48 @@ fn refuses_other_words_of_edges(rt: HostRuntime) -> Result<(), Fail> {
 }
 
 #[test]
+fn refuses_other_words_of_functions_of_each_index(rt: HostRuntime) -> Result<(), Fail> {
+    let alloc = rt.alloc();
+    let lines = [
+        "h3 areValidCells -c 85283473fffffff",
+        "h3 areValidCells -r 4",
+        "h3 areValidCells 85283473fffffff",
+        "h3 areValidCell",
+        "h3 arevalidcells",
+        "h3 isValidCells",
+        "h3 areValidDirectedEdges --edge 115283473fffffff",
+        "h3 getResolutions -r 4",
+        "h3 getBaseCellNumbers -c 0",
+        "h3 arePentagons --table t",
+        "h3 areResClassIII -k 1",
+        "h3 getDirectedEdgeOrigins --edge 0",
+        "h3 originsToDirectedEdges -c 0",
+        "h3 originsToDirectedEdges --to 0",
+        "h3 cellsToParents",
+        "h3 cellsToParents -r",
+        "h3 cellsToParents -r five",
+        "h3 cellsToParents -r -1",
+        "h3 cellsToParents -r 2147483648",
+        "h3 cellsToParents -r 4 -r 4",
+        "h3 cellsToParents -r 4 -c 0",
+        "h3 cellsToParents -r 4 list",
+        "h3 cellsToCenterChildren",
+        "h3 cellsToCenterChildren -r=-1",
+        "h3 cellsToChildrenSizes",
+        "h3 cellsToChildrenSizes -r 4 --table t",
+        "h3 cellsToChildPositions",
+        "h3 cellsToChildPositions -r 0 --position 0",
+    ];
+    for line in lines {
+        assert!(rt;
+            matches!(read(alloc, line)?, Err(WordsFault::Usage(_))),
+            "{line}"
+        );
+    }
+    Ok(())
+}
+
+#[test]
 fn helps(rt: HostRuntime) -> Result<(), Fail> {
     let alloc = rt.alloc();
     let lines = [
@@ -451,6 +554,10 @@ fn helps(rt: HostRuntime) -> Result<(), Fail> {
         "h3 getDirectedEdgeOrigin -h",
         "h3 getDirectedEdgeDestination --edge 0 --help",
         "h3 originToDirectedEdges --help",
+        "h3 areValidCells --help",
+        "h3 cellsToParents -h",
+        "h3 cellsToChildPositions -r 0 --help",
+        "h3 originsToDirectedEdges --help",
     ];
     for line in lines {
         assert!(rt;
@@ -462,7 +569,7 @@ fn helps(rt: HostRuntime) -> Result<(), Fail> {
 }
 
 /// The words that name the commands.
-static COMMAND_WORDS: [&str; 25] = [
+static COMMAND_WORDS: [&str; 37] = [
     "isValidCell",
     "getResolution",
     "getBaseCellNumber",
@@ -488,6 +595,18 @@ static COMMAND_WORDS: [&str; 25] = [
     "getDirectedEdgeOrigin",
     "getDirectedEdgeDestination",
     "originToDirectedEdges",
+    "areValidCells",
+    "areValidDirectedEdges",
+    "getResolutions",
+    "getBaseCellNumbers",
+    "arePentagons",
+    "areResClassIII",
+    "cellsToParents",
+    "cellsToCenterChildren",
+    "cellsToChildrenSizes",
+    "cellsToChildPositions",
+    "getDirectedEdgeOrigins",
+    "originsToDirectedEdges",
 ];
 
 #[test]
