@@ -1,0 +1,6 @@
+pub mod CellsIn
+pub mod Columns
+pub mod Items
+pub mod Laid
+pub mod SixPlaces
+pub mod WalkLaws

@@ -1,0 +1,37 @@
+-- How the outcome of a call reaches C: a code, and a value at a place where the code is 0.
+use Rattle.std.specs.Prelude.{ℕ, ℤ, pos, Bool, true, false, Result, Ok, Err}
+use Rattle.h3_index.specs.Cell.{Address, number_of}
+use Rattle.h3_index.specs.Error.{error_number}
+use Rattle.h3_index.specs.declared.error.H3Error.{H3Error}
+use Rattle.h3_functions.specs.Inspection.{for_value}
+
+-- 0, or the number of the error in H3's table
+abbrev pub code_of : {A : Type 0} → Result A H3Error → ℕ
+code_of (Ok value) = 0
+code_of (Err e) = error_number e
+
+-- the value, or what was there before
+abbrev pub put_over : {A : Type 0} → A → Result A H3Error → A
+put_over old (Ok value) = value
+put_over old (Err e) = old
+
+-- the value, or another in the place of an error
+abbrev pub value_or : {A : Type 0} → A → Result A H3Error → A
+value_or missing (Ok value) = value
+value_or missing (Err e) = missing
+
+-- the index of the cell
+abbrev pub index_of : Result Address H3Error → Result ℕ H3Error
+index_of cell = for_value (λ c. Ok (number_of c)) cell
+
+-- the number as one of C's int
+abbrev pub int_of : Result ℕ H3Error → Result ℤ H3Error
+int_of number = for_value (λ n. Ok (pos n)) number
+
+-- C's truth values
+abbrev pub truth : Bool → ℤ
+truth true = pos 1
+truth false = pos 0
+
+abbrev pub truth_of : Result Bool H3Error → Result ℤ H3Error
+truth_of answer = for_value (λ is. Ok (truth is)) answer

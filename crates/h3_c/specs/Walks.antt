@@ -1,0 +1,42 @@
+-- Walks in C's memory.
+use Rattle.std.specs.Prelude.{ℕ, zero, suc, List, [], ◌∷◌, map, take, Result, Ok, Err}
+use Rattle.h3_index.specs.Cell.{Address, number_of}
+use Rattle.h3_index.specs.Error.{error_number}
+use Rattle.h3_index.specs.declared.error.H3Error.{H3Error}
+use Rattle.h3_functions.specs.Walks.{Walk}
+use Rattle.h3_c.specs.Lists.{indexes, laid_over}
+
+-- what a walk gives before its error, where it has one
+unfoldable pub given : {A : Type 0} → List (Result A H3Error) → List A
+given [] = []
+given (Ok x ∷ rest) = x ∷ given rest
+given (Err e ∷ rest) = []
+
+-- 0; or the number of the walk's error; or 14, H3's number for too little room, where it gives more before that
+unfoldable pub items_code : {A : Type 0} → List (Result A H3Error) → ℕ → ℕ
+items_code [] room = 0
+items_code (Err e ∷ rest) room = error_number e
+items_code (Ok x ∷ rest) zero = 14
+items_code (Ok x ∷ rest) (suc room) = items_code rest room
+
+-- the same, or the number of the error with which the walk is refused before it begins
+abbrev pub walk_code : {A : Type 0} → Walk A → ℕ → ℕ
+walk_code (Ok items) room = items_code items room
+walk_code (Err e) room = error_number e
+
+-- the indexes of the cells before the error, as far as there is room, over what was there
+abbrev pub walk_over : Walk Address → List ℕ → List ℕ
+walk_over (Ok items) old = laid_over (indexes (given items)) old
+walk_over (Err e) old = old
+
+-- ---- cells with their rings, in two arrays: of each, as many as there is room for in both
+
+-- the indexes of the cells
+abbrev pub cells_over : Walk (Address × ℕ) → ℕ → List ℕ → List ℕ
+cells_over (Ok items) room old = laid_over (take room (map (λ x. number_of x.0) (given items))) old
+cells_over (Err e) room old = old
+
+-- their rings
+abbrev pub rings_over : Walk (Address × ℕ) → ℕ → List ℕ → List ℕ
+rings_over (Ok items) room old = laid_over (take room (map (λ x. x.1) (given items))) old
+rings_over (Err e) room old = old

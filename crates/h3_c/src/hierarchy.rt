@@ -1,0 +1,210 @@
+//! Parents, children and positions.
+
+ghost use Rattle.std.specs.Prelude.{◌≡◌, ◌-◌, ◌^◌, Some, map, length};
+ghost use Rattle.h3_functions.specs.Hierarchy.{cell_to_center_child, cell_to_child_pos, cell_to_children, cell_to_children_size, cell_to_parent, child_pos_to_cell};
+ghost use Rattle.h3_c.specs.Columns.{column_code, column_over, place_over};
+ghost use Rattle.h3_c.specs.Lists.{list_code, list_over};
+ghost use Rattle.h3_c.specs.Outcome.{code_of, index_of, put_over};
+
+use crate::column::{NO_COUNT, NULL, Question, fill};
+use crate::lists::put_list;
+use crate::outcome::{index_of, put};
+use h3_functions::{
+    cell_to_center_child, cell_to_child_pos, cell_to_children, cell_to_children_size,
+    cell_to_parent, child_pos_to_cell,
+};
+use h3_index::H3Error;
+
+/// H3's `cellToParent`.
+#[unsafe(no_mangle)]
+pub extern "C" fn h3w_cellToParent(h: u64, res: i32, out: &mut u64) -> u32
+    ensures code { result ≡ code_of (index_of (cell_to_parent (Some h) res)) }
+    ensures value { out.new ≡ put_over out.old (index_of (cell_to_parent (Some h) res)) }
+{
+    put(out, index_of(cell_to_parent(Some(h), res)))
+}
+
+/// The parents of a column of cells, at a resolution.
+#[derive(Drop)]
+struct Parents {
+    res: i32,
+}
+
+impl Question<u64> for Parents {
+    ghost outcome = { λ q h. index_of (cell_to_parent (Some h) q.res) };
+
+    #[inline(always)]
+    fn ask(&self, index: u64) -> Result<u64, H3Error> {
+        index_of(cell_to_parent(Some(index), self.res))
+    }
+}
+
+/// [`h3w_cellToParent`] of each index.
+#[unsafe(no_mangle)]
+pub extern "C" fn h3w_cellsToParents(
+    cells: &[u64],
+    res: i32,
+    out: &mut [u64],
+    at: &mut usize,
+) -> u32
+    ensures code { result
+        ≡ column_code (map (λ h. index_of (cell_to_parent (Some h) res)) cells.now)
+        (length out.old) }
+    ensures values { out.new
+        ≡ column_over 0 (map (λ h. index_of (cell_to_parent (Some h) res)) cells.now) out.old }
+    ensures place { at.new
+        ≡ place_over (map (λ h. index_of (cell_to_parent (Some h) res)) cells.now)
+        (length out.old) at.old }
+{
+    fill(&Parents { res }, cells, NULL, out, at)
+}
+
+/// H3's `cellToCenterChild`.
+#[unsafe(no_mangle)]
+pub extern "C" fn h3w_cellToCenterChild(h: u64, res: i32, out: &mut u64) -> u32
+    ensures code { result ≡ code_of (index_of (cell_to_center_child (Some h) res)) }
+    ensures value { out.new ≡ put_over out.old (index_of (cell_to_center_child (Some h) res)) }
+{
+    put(out, index_of(cell_to_center_child(Some(h), res)))
+}
+
+/// The center children of a column of cells, at a resolution.
+#[derive(Drop)]
+struct CenterChildren {
+    res: i32,
+}
+
+impl Question<u64> for CenterChildren {
+    ghost outcome = { λ q h. index_of (cell_to_center_child (Some h) q.res) };
+
+    #[inline(always)]
+    fn ask(&self, index: u64) -> Result<u64, H3Error> {
+        index_of(cell_to_center_child(Some(index), self.res))
+    }
+}
+
+/// [`h3w_cellToCenterChild`] of each index.
+#[unsafe(no_mangle)]
+pub extern "C" fn h3w_cellsToCenterChildren(
+    cells: &[u64],
+    res: i32,
+    out: &mut [u64],
+    at: &mut usize,
+) -> u32
+    ensures code { result
+        ≡ column_code (map (λ h. index_of (cell_to_center_child (Some h) res)) cells.now)
+        (length out.old) }
+    ensures values { out.new
+        ≡ column_over 0 (map (λ h. index_of (cell_to_center_child (Some h) res)) cells.now)
+        out.old }
+    ensures place { at.new
+        ≡ place_over (map (λ h. index_of (cell_to_center_child (Some h) res)) cells.now)
+        (length out.old) at.old }
+{
+    fill(&CenterChildren { res }, cells, NULL, out, at)
+}
+
+/// H3's `cellToChildrenSize`.
+#[unsafe(no_mangle)]
+pub extern "C" fn h3w_cellToChildrenSize(h: u64, res: i32, out: &mut u64) -> u32
+    ensures code { result ≡ code_of (cell_to_children_size (Some h) res) }
+    ensures value { out.new ≡ put_over out.old (cell_to_children_size (Some h) res) }
+{
+    put(out, cell_to_children_size(Some(h), res))
+}
+
+/// The numbers of children of a column of cells, at a resolution.
+#[derive(Drop)]
+struct ChildrenSizes {
+    res: i32,
+}
+
+impl Question<u64> for ChildrenSizes {
+    ghost outcome = { λ q h. cell_to_children_size (Some h) q.res };
+
+    #[inline(always)]
+    fn ask(&self, index: u64) -> Result<u64, H3Error> {
+        cell_to_children_size(Some(index), self.res)
+    }
+}
+
+/// [`h3w_cellToChildrenSize`] of each index.
+#[unsafe(no_mangle)]
+pub extern "C" fn h3w_cellsToChildrenSizes(
+    cells: &[u64],
+    res: i32,
+    out: &mut [u64],
+    at: &mut usize,
+) -> u32
+    ensures code { result ≡ column_code (map (λ h. cell_to_children_size (Some h) res) cells.now)
+        (length out.old) }
+    ensures values { out.new
+        ≡ column_over (2 ^ 64 - 1) (map (λ h. cell_to_children_size (Some h) res) cells.now)
+        out.old }
+    ensures place { at.new
+        ≡ place_over (map (λ h. cell_to_children_size (Some h) res) cells.now)
+        (length out.old) at.old }
+{
+    fill(&ChildrenSizes { res }, cells, NO_COUNT, out, at)
+}
+
+/// H3's `cellToChildPos`.
+#[unsafe(no_mangle)]
+pub extern "C" fn h3w_cellToChildPos(h: u64, res: i32, out: &mut u64) -> u32
+    ensures code { result ≡ code_of (cell_to_child_pos (Some h) res) }
+    ensures value { out.new ≡ put_over out.old (cell_to_child_pos (Some h) res) }
+{
+    put(out, cell_to_child_pos(Some(h), res))
+}
+
+/// The positions of a column of cells, at a resolution.
+#[derive(Drop)]
+struct ChildPositions {
+    res: i32,
+}
+
+impl Question<u64> for ChildPositions {
+    ghost outcome = { λ q h. cell_to_child_pos (Some h) q.res };
+
+    #[inline(always)]
+    fn ask(&self, index: u64) -> Result<u64, H3Error> {
+        cell_to_child_pos(Some(index), self.res)
+    }
+}
+
+/// [`h3w_cellToChildPos`] of each index.
+#[unsafe(no_mangle)]
+pub extern "C" fn h3w_cellsToChildPositions(
+    cells: &[u64],
+    res: i32,
+    out: &mut [u64],
+    at: &mut usize,
+) -> u32
+    ensures code { result ≡ column_code (map (λ h. cell_to_child_pos (Some h) res) cells.now)
+        (length out.old) }
+    ensures values { out.new
+        ≡ column_over (2 ^ 64 - 1) (map (λ h. cell_to_child_pos (Some h) res) cells.now) out.old }
+    ensures place { at.new
+        ≡ place_over (map (λ h. cell_to_child_pos (Some h) res) cells.now) (length out.old) at.old }
+{
+    fill(&ChildPositions { res }, cells, NO_COUNT, out, at)
+}
+
+/// H3's `childPosToCell`. A position below 0 is one of 2^63 or more here, which no descendant has.
+#[unsafe(no_mangle)]
+pub extern "C" fn h3w_childPosToCell(position: u64, h: u64, res: i32, out: &mut u64) -> u32
+    ensures code { result ≡ code_of (index_of (child_pos_to_cell position (Some h) res)) }
+    ensures value { out.new
+        ≡ put_over out.old (index_of (child_pos_to_cell position (Some h) res)) }
+{
+    put(out, index_of(child_pos_to_cell(position, Some(h), res)))
+}
+
+/// H3's `cellToChildren`, with the room for them.
+#[unsafe(no_mangle)]
+pub extern "C" fn h3w_cellToChildren(h: u64, res: i32, out: &mut [u64]) -> u32
+    ensures code { result ≡ list_code (cell_to_children (Some h) res) (length out.old) }
+    ensures list { out.new ≡ list_over (cell_to_children (Some h) res) out.old }
+{
+    put_list(out, cell_to_children(Some(h), res))
+}

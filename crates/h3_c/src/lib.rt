@@ -1,0 +1,15 @@
+//! H3's functions for C, each over the library's function of its name. Every export has the prefix
+//! `h3w_`. `include/h3whole.h` declares them, and says what a caller has to keep to.
+#![tactic(auto)]
+
+mod column;
+mod edges;
+mod hierarchy;
+mod inspection;
+mod lists;
+mod outcome;
+mod resolutions;
+mod sets;
+mod tables;
+mod texts;
+mod walks;

@@ -1,0 +1,123 @@
+//! Compaction.
+
+ghost use Rattle.std.specs.Prelude.{◌≡◌, ◌≢◌, ◌≤◌, ◌⊎◌, length, take, Some, None, Ok, IfOk, IfErr};
+ghost use Rattle.h3_index.specs.declared.error.H3Error.TheVariants.{CellInvalid, MemoryAlloc};
+ghost use Rattle.h3_set.specs.Compacted.{compacted};
+ghost use Rattle.h3_set.specs.Refusals.{compaction_refusal};
+ghost use Rattle.h3_functions.specs.Sets.{uncompact_cells as uncompact};
+ghost use Rattle.h3_c.specs.Lists.{count_of, list_code, list_over};
+ghost use Rattle.h3_c.specs.Outcome.{put_over};
+ghost use Rattle.h3_c.specs.Sets.{cells_in, compact_cells, uncompact_cells};
+
+use crate::column::MEMORY_BOUNDS;
+use crate::lists::put_cells;
+use h3_index::{Cell, H3Error};
+use h3_set::{compact_cells, uncompact};
+use std::alloc::Global;
+
+/// The cells with these indexes. `CellInvalid` where one is no cell's, `MemoryAlloc` where there is
+/// no memory.
+fn cells_in(alloc: Global, indexes: &[u64]) -> Result<Vec<Cell>, H3Error>
+    ensures read { IfOk result (λ cells. cells_in indexes.now ≡ Some cells.items) }
+    ensures refused { IfErr result (λ e. (e ≡ MemoryAlloc)
+        ⊎ ((e ≡ CellInvalid) × (cells_in indexes.now ≡ None))) }
+{
+    let mut cells = match Vec::with_capacity(alloc, indexes.len()) {
+        Ok(cells) => cells,
+        Err(_) => return Err(H3Error::MemoryAlloc),
+    };
+    for index in indexes {
+        let cell = Cell::new(*index)?;
+        if cells.push(cell).is_err() {
+            return Err(H3Error::MemoryAlloc);
+        }
+    }
+    Ok(cells)
+}
+
+/// Puts the indexes of cells into the first slots.
+fn put_slice(out: &mut [u64], cells: &[Cell]) -> u32
+    ensures code { result ≡ list_code (Ok cells.now) (length out.old) }
+    ensures list { out.new ≡ list_over (Ok cells.now) out.old }
+{
+    if put_cells(out, cells.iter().copied()) {
+        0
+    } else {
+        MEMORY_BOUNDS
+    }
+}
+
+/// Puts the indexes of the cells of a resolution below those of a list into the first slots.
+fn put_uncompacted(out: &mut [u64], cells: &[Cell], res: i32) -> u32
+    ensures code { result ≡ list_code (uncompact res cells.now) (length out.old) }
+    ensures list { out.new ≡ list_over (uncompact res cells.now) out.old }
+{
+    match uncompact(cells, res) {
+        Ok(items) => {
+            if put_cells(out, items) {
+                0
+            } else {
+                MEMORY_BOUNDS
+            }
+        }
+        Err(error) => u32::from(error.number()),
+    }
+}
+
+/// The compacted list of cells, in front of other cells, and its length. `MemoryAlloc` where there
+/// is no memory.
+fn compacted(alloc: Global, cells: &[Cell]) -> Result<(Vec<Cell>, usize), H3Error>
+    ensures refused { IfErr result (λ e. (e ≡ MemoryAlloc)
+        ⊎ (Some e ≡ compaction_refusal cells.now)) }
+    ensures is { IfOk result (λ r. (compaction_refusal cells.now ≡ None)
+        × (take r.1 r.0.items ≡ compacted cells.now) × (r.1 ≤ length r.0.items)) }
+{
+    let mut slots = match cells.to_vec(alloc) {
+        Ok(slots) => slots,
+        Err(_) => return Err(H3Error::MemoryAlloc),
+    };
+    let count = compact_cells(cells, &mut slots)?;
+    Ok((slots, count))
+}
+
+/// H3's `compactCells`, with the room and the number of the compacted cells.
+#[unsafe(no_mangle)]
+pub extern "C" fn h3w_compactCells(
+    alloc: Global,
+    set: &[u64],
+    out: &mut [u64],
+    count: &mut usize,
+) -> u32
+    ensures code { (result ≡ 13) ⊎ (result ≡ list_code (compact_cells set.now) (length out.old)) }
+    ensures list { result ≢ 13 → out.new ≡ list_over (compact_cells set.now) out.old }
+    ensures count { result ≢ 13 →
+        count.new ≡ put_over count.old (count_of (compact_cells set.now)) }
+    ensures kept { result ≡ 13 → (out.new ≡ out.old) × (count.new ≡ count.old) }
+{
+    let cells = match cells_in(alloc, set) {
+        Ok(cells) => cells,
+        Err(error) => return u32::from(error.number()),
+    };
+    match compacted(alloc, &cells) {
+        Ok((slots, n)) => {
+            *count = n;
+            put_slice(out, &slots[..n])
+        }
+        Err(error) => u32::from(error.number()),
+    }
+}
+
+/// H3's `uncompactCells`.
+#[unsafe(no_mangle)]
+pub extern "C" fn h3w_uncompactCells(alloc: Global, set: &[u64], out: &mut [u64], res: i32) -> u32
+    ensures code { (result ≡ 13)
+        ⊎ (result ≡ list_code (uncompact_cells set.now res) (length out.old)) }
+    ensures list { result ≢ 13 → out.new ≡ list_over (uncompact_cells set.now res) out.old }
+    ensures kept { result ≡ 13 → out.new ≡ out.old }
+{
+    let cells = match cells_in(alloc, set) {
+        Ok(cells) => cells,
+        Err(error) => return u32::from(error.number()),
+    };
+    put_uncompacted(out, &cells, res)
+}

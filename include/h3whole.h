@@ -1,0 +1,341 @@
+/* The whole-number functions of H3 version 4: cells, their hierarchy, compaction and directed edges.
+ *
+ * The library, libh3whole, is compiled from proved code: docs/PROVED.md says of each function what its
+ * contract promises. Nothing checks a C caller against it, so what this page asks of the caller counts.
+ *
+ * Names. Each function has H3's name after `h3w_`, so that this library and one with H3's own names can be
+ * in one program. With H3WHOLE_BARE_NAMES defined before this page is included, H3's bare names and
+ * signatures stand for them (at the end of this page), for programs that are written for h3api.h.
+ *
+ * Errors. A function that can fail returns an H3Error: E_SUCCESS, or the error of H3's table that says why.
+ * The first error in the order of its comment is the one that is returned. Unless its comment says more, what
+ * a function has been given to write to is written on E_SUCCESS alone, and stays as it was otherwise.
+ *
+ * Memory. An array is passed as its first element and its length. Each pointer points to that many elements
+ * (an `int64_t *out` or the like: to one), also where there are none: it is never null. What a function writes
+ * to overlaps nothing else that it has been passed. Where an array is too short for what is to be written,
+ * the error is E_MEMORY_BOUNDS. No function keeps what it has been passed. compactCells, uncompactCells and
+ * readTable alone take memory, by malloc, and free it before they return: E_MEMORY_ALLOC, or H3W_TABLE_MEMORY, where
+ * they get none.
+ *
+ * Threads. Each function may be called from any number of threads at once: the library has no variable that
+ * changes. Two calls at once may read the same memory, and may not write to the same.
+ *
+ * Units. A resolution is 0 to 15, a base cell 0 to 121. A position and a size count cells. */
+#ifndef H3WHOLE_H
+#define H3WHOLE_H
+#include <stddef.h>
+#include <stdint.h>
+#include <string.h>
+
+#define H3WHOLE_VERSION "1.0.0"
+
+/* H3's own page has the same types and numbers: a program that includes both includes that one first. */
+#ifndef H3API_H
+typedef uint64_t H3Index;
+typedef uint32_t H3Error;
+
+#define H3_NULL 0
+
+typedef enum {
+    E_SUCCESS = 0,
+    E_FAILED = 1,
+    E_DOMAIN = 2,
+    E_LATLNG_DOMAIN = 3, /* never returned here */
+    E_RES_DOMAIN = 4,
+    E_CELL_INVALID = 5,
+    E_DIR_EDGE_INVALID = 6,
+    E_UNDIR_EDGE_INVALID = 7, /* never returned here */
+    E_VERTEX_INVALID = 8,     /* never returned here */
+    E_PENTAGON = 9,
+    E_DUPLICATE_INPUT = 10,
+    E_NOT_NEIGHBORS = 11,
+    E_RES_MISMATCH = 12,
+    E_MEMORY_ALLOC = 13,
+    E_MEMORY_BOUNDS = 14,
+    E_OPTION_INVALID = 15 /* never returned here */
+} H3ErrorCodes;
+#endif
+
+/* A base cell table: how the base cells lie beside each other. It is the caller's, on its stack, in a variable or in
+ * memory that it has taken; there is nothing in it to free, it may be copied, and read from many threads at once. The
+ * bytes of a table are those that h3w_readTable returned, or a copy of them, or all 0, which is as a refused table. With
+ * any others the behavior is undefined: memory outside of the table may be read. So a table is not to be kept in a file
+ * or taken from one; the file that h3w_readTable reads is. */
+typedef struct {
+    uint8_t bytes[1465];
+} H3wTable;
+
+/* Why a table file is refused, in the order in which the errors are found. `at` and `direction` of H3wTableFault are
+ * 0 where none is named here. Record 1 is the header. */
+typedef enum {
+    H3W_TABLE_ACCEPTED = 0,
+    H3W_TABLE_READ = 1,      /* never returned here */
+    H3W_TABLE_MEMORY = 2,    /* no memory */
+    H3W_TABLE_FORM = 3,      /* record `at` is malformed */
+    H3W_TABLE_RANGE = 4,     /* record `at` has a number out of range */
+    H3W_TABLE_REPEATED = 5,  /* record `at` repeats an earlier one */
+    H3W_TABLE_MISSING = 6,   /* some base cell and direction have no link */
+    H3W_TABLE_NEIGHBORS = 7, /* base cell `at` and its neighbors are not seven different base cells */
+    H3W_TABLE_REVERSAL = 8,  /* the link of base cell `at` in `direction` is not undone by the link back */
+    H3W_TABLE_CORNER = 9     /* the links around the corner of base cell `at` after `direction` do not agree */
+} H3wTableCodes;
+
+typedef struct {
+    uint32_t code;
+    uint32_t direction; /* 1 to 6 */
+    uint64_t at;
+} H3wTableFault;
+
+#ifdef __cplusplus
+extern "C" {
+#endif
+
+/* ---- Inspection */
+
+/* 1 if the number is the index of a cell, else 0. */
+int h3w_isValidCell(H3Index h);
+
+/* The resolution of a cell, or -1 where the number is no cell's. H3's own function returns the bits of any number. */
+int h3w_getResolution(H3Index h);
+
+/* The base cell of a cell, or -1 where the number is no cell's. H3's own function returns the bits of any number. */
+int h3w_getBaseCellNumber(H3Index h);
+
+/* 1 if the number is the index of a pentagon, else 0. */
+int h3w_isPentagon(H3Index h);
+
+/* 1 if the number is the index of a cell whose resolution is Class III, which is odd, else 0. */
+int h3w_isResClassIII(H3Index h);
+
+/* ---- Resolutions */
+
+/* The number of cells of a resolution. E_RES_DOMAIN: no resolution. */
+H3Error h3w_getNumCells(int res, int64_t *out);
+
+/* The 122 cells of resolution 0, ascending. E_MEMORY_BOUNDS: room for fewer; then those that have room are written. */
+H3Error h3w_getRes0Cells(H3Index *out, size_t room);
+
+/* The 12 pentagons of a resolution, ascending. E_RES_DOMAIN: no resolution. E_MEMORY_BOUNDS: room for fewer; then
+ * those that have room are written. */
+H3Error h3w_getPentagons(int res, H3Index *out, size_t room);
+
+/* ---- Hierarchy. E_CELL_INVALID of each function: the index is no cell's. */
+
+/* The ancestor of a cell. E_RES_DOMAIN: no resolution. E_RES_MISMATCH: one finer than the cell's. */
+H3Error h3w_cellToParent(H3Index cell, int parentRes, H3Index *out);
+
+/* The descendant of a cell in its center. E_RES_DOMAIN: no resolution, or one coarser than the cell's. */
+H3Error h3w_cellToCenterChild(H3Index cell, int childRes, H3Index *out);
+
+/* The number of descendants of a cell at a resolution. E_RES_DOMAIN: no resolution, or one coarser than the cell's. */
+H3Error h3w_cellToChildrenSize(H3Index cell, int childRes, int64_t *out);
+
+/* The descendants of a cell at a resolution, ascending: as many as h3w_cellToChildrenSize returns. E_RES_DOMAIN: no
+ * resolution, or one coarser than the cell's. E_MEMORY_BOUNDS: room for fewer; then those that have room are written. */
+H3Error h3w_cellToChildren(H3Index cell, int childRes, H3Index *out, size_t room);
+
+/* The position of a cell, from 0 on, among the descendants of its ancestor at a resolution. E_RES_DOMAIN: no
+ * resolution. E_RES_MISMATCH: one finer than the cell's. */
+H3Error h3w_cellToChildPos(H3Index child, int parentRes, int64_t *out);
+
+/* The descendant of a cell that has this position. E_RES_DOMAIN: no resolution. E_RES_MISMATCH: one coarser than the
+ * cell's. E_DOMAIN: no descendant has the position (one below 0, too). */
+H3Error h3w_childPosToCell(int64_t childPos, H3Index parent, int childRes, H3Index *out);
+
+/* ---- Texts */
+
+/* The text of an index: lower-case hexadecimal, 1 to 16 digits, and a 0 byte. What stands after that byte, within the
+ * first 17 bytes, is not said. E_MEMORY_BOUNDS: room for fewer than 17 bytes; then nothing is written. */
+H3Error h3w_h3ToString(H3Index h, char *str, size_t room);
+
+/* The index that n bytes of text parse as: spaces, tabs and carriage returns at both ends are dropped, then an optional
+ * 0x or 0X; what is left is 1 to 16 hexadecimal digits of either case. It need not be that of a cell. E_FAILED: any
+ * other text. */
+H3Error h3w_stringToH3(const char *text, size_t n, H3Index *out);
+
+/* ---- Directed edges */
+
+/* 1 if the number is the index of a directed edge, else 0. */
+int h3w_isValidDirectedEdge(H3Index edge);
+
+/* The cell that an edge leaves. E_DIR_EDGE_INVALID: the index is no edge's. */
+H3Error h3w_getDirectedEdgeOrigin(H3Index edge, H3Index *out);
+
+/* The six edges that leave a cell, in ascending direction; H3_NULL in place of the first at a pentagon, which has five.
+ * `edges` has room for six. E_CELL_INVALID: the index is no cell's. */
+H3Error h3w_originToDirectedEdges(H3Index origin, H3Index *edges);
+
+/* ---- Over a base cell table. First E_FAILED of each function: the table's file was refused. */
+
+/* The table in the n bytes of a file, in one of the two formats that tools/h3-table writes and the command h3 reads.
+ * `*fault` is written always: its code is H3W_TABLE_ACCEPTED, or says why the file is refused. In the latter case the
+ * functions over the table that is returned return E_FAILED. */
+H3wTable h3w_readTable(const char *file, size_t n, H3wTableFault *fault);
+
+/* The cells within k steps of a cell, in the order in which they are walked: the cell first, and then ring by ring; they
+ * are 3k(k + 1) + 1. E_CELL_INVALID: the index is no cell's. E_DOMAIN: k is below 0. E_PENTAGON: the cell is a pentagon,
+ * or k is above 0 and its base cell is one; then nothing is written. While it is walked, whichever comes first:
+ * E_MEMORY_BOUNDS: there is no room for the next cell; E_PENTAGON: the step to it meets a pentagon base cell. Then the
+ * cells before are written. */
+H3Error h3w_gridDiskUnsafe(const H3wTable *table, H3Index origin, int k, H3Index *out, size_t room);
+
+/* The same, and at the same place in `distances` the ring of each cell, 0 to k. What has room in both arrays is written
+ * to both. Errors as of h3w_gridDiskUnsafe. */
+H3Error h3w_gridDiskDistancesUnsafe(const H3wTable *table, H3Index origin, int k, H3Index *out, size_t room,
+                                    int *distances, size_t distancesRoom);
+
+/* The cells at k steps from a cell, in the order in which they are walked: 6k, or for k = 0 the cell itself. Errors as of
+ * h3w_gridDiskUnsafe; a pentagon is refused for k above 0 alone, and where the ring does not close it is E_PENTAGON after
+ * its cells. */
+H3Error h3w_gridRingUnsafe(const H3wTable *table, H3Index origin, int k, H3Index *out, size_t room);
+
+/* 1 where a step leads from the one cell to the other, else 0. E_CELL_INVALID: an index is no cell's. E_RES_MISMATCH:
+ * their resolutions differ. E_PENTAGON: they differ, and the base cell of one is a pentagon. */
+H3Error h3w_areNeighborCells(const H3wTable *table, H3Index origin, H3Index destination, int *out);
+
+/* The edge from a cell to a neighbor. E_CELL_INVALID: an index is no cell's. E_RES_MISMATCH: their resolutions differ.
+ * E_NOT_NEIGHBORS: they are the same. E_PENTAGON: the base cell of one is a pentagon. E_NOT_NEIGHBORS: no step leads from
+ * the one to the other. */
+H3Error h3w_cellsToDirectedEdge(const H3wTable *table, H3Index origin, H3Index destination, H3Index *out);
+
+/* The cell that an edge leads to. E_DIR_EDGE_INVALID: the index is no edge's. E_PENTAGON: the base cell of the edge's
+ * origin, or of that cell, is a pentagon. */
+H3Error h3w_getDirectedEdgeDestination(const H3wTable *table, H3Index edge, H3Index *out);
+
+/* ---- Sets of cells. Both take memory: 16 and 8 bytes for each of the n cells. */
+
+/* The least list of cells that covers the same as the n cells, ascending; `*count` is how many they are, at most n.
+ * E_MEMORY_ALLOC: no memory. E_CELL_INVALID: an index is no cell's. E_DUPLICATE_INPUT: a cell is there twice, or
+ * together with an ancestor of it. E_MEMORY_BOUNDS: room for fewer; then those that have room are written, and `*count`
+ * is how many there are. */
+H3Error h3w_compactCells(const H3Index *cells, size_t n, H3Index *out, size_t room, size_t *count);
+
+/* The descendants at a resolution of the first cell, ascending, then those of the second, and so on. E_MEMORY_ALLOC: no
+ * memory. E_CELL_INVALID: an index is no cell's. E_RES_DOMAIN: no resolution. E_RES_MISMATCH: a cell is finer.
+ * E_MEMORY_BOUNDS: room for fewer; then those that have room are written. */
+H3Error h3w_uncompactCells(const H3Index *cells, size_t n, H3Index *out, size_t room, int res);
+
+/* ---- Columns: one call for n indexes. They are named as the plural commands of h3.
+ *
+ * Of each index the result is written at its place in `out`, and H3_NULL, or -1 where the results are no indexes, where
+ * the function of one index returns an error. h3w_arePentagons and h3w_areResClassIII have E_CELL_INVALID and -1 for an
+ * index that is no cell's, where the functions of one index return 0. What is returned is the first of these errors, and `*at` is its place; or
+ * E_SUCCESS, and `*at` is n. So a column with a few refused indexes is done in one call, and a caller who wants none
+ * looks at what is returned. Where `room` is below n it is E_MEMORY_BOUNDS, and nothing is written. What stands in
+ * `out` from n on stays. The functions of one index say what is written, and when there is an error. */
+H3Error h3w_areValidCells(const H3Index *cells, size_t n, int *out, size_t room, size_t *at); /* 1 or 0 */
+H3Error h3w_getResolutions(const H3Index *cells, size_t n, int *out, size_t room, size_t *at);
+H3Error h3w_getBaseCellNumbers(const H3Index *cells, size_t n, int *out, size_t room, size_t *at);
+H3Error h3w_arePentagons(const H3Index *cells, size_t n, int *out, size_t room, size_t *at);   /* 1 or 0 */
+H3Error h3w_areResClassIII(const H3Index *cells, size_t n, int *out, size_t room, size_t *at); /* 1 or 0 */
+H3Error h3w_cellsToParents(const H3Index *cells, size_t n, int parentRes, H3Index *out, size_t room, size_t *at);
+H3Error h3w_cellsToCenterChildren(const H3Index *cells, size_t n, int childRes, H3Index *out, size_t room, size_t *at);
+H3Error h3w_cellsToChildrenSizes(const H3Index *cells, size_t n, int childRes, int64_t *out, size_t room, size_t *at);
+H3Error h3w_cellsToChildPositions(const H3Index *cells, size_t n, int parentRes, int64_t *out, size_t room, size_t *at);
+H3Error h3w_areValidDirectedEdges(const H3Index *edges, size_t n, int *out, size_t room, size_t *at); /* 1 or 0 */
+H3Error h3w_getDirectedEdgeOrigins(const H3Index *edges, size_t n, H3Index *out, size_t room, size_t *at);
+
+#ifdef __cplusplus
+}
+#endif
+
+/* ---- H3's bare names: its signatures, which pass no lengths. What they are to have room for is what H3 asks. H3's own
+ * functions have a table in them: with H3WHOLE_TABLE defined as the name of a `const H3wTable *` that the program has,
+ * those that need one are here over it. */
+#ifdef H3WHOLE_BARE_NAMES
+
+static inline int isValidCell(H3Index h) { return h3w_isValidCell(h); }
+static inline int getResolution(H3Index h) { return h3w_getResolution(h); }
+static inline int getBaseCellNumber(H3Index h) { return h3w_getBaseCellNumber(h); }
+static inline int isPentagon(H3Index h) { return h3w_isPentagon(h); }
+static inline int isResClassIII(H3Index h) { return h3w_isResClassIII(h); }
+static inline H3Error getNumCells(int res, int64_t *out) { return h3w_getNumCells(res, out); }
+static inline int res0CellCount(void) { return 122; }
+static inline H3Error getRes0Cells(H3Index *out) { return h3w_getRes0Cells(out, 122); }
+static inline int pentagonCount(void) { return 12; }
+static inline H3Error getPentagons(int res, H3Index *out) { return h3w_getPentagons(res, out, 12); }
+
+static inline H3Error cellToParent(H3Index cell, int parentRes, H3Index *out) {
+    return h3w_cellToParent(cell, parentRes, out);
+}
+static inline H3Error cellToCenterChild(H3Index cell, int childRes, H3Index *out) {
+    return h3w_cellToCenterChild(cell, childRes, out);
+}
+static inline H3Error cellToChildrenSize(H3Index cell, int childRes, int64_t *out) {
+    return h3w_cellToChildrenSize(cell, childRes, out);
+}
+/* `children` has room for as many as cellToChildrenSize returns. */
+static inline H3Error cellToChildren(H3Index cell, int childRes, H3Index *children) {
+    int64_t size;
+    H3Error error = h3w_cellToChildrenSize(cell, childRes, &size);
+    return error ? error : h3w_cellToChildren(cell, childRes, children, (size_t)size);
+}
+static inline H3Error cellToChildPos(H3Index child, int parentRes, int64_t *out) {
+    return h3w_cellToChildPos(child, parentRes, out);
+}
+static inline H3Error childPosToCell(int64_t childPos, H3Index parent, int childRes, H3Index *out) {
+    return h3w_childPosToCell(childPos, parent, childRes, out);
+}
+
+static inline H3Error h3ToString(H3Index h, char *str, size_t sz) { return h3w_h3ToString(h, str, sz); }
+/* `str` ends with a 0 byte. */
+static inline H3Error stringToH3(const char *str, H3Index *out) { return h3w_stringToH3(str, strlen(str), out); }
+
+static inline int isValidDirectedEdge(H3Index edge) { return h3w_isValidDirectedEdge(edge); }
+static inline H3Error getDirectedEdgeOrigin(H3Index edge, H3Index *out) { return h3w_getDirectedEdgeOrigin(edge, out); }
+static inline H3Error originToDirectedEdges(H3Index origin, H3Index *edges) {
+    return h3w_originToDirectedEdges(origin, edges);
+}
+
+/* The compacted cells, and after them H3_NULL up to n. E_DOMAIN: n is below 0. Both pointers may be null where n is 0. */
+static inline H3Error compactCells(const H3Index *cells, H3Index *out, const int64_t n) {
+    size_t count = 0;
+    H3Error error;
+    if (n < 0) return E_DOMAIN;
+    if (n == 0) return E_SUCCESS;
+    error = h3w_compactCells(cells, (size_t)n, out, (size_t)n, &count);
+    if (!error) memset(out + count, 0, ((size_t)n - count) * sizeof *out);
+    return error;
+}
+/* E_DOMAIN: a length is below 0. A pointer may be null where its length is 0. */
+static inline H3Error uncompactCells(const H3Index *cells, const int64_t n, H3Index *out, const int64_t room,
+                                     const int res) {
+    H3Index none = H3_NULL;
+    if (n < 0 || room < 0) return E_DOMAIN;
+    return h3w_uncompactCells(n ? cells : &none, (size_t)n, room ? out : &none, (size_t)room, res);
+}
+
+#ifdef H3WHOLE_TABLE
+extern const H3wTable *H3WHOLE_TABLE;
+
+/* The number of cells of a disk or of a ring, with which k below 0 is not asked for. */
+static inline size_t h3w_diskRoom(int k) { return k < 0 ? 0 : 3 * (size_t)k * ((size_t)k + 1) + 1; }
+static inline size_t h3w_ringRoom(int k) { return k < 1 ? 1 : 6 * (size_t)k; }
+
+/* `out` may be null where k is below 0. */
+static inline H3Error gridDiskUnsafe(H3Index origin, int k, H3Index *out) {
+    H3Index none = H3_NULL;
+    return h3w_gridDiskUnsafe(H3WHOLE_TABLE, origin, k, k < 0 ? &none : out, h3w_diskRoom(k));
+}
+/* `distances` may be null, and is then left out. */
+static inline H3Error gridDiskDistancesUnsafe(H3Index origin, int k, H3Index *out, int *distances) {
+    if (!distances || k < 0) return gridDiskUnsafe(origin, k, out);
+    return h3w_gridDiskDistancesUnsafe(H3WHOLE_TABLE, origin, k, out, h3w_diskRoom(k), distances, h3w_diskRoom(k));
+}
+static inline H3Error gridRingUnsafe(H3Index origin, int k, H3Index *out) {
+    return h3w_gridRingUnsafe(H3WHOLE_TABLE, origin, k, out, h3w_ringRoom(k));
+}
+static inline H3Error areNeighborCells(H3Index origin, H3Index destination, int *out) {
+    return h3w_areNeighborCells(H3WHOLE_TABLE, origin, destination, out);
+}
+static inline H3Error cellsToDirectedEdge(H3Index origin, H3Index destination, H3Index *out) {
+    return h3w_cellsToDirectedEdge(H3WHOLE_TABLE, origin, destination, out);
+}
+static inline H3Error getDirectedEdgeDestination(H3Index edge, H3Index *out) {
+    return h3w_getDirectedEdgeDestination(H3WHOLE_TABLE, edge, out);
+}
+#endif
+
+#endif
+#endif
