@@ -1,0 +1,59 @@
+"""Base cell tables, over which cells are walked to their neighbors.
+
+A table says how the base cells of hexagons lie beside each other. H3 ships none as a file: the repository's
+tools/h3-table makes it of H3's sources."""
+
+import ctypes
+
+from . import _library
+from .errors import H3MemoryAllocError
+
+_FAULTS = {
+    3: "form {at}",
+    4: "range {at}",
+    5: "repeated {at}",
+    6: "missing",
+    7: "neighbours {at}",
+    8: "reversal {at} {direction}",
+    9: "corner {at} {direction}",
+}
+
+
+class TableError(ValueError):
+    """A table file is refused. `code` says why, by the numbers of h3whole.h; `at` is a record (1 is the header) or a base
+    cell, and `direction` 1 to 6; both are 0 where the error has none."""
+
+    def __init__(self, code, at, direction):
+        super().__init__(code, at, direction)
+        self.code, self.at, self.direction = code, at, direction
+
+    def __str__(self):
+        text = _FAULTS.get(self.code, "error {code}")
+        return "table: " + text.format(code=self.code, at=self.at, direction=self.direction)
+
+
+class Table:
+    """A base cell table, from the bytes of its file. It never changes, and threads may share it.
+
+    TableError where the file is refused, and H3MemoryAllocError where there is no memory for its records."""
+
+    __slots__ = ("_own",)
+
+    def __init__(self, file: bytes):
+        if not isinstance(file, bytes):
+            raise TypeError(f"the bytes of a table's file are wanted, and not {file!r}")
+        fault = _library.TableFault()
+        self._own = _library.read_table(file, len(file), ctypes.byref(fault))
+        if fault.code == 2:
+            raise H3MemoryAllocError("error 13: E_MEMORY_ALLOC: a table")
+        if fault.code:
+            raise TableError(fault.code, fault.at, fault.direction)
+
+    @classmethod
+    def read(cls, path) -> "Table":
+        """The table in the file at a path."""
+        with open(path, "rb") as file:
+            return cls(file.read())
+
+    def _address(self):
+        return ctypes.byref(self._own)

@@ -1,0 +1,144 @@
+"""The functions over columns: of each kind, against those over one index."""
+
+import random
+import unittest
+from array import array
+
+import h3whole.columns as columns
+import h3whole.errors as errors
+import h3whole.int as integers
+
+try:
+    import numpy
+except ImportError:
+    numpy = None
+try:
+    import pandas
+except ImportError:
+    pandas = None
+
+INVALID = [0, 0x81087FFFFFFFFFF, 2**64 - 1, 0x115283473FFFFFFF]
+
+
+def cells(count, seed=1):
+    """Cells of all resolutions, by their positions."""
+    chance = random.Random(seed)
+    bases = integers.get_res0_cells()
+    found = []
+    for _ in range(count):
+        base, res = chance.choice(bases), chance.randrange(16)
+        position = chance.randrange(integers.cell_to_children_size(base, res))
+        found.append(integers.child_pos_to_cell(base, res, position))
+    return found
+
+
+def one_by_one(function, items, *more):
+    """What a function over one index returns for each, and the first error with its place."""
+    found, first = [], None
+    for place, item in enumerate(items):
+        try:
+            found.append(function(item, *more))
+        except errors.H3BaseException as error:
+            found.append(None)
+            first = first or (error.number, place)
+    return found, first
+
+
+FUNCTIONS = [
+    (columns.get_resolutions, integers.get_resolution, (), -1),
+    (columns.get_base_cell_numbers, integers.get_base_cell_number, (), -1),
+    (columns.cells_to_parents, integers.cell_to_parent, (4,), 0),
+    (columns.cells_to_center_children, integers.cell_to_center_child, (9,), 0),
+    (columns.cells_to_children_sizes, integers.cell_to_children_size, (15,), -1),
+    (columns.cells_to_child_positions, integers.cell_to_child_pos, (3,), -1),
+]
+
+
+class OneByOne(unittest.TestCase):
+    def test_results(self):
+        given = cells(2000) + INVALID
+        random.Random(2).shuffle(given)
+        for over_column, over_one, more, missing in FUNCTIONS:
+            wanted, first = one_by_one(over_one, given, *more)
+            found = over_column(array("Q", given), *more, missing=True)
+            self.assertEqual(list(found), [missing if one is None else one for one in wanted])
+            with self.assertRaises(errors.H3BaseException) as caught:
+                over_column(array("Q", given), *more)
+            self.assertEqual(caught.exception.number, first[0])
+            self.assertIn(f"at place {first[1]}", str(caught.exception))
+
+    def test_tests(self):
+        given = cells(500) + INVALID
+        self.assertEqual(list(columns.are_valid_cells(array("Q", given))), [1] * 500 + [0] * 4)
+        self.assertEqual(list(columns.are_valid_directed_edges(array("Q", given))), [0] * 503 + [1])
+        given = cells(500) + integers.get_pentagons(3)
+        self.assertEqual(list(columns.are_pentagons(array("Q", given))), [integers.is_pentagon(c) for c in given])
+        self.assertEqual(
+            list(columns.are_res_class_III(array("Q", given))), [integers.is_res_class_III(c) for c in given]
+        )
+
+    def test_edges(self):
+        edges = integers.origin_to_directed_edges(0x85283473FFFFFFF)
+        self.assertEqual(list(columns.get_directed_edge_origins(array("Q", edges))), [0x85283473FFFFFFF] * 6)
+
+    def test_sets(self):
+        children = array("Q", integers.cell_to_children(0x85283473FFFFFFF, 9))
+        compacted = columns.compact_cells(children)
+        self.assertEqual(compacted, array("Q", [0x85283473FFFFFFF]))
+        self.assertEqual(columns.uncompact_cells(compacted, 9), children)
+        self.assertRaises(errors.H3DuplicateInputError, columns.compact_cells, array("Q", [children[0]] * 2))
+        self.assertRaises(errors.H3CellInvalidError, columns.uncompact_cells, array("Q", INVALID), 9)
+        self.assertRaises(errors.H3ResMismatchError, columns.uncompact_cells, children, 8)
+
+    def test_resolutions(self):
+        given = array("Q", cells(10))
+        for res in (16, -1, 2**31, -(2**31) - 1):
+            self.assertRaises(errors.H3ResDomainError, columns.cells_to_parents, given, res)
+
+
+class Kinds(unittest.TestCase):
+    def test_arrays(self):
+        for typecode in "QqLl":
+            column = array(typecode, cells(5))
+            self.assertIsInstance(columns.cells_to_parents(column, 0), array)
+        self.assertEqual(columns.cells_to_parents(array("Q"), 16), array("Q"))
+        self.assertEqual(columns.compact_cells(array("Q")), array("Q"))
+        for column in (array("I", [1]), array("d", [1.0]), b"12345678", [1], "text"):
+            self.assertRaises(TypeError, columns.get_resolutions, column)
+
+    def test_memoryviews(self):
+        given = array("Q", cells(6))
+        for column in (memoryview(given), memoryview(given).toreadonly(), memoryview(given.tobytes()).cast("Q")):
+            found = columns.cells_to_parents(column, 0)
+            self.assertIsInstance(found, memoryview)
+            self.assertEqual(list(found), [integers.cell_to_parent(cell, 0) for cell in given])
+        self.assertRaises(TypeError, columns.get_resolutions, memoryview(given)[::2])
+
+    @unittest.skipIf(numpy is None, "numpy is not installed")
+    def test_numpy(self):
+        given = numpy.array(cells(100), dtype="uint64")
+        found = columns.cells_to_parents(given, 0)
+        self.assertEqual((type(found), found.dtype), (numpy.ndarray, numpy.dtype("uint64")))
+        self.assertEqual(found.tolist(), [integers.cell_to_parent(int(cell), 0) for cell in given])
+        self.assertEqual(columns.are_valid_cells(given).dtype, numpy.dtype(bool))
+        self.assertTrue(columns.are_valid_cells(given.astype("int64")).all())
+        given.flags.writeable = False
+        self.assertEqual(columns.cells_to_parents(given, 0).tolist(), found.tolist())
+        self.assertEqual(columns.cells_to_parents(given[:0], 0).tolist(), [])
+        self.assertRaises(TypeError, columns.get_resolutions, given.astype("float64"))
+        self.assertRaises(TypeError, columns.get_resolutions, given.astype(">u8"))
+        self.assertRaises(TypeError, columns.get_resolutions, given[::2])
+
+    @unittest.skipIf(pandas is None, "pandas is not installed")
+    def test_pandas(self):
+        frame = pandas.DataFrame({"cell": numpy.array(cells(100), dtype="uint64")}, index=range(100, 200))
+        frame["parent"] = columns.cells_to_parents(frame["cell"], 0)
+        self.assertEqual(list(frame["parent"].index), list(range(100, 200)))
+        counted = frame.groupby("parent").size()
+        self.assertEqual(counted.sum(), 100)
+        for parent in counted.index:
+            self.assertEqual(integers.get_resolution(int(parent)), 0)
+
+
+if __name__ == "__main__":
+    unittest.main()

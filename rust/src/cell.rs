@@ -1,0 +1,170 @@
+use crate::index::{index, write_text};
+use crate::{ffi, Edge, Error, Resolution};
+use std::fmt;
+use std::iter::FusedIterator;
+use std::ops::Range;
+use std::str::FromStr;
+
+/// A cell. It holds the index of one: a number that is the index of no cell is refused where it is
+/// converted.
+///
+/// Cells are ordered by their numbers: by resolution, then base cell, then digits.
+///
+/// ```
+/// use h3whole::{Cell, Error, Resolution};
+///
+/// let cell: Cell = "85283473fffffff".parse()?;
+/// assert_eq!(Cell::try_from(0x85283473fffffff), Ok(cell));
+/// assert_eq!(cell.resolution(), Resolution::Five);
+/// assert_eq!(cell.parent(Resolution::Four)?.to_string(), "8428347ffffffff");
+/// assert_eq!(cell.parent(Resolution::Six), Err(Error::ResMismatch));
+/// assert_eq!(Cell::try_from(5), Err(Error::CellInvalid));
+/// # Ok::<(), Error>(())
+/// ```
+#[derive(Clone, Copy, PartialEq, Eq, PartialOrd, Ord, Hash)]
+#[repr(transparent)]
+pub struct Cell(pub(crate) u64);
+
+index!(Cell, ffi::is_valid_cell, Error::CellInvalid);
+
+impl Cell {
+    /// The 122 cells of resolution 0, ascending: H3's `getRes0Cells`.
+    pub fn base_cells() -> [Cell; 122] {
+        ffi::base_cells()
+            .expect("there are 122 cells of resolution 0")
+            .map(Cell)
+    }
+
+    /// The resolution: H3's `getResolution`.
+    pub fn resolution(self) -> Resolution {
+        Resolution::try_from(ffi::resolution(self.0)).expect("a cell has a resolution")
+    }
+
+    /// The base cell, 0 to 121: H3's `getBaseCellNumber`.
+    pub fn base_cell(self) -> u8 {
+        u8::try_from(ffi::base_cell(self.0)).expect("a cell has a base cell")
+    }
+
+    /// Whether the cell is a pentagon: H3's `isPentagon`.
+    pub fn is_pentagon(self) -> bool {
+        ffi::is_pentagon(self.0) == 1
+    }
+
+    /// Whether the resolution is Class III, which is odd: H3's `isResClassIII`.
+    pub fn is_class3(self) -> bool {
+        ffi::is_class3(self.0) == 1
+    }
+
+    /// The ancestor at a resolution: H3's `cellToParent`. `ResMismatch` where the resolution is
+    /// finer than the cell's.
+    pub fn parent(self, resolution: Resolution) -> Result<Cell, Error> {
+        ffi::parent(self.0, resolution.into()).map(Cell)
+    }
+
+    /// The descendant in the center: H3's `cellToCenterChild`. `ResDomain` where the resolution is
+    /// coarser than the cell's.
+    pub fn center_child(self, resolution: Resolution) -> Result<Cell, Error> {
+        ffi::center_child(self.0, resolution.into()).map(Cell)
+    }
+
+    /// How many descendants there are at a resolution: H3's `cellToChildrenSize`. `ResDomain` where
+    /// the resolution is coarser than the cell's.
+    pub fn children_count(self, resolution: Resolution) -> Result<u64, Error> {
+        ffi::children_size(self.0, resolution.into()).map(i64::unsigned_abs)
+    }
+
+    /// An iterator over the descendants at a resolution, ascending. It takes no memory, and asks
+    /// for each by its position. `ResDomain` where the resolution is coarser than the cell's.
+    ///
+    /// ```
+    /// use h3whole::{Cell, Error, Resolution};
+    ///
+    /// let cell = Cell::try_from(0x85283473fffffff)?;
+    /// let mut children = cell.children(Resolution::Fifteen)?;
+    /// assert_eq!(children.len(), 282_475_249);
+    /// assert_eq!(children.next(), Some(cell.center_child(Resolution::Fifteen)?));
+    /// # Ok::<(), Error>(())
+    /// ```
+    pub fn children(self, resolution: Resolution) -> Result<Children, Error> {
+        Ok(Children {
+            parent: self,
+            resolution,
+            positions: 0..self.children_count(resolution)?,
+        })
+    }
+
+    /// The descendants at a resolution, ascending: H3's `cellToChildren`. `ResDomain` where the
+    /// resolution is coarser than the cell's, `MemoryAlloc` where there is no memory for them.
+    pub fn children_vec(self, resolution: Resolution) -> Result<Vec<Cell>, Error> {
+        let count = self.children_count(resolution)?;
+        let count = usize::try_from(count).map_err(|_| Error::MemoryAlloc)?;
+        ffi::children(self.0, resolution.into(), count)
+    }
+
+    /// The position, from 0 on, among the descendants of the ancestor at a resolution: H3's
+    /// `cellToChildPos`. `ResMismatch` where the resolution is finer than the cell's.
+    pub fn child_position(self, resolution: Resolution) -> Result<u64, Error> {
+        ffi::child_position(self.0, resolution.into()).map(i64::unsigned_abs)
+    }
+
+    /// The descendant that has this position: H3's `childPosToCell`. `ResMismatch` where the
+    /// resolution is coarser than the cell's, `Domain` where no descendant has the position.
+    pub fn child_at(self, position: u64, resolution: Resolution) -> Result<Cell, Error> {
+        // no descendant has a position that is no i64
+        let position = i64::try_from(position).unwrap_or(i64::MAX);
+        ffi::child_at(position, self.0, resolution.into()).map(Cell)
+    }
+
+    /// The edges that leave the cell, in ascending direction: H3's `originToDirectedEdges`. They
+    /// are six; of a pentagon five.
+    pub fn edges(self) -> impl Iterator<Item = Edge> {
+        let edges = ffi::edges(self.0).expect("a cell has edges");
+        edges.into_iter().filter(|edge| *edge != 0).map(Edge)
+    }
+}
+
+/// The descendants of a cell: see [`Cell::children`].
+#[derive(Clone, Debug)]
+pub struct Children {
+    parent: Cell,
+    resolution: Resolution,
+    positions: Range<u64>,
+}
+
+impl Children {
+    /// How many are left.
+    #[allow(clippy::len_without_is_empty)]
+    pub fn len(&self) -> u64 {
+        self.positions.end - self.positions.start
+    }
+
+    fn at(&self, position: u64) -> Cell {
+        self.parent
+            .child_at(position, self.resolution)
+            .expect("a child has each of the positions")
+    }
+}
+
+impl Iterator for Children {
+    type Item = Cell;
+
+    fn next(&mut self) -> Option<Cell> {
+        self.positions.next().map(|position| self.at(position))
+    }
+
+    fn nth(&mut self, n: usize) -> Option<Cell> {
+        self.positions.nth(n).map(|position| self.at(position))
+    }
+
+    fn size_hint(&self) -> (usize, Option<usize>) {
+        self.positions.size_hint()
+    }
+}
+
+impl DoubleEndedIterator for Children {
+    fn next_back(&mut self) -> Option<Cell> {
+        self.positions.next_back().map(|position| self.at(position))
+    }
+}
+
+impl FusedIterator for Children {}

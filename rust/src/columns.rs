@@ -1,0 +1,88 @@
+//! One call for a column of indexes.
+//!
+//! Of each index the result is written at its place in `out`, and 0, or -1 where the results are no
+//! indexes, where the function of one index returns an error. The first of these errors is
+//! returned, with its place. Where `out` is shorter than the column it is `MemoryBounds`, and
+//! nothing is written. What stands in `out` after the column's end stays.
+//!
+//! ```
+//! use h3whole::{columns, Error, Resolution};
+//!
+//! let cells = [0x85283473fffffff, 5, 0x8009fffffffffff];
+//! let mut parents = [0; 3];
+//! let refused = columns::parents(&cells, Resolution::Four, &mut parents).unwrap_err();
+//! assert_eq!(parents, [0x8428347ffffffff, 0, 0]);
+//! assert_eq!((refused.error, refused.at), (Error::CellInvalid, 1));
+//! ```
+
+use crate::ffi::columns as ffi;
+use crate::{Error, Resolution};
+use std::fmt;
+
+/// The first error of a column, and its place.
+#[derive(Clone, Copy, Debug, PartialEq, Eq, Hash)]
+pub struct ColumnError {
+    /// The error.
+    pub error: Error,
+    /// The place of the index that the error is about, from 0 on; the length of `out` where that is
+    /// too short.
+    pub at: usize,
+}
+
+impl fmt::Display for ColumnError {
+    fn fmt(&self, f: &mut fmt::Formatter<'_>) -> fmt::Result {
+        write!(f, "at {}: {}", self.at, self.error)
+    }
+}
+
+impl std::error::Error for ColumnError {}
+
+impl From<ColumnError> for Error {
+    fn from(refused: ColumnError) -> Error {
+        refused.error
+    }
+}
+
+/// Declares the functions by their names, the header's, and what they take and write.
+macro_rules! columns {
+    ($($(#[$doc:meta])* $name:ident = $export:ident($($res:ident)?) -> $result:ty;)*) => {
+        $($(#[$doc])*
+        pub fn $name(
+            indexes: &[u64],
+            $($res: Resolution,)?
+            out: &mut [$result],
+        ) -> Result<(), ColumnError> {
+            ffi::$export(indexes, $($res.into(),)? out)
+                .map_err(|(error, at)| ColumnError { error, at })
+        })*
+    };
+}
+
+columns! {
+    /// 1 where the index is that of a cell, else 0: there is no other error than `MemoryBounds`.
+    valid = h3w_areValidCells() -> i32;
+    /// The resolutions of cells. See [`Cell::resolution`](crate::Cell::resolution).
+    resolutions = h3w_getResolutions() -> i32;
+    /// The base cells of cells. See [`Cell::base_cell`](crate::Cell::base_cell).
+    base_cells = h3w_getBaseCellNumbers() -> i32;
+    /// 1 where the cell is a pentagon, else 0. See [`Cell::is_pentagon`](crate::Cell::is_pentagon).
+    pentagons = h3w_arePentagons() -> i32;
+    /// 1 where the resolution of the cell is Class III, else 0. See
+    /// [`Cell::is_class3`](crate::Cell::is_class3).
+    class3 = h3w_areResClassIII() -> i32;
+    /// The ancestors of cells at a resolution. See [`Cell::parent`](crate::Cell::parent).
+    parents = h3w_cellsToParents(resolution) -> u64;
+    /// The descendants of cells in their centers. See
+    /// [`Cell::center_child`](crate::Cell::center_child).
+    center_children = h3w_cellsToCenterChildren(resolution) -> u64;
+    /// How many descendants cells have. See [`Cell::children_count`](crate::Cell::children_count).
+    children_counts = h3w_cellsToChildrenSizes(resolution) -> i64;
+    /// The positions of cells below their ancestors. See
+    /// [`Cell::child_position`](crate::Cell::child_position).
+    child_positions = h3w_cellsToChildPositions(resolution) -> i64;
+    /// 1 where the index is that of a directed edge, else 0: there is no other error than
+    /// `MemoryBounds`.
+    valid_edges = h3w_areValidDirectedEdges() -> i32;
+    /// The cells that edges leave. See [`Edge::origin`](crate::Edge::origin).
+    origins = h3w_getDirectedEdgeOrigins() -> u64;
+}

@@ -1,0 +1,400 @@
+//! The functions of include/h3whole.h, and over each a safe function. All that is `unsafe` stands
+//! here.
+//!
+//! What the header asks of a caller: each pointer points to as many elements as are passed with it,
+//! or to one; it is never null, which the pointers of references and slices are not; and what is
+//! written to overlaps nothing else that is passed, which holds of `&mut`. No function keeps a
+//! pointer, and all may be called from any thread.
+
+use crate::{Cell, Error};
+use std::os::raw::{c_char, c_int};
+
+/// Declares functions for columns, whose signatures differ in the type of the results and by a
+/// resolution.
+macro_rules! columns {
+    ($($name:ident($($resolution:ident)?) -> $result:ty;)*) => {
+        extern "C" {
+            $(fn $name(
+                indexes: *const u64,
+                n: usize,
+                $($resolution: c_int,)?
+                out: *mut $result,
+                room: usize,
+                at: &mut usize,
+            ) -> u32;)*
+        }
+
+        /// The functions for columns, under their names in the header. The error comes with its
+        /// place.
+        pub(crate) mod columns {
+            use super::{checked, c_int, Error};
+
+            $(#[allow(non_snake_case)]
+            pub(crate) fn $name(
+                indexes: &[u64],
+                $($resolution: i32,)?
+                out: &mut [$result],
+            ) -> Result<(), (Error, usize)> {
+                let mut at = out.len();
+                // SAFETY: each of the two pointers is passed with the length of its slice, and `at`
+                // is one place.
+                let code = unsafe {
+                    super::$name(
+                        indexes.as_ptr(),
+                        indexes.len(),
+                        $($resolution as c_int,)?
+                        out.as_mut_ptr(),
+                        out.len(),
+                        &mut at,
+                    )
+                };
+                checked(code).map_err(|error| (error, at))
+            })*
+        }
+    };
+}
+
+columns! {
+    h3w_areValidCells() -> c_int;
+    h3w_getResolutions() -> c_int;
+    h3w_getBaseCellNumbers() -> c_int;
+    h3w_arePentagons() -> c_int;
+    h3w_areResClassIII() -> c_int;
+    h3w_cellsToParents(res) -> u64;
+    h3w_cellsToCenterChildren(res) -> u64;
+    h3w_cellsToChildrenSizes(res) -> i64;
+    h3w_cellsToChildPositions(res) -> i64;
+    h3w_areValidDirectedEdges() -> c_int;
+    h3w_getDirectedEdgeOrigins() -> u64;
+}
+
+/// The header's `H3wTable`.
+#[derive(Clone)]
+#[repr(C)]
+pub(crate) struct RawTable {
+    bytes: [u8; 1465],
+}
+
+/// The header's `H3wTableFault`.
+#[derive(Default)]
+#[repr(C)]
+pub(crate) struct Fault {
+    pub(crate) code: u32,
+    pub(crate) direction: u32,
+    pub(crate) at: u64,
+}
+
+extern "C" {
+    fn h3w_readTable(file: *const c_char, n: usize, fault: &mut Fault) -> RawTable;
+    fn h3w_gridDiskUnsafe(
+        table: &RawTable,
+        origin: u64,
+        k: c_int,
+        out: *mut u64,
+        room: usize,
+    ) -> u32;
+    fn h3w_gridDiskDistancesUnsafe(
+        table: &RawTable,
+        origin: u64,
+        k: c_int,
+        out: *mut u64,
+        room: usize,
+        distances: *mut c_int,
+        distances_room: usize,
+    ) -> u32;
+    fn h3w_gridRingUnsafe(
+        table: &RawTable,
+        origin: u64,
+        k: c_int,
+        out: *mut u64,
+        room: usize,
+    ) -> u32;
+    fn h3w_areNeighborCells(
+        table: &RawTable,
+        origin: u64,
+        destination: u64,
+        out: &mut c_int,
+    ) -> u32;
+    fn h3w_cellsToDirectedEdge(
+        table: &RawTable,
+        origin: u64,
+        destination: u64,
+        out: &mut u64,
+    ) -> u32;
+    fn h3w_getDirectedEdgeDestination(table: &RawTable, edge: u64, out: &mut u64) -> u32;
+    fn h3w_isValidCell(h: u64) -> c_int;
+    fn h3w_getResolution(h: u64) -> c_int;
+    fn h3w_getBaseCellNumber(h: u64) -> c_int;
+    fn h3w_isPentagon(h: u64) -> c_int;
+    fn h3w_isResClassIII(h: u64) -> c_int;
+    fn h3w_getNumCells(res: c_int, out: &mut i64) -> u32;
+    fn h3w_getRes0Cells(out: *mut u64, room: usize) -> u32;
+    fn h3w_getPentagons(res: c_int, out: *mut u64, room: usize) -> u32;
+    fn h3w_cellToParent(cell: u64, res: c_int, out: &mut u64) -> u32;
+    fn h3w_cellToCenterChild(cell: u64, res: c_int, out: &mut u64) -> u32;
+    fn h3w_cellToChildrenSize(cell: u64, res: c_int, out: &mut i64) -> u32;
+    fn h3w_cellToChildren(cell: u64, res: c_int, out: *mut u64, room: usize) -> u32;
+    fn h3w_cellToChildPos(child: u64, res: c_int, out: &mut i64) -> u32;
+    fn h3w_childPosToCell(position: i64, parent: u64, res: c_int, out: &mut u64) -> u32;
+    fn h3w_h3ToString(h: u64, text: *mut c_char, room: usize) -> u32;
+    fn h3w_stringToH3(text: *const c_char, n: usize, out: &mut u64) -> u32;
+    fn h3w_isValidDirectedEdge(edge: u64) -> c_int;
+    fn h3w_getDirectedEdgeOrigin(edge: u64, out: &mut u64) -> u32;
+    fn h3w_originToDirectedEdges(origin: u64, edges: &mut [u64; 6]) -> u32;
+    fn h3w_compactCells(
+        cells: *const u64,
+        n: usize,
+        out: *mut u64,
+        room: usize,
+        count: &mut usize,
+    ) -> u32;
+    fn h3w_uncompactCells(
+        cells: *const u64,
+        n: usize,
+        out: *mut u64,
+        room: usize,
+        res: c_int,
+    ) -> u32;
+}
+
+/// Declares safe functions of an index that return a number.
+macro_rules! of_index {
+    ($($name:ident = $export:ident;)*) => {
+        $(pub(crate) fn $name(index: u64) -> i32 {
+            // SAFETY: any number may be passed.
+            unsafe { $export(index) }
+        })*
+    };
+}
+
+of_index! {
+    is_valid_cell = h3w_isValidCell;
+    resolution = h3w_getResolution;
+    base_cell = h3w_getBaseCellNumber;
+    is_pentagon = h3w_isPentagon;
+    is_class3 = h3w_isResClassIII;
+    is_valid_edge = h3w_isValidDirectedEdge;
+}
+
+/// Declares safe functions of an index and a resolution.
+macro_rules! of_index_and_resolution {
+    ($($name:ident = $export:ident -> $result:ty;)*) => {
+        $(pub(crate) fn $name(index: u64, res: i32) -> Result<$result, Error> {
+            let mut out = 0;
+            // SAFETY: any numbers may be passed, and `out` is one place.
+            checked(unsafe { $export(index, res, &mut out) })?;
+            Ok(out)
+        })*
+    };
+}
+
+of_index_and_resolution! {
+    parent = h3w_cellToParent -> u64;
+    center_child = h3w_cellToCenterChild -> u64;
+    children_size = h3w_cellToChildrenSize -> i64;
+    child_position = h3w_cellToChildPos -> i64;
+}
+
+pub(crate) fn cell_count(res: i32) -> Result<i64, Error> {
+    let mut out = 0;
+    // SAFETY: any number may be passed, and `out` is one place.
+    checked(unsafe { h3w_getNumCells(res, &mut out) })?;
+    Ok(out)
+}
+
+pub(crate) fn base_cells() -> Result<[u64; 122], Error> {
+    let mut out = [0; 122];
+    // SAFETY: `out` is passed with its length.
+    checked(unsafe { h3w_getRes0Cells(out.as_mut_ptr(), out.len()) })?;
+    Ok(out)
+}
+
+pub(crate) fn pentagons(res: i32) -> Result<[u64; 12], Error> {
+    let mut out = [0; 12];
+    // SAFETY: `out` is passed with its length.
+    checked(unsafe { h3w_getPentagons(res, out.as_mut_ptr(), out.len()) })?;
+    Ok(out)
+}
+
+/// The children of a cell, of which there are this many.
+pub(crate) fn children(cell: u64, res: i32, count: usize) -> Result<Vec<Cell>, Error> {
+    written(count, |out| {
+        // SAFETY: `out` points to room for `count` numbers.
+        (unsafe { h3w_cellToChildren(cell, res, out, count) }, count)
+    })
+}
+
+pub(crate) fn child_at(position: i64, cell: u64, res: i32) -> Result<u64, Error> {
+    let mut out = 0;
+    // SAFETY: any numbers may be passed, and `out` is one place.
+    checked(unsafe { h3w_childPosToCell(position, cell, res, &mut out) })?;
+    Ok(out)
+}
+
+/// The text of an index: the bytes before the first that is 0.
+pub(crate) fn to_text(index: u64) -> Result<[u8; 17], Error> {
+    let mut text = [0u8; 17];
+    // SAFETY: `text` is passed with its length, and a `c_char` is a byte.
+    checked(unsafe { h3w_h3ToString(index, text.as_mut_ptr().cast(), text.len()) })?;
+    Ok(text)
+}
+
+pub(crate) fn from_text(text: &str) -> Result<u64, Error> {
+    let mut out = 0;
+    // SAFETY: `text` is passed with its length, a `c_char` is a byte, and `out` is one place.
+    checked(unsafe { h3w_stringToH3(text.as_ptr().cast(), text.len(), &mut out) })?;
+    Ok(out)
+}
+
+pub(crate) fn origin(edge: u64) -> Result<u64, Error> {
+    let mut out = 0;
+    // SAFETY: any number may be passed, and `out` is one place.
+    checked(unsafe { h3w_getDirectedEdgeOrigin(edge, &mut out) })?;
+    Ok(out)
+}
+
+pub(crate) fn edges(cell: u64) -> Result<[u64; 6], Error> {
+    let mut out = [0; 6];
+    // SAFETY: any number may be passed, and `out` has six places.
+    checked(unsafe { h3w_originToDirectedEdges(cell, &mut out) })?;
+    Ok(out)
+}
+
+/// The compacted list, which is no longer than the given one.
+pub(crate) fn compact(cells: &[Cell]) -> Result<Vec<Cell>, Error> {
+    let n = cells.len();
+    written(n, |out| {
+        let mut count = 0;
+        // SAFETY: a `Cell` is a number. The slice is passed with its length, `out` points to room
+        // for `n` numbers, and `count` is one place.
+        let code = unsafe { h3w_compactCells(cells.as_ptr().cast(), n, out, n, &mut count) };
+        (code, count)
+    })
+}
+
+/// The cells of the uncompacted list, which are this many.
+pub(crate) fn uncompact(cells: &[Cell], count: usize, res: i32) -> Result<Vec<Cell>, Error> {
+    written(count, |out| {
+        // SAFETY: a `Cell` is a number. The slice is passed with its length, and `out` points to
+        // room for `count` numbers.
+        let code =
+            unsafe { h3w_uncompactCells(cells.as_ptr().cast(), cells.len(), out, count, res) };
+        (code, count)
+    })
+}
+
+/// The table in the bytes of a file, or why they are refused.
+pub(crate) fn read_table(file: &[u8]) -> Result<RawTable, Fault> {
+    let mut fault = Fault::default();
+    // SAFETY: the slice is passed with its length, a `c_char` is a byte, and `fault` is one place.
+    let table = unsafe { h3w_readTable(file.as_ptr().cast(), file.len(), &mut fault) };
+    if fault.code == 0 {
+        Ok(table)
+    } else {
+        Err(fault)
+    }
+}
+
+/// The cells of a disk, which are this many.
+pub(crate) fn disk(
+    table: &RawTable,
+    origin: u64,
+    k: i32,
+    count: usize,
+) -> Result<Vec<Cell>, Error> {
+    written(count, |out| {
+        // SAFETY: a `RawTable` is as the library returned it, or a copy. `out` points to room for
+        // `count` numbers.
+        let code = unsafe { h3w_gridDiskUnsafe(table, origin, k, out, count) };
+        (code, count)
+    })
+}
+
+/// The cells of a disk, which are this many, and the ring of each.
+pub(crate) fn distances(
+    table: &RawTable,
+    origin: u64,
+    k: i32,
+    count: usize,
+) -> Result<(Vec<Cell>, Vec<c_int>), Error> {
+    let mut rings = Vec::<c_int>::new();
+    rings
+        .try_reserve_exact(count)
+        .map_err(|_| Error::MemoryAlloc)?;
+    rings.resize(count, 0);
+    let cells = written(count, |out| {
+        // SAFETY: a `RawTable` is as the library returned it, or a copy. `out` points to room for
+        // `count` numbers, and the slice is passed with its length.
+        let code = unsafe {
+            h3w_gridDiskDistancesUnsafe(
+                table,
+                origin,
+                k,
+                out,
+                count,
+                rings.as_mut_ptr(),
+                rings.len(),
+            )
+        };
+        (code, count)
+    })?;
+    Ok((cells, rings))
+}
+
+/// The cells of a ring, which are this many.
+pub(crate) fn ring(
+    table: &RawTable,
+    origin: u64,
+    k: i32,
+    count: usize,
+) -> Result<Vec<Cell>, Error> {
+    written(count, |out| {
+        // SAFETY: a `RawTable` is as the library returned it, or a copy. `out` points to room for
+        // `count` numbers.
+        let code = unsafe { h3w_gridRingUnsafe(table, origin, k, out, count) };
+        (code, count)
+    })
+}
+
+pub(crate) fn are_neighbors(table: &RawTable, a: u64, b: u64) -> Result<bool, Error> {
+    let mut out = 0;
+    // SAFETY: a `RawTable` is as the library returned it, or a copy; any numbers may be passed, and
+    // `out` is one place.
+    checked(unsafe { h3w_areNeighborCells(table, a, b, &mut out) })?;
+    Ok(out == 1)
+}
+
+pub(crate) fn edge_between(table: &RawTable, a: u64, b: u64) -> Result<u64, Error> {
+    let mut out = 0;
+    // SAFETY: a `RawTable` is as the library returned it, or a copy; any numbers may be passed, and
+    // `out` is one place.
+    checked(unsafe { h3w_cellsToDirectedEdge(table, a, b, &mut out) })?;
+    Ok(out)
+}
+
+pub(crate) fn edge_destination(table: &RawTable, edge: u64) -> Result<u64, Error> {
+    let mut out = 0;
+    // SAFETY: a `RawTable` is as the library returned it, or a copy; any number may be passed, and
+    // `out` is one place.
+    checked(unsafe { h3w_getDirectedEdgeDestination(table, edge, &mut out) })?;
+    Ok(out)
+}
+
+/// The cells that a function writes where there is room for so many. It returns its error number,
+/// and how many cells it has written.
+fn written(room: usize, write: impl FnOnce(*mut u64) -> (u32, usize)) -> Result<Vec<Cell>, Error> {
+    let mut cells = Vec::<Cell>::new();
+    cells
+        .try_reserve_exact(room)
+        .map_err(|_| Error::MemoryAlloc)?;
+    let (code, count) = write(cells.as_mut_ptr().cast());
+    checked(code)?;
+    assert!(count <= room);
+    // SAFETY: the function has written the numbers of cells to the first `count` places.
+    unsafe { cells.set_len(count) };
+    Ok(cells)
+}
+
+fn checked(code: u32) -> Result<(), Error> {
+    Error::from_number(code).map_or(Ok(()), Err)
+}

@@ -1,0 +1,35 @@
+use crate::{ffi, Cell, Error, Resolution};
+
+/// The least list of cells that covers the same as the given ones, ascending: H3's `compactCells`.
+/// `DuplicateInput` where a cell is there twice, or together with an ancestor of it; `MemoryAlloc`
+/// where there is no memory.
+///
+/// ```
+/// use h3whole::{compact, uncompact, Cell, Error, Resolution};
+///
+/// let cell = Cell::try_from(0x85283473fffffff)?;
+/// let children = cell.children_vec(Resolution::Eight)?;
+/// assert_eq!(children.len(), 343);
+/// assert_eq!(compact(&children)?, [cell]);
+/// assert_eq!(uncompact(&[cell], Resolution::Eight)?, children);
+/// assert_eq!(compact(&[cell, cell]), Err(Error::DuplicateInput));
+/// # Ok::<(), Error>(())
+/// ```
+pub fn compact(cells: &[Cell]) -> Result<Vec<Cell>, Error> {
+    ffi::compact(cells)
+}
+
+/// The descendants at a resolution of the first cell, ascending, then those of the second, and so
+/// on: H3's `uncompactCells`. `ResMismatch` where a cell is finer; `MemoryAlloc` where there is no
+/// memory for them.
+pub fn uncompact(cells: &[Cell], resolution: Resolution) -> Result<Vec<Cell>, Error> {
+    let mut count = 0u64;
+    for cell in cells {
+        let size = cell
+            .children_count(resolution)
+            .map_err(|_| Error::ResMismatch)?;
+        count = count.checked_add(size).ok_or(Error::MemoryAlloc)?;
+    }
+    let count = usize::try_from(count).map_err(|_| Error::MemoryAlloc)?;
+    ffi::uncompact(cells, count, resolution.into())
+}

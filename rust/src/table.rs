@@ -1,0 +1,176 @@
+use crate::ffi::{self, Fault, RawTable};
+use crate::{Cell, Edge, Error};
+use std::fmt;
+
+/// A base cell table: how the base cells of hexagons lie beside each other. What goes from cell to
+/// cell needs one, and H3 ships none as a file: the repository's `tools/h3-table` makes it of H3's
+/// sources.
+///
+/// It takes 1,465 bytes and owns nothing; it may be cloned, and read from many threads at once.
+///
+/// ```
+/// use h3whole::{Cell, Error, Table};
+///
+/// # fn file() -> Vec<u8> {
+/// #     let steps = [110, 11, 121, 1, 111, 12];
+/// #     let mut file = String::from("base,dir,to,rot\n");
+/// #     let pentagons = [4, 14, 24, 38, 49, 58, 63, 72, 83, 97, 107, 117];
+/// #     for base in (0..122).filter(|base| !pentagons.contains(base)) {
+/// #         for (digit, step) in (1..).zip(steps) {
+/// #             file += &format!("{base},{digit},{},0\n", (base + step) % 122);
+/// #         }
+/// #     }
+/// #     file.into()
+/// # }
+/// # let bytes = file();
+/// // such as std::fs::read("table.csv")?
+/// let table = Table::from_csv(&bytes)?;
+/// let cell = Cell::try_from(0x85283473fffffff)?;
+/// let disk = table.grid_disk_unsafe(cell, 2)?;
+/// assert_eq!((disk[0], disk.len()), (cell, 19));
+///
+/// let edge = table.edge_between(cell, disk[1])?;
+/// assert_eq!(table.edge_destination(edge), Ok(disk[1]));
+/// assert_eq!(table.are_neighbors(cell, disk[7]), Ok(false));
+///
+/// let pentagon = Cell::try_from(0x8009fffffffffff)?;
+/// assert_eq!(table.grid_disk_unsafe(pentagon, 1), Err(Error::Pentagon));
+/// # Ok::<(), Box<dyn std::error::Error>>(())
+/// ```
+#[derive(Clone)]
+pub struct Table(RawTable);
+
+impl Table {
+    /// The table in the bytes of a file, in one of the two formats that `tools/h3-table` writes.
+    pub fn from_csv(file: &[u8]) -> Result<Table, TableError> {
+        ffi::read_table(file).map(Table).map_err(TableError::from)
+    }
+
+    /// The cells within k steps of a cell, ring by ring: H3's `gridDiskUnsafe`. `Domain` where k is
+    /// no `i32`; `MemoryAlloc` where there is no memory for 3k(k + 1) + 1 cells; `Pentagon` where a
+    /// step meets a pentagon base cell.
+    pub fn grid_disk_unsafe(&self, origin: Cell, k: u32) -> Result<Vec<Cell>, Error> {
+        let radius = radius(k)?;
+        ffi::disk(&self.0, origin.0, radius, disk_len(k)?)
+    }
+
+    /// The same, each cell with its ring, 0 to k: H3's `gridDiskDistancesUnsafe`. Errors as of
+    /// [`Table::grid_disk_unsafe`].
+    pub fn grid_disk_distances_unsafe(
+        &self,
+        origin: Cell,
+        k: u32,
+    ) -> Result<Vec<(Cell, u32)>, Error> {
+        let radius = radius(k)?;
+        let (cells, rings) = ffi::distances(&self.0, origin.0, radius, disk_len(k)?)?;
+        let mut found = Vec::new();
+        found
+            .try_reserve_exact(cells.len())
+            .map_err(|_| Error::MemoryAlloc)?;
+        found.extend(cells.into_iter().zip(rings.into_iter().map(i32::unsigned_abs)));
+        Ok(found)
+    }
+
+    /// The cells at k steps from a cell: H3's `gridRingUnsafe`. Errors as of
+    /// [`Table::grid_disk_unsafe`], and for k = 0 none.
+    pub fn grid_ring_unsafe(&self, origin: Cell, k: u32) -> Result<Vec<Cell>, Error> {
+        let radius = radius(k)?;
+        let count = usize::try_from(6 * u64::from(k)).map_err(|_| Error::MemoryAlloc)?;
+        ffi::ring(&self.0, origin.0, radius, count.max(1))
+    }
+
+    /// Whether a step leads from the one cell to the other: H3's `areNeighborCells`. `ResMismatch`
+    /// where their resolutions differ; then, for different cells, `Pentagon` where the base cell of
+    /// either is a pentagon.
+    pub fn are_neighbors(&self, a: Cell, b: Cell) -> Result<bool, Error> {
+        ffi::are_neighbors(&self.0, a.0, b.0)
+    }
+
+    /// The edge from a cell to a neighbor: H3's `cellsToDirectedEdge`. `ResMismatch`, then
+    /// `NotNeighbors` where both are the same, then `Pentagon` where the base cell of either is a
+    /// pentagon, then `NotNeighbors`.
+    pub fn edge_between(&self, origin: Cell, destination: Cell) -> Result<Edge, Error> {
+        ffi::edge_between(&self.0, origin.0, destination.0).map(Edge)
+    }
+
+    /// The cell that an edge leads to: H3's `getDirectedEdgeDestination`. `Pentagon` where the base
+    /// cell of the edge's origin, or of that cell, is a pentagon.
+    pub fn edge_destination(&self, edge: Edge) -> Result<Cell, Error> {
+        ffi::edge_destination(&self.0, edge.0).map(Cell)
+    }
+}
+
+impl fmt::Debug for Table {
+    fn fmt(&self, f: &mut fmt::Formatter<'_>) -> fmt::Result {
+        f.debug_struct("Table").finish_non_exhaustive()
+    }
+}
+
+/// A radius as H3's functions take it.
+fn radius(k: u32) -> Result<i32, Error> {
+    i32::try_from(k).map_err(|_| Error::Domain)
+}
+
+/// The number of cells of a disk.
+fn disk_len(k: u32) -> Result<usize, Error> {
+    let k = u64::from(k);
+    usize::try_from(3 * k * (k + 1) + 1).map_err(|_| Error::MemoryAlloc)
+}
+
+/// Why a table file is refused, in the order in which the errors are found. Record 1 is the header,
+/// and a direction is 1 to 6.
+#[derive(Clone, Copy, Debug, PartialEq, Eq)]
+#[non_exhaustive]
+pub enum TableError {
+    /// Out of memory.
+    Memory,
+    /// This record is malformed.
+    Form(u64),
+    /// This record has a number out of range.
+    Range(u64),
+    /// This record repeats an earlier one.
+    Repeated(u64),
+    /// Some base cell and direction have no link.
+    Missing,
+    /// This base cell and its neighbors are not seven different base cells.
+    Neighbors(u8),
+    /// The link of this base cell in this direction is not undone by the link back.
+    Reversal(u8, u8),
+    /// The links around the corner of this base cell after this direction do not agree.
+    Corner(u8, u8),
+}
+
+impl From<Fault> for TableError {
+    fn from(fault: Fault) -> Self {
+        let (base, direction) = (fault.at as u8, fault.direction as u8);
+        match fault.code {
+            3 => TableError::Form(fault.at),
+            4 => TableError::Range(fault.at),
+            5 => TableError::Repeated(fault.at),
+            6 => TableError::Missing,
+            7 => TableError::Neighbors(base),
+            8 => TableError::Reversal(base, direction),
+            9 => TableError::Corner(base, direction),
+            _ => TableError::Memory,
+        }
+    }
+}
+
+impl fmt::Display for TableError {
+    fn fmt(&self, f: &mut fmt::Formatter<'_>) -> fmt::Result {
+        match self {
+            TableError::Memory => write!(f, "table: out of memory"),
+            TableError::Form(record) => write!(f, "table: form {record}"),
+            TableError::Range(record) => write!(f, "table: range {record}"),
+            TableError::Repeated(record) => write!(f, "table: repeated {record}"),
+            TableError::Missing => write!(f, "table: missing"),
+            TableError::Neighbors(base) => write!(f, "table: neighbours {base}"),
+            TableError::Reversal(base, direction) => {
+                write!(f, "table: reversal {base} {direction}")
+            }
+            TableError::Corner(base, direction) => write!(f, "table: corner {base} {direction}"),
+        }
+    }
+}
+
+impl std::error::Error for TableError {}

@@ -1,0 +1,144 @@
+/* The functions for columns against those of one index, over columns of every kind of index. */
+#include "h3whole.h"
+#include "check.h"
+#include <limits.h>
+#include <stdlib.h>
+
+#define N           600
+#define KEPT        77
+#define ROOM(array) (sizeof(array) / sizeof *(array))
+
+typedef H3Error Numbers(const H3Index *, size_t, int *, size_t, size_t *);
+typedef H3Error Cells(const H3Index *, size_t, int, H3Index *, size_t, size_t *);
+typedef H3Error Counts(const H3Index *, size_t, int, int64_t *, size_t, size_t *);
+
+static H3Index column[N];
+
+/* Cells of all resolutions, pentagons, edges, and numbers of nothing. */
+static void fill(void) {
+    static const H3Index others[] = {
+        0, 5, UINT64_MAX, 0x81087ffffffffffU, 0x115283473fffffffU, 0x11009fffffffffffU};
+    uint64_t state = 1;
+    int64_t size = 0;
+    size_t i;
+    for (i = 0; i < N; i++) {
+        H3Index base = 0x8001fffffffffffU + ((state >> 20) % 122 << 45);
+        int res = (int)(i % 16);
+        state = state * 6364136223846793005U + 1442695040888963407U;
+        if (i % 9 == 5) {
+            column[i] = others[i / 9 % ROOM(others)];
+        } else {
+            CHECK(h3w_cellToChildrenSize(base, res, &size) == E_SUCCESS);
+            CHECK(h3w_childPosToCell((int64_t)((state >> 2) % (uint64_t)size), base, res,
+                                     &column[i]) == E_SUCCESS);
+        }
+        if (i % 9 == 7) CHECK(h3w_getPentagons(res, column + i, 1) == E_MEMORY_BOUNDS);
+        if (i % 9 == 3) column[i] ^= (H3Index)0x3 << 59 | (H3Index)(1 + i % 6) << 56;
+    }
+}
+
+/* The first error of those of n indexes, or E_SUCCESS, and its place, or n. */
+static H3Error first(const H3Error *errors, size_t n, size_t *at) {
+    for (*at = 0; *at < n; ++*at)
+        if (errors[*at]) return errors[*at];
+    return E_SUCCESS;
+}
+
+static H3Error of_cell(H3Index index) {
+    return h3w_isValidCell(index) ? E_SUCCESS : E_CELL_INVALID;
+}
+static H3Error of_any(H3Index index) {
+    (void)index;
+    return E_SUCCESS;
+}
+
+static void numbers(Numbers *all, int (*one)(H3Index), H3Error (*error_of)(H3Index), size_t n) {
+    int *out = (int *)malloc((n + 1) * sizeof *out);
+    H3Error errors[N] = {E_SUCCESS}, wanted;
+    size_t at = KEPT, place, same = 0, i;
+    if (!out) exit(2);
+    for (i = 0; i <= n; i++) out[i] = KEPT;
+    for (i = 0; i < n; i++) errors[i] = error_of(column[i]);
+    wanted = first(errors, n, &place);
+    CHECK(all(column, n, out, n, &at) == wanted && at == place);
+    while (same < n && out[same] == (errors[same] ? -1 : one(column[same]))) same++;
+    CHECK(same == n && out[n] == KEPT);
+    if (n) {
+        at = out[0] = KEPT;
+        CHECK(all(column, n, out, n - 1, &at) == E_MEMORY_BOUNDS && at == KEPT && out[0] == KEPT);
+    }
+    free(out);
+}
+
+static void cells(Cells *all, H3Error (*one)(H3Index, int, H3Index *), int res, size_t n) {
+    H3Index *out = (H3Index *)malloc((n + 1) * sizeof *out), results[N] = {0};
+    H3Error errors[N] = {E_SUCCESS}, wanted;
+    size_t at = KEPT, place, same = 0, i;
+    if (!out) exit(2);
+    for (i = 0; i <= n; i++) out[i] = KEPT;
+    for (i = 0; i < n; i++) errors[i] = one(column[i], res, &results[i]);
+    wanted = first(errors, n, &place);
+    CHECK(all(column, n, res, out, n, &at) == wanted && at == place);
+    while (same < n && out[same] == (errors[same] ? H3_NULL : results[same])) same++;
+    CHECK(same == n && out[n] == KEPT);
+    if (n) {
+        at = out[0] = KEPT;
+        CHECK(all(column, n, res, out, n - 1, &at) == E_MEMORY_BOUNDS && at == KEPT &&
+              out[0] == KEPT);
+    }
+    free(out);
+}
+
+static void sizes(Counts *all, H3Error (*one)(H3Index, int, int64_t *), int res, size_t n) {
+    int64_t *out = (int64_t *)malloc((n + 1) * sizeof *out), results[N] = {0};
+    H3Error errors[N] = {E_SUCCESS}, wanted;
+    size_t at = KEPT, place, same = 0, i;
+    if (!out) exit(2);
+    for (i = 0; i <= n; i++) out[i] = KEPT;
+    for (i = 0; i < n; i++) errors[i] = one(column[i], res, &results[i]);
+    wanted = first(errors, n, &place);
+    CHECK(all(column, n, res, out, n, &at) == wanted && at == place);
+    while (same < n && out[same] == (errors[same] ? -1 : results[same])) same++;
+    CHECK(same == n && out[n] == KEPT);
+    if (n) {
+        at = KEPT, out[0] = KEPT;
+        CHECK(all(column, n, res, out, n - 1, &at) == E_MEMORY_BOUNDS && at == KEPT &&
+              out[0] == KEPT);
+    }
+    free(out);
+}
+
+/* An edge's origin, in the form of the functions with a resolution. */
+static H3Error origin(H3Index edge, int res, H3Index *out) {
+    (void)res;
+    return h3w_getDirectedEdgeOrigin(edge, out);
+}
+static H3Error origins(const H3Index *edges, size_t n, int res, H3Index *out, size_t room,
+                       size_t *at) {
+    (void)res;
+    return h3w_getDirectedEdgeOrigins(edges, n, out, room, at);
+}
+
+int main(void) {
+    static const int resolutions[] = {INT_MIN, -1, 0,  1,  2,  3,  4,  5,  6,  7,
+                                      8,       9,  10, 11, 12, 13, 14, 15, 16, INT_MAX};
+    static const size_t lengths[] = {0, 1, 5, 6, N};
+    size_t i, j;
+    fill();
+    for (i = 0; i < ROOM(lengths); i++) {
+        numbers(h3w_areValidCells, h3w_isValidCell, of_any, lengths[i]);
+        numbers(h3w_areValidDirectedEdges, h3w_isValidDirectedEdge, of_any, lengths[i]);
+        numbers(h3w_getResolutions, h3w_getResolution, of_cell, lengths[i]);
+        numbers(h3w_getBaseCellNumbers, h3w_getBaseCellNumber, of_cell, lengths[i]);
+        numbers(h3w_arePentagons, h3w_isPentagon, of_cell, lengths[i]);
+        numbers(h3w_areResClassIII, h3w_isResClassIII, of_cell, lengths[i]);
+        cells(origins, origin, 0, lengths[i]);
+        for (j = 0; j < ROOM(resolutions); j++) {
+            cells(h3w_cellsToParents, h3w_cellToParent, resolutions[j], lengths[i]);
+            cells(h3w_cellsToCenterChildren, h3w_cellToCenterChild, resolutions[j], lengths[i]);
+            sizes(h3w_cellsToChildrenSizes, h3w_cellToChildrenSize, resolutions[j], lengths[i]);
+            sizes(h3w_cellsToChildPositions, h3w_cellToChildPos, resolutions[j], lengths[i]);
+        }
+    }
+    return counts();
+}

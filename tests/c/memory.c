@@ -1,0 +1,125 @@
+/* Each allocation of the functions that take memory is refused in turn: they return E_MEMORY_ALLOC,
+ * write nothing, and free what they have taken. Linked with -Wl,--wrap= of malloc, calloc, realloc
+ * and free. */
+#include "h3whole.h"
+#include "check.h"
+#include "tables.h"
+#include <stdlib.h>
+
+#define KEPT 77
+
+void *__real_malloc(size_t size);
+void *__real_calloc(size_t count, size_t size);
+void *__real_realloc(void *old, size_t size);
+void __real_free(void *old);
+void *__wrap_malloc(size_t size);
+void *__wrap_calloc(size_t count, size_t size);
+void *__wrap_realloc(void *old, size_t size);
+void __wrap_free(void *old);
+
+/* how many allocations there were, which one is refused, and how many are not freed */
+static unsigned long made, refused;
+static long held;
+
+static void *counted(void *place) {
+    if (place) held++;
+    return place;
+}
+
+void *__wrap_malloc(size_t size) { return ++made == refused ? NULL : counted(__real_malloc(size)); }
+void *__wrap_calloc(size_t count, size_t size) {
+    return ++made == refused ? NULL : counted(__real_calloc(count, size));
+}
+void *__wrap_realloc(void *old, size_t size) {
+    if (++made == refused) return NULL;
+    if (old) held--;
+    return counted(__real_realloc(old, size));
+}
+void __wrap_free(void *old) {
+    if (old) held--;
+    __real_free(old);
+}
+
+static H3Index cells[343], out[343];
+
+static H3Error compacted(size_t *count) { return h3w_compactCells(cells, 343, out, 343, count); }
+static H3Error uncompacted(size_t *count) {
+    H3Error error = h3w_uncompactCells(cells, 49, out, 343, 9);
+    if (!error) *count = 343;
+    return error;
+}
+
+/* Where all is granted, and with each allocation refused. */
+static void expect(H3Error (*call)(size_t *), size_t wanted) {
+    unsigned long allocations;
+    size_t count = KEPT;
+    made = refused = 0;
+    CHECK(call(&count) == E_SUCCESS && count == wanted && held == 0);
+    allocations = made;
+    CHECK(allocations > 0);
+    for (refused = 1; refused <= allocations; refused++) {
+        made = 0, count = KEPT, out[0] = out[342] = KEPT;
+        CHECK(call(&count) == E_MEMORY_ALLOC);
+        CHECK(count == KEPT && out[0] == KEPT && out[342] == KEPT && held == 0);
+    }
+    refused = 0;
+    printf("%lu allocations\n", allocations);
+}
+
+/* All other functions take none. */
+static void expect_none(void) {
+    H3Index index = 0;
+    int64_t number = 0;
+    size_t at = 0;
+    char text[17];
+    made = 0;
+    CHECK(h3w_cellToChildren(0x85283473fffffffU, 8, cells, 343) == E_SUCCESS);
+    CHECK(h3w_cellToParent(cells[5], 0, &index) == E_SUCCESS &&
+          h3w_cellToChildPos(cells[5], 0, &number) == E_SUCCESS);
+    CHECK(h3w_childPosToCell(5, cells[5], 15, &index) == E_SUCCESS &&
+          h3w_h3ToString(index, text, 17) == E_SUCCESS);
+    CHECK(h3w_stringToH3(text, 15, &index) == E_SUCCESS &&
+          h3w_originToDirectedEdges(index, out) == E_SUCCESS);
+    CHECK(h3w_cellsToParents(cells, 343, 5, out, 343, &at) == E_SUCCESS &&
+          h3w_getRes0Cells(out, 122) == E_SUCCESS);
+    CHECK(made == 0);
+}
+
+static char file[FILE_ROOM];
+static size_t length;
+
+/* A table is read; a refused allocation is its only fault. */
+static void expect_table(void) {
+    unsigned long allocations;
+    H3wTableFault fault;
+    H3wTable table, plain;
+    length = write_table(file, PLAIN, 1);
+    made = refused = 0;
+    plain = h3w_readTable(file, length, &fault);
+    CHECK(fault.code == H3W_TABLE_ACCEPTED && held == 0);
+    allocations = made;
+    CHECK(allocations > 0);
+    for (refused = 1; refused <= allocations; refused++) {
+        made = 0;
+        table = h3w_readTable(file, length, &fault);
+        CHECK(fault.code == H3W_TABLE_MEMORY && fault.at == 0 && fault.direction == 0 && held == 0);
+        CHECK(h3w_gridDiskUnsafe(&table, 0x85283473fffffffU, 0, out, 1) == E_FAILED);
+    }
+    made = refused = 0;
+    CHECK(h3w_gridDiskUnsafe(&plain, 0x85283473fffffffU, 5, out, 91) == E_SUCCESS && made == 0);
+    printf("%lu allocations\n", allocations);
+}
+
+int main(void) {
+    expect_none();
+    expect_table();
+    expect(compacted, 1);
+    expect(uncompacted, 343);
+    /* a list that is refused */
+    cells[342] = cells[0];
+    CHECK(h3w_compactCells(cells, 343, out, 343, &(size_t){0}) == E_DUPLICATE_INPUT && held == 0);
+    cells[342] = 5;
+    CHECK(h3w_compactCells(cells, 343, out, 343, &(size_t){0}) == E_CELL_INVALID && held == 0);
+    CHECK(h3w_uncompactCells(cells, 343, out, 343, 9) == E_CELL_INVALID && held == 0);
+    return counts();
+}

@@ -1,0 +1,153 @@
+/* Worked examples. */
+#include "h3whole.h"
+#include "check.h"
+#include <stdlib.h>
+
+#define HEXAGON     0x85283473fffffffU
+#define PENTAGON    0x8009fffffffffffU
+#define ROOM(array) (sizeof(array) / sizeof *(array))
+
+static const H3Index children[] = {0x862834707ffffffU, 0x86283470fffffffU, 0x862834717ffffffU,
+                                   0x86283471fffffffU, 0x862834727ffffffU, 0x86283472fffffffU,
+                                   0x862834737ffffffU};
+static const H3Index pentagon_children[] = {0x81083ffffffffffU, 0x8108bffffffffffU,
+                                            0x8108fffffffffffU, 0x81093ffffffffffU,
+                                            0x81097ffffffffffU, 0x8109bffffffffffU};
+static const H3Index pentagons[] = {0x8009fffffffffffU, 0x801dfffffffffffU, 0x8031fffffffffffU,
+                                    0x804dfffffffffffU, 0x8063fffffffffffU, 0x8075fffffffffffU,
+                                    0x807ffffffffffffU, 0x8091fffffffffffU, 0x80a7fffffffffffU,
+                                    0x80c3fffffffffffU, 0x80d7fffffffffffU, 0x80ebfffffffffffU};
+
+static int are_same(const H3Index *some, const H3Index *others, size_t n) {
+    return memcmp(some, others, n * sizeof *some) == 0;
+}
+
+static void fields(void) {
+    CHECK(h3w_isValidCell(HEXAGON) == 1 && h3w_isValidCell(PENTAGON) == 1);
+    CHECK(h3w_isValidCell(0x81087ffffffffffU) == 0);  /* the deleted subsequence of a pentagon */
+    CHECK(h3w_isValidCell(0x80f5fffffffffffU) == 0);  /* base cell 122 */
+    CHECK(h3w_isValidCell(0x8109fffffffffffU) == 0);  /* a digit 7 within the resolution */
+    CHECK(h3w_isValidCell(0x885283473fffffffU) == 0); /* the reserved bit */
+    CHECK(h3w_isValidCell(0x115283473fffffffU) == 0); /* an edge */
+    CHECK(h3w_isValidCell(0) == 0);
+    CHECK(h3w_getResolution(HEXAGON) == 5 && h3w_getResolution(PENTAGON) == 0);
+    CHECK(h3w_getBaseCellNumber(HEXAGON) == 20 && h3w_getBaseCellNumber(PENTAGON) == 4);
+    CHECK(h3w_isPentagon(HEXAGON) == 0 && h3w_isPentagon(PENTAGON) == 1);
+    CHECK(h3w_isResClassIII(HEXAGON) == 1 && h3w_isResClassIII(PENTAGON) == 0);
+}
+
+static void resolutions(void) {
+    int64_t count = 0;
+    H3Index cells[122] = {0};
+    CHECK(h3w_getNumCells(15, &count) == E_SUCCESS && count == 569707381193162);
+    CHECK(h3w_getNumCells(0, &count) == E_SUCCESS && count == 122);
+    CHECK(h3w_getRes0Cells(cells, 122) == E_SUCCESS && cells[0] == 0x8001fffffffffffU &&
+          cells[121] == 0x80f3fffffffffffU);
+    CHECK(h3w_getPentagons(0, cells, 12) == E_SUCCESS && are_same(cells, pentagons, 12));
+}
+
+static void hierarchy(void) {
+    H3Index cells[7] = {0};
+    int64_t size = 0;
+    CHECK(h3w_cellToParent(HEXAGON, 4, cells) == E_SUCCESS && cells[0] == 0x8428347ffffffffU);
+    CHECK(h3w_cellToParent(HEXAGON, 5, cells) == E_SUCCESS && cells[0] == HEXAGON);
+    CHECK(h3w_cellToCenterChild(HEXAGON, 15, cells) == E_SUCCESS && cells[0] == 0x8f2834700000000U);
+    CHECK(h3w_cellToChildren(HEXAGON, 6, cells, 7) == E_SUCCESS && are_same(cells, children, 7));
+    CHECK(h3w_cellToChildren(PENTAGON, 1, cells, 6) == E_SUCCESS &&
+          are_same(cells, pentagon_children, 6));
+    CHECK(h3w_cellToChildrenSize(0x8029fffffffffffU, 15, &size) == E_SUCCESS &&
+          size == 4747561509943);
+    CHECK(h3w_cellToChildrenSize(PENTAGON, 15, &size) == E_SUCCESS && size == 3956301258286);
+}
+
+static void positions(void) {
+    int64_t position = -1;
+    H3Index cell = 0;
+    CHECK(h3w_cellToChildPos(HEXAGON, 0, &position) == E_SUCCESS && position == 2279);
+    CHECK(h3w_cellToChildPos(HEXAGON, 5, &position) == E_SUCCESS && position == 0);
+    CHECK(h3w_cellToChildPos(0x8209b7fffffffffU, 0, &position) == E_SUCCESS && position == 40);
+    CHECK(h3w_childPosToCell(2279, 0x8029fffffffffffU, 5, &cell) == E_SUCCESS && cell == HEXAGON);
+}
+
+static void texts(void) {
+    char text[17];
+    H3Index index = 7;
+    CHECK(h3w_h3ToString(HEXAGON, text, 17) == E_SUCCESS && strcmp(text, "85283473fffffff") == 0);
+    CHECK(h3w_h3ToString(0, text, 17) == E_SUCCESS && strcmp(text, "0") == 0);
+    CHECK(h3w_h3ToString(UINT64_MAX, text, 17) == E_SUCCESS &&
+          strcmp(text, "ffffffffffffffff") == 0);
+    CHECK(h3w_stringToH3("0X85283473FFFFFFF", 17, &index) == E_SUCCESS && index == HEXAGON);
+    CHECK(h3w_stringToH3("0", 1, &index) == E_SUCCESS && index == 0);
+}
+
+static void edges(void) {
+    H3Index edges[6] = {1, 1, 1, 1, 1, 1}, origin = 0;
+    int i;
+    CHECK(h3w_isValidDirectedEdge(0x115283473fffffffU) == 1 &&
+          h3w_isValidDirectedEdge(HEXAGON) == 0);
+    CHECK(h3w_isValidDirectedEdge(0x11009fffffffffffU) == 0); /* direction 1 at a pentagon */
+    CHECK(h3w_getDirectedEdgeOrigin(0x115283473fffffffU, &origin) == E_SUCCESS &&
+          origin == HEXAGON);
+    CHECK(h3w_originToDirectedEdges(PENTAGON, edges) == E_SUCCESS && edges[0] == H3_NULL);
+    for (i = 1; i < 6; i++) CHECK(edges[i] == 0x11009fffffffffffU + ((H3Index)i << 56));
+    CHECK(h3w_originToDirectedEdges(HEXAGON, edges) == E_SUCCESS);
+    for (i = 0; i < 6; i++) CHECK(edges[i] == 0x115283473fffffffU + ((H3Index)i << 56));
+}
+
+/* The children at resolution 2 of 8029fffffffffff but the last one. */
+static void compaction_of_all_but_one(void) {
+    static const H3Index wanted[] = {0x81283ffffffffffU, 0x81287ffffffffffU, 0x8128bffffffffffU,
+                                     0x8128fffffffffffU, 0x81293ffffffffffU, 0x81297ffffffffffU,
+                                     0x822987fffffffffU, 0x82298ffffffffffU, 0x822997fffffffffU,
+                                     0x82299ffffffffffU, 0x8229a7fffffffffU, 0x8229affffffffffU};
+    H3Index cells[49], out[49];
+    size_t count = 0;
+    CHECK(h3w_cellToChildren(0x8029fffffffffffU, 2, cells, 49) == E_SUCCESS &&
+          cells[48] == 0x8229b7fffffffffU);
+    CHECK(h3w_compactCells(cells, 49, out, 49, &count) == E_SUCCESS && count == 1 &&
+          out[0] == 0x8029fffffffffffU);
+    CHECK(h3w_compactCells(cells, 48, out, 49, &count) == E_SUCCESS && count == ROOM(wanted));
+    CHECK(are_same(out, wanted, ROOM(wanted)));
+}
+
+static void lists(void) {
+    H3Index reversed[7], out[7], two[2] = {PENTAGON, 0x81283ffffffffffU};
+    size_t count = 0, i;
+    for (i = 0; i < 7; i++) reversed[i] = children[6 - i];
+    CHECK(h3w_compactCells(reversed, 7, out, 7, &count) == E_SUCCESS && count == 1 &&
+          out[0] == HEXAGON);
+    CHECK(h3w_compactCells(pentagon_children, 6, out, 6, &count) == E_SUCCESS && count == 1 &&
+          out[0] == PENTAGON);
+    CHECK(h3w_compactCells(pentagon_children, 5, out, 6, &count) == E_SUCCESS && count == 5);
+    CHECK(are_same(out, pentagon_children, 5));
+    CHECK(h3w_uncompactCells(two, 2, out, 7, 1) == E_SUCCESS &&
+          are_same(out, pentagon_children, 6) && out[6] == two[1]);
+    compaction_of_all_but_one();
+}
+
+static void columns(void) {
+    static const H3Index cells[] = {HEXAGON, 5, PENTAGON};
+    H3Index out[3];
+    int64_t counts[3];
+    int numbers[3];
+    size_t at = 9;
+    CHECK(h3w_areValidCells(cells, 3, numbers, 3, &at) == E_SUCCESS && at == 3);
+    CHECK(numbers[0] == 1 && numbers[1] == 0 && numbers[2] == 1);
+    CHECK(h3w_cellsToParents(cells, 3, 4, out, 3, &at) == E_CELL_INVALID && at == 1);
+    CHECK(out[0] == 0x8428347ffffffffU && out[1] == H3_NULL && out[2] == H3_NULL);
+    CHECK(h3w_cellsToParents(cells, 1, 4, out, 3, &at) == E_SUCCESS && at == 1);
+    CHECK(h3w_cellsToChildrenSizes(cells, 3, 15, counts, 3, &at) == E_CELL_INVALID && at == 1);
+    CHECK(counts[0] == 282475249 && counts[1] == -1 && counts[2] == 3956301258286);
+}
+
+int main(void) {
+    fields();
+    resolutions();
+    hierarchy();
+    positions();
+    texts();
+    edges();
+    lists();
+    columns();
+    return counts();
+}
