@@ -1,0 +1,114 @@
+#include "common.h"
+
+#include <stdio.h>
+
+static const char *const error_names[] = {
+    "E_SUCCESS",        "E_FAILED",       "E_DOMAIN",           "E_LATLNG_DOMAIN",
+    "E_RES_DOMAIN",     "E_CELL_INVALID", "E_DIR_EDGE_INVALID", "E_UNDIR_EDGE_INVALID",
+    "E_VERTEX_INVALID", "E_PENTAGON",     "E_DUPLICATE_INPUT",  "E_NOT_NEIGHBORS",
+    "E_RES_MISMATCH",   "E_MEMORY_ALLOC", "E_MEMORY_BOUNDS",    "E_OPTION_INVALID",
+};
+
+void h3sql_error_text(H3Error error, char text[H3SQL_ERROR_ROOM]) {
+    if (error < sizeof error_names / sizeof *error_names)
+        snprintf(text, H3SQL_ERROR_ROOM, "error %u: %s", (unsigned)error, error_names[error]);
+    else snprintf(text, H3SQL_ERROR_ROOM, "error %u", (unsigned)error);
+}
+
+H3Error h3sql_reserve(h3sql_List *list, size_t more, h3sql_Resize resize, void *engine) {
+    size_t most = SIZE_MAX / 2 / sizeof *list->cells, room = list->room;
+    void *cells;
+    if (more <= room - list->count) return E_SUCCESS;
+    if (more > most - list->count) return E_MEMORY_ALLOC;
+    /* doubled, so that each cell is moved twice at most in the long run */
+    room = room < most / 2 ? 2 * room : most;
+    if (room < list->count + more) room = list->count + more;
+    if (room < 16) room = 16;
+    cells = resize(engine, list->cells, room * sizeof *list->cells);
+    if (!cells) return E_MEMORY_ALLOC;
+    list->cells = cells;
+    list->room = room;
+    return E_SUCCESS;
+}
+
+H3Error h3sql_push(h3sql_List *list, H3Index cell, h3sql_Resize resize, void *engine) {
+    H3Error error = h3sql_reserve(list, 1, resize, engine);
+    if (!error) list->cells[list->count++] = cell;
+    return error;
+}
+
+H3Error h3sql_compact(const h3sql_List *list, H3Index *out, size_t *count) {
+    static const H3Index none = H3_NULL;
+    return h3w_compactCells(list->count ? list->cells : &none, list->count, out, list->count,
+                            count);
+}
+
+void h3sql_listed(h3sql_Rows *rows, const H3Index *cells, size_t count) {
+    rows->cells = cells;
+    rows->count = count;
+    rows->at = 0;
+    rows->descend = false;
+}
+
+/* The descendants of cells. */
+static void descend(h3sql_Rows *rows, const H3Index *cells, size_t count, int res) {
+    h3sql_listed(rows, cells, count);
+    rows->descend = true;
+    rows->res = res;
+    rows->position = 0;
+}
+
+H3Error h3sql_res0_cells(h3sql_Rows *rows) {
+    h3sql_listed(rows, rows->own, 122);
+    return h3w_getRes0Cells(rows->own, 122);
+}
+
+H3Error h3sql_pentagons(h3sql_Rows *rows, int res) {
+    h3sql_listed(rows, rows->own, 12);
+    return h3w_getPentagons(res, rows->own, 12);
+}
+
+H3Error h3sql_edges(h3sql_Rows *rows, H3Index origin) {
+    h3sql_listed(rows, rows->own, 6);
+    return h3w_originToDirectedEdges(origin, rows->own);
+}
+
+H3Error h3sql_children(h3sql_Rows *rows, H3Index cell, int res) {
+    rows->own[0] = cell;
+    descend(rows, rows->own, 1, res);
+    return h3w_cellToChildrenSize(cell, res, &rows->size);
+}
+
+H3Error h3sql_uncompacted(h3sql_Rows *rows, const H3Index *cells, size_t count, int res) {
+    H3Index none;
+    /* without room it says which error there is; the descendants are taken one by one */
+    H3Error error = h3w_uncompactCells(cells, count, &none, 0, res);
+    descend(rows, cells, count, res);
+    return error == E_MEMORY_BOUNDS ? E_SUCCESS : error;
+}
+
+/* Takes the next cell itself, without H3_NULL. */
+static void next_listed(h3sql_Rows *rows, H3Index *row, bool *found) {
+    while (rows->at < rows->count && rows->cells[rows->at] == H3_NULL) rows->at++;
+    *found = rows->at < rows->count;
+    if (*found) *row = rows->cells[rows->at++];
+}
+
+H3Error h3sql_next(h3sql_Rows *rows, H3Index *row, bool *found) {
+    H3Error error = E_SUCCESS;
+    if (!rows->descend) {
+        next_listed(rows, row, found);
+        return E_SUCCESS;
+    }
+    *found = rows->at < rows->count;
+    if (!*found) return E_SUCCESS;
+    if (rows->position == 0)
+        error = h3w_cellToChildrenSize(rows->cells[rows->at], rows->res, &rows->size);
+    if (!error) error = h3w_childPosToCell(rows->position, rows->cells[rows->at], rows->res, row);
+    if (error) return error;
+    if (++rows->position == rows->size) {
+        rows->at++;
+        rows->position = 0;
+    }
+    return E_SUCCESS;
+}
