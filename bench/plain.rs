@@ -3,7 +3,8 @@
 //! standard input), `plain positions COUNT` (that many positions and back), `plain table` (a table file; `table twisted`
 //! and `table bases` are others, the last of format 2), `plain tables COUNT` (that many readings of the table file on
 //! standard input), `plain steps COUNT` (that many times round the ring of radius 1000, over the table on standard
-//! input), `plain disk CELL K TABLE` and `plain ring CELL K TABLE`.
+//! input), `plain disk CELL K TABLE` and `plain ring CELL K TABLE`. Of each index on standard input: `plain valid`,
+//! `plain resolutions`, `plain parents RES` and `plain places RES` (its position below its ancestor).
 //!
 //! Lists to be compacted: `plain first COUNT CELL RES` (the first children), `plain shuffled CELL RES` (all children in a
 //! random order, always the same), `plain lone CELL RES` (one child of each parent) and `plain mixed CELL RES` (the
@@ -20,11 +21,11 @@ use texts::{Page, read_index, read_plain};
 
 const PENTAGONS: [u64; 12] = [4, 14, 24, 38, 49, 58, 63, 72, 83, 97, 107, 117];
 
-fn base(cell: u64) -> u64 {
+pub fn base(cell: u64) -> u64 {
     cell >> 45 & 127
 }
 
-fn resolution(cell: u64) -> u64 {
+pub fn resolution(cell: u64) -> u64 {
     cell >> 52 & 15
 }
 
@@ -37,7 +38,7 @@ fn with_digit(cell: u64, r: u64, digit: u64) -> u64 {
 }
 
 /// Whether a number is a cell's: all digits are tested at once.
-fn is_valid(cell: u64) -> bool {
+pub fn is_valid(cell: u64) -> bool {
     if cell >> 56 != 8 || base(cell) > 121 {
         return false;
     }
@@ -65,14 +66,14 @@ fn count(pentagon: bool, levels: u64) -> u64 {
 }
 
 /// The children of a cell: the next, how many are left, and what one more in the last digit adds to a number.
-struct Children {
+pub struct Children {
     next: u64,
     left: u64,
     unit: u64,
 }
 
 impl Children {
-    fn of(cell: u64, res: u64) -> Children {
+    pub fn of(cell: u64, res: u64) -> Children {
         Children {
             next: center(cell, res),
             left: count(is_pentagon(cell), res - resolution(cell)),
@@ -119,15 +120,16 @@ impl Iterator for Children {
     }
 }
 
-fn read_cell(line: &[u8]) -> Option<u64> {
-    read_index(line).filter(|cell| is_valid(*cell))
+fn cell_of(index: u64) -> u64 {
+    Some(index).filter(|cell| is_valid(*cell)).expect("a cell")
 }
 
-fn read_cells() -> io::Result<Vec<u64>> {
+/// Hands on the index of each line of standard input that is not blank.
+#[inline(always)]
+fn for_indexes(mut take: impl FnMut(u64) -> io::Result<()>) -> io::Result<()> {
     let mut input = io::stdin().lock();
     let mut page = vec![0; 65536];
     let mut held = 0;
-    let mut cells = Vec::new();
     loop {
         let count = input.read(&mut page[held..])?;
         let end = held + count;
@@ -136,9 +138,9 @@ fn read_cells() -> io::Result<Vec<u64>> {
             // lines of fifteen digits, one after another
             while start + 16 <= end
                 && page[start + 15] == b'\n'
-                && let Some(cell) = read_plain(&page[start..start + 15])
+                && let Some(index) = read_plain(&page[start..start + 15])
             {
-                cells.push(Some(cell).filter(|cell| is_valid(*cell)).expect("a cell"));
+                take(index)?;
                 start += 16;
             }
             let Some(length) = page[start..end].iter().position(|b| *b == b'\n') else {
@@ -146,24 +148,38 @@ fn read_cells() -> io::Result<Vec<u64>> {
             };
             let line = &page[start..start + length];
             if !line.trim_ascii().is_empty() {
-                cells.push(read_cell(line).expect("a cell"));
+                take(read_index(line).expect("an index"))?;
             }
             start += length + 1;
         }
         if count == 0 {
             if !page[start..end].trim_ascii().is_empty() {
-                cells.push(read_cell(&page[start..end]).expect("a cell"));
+                take(read_index(&page[start..end]).expect("an index"))?;
             }
-            return Ok(cells);
+            return Ok(());
         }
         page.copy_within(start..end, 0);
         held = end - start;
     }
 }
 
+fn read_cells() -> io::Result<Vec<u64>> {
+    let mut cells = Vec::new();
+    for_indexes(|index| {
+        cells.push(cell_of(index));
+        Ok(())
+    })?;
+    Ok(cells)
+}
+
 /// The cell without its mode and resolution: in this order each cell comes right after its descendants.
 fn post_order_key(cell: u64) -> u64 {
     cell & (1 << 52) - 1
+}
+
+fn parent_at(cell: u64, res: u64) -> u64 {
+    assert!(res <= resolution(cell));
+    cell & !(15 << 52) | res << 52 | (1 << (3 * (15 - res))) - 1
 }
 
 fn parent(cell: u64, level: u64) -> u64 {
@@ -202,7 +218,7 @@ fn is_before(cell: u64, other: u64) -> bool {
 }
 
 /// The compacted list of cells of which no two overlap: one sort, and a pass for each resolution that some cell has.
-fn compact(cells: &mut Vec<u64>) {
+pub fn compact(cells: &mut Vec<u64>) {
     cells.sort_unstable_by_key(|cell| post_order_key(*cell));
     assert!(cells.windows(2).all(|pair| is_before(pair[0], pair[1])), "two cells overlap");
     let mut used = cells.iter().fold(0u16, |used, cell| used | 1 << resolution(*cell));
@@ -244,12 +260,12 @@ fn write_cells(out: &mut Page<impl Write>, cells: impl Iterator<Item = u64>) -> 
 /// The children of a cell given in words.
 fn children(cell: &str, res: &str) -> Children {
     Children::of(
-        read_cell(cell.as_bytes()).expect("a cell"),
+        cell_of(read_index(cell.as_bytes()).expect("an index")),
         res.parse().expect("a resolution"),
     )
 }
 
-fn position(cell: u64, ancestor_res: u64) -> u64 {
+pub fn position(cell: u64, ancestor_res: u64) -> u64 {
     let res = resolution(cell);
     let mut pentagon = PENTAGONS.contains(&base(cell)) && (1..=ancestor_res).all(|r| digit(cell, r) == 0);
     let mut before = 0;
@@ -265,7 +281,7 @@ fn position(cell: u64, ancestor_res: u64) -> u64 {
     before
 }
 
-fn child_at(position: u64, cell: u64, res: u64) -> u64 {
+pub fn child_at(position: u64, cell: u64, res: u64) -> u64 {
     let mut pentagon = is_pentagon(cell);
     let mut left = position;
     let mut child = center(cell, res);
@@ -445,6 +461,16 @@ fn main() -> io::Result<()> {
                     out.put(child)?;
                 }
             }
+        }
+        ["valid"] => for_indexes(|index| out.put_text(if is_valid(index) { b"true\n" } else { b"false\n" }))?,
+        ["resolutions"] => for_indexes(|index| out.put_number(resolution(cell_of(index))))?,
+        ["parents", res] => {
+            let res = res.parse().expect("a resolution");
+            for_indexes(|index| out.put(parent_at(cell_of(index), res)))?
+        }
+        ["places", res] => {
+            let res = res.parse().expect("a resolution");
+            for_indexes(|index| out.put_number(position(cell_of(index), res)))?
         }
         ["positions", places] => {
             let cell = 0x8009fffffffffff;

@@ -78,6 +78,32 @@ impl<W: Write> Page<W> {
         Ok(())
     }
 
+    /// Puts a line of at most 32 bytes.
+    #[inline(always)]
+    pub fn put_text(&mut self, line: &[u8]) -> io::Result<()> {
+        if self.end > 65536 - 32 {
+            self.hand_on()?;
+        }
+        self.bytes[self.end..self.end + line.len()].copy_from_slice(line);
+        self.end += line.len();
+        Ok(())
+    }
+
+    /// Puts the line of a number in decimal.
+    #[inline(always)]
+    pub fn put_number(&mut self, number: u64) -> io::Result<()> {
+        let mut line = [b'\n'; 21];
+        let (mut at, mut left) = (20, number);
+        loop {
+            at -= 1;
+            line[at] = b'0' + (left % 10) as u8;
+            left /= 10;
+            if left == 0 {
+                return self.put_text(&line[at..]);
+            }
+        }
+    }
+
     fn hand_on(&mut self) -> io::Result<()> {
         self.out.write_all(&self.bytes[..self.end])?;
         self.end = 0;

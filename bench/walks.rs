@@ -1,7 +1,7 @@
 //! Steps, disks and rings over a table of base cells, by carry tables on a cell's packed digits.
 
 use super::{Links, TURNED, base, digit, is_hexagon, resolution, with_digit};
-use crate::texts::Page;
+use super::texts::Page;
 use std::io::{self, Write};
 
 /// The digit that a digit and a direction give, and the direction that is carried, 0 for none: for even and for odd

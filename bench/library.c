@@ -1,0 +1,180 @@
+/* Measures the functions of libh3whole against the plain ones of plain_library.rs: both in turn,
+ * several times, and the ratios of the best times. What they write is compared.
+ *
+ * library [ROW ..]    the rows whose names contain a given word; all, if none is given */
+#define _POSIX_C_SOURCE 200809L
+#include "h3whole.h"
+#include <stdio.h>
+#include <stdlib.h>
+#include <time.h>
+
+int plain_isValidCell(H3Index cell);
+int plain_getBaseCellNumber(H3Index cell);
+H3Error plain_cellToParent(H3Index cell, int res, H3Index *out);
+H3Error plain_cellToChildPos(H3Index cell, int res, int64_t *out);
+H3Error plain_childPosToCell(int64_t position, H3Index cell, int res, H3Index *out);
+H3Error plain_areValidCells(const H3Index *cells, size_t n, int *out);
+H3Error plain_getResolutions(const H3Index *cells, size_t n, int *out);
+H3Error plain_cellsToParents(const H3Index *cells, size_t n, int res, H3Index *out);
+H3Error plain_cellsToChildPositions(const H3Index *cells, size_t n, int res, int64_t *out);
+size_t plain_compactCells(const H3Index *cells, size_t n, H3Index *out);
+size_t plain_uncompactCells(const H3Index *cells, size_t n, H3Index *out, size_t room, int res);
+
+#define N     10000000
+#define WORLD 0x8001fffffffffffU
+/* the descendants of WORLD at resolution 8, in order and in none, and at resolution 9 those that N
+ * has room for */
+#define LIST   5764801
+#define ROUNDS 5
+static H3Index *cells, *ordered, *shuffled, *out;
+static size_t at;
+
+/* A function of one index, called for each of N: the sum of what it returns. */
+#define LOOP(name, call)                                                                           \
+    static uint64_t name(void) {                                                                   \
+        uint64_t sum = 0;                                                                          \
+        size_t i;                                                                                  \
+        for (i = 0; i < N; i++) {                                                                  \
+            H3Index index = 0;                                                                     \
+            int64_t number = 0;                                                                    \
+            int found = 0;                                                                         \
+            call;                                                                                  \
+            sum += index + (uint64_t)(number + found);                                             \
+        }                                                                                          \
+        return sum;                                                                                \
+    }
+/* A call that writes to `out`. */
+#define CALL(name, call)                                                                           \
+    static uint64_t name(void) { return (uint64_t)(call); }
+
+LOOP(valid, found = h3w_isValidCell(cells[i]))
+LOOP(plain_valid, found = plain_isValidCell(cells[i]))
+LOOP(base, found = h3w_getBaseCellNumber(cells[i]))
+LOOP(plain_base, found = plain_getBaseCellNumber(cells[i]))
+LOOP(parent, found = (int)h3w_cellToParent(cells[i], 4, &index))
+LOOP(plain_parent, found = (int)plain_cellToParent(cells[i], 4, &index))
+LOOP(position, found = (int)h3w_cellToChildPos(cells[i], 0, &number))
+LOOP(plain_position, found = (int)plain_cellToChildPos(cells[i], 0, &number))
+LOOP(child, found = (int)h3w_childPosToCell((int64_t)i, WORLD, 9, &index))
+LOOP(plain_child, found = (int)plain_childPosToCell((int64_t)i, WORLD, 9, &index))
+
+CALL(valids, h3w_areValidCells(cells, N, (int *)(void *)out, N, &at))
+CALL(plain_valids, plain_areValidCells(cells, N, (int *)(void *)out))
+CALL(resolutions, h3w_getResolutions(cells, N, (int *)(void *)out, N, &at))
+CALL(plain_resolutions, plain_getResolutions(cells, N, (int *)(void *)out))
+CALL(parents, h3w_cellsToParents(cells, N, 4, out, N, &at))
+CALL(plain_parents, plain_cellsToParents(cells, N, 4, out))
+CALL(positions, h3w_cellsToChildPositions(cells, N, 0, (int64_t *)(void *)out, N, &at))
+CALL(plain_positions, plain_cellsToChildPositions(cells, N, 0, (int64_t *)(void *)out))
+
+static uint64_t compacted(const H3Index *list, size_t n) {
+    size_t count = 0;
+    if (h3w_compactCells(list, n, out, n, &count)) exit(2);
+    return count;
+}
+CALL(compact_ordered, compacted(ordered, LIST))
+CALL(plain_compact_ordered, plain_compactCells(ordered, LIST, out))
+CALL(compact_shuffled, compacted(shuffled, LIST))
+CALL(plain_compact_shuffled, plain_compactCells(shuffled, LIST, out))
+CALL(compact_part, compacted(shuffled, LIST - LIST / 160))
+CALL(plain_compact_part, plain_compactCells(shuffled, LIST - LIST / 160, out))
+CALL(uncompact, h3w_uncompactCells(ordered, N / 7, out, N / 7 * 7, 9) ? 0 : N / 7 * 7)
+CALL(plain_uncompact, plain_uncompactCells(ordered, N / 7, out, N / 7 * 7, 9))
+
+static const struct {
+    const char *name;
+    uint64_t (*library)(void), (*plain)(void);
+} rows[] = {
+    {"isValidCell of 10000000 cells, from C", valid, plain_valid},
+    {"getBaseCellNumber of 10000000 cells, from C", base, plain_base},
+    {"cellToParent of 10000000 cells, from C", parent, plain_parent},
+    {"cellToChildPos of 10000000 cells, from C", position, plain_position},
+    {"childPosToCell of 10000000 positions, from C", child, plain_child},
+    {"areValidCells of 10000000 cells, from C", valids, plain_valids},
+    {"getResolutions of 10000000 cells, from C", resolutions, plain_resolutions},
+    {"cellsToParents of 10000000 cells, from C", parents, plain_parents},
+    {"cellsToChildPositions of 10000000 cells, from C", positions, plain_positions},
+    {"compactCells of 5764801 cells, ascending, from C", compact_ordered, plain_compact_ordered},
+    {"compactCells of 5764801 cells, shuffled, from C", compact_shuffled, plain_compact_shuffled},
+    {"compactCells of 159 of 160 cells, shuffled, from C", compact_part, plain_compact_part},
+    {"uncompactCells of 1428571 cells, from C", uncompact, plain_uncompact},
+};
+
+static double now(void) {
+    struct timespec time;
+    clock_gettime(CLOCK_PROCESS_CPUTIME_ID, &time);
+    return (double)time.tv_sec + (double)time.tv_nsec * 1e-9;
+}
+
+/* What is in `out`, and what was returned. */
+static uint64_t written(uint64_t returned) {
+    size_t i;
+    for (i = 0; i < N; i++) returned = (returned ^ out[i]) * 0x9e3779b97f4a7c15U;
+    return returned;
+}
+
+/* Runs one side: its time, where that is less than `best`. */
+static double run(uint64_t (*call)(void), double best, uint64_t *found) {
+    double start, seconds;
+    uint64_t returned;
+    memset(out, 0, N * sizeof *out);
+    start = now();
+    returned = call();
+    seconds = now() - start;
+    *found = written(returned);
+    return seconds < best ? seconds : best;
+}
+
+static void measure(size_t row) {
+    double library = 1e9, plain = 1e9;
+    uint64_t found = 0, wanted = 0;
+    int round;
+    for (round = 0; round < ROUNDS; round++) {
+        library = run(rows[row].library, library, &found);
+        plain = run(rows[row].plain, plain, &wanted);
+    }
+    if (found != wanted) {
+        fprintf(stderr, "%s: the results differ\n", rows[row].name);
+        exit(1);
+    }
+    printf("%s: %.1f ms / %.1f ms = %.2f\n", rows[row].name, library * 1e3, plain * 1e3,
+           library / plain);
+    fflush(stdout);
+}
+
+static H3Index *array(void) {
+    H3Index *made = (H3Index *)malloc(N * sizeof *made);
+    if (!made) exit(3);
+    return made;
+}
+
+/* N cells of resolution 9 from all over the world, and the two lists. */
+static void fill(void) {
+    uint64_t state = 88172645463325252U;
+    H3Index bases[122], cell;
+    size_t i, j;
+    cells = array(), ordered = array(), shuffled = array(), out = array();
+    if (h3w_getRes0Cells(bases, 122) || h3w_cellToChildren(WORLD, 8, ordered, LIST)) exit(4);
+    memcpy(shuffled, ordered, LIST * sizeof *ordered);
+    for (i = 0; i < N; i++) {
+        state ^= state << 13, state ^= state >> 7, state ^= state << 17;
+        if (h3w_childPosToCell((int64_t)(state >> 8) % 33000000, bases[state % 122], 9, &cells[i]))
+            exit(5);
+    }
+    for (i = LIST; i > 1; i--) {
+        state ^= state << 13, state ^= state >> 7, state ^= state << 17;
+        j = state % i, cell = shuffled[j], shuffled[j] = shuffled[i - 1], shuffled[i - 1] = cell;
+    }
+}
+
+int main(int count, char **words) {
+    size_t row;
+    int i;
+    fill();
+    for (row = 0; row < sizeof rows / sizeof *rows; row++) {
+        for (i = 1; i < count && !strstr(rows[row].name, words[i]); i++) {
+        }
+        if (count == 1 || i < count) measure(row);
+    }
+    return 0;
+}

@@ -1,0 +1,176 @@
+//! The plain Rust functions that the library for C is measured against by bench/library.c: the same
+//! work behind `extern "C"`, with no proof.
+#![allow(dead_code, non_snake_case)]
+
+#[path = "plain.rs"]
+mod plain;
+
+use plain::{Children, base, child_at, compact, is_valid, position, resolution};
+use std::slice::{from_raw_parts, from_raw_parts_mut};
+
+/// The error of a cell or a resolution, or 0.
+fn refused(cell: u64, res: i32) -> u32 {
+    if !is_valid(cell) {
+        5
+    } else if !(0..16).contains(&res) {
+        4
+    } else if res as u64 > resolution(cell) {
+        12
+    } else {
+        0
+    }
+}
+
+fn cut(cell: u64, res: i32) -> u64 {
+    cell & !(15 << 52) | (res as u64) << 52 | (1 << (3 * (15 - res))) - 1
+}
+
+#[unsafe(no_mangle)]
+extern "C" fn plain_isValidCell(cell: u64) -> i32 {
+    is_valid(cell) as i32
+}
+
+#[unsafe(no_mangle)]
+extern "C" fn plain_getBaseCellNumber(cell: u64) -> i32 {
+    if is_valid(cell) {
+        base(cell) as i32
+    } else {
+        -1
+    }
+}
+
+#[unsafe(no_mangle)]
+extern "C" fn plain_cellToParent(cell: u64, res: i32, out: &mut u64) -> u32 {
+    let code = refused(cell, res);
+    if code == 0 {
+        *out = cut(cell, res);
+    }
+    code
+}
+
+#[unsafe(no_mangle)]
+extern "C" fn plain_cellToChildPos(cell: u64, res: i32, out: &mut i64) -> u32 {
+    let code = refused(cell, res);
+    if code == 0 {
+        *out = position(cell, res as u64) as i64;
+    }
+    code
+}
+
+#[unsafe(no_mangle)]
+extern "C" fn plain_childPosToCell(place: i64, cell: u64, res: i32, out: &mut u64) -> u32 {
+    *out = child_at(place as u64, cell, res as u64);
+    0
+}
+
+/// Puts what a function returns of each cell at its place, and returns the first error.
+fn fill<T: Copy>(
+    cells: &[u64],
+    out: &mut [T],
+    missing: T,
+    of: impl Fn(u64) -> Result<T, u32>,
+) -> u32 {
+    let mut first = 0;
+    for (slot, cell) in out.iter_mut().zip(cells) {
+        *slot = match of(*cell) {
+            Ok(value) => value,
+            Err(code) => {
+                first = if first == 0 { code } else { first };
+                missing
+            }
+        };
+    }
+    first
+}
+
+/// # Safety
+/// Both pointers point to n elements.
+#[unsafe(no_mangle)]
+unsafe extern "C" fn plain_areValidCells(cells: *const u64, n: usize, out: *mut i32) -> u32 {
+    let (cells, out) = unsafe { (from_raw_parts(cells, n), from_raw_parts_mut(out, n)) };
+    fill(cells, out, -1, |cell| Ok(is_valid(cell) as i32))
+}
+
+/// # Safety
+/// Both pointers point to n elements.
+#[unsafe(no_mangle)]
+unsafe extern "C" fn plain_getResolutions(cells: *const u64, n: usize, out: *mut i32) -> u32 {
+    let (cells, out) = unsafe { (from_raw_parts(cells, n), from_raw_parts_mut(out, n)) };
+    fill(cells, out, -1, |cell| {
+        if is_valid(cell) {
+            Ok(resolution(cell) as i32)
+        } else {
+            Err(5)
+        }
+    })
+}
+
+/// # Safety
+/// Both pointers point to n elements.
+#[unsafe(no_mangle)]
+unsafe extern "C" fn plain_cellsToParents(
+    cells: *const u64,
+    n: usize,
+    res: i32,
+    out: *mut u64,
+) -> u32 {
+    let (cells, out) = unsafe { (from_raw_parts(cells, n), from_raw_parts_mut(out, n)) };
+    fill(cells, out, 0, |cell| match refused(cell, res) {
+        0 => Ok(cut(cell, res)),
+        code => Err(code),
+    })
+}
+
+/// # Safety
+/// Both pointers point to n elements.
+#[unsafe(no_mangle)]
+unsafe extern "C" fn plain_cellsToChildPositions(
+    cells: *const u64,
+    n: usize,
+    res: i32,
+    out: *mut i64,
+) -> u32 {
+    let (cells, out) = unsafe { (from_raw_parts(cells, n), from_raw_parts_mut(out, n)) };
+    fill(cells, out, -1, |cell| match refused(cell, res) {
+        0 => Ok(position(cell, res as u64) as i64),
+        code => Err(code),
+    })
+}
+
+/// Returns how many cells there are.
+///
+/// # Safety
+/// Both pointers point to n elements.
+#[unsafe(no_mangle)]
+unsafe extern "C" fn plain_compactCells(cells: *const u64, n: usize, out: *mut u64) -> usize {
+    let (cells, out) = unsafe { (from_raw_parts(cells, n), from_raw_parts_mut(out, n)) };
+    assert!(cells.iter().all(|cell| is_valid(*cell)));
+    let mut compacted = cells.to_vec();
+    compact(&mut compacted);
+    out[..compacted.len()].copy_from_slice(&compacted);
+    compacted.len()
+}
+
+/// # Safety
+/// `cells` points to n elements, and `out` has room for the children.
+#[unsafe(no_mangle)]
+unsafe extern "C" fn plain_uncompactCells(
+    cells: *const u64,
+    n: usize,
+    out: *mut u64,
+    room: usize,
+    res: i32,
+) -> usize {
+    let (cells, out) = unsafe { (from_raw_parts(cells, n), from_raw_parts_mut(out, room)) };
+    assert!(cells.iter().all(|cell| is_valid(*cell)));
+    let mut written = 0;
+    for (slot, child) in out.iter_mut().zip(
+        cells
+            .iter()
+            .flat_map(|cell| Children::of(*cell, res as u64)),
+    ) {
+        *slot = child;
+        written += 1;
+    }
+    written
+}

@@ -1,0 +1,166 @@
+#!/usr/bin/python3
+"""Measures the extensions for SQLite and PostgreSQL, and columns of numpy: ratios of the best times of several runs, each
+pair in turn.
+
+bench/sql.py [sqlite | postgresql | numpy ..]    these alone; all, if none is given"""
+import os
+import sqlite3
+import subprocess
+import sys
+import tempfile
+import time
+
+ROOT = os.path.dirname(os.path.dirname(os.path.realpath(__file__)))
+sys.path[:0] = [os.path.join(ROOT, ".ci"), os.path.join(ROOT, "python")]
+RUNS = 5
+MILLION = "SELECT count(*) FROM (SELECT {}, count(*) FROM big GROUP BY 1) x"
+PARENT = MILLION.format("h3_cell_to_parent(cell, 4)")
+# an expression over integers that has as many groups: the digits below resolution 4, and the resolution, are left out
+PLAIN = MILLION.format("{} & ~((1{} << 33) - 1)")
+LONG = 5_764_801
+
+
+def timed(call):
+    start = time.perf_counter()
+    result = call()
+    return time.perf_counter() - start, result
+
+
+def compare(name, ours, theirs):
+    """Both in turn; their results are the same."""
+    best = [float("inf")] * 2
+    for _ in range(RUNS):
+        found = [timed(ours), timed(theirs)]
+        if found[0][1] != found[1][1]:
+            sys.exit(f"{name}: {found[0][1]!r} against {found[1][1]!r}")
+        best = [min(before, seconds) for before, (seconds, _) in zip(best, found)]
+    print(f"{name}: {best[0] * 1000:.1f} ms / {best[1] * 1000:.1f} ms = {best[0] / best[1]:.2f}", flush=True)
+
+
+def compact_by_command(path):
+    """How many cells `h3 compactCells` writes."""
+    with open(path, "rb") as given:
+        ran = subprocess.run([COMMAND, "compactCells"], stdin=given, stdout=subprocess.PIPE, check=True)
+    return str(ran.stdout.count(b"\n"))
+
+
+COMMAND = os.path.join(ROOT, "crates", "h3_cli", "out", "h3_cli")
+
+
+def measure_sqlite(cells):
+    subprocess.run(["make", "-s", "-C", os.path.join(ROOT, "sql", "sqlite")], check=True)
+    engine = sqlite3.connect(":memory:")
+    engine.enable_load_extension(True)
+    engine.load_extension(os.path.join(ROOT, "sql", "sqlite", "h3whole"))
+    fill = "CREATE TABLE {} AS SELECT value AS cell FROM h3_cell_to_children(?, 8) LIMIT ?"
+    for table, count in (("big", 1_000_000), ("long", LONG)):
+        engine.execute(fill.format(table), (0x8001FFFFFFFFFFF, count))
+
+    def ask(query):
+        return lambda: str(engine.execute(query).fetchone()[0])
+
+    compare("SQLite: a million rows by parents / by an integer expression", ask(PARENT), ask(PLAIN.format("cell", "")))
+    query = "SELECT json_array_length(h3_compact_cells(cell)) FROM long"
+    compare(f"SQLite: h3_compact_cells of {LONG} rows / h3 compactCells", ask(query), lambda: compact_by_command(cells))
+
+
+def measure_postgresql(cells):
+    from postgresql_server import server
+
+    settings = ("shared_buffers=1GB", "max_worker_processes=16", "max_parallel_workers=8", "jit=off")
+    with server(settings=settings) as engine:
+        engine.psql("CREATE EXTENSION h3whole")
+        for table, count in (("big", 1_000_000), ("long", LONG)):
+            engine.psql(
+                f"CREATE UNLOGGED TABLE {table} AS SELECT h3_cell_to_children('8001fffffffffff', 8) AS cell LIMIT {count};"
+                f"ALTER TABLE {table} SET (parallel_workers = 4); VACUUM ANALYZE {table}"
+            )
+
+        def ask(query, workers):
+            return lambda: engine.psql(f"SET work_mem = '64MB'; SET max_parallel_workers_per_gather = {workers}; {query}")
+
+        plain = PLAIN.format("cell::bigint", "::bigint")
+        compare("PostgreSQL: a million rows by parents / by an integer expression", ask(PARENT, 0), ask(plain, 0))
+        query = "SELECT cardinality(h3_compact_cells(cell)) FROM long"
+        for workers in (0, 1, 4):
+            compare(
+                f"PostgreSQL: h3_compact_cells of {LONG} rows, {workers} workers beside the leader / h3 compactCells",
+                ask(query, workers),
+                lambda: compact_by_command(cells),
+            )
+
+
+C_PROGRAM = r"""
+#include "h3whole.h"
+#include <stdio.h>
+#include <stdlib.h>
+#include <time.h>
+int main(int argc, char **argv) {
+    size_t n = strtoull(argv[2], NULL, 10), at, i;
+    H3Index *in = malloc(8 * n), *kept = calloc(n, 8);
+    int is_fresh = argc > 3;
+    double best = 1e9;
+    FILE *file = fopen(argv[1], "rb");
+    if (argc < 3 || !in || !kept || !file || fread(in, 8, n, file) != n) return 1;
+    for (i = 0; i < 7; i++) {
+        struct timespec a, b;
+        double seconds;
+        H3Index *out;
+        clock_gettime(CLOCK_MONOTONIC, &a);
+        out = is_fresh ? malloc(8 * n) : kept;
+        if (!out || h3w_cellsToParents(in, n, 4, out, n, &at)) return 1;
+        if (is_fresh) free(out);
+        clock_gettime(CLOCK_MONOTONIC, &b);
+        seconds = b.tv_sec - a.tv_sec + (b.tv_nsec - a.tv_nsec) / 1e9;
+        if (seconds < best) best = seconds;
+    }
+    printf("%.9f\n", best);
+    return 0;
+}
+"""
+
+
+def measure_numpy(_):
+    """A column of numpy, whose results are in new memory, against the same call from C, into new memory and into memory
+    that was written to before."""
+    import numpy
+
+    from h3whole import columns
+    import h3whole.int as integers
+
+    cells = numpy.array(integers.cell_to_children(0x8001FFFFFFFFFFF, 8), dtype=numpy.uint64)
+    with tempfile.TemporaryDirectory() as folder:
+        path, program, source = (os.path.join(folder, name) for name in ("cells", "program", "program.c"))
+        cells.tofile(path)
+        with open(source, "w", encoding="utf-8") as out:
+            out.write(C_PROGRAM)
+        words = ["cc", "-O2", "-I" + os.path.join(ROOT, "include"), "-o", program, source]
+        subprocess.run([*words, os.path.join(ROOT, "lib", "libh3whole.a")], check=True)
+        best = float("inf")
+        plain = {"new": best, "kept": best}
+        for _ in range(RUNS):
+            for kind in plain:
+                command = [program, path, str(len(cells)), *(["fresh"] if kind == "new" else [])]
+                ran = subprocess.run(command, capture_output=True, text=True, check=True)
+                plain[kind] = min(plain[kind], float(ran.stdout))
+            for _ in range(7):
+                best = min(best, timed(lambda: columns.cells_to_parents(cells, 4))[0])
+    for kind, seconds in plain.items():
+        ratio = f"{best * 1000:.1f} ms / {seconds * 1000:.1f} ms = {best / seconds:.2f}"
+        print(f"numpy: cells_to_parents of {LONG} / h3w_cellsToParents into {kind} memory: {ratio}", flush=True)
+
+
+def main():
+    subprocess.run([os.path.join(ROOT, "h3"), "--help"], stdout=subprocess.DEVNULL, check=True)
+    subprocess.run([os.path.join(ROOT, "tools", "library")], capture_output=True, check=True)
+    asked = sys.argv[1:]
+    with tempfile.TemporaryDirectory() as folder:
+        cells = os.path.join(folder, "cells")
+        with open(cells, "wb") as out:
+            subprocess.run([COMMAND, "cellToChildren", "-c", "8001fffffffffff", "-r", "8"], stdout=out, check=True)
+        for name, measure in (("numpy", measure_numpy), ("sqlite", measure_sqlite), ("postgresql", measure_postgresql)):
+            if not asked or name in asked:
+                measure(cells)
+
+
+main()
