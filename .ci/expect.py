@@ -1,0 +1,52 @@
+"""What the checks in python3 share: each case is counted, one that fails has a line, and the last
+line is NAME: N passed, M failed, and `, K skipped` where there are any. .ci/expect.sh is the same
+for shell."""
+import os
+import shutil
+import signal
+import sys
+
+# a shell has what it runs in the background ignore an interrupt, and so would what is tried here
+signal.signal(signal.SIGINT, signal.default_int_handler)
+
+CHECK = os.path.basename(sys.argv[0])
+counts = {"passed": 0, "failed": 0, "skipped": 0}
+
+
+def shown(found):
+    """What a case found, in at most 200 characters."""
+    return (
+        repr(found)
+        if len(repr(found)) <= 200
+        else repr(found)[:150] + f".. ({len(repr(found))} characters)"
+    )
+
+
+def expect(name, found, wanted):
+    """Counts a case; one that is not as wanted is shown."""
+    counts["passed" if found == wanted else "failed"] += 1
+    if found != wanted:
+        print(f"{CHECK}, {name}: {shown(found)}, and not {shown(wanted)}", flush=True)
+
+
+def skip(name, missing):
+    """Counts a case that cannot be tried here, and says what is missing."""
+    counts["skipped"] += 1
+    print(f"{CHECK}, {name}: skipped: {missing}", flush=True)
+
+
+def has(name, *commands):
+    """Whether these commands are installed. Where one is not, the case is skipped, and its line
+    says what to install."""
+    for command in commands:
+        if shutil.which(command) is None:
+            skip(name, f"there is no {command}; .ci/packages --install")
+            return False
+    return True
+
+
+def finish():
+    """Prints the counts, and ends the script."""
+    skipped = f", {counts['skipped']} skipped" if counts["skipped"] else ""
+    print(f"{CHECK}: {counts['passed']} passed, {counts['failed']} failed{skipped}")
+    sys.exit(counts["failed"] > 0)

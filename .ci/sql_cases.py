@@ -1,0 +1,144 @@
+"""What .ci/sqlite and .ci/postgresql share: worked queries, wrong input, and random cells with what the command h3 says
+of them. A text that is a cell stands for one in both engines."""
+import os
+import random
+import subprocess
+
+ROOT = os.path.dirname(os.path.dirname(os.path.realpath(__file__)))
+PROGRAM = os.path.join(ROOT, "crates", "h3_cli", "out", "h3_cli")
+PENTAGON_BASES = {4, 14, 24, 38, 49, 58, 63, 72, 83, 97, 107, 117}
+PENTAGONS = [f"{0x8001FFFFFFFFFFF + (base << 45):x}" for base in sorted(PENTAGON_BASES)]
+COUNT = 100_000
+
+# of a query, the rows, whose values are divided by |; true is 1, and NULL is empty
+ROWS = {
+    "SELECT h3_is_valid_cell('85283473fffffff'), h3_is_valid_cell('8009fffffffffff')": ["1|1"],
+    # a deleted subsequence, base cell 122, a digit 7, the reserved bit, an edge
+    "SELECT h3_is_valid_cell('81087ffffffffff'), h3_is_valid_cell('80f5fffffffffff')": ["0|0"],
+    "SELECT h3_is_valid_cell('8109fffffffffff'), h3_is_valid_cell('885283473fffffff')": ["0|0"],
+    "SELECT h3_is_valid_cell('115283473fffffff'), h3_is_valid_cell('0')": ["0|0"],
+    "SELECT h3_get_resolution('85283473fffffff'), h3_get_resolution('8009fffffffffff')": ["5|0"],
+    "SELECT h3_get_base_cell_number('85283473fffffff')": ["20"],
+    "SELECT h3_is_pentagon('85283473fffffff'), h3_is_pentagon('8009fffffffffff')": ["0|1"],
+    "SELECT h3_is_res_class_iii('85283473fffffff'), h3_is_res_class_iii('8009fffffffffff')": ["1|0"],
+    "SELECT h3_get_num_cells(15), h3_get_num_cells(0)": ["569707381193162|122"],
+    "SELECT count(*) FROM h3_get_res_0_cells() AS value": ["122"],
+    "SELECT h3_cell_to_parent('85283473fffffff', 4)": ["8428347ffffffff"],
+    "SELECT h3_cell_to_parent(' 0X85283473FFFFFFF', 5)": ["85283473fffffff"],
+    "SELECT h3_cell_to_center_child('85283473fffffff', 15)": ["8f2834700000000"],
+    "SELECT h3_cell_to_children_size('8029fffffffffff', 15)": ["4747561509943"],
+    "SELECT h3_cell_to_children_size('8009fffffffffff', 15)": ["3956301258286"],
+    "SELECT value FROM h3_cell_to_children('85283473fffffff', 6) AS value": [
+        "862834707ffffff", "86283470fffffff", "862834717ffffff", "86283471fffffff",
+        "862834727ffffff", "86283472fffffff", "862834737ffffff",
+    ],
+    "SELECT value FROM h3_cell_to_children('8009fffffffffff', 1) AS value": [
+        "81083ffffffffff", "8108bffffffffff", "8108fffffffffff",
+        "81093ffffffffff", "81097ffffffffff", "8109bffffffffff",
+    ],
+    "SELECT value FROM h3_cell_to_children('85283473fffffff', 5) AS value": ["85283473fffffff"],
+    "SELECT h3_cell_to_child_pos('85283473fffffff', 0), h3_cell_to_child_pos('85283473fffffff', 5)": ["2279|0"],
+    "SELECT h3_cell_to_child_pos('8209b7fffffffff', 0)": ["40"],
+    "SELECT h3_child_pos_to_cell(2279, '8029fffffffffff', 5)": ["85283473fffffff"],
+    "SELECT h3_is_valid_directed_edge('115283473fffffff'), h3_is_valid_directed_edge('85283473fffffff')": ["1|0"],
+    "SELECT h3_is_valid_directed_edge('11009fffffffffff')": ["0"],
+    "SELECT h3_get_directed_edge_origin('115283473fffffff')": ["85283473fffffff"],
+    "SELECT value FROM h3_origin_to_directed_edges('8009fffffffffff') AS value": [
+        f"1{direction}009fffffffffff" for direction in range(2, 7)
+    ],
+    "SELECT value FROM h3_origin_to_directed_edges('85283473fffffff') AS value": [
+        f"1{direction}5283473fffffff" for direction in range(1, 7)
+    ],
+    # NULL in, NULL out, and no rows
+    "SELECT h3_is_valid_cell(NULL), h3_get_resolution(NULL), h3_cell_to_parent(NULL, 4)": ["||"],
+    "SELECT h3_cell_to_parent('85283473fffffff', NULL), h3_child_pos_to_cell(0, NULL, 4)": ["|"],
+    "SELECT h3_child_pos_to_cell(NULL, '8029fffffffffff', 4), h3_get_num_cells(NULL)": ["|"],
+    "SELECT count(*) FROM h3_cell_to_children(NULL, 4) AS value": ["0"],
+    "SELECT count(*) FROM h3_cell_to_children('85283473fffffff', NULL) AS value": ["0"],
+    "SELECT count(*) FROM h3_get_pentagons(NULL) AS value": ["0"],
+}
+
+ERRORS = {
+    "SELECT h3_get_resolution('81087ffffffffff')": "error 5: E_CELL_INVALID",
+    "SELECT h3_get_base_cell_number('80f5fffffffffff')": "error 5: E_CELL_INVALID",
+    "SELECT h3_is_pentagon('0')": "error 5: E_CELL_INVALID",
+    "SELECT h3_is_res_class_iii('115283473fffffff')": "error 5: E_CELL_INVALID",
+    "SELECT h3_cell_to_parent('ffffffffffffffff', 4)": "error 5: E_CELL_INVALID",
+    "SELECT h3_cell_to_parent('81087ffffffffff', 16)": "error 5: E_CELL_INVALID",
+    "SELECT h3_cell_to_parent('xyz', 4)": "error 1: E_FAILED",
+    "SELECT h3_cell_to_parent('', 4)": "error 1: E_FAILED",
+    "SELECT h3_cell_to_parent('885283473fffffff0', 4)": "error 1: E_FAILED",
+    "SELECT h3_cell_to_parent('85283473fffffff', 16)": "error 4: E_RES_DOMAIN",
+    "SELECT h3_cell_to_parent('85283473fffffff', -1)": "error 4: E_RES_DOMAIN",
+    "SELECT h3_cell_to_parent('85283473fffffff', 2147483647)": "error 4: E_RES_DOMAIN",
+    "SELECT h3_cell_to_parent('85283473fffffff', 6)": "error 12: E_RES_MISMATCH",
+    "SELECT h3_cell_to_center_child('85283473fffffff', 4)": "error 4: E_RES_DOMAIN",
+    "SELECT h3_cell_to_children_size('85283473fffffff', 4)": "error 4: E_RES_DOMAIN",
+    "SELECT h3_cell_to_child_pos('85283473fffffff', 6)": "error 12: E_RES_MISMATCH",
+    "SELECT h3_child_pos_to_cell(-1, '8029fffffffffff', 5)": "error 2: E_DOMAIN",
+    "SELECT h3_child_pos_to_cell(16807, '8029fffffffffff', 5)": "error 2: E_DOMAIN",
+    "SELECT h3_child_pos_to_cell(0, '85283473fffffff', 4)": "error 12: E_RES_MISMATCH",
+    "SELECT h3_get_num_cells(16)": "error 4: E_RES_DOMAIN",
+    "SELECT value FROM h3_get_pentagons(-1) AS value": "error 4: E_RES_DOMAIN",
+    "SELECT value FROM h3_cell_to_children('85283473fffffff', 16) AS value": "error 4: E_RES_DOMAIN",
+    "SELECT value FROM h3_cell_to_children('81087ffffffffff', 4) AS value": "error 5: E_CELL_INVALID",
+    "SELECT value FROM h3_origin_to_directed_edges('11009fffffffffff') AS value": "error 5: E_CELL_INVALID",
+    "SELECT h3_get_directed_edge_origin('85283473fffffff')": "error 6: E_DIR_EDGE_INVALID",
+}
+
+# over a column of cells
+COLUMNS = {
+    "h3_get_resolution({})": ["getResolutions"],
+    "h3_get_base_cell_number({})": ["getBaseCellNumbers"],
+    "h3_is_pentagon({})": ["arePentagons"],
+    "h3_is_res_class_iii({})": ["areResClassIII"],
+    "h3_cell_to_parent({}, 0)": ["cellsToParents", "-r", "0"],
+    "h3_cell_to_center_child({}, 15)": ["cellsToCenterChildren", "-r", "15"],
+    "h3_cell_to_children_size({}, 15)": ["cellsToChildrenSizes", "-r", "15"],
+    "h3_cell_to_child_pos({}, 0)": ["cellsToChildPositions", "-r", "0"],
+}
+
+
+def random_cell(chance, res):
+    """The text of a cell, made of a base cell and digits."""
+    base = chance.randrange(122)
+    digits = [chance.randrange(7) for _ in range(res)]
+    leading = next((digit for digit in digits if digit), 0)
+    if base in PENTAGON_BASES and leading == 1:
+        digits = [0] * res
+    number = 1 << 59 | res << 52 | base << 45
+    for place in range(15):
+        number |= (digits[place] if place < res else 7) << 3 * (14 - place)
+    return f"{number:x}"
+
+
+def random_cells(seed, count=COUNT):
+    """Cells of all resolutions."""
+    chance = random.Random(seed)
+    return [random_cell(chance, chance.randrange(16)) for _ in range(count)]
+
+
+def random_indexes(seed, count=COUNT):
+    """Cells with a bit turned, as often as not."""
+    chance = random.Random(seed)
+    return [f"{int(cell, 16) ^ chance.choice([0, 1 << chance.randrange(63)]):x}" for cell in random_cells(seed, count)]
+
+
+def without_overlap(seed):
+    """100,000 cells of resolution 6 in two base cells, one of them a pentagon's, in no order."""
+    chance = random.Random(seed)
+    cells = h3(["uncompactCells", "-r", "6"], ["8001fffffffffff", "8009fffffffffff"])
+    chance.shuffle(cells)
+    return cells[:COUNT]
+
+
+def h3(words, given):
+    """The lines of the command h3 over a list; true is 1, as in the engines."""
+    text = "".join(f"{index}\n" for index in given)
+    ran = subprocess.run([PROGRAM, *words], input=text, capture_output=True, text=True, check=True)
+    return [{"true": "1", "false": "0"}.get(line, line) for line in ran.stdout.split()]
+
+
+def digits_of(number):
+    """How many cells the first cells of a hexagon's descendants compact to."""
+    return number % 7 + digits_of(number // 7) if number else 0
