@@ -95,7 +95,7 @@ static COMMAND_NAMES: [CommandName; 37] = [
     CommandName::OriginsToDirectedEdges,
 ];
 
-/// The word, the options and the help of a command.
+/// The word, the options and the texts of help of a command.
 #[derive(Drop)]
 struct Entry {
     /// The word that names the command.
@@ -106,6 +106,10 @@ struct Entry {
 
     /// What help says of the command.
     about: &'static str,
+
+    /// What help ends with: the errors beside an invalid command line, in the order in which they
+    /// are looked for, and an example.
+    notes: &'static str,
 }
 
 /// What the options' texts parse as. An option that the command does not have has no text: its
@@ -120,7 +124,7 @@ struct Values {
 }
 
 impl CommandName {
-    /// The command's word, options and help.
+    /// The command's word, options and texts of help.
     fn entry(self) -> Entry
         ensures word { result.word.now ≡ word_of self }
         ensures options { result.options.now ≡ options_of self }
@@ -130,186 +134,285 @@ impl CommandName {
                 word: "isValidCell",
                 options: &[Cell],
                 about: "Whether an index is a valid cell",
+                notes: "Errors: 1 no index, 13 out of memory\n\
+                    Example: h3 isValidCell -c 85283473fffffff",
             },
             CommandName::GetResolution => Entry {
                 word: "getResolution",
                 options: &[Cell],
                 about: "The resolution of a cell",
+                notes: "Errors: 1 no index, 5 no cell, 13 out of memory\n\
+                    Example: h3 getResolution -c 85283473fffffff",
             },
             CommandName::GetBaseCellNumber => Entry {
                 word: "getBaseCellNumber",
                 options: &[Cell],
                 about: "The base cell of a cell",
+                notes: "Errors: 1 no index, 5 no cell, 13 out of memory\n\
+                    Example: h3 getBaseCellNumber -c 85283473fffffff",
             },
             CommandName::IsPentagon => Entry {
                 word: "isPentagon",
                 options: &[Cell],
                 about: "Whether a cell is a pentagon",
+                notes: "Errors: 1 no index, 5 no cell, 13 out of memory\n\
+                    Example: h3 isPentagon -c 85283473fffffff",
             },
             CommandName::IsResClassIII => Entry {
                 word: "isResClassIII",
                 options: &[Cell],
                 about: "Whether the resolution of a cell is Class III",
+                notes: "Errors: 1 no index, 5 no cell, 13 out of memory\n\
+                    Example: h3 isResClassIII -c 85283473fffffff",
             },
             CommandName::GetNumCells => Entry {
                 word: "getNumCells",
                 options: &[Resolution],
                 about: "How many cells a resolution has",
+                notes: "Errors: 4 no resolution, 13 out of memory\n\
+                    Example: h3 getNumCells -r 5",
             },
             CommandName::GetRes0Cells => Entry {
                 word: "getRes0Cells",
                 options: &[],
                 about: "The 122 cells of resolution 0",
+                notes: "Errors: 13 out of memory\n\
+                    Example: h3 getRes0Cells",
             },
             CommandName::GetPentagons => Entry {
                 word: "getPentagons",
                 options: &[Resolution],
                 about: "The twelve pentagons of a resolution",
+                notes: "Errors: 4 no resolution, 13 out of memory\n\
+                    Example: h3 getPentagons -r 5",
             },
             CommandName::CellToParent => Entry {
                 word: "cellToParent",
                 options: &[Cell, Resolution],
                 about: "The ancestor of a cell at a resolution",
+                notes: "Errors: 1 no index, 5 no cell, 4 no resolution,\n\
+                    12 a resolution finer than the cell's, 13 out of memory\n\
+                    Example: h3 cellToParent -c 85283473fffffff -r 4",
             },
             CommandName::CellToCenterChild => Entry {
                 word: "cellToCenterChild",
                 options: &[Cell, Resolution],
                 about: "The center descendant of a cell at a resolution",
+                notes: "Errors: 1 no index, 5 no cell, 4 no resolution from the cell's to 15,\n\
+                    13 out of memory\n\
+                    Example: h3 cellToCenterChild -c 85283473fffffff -r 6",
             },
             CommandName::CellToChildren => Entry {
                 word: "cellToChildren",
                 options: &[Cell, Resolution],
                 about: "The descendants of a cell at a resolution, ascending",
+                notes: "Errors: 1 no index, 5 no cell, 4 no resolution from the cell's to 15,\n\
+                    13 out of memory\n\
+                    Example: h3 cellToChildren -c 85283473fffffff -r 6",
             },
             CommandName::CellToChildrenSize => Entry {
                 word: "cellToChildrenSize",
                 options: &[Cell, Resolution],
                 about: "How many descendants a cell has at a resolution",
+                notes: "Errors: 1 no index, 5 no cell, 4 no resolution from the cell's to 15,\n\
+                    13 out of memory\n\
+                    Example: h3 cellToChildrenSize -c 85283473fffffff -r 6",
             },
             CommandName::CellToChildPos => Entry {
                 word: "cellToChildPos",
                 options: &[Cell, Resolution],
                 about: "The position of a cell among the descendants of its ancestor at a resolution",
+                notes: "Errors: 1 no index, 5 no cell, 4 no resolution,\n\
+                    12 a resolution finer than the cell's, 13 out of memory\n\
+                    Example: h3 cellToChildPos -c 85283473fffffff -r 4",
             },
             CommandName::ChildPosToCell => Entry {
                 word: "childPosToCell",
                 options: &[Position, Cell, Resolution],
                 about: "The descendant of a cell that stands at a position among those of a resolution",
+                notes: "Errors: 1 no index, 5 no cell, 4 no resolution,\n\
+                    12 a resolution coarser than the cell's, 2 no such position,\n\
+                    13 out of memory\n\
+                    Example: h3 childPosToCell --position 3 -c 85283473fffffff -r 6",
             },
             CommandName::CompactCells => Entry {
                 word: "compactCells",
                 options: &[],
                 about: "The compacted list of the cells, of any resolutions, on standard input; error 10 where two overlap",
+                notes: "Errors: 1 no index, 5 no cell, 10 cells that overlap, 13 out of memory\n\
+                    Example: h3 compactCells < cells",
             },
             CommandName::UncompactCells => Entry {
                 word: "uncompactCells",
                 options: &[Resolution],
                 about: "The descendants at a resolution of each cell listed on standard input",
+                notes: "Errors: 1 no index, 5 no cell, 4 no resolution,\n\
+                    12 a resolution coarser than a cell's, 13 out of memory\n\
+                    Example: h3 uncompactCells -r 6 < cells",
             },
             CommandName::GridDiskUnsafe => Entry {
                 word: "gridDiskUnsafe",
                 options: &[Cell, Radius, Table],
                 about: "The cells within a radius of a cell, ring by ring",
+                notes: "Errors: 1 no index, 5 no cell,\n\
+                    9 a step that starts or ends in a pentagon base cell, 13 out of memory\n\
+                    Example: h3 gridDiskUnsafe -c 85283473fffffff -k 1 --table h3.csv\n\
+                    A table: h3-table baseCells.c -o h3.csv, of the file in H3's source",
             },
             CommandName::GridDiskDistancesUnsafe => Entry {
                 word: "gridDiskDistancesUnsafe",
                 options: &[Cell, Radius, Table],
                 about: "The cells within a radius of a cell, each with the number of its ring",
+                notes: "Errors: 1 no index, 5 no cell,\n\
+                    9 a step that starts or ends in a pentagon base cell, 13 out of memory\n\
+                    Example: h3 gridDiskDistancesUnsafe -c 85283473fffffff -k 1 --table h3.csv\n\
+                    A table: h3-table baseCells.c -o h3.csv, of the file in H3's source",
             },
             CommandName::GridRingUnsafe => Entry {
                 word: "gridRingUnsafe",
                 options: &[Cell, Radius, Table],
                 about: "The cells of the ring of a radius around a cell",
+                notes: "Errors: 1 no index, 5 no cell,\n\
+                    9 a step that starts or ends in a pentagon base cell, 13 out of memory\n\
+                    Example: h3 gridRingUnsafe -c 85283473fffffff -k 1 --table h3.csv\n\
+                    A table: h3-table baseCells.c -o h3.csv, of the file in H3's source",
             },
             CommandName::AreNeighborCells => Entry {
                 word: "areNeighborCells",
                 options: &[Cell, To, Table],
                 about: "Whether two cells are neighbors",
+                notes: "Errors: 1 no index, 5 no cell, 12 cells of two resolutions,\n\
+                    9 a step that starts or ends in a pentagon base cell, 13 out of memory\n\
+                    Example: h3 areNeighborCells -c 85283473fffffff --to 85283477fffffff --table h3.csv\n\
+                    A table: h3-table baseCells.c -o h3.csv, of the file in H3's source",
             },
             CommandName::CellsToDirectedEdge => Entry {
                 word: "cellsToDirectedEdge",
                 options: &[Cell, To, Table],
                 about: "The directed edge from a cell to its neighbor",
+                notes: "Errors: 1 no index, 5 no cell, 12 cells of two resolutions,\n\
+                    11 no neighbors, 9 a step that starts or ends in a pentagon base cell,\n\
+                    13 out of memory\n\
+                    Example: h3 cellsToDirectedEdge -c 85283473fffffff --to 85283477fffffff --table h3.csv\n\
+                    A table: h3-table baseCells.c -o h3.csv, of the file in H3's source",
             },
             CommandName::IsValidDirectedEdge => Entry {
                 word: "isValidDirectedEdge",
                 options: &[Edge],
                 about: "Whether an index is a valid directed edge",
+                notes: "Errors: 1 no index, 13 out of memory\n\
+                    Example: h3 isValidDirectedEdge --edge 115283473fffffff",
             },
             CommandName::GetDirectedEdgeOrigin => Entry {
                 word: "getDirectedEdgeOrigin",
                 options: &[Edge],
                 about: "The cell that a directed edge leaves",
+                notes: "Errors: 1 no index, 6 no edge, 13 out of memory\n\
+                    Example: h3 getDirectedEdgeOrigin --edge 115283473fffffff",
             },
             CommandName::GetDirectedEdgeDestination => Entry {
                 word: "getDirectedEdgeDestination",
                 options: &[Edge, Table],
                 about: "The cell that a directed edge leads to",
+                notes: "Errors: 1 no index, 6 no edge,\n\
+                    9 a step that starts or ends in a pentagon base cell, 13 out of memory\n\
+                    Example: h3 getDirectedEdgeDestination --edge 115283473fffffff --table h3.csv\n\
+                    A table: h3-table baseCells.c -o h3.csv, of the file in H3's source",
             },
             CommandName::OriginToDirectedEdges => Entry {
                 word: "originToDirectedEdges",
                 options: &[Cell],
                 about: "The directed edges that leave a cell",
+                notes: "Errors: 1 no index, 5 no cell, 13 out of memory\n\
+                    Example: h3 originToDirectedEdges -c 85283473fffffff",
             },
             CommandName::AreValidCells => Entry {
                 word: "areValidCells",
                 options: &[],
                 about: "Whether each index listed on standard input is a valid cell",
+                notes: "Errors: 1 no index, 13 out of memory\n\
+                    Example: h3 areValidCells < cells",
             },
             CommandName::AreValidDirectedEdges => Entry {
                 word: "areValidDirectedEdges",
                 options: &[],
                 about: "Whether each index listed on standard input is a valid directed edge",
+                notes: "Errors: 1 no index, 13 out of memory\n\
+                    Example: h3 areValidDirectedEdges < edges",
             },
             CommandName::GetResolutions => Entry {
                 word: "getResolutions",
                 options: &[],
                 about: "The resolution of each cell listed on standard input",
+                notes: "Errors: 1 no index, 5 no cell, 13 out of memory\n\
+                    Example: h3 getResolutions < cells",
             },
             CommandName::GetBaseCellNumbers => Entry {
                 word: "getBaseCellNumbers",
                 options: &[],
                 about: "The base cell of each cell listed on standard input",
+                notes: "Errors: 1 no index, 5 no cell, 13 out of memory\n\
+                    Example: h3 getBaseCellNumbers < cells",
             },
             CommandName::ArePentagons => Entry {
                 word: "arePentagons",
                 options: &[],
                 about: "Whether each cell listed on standard input is a pentagon",
+                notes: "Errors: 1 no index, 5 no cell, 13 out of memory\n\
+                    Example: h3 arePentagons < cells",
             },
             CommandName::AreResClassIII => Entry {
                 word: "areResClassIII",
                 options: &[],
                 about: "Whether the resolution of each cell listed on standard input is Class III",
+                notes: "Errors: 1 no index, 5 no cell, 13 out of memory\n\
+                    Example: h3 areResClassIII < cells",
             },
             CommandName::CellsToParents => Entry {
                 word: "cellsToParents",
                 options: &[Resolution],
                 about: "The ancestor at a resolution of each cell listed on standard input",
+                notes: "Errors: 1 no index, 5 no cell, 4 no resolution,\n\
+                    12 a resolution finer than the cell's, 13 out of memory\n\
+                    Example: h3 cellsToParents -r 4 < cells",
             },
             CommandName::CellsToCenterChildren => Entry {
                 word: "cellsToCenterChildren",
                 options: &[Resolution],
                 about: "The center descendant at a resolution of each cell listed on standard input",
+                notes: "Errors: 1 no index, 5 no cell, 4 no resolution from the cell's to 15,\n\
+                    13 out of memory\n\
+                    Example: h3 cellsToCenterChildren -r 6 < cells",
             },
             CommandName::CellsToChildrenSizes => Entry {
                 word: "cellsToChildrenSizes",
                 options: &[Resolution],
                 about: "How many descendants at a resolution each cell listed on standard input has",
+                notes: "Errors: 1 no index, 5 no cell, 4 no resolution from the cell's to 15,\n\
+                    13 out of memory\n\
+                    Example: h3 cellsToChildrenSizes -r 6 < cells",
             },
             CommandName::CellsToChildPositions => Entry {
                 word: "cellsToChildPositions",
                 options: &[Resolution],
                 about: "The position of each cell listed on standard input among the descendants of its ancestor at a resolution",
+                notes: "Errors: 1 no index, 5 no cell, 4 no resolution,\n\
+                    12 a resolution finer than the cell's, 13 out of memory\n\
+                    Example: h3 cellsToChildPositions -r 4 < cells",
             },
             CommandName::GetDirectedEdgeOrigins => Entry {
                 word: "getDirectedEdgeOrigins",
                 options: &[],
                 about: "The cell that each directed edge listed on standard input leaves",
+                notes: "Errors: 1 no index, 6 no edge, 13 out of memory\n\
+                    Example: h3 getDirectedEdgeOrigins < edges",
             },
             CommandName::OriginsToDirectedEdges => Entry {
                 word: "originsToDirectedEdges",
                 options: &[],
                 about: "The directed edges that leave each cell listed on standard input",
+                notes: "Errors: 1 no index, 5 no cell, 13 out of memory\n\
+                    Example: h3 originsToDirectedEdges < cells",
             },
         }
     }
@@ -333,6 +436,11 @@ impl CommandName {
         self.entry().about
     }
 
+    /// What help of the command ends with.
+    fn notes<'a>(self) -> &'a str {
+        self.entry().notes
+    }
+
     /// The command that the word names.
     pub fn named_by(word: &str) -> Option<CommandName>
         ensures { result ≡ find (λ name. bytes_eq (word_of name) word.now) command_names }
@@ -348,7 +456,9 @@ impl CommandName {
         ensures shape { IfOk result (λ parser. shape_of parser ≡ shape_for self) }
         ensures local { IfOk result (λ parser. (out-Command parser).has_globals ≡ false) }
     {
-        let mut parser = Parser::new(alloc, self.word()).about(self.about());
+        let mut parser = Parser::new(alloc, self.word())
+            .about(self.about())
+            .after_help(self.notes());
         for option in self.options() {
             parser = parser.arg(option.argument(alloc))?;
         }

@@ -8,8 +8,9 @@ use Rattle.h3_words.proofs.commands.CommandName.parser.Goals as goal
 
 pub loop-option-init : goal.loop-option-init
 loop-option-init c = (
-  ap app_of_fields c.about-parser.ensures ∙ c.new.ensures.app ∙ ap new_app c.word.ensures,
-  ap (λ f. f.has_globals) c.about-parser.ensures ∙ c.new.ensures.local,
+  ap app_of_fields c.after_help-parser.ensures ∙ ap app_of_fields c.about-2.ensures
+      ∙ c.new.ensures.app ∙ ap new_app c.word.ensures,
+  ap (λ f. f.has_globals) c.after_help-parser.ensures ∙ ap (λ f. f.has_globals) c.about-2.ensures ∙ c.new.ensures.local,
 )
 
 pub loop-option-preserved : goal.loop-option-preserved
