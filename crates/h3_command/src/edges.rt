@@ -16,7 +16,7 @@ use h3_index::H3Error;
 
 /// Whether two cells are neighbors, as H3's `areNeighborCells` returns it, over the links of a
 /// table.
-pub fn are_neighbor_cells(cell: Option<u64>, to: Option<u64>) -> Result<TableQuery, H3Error>
+pub(crate) fn are_neighbor_cells(cell: Option<u64>, to: Option<u64>) -> Result<TableQuery, H3Error>
     ensures { with_table table_answer result ≡ request (AreNeighborCells cell to) }
 {
     let (cell, to) = cell_pair_from(cell, to)?;
@@ -25,7 +25,10 @@ pub fn are_neighbor_cells(cell: Option<u64>, to: Option<u64>) -> Result<TableQue
 
 /// The edge that leaves a cell and leads to another, as H3's `cellsToDirectedEdge` returns it, over
 /// the links of a table.
-pub fn cells_to_directed_edge(cell: Option<u64>, to: Option<u64>) -> Result<TableQuery, H3Error>
+pub(crate) fn cells_to_directed_edge(
+    cell: Option<u64>,
+    to: Option<u64>,
+) -> Result<TableQuery, H3Error>
     ensures { with_table table_answer result ≡ request (CellsToDirectedEdge cell to) }
 {
     let (origin, destination) = cell_pair_from(cell, to)?;
@@ -37,7 +40,7 @@ pub fn cells_to_directed_edge(cell: Option<u64>, to: Option<u64>) -> Result<Tabl
 
 /// The cell that an edge leads to, as H3's `getDirectedEdgeDestination` returns it, over the links
 /// of a table.
-pub fn get_directed_edge_destination(index: Option<u64>) -> Result<TableQuery, H3Error>
+pub(crate) fn get_directed_edge_destination(index: Option<u64>) -> Result<TableQuery, H3Error>
     ensures { with_table table_answer result ≡ request (GetDirectedEdgeDestination index) }
 {
     let edge = edge_from(index)?;

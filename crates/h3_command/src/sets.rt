@@ -25,7 +25,7 @@ fn write_compacted<W: Sink>(cells: &[Cell], slots: &mut [Cell], out: &mut W) -> 
 
 /// Writes the compacted list of the cells listed on the input. H3's `compactCells` takes cells of
 /// one resolution; here they may have any.
-pub fn compact_cells<R: Source, W: Sink>(
+pub(crate) fn compact_cells<R: Source, W: Sink>(
     alloc: Global,
     input: &mut R,
     out: &mut W,
@@ -52,7 +52,7 @@ fn write_uncompacted<W: Sink>(cells: &[Cell], res: i32, out: &mut W) -> Result<(
 
 /// Writes the cells of a resolution below the cells listed on the input, as H3's `uncompactCells`
 /// computes them.
-pub fn uncompact_cells<R: Source, W: Sink>(
+pub(crate) fn uncompact_cells<R: Source, W: Sink>(
     alloc: Global,
     res: i32,
     input: &mut R,

@@ -24,7 +24,7 @@ use std::alloc::Global;
 
 /// What is asked of a base cell table.
 #[derive(Clone, Copy)]
-pub enum TableQuery {
+pub(crate) enum TableQuery {
     /// The cells within a radius of a cell. `Domain` for a negative radius, and `Pentagon` where
     /// the walk is refused, before it begins or on its way.
     GridDisk { cell: Cell, k: i32 },
@@ -106,7 +106,7 @@ fn write_query<W: Sink>(table: &BaseTable, query: TableQuery, out: &mut W) -> Re
 }
 
 /// Reads the table and writes what the words ask of it, or returns their error.
-pub fn over_table<T: Source, W: Sink>(
+pub(crate) fn over_table<T: Source, W: Sink>(
     alloc: Global,
     query: Result<TableQuery, H3Error>,
     table: &mut T,

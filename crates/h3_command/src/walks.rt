@@ -13,7 +13,7 @@ use h3_functions::cell_from;
 use h3_index::H3Error;
 
 /// The cells within a radius of a cell, as H3's `gridDiskUnsafe` walks them.
-pub fn grid_disk_unsafe(index: Option<u64>, k: i32) -> Result<TableQuery, H3Error>
+pub(crate) fn grid_disk_unsafe(index: Option<u64>, k: i32) -> Result<TableQuery, H3Error>
     ensures { with_table table_answer result ≡ request (GridDiskUnsafe index k) }
 {
     let cell = cell_from(index)?;
@@ -22,7 +22,7 @@ pub fn grid_disk_unsafe(index: Option<u64>, k: i32) -> Result<TableQuery, H3Erro
 
 /// The cells within a radius of a cell, each with its ring, as H3's `gridDiskDistancesUnsafe` walks
 /// them.
-pub fn grid_disk_distances_unsafe(index: Option<u64>, k: i32) -> Result<TableQuery, H3Error>
+pub(crate) fn grid_disk_distances_unsafe(index: Option<u64>, k: i32) -> Result<TableQuery, H3Error>
     ensures { with_table table_answer result ≡ request (GridDiskDistancesUnsafe index k) }
 {
     let cell = cell_from(index)?;
@@ -30,7 +30,7 @@ pub fn grid_disk_distances_unsafe(index: Option<u64>, k: i32) -> Result<TableQue
 }
 
 /// The cells of the ring of a radius around a cell, as H3's `gridRingUnsafe` walks them.
-pub fn grid_ring_unsafe(index: Option<u64>, k: i32) -> Result<TableQuery, H3Error>
+pub(crate) fn grid_ring_unsafe(index: Option<u64>, k: i32) -> Result<TableQuery, H3Error>
     ensures { with_table table_answer result ≡ request (GridRingUnsafe index k) }
 {
     let cell = cell_from(index)?;

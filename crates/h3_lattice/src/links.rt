@@ -16,7 +16,7 @@ pub(crate) type Links = [(u8, u8); 732];
 /// A link in two bytes, in the order that C sees: the neighbor, and the turns.
 #[repr(C)]
 #[derive(Clone, Copy, Debug)]
-pub struct Link {
+pub(crate) struct Link {
     pub(crate) to: u8,
     pub(crate) turns: u8,
 }

@@ -14,13 +14,13 @@ use h3_index::{CountedReader, Source, read_plain};
 use memchr::memchr;
 
 /// The bytes that a line may have.
-pub const LONGEST_LINE: usize = 64;
+pub(crate) const LONGEST_LINE: usize = 64;
 
 /// The digits of a plain line: those of a cell's index.
 const PLAIN: usize = 15;
 
 /// What takes the lines of a list, one after another.
-pub trait LineTaker {
+pub(crate) trait LineTaker {
     /// How many lines were taken.
     ghost count: { Self → ℕ };
 
@@ -97,7 +97,7 @@ fn split_line(bytes: &[u8]) -> Option<(&[u8], &[u8])>
 
 /// The beginning of a line that is not ended yet.
 #[derive(Drop)]
-pub struct LineStart {
+pub(crate) struct LineStart {
     bytes: ArrayVec<u8, LONGEST_LINE>,
     ghost unended: { is_unended bytes.items ≡ true },
     ghost short: { length bytes.items ≤ 64 },
@@ -105,7 +105,7 @@ pub struct LineStart {
 
 impl LineStart {
     /// At the start of a line.
-    pub fn new() -> Self
+    pub(crate) fn new() -> Self
         ensures { result.bytes.items ≡ [] }
     {
         LineStart {
@@ -224,7 +224,7 @@ impl LineStart {
 }
 
 /// Has the lines of a source taken, page by page.
-pub fn take_lines<'a, V: LineTaker, R: Source>(
+pub(crate) fn take_lines<'a, V: LineTaker, R: Source>(
     taker: &mut V,
     reader: &mut CountedReader<'a, R>,
     page: &mut [u8],

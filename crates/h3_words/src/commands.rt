@@ -418,14 +418,14 @@ impl CommandName {
     }
 
     /// The word that names the command.
-    pub fn word<'a>(self) -> &'a str
+    pub(crate) fn word<'a>(self) -> &'a str
         ensures { result.now ≡ word_of self }
     {
         self.entry().word
     }
 
     /// The options that the command has.
-    pub fn options(self) -> &'static [CommandOption]
+    pub(crate) fn options(self) -> &'static [CommandOption]
         ensures { result.now ≡ options_of self }
     {
         self.entry().options
@@ -442,7 +442,7 @@ impl CommandName {
     }
 
     /// The command that the word names.
-    pub fn named_by(word: &str) -> Option<CommandName>
+    pub(crate) fn named_by(word: &str) -> Option<CommandName>
         ensures { result ≡ find (λ name. bytes_eq (word_of name) word.now) command_names }
     {
         COMMAND_NAMES
@@ -452,7 +452,7 @@ impl CommandName {
     }
 
     /// The command as `clap` takes it.
-    pub fn parser<'a>(self, alloc: Global) -> Result<Parser<'a>, AllocError>
+    pub(crate) fn parser<'a>(self, alloc: Global) -> Result<Parser<'a>, AllocError>
         ensures shape { IfOk result (λ parser. shape_of parser ≡ shape_for self) }
         ensures local { IfOk result (λ parser. (out-Command parser).has_globals ≡ false) }
     {
@@ -466,7 +466,7 @@ impl CommandName {
     }
 
     /// The command with the values that a parse found.
-    pub fn command(self, matches: &ArgMatches<'_>) -> Command
+    pub(crate) fn command(self, matches: &ArgMatches<'_>) -> Command
         ensures named { name_of_command result ≡ self }
         ensures values { (text : CommandOption → Option Text)
             → AreFound self text (found_of matches.now) → HasValues text result }
@@ -561,7 +561,7 @@ impl CommandName {
     /// The path of the table, where the command has one.
     ///
     /// [`AllocError`] where there is no memory for the path.
-    pub fn table_path(
+    pub(crate) fn table_path(
         self,
         alloc: Global,
         matches: &ArgMatches<'_>,
@@ -581,7 +581,7 @@ impl CommandName {
 }
 
 /// The whole command line as `clap` takes it.
-pub fn command_line<'a>(alloc: Global) -> Result<Parser<'a>, AllocError>
+pub(crate) fn command_line<'a>(alloc: Global) -> Result<Parser<'a>, AllocError>
     ensures { IfOk result (λ parser. app_of parser ≡ app) }
 {
     let mut parser = Parser::new(alloc, "h3")

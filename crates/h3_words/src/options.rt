@@ -37,7 +37,7 @@ pub enum CommandOption {
 
 impl CommandOption {
     /// The id of the option in `clap`.
-    pub fn id<'a>(self) -> &'a str
+    pub(crate) fn id<'a>(self) -> &'a str
         ensures { result.now ≡ id_of self }
     {
         match self {
@@ -98,7 +98,7 @@ impl CommandOption {
     }
 
     /// The option as `clap` takes it.
-    pub fn argument<'a>(self, alloc: Global) -> Arg<'a>
+    pub(crate) fn argument<'a>(self, alloc: Global) -> Arg<'a>
         ensures rule { rule_of result ≡ rule_for self }
         ensures local { result.global ≡ false }
     {
@@ -110,7 +110,7 @@ impl CommandOption {
     }
 
     /// The index that the option's text parses as.
-    pub fn index(self, matches: &ArgMatches<'_>) -> Option<u64>
+    pub(crate) fn index(self, matches: &ArgMatches<'_>) -> Option<u64>
         ensures { (text : Text) → first_value (found_of matches.now) (id_of self) ≡ Some text
             → result ≡ parsed_index text }
     {
@@ -121,7 +121,7 @@ impl CommandOption {
     ///
     /// `clap` has refused every other text. For such a one this is the nearest number in that range,
     /// or 0 where it is no `i64`; and 0 where there is no text, or the option takes no number.
-    pub fn number(self, matches: &ArgMatches<'_>) -> i64
+    pub(crate) fn number(self, matches: &ArgMatches<'_>) -> i64
         ensures within { (pos 0 ≤ℤ result) × (result ≤ℤ unwrap_or (number_up_to self) (pos 0)) }
         ensures read { (text : Text) (most : ℤ)
             → first_value (found_of matches.now) (id_of self) ≡ Some text

@@ -34,7 +34,7 @@ fn lettered(digits: u64) -> u64
 
 /// The eight hexadecimal digits of half an index in lower case, each in a byte.
 #[inline(always)]
-pub fn characters(half: u64) -> u64
+pub(crate) fn characters(half: u64) -> u64
     requires { half < 2 ^ 32 }
     ensures { result ≡ number_from_digits 256 (map digit_char (last_digits 16 8 half)) }
 {
@@ -56,7 +56,7 @@ fn gathered(digits: u64) -> u64
 /// The half of an index whose eight hexadecimal digits, in lower case, a word holds; none for a
 /// word of other bytes.
 #[inline(always)]
-pub fn half_in(word: u64) -> Option<u64>
+pub(crate) fn half_in(word: u64) -> Option<u64>
     ensures small { IfSome result (λ half. half < 2 ^ 32) }
     ensures is { IfSome result (λ half. HoldsHalf word half) }
     ensures back { IfSome result (λ half.
@@ -75,7 +75,7 @@ pub fn half_in(word: u64) -> Option<u64>
 
 /// Eight bytes as a word, the first the highest.
 #[inline(always)]
-pub fn word_of(bytes: &[u8]) -> u64
+pub(crate) fn word_of(bytes: &[u8]) -> u64
     requires { length bytes.now ≡ 8 }
     ensures { result ≡ from_be_bytes w64 bytes.now }
 {
