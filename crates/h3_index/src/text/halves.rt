@@ -79,7 +79,8 @@ pub(crate) fn word_of(bytes: &[u8]) -> u64
     requires { length bytes.now ≡ 8 }
     ensures { result ≡ from_be_bytes w64 bytes.now }
 {
-    let mut word = [0; 8];
-    word.copy_from_slice(bytes);
-    u64::from_be_bytes(word)
+    match <[u8; 8]>::try_from(bytes) {
+        Ok(word) => u64::from_be_bytes(word),
+        Err(_) => unreachable!(),
+    }
 }
