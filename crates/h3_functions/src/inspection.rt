@@ -9,6 +9,7 @@ ghost use Rattle.h3_functions.specs.Inspection.{cell_from, get_base_cell_number,
 use h3_index::{Cell, H3Error};
 
 /// The cell with an index.
+#[inline(always)]
 pub fn cell_from(index: Option<u64>) -> Result<Cell, H3Error>
     ensures { result ≡ cell_from index }
 {
