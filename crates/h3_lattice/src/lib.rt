@@ -2,10 +2,10 @@
 //! table of the base cells' neighbors. [`vectors`] has the test tables.
 #![tactic(auto)]
 
+mod bytes;
 mod carries;
 mod checks;
 mod class;
-mod counted;
 mod digits;
 mod direction;
 mod error;

@@ -12,8 +12,8 @@ ghost use Rattle.h3_lattice.specs.Checks.{fault_of_links};
 ghost use Rattle.h3_lattice.specs.First.{FaultsAreFirst};
 ghost use Rattle.h3_lattice.specs.Table.{ChecksMeanSound, RefusesTable, SoundFilesAreAccepted, links_of, table_fault};
 
+use crate::bytes::read_bytes;
 use crate::checks::fault_of_links;
-use crate::counted::read_bytes;
 use crate::direction::Direction;
 use crate::error::TableError;
 use crate::links::{Link, Links, filled, first_missing, packed, packed_at};
