@@ -1,8 +1,8 @@
 //! Links between base cells, and slots for them.
 
 ghost use Rattle.std.specs.Prelude.{◌≡◌, ◌+◌, ◌*◌, ◌<◌, ◌≤◌, ℕ, true, None, Some, IfSome, unwrap_or, slice_index_or, map, All};
-ghost use Rattle.h3_lattice.specs.Direction.{directions};
-ghost use Rattle.h3_lattice.specs.Links.{IsHexagonBase, IsLink, is_hexagon_base, links_in, pair_of};
+ghost use Rattle.h3_lattice.specs.Direction.{digit_of, directions};
+ghost use Rattle.h3_lattice.specs.Links.{IsHexagonBase, IsLink, is_hexagon_base, links_in, pair_of, slot_of};
 ghost use Rattle.h3_lattice.specs.Checks.{at_links, in_directions};
 ghost use Rattle.h3_lattice.specs.Slots.{missing_at};
 
@@ -54,13 +54,23 @@ pub(crate) fn is_hexagon_number(number: u16) -> bool
     number < 122 && is_hexagon_base(number as u8)
 }
 
+/// The slot of a base cell and a direction in a list with six for each base cell.
+#[inline(always)]
+pub(crate) fn slot_of(base: u8, direction: Direction) -> usize
+    requires { base < 122 }
+    ensures is { result ≡ slot_of base (digit_of direction) }
+    ensures below { result < 732 }
+{
+    base as usize * 6 + (direction.digit() as usize - 1)
+}
+
 /// The link of a base cell in a direction.
 pub(crate) fn link_at(links: &Links, base: u8, direction: Direction) -> (u8, u8)
     requires { base < 122 }
     ensures is { result ≡ links_in links.now base direction }
     ensures within { All IsLink links.now → IsLink result }
 {
-    links[base as usize * 6 + (direction.digit() as usize - 1)]
+    links[slot_of(base, direction)]
 }
 
 /// The link of a base cell in a direction.
@@ -68,7 +78,7 @@ pub(crate) fn packed_at(links: &[Link; 732], base: u8, direction: Direction) -> 
     requires { base < 122 }
     ensures { result ≡ links_in (map pair_of links.now) base direction }
 {
-    let link = links[base as usize * 6 + (direction.digit() as usize - 1)];
+    let link = links[slot_of(base, direction)];
     (link.to, link.turns)
 }
 
@@ -77,7 +87,7 @@ fn missing_at(slots: &Slots, base: u8, direction: Direction) -> Option<TableErro
     requires { base < 122 }
     ensures { result ≡ missing_at slots.now base direction }
 {
-    if slots[base as usize * 6 + (direction.digit() as usize - 1)].is_some() {
+    if slots[slot_of(base, direction)].is_some() {
         None
     } else {
         Some(TableError::Missing)
