@@ -10,8 +10,11 @@ use crate::direction::{DIRECTIONS, Direction};
 use crate::error::TableError;
 use h3_index::is_pentagon_base;
 
+/// Six links for each of 122 base cells.
+pub(crate) const LINKS: usize = 732;
+
 /// The neighbor and the turns of each base cell and direction, base cell by base cell.
-pub(crate) type Links = [(u8, u8); 732];
+pub(crate) type Links = [(u8, u8); LINKS];
 
 /// A link in two bytes, in the order that C sees: the neighbor, and the turns.
 #[repr(C)]
@@ -22,11 +25,11 @@ pub(crate) struct Link {
 }
 
 /// The links, each in two bytes.
-pub(crate) fn packed(links: &Links) -> [Link; 732]
+pub(crate) fn packed(links: &Links) -> [Link; LINKS]
     ensures { map pair_of result ≡ links.now }
 {
-    let mut packed = [Link { to: 0, turns: 0 }; 732];
-    for i in 0..732 {
+    let mut packed = [Link { to: 0, turns: 0 }; LINKS];
+    for i in 0..LINKS {
         let (to, turns) = links[i];
         packed[i] = Link { to, turns };
     }
@@ -34,7 +37,7 @@ pub(crate) fn packed(links: &Links) -> [Link; 732]
 }
 
 /// Links of which some are not known yet.
-pub(crate) type Slots = [Option<(u8, u8)>; 732];
+pub(crate) type Slots = [Option<(u8, u8)>; LINKS];
 
 /// Whether a base cell is a hexagon.
 #[tactic(auto, unfolding(crate::specs::Links::is_hexagon_base))]
@@ -59,7 +62,7 @@ pub(crate) fn is_hexagon_number(number: u16) -> bool
 pub(crate) fn slot_of(base: u8, direction: Direction) -> usize
     requires { base < 122 }
     ensures is { result ≡ slot_of base (digit_of direction) }
-    ensures below { result < 732 }
+    ensures below { result < LINKS }
 {
     base as usize * 6 + (direction.digit() as usize - 1)
 }
@@ -74,7 +77,7 @@ pub(crate) fn link_at(links: &Links, base: u8, direction: Direction) -> (u8, u8)
 }
 
 /// The link of a base cell in a direction.
-pub(crate) fn packed_at(links: &[Link; 732], base: u8, direction: Direction) -> (u8, u8)
+pub(crate) fn packed_at(links: &[Link; LINKS], base: u8, direction: Direction) -> (u8, u8)
     requires { base < 122 }
     ensures { result ≡ links_in (map pair_of links.now) base direction }
 {
@@ -141,8 +144,8 @@ pub(crate) fn filled(slots: &Slots) -> Links
         ≡ unwrap_or (slice_index_or slots.now i None) (0, 0) }
     ensures within { All IsLink result }
 {
-    let mut links = [(0, 0); 732];
-    for i in 0..732 {
+    let mut links = [(0, 0); LINKS];
+    for i in 0..LINKS {
         links[i] = link_or_zero(slots[i]);
     }
     links
