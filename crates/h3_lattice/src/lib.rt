@@ -17,6 +17,7 @@ pub mod laws;
 mod links;
 mod moved;
 mod records;
+mod scan;
 mod table;
 pub mod vectors;
 

@@ -1,13 +1,13 @@
 //! Links between base cells, and slots for them.
 
 ghost use Rattle.std.specs.Prelude.{◌≡◌, ◌+◌, ◌*◌, ◌<◌, ◌≤◌, ℕ, true, None, Some, IfSome, unwrap_or, slice_index_or, map, All};
-ghost use Rattle.h3_lattice.specs.Direction.{digit_of, directions};
+ghost use Rattle.h3_lattice.specs.Direction.{digit_of};
 ghost use Rattle.h3_lattice.specs.Links.{IsHexagonBase, IsLink, is_hexagon_base, links_in, pair_of, slot_of};
-ghost use Rattle.h3_lattice.specs.Checks.{at_links, in_directions};
 ghost use Rattle.h3_lattice.specs.Slots.{missing_at};
 
-use crate::direction::{DIRECTIONS, Direction};
+use crate::direction::Direction;
 use crate::error::TableError;
+use crate::scan::AtLink;
 use h3_index::is_pentagon_base;
 
 /// Six links for each of 122 base cells.
@@ -85,45 +85,17 @@ pub(crate) fn packed_at(links: &[Link; LINKS], base: u8, direction: Direction) -
     (link.to, link.turns)
 }
 
-/// The fault that no link is known for a base cell in a direction.
-fn missing_at(slots: &Slots, base: u8, direction: Direction) -> Option<TableError>
-    requires { base < 122 }
-    ensures { result ≡ missing_at slots.now base direction }
-{
-    if slots[slot_of(base, direction)].is_some() {
-        None
-    } else {
-        Some(TableError::Missing)
-    }
-}
+impl AtLink for Slots {
+    ghost fault_of = { missing_at };
 
-/// The fault that no link is known for a base cell in some direction.
-fn missing_from(slots: &Slots, base: u8) -> Option<TableError>
-    requires { base < 122 }
-    ensures { result ≡ in_directions (missing_at slots.now base) directions }
-{
-    for direction in DIRECTIONS {
-        let fault = missing_at(slots, base, direction);
-        if fault.is_some() {
-            return fault;
+    /// The fault that no link is known there.
+    fn fault_at(&self, base: u8, direction: Direction) -> Option<TableError> {
+        if self[slot_of(base, direction)].is_some() {
+            None
+        } else {
+            Some(TableError::Missing)
         }
     }
-    None
-}
-
-/// The fault that no link is known for some hexagon base cell and direction.
-pub(crate) fn first_missing(slots: &Slots) -> Option<TableError>
-    ensures { result ≡ at_links (missing_at slots.now) }
-{
-    for base in 0..122u8 {
-        if is_hexagon_base(base) {
-            let fault = missing_from(slots, base);
-            if fault.is_some() {
-                return fault;
-            }
-        }
-    }
-    None
 }
 
 /// A link, or one to base cell 0 where it is not known.

@@ -16,8 +16,9 @@ use crate::bytes::read_bytes;
 use crate::checks::fault_of_links;
 use crate::direction::Direction;
 use crate::error::TableError;
-use crate::links::{LINKS, Link, Links, filled, first_missing, packed, packed_at};
+use crate::links::{LINKS, Link, Links, filled, packed, packed_at};
 use crate::records::read_records;
+use crate::scan::first_fault;
 use h3_index::Source;
 use std::alloc::Global;
 
@@ -84,7 +85,7 @@ impl BaseTable {
             RefusesTable ⊥ (table_fault (records_of file.now)) e) }
     {
         let slots = read_records(alloc, file)?;
-        match first_missing(&slots) {
+        match first_fault(&slots) {
             Some(fault) => Err(fault),
             None => BaseTable::new(filled(&slots)),
         }
