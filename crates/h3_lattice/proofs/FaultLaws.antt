@@ -16,7 +16,7 @@ use Rattle.h3_lattice.specs.Records.{body_of, fault_of, fault_of_records, first_
 use Rattle.h3_lattice.specs.Table.{IsOfForm, links_of, missing_of, table_fault}
 use Rattle.h3_lattice.proofs.FormLaws.{form_of, no_fault_of, none_missing}
 use Rattle.h3_lattice.proofs.KindLaws.{IsKind, checks-kind, is_kind, kind, missing-kind, records-kind}
-use Rattle.h3_lattice.proofs.SoundLaws.{apart-is, apart-of, closed-is, closed-of, digit_of-gt, digit_of-lt, direction-at, from_base-none, hexagon_of, in_each, is_hexagon_of, both, if_none, in_directions-none, no_fault, no_fault_at, reversed-is, reversed-of, error_unless-none}
+use Rattle.h3_lattice.proofs.SoundLaws.{apart-is, apart-of, closed-is, closed-of, digit_at, digit_of-gt, digit_of-lt, direction-at, from_base-none, hexagon_of, in_each, is_hexagon_of, both, if_none, in_directions-none, no_fault, no_fault_at, reversed-is, reversed-of, error_unless-none}
 
 -- ---- the first of a list of directions
 
@@ -109,15 +109,6 @@ from_base-some f b (suc n) base x low high hexagon here before =
     by (inr more) rest = rw (none_here more) (rest more)
 
 -- ---- the first place
-
-digit_at : (i : ℕ) → i < 6 → digit_of (get_or directions i K) ≡ i + 1
-digit_at zero h = refl
-digit_at (suc zero) h = refl
-digit_at (suc (suc zero)) h = refl
-digit_at (suc (suc (suc zero))) h = refl
-digit_at (suc (suc (suc (suc zero)))) h = refl
-digit_at (suc (suc (suc (suc (suc zero))))) h = refl
-digit_at (suc (suc (suc (suc (suc (suc i)))))) h = absurd (omega arith)
 
 record FirstAt (f : ℕ → Direction → Option TableError) (x : TableError) (b : ℕ) (d : Direction) : Type 0 where
   hexagon : IsHexagonBase b

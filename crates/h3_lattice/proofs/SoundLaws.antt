@@ -46,6 +46,15 @@ direction-at I = refl
 direction-at IK = refl
 direction-at IJ = refl
 
+pub digit_at : (i : ℕ) → i < 6 → digit_of (get_or directions i K) ≡ i + 1
+digit_at zero h = refl
+digit_at (suc zero) h = refl
+digit_at (suc (suc zero)) h = refl
+digit_at (suc (suc (suc zero))) h = refl
+digit_at (suc (suc (suc (suc zero)))) h = refl
+digit_at (suc (suc (suc (suc (suc zero))))) h = refl
+digit_at (suc (suc (suc (suc (suc (suc i)))))) h = absurd (omega arith)
+
 -- ---- where there is no error
 
 pub both : (a b : Option TableError) → option_or a b ≡ None → (a ≡ None) × (b ≡ None)

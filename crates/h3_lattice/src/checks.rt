@@ -1,13 +1,13 @@
 //! The checks of a full table.
 
 ghost use Rattle.std.specs.Prelude.{◌≡◌, ◌<◌, All};
-ghost use Rattle.h3_lattice.specs.Direction.{directions};
 ghost use Rattle.h3_lattice.specs.Links.{IsLink, links_in};
-ghost use Rattle.h3_lattice.specs.Checks.{at_links, closes, fault_at, fault_of_links, in_directions, leads_apart, are_apart, reverses};
+ghost use Rattle.h3_lattice.specs.Checks.{at_links, closes, fault_at, fault_of_links, leads_apart, are_apart, reverses};
 
 use crate::direction::{DIRECTIONS, Direction, turn};
 use crate::error::TableError;
 use crate::links::{Links, is_hexagon_base, link_at};
+use crate::scan::{AtLink, first_fault};
 
 /// A check of a full table.
 #[derive(Clone, Copy, Debug, PartialEq, Eq)]
@@ -77,66 +77,51 @@ fn closes(links: &Links, base: u8, direction: Direction) -> bool
     across.0 == next && across.1 == (next_turns + 6 - turns) % 6
 }
 
-/// The error of a check at a base cell and a direction.
-fn fault_at(check: Check, links: &Links, base: u8, direction: Direction) -> Option<TableError>
-    requires base { base < 122 }
-    requires within { All IsLink links.now }
-    ensures { result ≡ fault_at check (links_in links.now) base direction }
-{
-    match check {
-        Check::Neighbors => {
-            if leads_apart(links, base, direction) {
-                None
-            } else {
-                Some(TableError::Neighbours(base))
-            }
-        }
-        Check::Reversal => {
-            if reverses(links, base, direction) {
-                None
-            } else {
-                Some(TableError::Reversal(base, direction))
-            }
-        }
-        Check::Corner => {
-            if closes(links, base, direction) {
-                None
-            } else {
-                Some(TableError::Corner(base, direction))
-            }
-        }
-    }
+/// A check of these links.
+#[derive(Clone, Copy)]
+struct Checked<'a> {
+    check: Check,
+    links: &'a Links,
+    ghost within: { All IsLink links.now },
 }
 
-/// The first error of a check at a base cell.
-fn fault_from(check: Check, links: &Links, base: u8) -> Option<TableError>
-    requires base { base < 122 }
-    requires within { All IsLink links.now }
-    ensures { result ≡ in_directions (fault_at check (links_in links.now) base) directions }
-{
-    for direction in DIRECTIONS {
-        let fault = fault_at(check, links, base, direction);
-        if fault.is_some() {
-            return fault;
+impl<'a> AtLink for Checked<'a> {
+    ghost fault_of = { λ c. fault_at c.check (links_in c.links.now) };
+
+    /// The error of the check there.
+    fn fault_at(&self, base: u8, direction: Direction) -> Option<TableError> {
+        match self.check {
+            Check::Neighbors => {
+                if leads_apart(self.links, base, direction) {
+                    None
+                } else {
+                    Some(TableError::Neighbours(base))
+                }
+            }
+            Check::Reversal => {
+                if reverses(self.links, base, direction) {
+                    None
+                } else {
+                    Some(TableError::Reversal(base, direction))
+                }
+            }
+            Check::Corner => {
+                if closes(self.links, base, direction) {
+                    None
+                } else {
+                    Some(TableError::Corner(base, direction))
+                }
+            }
         }
     }
-    None
 }
 
 /// The first error of a check.
-fn first_fault(check: Check, links: &Links) -> Option<TableError>
-    requires within { All IsLink links.now }
+fn fault_of_check(check: Check, links: &Links) -> Option<TableError>
+    requires { All IsLink links.now }
     ensures { result ≡ at_links (fault_at check (links_in links.now)) }
 {
-    for base in 0..122u8 {
-        if is_hexagon_base(base) {
-            let fault = fault_from(check, links, base);
-            if fault.is_some() {
-                return fault;
-            }
-        }
-    }
-    None
+    first_fault(&Checked { check, links })
 }
 
 /// The first error of the checks, one after the other.
@@ -144,13 +129,13 @@ pub(crate) fn fault_of_links(links: &Links) -> Option<TableError>
     requires within { All IsLink links.now }
     ensures { result ≡ fault_of_links (links_in links.now) }
 {
-    let neighbors = first_fault(Check::Neighbors, links);
+    let neighbors = fault_of_check(Check::Neighbors, links);
     if neighbors.is_some() {
         return neighbors;
     }
-    let reversal = first_fault(Check::Reversal, links);
+    let reversal = fault_of_check(Check::Reversal, links);
     if reversal.is_some() {
         return reversal;
     }
-    first_fault(Check::Corner, links)
+    fault_of_check(Check::Corner, links)
 }

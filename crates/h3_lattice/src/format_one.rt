@@ -7,8 +7,9 @@ ghost use Rattle.h3_lattice.specs.Links.{IsLink, slot_of};
 ghost use Rattle.h3_lattice.specs.Records.{fault_in};
 ghost use Rattle.h3_lattice.specs.Slots.{IsInRangeOne, SetsLinks};
 
+use crate::direction::DIRECTIONS;
 use crate::error::TableError;
-use crate::links::{Slots, is_hexagon_number};
+use crate::links::{Slots, is_hexagon_number, slot_of};
 
 /// The header.
 pub(crate) const HEADER: [&[u8]; 4] = [b"base", b"dir", b"to", b"rot"];
@@ -41,7 +42,7 @@ pub(crate) fn take(slots: &mut Slots, row: u64, numbers: Option<[u16; 4]>) -> Re
     if !in_range(numbers) {
         return Err(TableError::Range(row));
     }
-    let slot = base as usize * 6 + (direction as usize - 1);
+    let slot = slot_of(base as u8, DIRECTIONS[direction as usize - 1]);
     if slots[slot].is_some() {
         return Err(TableError::Repeated(row));
     }

@@ -9,7 +9,7 @@ ghost use Rattle.h3_lattice.specs.Slots.{IsInRangeTwo, SetsLinks};
 
 use crate::direction::{DIRECTIONS, Direction};
 use crate::error::TableError;
-use crate::links::{Slots, is_hexagon_number};
+use crate::links::{Slots, is_hexagon_number, slot_of};
 
 /// The header.
 pub(crate) const HEADER: [&[u8]; 13] = [
@@ -47,9 +47,9 @@ fn keep(slots: &mut Slots, numbers: &[u16; 13])
     ensures within { All (λ slot. IfSome slot IsLink) slots.old →
         All (λ slot. IfSome slot IsLink) slots.new }
 {
-    let first = numbers[0] as usize * 6;
     for digit in 1..7 {
-        slots[first + (digit - 1)] = Some((numbers[digit] as u8, numbers[6 + digit] as u8));
+        let slot = slot_of(numbers[0] as u8, DIRECTIONS[digit - 1]);
+        slots[slot] = Some((numbers[digit] as u8, numbers[6 + digit] as u8));
     }
 }
 
@@ -73,7 +73,7 @@ pub(crate) fn take(
     if !in_range(&numbers) {
         return Err(TableError::Range(row));
     }
-    if slots[numbers[0] as usize * 6].is_some() {
+    if slots[slot_of(numbers[0] as u8, Direction::K)].is_some() {
         return Err(TableError::Repeated(row));
     }
     keep(slots, &numbers);

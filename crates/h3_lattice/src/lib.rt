@@ -2,10 +2,10 @@
 //! table of the base cells' neighbors. [`vectors`] has the test tables.
 #![tactic(auto)]
 
+mod bytes;
 mod carries;
 mod checks;
 mod class;
-mod counted;
 mod digits;
 mod direction;
 mod error;
@@ -17,6 +17,7 @@ pub mod laws;
 mod links;
 mod moved;
 mod records;
+mod scan;
 mod table;
 pub mod vectors;
 

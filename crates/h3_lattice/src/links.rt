@@ -1,17 +1,20 @@
 //! Links between base cells, and slots for them.
 
 ghost use Rattle.std.specs.Prelude.{◌≡◌, ◌+◌, ◌*◌, ◌<◌, ◌≤◌, ℕ, true, None, Some, IfSome, unwrap_or, slice_index_or, map, All};
-ghost use Rattle.h3_lattice.specs.Direction.{directions};
-ghost use Rattle.h3_lattice.specs.Links.{IsHexagonBase, IsLink, is_hexagon_base, links_in, pair_of};
-ghost use Rattle.h3_lattice.specs.Checks.{at_links, in_directions};
+ghost use Rattle.h3_lattice.specs.Direction.{digit_of};
+ghost use Rattle.h3_lattice.specs.Links.{IsHexagonBase, IsLink, is_hexagon_base, links_in, pair_of, slot_of};
 ghost use Rattle.h3_lattice.specs.Slots.{missing_at};
 
-use crate::direction::{DIRECTIONS, Direction};
+use crate::direction::Direction;
 use crate::error::TableError;
+use crate::scan::AtLink;
 use h3_index::is_pentagon_base;
 
+/// Six links for each of 122 base cells.
+pub(crate) const LINKS: usize = 732;
+
 /// The neighbor and the turns of each base cell and direction, base cell by base cell.
-pub(crate) type Links = [(u8, u8); 732];
+pub(crate) type Links = [(u8, u8); LINKS];
 
 /// A link in two bytes, in the order that C sees: the neighbor, and the turns.
 #[repr(C)]
@@ -22,11 +25,11 @@ pub(crate) struct Link {
 }
 
 /// The links, each in two bytes.
-pub(crate) fn packed(links: &Links) -> [Link; 732]
+pub(crate) fn packed(links: &Links) -> [Link; LINKS]
     ensures { map pair_of result ≡ links.now }
 {
-    let mut packed = [Link { to: 0, turns: 0 }; 732];
-    for i in 0..732 {
+    let mut packed = [Link { to: 0, turns: 0 }; LINKS];
+    for i in 0..LINKS {
         let (to, turns) = links[i];
         packed[i] = Link { to, turns };
     }
@@ -34,7 +37,7 @@ pub(crate) fn packed(links: &Links) -> [Link; 732]
 }
 
 /// Links of which some are not known yet.
-pub(crate) type Slots = [Option<(u8, u8)>; 732];
+pub(crate) type Slots = [Option<(u8, u8)>; LINKS];
 
 /// Whether a base cell is a hexagon.
 #[tactic(auto, unfolding(crate::specs::Links::is_hexagon_base))]
@@ -54,63 +57,45 @@ pub(crate) fn is_hexagon_number(number: u16) -> bool
     number < 122 && is_hexagon_base(number as u8)
 }
 
+/// The slot of a base cell and a direction in a list with six for each base cell.
+#[inline(always)]
+pub(crate) fn slot_of(base: u8, direction: Direction) -> usize
+    requires { base < 122 }
+    ensures is { result ≡ slot_of base (digit_of direction) }
+    ensures below { result < LINKS }
+{
+    base as usize * 6 + (direction.digit() as usize - 1)
+}
+
 /// The link of a base cell in a direction.
 pub(crate) fn link_at(links: &Links, base: u8, direction: Direction) -> (u8, u8)
     requires { base < 122 }
     ensures is { result ≡ links_in links.now base direction }
     ensures within { All IsLink links.now → IsLink result }
 {
-    links[base as usize * 6 + (direction.digit() as usize - 1)]
+    links[slot_of(base, direction)]
 }
 
 /// The link of a base cell in a direction.
-pub(crate) fn packed_at(links: &[Link; 732], base: u8, direction: Direction) -> (u8, u8)
+pub(crate) fn packed_at(links: &[Link; LINKS], base: u8, direction: Direction) -> (u8, u8)
     requires { base < 122 }
     ensures { result ≡ links_in (map pair_of links.now) base direction }
 {
-    let link = links[base as usize * 6 + (direction.digit() as usize - 1)];
+    let link = links[slot_of(base, direction)];
     (link.to, link.turns)
 }
 
-/// The fault that no link is known for a base cell in a direction.
-fn missing_at(slots: &Slots, base: u8, direction: Direction) -> Option<TableError>
-    requires { base < 122 }
-    ensures { result ≡ missing_at slots.now base direction }
-{
-    if slots[base as usize * 6 + (direction.digit() as usize - 1)].is_some() {
-        None
-    } else {
-        Some(TableError::Missing)
-    }
-}
+impl AtLink for Slots {
+    ghost fault_of = { missing_at };
 
-/// The fault that no link is known for a base cell in some direction.
-fn missing_from(slots: &Slots, base: u8) -> Option<TableError>
-    requires { base < 122 }
-    ensures { result ≡ in_directions (missing_at slots.now base) directions }
-{
-    for direction in DIRECTIONS {
-        let fault = missing_at(slots, base, direction);
-        if fault.is_some() {
-            return fault;
+    /// The fault that no link is known there.
+    fn fault_at(&self, base: u8, direction: Direction) -> Option<TableError> {
+        if self[slot_of(base, direction)].is_some() {
+            None
+        } else {
+            Some(TableError::Missing)
         }
     }
-    None
-}
-
-/// The fault that no link is known for some hexagon base cell and direction.
-pub(crate) fn first_missing(slots: &Slots) -> Option<TableError>
-    ensures { result ≡ at_links (missing_at slots.now) }
-{
-    for base in 0..122u8 {
-        if is_hexagon_base(base) {
-            let fault = missing_from(slots, base);
-            if fault.is_some() {
-                return fault;
-            }
-        }
-    }
-    None
 }
 
 /// A link, or one to base cell 0 where it is not known.
@@ -131,8 +116,8 @@ pub(crate) fn filled(slots: &Slots) -> Links
         ≡ unwrap_or (slice_index_or slots.now i None) (0, 0) }
     ensures within { All IsLink result }
 {
-    let mut links = [(0, 0); 732];
-    for i in 0..732 {
+    let mut links = [(0, 0); LINKS];
+    for i in 0..LINKS {
         links[i] = link_or_zero(slots[i]);
     }
     links

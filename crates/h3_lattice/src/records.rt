@@ -8,7 +8,7 @@ ghost use Rattle.h3_lattice.specs.Slots.{Holds, IsFaultOrMemory};
 
 use crate::error::TableError;
 use crate::format::{header_format, take};
-use crate::links::Slots;
+use crate::links::{LINKS, Slots};
 use csv::{ByteRecord, ReaderBuilder};
 use std::alloc::Global;
 
@@ -43,7 +43,7 @@ pub(crate) fn read_records(alloc: Global, text: &[u8]) -> Result<Slots, TableErr
     };
     // The proof takes from this that the number of a record fits.
     let _most = most_records(text);
-    let mut slots = [None; 732];
+    let mut slots = [None; LINKS];
     let mut number = 1u64;
     loop {
         let Ok(found) = reader.read_byte_record(&mut record) else {

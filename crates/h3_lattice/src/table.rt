@@ -12,12 +12,13 @@ ghost use Rattle.h3_lattice.specs.Checks.{fault_of_links};
 ghost use Rattle.h3_lattice.specs.First.{FaultsAreFirst};
 ghost use Rattle.h3_lattice.specs.Table.{ChecksMeanSound, RefusesTable, SoundFilesAreAccepted, links_of, table_fault};
 
+use crate::bytes::read_bytes;
 use crate::checks::fault_of_links;
-use crate::counted::read_bytes;
 use crate::direction::Direction;
 use crate::error::TableError;
-use crate::links::{Link, Links, filled, first_missing, packed, packed_at};
+use crate::links::{LINKS, Link, Links, filled, packed, packed_at};
 use crate::records::read_records;
+use crate::scan::first_fault;
 use h3_index::Source;
 use std::alloc::Global;
 
@@ -36,7 +37,7 @@ const PENTAGONS: [u8; 6] = [4, 14, 24, 38, 49, 58];
 #[repr(C)]
 #[derive(Debug, Drop)]
 pub struct BaseTable {
-    links: [Link; 732],
+    links: [Link; LINKS],
     ghost within: { All IsLink (map pair_of links) },
     ghost sound: { IsSound (links_in (map pair_of links)) },
 }
@@ -64,8 +65,8 @@ impl BaseTable {
     pub fn closed() -> BaseTable
         ensures { (b : ℕ) → (d : Direction) → b < 122 → link_of result b d ≡ closed_link d }
     {
-        let mut links = [Link { to: 0, turns: 0 }; 732];
-        for i in 0..732 {
+        let mut links = [Link { to: 0, turns: 0 }; LINKS];
+        for i in 0..LINKS {
             let to = PENTAGONS[i % 6];
             links[i] = Link { to, turns: 0 };
         }
@@ -84,7 +85,7 @@ impl BaseTable {
             RefusesTable ⊥ (table_fault (records_of file.now)) e) }
     {
         let slots = read_records(alloc, file)?;
-        match first_missing(&slots) {
+        match first_fault(&slots) {
             Some(fault) => Err(fault),
             None => BaseTable::new(filled(&slots)),
         }

@@ -1,7 +1,7 @@
 use super::BaseTable;
 use crate::direction::{DIRECTIONS, Direction};
 use crate::error::TableError;
-use crate::links::Link;
+use crate::links::{LINKS, Link};
 use crate::vectors::{TestTable, link};
 use h3_index::{Source, StreamFault, Streamed, is_pentagon_base};
 use std::test::Fail;
@@ -72,7 +72,7 @@ fn has_links(rt: &HostRuntime, text: &str, table: TestTable) -> bool {
 fn a_table_holds_links_alone(_rt: HostRuntime) {
     let parts = |table: BaseTable| {
         let BaseTable { links } = table;
-        let _links: [Link; 732] = links;
+        let _links: [Link; LINKS] = links;
     };
     let _parts = parts;
 }

@@ -1,14 +1,11 @@
-use Rattle.std.proofs.Common.{◌<◌, ◌*◌, ◌+◌, ◌-◌, arith, refl}
+use Rattle.std.proofs.Common.{arith, refl}
 use Rattle.std.proofs.lemmas.List.Elements.{All-get_or}
 use Rattle.h3_lattice.specs.Links.{IsLink, links_in}
-use Rattle.h3_lattice.proofs.SoundLaws.{digit_of-lt}
 use Rattle.h3_lattice.proofs.links.link_at.Goals as goal
 
 pub returns-clause-is : goal.returns-clause-is
 unfolding links_in
-returns-clause-is c = rw c.digit.ensures refl
+returns-clause-is c = rw c.slot_of.ensures.is refl
 
 pub returns-clause-within : goal.returns-clause-within
-returns-clause-within c = λ all.
-    let n : c.digit.result < 7 = rw c.digit.ensures (digit_of-lt c.args.direction) in
-    All-get_or IsLink c.args.links.now (c.args.base * 6 + (c.digit.result - 1)) (0, 0) (omega arith) all
+returns-clause-within c = λ all. All-get_or IsLink c.args.links.now c.slot_of.result (0, 0) (omega arith) all

@@ -1,7 +1,7 @@
 use Rattle.std.proofs.Common.{◌≡◌, length}
 use Rattle.h3_index.specs.Counted.{KeepsSource, reads_allowed, source_of}
 use Rattle.h3_lattice.proofs.ByteLaws.{Reads}
-use Rattle.h3_lattice.proofs.counted.read_pages.Given as goal
+use Rattle.h3_lattice.proofs.bytes.read_pages.Given as goal
 
 abbrev pub invariant-loop-count : goal.invariant-loop-count
 invariant-loop-count g l = record {

@@ -2,7 +2,7 @@ use Rattle.std.proofs.Common.{◌≡◌, ◌<◌, ◌∙◌, true, refl, inl, in
 use Rattle.std.proofs.lemmas.Result.{err_from_is_err_and}
 use Rattle.h3_lattice.specs.declared.error.TableError.TheVariants as fault
 use Rattle.h3_lattice.proofs.ByteLaws.{reads_more, reads_some, reads_stopped}
-use Rattle.h3_lattice.proofs.counted.read_pages.Goals as goal
+use Rattle.h3_lattice.proofs.bytes.read_pages.Goals as goal
 
 pub returns-in_default-clause-refused : goal.returns-in_default-clause-refused
 returns-in_default-clause-refused g c =
