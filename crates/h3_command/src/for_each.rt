@@ -13,12 +13,12 @@ use h3_functions::{
     is_valid_cell, is_valid_directed_edge, origin_to_directed_edges,
 };
 use h3_index::H3Error;
-use h3_lines::{BLOCK, IndexFunction, Line, put_result};
+use h3_lines::{ANSWER, BLOCK, IndexFunction, Line, put_result};
 
 /// Puts a line for each edge that leaves a cell, at most six, into a block from the byte `at` on.
 fn put_edges(index: Option<u64>, block: &mut [u8; BLOCK], at: usize) -> Result<usize, H3Error>
-    requires room { at + 192 ≤ 4096 }
-    ensures end { IfOk result (λ end. end ≤ at + 192) }
+    requires room { at + ANSWER ≤ BLOCK }
+    ensures end { IfOk result (λ end. end ≤ at + ANSWER) }
     ensures ok { IfOk result (λ end.
         Puts (printed edge_lines (origin_to_directed_edges index)) block.old block.new at end) }
     ensures err { IfErr result (λ e.

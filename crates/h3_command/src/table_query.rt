@@ -118,11 +118,7 @@ pub(crate) fn over_table<T: Source, W: Sink>(
     ensures table_kept { reads_table (with_table table_answer query) ≡ false
         → table.new ≡ table.old }
 {
-    match query {
-        Ok(query) => {
-            let table = BaseTable::read(alloc, table)?;
-            write_query(&table, query, out)
-        }
-        Err(error) => Err(Refusal::Error(error)),
-    }
+    let query = query?;
+    let table = BaseTable::read(alloc, table)?;
+    write_query(&table, query, out)
 }

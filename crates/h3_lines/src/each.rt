@@ -7,24 +7,19 @@ ghost use Rattle.h3_lines.specs.Answering.{Answered, EndsBy, Puts, RefusesEach, 
 ghost use Rattle.h3_lines.specs.EachLaws.{answered_none, answered_then, refuses_then};
 ghost use Rattle.h3_lines.specs.EachLine.{EndsEach, line_answer};
 ghost use Rattle.h3_lines.specs.Writing.{Takes, sink_use};
+ghost use Rattle.h3_lines.specs.declared.line.TheConstants.{BLOCK};
 ghost use Rattle.h3_lines.specs.declared.refusal.Refusal.{Refusal};
 ghost use Rattle.h3_lines.specs.declared.refusal.Refusal.TheVariants.{Write};
 
-use crate::line::{BLOCK, Line};
+use crate::line::{BLOCK, Line, ROOM};
 use crate::refusal::Refusal;
-use crate::splitting::{LONGEST_LINE, LineTaker, take_lines};
+use crate::splitting::{LONGEST_LINE, LineTaker, PAGE, READS, take_lines};
 use crate::write::{write_all, write_answer};
 use h3_index::{CountedReader, H3Error, Sink, Source, is_blank_text, read_index};
 use std::alloc::Global;
 
 /// The room that the answer to a line may take.
-const ANSWER: usize = 192;
-
-/// The bytes that are read at once.
-const PAGE: usize = 65536;
-
-/// The reads that a list may take.
-const READS: u64 = 1 << 40;
+pub const ANSWER: usize = 192;
 
 /// A function of one index.
 pub trait IndexFunction {
@@ -34,8 +29,8 @@ pub trait IndexFunction {
     /// Puts the answer into a block from the byte `at` on, and returns where it ends; or returns
     /// its error. The bytes after it may change too.
     fn put(&self, index: Option<u64>, block: &mut [u8; BLOCK], at: usize) -> Result<usize, H3Error>
-        requires room { at + 192 ≤ 4096 }
-        ensures end { IfOk result (λ end. end ≤ at + 192) }
+        requires room { at + ANSWER ≤ BLOCK }
+        ensures end { IfOk result (λ end. end ≤ at + ANSWER) }
         ensures ok { IfOk result (λ end.
             Puts (answer_of self.now index) block.old block.new at end) }
         ensures err { IfErr result (λ e. answer_of self.now index ≡ refused e) }
@@ -50,8 +45,8 @@ pub fn put_result<L: Line + Drop>(
     block: &mut [u8; BLOCK],
     at: usize,
 ) -> Result<usize, H3Error>
-    requires room { at + 32 ≤ 4096 }
-    ensures end { IfOk result (λ end. end ≤ at + 32) }
+    requires room { at + ROOM ≤ BLOCK }
+    ensures end { IfOk result (λ end. end ≤ at + ROOM) }
     ensures ok { IfOk result (λ end.
         Puts (printed L.line_of value) block.old block.new at end) }
     ensures err { IfErr result (λ e. printed L.line_of value ≡ refused e) }
@@ -107,8 +102,8 @@ fn refuse<W: Sink>(out: &mut W, held: &[u8], number: u64, error: H3Error) -> Ref
 /// it ends.
 #[inline(always)]
 fn make_room<W: Sink>(out: &mut W, block: &mut [u8; BLOCK], end: usize) -> Result<usize, Refusal>
-    requires { end ≤ 4096 }
-    ensures room { IfOk result (λ at. at + 192 ≤ 4096) }
+    requires { end ≤ BLOCK }
+    ensures room { IfOk result (λ at. at + ANSWER ≤ BLOCK) }
     ensures ok { IfOk result (λ at. (answer : Option ℕ → Answer) (n : ℕ) →
         Answered W.taken W.has_failed answer n n (take end block.old) (take at block.new)
         out.old out.new []) }
@@ -135,8 +130,8 @@ fn answer_index<W: Sink, F: IndexFunction>(
     function: &F,
     index: Option<u64>,
 ) -> Result<usize, Refusal>
-    requires { end ≤ 4096 }
-    ensures within { IfOk result (λ last. last ≤ 4096) }
+    requires { end ≤ BLOCK }
+    ensures within { IfOk result (λ last. last ≤ BLOCK) }
     ensures ok { IfOk result (λ last. (line : List ℕ) →
         line_answer (F.answer_of function.now) line ≡ F.answer_of function.now index →
         Answered W.taken W.has_failed (F.answer_of function.now) number (number + 1)
@@ -162,7 +157,7 @@ struct Answers<'a, 'f, W, F> {
     number: u64,
     block: [u8; BLOCK],
     end: usize,
-    ghost within: { end ≤ 4096 },
+    ghost within: { end ≤ BLOCK },
 }
 
 impl<'a, 'f, W: Sink, F: IndexFunction> LineTaker for Answers<'a, 'f, W, F> {
@@ -246,7 +241,7 @@ fn answer_lines<'a, 'f, R: Source, W: Sink, F: IndexFunction>(
 ) -> Result<(), Refusal>
     requires first { answers.old.number ≡ 1 }
     requires empty { answers.old.end ≡ 0 }
-    requires page { length page.old ≡ 65536 }
+    requires page { length page.old ≡ PAGE }
     ensures ends { EndsEach (F.answer_of answers.old.function.now)
         (R.left input.old) (R.left input.new)
         (R.has_failed input.old) (R.has_failed input.new) result
@@ -267,7 +262,7 @@ fn answer_pages<R: Source, W: Sink, F: IndexFunction>(
     out: &mut W,
     page: &mut [u8],
 ) -> Result<(), Refusal>
-    requires { length page.old ≡ 65536 }
+    requires { length page.old ≡ PAGE }
     ensures { EndsEach (F.answer_of function.now) (R.left input.old) (R.left input.new)
         (R.has_failed input.old) (R.has_failed input.new) result
         (sink_use W.taken W.has_failed out.old out.new) }

@@ -11,9 +11,10 @@ mod refusal;
 mod splitting;
 mod write;
 
-pub use each::{IndexFunction, answer_each, put_result};
+pub use each::{ANSWER, IndexFunction, answer_each, put_result};
 pub use ending::report;
 pub use line::{BLOCK, Line, ROOM};
 pub use list::read_cells;
 pub use refusal::Refusal;
+pub use splitting::{PAGE, READS};
 pub use write::{write_all, write_answer, write_lines, write_result, write_walk};

@@ -20,8 +20,8 @@ pub trait Line {
     /// Puts the line into a block from the byte `at` on, and returns where it ends. The bytes after
     /// it may change too.
     fn put(&self, block: &mut [u8; BLOCK], at: usize) -> usize
-        requires room { at + 32 ≤ 4096 }
-        ensures end { result ≤ at + 32 }
+        requires room { at + ROOM ≤ BLOCK }
+        ensures end { result ≤ at + ROOM }
         ensures some { at < result }
         ensures line { take result block.new ≡ take at block.old ++ line_of self.now };
 }
@@ -32,7 +32,7 @@ pub trait Line {
 #[inline(always)]
 fn put_ended(block: &mut [u8; BLOCK], at: usize, bytes: &[u8], count: usize, end: u8) -> usize
     requires within { count ≤ length bytes.now }
-    requires room { at + length bytes.now < 4096 }
+    requires room { at + length bytes.now < BLOCK }
     ensures end { result ≡ at + count + 1 }
     ensures line { take result block.new ≡ take at block.old ++ (take count bytes.now ++ end ∷ []) }
 {

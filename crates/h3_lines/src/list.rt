@@ -12,15 +12,9 @@ ghost use Rattle.h3_lines.specs.Reading.{GivesCells, RefusesLines, cells_before}
 ghost use Rattle.h3_lines.specs.Reads.{IsListWithinReads, IsWithinReads, StopsAtFault};
 
 use crate::refusal::Refusal;
-use crate::splitting::{LONGEST_LINE, LineTaker, take_lines};
+use crate::splitting::{LONGEST_LINE, LineTaker, PAGE, READS, take_lines};
 use h3_index::{Cell, CountedReader, H3Error, Source, is_blank_text, read_index};
 use std::alloc::Global;
-
-/// The bytes that are read at once.
-const PAGE: usize = 65536;
-
-/// The reads that a list may take.
-const READS: u64 = 1 << 40;
 
 /// The cell with an index, or the error where no cell has it.
 #[inline(always)]
@@ -148,13 +142,13 @@ fn read_list<R: Source>(
 /// the index of no cell, the first faulty line's. `Refusal::Read` where a read fails, or the end is
 /// not found in 2^40 reads. `Refusal::Memory` where there is none for the page or for a cell.
 pub fn read_cells<R: Source>(alloc: Global, input: &mut R) -> Result<Vec<Cell>, Refusal>
-    // 2^40 reads of a page can find the end of the list, or its first faulty line.
+    // That many reads of a page can find the end of the list, or its first faulty line.
     ensures cells { IfOk result (λ cells. (list : List ℕ) × HasLeft (R.left input.old) list ×
-        IsWithinReads (2 ^ 40) 65536 list × (listed_cells list ≡ Ok cells.items)) }
+        IsWithinReads READS PAGE list × (listed_cells list ≡ Ok cells.items)) }
     ensures refused { IfErr result (λ e. (list : List ℕ) × HasLeft (R.left input.old) list ×
-        RefusesList ((R.has_failed input.new ≡ true) ⊎ (2 ^ 40 ≤ length list))
+        RefusesList ((R.has_failed input.new ≡ true) ⊎ (READS ≤ length list))
         (listed_cells list) e ×
-        (e ≢ Refusal.Read → e ≢ Refusal.Memory → IsListWithinReads (2 ^ 40) 65536 list)) }
+        (e ≢ Refusal.Read → e ≢ Refusal.Memory → IsListWithinReads READS PAGE list)) }
     // All of a list without a faulty line is read, and of any other at most a page more than bytes
     // in which no line is known to be faulty; so too where memory is refused, or no read is left.
     ensures whole { IsOk result →
@@ -162,7 +156,7 @@ pub fn read_cells<R: Source>(alloc: Global, input: &mut R) -> Result<Vec<Cell>, 
     ensures stops { IfErr result (λ e.
         (e ≡ Refusal.Read → R.has_failed input.new ≡ false) →
         (list : List ℕ) → R.left input.old ≡ Some list →
-        (left : List ℕ) × (R.left input.new ≡ Some left) × StopsAtFault 65536 list left) }
+        (left : List ℕ) × (R.left input.new ≡ Some left) × StopsAtFault PAGE list left) }
     ensures sound { ¬ (IsErrOf result Refusal.Read)
         → R.has_failed input.new ≡ R.has_failed input.old }
 {

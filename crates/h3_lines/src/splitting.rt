@@ -7,11 +7,18 @@ ghost use Rattle.h3_lines.specs.Reading.{is_unended};
 ghost use Rattle.h3_lines.specs.Splitting.{BeginsPlain, Goes, ParsesAs, StopsReading, StopsTaking, TakesAll};
 ghost use Rattle.h3_lines.specs.declared.refusal.Refusal.{Refusal};
 ghost use Rattle.h3_lines.specs.declared.refusal.Refusal.TheVariants.{Read};
+ghost use Rattle.h3_lines.specs.declared.splitting.TheConstants.{LONGEST_LINE};
 
 use crate::refusal::Refusal;
 use arrayvec::ArrayVec;
 use h3_index::{CountedReader, Source, read_plain};
 use memchr::memchr;
+
+/// The bytes that are read at once.
+pub const PAGE: usize = 65536;
+
+/// The reads that a list may take.
+pub const READS: u64 = 1 << 40;
 
 /// The bytes that a line may have.
 pub(crate) const LONGEST_LINE: usize = 64;
@@ -52,7 +59,7 @@ pub(crate) trait LineTaker {
 
     /// Refuses a line of more than 64 bytes.
     fn refuse_long(&mut self) -> Refusal
-        ensures { (line : List ℕ) → 64 < length line → (later : List (List ℕ)) →
+        ensures { (line : List ℕ) → LONGEST_LINE < length line → (later : List (List ℕ)) →
             refused self.old (line ∷ later) self.new result };
 
     /// Passes on what is held back of the lines taken.
@@ -100,7 +107,7 @@ fn split_line(bytes: &[u8]) -> Option<(&[u8], &[u8])>
 pub(crate) struct LineStart {
     bytes: ArrayVec<u8, LONGEST_LINE>,
     ghost unended: { is_unended bytes.items ≡ true },
-    ghost short: { length bytes.items ≤ 64 },
+    ghost short: { length bytes.items ≤ LONGEST_LINE },
 }
 
 impl LineStart {

@@ -60,8 +60,8 @@ pub fn write_result<W: Sink, L: Line + Drop>(
 /// block is written, and begins anew. Returns where the line may begin.
 #[inline(always)]
 fn make_room<W: Sink>(out: &mut W, block: &[u8; BLOCK], end: usize) -> Result<usize, StreamFault>
-    requires { end ≤ 4096 }
-    ensures room { IfOk result (λ at. at + 32 ≤ 4096) }
+    requires { end ≤ BLOCK }
+    ensures room { IfOk result (λ at. at + ROOM ≤ BLOCK) }
     ensures written { IfOk result (λ at.
         AppendsUpTo (W.taken out.old) (W.taken out.new) (take end block.now) (take at block.now)) }
     ensures ok { OnOk result (W.has_failed out.new ≡ W.has_failed out.old) }
