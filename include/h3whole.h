@@ -203,7 +203,7 @@ H3Error h3w_cellsToDirectedEdge(const H3wTable *table, H3Index origin, H3Index d
  * origin, or of that cell, is a pentagon. */
 H3Error h3w_getDirectedEdgeDestination(const H3wTable *table, H3Index edge, H3Index *out);
 
-/* ---- Sets of cells. Both take memory: 16 and 8 bytes for each of the n cells. */
+/* ---- Sets of cells. Both take memory: 8 bytes for each of the n cells. */
 
 /* The least list of cells that covers the same as the n cells, ascending; `*count` is how many they are, at most n.
  * E_MEMORY_ALLOC: no memory. E_CELL_INVALID: an index is no cell's. E_DUPLICATE_INPUT: a cell is there twice, or

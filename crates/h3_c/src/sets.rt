@@ -1,9 +1,7 @@
 //! Compaction.
 
-ghost use Rattle.std.specs.Prelude.{◌≡◌, ◌≢◌, ◌≤◌, ◌⊎◌, length, take, Some, None, Ok, IfOk, IfErr};
+ghost use Rattle.std.specs.Prelude.{◌≡◌, ◌≢◌, ◌⊎◌, length, Some, None, Ok, IfOk, IfErr};
 ghost use Rattle.h3_index.specs.declared.error.H3Error.TheVariants.{CellInvalid, MemoryAlloc};
-ghost use Rattle.h3_set.specs.Compacted.{compacted};
-ghost use Rattle.h3_set.specs.Refusals.{compaction_refusal};
 ghost use Rattle.h3_functions.specs.Sets.{uncompact_cells as uncompact};
 ghost use Rattle.h3_c.specs.Lists.{count_of, list_code, list_over};
 ghost use Rattle.h3_c.specs.Outcome.{put_over};
@@ -12,7 +10,7 @@ ghost use Rattle.h3_c.specs.Sets.{cells_in, compact_cells, uncompact_cells};
 use crate::column::MEMORY_BOUNDS;
 use crate::lists::put_cells;
 use h3_index::{Cell, H3Error};
-use h3_set::{compact_cells, uncompact};
+use h3_set::{compact_in_place, uncompact};
 use std::alloc::Global;
 
 /// The cells with these indexes. `CellInvalid` where one is no cell's, `MemoryAlloc` where there is
@@ -64,22 +62,6 @@ fn put_uncompacted(out: &mut [u64], cells: &[Cell], res: i32) -> u32
     }
 }
 
-/// The compacted list of cells, in front of other cells, and its length. `MemoryAlloc` where there
-/// is no memory.
-fn compacted(alloc: Global, cells: &[Cell]) -> Result<(Vec<Cell>, usize), H3Error>
-    ensures refused { IfErr result (λ e. (e ≡ MemoryAlloc)
-        ⊎ (Some e ≡ compaction_refusal cells.now)) }
-    ensures is { IfOk result (λ r. (compaction_refusal cells.now ≡ None)
-        × (take r.1 r.0.items ≡ compacted cells.now) × (r.1 ≤ length r.0.items)) }
-{
-    let mut slots = match cells.to_vec(alloc) {
-        Ok(slots) => slots,
-        Err(_) => return Err(H3Error::MemoryAlloc),
-    };
-    let count = compact_cells(cells, &mut slots)?;
-    Ok((slots, count))
-}
-
 /// H3's `compactCells`, with the room and the number of the compacted cells.
 #[unsafe(no_mangle)]
 pub extern "C" fn h3w_compactCells(
@@ -94,14 +76,14 @@ pub extern "C" fn h3w_compactCells(
         count.new ≡ put_over count.old (count_of (compact_cells set.now)) }
     ensures kept { result ≡ 13 → (out.new ≡ out.old) × (count.new ≡ count.old) }
 {
-    let cells = match cells_in(alloc, set) {
+    let mut cells = match cells_in(alloc, set) {
         Ok(cells) => cells,
         Err(error) => return u32::from(error.number()),
     };
-    match compacted(alloc, &cells) {
-        Ok((slots, n)) => {
+    match compact_in_place(&mut cells) {
+        Ok(n) => {
             *count = n;
-            put_slice(out, &slots[..n])
+            put_slice(out, &cells[..n])
         }
         Err(error) => u32::from(error.number()),
     }

@@ -1,6 +1,5 @@
 //! H3's functions on lists of cells.
 
-ghost use Rattle.std.specs.Prelude.{◌≡◌, ◌≤◌, length};
 ghost use Rattle.h3_lines.specs.Answer.{cell_lines, printed};
 ghost use Rattle.h3_lines.specs.Writing.{Writes, sink_use};
 ghost use Rattle.h3_command.specs.Run.{WritesOfList, source_use};
@@ -8,17 +7,16 @@ ghost use Rattle.h3_functions.specs.Sets.{compact_cells, uncompact_cells};
 
 use h3_index::{Cell, Sink, Source};
 use h3_lines::{Refusal, read_cells, write_lines};
-use h3_set::{compact_cells as compact, uncompact};
+use h3_set::{compact_in_place, uncompact};
 use std::alloc::Global;
 
-/// Writes the compacted list of a list of cells. There must be at least as many slots as cells.
-fn write_compacted<W: Sink>(cells: &[Cell], slots: &mut [Cell], out: &mut W) -> Result<(), Refusal>
-    requires { length cells.now ≤ length slots.old }
-    ensures { Writes (printed cell_lines (compact_cells cells.now)) result
+/// Writes the compacted list of a list of cells, which is made in the list's own memory.
+fn write_compacted<W: Sink>(cells: &mut [Cell], out: &mut W) -> Result<(), Refusal>
+    ensures { Writes (printed cell_lines (compact_cells cells.old)) result
         (sink_use W.taken W.has_failed out.old out.new) }
 {
-    match compact(cells, slots) {
-        Ok(count) => write_lines(out, slots[..count].iter().copied()),
+    match compact_in_place(cells) {
+        Ok(count) => write_lines(out, cells[..count].iter().copied()),
         Err(error) => Err(Refusal::Error(error)),
     }
 }
@@ -34,9 +32,8 @@ pub(crate) fn compact_cells<R: Source, W: Sink>(
         (source_use R.left R.has_failed input.old input.new) result
         (sink_use W.taken W.has_failed out.old out.new) }
 {
-    let cells = read_cells(alloc, input)?;
-    let mut slots = cells.to_vec(alloc).map_err(|_| Refusal::Memory)?;
-    write_compacted(&cells, &mut slots, out)
+    let mut cells = read_cells(alloc, input)?;
+    write_compacted(&mut cells, out)
 }
 
 /// Writes the cells of a resolution below the cells of a list.

@@ -1,7 +1,6 @@
 -- From the first part of a list to its compacted list.
-use Rattle.std.proofs.Common.{ℕ, zero, suc, ◌≡◌, ◌≢◌, ◌+◌, ◌-◌, ◌<◌, ◌≤◌, ◌↔◌, ◌==◌, List, [], ◌∷◌, length, take, drop, All, AllPairs, Contains, Bool, false, IsPermutation, arith, ◌∙◌, sym, ap, subst, inl, inr, get_or}
+use Rattle.std.proofs.Common.{ℕ, zero, suc, ◌≡◌, ◌≢◌, ◌<◌, ◌≤◌, ◌↔◌, ◌==◌, List, [], ◌∷◌, length, take, All, AllPairs, Contains, Bool, false, IsPermutation, arith, sym, subst, inl, inr, get_or}
 use Rattle.std.proofs.lemmas.Bool.Decides.{nat_tests}
-use Rattle.std.proofs.lemmas.List.{drop-drop}
 use Rattle.std.proofs.lemmas.List.Elements.{All-contains, Contains-get_or}
 use Rattle.std.proofs.lemmas.List.Sorted.{Contains-permutation, IsPermutation-sym}
 use Rattle.std.proofs.lemmas.Map.Keys.{IsDistinct-IsPermutation}
@@ -23,9 +22,8 @@ use Rattle.h3_set.proofs.TreeLaws.{contains_cases, contains_head, contains_tail,
 
 -- ---- the loop over the rounds
 
--- the rounds above the level are done, in the first slots; the others, from as many as there are cells on, are as
--- before
-pub record IsUnderWay (cells before slots : List Address) (c : Compaction) : Type 0 where
+-- the rounds above the level are done, in the first slots
+pub record IsUnderWay (cells slots : List Address) (c : Compaction) : Type 0 where
   pub room : length cells ≤ length slots
   pub in_use : slots_in_use c ≤ length cells
   pub small : finest cells ≤ 15
@@ -34,12 +32,6 @@ pub record IsUnderWay (cells before slots : List Address) (c : Compaction) : Typ
   pub apart : IsApart (take (slots_in_use c) slots)
   pub in_order : IsInOrder (take (slots_in_use c) slots)
   pub part : (x : Address) → Contains (take (slots_in_use c) slots) x ↔ InPart cells (finest cells) (level_of c) x
-  pub others : drop (length cells) slots ≡ drop (length cells) before
-
-pub drop_later : (m n : ℕ) (xs ys : List Address) → m ≤ n → drop m xs ≡ drop m ys → drop n xs ≡ drop n ys
-drop_later m n xs ys le e =
-    let more : m + (n - m) ≡ n = omega (arith, le) in
-    rw (← more) (sym (drop-drop (n - m) m xs) ∙ ap (drop (n - m)) e ∙ drop-drop (n - m) m ys)
 
 -- ---- the order of the slots at the end
 

@@ -1,13 +1,17 @@
 -- What another order of a list keeps.
 use Rattle.std.specs.List.{swap}
 use Rattle.std.specs.List.Sorted.{IsPermutation}
-use Rattle.std.proofs.Common.{ℕ, ◌≡◌, ◌≢◌, ◌<◌, ◌↔◌, List, ◌++◌, length, take, refl, AllPairs, Contains, arith, ◌∙◌, sym, ap, subst, inl, inr, get_or}
+use Rattle.std.proofs.Common.{ℕ, ◌≡◌, ◌≢◌, ◌<◌, ◌≤◌, ◌↔◌, Result, Ok, Err, List, ◌++◌, length, take, refl, AllPairs, Contains, arith, ◌∙◌, sym, ap, subst, inl, inr, get_or}
 use Rattle.std.proofs.lemmas.Bool.{cases_eq, cases_lt}
-use Rattle.std.proofs.lemmas.List.{take_at}
+use Rattle.std.proofs.lemmas.List.{take-append-le, take_at}
 use Rattle.std.proofs.lemmas.List.Edits.{swapped_from_swap}
 use Rattle.std.proofs.lemmas.List.Sorted.{Contains-permutation, IsPermutation-keeps, IsPermutation-sym, length_permutation, IsPermutation-swap}
+use Rattle.std.specs.Result.{IfOk}
 use Rattle.h3_index.specs.Cell.{Address}
+use Rattle.h3_index.specs.declared.error.H3Error.{H3Error}
+use Rattle.h3_set.specs.Compaction.{level_of, slots_in_use, HoldsPart, IsStarted}
 use Rattle.h3_set.specs.Coverage.{IsApart, Overlap}
+use Rattle.h3_set.specs.declared.rounds.Compaction.{Compaction}
 
 -- a relation between any two elements that does not depend on their order
 module _ (R : Address → Address → Type 0) (turned : (a b : Address) → R a b → R b a) where
@@ -59,11 +63,29 @@ members_permuted xs ys p x =
 pub copied_front : (cells copied rest : List Address) → copied ≡ cells → take (length cells) (copied ++ rest) ≡ cells
 copied_front cells copied rest is = take_at copied rest (length cells) (ap length is) ∙ is
 
--- and put into another order there
-module _ (cells copied ordered rest others : List Address) (is : copied ≡ cells) (same : IsPermutation (take (length cells) (copied ++ rest)) ordered) where
-  pub reordered : IsPermutation cells ordered
-  reordered =
-      subst (λ l. IsPermutation l ordered) (copied_front cells copied rest is) same
+-- and worked on there, as a list of their own
+module _ (cells copied worked rest others : List Address) (is : copied ≡ cells) where
+  pub reordered : IsPermutation (take (length cells) (copied ++ rest)) worked → IsPermutation cells (take (length cells) (worked ++ others))
+  reordered same =
+      let order : IsPermutation cells worked = subst (λ l. IsPermutation l worked) (copied_front cells copied rest is) same in
+      subst (IsPermutation cells) (sym (take_at worked others (length cells) (length_permutation cells worked order))) order
 
-  pub reordered_front : take (length cells) (ordered ++ others) ≡ ordered
-  reordered_front = take_at ordered others (length cells) (length_permutation cells ordered reordered)
+  -- what holds of the list and of the first cells of what became of it
+  pub in_front : (P : List Address → List Address → Type 0) (r : Result ℕ H3Error) → length worked ≡ length (take (length cells) (copied ++ rest)) → IfOk r (λ m. m ≤ length (take (length cells) (copied ++ rest))) → IfOk r (λ m. P (take (length cells) (copied ++ rest)) (take m worked)) → IfOk r (λ m. P cells (take m (worked ++ others)))
+  in_front P (Ok m) size fewer h =
+      subst (λ l. P l (take m (worked ++ others))) (copied_front cells copied rest is) (subst (P (take (length cells) (copied ++ rest))) (sym (take-append-le m worked others (omega (arith, size, fewer)))) h)
+  in_front P (Err e) size fewer h = tt
+
+  pub started_in_front : (r : Result Compaction H3Error) → length worked ≡ length (take (length cells) (copied ++ rest)) → IfOk r (IsStarted (take (length cells) (copied ++ rest)) worked) → IfOk r (IsStarted cells (worked ++ others))
+  started_in_front (Ok c) size h =
+      let s : IsStarted cells worked c = subst (λ l. IsStarted l worked c) (copied_front cells copied rest is) h in
+      let front = take-append-le (slots_in_use c) worked others (omega (arith, size, h.in_use)) in
+      record {
+        in_use = s.in_use;
+        level = s.level;
+        at_most_fifteen = s.at_most_fifteen;
+        compactable = s.compactable;
+        apart = subst IsApart (sym front) s.apart;
+        part = subst (λ l. HoldsPart l cells (level_of c) (level_of c)) (sym front) s.part;
+      }
+  started_in_front (Err e) size h = tt

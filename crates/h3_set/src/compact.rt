@@ -59,12 +59,49 @@ pub fn compact_cells(cells: &[Cell], slots: &mut [Cell]) -> Result<usize, H3Erro
     ensures overlaps { OverlapsAreFound }
     ensures repeats { OneResolutionIsApart }
 {
+    let count = cells.len();
+    slots[..count].copy_from_slice(cells);
+    compact_in_place(&mut slots[..count])
+}
+
+/// As `compact_cells`, in the memory of the cells themselves: puts the compacted list of the cells
+/// into the first of them and returns how many cells it has. Those after the list may be any cells.
+/// It allocates nothing.
+///
+/// `DuplicateInput` where cells at two places overlap. The cells are then the same, in some order.
+pub fn compact_in_place(cells: &mut [Cell]) -> Result<usize, H3Error>
+    ensures compacted { IfOk result (λ m. IsCompacted
+        (IsCovered cells.old (finest cells.old)) (finest cells.old) (take m cells.new)) }
+    ensures is { IfOk result (λ m. take m cells.new ≡ compacted cells.old) }
+    ensures fewer { IfOk result (λ m. m ≤ length cells.old) }
+    ensures refused { result_err result ≡ compaction_refusal cells.old }
+    ensures overlapping { result ≡ Err H3Error.DuplicateInput
+        → IsPermutation cells.old cells.new }
+
+    // What the list is, as at `compact_cells`.
+    ensures tops { IfOk result (λ m. (x : Address)
+        → Contains (take m cells.new) x
+        ↔ IsTop (IsCovered cells.old (finest cells.old)) (finest cells.old) x) }
+    ensures only { IfOk result (λ m. (others : List Address)
+        → IsCompacted (IsCovered cells.old (finest cells.old)) (finest cells.old) others
+        → others ≡ take m cells.new) }
+    ensures covered { IfOk result (λ _. All (λ c. resolution c ≡ finest cells.old) cells.old
+        → (x : Address) → IsCovered cells.old (finest cells.old) x ↔ Contains cells.old x) }
+    ensures stream { IfOk result (λ m. HoldsOnce (IsCovered cells.old (finest cells.old))
+        (uncompacted (take m cells.new) (finest cells.old))) }
+
+    // Laws, whatever the cells.
+    ensures unique { CompactedListsAreUnique }
+    ensures parts { ListsCompactInParts }
+    ensures overlaps { OverlapsAreFound }
+    ensures repeats { OneResolutionIsApart }
+{
     cells_form_trees();
     numbers_are_unique();
     cells_are_listed();
-    let mut compaction = Compaction::start_in_order(cells, slots)?;
+    let mut compaction = Compaction::start_in_place(cells)?;
     while compaction.level() > 0 {
-        compaction = compaction.round_in_order(slots).skip(slots);
+        compaction = compaction.round_in_order(cells).skip(cells);
     }
-    Ok(compaction.finish(slots))
+    Ok(compaction.finish(cells))
 }

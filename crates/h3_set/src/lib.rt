@@ -10,7 +10,7 @@ mod rounds;
 mod survey;
 mod uncompaction;
 
-pub use compact::compact_cells;
+pub use compact::{compact_cells, compact_in_place};
 pub use iter::Uncompact;
 pub use rounds::Compaction;
 pub use uncompaction::uncompact;

@@ -48,27 +48,25 @@ impl Compaction {
         ensures repeats { OneResolutionIsApart }
     {
         cells_form_trees();
-        Compaction::start_in_order(cells, slots)
+        let count = cells.len();
+        slots[..count].copy_from_slice(cells);
+        Compaction::start_in_place(&mut slots[..count])
     }
 
-    /// As `start`, and the slots in use are in order.
-    pub(crate) fn start_in_order(cells: &[Cell], slots: &mut [Cell]) -> Result<Compaction, H3Error>
-        requires { length cells.now ≤ length slots.old }
-        ensures refused { result_err result ≡ compaction_refusal cells.now }
-        ensures input { IsPermutation cells.now (take (length cells.now) slots.new) }
-        ensures others { drop (length cells.now) slots.new ≡ drop (length cells.now) slots.old }
-
-        ensures started { IfOk result (IsStarted cells.now slots.new) }
-        ensures in_order { IfOk result (λ c. IsInOrder (take (slots_in_use c) slots.new)) }
+    /// As `start`, where the cells are in the slots already, and the slots in use are in order.
+    pub(crate) fn start_in_place(cells: &mut [Cell]) -> Result<Compaction, H3Error>
+        ensures refused { result_err result ≡ compaction_refusal cells.old }
+        ensures input { IsPermutation cells.old cells.new }
+        ensures started { IfOk result (IsStarted cells.old cells.new) }
+        ensures in_order { IfOk result (λ c. IsInOrder (take (slots_in_use c) cells.new)) }
     {
         cells_form_trees();
         let (level, rises) = survey(cells);
-        let count = cells.len();
-        slots[..count].copy_from_slice(cells);
-        if sort_and_find_overlap(&mut slots[..count], rises) {
+        if sort_and_find_overlap(cells, rises) {
             return Err(H3Error::DuplicateInput);
         }
-        Ok(Compaction { len: count, level })
+        let len = cells.len();
+        Ok(Compaction { len, level })
     }
 
     /// The resolution of the next round, or 0 where there is none.

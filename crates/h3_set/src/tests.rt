@@ -1,4 +1,4 @@
-use crate::{Compaction, compact_cells, uncompact};
+use crate::{Compaction, compact_cells, compact_in_place, uncompact};
 use h3_index::{Cell, H3Error};
 use h3_tree::children;
 use std::alloc::{AllocError, AllocGlobal, Global};
@@ -67,6 +67,21 @@ fn assert_same_in_rounds(rt: &impl Abort, cells: &[Cell]) -> Result<(), Fail> {
     assert_eq!(rt; last.level(), 0);
     assert_eq!(rt; last.finish(&mut others), count);
     assert_eq!(rt; slots, others);
+    Ok(())
+}
+
+/// Asserts that the cells are compacted in their own memory as they are in slots, or refused with
+/// the same error.
+fn assert_same_in_place(rt: &impl Abort, cells: &[Cell]) -> Result<(), Fail> {
+    let mut slots = [Cell::new(0x80f3fffffffffff)?; 64];
+    let mut own = slots;
+    assert!(rt; cells.len() <= 64);
+    own[..cells.len()].copy_from_slice(cells);
+    let found = compact_in_place(&mut own[..cells.len()]);
+    assert_eq!(rt; found, compact_cells(cells, &mut slots));
+    if let Ok(count) = found {
+        assert!(rt; own[..count] == slots[..count]);
+    }
     Ok(())
 }
 
@@ -213,7 +228,7 @@ fn no_cells_are_compacted(rt: HostRuntime) -> Result<(), Fail> {
 }
 
 /// Asserts that a list of two cells, which overlap, is refused, and that the first two
-/// of four slots hold these then.
+/// of four slots hold these then, as the list does that is compacted in place.
 fn assert_refused(rt: &impl Abort, first: Cell, second: Cell) -> Result<(), Fail> {
     let other = Cell::new(0x80f3fffffffffff)?;
     let refused = Err(H3Error::DuplicateInput);
@@ -221,6 +236,9 @@ fn assert_refused(rt: &impl Abort, first: Cell, second: Cell) -> Result<(), Fail
     assert_eq!(rt; compact_cells(&[first, second], &mut slots), refused);
     let is_same = slots == [first, second, other, other];
     assert!(rt; is_same || slots == [second, first, other, other]);
+    let mut own = [first, second];
+    assert_eq!(rt; compact_in_place(&mut own), refused);
+    assert!(rt; own == [first, second] || own == [second, first]);
     Ok(())
 }
 
@@ -247,6 +265,27 @@ fn a_distant_ancestor_is_refused(rt: HostRuntime) -> Result<(), Fail> {
     assert_eq!(rt; compact_cells(&cells, &mut slots), refused);
     cells.reverse();
     assert_eq!(rt; compact_cells(&cells, &mut slots), refused);
+    Ok(())
+}
+
+#[test]
+fn cells_are_compacted_in_place(rt: HostRuntime) -> Result<(), Fail> {
+    let coarse = Cell::new(0x8428347ffffffff)?;
+    assert_same_in_place(&rt, &[])?;
+    assert_same_in_place(&rt, &[coarse])?;
+    assert_same_in_place(&rt, &[coarse, coarse])?;
+    let mut cells = descendants(rt.alloc(), 0x8009fffffffffff, 2)?;
+    assert_eq!(rt; cells.len(), 41);
+    assert_same_in_place(&rt, &cells)?;
+    cells.reverse();
+    cells.push(coarse)?;
+    assert_same_in_place(&rt, &cells)?;
+    cells.push(Cell::new(0x8009fffffffffff)?)?;
+    assert_same_in_place(&rt, &cells)?;
+    let _ = cells.pop();
+    assert_eq!(rt; compact_in_place(&mut cells), Ok(2));
+    assert_eq!(rt; cells.first(), Some(&Cell::new(0x8009fffffffffff)?));
+    assert_eq!(rt; cells.get(1), Some(&coarse));
     Ok(())
 }
 

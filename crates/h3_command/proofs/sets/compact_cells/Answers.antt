@@ -20,4 +20,4 @@ returns g c =
     let input = source_use g.R.Source.left g.R.Source.has_failed c.args.input.now c.read_cells.new.input in
     let out = sink_use g.W.Sink.taken g.W.Sink.has_failed c.args.out.now c.write_compacted.new.out in
     let sound = c.in_ok-cells.ensures.sound (λ is. cc is) in
-    (list, held, list_written _ list _ input _ out is short sound (rw (← c.deref-2.ensures.value) c.write_compacted.ensures))
+    (list, held, list_written _ list _ input _ out is short sound (rw (← c.deref_mut.ensures.value) c.write_compacted.ensures))
