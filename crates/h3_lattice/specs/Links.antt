@@ -28,7 +28,7 @@ is_link link = nat_lt link.0 122 && nat_lt link.1 6
 abbrev pub Links : Type 0
 Links = ℕ → Direction → ℕ × ℕ
 
--- a link as C sees it
+-- a link that is held in two bytes, as the neighbor and the turns
 abbrev pub pair_of : Link → ℕ × ℕ
 pair_of l = (l.to, l.turns)
 
