@@ -14,6 +14,7 @@ use h3_index::{Cell, H3Error};
 use h3_tree::{Children, center_child, child_at, child_pos, children, children_size, parent};
 
 /// The ancestor of a cell at a resolution, as H3's `cellToParent` returns it.
+#[inline(always)]
 pub fn cell_to_parent(index: Option<u64>, res: i32) -> Result<Cell, H3Error>
     ensures { result ≡ cell_to_parent index res }
 {
