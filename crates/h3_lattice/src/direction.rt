@@ -6,7 +6,7 @@ ghost use Rattle.h3_lattice.specs.Direction.{digit_of, direction_of, opposite, t
 
 use h3_index::Edge;
 
-/// A direction of the grid, as H3's `Direction` names them; digit 0, the centre, is not a
+/// A direction of the grid, as H3's `Direction` names them; digit 0, the center, is not a
 /// direction here.
 #[derive(Clone, Copy, Debug, PartialEq, Eq)]
 pub enum Direction {
@@ -54,7 +54,7 @@ impl Direction {
         }
     }
 
-    /// The direction of a digit: none for 0, the centre, and none above 6.
+    /// The direction of a digit: none for 0, the center, and none above 6.
     pub fn from_digit(digit: u8) -> Option<Direction>
         ensures { result ≡ direction_of digit }
     {
