@@ -11,15 +11,15 @@
 //! compacted list of the children but one of 160, in a random way that is always the same, with the children one level
 //! down in place of every tenth cell).
 
-mod texts;
-mod walks;
+pub mod texts;
+pub mod walks;
 
 use std::env;
 use std::fs;
 use std::io::{self, Read, Write};
 use texts::{Page, read_index, read_plain};
 
-const PENTAGONS: [u64; 12] = [4, 14, 24, 38, 49, 58, 63, 72, 83, 97, 107, 117];
+pub const PENTAGONS: [u64; 12] = [4, 14, 24, 38, 49, 58, 63, 72, 83, 97, 107, 117];
 
 pub fn base(cell: u64) -> u64 {
     cell >> 45 & 127
@@ -29,11 +29,11 @@ pub fn resolution(cell: u64) -> u64 {
     cell >> 52 & 15
 }
 
-fn digit(cell: u64, r: u64) -> u64 {
+pub fn digit(cell: u64, r: u64) -> u64 {
     cell >> (45 - 3 * r) & 7
 }
 
-fn with_digit(cell: u64, r: u64, digit: u64) -> u64 {
+pub fn with_digit(cell: u64, r: u64, digit: u64) -> u64 {
     cell & !(7 << (45 - 3 * r)) | digit << (45 - 3 * r)
 }
 
@@ -51,11 +51,11 @@ pub fn is_valid(cell: u64) -> bool {
     cell & unused == unused && sevens == 0 && !(leads_with_one && PENTAGONS.contains(&base(cell)))
 }
 
-fn is_pentagon(cell: u64) -> bool {
+pub fn is_pentagon(cell: u64) -> bool {
     (cell & (1 << 45) - 1) >> (3 * (15 - resolution(cell))) == 0 && PENTAGONS.contains(&base(cell))
 }
 
-fn center(cell: u64, res: u64) -> u64 {
+pub fn center(cell: u64, res: u64) -> u64 {
     let finer = res - resolution(cell) << 52;
     cell + finer + (1 << (3 * (15 - res))) - (1 << (3 * (15 - resolution(cell))))
 }
@@ -177,7 +177,7 @@ fn post_order_key(cell: u64) -> u64 {
     cell & (1 << 52) - 1
 }
 
-fn parent_at(cell: u64, res: u64) -> u64 {
+pub fn parent_at(cell: u64, res: u64) -> u64 {
     assert!(res <= resolution(cell));
     cell & !(15 << 52) | res << 52 | (1 << (3 * (15 - res))) - 1
 }
@@ -200,7 +200,7 @@ fn siblings(cells: &[u64], level: u64) -> usize {
 }
 
 /// Replaces the complete sets of siblings of a resolution by their parents, and returns how many cells there are then.
-fn merge(cells: &mut [u64], level: u64) -> usize {
+pub fn merge(cells: &mut [u64], level: u64) -> usize {
     let mut written = 0;
     let mut i = 0;
     while i < cells.len() {
@@ -213,7 +213,7 @@ fn merge(cells: &mut [u64], level: u64) -> usize {
 }
 
 /// Whether a cell comes before another one and all cells below that.
-fn is_before(cell: u64, other: u64) -> bool {
+pub fn is_before(cell: u64, other: u64) -> bool {
     post_order_key(cell) + (1 << (3 * (15 - resolution(other)))) <= post_order_key(other)
 }
 
@@ -304,13 +304,13 @@ const STEPS: [u8; 6] = [110, 11, 121, 1, 111, 12];
 /// The directions K, J, JK, I, IK and IJ turned once.
 const TURNED: [usize; 6] = [4, 2, 0, 5, 3, 1];
 
-type Links = [[Option<(u8, u8)>; 6]; 122];
+pub type Links = [[Option<(u8, u8)>; 6]; 122];
 
 fn is_hexagon(base: u8) -> bool {
     base < 122 && !PENTAGONS.contains(&u64::from(base))
 }
 
-fn turned(direction: usize, n: u8) -> usize {
+pub fn turned(direction: usize, n: u8) -> usize {
     (0..n).fold(direction, |d, _| TURNED[d])
 }
 
@@ -385,7 +385,7 @@ fn fits(links: &Links, base: u8, d: usize) -> Option<bool> {
     Some(reverses && closes)
 }
 
-fn read_table(text: &[u8]) -> Option<Links> {
+pub fn read_table(text: &[u8]) -> Option<Links> {
     let links = read_records(text)?;
     let are_good = (0..122).filter(|b| is_hexagon(*b)).all(|b| (0..6).all(|d| fits(&links, b, d) == Some(true)));
     are_good.then_some(links)
