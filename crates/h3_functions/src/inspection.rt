@@ -18,6 +18,7 @@ pub fn cell_from(index: Option<u64>) -> Result<Cell, H3Error>
 
 /// Whether an index is a valid cell, as H3's `isValidCell` returns it. `Failed` where there is no
 /// index; no other error.
+#[inline(always)]
 pub fn is_valid_cell(index: Option<u64>) -> Result<bool, H3Error>
     ensures { result ≡ is_valid_cell index }
 {
@@ -26,6 +27,7 @@ pub fn is_valid_cell(index: Option<u64>) -> Result<bool, H3Error>
 }
 
 /// The resolution of a cell, 0 to 15, as H3's `getResolution` returns it.
+#[inline(always)]
 pub fn get_resolution(index: Option<u64>) -> Result<u64, H3Error>
     ensures { result ≡ get_resolution index }
 {
@@ -34,6 +36,7 @@ pub fn get_resolution(index: Option<u64>) -> Result<u64, H3Error>
 }
 
 /// The base cell of a cell, 0 to 121, as H3's `getBaseCellNumber` returns it.
+#[inline(always)]
 pub fn get_base_cell_number(index: Option<u64>) -> Result<u64, H3Error>
     ensures { result ≡ get_base_cell_number index }
 {

@@ -3,6 +3,7 @@ use Rattle.std.specs.Int.Bits.{bit_and, and_zero_r}
 use Rattle.std.specs.Int.Count.{count_leading_zeros, leading_of_zero}
 use Rattle.std.specs.List.{list_all}
 use Rattle.std.proofs.Common.{ℕ, zero, suc, ◌≡◌, ◌≢◌, ◌+◌, ◌-◌, ◌*◌, ◌/◌, ◌%◌, ◌^◌, ◌<◌, ◌≤◌, ◌==◌, nat_lt, List, [], ◌∷◌, ◌++◌, length, take, drop, replicate, Bool, true, false, not, ◌&&◌, refl, arith, sym, ap, ◌∙◌, lit<}
+use Rattle.std.proofs.Math.Bool.{and-true}
 use Rattle.std.proofs.Math.Nat.{div-eq_of_lt, pow-suc, pow-zero, one-le-pow}
 use Rattle.std.proofs.Math.Seq.{take-append_seam, drop-append_seam}
 use Rattle.std.proofs.lemmas.Bool.{agree_below_at}
@@ -32,10 +33,6 @@ set_bits d e less few =
     let at : (e * 8 + d) % 8 ≡ d = omega (arith, less) in
     let at-2 : (e * 8 + d) / 8 ≡ e = omega (arith, less) in
     rw (at, at-2) at (agree_below_at (λ k. all_set (k % 8) (k / 8) == 0) (λ k. nat_lt (k % 8) 7) 32 (e * 8 + d) refl (omega (arith, less, few)))
-
-and-true : (b : Bool) → b && true ≡ b
-and-true true = refl
-and-true false = refl
 
 both_zero : (x y : ℕ) → y < 8 → (x * 8 + y == 0) ≡ (x == 0) && (y == 0)
 both_zero zero zero h = refl
@@ -231,7 +228,3 @@ test_passes false b d value h h-2 e = absurd cc
 
 pub test_fails : (a b d : Bool) → b && a ≡ false → false ≡ (b && a) && not d
 test_fails a b d h = rw h refl
-
-pub and-false : (b : Bool) → b && false ≡ false
-and-false true = refl
-and-false false = refl

@@ -1,6 +1,7 @@
 -- The test of a number's digits decides whether the number is a cell's.
 use Rattle.std.specs.Int.Digits.{AllBelowBase}
 use Rattle.std.proofs.Common.{ℕ, zero, suc, ◌≡◌, ◌≢◌, ◌-◌, ◌/◌, ◌^◌, ◌<◌, ◌≤◌, ◌==◌, List, [], ◌∷◌, ◌++◌, length, take, drop, replicate, Bool, true, false, cond, not, nat_lt, ◌&&◌, if◌then◌else◌, refl, arith, ◌∙◌, sym, ap, lit<}
+use Rattle.std.proofs.Math.Bool.{and-false, and-true}
 use Rattle.std.proofs.lemmas.Bool.Decides.{nat_tests}
 use Rattle.std.specs.List.{list_all}
 use Rattle.std.proofs.lemmas.Nat.{mod_below}
@@ -30,14 +31,6 @@ sevens_pass p (d ∷ ds) = by_first (d == 7) (sevens_pass p ds)
 none_deleted : (p : Bool) → not (p && false) ≡ true
 none_deleted true = refl
 none_deleted false = refl
-
-and-false : (b : Bool) → b && false ≡ false
-and-false true = refl
-and-false false = refl
-
-and-true : (b : Bool) → b && true ≡ b
-and-true true = refl
-and-true false = refl
 
 -- below 8, what is not 7 is below 7
 seven_or_less : (d : ℕ) (b : Bool) → d < 8 → (d == 7) ≡ b → nat_lt d 7 ≡ not b

@@ -2,6 +2,7 @@
 use Rattle.std.specs.Int.Bits.{bit_and, and_zero_r}
 use Rattle.std.specs.Int.Digits.{AllBelowBase}
 use Rattle.std.proofs.Common.{ℕ, zero, suc, ◌≡◌, ◌≢◌, ◌+◌, ◌-◌, ◌*◌, ◌/◌, ◌%◌, ◌^◌, ◌<◌, ◌≤◌, ◌==◌, nat_lt, ◌&&◌, not, List, [], ◌∷◌, ◌++◌, length, take, drop, get_or, Bool, true, false, refl, arith, ◌∙◌, sym, ap, if◌then◌else◌, lit<}
+use Rattle.std.proofs.Math.Bool.{and-false}
 use Rattle.std.proofs.Math.Nat.{mul-div_cancel, one-le-pow, pow-suc}
 use Rattle.std.proofs.Math.Seq.{drop-cons}
 use Rattle.std.proofs.lemmas.Bool.{and_parts}
@@ -135,10 +136,6 @@ none_last c m u h other six =
 
 pub none_deleted : (c : Address) → is_pentagon c ≡ true → has_raised c ≡ false
 none_deleted c p = rw p (and-false (nat_lt (last_digit c) 6))
-  where
-    and-false : (b : Bool) → b && false ≡ false
-    and-false true = refl
-    and-false false = refl
 
 -- ---- where there is one
 

@@ -14,15 +14,26 @@ mod siblings;
 use crate::error::H3Error;
 use std::marker::Model;
 
+/// A bit for each base cell that is a pentagon.
+const PENTAGON_BASES: u128 = 1 << 4
+    | 1 << 14
+    | 1 << 24
+    | 1 << 38
+    | 1 << 49
+    | 1 << 58
+    | 1 << 63
+    | 1 << 72
+    | 1 << 83
+    | 1 << 97
+    | 1 << 107
+    | 1 << 117;
+
 /// Whether a base cell is one of the twelve pentagons.
 #[inline(always)]
 pub fn is_pentagon_base(b: u8) -> bool
     ensures { result ≡ is_pentagon_base b }
 {
-    matches!(
-        b,
-        4 | 14 | 24 | 38 | 49 | 58 | 63 | 72 | 83 | 97 | 107 | 117
-    )
+    b < 122 && PENTAGON_BASES >> b & 1 == 1
 }
 
 /// Whether none of the last fifteen octal digits of a number is 7.
@@ -45,17 +56,20 @@ fn leads_with_one(digits: u64) -> bool
     digits.leading_zeros() % 3 == 0
 }
 
-/// Whether the fifteen digits of a number are those of a cell: 0 to 6 up to the resolution, and 7
-/// above. In a pentagon base cell the first that is not 0 is not 1.
+/// Whether the fifteen digits of a number are those of a cell in a base cell: 0 to 6 up to the
+/// resolution, and 7 above. In a pentagon base cell the first that is not 0 is not 1.
 #[inline(always)]
-fn has_valid_digits(raw: u64, resolution: u64, pentagon_base: bool) -> bool
+fn has_valid_digits(raw: u64, resolution: u64, base: u8) -> bool
     requires { resolution < 16 }
-    ensures { result ≡ are_digits pentagon_base resolution (digits_in raw) }
+    ensures { result ≡ are_digits (is_pentagon_base base) resolution (digits_in raw) }
 {
     let places = 3 * (15 - resolution);
     let sevens: u64 = (1 << places) - 1;
     let digits = (raw & 0x1fff_ffff_ffff) >> places;
-    raw & sevens == sevens && has_no_seven(digits) && !(pentagon_base && leads_with_one(digits))
+    // The digits alone decide for most numbers.
+    raw & sevens == sevens
+        && has_no_seven(digits)
+        && !(leads_with_one(digits) && is_pentagon_base(base))
 }
 
 /// A valid H3 cell. Cells are ordered by their numbers: by resolution, then base cell, then digits.
@@ -91,10 +105,7 @@ impl Cell {
     {
         let resolution = raw >> 52 & 15;
         let base = raw >> 45 & 127;
-        if raw >> 56 == 8
-            && base < 122
-            && has_valid_digits(raw, resolution, is_pentagon_base(base as u8))
-        {
+        if raw >> 56 == 8 && base < 122 && has_valid_digits(raw, resolution, base as u8) {
             Ok(Cell { raw })
         } else {
             Err(H3Error::CellInvalid)

@@ -24,15 +24,15 @@ valid m r p mode small e f h =
     code_valid m mode (rw (base m) at small) (code m r p e f ∙ h)
 
 pub invariant_of-result : goal.invariant_of-result
-invariant_of-result c = valid c.args.raw _ _ c.if-raw-eq8.true c.if-base-lt122.true c.is_pentagon_base.ensures c.has_valid_digits.ensures c.if-has_valid_digits.true
+invariant_of-result c = valid c.args.raw _ _ c.if-raw-eq8.true c.if-base-lt122.true refl c.has_valid_digits.ensures c.if-has_valid_digits.true
 
 pub returns-then-has_valid_digits-clause-read : goal.returns-then-has_valid_digits-clause-read
 returns-then-has_valid_digits-clause-read c =
-    sym (cell_in-some _ (valid c.args.raw _ _ c.if-raw-eq8.true c.if-base-lt122.true c.is_pentagon_base.ensures c.has_valid_digits.ensures c.if-has_valid_digits.true))
+    sym (cell_in-some _ (valid c.args.raw _ _ c.if-raw-eq8.true c.if-base-lt122.true refl c.has_valid_digits.ensures c.if-has_valid_digits.true))
 
 pub returns-then-has_valid_digits-clause-accepted : goal.returns-then-has_valid_digits-clause-accepted
 returns-then-has_valid_digits-clause-accepted c =
-    let h = valid c.args.raw _ _ c.if-raw-eq8.true c.if-base-lt122.true c.is_pentagon_base.ensures c.has_valid_digits.ensures c.if-has_valid_digits.true in
+    let h = valid c.args.raw _ _ c.if-raw-eq8.true c.if-base-lt122.true refl c.has_valid_digits.ensures c.if-has_valid_digits.true in
     (h.valid, h.is)
 
 pub returns-else-raw-eq8 : goal.returns-else-raw-eq8
@@ -41,7 +41,7 @@ returns-else-raw-eq8 c =
     let none : (cell : Address) → IsCell cell → number_of cell ≢ c.args.raw = λ cell h e.
     let fields = code_of c.args.raw cell h e in
     elim c.else-raw-eq8.branch [
-      | else-raw-eq8-via-then-raw-eq8+then-base-lt122+else-has_valid_digits w ↦ false≢true (sym w.if-has_valid_digits.false ∙ sym (code c.args.raw _ _ w.is_pentagon_base.ensures w.has_valid_digits.ensures) ∙ fields.2)
+      | else-raw-eq8-via-then-raw-eq8+then-base-lt122+else-has_valid_digits w ↦ false≢true (sym w.if-has_valid_digits.false ∙ sym (code c.args.raw _ _ refl w.has_valid_digits.ensures) ∙ fields.2)
       | else-raw-eq8-via-then-raw-eq8+else-base-lt122 w ↦ omega (arith, fields.1, w.if-base-lt122.false, base c.args.raw)
       | else-raw-eq8-via-else-raw-eq8 w ↦ w.if-raw-eq8.false fields.0
     ] in
