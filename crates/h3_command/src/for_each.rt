@@ -12,11 +12,18 @@ use h3_functions::{
     get_base_cell_number, get_directed_edge_origin, get_resolution, is_pentagon, is_res_class_iii,
     is_valid_cell, is_valid_directed_edge, origin_to_directed_edges,
 };
-use h3_index::H3Error;
+use h3_index::{CellLines, H3Error};
 use h3_lines::{ANSWER, BLOCK, IndexFunction, Line, put_result};
 
 /// Puts a line for each edge that leaves a cell, at most six, into a block from the byte `at` on.
-fn put_edges(index: Option<u64>, block: &mut [u8; BLOCK], at: usize) -> Result<usize, H3Error>
+// Where it is inlined, the place of its iterator is cleared for each line, whatever the function.
+#[inline(never)]
+fn put_edges(
+    index: Option<u64>,
+    lines: &mut CellLines,
+    block: &mut [u8; BLOCK],
+    at: usize,
+) -> Result<usize, H3Error>
     requires room { at + ANSWER ≤ BLOCK }
     ensures end { IfOk result (λ end. end ≤ at + ANSWER) }
     ensures ok { IfOk result (λ end.
@@ -27,7 +34,7 @@ fn put_edges(index: Option<u64>, block: &mut [u8; BLOCK], at: usize) -> Result<u
 {
     let mut end = at;
     for edge in origin_to_directed_edges(index)? {
-        end = edge.put(block, end);
+        end = edge.put(lines, block, end);
     }
     Ok(end)
 }
@@ -39,22 +46,33 @@ impl IndexFunction for CellFunction {
     fn put(
         &self,
         index: Option<u64>,
+        lines: &mut CellLines,
         block: &mut [u8; BLOCK],
         at: usize,
     ) -> Result<usize, H3Error> {
         match *self {
-            IsValidCell => put_result(is_valid_cell(index), block, at),
-            IsValidDirectedEdge => put_result(is_valid_directed_edge(index), block, at),
-            GetResolution => put_result(get_resolution(index), block, at),
-            GetBaseCellNumber => put_result(get_base_cell_number(index), block, at),
-            IsPentagon => put_result(is_pentagon(index), block, at),
-            IsResClassIII => put_result(is_res_class_iii(index), block, at),
-            CellToParent { res } => put_result(cell_to_parent(index, res), block, at),
-            CellToCenterChild { res } => put_result(cell_to_center_child(index, res), block, at),
-            CellToChildrenSize { res } => put_result(cell_to_children_size(index, res), block, at),
-            CellToChildPos { res } => put_result(cell_to_child_pos(index, res), block, at),
-            GetDirectedEdgeOrigin => put_result(get_directed_edge_origin(index), block, at),
-            OriginToDirectedEdges => put_edges(index, block, at),
+            IsValidCell => put_result(is_valid_cell(index), lines, block, at),
+            IsValidDirectedEdge => put_result(is_valid_directed_edge(index), lines, block, at),
+            GetResolution => put_result(get_resolution(index), lines, block, at),
+            GetBaseCellNumber => put_result(get_base_cell_number(index), lines, block, at),
+            IsPentagon => put_result(is_pentagon(index), lines, block, at),
+            IsResClassIII => put_result(is_res_class_iii(index), lines, block, at),
+            CellToParent { res } => put_result(cell_to_parent(index, res), lines, block, at),
+            CellToCenterChild { res } => put_result(
+                cell_to_center_child(index, res),
+                lines,
+                block,
+                at,
+            ),
+            CellToChildrenSize { res } => put_result(
+                cell_to_children_size(index, res),
+                lines,
+                block,
+                at,
+            ),
+            CellToChildPos { res } => put_result(cell_to_child_pos(index, res), lines, block, at),
+            GetDirectedEdgeOrigin => put_result(get_directed_edge_origin(index), lines, block, at),
+            OriginToDirectedEdges => put_edges(index, lines, block, at),
         }
     }
 }

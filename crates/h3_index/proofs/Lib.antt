@@ -1,6 +1,7 @@
 pub mod AncestorLaws
 pub mod CellLaws
 pub mod CellTestLaws
+pub mod CellLineLaws
 pub mod ChainLaws
 pub mod CountLaws
 pub mod DescendantLaws

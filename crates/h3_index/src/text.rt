@@ -7,11 +7,13 @@ ghost use Rattle.h3_index.specs.Digits.{last_digits};
 ghost use Rattle.h3_index.specs.Text.{without_leading_zeros, is_blank, without_leading_blanks, without_trailing_blanks, without_prefix, parsed_number, parsed_index, text_of, trimmed};
 
 mod halves;
+mod lines;
 mod plain;
 
 use crate::error::H3Error;
 use arrayvec::ArrayString;
 use halves::characters;
+pub use lines::CellLines;
 pub use plain::read_plain;
 use std::str;
 

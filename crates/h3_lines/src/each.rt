@@ -15,7 +15,7 @@ use crate::line::{BLOCK, Line, ROOM};
 use crate::refusal::Refusal;
 use crate::splitting::{LONGEST_LINE, LineTaker, PAGE, READS, take_lines};
 use crate::write::{write_all, write_answer};
-use h3_index::{CountedReader, H3Error, Sink, Source, is_blank_text, read_index};
+use h3_index::{CellLines, CountedReader, H3Error, Sink, Source, is_blank_text, read_index};
 use std::alloc::Global;
 
 /// The room that the answer to a line may take.
@@ -28,7 +28,13 @@ pub trait IndexFunction {
 
     /// Puts the answer into a block from the byte `at` on, and returns where it ends; or returns
     /// its error. The bytes after it may change too.
-    fn put(&self, index: Option<u64>, block: &mut [u8; BLOCK], at: usize) -> Result<usize, H3Error>
+    fn put(
+        &self,
+        index: Option<u64>,
+        lines: &mut CellLines,
+        block: &mut [u8; BLOCK],
+        at: usize,
+    ) -> Result<usize, H3Error>
         requires room { at + ANSWER ≤ BLOCK }
         ensures end { IfOk result (λ end. end ≤ at + ANSWER) }
         ensures ok { IfOk result (λ end.
@@ -42,6 +48,7 @@ pub trait IndexFunction {
 #[inline(always)]
 pub fn put_result<L: Line + Drop>(
     value: Result<L, H3Error>,
+    lines: &mut CellLines,
     block: &mut [u8; BLOCK],
     at: usize,
 ) -> Result<usize, H3Error>
@@ -52,7 +59,7 @@ pub fn put_result<L: Line + Drop>(
     ensures err { IfErr result (λ e. printed L.line_of value ≡ refused e) }
     ensures kept { IfErr result (λ e. take at block.new ≡ take at block.old) }
 {
-    Ok(value?.put(block, at))
+    Ok(value?.put(lines, block, at))
 }
 
 /// The index that a line parses as, `None` where it is blank; or the error of a line that is too
@@ -124,6 +131,7 @@ fn make_room<W: Sink>(out: &mut W, block: &mut [u8; BLOCK], end: usize) -> Resul
 #[inline(always)]
 fn answer_index<W: Sink, F: IndexFunction>(
     out: &mut W,
+    lines: &mut CellLines,
     block: &mut [u8; BLOCK],
     end: usize,
     number: u64,
@@ -143,7 +151,7 @@ fn answer_index<W: Sink, F: IndexFunction>(
         (sink_use W.taken W.has_failed out.old out.new)) }
 {
     let at = make_room(out, block, end)?;
-    match function.put(index, block, at) {
+    match function.put(index, lines, block, at) {
         Ok(last) => Ok(last),
         Err(error) => Err(refuse(out, &block[..at], number, error)),
     }
@@ -155,6 +163,7 @@ struct Answers<'a, 'f, W, F> {
     out: &'a mut W,
     function: &'f F,
     number: u64,
+    lines: CellLines,
     block: [u8; BLOCK],
     end: usize,
     ghost within: { end ≤ BLOCK },
@@ -181,6 +190,7 @@ impl<'a, 'f, W: Sink, F: IndexFunction> LineTaker for Answers<'a, 'f, W, F> {
             Ok(Some(index)) => {
                 self.end = answer_index(
                     self.out,
+                    &mut self.lines,
                     &mut self.block,
                     self.end,
                     self.number,
@@ -202,6 +212,7 @@ impl<'a, 'f, W: Sink, F: IndexFunction> LineTaker for Answers<'a, 'f, W, F> {
     fn take_index(&mut self, index: u64) -> Result<(), Refusal> {
         self.end = answer_index(
             self.out,
+            &mut self.lines,
             &mut self.block,
             self.end,
             self.number,
@@ -271,6 +282,7 @@ fn answer_pages<R: Source, W: Sink, F: IndexFunction>(
         out: &mut *out,
         function,
         number: 1,
+        lines: CellLines::new(),
         block: [0; BLOCK],
         end: 0,
     };

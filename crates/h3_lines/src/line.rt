@@ -3,7 +3,7 @@
 ghost use Rattle.std.specs.Prelude.{◌≡◌, ◌+◌, ◌<◌, ◌≤◌, ◌++◌, ◌∷◌, [], ℕ, List, length, take};
 ghost use Rattle.h3_lines.specs.Answer.{cell_line, edge_line, number_line, ring_line, truth_line};
 
-use h3_index::{Cell, Edge, index_bytes};
+use h3_index::{Cell, CellLines, Edge, index_bytes};
 use itoa::Buffer;
 
 /// The room that a line may take, its line feed included.
@@ -18,8 +18,9 @@ pub trait Line {
     ghost line_of: { Self → List ℕ };
 
     /// Puts the line into a block from the byte `at` on, and returns where it ends. The bytes after
-    /// it may change too.
-    fn put(&self, block: &mut [u8; BLOCK], at: usize) -> usize
+    /// it may change too. A cell's line is put faster where it is near to that of the cell before,
+    /// which `lines` has put.
+    fn put(&self, lines: &mut CellLines, block: &mut [u8; BLOCK], at: usize) -> usize
         requires room { at + ROOM ≤ BLOCK }
         ensures end { result ≤ at + ROOM }
         ensures some { at < result }
@@ -45,7 +46,7 @@ impl Line for bool {
     ghost line_of = { truth_line };
 
     #[inline(always)]
-    fn put(&self, block: &mut [u8; BLOCK], at: usize) -> usize {
+    fn put(&self, _: &mut CellLines, block: &mut [u8; BLOCK], at: usize) -> usize {
         let (text, count) = if *self { (b"true ", 4) } else { (b"false", 5) };
         put_ended(block, at, text, count, b'\n')
     }
@@ -55,7 +56,7 @@ impl Line for u64 {
     ghost line_of = { number_line };
 
     #[inline(always)]
-    fn put(&self, block: &mut [u8; BLOCK], at: usize) -> usize {
+    fn put(&self, _: &mut CellLines, block: &mut [u8; BLOCK], at: usize) -> usize {
         if *self < 10 {
             return put_ended(block, at, &[b'0' + *self as u8], 1, b'\n');
         }
@@ -69,9 +70,8 @@ impl Line for Cell {
     ghost line_of = { cell_line };
 
     #[inline(always)]
-    fn put(&self, block: &mut [u8; BLOCK], at: usize) -> usize {
-        let (bytes, count) = index_bytes(self.raw());
-        put_ended(block, at, &bytes, count, b'\n')
+    fn put(&self, lines: &mut CellLines, block: &mut [u8; BLOCK], at: usize) -> usize {
+        lines.put(*self, block, at)
     }
 }
 
@@ -79,7 +79,7 @@ impl Line for Edge {
     ghost line_of = { edge_line };
 
     #[inline(always)]
-    fn put(&self, block: &mut [u8; BLOCK], at: usize) -> usize {
+    fn put(&self, _: &mut CellLines, block: &mut [u8; BLOCK], at: usize) -> usize {
         let (text, count) = index_bytes(self.raw());
         put_ended(block, at, &text, count, b'\n')
     }
@@ -90,11 +90,12 @@ impl Line for (Cell, u32) {
     ghost line_of = { ring_line };
 
     #[inline(always)]
-    fn put(&self, block: &mut [u8; BLOCK], at: usize) -> usize {
-        let (bytes, count) = index_bytes(self.0.raw());
-        let after_cell = put_ended(block, at, &bytes, count, b' ');
+    fn put(&self, lines: &mut CellLines, block: &mut [u8; BLOCK], at: usize) -> usize {
+        // in the place of the line feed
+        let end = lines.put(self.0, block, at) - 1;
+        block[end] = b' ';
         let mut buffer = Buffer::new();
         let ring = buffer.format(self.1);
-        put_ended(block, after_cell, ring.as_bytes(), ring.len(), b'\n')
+        put_ended(block, end + 1, ring.as_bytes(), ring.len(), b'\n')
     }
 }

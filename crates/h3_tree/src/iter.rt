@@ -11,7 +11,8 @@ use h3_index::Cell;
 use h3_index::laws::{descendants_are_listed, paths_are_chains};
 
 /// The next cell of the same base cell and resolution; after the last one, the last one itself.
-#[inline(always)]
+// It is called once in seven cells, and inlined it would take registers from the others.
+#[inline(never)]
 fn following(cell: Cell) -> Cell
     ensures { result ≡ following cell }
 {

@@ -1,0 +1,122 @@
+//! The lines of cells, one after another.
+
+ghost use Rattle.std.specs.Prelude.{◌≡◌, ◌+◌, ◌-◌, ◌*◌, ◌/◌, ◌≤◌, ◌++◌, ◌∷◌, ◌^◌, [], length, map, min, take, true};
+ghost use Rattle.std.specs.Char.{digit_char};
+ghost use Rattle.h3_index.specs.Cell.{number_of, resolution};
+ghost use Rattle.h3_index.specs.CellNumber.{is_cell};
+ghost use Rattle.h3_index.specs.Digits.{last_digits};
+ghost use Rattle.h3_index.specs.Text.{text_of};
+
+use super::digits_of;
+use super::halves::characters;
+use crate::cell::Cell;
+
+/// The bytes of a cell's line: the fifteen digits of its text, and a line feed.
+const LINE: usize = 16;
+
+/// The last four hexadecimal digits of a number, in lower case.
+#[inline(always)]
+fn last_four(number: u64) -> [u8; 4]
+    ensures { result ≡ map digit_char (last_digits 16 4 number) }
+{
+    let eight = characters(number & 0xffff).to_be_bytes();
+    [eight[4], eight[5], eight[6], eight[7]]
+}
+
+/// Puts the texts of cells, one after another, each with a line feed. It holds the line of one of
+/// them: where the next cell differs from that one in four digits of the text alone, as a sibling
+/// does and most cells nearby, these four are made anew, and no others.
+#[derive(Debug, Drop)]
+pub struct CellLines {
+    cell: Cell,
+    line: [u8; LINE],
+    /// How many digits come after the four.
+    after: usize,
+    /// The number without the four and those after them.
+    high: u64,
+    ghost valid: { is_cell cell ≡ true },
+    ghost line_is: { line ≡ text_of (number_of cell) ++ 10 ∷ [] },
+    ghost after_is: { after ≡ min (3 * (15 - resolution cell) / 4) 9 },
+    ghost high_is: { high ≡ number_of cell / 2 ^ (4 * after + 16) },
+}
+
+impl CellLines {
+    /// For cells of which the first is likely to be near to this one.
+    // Inlined, it would take registers from each line, and its bytes would be copied one by one.
+    #[inline(never)]
+    fn near(cell: Cell) -> CellLines
+        ensures { result.cell ≡ cell }
+    {
+        // The digits of the resolution are not among the four.
+        let after = usize::from(3 * (15 - cell.resolution()) / 4).min(9);
+        // the number without the zero in front
+        let mut line = digits_of(cell.raw() << 4);
+        line[LINE - 1] = b'\n';
+        CellLines {
+            cell,
+            line,
+            after,
+            high: cell.raw() >> (4 * after + 16),
+        }
+    }
+
+    /// For any cells.
+    pub fn new() -> CellLines {
+        CellLines::near(Cell::in_base(0))
+    }
+
+    /// Puts the text of a cell and a line feed into bytes from `at` on, and returns where they end.
+    #[inline(always)]
+    pub fn put(&mut self, cell: Cell, bytes: &mut [u8], at: usize) -> usize
+        requires room { at + LINE ≤ length bytes.old }
+        ensures end { result ≡ at + LINE }
+        ensures line { take result bytes.new
+            ≡ take at bytes.old ++ (text_of (number_of cell) ++ 10 ∷ []) }
+        ensures text { take (at + 15) bytes.new ≡ take at bytes.old ++ text_of (number_of cell) }
+    {
+        if cell.raw() >> (4 * self.after + 16) != self.high {
+            *self = CellLines::near(cell);
+        }
+        bytes[at..at + LINE].copy_from_slice(&self.line);
+        let four = at + LINE - 5 - self.after;
+        bytes[four..four + 4].copy_from_slice(&last_four(cell.raw() >> (4 * self.after)));
+        at + LINE
+    }
+}
+
+#[cfg(test)]
+mod tests {
+    use super::CellLines;
+    use crate::Cell;
+    use std::test::Fail;
+
+    #[test]
+    fn lines_are_put_one_after_another(rt: HostRuntime) -> Result<(), Fail> {
+        // a cell twice, siblings, a cousin, finer cells, those of base cells, a pentagon's
+        let cells: [(u64, &[u8]); 15] = [
+            (0x85283473fffffff, b"85283473fffffff\n"),
+            (0x85283473fffffff, b"85283473fffffff\n"),
+            (0x85283477fffffff, b"85283477fffffff\n"),
+            (0x85283463fffffff, b"85283463fffffff\n"),
+            (0x8528340ffffffff, b"8528340ffffffff\n"),
+            (0x862834707ffffff, b"862834707ffffff\n"),
+            (0x862834777ffffff, b"862834777ffffff\n"),
+            (0x8f2834700000000, b"8f2834700000000\n"),
+            (0x8f2834700000006, b"8f2834700000006\n"),
+            (0x8f2834700000010, b"8f2834700000010\n"),
+            (0x8001fffffffffff, b"8001fffffffffff\n"),
+            (0x80f3fffffffffff, b"80f3fffffffffff\n"),
+            (0x81083ffffffffff, b"81083ffffffffff\n"),
+            (0x8108bffffffffff, b"8108bffffffffff\n"),
+            (0x85283473fffffff, b"85283473fffffff\n"),
+        ];
+        let mut lines = CellLines::new();
+        let mut bytes = [b'.'; 20];
+        for (raw, line) in cells {
+            let end = lines.put(Cell::new(raw)?, &mut bytes, 3);
+            assert_eq!(rt; &bytes[..3], b"...".as_slice());
+            assert_eq!(rt; &bytes[3..end], line);
+        }
+        Ok(())
+    }
+}
