@@ -99,22 +99,8 @@ fn member_at(position: u64, cell: Cell, r: u8) -> Cell
     member
 }
 
-/// The position of a cell among the descendants of its ancestor at a resolution.
-fn position_below(cell: Cell, ancestor_res: u8) -> u64
-    requires not_finer { ancestor_res ≤ resolution cell }
-    ensures { result ≡ position_under (cut cell ancestor_res) cell }
-{
-    descendants_are_known();
-    cuts_are_cells();
-    let own = cell.resolution();
-    let mut position: u64 = 0;
-    for level in ancestor_res..own {
-        position += before_own(cell.cut(level + 1), own);
-    }
-    position
-}
-
-/// The same where the ancestor is a hexagon: the digits below it, as a number in base 7.
+/// The position of a cell among the descendants of its ancestor at a resolution, which is a
+/// hexagon: the digits below it, as a number in base 7.
 fn position_below_hexagon(cell: Cell, ancestor_res: u8) -> u64
     requires not_finer { ancestor_res ≤ resolution cell }
     requires hexagon { is_pentagon (cut cell ancestor_res) ≡ false }
@@ -125,6 +111,24 @@ fn position_below_hexagon(cell: Cell, ancestor_res: u8) -> u64
     let mut position: u64 = 0;
     for level in ancestor_res..cell.resolution() {
         position = 7 * position + u64::from(cell.digit(level + 1));
+    }
+    position
+}
+
+/// The position of a cell among the descendants of its ancestor at a resolution.
+fn position_below(cell: Cell, ancestor_res: u8) -> u64
+    requires not_finer { ancestor_res ≤ resolution cell }
+    ensures { result ≡ position_under (cut cell ancestor_res) cell }
+{
+    descendants_are_known();
+    cuts_are_cells();
+    let own = cell.resolution();
+    let mut position: u64 = 0;
+    for level in ancestor_res..own {
+        if !cell.cut(level).is_pentagon() {
+            return position + position_below_hexagon(cell, level);
+        }
+        position += before_own(cell.cut(level + 1), own);
     }
     position
 }
