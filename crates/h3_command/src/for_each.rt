@@ -16,7 +16,7 @@ use h3_index::{CellLines, H3Error};
 use h3_lines::{ANSWER, BLOCK, IndexFunction, Line, put_result};
 
 /// Puts a line for each edge that leaves a cell, at most six, into a block from the byte `at` on.
-// Where it is inlined, the place of its iterator is cleared for each line, whatever the function.
+// Inlined, the place of its iterator would be cleared for each line, whatever the function.
 #[inline(never)]
 fn put_edges(
     index: Option<u64>,

@@ -24,13 +24,13 @@ fn last_four(number: u64) -> [u8; 4]
 }
 
 /// Puts the texts of cells, one after another, each with a line feed. It holds the line of one of
-/// them: where the next cell differs from that one in four digits of the text alone, as a sibling
-/// does and most cells nearby, these four are made anew, and no others.
+/// them: where the text of the next cell differs from it in no digits but a certain four, which
+/// hold the last of the cell's own digits, these four alone are made anew.
 #[derive(Debug, Drop)]
 pub struct CellLines {
     cell: Cell,
     line: [u8; LINE],
-    /// How many digits come after the four.
+    /// How many hexadecimal digits come after the four.
     after: usize,
     /// The number without the four and those after them.
     high: u64,
@@ -47,7 +47,7 @@ impl CellLines {
     fn near(cell: Cell) -> CellLines
         ensures { result.cell ≡ cell }
     {
-        // The digits of the resolution are not among the four.
+        // The hexadecimal digit that is the resolution is not among the four.
         let after = usize::from(3 * (15 - cell.resolution()) / 4).min(9);
         // the number without the zero in front
         let mut line = digits_of(cell.raw() << 4);
@@ -60,12 +60,13 @@ impl CellLines {
         }
     }
 
-    /// For any cells.
+    /// Any cell may come first.
     pub fn new() -> CellLines {
         CellLines::near(Cell::in_base(0))
     }
 
     /// Puts the text of a cell and a line feed into bytes from `at` on, and returns where they end.
+    /// The bytes after them may change too.
     #[inline(always)]
     pub fn put(&mut self, cell: Cell, bytes: &mut [u8], at: usize) -> usize
         requires room { at + LINE ≤ length bytes.old }
