@@ -1,7 +1,7 @@
 -- The lines of two cells that differ in four digits alone.
 use Rattle.std.specs.Char.{digit_char}
 use Rattle.std.specs.Int.Digits.{number_from_digits}
-use Rattle.std.proofs.Common.{ℕ, zero, suc, ◌≡◌, ◌+◌, ◌-◌, ◌*◌, ◌/◌, ◌%◌, ◌^◌, ◌<◌, ◌≤◌, List, [], ◌∷◌, ◌++◌, length, min, set, take, drop, map, refl, arith, sym, ap, ◌∙◌, lit<, inr}
+use Rattle.std.proofs.Common.{ℕ, zero, suc, ◌≡◌, ◌+◌, ◌-◌, ◌*◌, ◌/◌, ◌%◌, ◌^◌, ◌<◌, ◌≤◌, List, [], ◌∷◌, ◌++◌, length, min, set, take, drop, map, arith, sym, ap, ◌∙◌, lit<, inr}
 use Rattle.std.proofs.Math.Nat.{div-div-eq-div-mul, one-le-pow}
 use Rattle.std.proofs.Math.Seq.{drop-append-add, drop-append_seam, take-append-add, take-append_seam}
 use Rattle.std.proofs.lemmas.List.{append-nil, append_assoc, drop-append-le, length-append, length-drop, length-map, length-take-le, map-append, length-set, take-append-drop, take-append-le, take_all, take_more_set}

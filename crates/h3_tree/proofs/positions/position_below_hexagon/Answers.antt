@@ -1,5 +1,4 @@
 use Rattle.std.proofs.Common.{◌≡◌, ◌+◌, ◌-◌, ◌*◌, arith, ap, ◌∙◌, slice_index_or}
-use Rattle.h3_index.specs.Descendants.{cut}
 use Rattle.h3_tree.proofs.WalkLaws.{IsInSevens, sevens_end, sevens_small, sevens_step}
 use Rattle.h3_tree.proofs.positions.position_below_hexagon.Goals as goal
 

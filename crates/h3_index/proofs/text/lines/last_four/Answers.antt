@@ -1,4 +1,4 @@
-use Rattle.std.proofs.Common.{◌≡◌, ◌∙◌, ap, map, List, ℕ, [], ◌∷◌, slice_index_or}
+use Rattle.std.proofs.Common.{◌∙◌, ap, map, List, ℕ, [], ◌∷◌, slice_index_or}
 use Rattle.std.specs.Char.{digit_char}
 use Rattle.std.specs.Int.{w64, to_be_bytes}
 use Rattle.std.proofs.lemmas.Nat.{and_mask}
