@@ -18,7 +18,7 @@ use Rattle.h3_index.proofs.WriteLaws.{rest_is, text_moved}
 abbrev pub fifteen : ℕ → List ℕ
 fifteen v = map digit_char (last_digits 16 15 v)
 
-pub cell_text : (c : Address) → IsCell c → text_of (number_of c) ≡ fifteen (number_of c)
+cell_text : (c : Address) → IsCell c → text_of (number_of c) ≡ fifteen (number_of c)
 unfolding text_of
 cell_text c h =
     let mode : number_of c / 2 ^ 56 ≡ 8 = mode-number_of c h in
@@ -29,7 +29,7 @@ length-fifteen : (v : ℕ) → length (fifteen v) ≡ 15
 length-fifteen v = length-map (last_digits 16 15 v) digit_char ∙ length-last_digits 16 15 v
 
 -- moved up by one digit, the number has its text in front
-pub text_in_front : (c : Address) → IsCell c → take 15 (map digit_char (last_digits 16 16 (number_of c * 2 ^ 4 % 2 ^ 64))) ≡ text_of (number_of c)
+text_in_front : (c : Address) → IsCell c → take 15 (map digit_char (last_digits 16 16 (number_of c * 2 ^ 4 % 2 ^ 64))) ≡ text_of (number_of c)
 text_in_front c h =
     let mode : number_of c / 2 ^ 56 ≡ 8 = mode-number_of c h in
     let small : number_of c < 2 ^ 60 = number_small c h in
@@ -103,7 +103,7 @@ drop_front v m n sum =
     ap (drop 4) first
 
 -- the text of the one is that of the other but for four digits
-pub four_differ : (c d : Address) (m : ℕ) → IsCell c → IsCell d → m + (4 + digits_after c) ≡ 15
+four_differ : (c d : Address) (m : ℕ) → IsCell c → IsCell d → m + (4 + digits_after c) ≡ 15
     → number_of d / 2 ^ (4 * digits_after c + 16) ≡ number_of c / 2 ^ (4 * digits_after c + 16)
     → text_of (number_of d) ≡ take m (text_of (number_of c)) ++ (map digit_char (last_digits 16 4 (number_of d / 2 ^ (4 * digits_after c))) ++ drop 4 (drop m (text_of (number_of c))))
 four_differ c d m h k sum same =

@@ -27,7 +27,8 @@ pub trait IndexFunction {
     ghost answer_of: { Self → Option ℕ → Answer };
 
     /// Puts the answer into a block from the byte `at` on, and returns where it ends; or returns
-    /// its error. The bytes after it may change too.
+    /// its error. The bytes after it may change too. The lines of cells are put by `lines`, as
+    /// `Line::put` puts them.
     fn put(
         &self,
         index: Option<u64>,
