@@ -1,11 +1,11 @@
 -- Eight hexadecimal digits gathered from the bytes of a word.
 use Rattle.std.specs.Char.{digit_char}
-use Rattle.std.specs.Int.Bits.{bit_and, bit_or, or_zero_l, or_zero_r}
+use Rattle.std.specs.Int.Bits.{bit_and, bit_or, and_zero_r, or_zero_l, or_zero_r}
 use Rattle.std.specs.Int.Digits.{number_from_digits}
 use Rattle.std.proofs.Common.{ℕ, zero, suc, ◌≡◌, ◌+◌, ◌-◌, ◌*◌, ◌/◌, ◌%◌, ◌^◌, ◌<◌, ◌≤◌, ◌==◌, nat_lt, ◌||◌, not, map, true, refl, arith, sym, ap, ◌∙◌, lit<, eqb-true, ltb-true}
 use Rattle.std.proofs.Math.Nat.{mod-eq_of_lt, pow-suc}
 use Rattle.std.proofs.lemmas.Bool.{agree_below_at}
-use Rattle.std.proofs.lemmas.Nat.{and_block, or_block, and_mask, mod_below, div_below, or_lt, pow_pos, shr_split, div-mul-add, mod-mul-add}
+use Rattle.std.proofs.lemmas.Nat.{and_assoc, and_block, and_le_r, or_block, and_mask, mod_below, div_below, or_lt, pow_pos, shr_split, div-mul-add, mod-mul-add}
 use Rattle.h3_index.specs.Digits.{last_digits}
 use Rattle.h3_index.specs.Text.{HoldsHalf}
 use Rattle.h3_index.proofs.SpreadLaws.{packed, packed_digits, packed_map, packed_sum, packed_times, packed_same, packed_below, four_digits, two_digits, moved, moved_is}
@@ -160,21 +160,11 @@ gathered_is v less digits bytes quarters result is_digits is_bytes is_quarters i
 
 -- ---- bytes below 16 are digits
 
-no_high : (b : ℕ) → b < 16 → bit_and b 240 ≡ 0
-no_high b h = eqb-true _ _ (agree_below_at (λ b. bit_and b 240 == 0) (λ _. true) 16 b refl h)
-
 low_digit : (b : ℕ) → b < 256 → bit_and b 240 ≡ 0 → b < 16
 low_digit b h e =
     let test = agree_below_at (λ b. not (bit_and b 240 == 0) || nat_lt b 16) (λ _. true) 256 b refl h in
     let small : nat_lt b 16 ≡ true = rw e at test in
     ltb-true _ _ small
-
--- digits have nothing in the high four bits of their bytes
-pub packed_high : (n v : ℕ) → bit_and (packed n (λ d. d) v) (packed n (λ d. 240) v) ≡ 0
-packed_high zero v = refl
-packed_high (suc n) v =
-    let less : v % 16 < 16 = mod_below v 16 (lit< tt) in
-    rw (and_block 8 (packed n (λ d. d) (v / 16)) (packed n (λ d. 240) (v / 16)) (v % 16) 240 (omega (arith, less)) (lit< tt), packed_high n (v / 16), no_high (v % 16) less) refl
 
 -- the number whose digits the bytes of a word are
 abbrev pub IsPacked : ℕ → ℕ → Type 0
@@ -203,26 +193,26 @@ digits_in (suc n) w less e =
 
 -- ---- the half that a word holds
 
-pub values_of : (v word letters digits : ℕ) → HoldsHalf word v
+-- the low four bits of each byte of a word
+masked_apart : (x : ℕ) → bit_and (bit_and x 0x0f0f_0f0f_0f0f_0f0f) 0xf0f0_f0f0_f0f0_f0f0 ≡ 0
+masked_apart x = and_assoc 0xf0f0_f0f0_f0f0_f0f0 x 0x0f0f_0f0f_0f0f_0f0f ∙ and_zero_r x
+
+pub masked_small : (x : ℕ) → bit_and x 0x0f0f_0f0f_0f0f_0f0f ≤ 0x0f0f_0f0f_0f0f_0f0f
+masked_small x = and_le_r x 0x0f0f_0f0f_0f0f_0f0f
+
+-- they are those of eight digits
+pub masked_digits : (x : ℕ) → (v : ℕ) × (v < 2 ^ 32) × (bit_and x 0x0f0f_0f0f_0f0f_0f0f ≡ number_from_digits 256 (last_digits 16 8 v))
+masked_digits x =
+    let (v, less, is) = digits_in 8 (bit_and x 0x0f0f_0f0f_0f0f_0f0f) (omega (arith, masked_small x)) (masked_apart x) in
+    (v, less, is ∙ sym (packed_digits 8 v))
+
+-- of the characters of digits, those that are their values
+pub masked_values : (v word letters digits : ℕ) → HoldsHalf word v
     → letters ≡ bit_and (word / 64) 0x0101_0101_0101_0101
     → digits ≡ (bit_and word 0x0f0f_0f0f_0f0f_0f0f + letters * 9 % 2 ^ 64) % 2 ^ 64
-    → digits ≡ number_from_digits 256 (last_digits 16 8 v)
-values_of v word letters digits is_word is_letters is_digits = values_in v word letters digits is_word is_letters is_digits ∙ sym (packed_digits 8 v)
-
--- the digits of a number, each in a byte, are small and have nothing in the high four bits
-pub held_high : (v digits : ℕ) → digits ≡ number_from_digits 256 (last_digits 16 8 v) → bit_and digits 0xf0f0_f0f0_f0f0_f0f0 ≡ 0
-held_high v digits is = ap (λ n. bit_and n 0xf0f0_f0f0_f0f0_f0f0) (is ∙ packed_digits 8 v) ∙ packed_high 8 v
-
-packed_most : (n v : ℕ) → packed n (λ d. d) v ≤ packed n (λ d. 15) v
-packed_most zero v = omega arith
-packed_most (suc n) v = omega (arith, packed_most n (v / 16), mod_below v 16 (lit< tt))
-
-pub digits_small : (digits : ℕ) → digits < 2 ^ 64 → bit_and digits 0xf0f0_f0f0_f0f0_f0f0 ≡ 0 → digits ≤ 0x0f0f_0f0f_0f0f_0f0f
-digits_small digits less e =
-    let (v, less_v, is) = digits_in 8 digits less e in
-    omega (arith, is, packed_most 8 v)
-
-pub digits_held : (digits : ℕ) → digits < 2 ^ 64 → bit_and digits 0xf0f0_f0f0_f0f0_f0f0 ≡ 0 → (v : ℕ) × (v < 2 ^ 32) × (digits ≡ number_from_digits 256 (last_digits 16 8 v))
-digits_held digits less e =
-    let (v, less_v, is) = digits_in 8 digits less e in
-    (v, less_v, is ∙ sym (packed_digits 8 v))
+    → bit_and digits 0x0f0f_0f0f_0f0f_0f0f ≡ number_from_digits 256 (last_digits 16 8 v)
+masked_values v word letters digits is_word is_letters is_digits =
+    ap (λ n. bit_and n 0x0f0f_0f0f_0f0f_0f0f) (values_in v word letters digits is_word is_letters is_digits)
+    ∙ packed_low 8 (λ d. d) v (λ d h. omega (arith, h))
+    ∙ packed_same 8 (λ d. d % 16) (λ d. d) v (λ d h. mod-eq_of_lt h)
+    ∙ sym (packed_digits 8 v)

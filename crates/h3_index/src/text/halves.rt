@@ -53,21 +53,40 @@ fn gathered(digits: u64) -> u64
     (quarters | quarters >> 16) & 0xffff_ffff
 }
 
-/// The half of an index whose eight hexadecimal digits, in lower case, a word holds; none for a
-/// word of other bytes.
+/// The values of the eight hexadecimal digits in lower case that a word holds, each in a byte; of
+/// any other word some values of digits.
 #[inline(always)]
-pub(crate) fn half_in(word: u64) -> Option<u64>
-    ensures small { IfSome result (λ half. half < 2 ^ 32) }
-    ensures is { IfSome result (λ half. HoldsHalf word half) }
-    ensures back { IfSome result (λ half.
-        (other : ℕ) → other < 2 ^ 32 → HoldsHalf word other → half ≡ other) }
-    ensures none { IfNone result ((half : ℕ) → half < 2 ^ 32 → ¬ (HoldsHalf word half)) }
+fn digits_in(word: u64) -> u64
+    ensures small { result ≤ 0x0f0f_0f0f_0f0f_0f0f }
+    ensures some { (half : ℕ) × (half < 2 ^ 32)
+        × (result ≡ number_from_digits 256 (last_digits 16 8 half)) }
+    ensures held { (half : ℕ) → HoldsHalf word half
+        → result ≡ number_from_digits 256 (last_digits 16 8 half) }
 {
     let letters = word >> 6 & 0x0101_0101_0101_0101;
     let digits = (word & 0x0f0f_0f0f_0f0f_0f0f).wrapping_add(letters.wrapping_mul(9));
-    // Whatever the digits are, they are those of this word where they are written as it.
-    if digits & 0xf0f0_f0f0_f0f0_f0f0 == 0 && lettered(digits) == word {
-        Some(gathered(digits))
+    digits & 0x0f0f_0f0f_0f0f_0f0f
+}
+
+/// The two halves of an index whose eight hexadecimal digits each, in lower case, two words hold;
+/// none where one of them holds other bytes.
+#[inline(always)]
+pub(crate) fn halves_in(first: u64, last: u64) -> Option<(u64, u64)>
+    ensures small { IfSome result (λ h. (h.0 < 2 ^ 32) × (h.1 < 2 ^ 32)) }
+    ensures are { IfSome result (λ h. HoldsHalf first h.0 × HoldsHalf last h.1) }
+    ensures first { IfSome result (λ h.
+        (other : ℕ) → other < 2 ^ 32 → HoldsHalf first other → h.0 ≡ other) }
+    ensures last { IfSome result (λ h.
+        (other : ℕ) → other < 2 ^ 32 → HoldsHalf last other → h.1 ≡ other) }
+    ensures none { IfNone result ((a b : ℕ) → a < 2 ^ 32 → b < 2 ^ 32
+        → HoldsHalf first a → ¬ (HoldsHalf last b)) }
+{
+    let (high, low) = (digits_in(first), digits_in(last));
+    // Whatever the digits are, they are those of these words where they are written as them. Both
+    // words are written before either is compared, so that one test is made of both.
+    let (first_written, last_written) = (lettered(high), lettered(low));
+    if first_written == first && last_written == last {
+        Some((gathered(high), gathered(low)))
     } else {
         None
     }

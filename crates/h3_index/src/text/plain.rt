@@ -5,7 +5,7 @@ ghost use Rattle.std.specs.Char.{is_digit};
 ghost use Rattle.std.specs.List.{list_all};
 ghost use Rattle.h3_index.specs.Text.{plain_index, parsed_index};
 
-use super::halves::{half_in, word_of};
+use super::halves::{halves_in, word_of};
 
 /// The number that 8 to 16 hexadecimal digits in lower case stand for; none for all other bytes,
 /// which may be the text of an index in another form.
@@ -20,7 +20,6 @@ pub fn read_plain(bytes: &[u8]) -> Option<u64>
     }
     let more = bytes.len() - 8;
     // Both words hold the digits in the middle.
-    let first = half_in(word_of(&bytes[..8]))?;
-    let last = half_in(word_of(&bytes[more..]))?;
+    let (first, last) = halves_in(word_of(&bytes[..8]), word_of(&bytes[more..]))?;
     Some(first << (4 * more) | last)
 }
