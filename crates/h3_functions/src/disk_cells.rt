@@ -21,6 +21,7 @@ impl<'a> Iterator for DiskCells<'a> {
 
     ghost remaining = { item_count disk_cells_left };
 
+    #[inline(always)]
     fn next(&mut self) -> Option<Result<Cell, H3Error>> {
         match self.disk.next() {
             Some(Ok((cell, _ring))) => Some(Ok(cell)),

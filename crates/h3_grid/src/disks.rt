@@ -148,6 +148,7 @@ impl<'a> Disk<'a> {
     }
 
     /// Takes the next step of a side.
+    #[inline(always)]
     fn go_on(&mut self) -> Result<(Cell, u32), H3Error>
         requires begun { self.old.begun ≡ true }
         requires some { 0 < self.old.steps }
@@ -184,6 +185,7 @@ impl<'a> Iterator for Disk<'a> {
 
     ghost remaining = { item_count disk_left };
 
+    #[inline(always)]
     fn next(&mut self) -> Option<Result<(Cell, u32), H3Error>> {
         if !self.begun {
             self.begun = true;

@@ -134,6 +134,7 @@ impl<'a> Ring<'a> {
     }
 
     /// Takes the next step of a side. The last one of all closes the ring and gives no cell.
+    #[inline(always)]
     fn go_on(&mut self) -> Option<Result<Cell, H3Error>>
         requires begun { self.old.begun ≡ true }
         requires some { 0 < self.old.steps }
@@ -178,6 +179,7 @@ impl<'a> Iterator for Ring<'a> {
 
     ghost remaining = { item_count ring_left };
 
+    #[inline(always)]
     fn next(&mut self) -> Option<Result<Cell, H3Error>> {
         if !self.begun {
             return Some(self.begin());

@@ -52,6 +52,7 @@ fn step_is_lawful(table: &BaseTable)
 /// turns of the table's link are added.
 ///
 /// `Pentagon` where the cell or its neighbor is in a pentagon base cell.
+#[inline(always)]
 pub fn step(
     table: &BaseTable,
     cell: Cell,

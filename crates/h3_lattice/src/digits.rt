@@ -83,6 +83,8 @@ impl Digits {
 
     /// Each digit turned n times, each turn 60 degrees counter-clockwise. The digit 0 stays. So the
     /// place is multiplied by the n-th power of 1 + w.
+    // Few steps need it. Inlined, its loop would take registers from all of them.
+    #[inline(never)]
     pub fn turned(self, n: u8) -> Digits
         ensures digits { result ≡ map (digit_turned n) self }
         ensures products { AreTurned n self result }
