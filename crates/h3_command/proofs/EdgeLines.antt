@@ -1,5 +1,5 @@
 -- The edges that leave a cell, as an iterator yields them: at most six.
-use Rattle.std.proofs.Common.{◌≡◌, ℕ, suc, ◌+◌, ◌<◌, ◌≤◌, Bool, true, false, List, [], ◌∷◌, length, filter, map, Option, None, Some, Result, Ok, Err, sym, ap, ◌∙◌, refl, subst, arith}
+use Rattle.std.proofs.Common.{◌≡◌, ℕ, suc, ◌+◌, ◌≤◌, Bool, true, false, List, [], ◌∷◌, length, filter, map, Option, None, Some, Result, Ok, Err, sym, ap, ◌∙◌, refl, subst, arith}
 use Rattle.std.proofs.lemmas.Iterator.{YieldsList}
 use Rattle.std.proofs.lemmas.Iterator.Consumers.{YieldsList-end, YieldsList-turn}
 use Rattle.std.specs.Iterator.{Yields, YieldsFirst}

@@ -1,3 +1,4 @@
 pub mod EdgeLines
 pub mod Endings
+pub mod SiblingGroups
 pub mod Written

@@ -1,6 +1,7 @@
 //! The commands of the program `h3`, and how they run over streams.
 #![tactic(auto)]
 
+mod children;
 mod command;
 mod edges;
 mod for_each;

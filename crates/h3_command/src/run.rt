@@ -5,6 +5,7 @@ ghost use Rattle.h3_lines.specs.Writing.{Reports, sink_use};
 ghost use Rattle.h3_command.specs.Answer.{reads_list, reads_table, request};
 ghost use Rattle.h3_command.specs.Run.{Ends, Runs, source_use};
 
+use crate::children::cell_to_children;
 use crate::command::Command;
 use crate::command::Command::*;
 use crate::edges::{are_neighbor_cells, cells_to_directed_edge, get_directed_edge_destination};
@@ -12,10 +13,10 @@ use crate::sets::{compact_cells, uncompact_cells};
 use crate::table_query::over_table;
 use crate::walks::{grid_disk_distances_unsafe, grid_disk_unsafe, grid_ring_unsafe};
 use h3_functions::{
-    cell_to_center_child, cell_to_child_pos, cell_to_children, cell_to_children_size,
-    cell_to_parent, child_pos_to_cell, get_base_cell_number, get_directed_edge_origin,
-    get_num_cells, get_pentagons, get_res0_cells, get_resolution, is_pentagon, is_res_class_iii,
-    is_valid_cell, is_valid_directed_edge, origin_to_directed_edges,
+    cell_to_center_child, cell_to_child_pos, cell_to_children_size, cell_to_parent,
+    child_pos_to_cell, get_base_cell_number, get_directed_edge_origin, get_num_cells,
+    get_pentagons, get_res0_cells, get_resolution, is_pentagon, is_res_class_iii, is_valid_cell,
+    is_valid_directed_edge, origin_to_directed_edges,
 };
 use h3_index::{Sink, Source};
 use h3_lines::{Refusal, answer_each, report, write_lines, write_result};
@@ -46,7 +47,7 @@ fn perform<R: Source, T: Source, W: Sink>(
         GetPentagons { res } => write_lines(out, get_pentagons(res)?),
         CellToParent { cell, res } => write_result(out, cell_to_parent(cell, res)),
         CellToCenterChild { cell, res } => write_result(out, cell_to_center_child(cell, res)),
-        CellToChildren { cell, res } => write_lines(out, cell_to_children(cell, res)?),
+        CellToChildren { cell, res } => cell_to_children(cell, res, out),
         CellToChildrenSize { cell, res } => write_result(out, cell_to_children_size(cell, res)),
         CellToChildPos { cell, res } => write_result(out, cell_to_child_pos(cell, res)),
         ChildPosToCell {

@@ -1,4 +1,4 @@
--- The lines of two cells that differ in four digits alone.
+-- The lines of two cells that differ in some digits alone.
 use Rattle.std.specs.Char.{digit_char}
 use Rattle.std.specs.Int.Digits.{number_from_digits}
 use Rattle.std.proofs.Common.{ℕ, zero, suc, ◌≡◌, ◌+◌, ◌-◌, ◌*◌, ◌/◌, ◌%◌, ◌^◌, ◌<◌, ◌≤◌, List, [], ◌∷◌, ◌++◌, length, min, set, take, drop, map, arith, sym, ap, ◌∙◌, lit<, inr}
@@ -51,16 +51,15 @@ abbrev pub digits_after : Address → ℕ
 digits_after c = min (3 * (15 - length c.digits) / 4) 9
 
 -- the bits of the digits above a cell's resolution are ones
-ones_after : (c : Address) → IsCell c → number_of c % 16 ^ digits_after c ≡ 16 ^ digits_after c - 1
-ones_after c h =
+pub ones_below : (c : Address) (n : ℕ) → IsCell c → 4 * n ≤ 3 * (15 - length c.digits) → number_of c % 16 ^ n ≡ 16 ^ n - 1
+ones_below c n h fit =
     let r = length c.digits in
-    let n = digits_after c in
     let over = 3 * (15 - r) - 4 * n in
     let p = 16 ^ n in
     let q = 2 ^ over in
     let some : 0 < p = one-le-pow n 16 (lit< tt) in
     let low : 8 ^ (15 - r) ≡ q * p =
-    sym (eights (15 - r)) ∙ (let sum : 3 * (15 - r) ≡ over + 4 * n = omega arith in ap (λ m. 2 ^ m) sum) ∙ pow-add 2 over (4 * n) ∙ ap (λ m. q * m) (sixteens n) in
+    sym (eights (15 - r)) ∙ (let sum : 3 * (15 - r) ≡ over + 4 * n = omega (arith, fit) in ap (λ m. 2 ^ m) sum) ∙ pow-add 2 over (4 * n) ∙ ap (λ m. q * m) (sixteens n) in
     let whole : 2 ^ 45 ≡ 8 ^ r * 8 ^ (15 - r) = (let sum : 15 ≡ r + (15 - r) = omega (arith, h.coarse) in ap (λ m. 8 ^ m) sum) ∙ pow-add 8 r (15 - r) in
     let k = (head_of c * 8 ^ r + (number_from_digits 8 c.digits + 1)) * q in
     let next : number_of c + 1 ≡ k * p = next_number c h ∙ ap (λ m. head_of c * m + (number_from_digits 8 c.digits + 1) * 8 ^ (15 - r)) whole ∙ ap (λ m. head_of c * (8 ^ r * m) + (number_from_digits 8 c.digits + 1) * m) low ∙ grind arith in
@@ -80,63 +79,67 @@ one_resolution c d h k same =
     let up : (v : ℕ) → v / 2 ^ 52 ≡ v / 2 ^ n / 2 ^ (52 - n) = λ v. ap (λ m. v / m) (ap (λ m. 2 ^ m) sum ∙ pow-add 2 n (52 - n)) ∙ sym (div-div-eq-div-mul v (2 ^ n) (2 ^ (52 - n))) in
     sym (resolution-number_of d k) ∙ ap (λ m. m % 16) (up (number_of d) ∙ ap (λ m. m / 2 ^ (52 - n)) same ∙ sym (up (number_of c))) ∙ resolution-number_of c h
 
-parts : (v m n : ℕ) → m + (4 + n) ≡ 15 → fifteen v ≡ map digit_char (last_digits 16 m (v / 16 ^ (4 + n))) ++ (map digit_char (last_digits 16 4 (v / 16 ^ n)) ++ map digit_char (last_digits 16 n v))
-parts v m n sum =
-    ap (λ k. map digit_char (last_digits 16 k v)) (sym sum) ∙ ap (map digit_char) (last_digits-cut 16 m (4 + n) v ∙ ap (λ ds. last_digits 16 m (v / 16 ^ (4 + n)) ++ ds) (last_digits-cut 16 4 n v))
-    ∙ map-append digit_char (last_digits 16 m (v / 16 ^ (4 + n))) _ ∙ ap (λ ds. map digit_char (last_digits 16 m (v / 16 ^ (4 + n))) ++ ds) (map-append digit_char (last_digits 16 4 (v / 16 ^ n)) (last_digits 16 n v))
+parts : (w v m n : ℕ) → m + (w + n) ≡ 15 → fifteen v ≡ map digit_char (last_digits 16 m (v / 16 ^ (w + n))) ++ (map digit_char (last_digits 16 w (v / 16 ^ n)) ++ map digit_char (last_digits 16 n v))
+parts w v m n sum =
+    ap (λ k. map digit_char (last_digits 16 k v)) (sym sum) ∙ ap (map digit_char) (last_digits-cut 16 m (w + n) v ∙ ap (λ ds. last_digits 16 m (v / 16 ^ (w + n)) ++ ds) (last_digits-cut 16 w n v))
+    ∙ map-append digit_char (last_digits 16 m (v / 16 ^ (w + n))) _ ∙ ap (λ ds. map digit_char (last_digits 16 m (v / 16 ^ (w + n))) ++ ds) (map-append digit_char (last_digits 16 w (v / 16 ^ n)) (last_digits 16 n v))
 
 -- the three parts of a text of fifteen digits
-take_front : (v m n : ℕ) → m + (4 + n) ≡ 15 → take m (fifteen v) ≡ map digit_char (last_digits 16 m (v / 16 ^ (4 + n)))
-take_front v m n sum =
-    let front = map digit_char (last_digits 16 m (v / 16 ^ (4 + n))) in
-    let size : length front ≡ m = length-map (last_digits 16 m (v / 16 ^ (4 + n))) digit_char ∙ length-last_digits 16 m (v / 16 ^ (4 + n)) in
-    ap (take m) (parts v m n sum) ∙ ap (λ k. take k (front ++ (map digit_char (last_digits 16 4 (v / 16 ^ n)) ++ map digit_char (last_digits 16 n v)))) (sym size)
+take_front : (w v m n : ℕ) → m + (w + n) ≡ 15 → take m (fifteen v) ≡ map digit_char (last_digits 16 m (v / 16 ^ (w + n)))
+take_front w v m n sum =
+    let front = map digit_char (last_digits 16 m (v / 16 ^ (w + n))) in
+    let size : length front ≡ m = length-map (last_digits 16 m (v / 16 ^ (w + n))) digit_char ∙ length-last_digits 16 m (v / 16 ^ (w + n)) in
+    ap (take m) (parts w v m n sum) ∙ ap (λ k. take k (front ++ (map digit_char (last_digits 16 w (v / 16 ^ n)) ++ map digit_char (last_digits 16 n v)))) (sym size)
     ∙ take-append_seam front _
 
-drop_front : (v m n : ℕ) → m + (4 + n) ≡ 15 → drop 4 (drop m (fifteen v)) ≡ map digit_char (last_digits 16 n v)
-drop_front v m n sum =
-    let front = map digit_char (last_digits 16 m (v / 16 ^ (4 + n))) in
-    let four = map digit_char (last_digits 16 4 (v / 16 ^ n)) in
+drop_front : (w v m n : ℕ) → m + (w + n) ≡ 15 → drop w (drop m (fifteen v)) ≡ map digit_char (last_digits 16 n v)
+drop_front w v m n sum =
+    let front = map digit_char (last_digits 16 m (v / 16 ^ (w + n))) in
+    let some = map digit_char (last_digits 16 w (v / 16 ^ n)) in
     let rest = map digit_char (last_digits 16 n v) in
-    let size : length front ≡ m = length-map (last_digits 16 m (v / 16 ^ (4 + n))) digit_char ∙ length-last_digits 16 m (v / 16 ^ (4 + n)) in
-    let first : drop m (fifteen v) ≡ four ++ rest = ap (drop m) (parts v m n sum) ∙ ap (λ k. drop k (front ++ (four ++ rest))) (sym size) ∙ drop-append_seam front (four ++ rest) in
-    ap (drop 4) first
+    let size : length front ≡ m = length-map (last_digits 16 m (v / 16 ^ (w + n))) digit_char ∙ length-last_digits 16 m (v / 16 ^ (w + n)) in
+    let size_two : length some ≡ w = length-map (last_digits 16 w (v / 16 ^ n)) digit_char ∙ length-last_digits 16 w (v / 16 ^ n) in
+    let first : drop m (fifteen v) ≡ some ++ rest = ap (drop m) (parts w v m n sum) ∙ ap (λ k. drop k (front ++ (some ++ rest))) (sym size) ∙ drop-append_seam front (some ++ rest) in
+    ap (drop w) first ∙ ap (λ k. drop k (some ++ rest)) (sym size_two) ∙ drop-append_seam some rest
 
--- the text of the one is that of the other but for four digits
-four_differ : (c d : Address) (m : ℕ) → IsCell c → IsCell d → m + (4 + digits_after c) ≡ 15
-    → number_of d / 2 ^ (4 * digits_after c + 16) ≡ number_of c / 2 ^ (4 * digits_after c + 16)
-    → text_of (number_of d) ≡ take m (text_of (number_of c)) ++ (map digit_char (last_digits 16 4 (number_of d / 2 ^ (4 * digits_after c))) ++ drop 4 (drop m (text_of (number_of c))))
-four_differ c d m h k sum same =
-    let n = digits_after c in
+-- a text whose number agrees with another above w digits and below them is the other but for these
+some_differ : (c d : Address) (w m n : ℕ) → IsCell c → IsCell d → m + (w + n) ≡ 15 → number_of d / 16 ^ (w + n) ≡ number_of c / 16 ^ (w + n) → number_of d % 16 ^ n ≡ number_of c % 16 ^ n
+    → text_of (number_of d) ≡ take m (text_of (number_of c)) ++ (map digit_char (last_digits 16 w (number_of d / 16 ^ n)) ++ drop w (drop m (text_of (number_of c))))
+some_differ c d w m n h k sum high ones =
     let v = number_of c in
-    let w = number_of d in
-    let some : 0 < 16 ^ n = one-le-pow n 16 (lit< tt) in
-    let after : digits_after d ≡ n = ap (λ l. min (3 * (15 - l) / 4) 9) (one_resolution c d h k same) in
-    let power : 2 ^ (4 * n + 16) ≡ 16 ^ (4 + n) = (let e : 4 * n + 16 ≡ 4 * (4 + n) = omega arith in ap (λ l. 2 ^ l) e) ∙ sixteens (4 + n) in
-    let high : w / 16 ^ (4 + n) ≡ v / 16 ^ (4 + n) = rw power at same in
-    let ones : w % 16 ^ n ≡ v % 16 ^ n = ap (λ l. w % 16 ^ l) (sym after) ∙ ones_after d k ∙ ap (λ l. 16 ^ l - 1) after ∙ sym (ones_after c h) in
-    let low : last_digits 16 n w ≡ last_digits 16 n v = sym (low-last_digits 16 n w (lit< tt)) ∙ ap (last_digits 16 n) ones ∙ low-last_digits 16 n v (lit< tt) in
-    let four : last_digits 16 4 (w / 16 ^ n) ≡ last_digits 16 4 (w / 2 ^ (4 * n)) = ap (λ l. last_digits 16 4 (w / l)) (sym (sixteens n)) in
-    cell_text d k ∙ parts w m n sum
-    ∙ ap (λ l. map digit_char (last_digits 16 m l) ++ (map digit_char (last_digits 16 4 (w / 16 ^ n)) ++ map digit_char (last_digits 16 n w))) high
-    ∙ ap (λ l. map digit_char (last_digits 16 m (v / 16 ^ (4 + n))) ++ (map digit_char l ++ map digit_char (last_digits 16 n w))) four
-    ∙ ap (λ l. map digit_char (last_digits 16 m (v / 16 ^ (4 + n))) ++ (map digit_char (last_digits 16 4 (w / 2 ^ (4 * n))) ++ map digit_char l)) low
-    ∙ ap (λ l. l ++ (map digit_char (last_digits 16 4 (w / 2 ^ (4 * n))) ++ map digit_char (last_digits 16 n v))) (sym (take_front v m n sum))
-    ∙ ap (λ l. take m (fifteen v) ++ (map digit_char (last_digits 16 4 (w / 2 ^ (4 * n))) ++ l)) (sym (drop_front v m n sum))
-    ∙ ap (λ l. take m l ++ (map digit_char (last_digits 16 4 (w / 2 ^ (4 * n))) ++ drop 4 (drop m l))) (sym (cell_text c h))
+    let x = number_of d in
+    let low : last_digits 16 n x ≡ last_digits 16 n v = sym (low-last_digits 16 n x (lit< tt)) ∙ ap (last_digits 16 n) ones ∙ low-last_digits 16 n v (lit< tt) in
+    let middle = map digit_char (last_digits 16 w (x / 16 ^ n)) in
+    cell_text d k ∙ parts w x m n sum
+    ∙ ap (λ l. map digit_char (last_digits 16 m l) ++ (middle ++ map digit_char (last_digits 16 n x))) high
+    ∙ ap (λ l. map digit_char (last_digits 16 m (v / 16 ^ (w + n))) ++ (middle ++ map digit_char l)) low
+    ∙ ap (λ l. l ++ (middle ++ map digit_char (last_digits 16 n v))) (sym (take_front w v m n sum))
+    ∙ ap (λ l. take m (fifteen v) ++ (middle ++ l)) (sym (drop_front w v m n sum))
+    ∙ ap (λ l. take m l ++ (middle ++ drop w (drop m l))) (sym (cell_text c h))
 
 -- so is its line
+pub some_line_differs : (c d : Address) (w m n : ℕ) → IsCell c → IsCell d → m + (w + n) ≡ 15 → number_of d / 16 ^ (w + n) ≡ number_of c / 16 ^ (w + n) → number_of d % 16 ^ n ≡ number_of c % 16 ^ n
+    → take m (text_of (number_of c) ++ 10 ∷ []) ++ (map digit_char (last_digits 16 w (number_of d / 16 ^ n)) ++ drop w (drop m (text_of (number_of c) ++ 10 ∷ []))) ≡ text_of (number_of d) ++ 10 ∷ []
+some_line_differs c d w m n h k sum high ones =
+    let t = text_of (number_of c) in
+    let middle = map digit_char (last_digits 16 w (number_of d / 16 ^ n)) in
+    let size : length t ≡ 15 = length-text c h in
+    let left : length (drop m t) ≡ 15 - m = length-drop m t ∙ ap (λ l. l - m) size in
+    let front : take m (t ++ 10 ∷ []) ≡ take m t = take-append-le m t (10 ∷ []) (omega (arith, size, sum)) in
+    let back : drop w (drop m (t ++ 10 ∷ [])) ≡ drop w (drop m t) ++ 10 ∷ [] = ap (drop w) (drop-append-le m t (10 ∷ []) (omega (arith, size, sum))) ∙ drop-append-le w (drop m t) (10 ∷ []) (omega (arith, left, sum)) in
+    rw (front, back) (ap (λ l. take m t ++ l) (sym (append_assoc middle (drop w (drop m t)) (10 ∷ []))) ∙ sym (append_assoc (take m t) (middle ++ drop w (drop m t)) (10 ∷ [])) ∙ ap (λ l. l ++ 10 ∷ []) (sym (some_differ c d w m n h k sum high ones)))
+
+-- the line of the one is that of the other but for four digits
 pub line_differs : (c d : Address) (m : ℕ) → IsCell c → IsCell d → m + (4 + digits_after c) ≡ 15
     → number_of d / 2 ^ (4 * digits_after c + 16) ≡ number_of c / 2 ^ (4 * digits_after c + 16)
     → take m (text_of (number_of c) ++ 10 ∷ []) ++ (map digit_char (last_digits 16 4 (number_of d / 2 ^ (4 * digits_after c))) ++ drop 4 (drop m (text_of (number_of c) ++ 10 ∷ []))) ≡ text_of (number_of d) ++ 10 ∷ []
 line_differs c d m h k sum same =
-    let t = text_of (number_of c) in
-    let four = map digit_char (last_digits 16 4 (number_of d / 2 ^ (4 * digits_after c))) in
-    let size : length t ≡ 15 = length-text c h in
-    let left : length (drop m t) ≡ 15 - m = length-drop m t ∙ ap (λ l. l - m) size in
-    let front : take m (t ++ 10 ∷ []) ≡ take m t = take-append-le m t (10 ∷ []) (omega (arith, size, sum)) in
-    let back : drop 4 (drop m (t ++ 10 ∷ [])) ≡ drop 4 (drop m t) ++ 10 ∷ [] = ap (drop 4) (drop-append-le m t (10 ∷ []) (omega (arith, size, sum))) ∙ drop-append-le 4 (drop m t) (10 ∷ []) (omega (arith, left, sum)) in
-    rw (front, back) (ap (λ l. take m t ++ l) (sym (append_assoc four (drop 4 (drop m t)) (10 ∷ []))) ∙ sym (append_assoc (take m t) (four ++ drop 4 (drop m t)) (10 ∷ [])) ∙ ap (λ l. l ++ 10 ∷ []) (sym (four_differ c d m h k sum same)))
+    let n = digits_after c in
+    let size : length d.digits ≡ length c.digits = one_resolution c d h k same in
+    let power : 2 ^ (4 * n + 16) ≡ 16 ^ (4 + n) = (let e : 4 * n + 16 ≡ 4 * (4 + n) = omega arith in ap (λ l. 2 ^ l) e) ∙ sixteens (4 + n) in
+    let high : number_of d / 16 ^ (4 + n) ≡ number_of c / 16 ^ (4 + n) = rw power at same in
+    let ones : number_of d % 16 ^ n ≡ number_of c % 16 ^ n = ones_below d n k (omega (arith, size)) ∙ sym (ones_below c n h (omega arith)) in
+    rw (sixteens n) (some_line_differs c d 4 m n h k sum high ones)
 
 -- the text comes before the line feed
 pub text_before : (bytes front text : List ℕ) (at : ℕ) → length front ≡ at → length text ≡ 15 → take (at + 16) bytes ≡ front ++ (text ++ 10 ∷ []) → take (at + 15) bytes ≡ front ++ text
@@ -146,28 +149,28 @@ text_before bytes front text at before size line =
     ap (take (at + 15)) (sym (take-append-drop (at + 16) bytes)) ∙ take-append-le (at + 15) (take (at + 16) bytes) (drop (at + 16) bytes) (omega (arith, held)) ∙ ap (take (at + 15)) line
     ∙ ap (λ l. take l (front ++ (text ++ 10 ∷ []))) all ∙ take-append-add front (text ++ 10 ∷ []) (length text + 0) ∙ ap (λ l. front ++ l) (take-append-add text (10 ∷ []) 0 ∙ append-nil text)
 
--- ---- sixteen bytes that are put at a place, and then four of them anew
+-- ---- sixteen bytes that are put at a place, and then some of them anew
 
-pub put_twice : (bytes line four : List ℕ) (at m n i j p k : ℕ) → length line ≡ 16 → length four ≡ 4 → m + (4 + n) ≡ 16 → at + 16 ≤ length bytes
-    → i ≡ 16 → p ≡ at + m → j ≡ 4 → k ≡ at + 16
-    → take k (take p (take at bytes ++ (line ++ drop i (drop at bytes))) ++ (four ++ drop j (drop p (take at bytes ++ (line ++ drop i (drop at bytes))))))
-    ≡ take at bytes ++ (take m line ++ (four ++ drop 4 (drop m line)))
-put_twice bytes line four at m n i j p k size pair sum room i_is p_is j_is k_is =
+pub put_twice : (bytes line part : List ℕ) (w at m n i j p k : ℕ) → length line ≡ 16 → length part ≡ w → m + (w + n) ≡ 16 → at + 16 ≤ length bytes
+    → i ≡ 16 → p ≡ at + m → j ≡ w → k ≡ at + 16
+    → take k (take p (take at bytes ++ (line ++ drop i (drop at bytes))) ++ (part ++ drop j (drop p (take at bytes ++ (line ++ drop i (drop at bytes))))))
+    ≡ take at bytes ++ (take m line ++ (part ++ drop w (drop m line)))
+put_twice bytes line part w at m n i j p k size pair sum room i_is p_is j_is k_is =
     let a = take at bytes in
     let r = drop i (drop at bytes) in
     let before : length a ≡ at = length-take-le at bytes (omega (arith, room)) in
     let place : p ≡ length a + m = omega (arith, p_is, before) in
     let front : take p (a ++ (line ++ r)) ≡ a ++ take m line =
     ap (λ l. take l (a ++ (line ++ r))) place ∙ take-append-add a (line ++ r) m ∙ ap (λ l. a ++ l) (take-append-le m line r (omega (arith, size, sum))) in
-    let d = drop 4 (drop m line) in
+    let d = drop w (drop m line) in
     let left : length (drop m line) ≡ 16 - m = length-drop m line ∙ ap (λ l. l - m) size in
-    let left_two : length d ≡ n = length-drop 4 (drop m line) ∙ ap (λ l. l - 4) left ∙ omega (arith, sum) in
+    let left_two : length d ≡ n = length-drop w (drop m line) ∙ ap (λ l. l - w) left ∙ omega (arith, sum) in
     let back : drop j (drop p (a ++ (line ++ r))) ≡ d ++ r =
-    ap (λ l. drop l (drop p (a ++ (line ++ r)))) j_is ∙ ap (λ l. drop 4 (drop l (a ++ (line ++ r)))) place ∙ ap (drop 4) (drop-append-add a (line ++ r) m ∙ drop-append-le m line r (omega (arith, size, sum)))
-    ∙ drop-append-le 4 (drop m line) r (omega (arith, left, sum)) in
+    ap (λ l. drop l (drop p (a ++ (line ++ r)))) j_is ∙ ap (λ l. drop w (drop l (a ++ (line ++ r)))) place ∙ ap (drop w) (drop-append-add a (line ++ r) m ∙ drop-append-le m line r (omega (arith, size, sum)))
+    ∙ drop-append-le w (drop m line) r (omega (arith, left, sum)) in
     let t = take m line in
     let t_size : length t ≡ m = length-take-le m line (omega (arith, size, sum)) in
-    let all : k ≡ length a + (length t + (length four + (length d + 0))) = omega (arith, k_is, before, t_size, pair, left_two, sum) in
-    rw (front, back) (ap (take k) (append_assoc a t (four ++ (d ++ r))) ∙ ap (λ l. take l (a ++ (t ++ (four ++ (d ++ r))))) all
-    ∙ take-append-add a (t ++ (four ++ (d ++ r))) (length t + (length four + (length d + 0))) ∙ ap (λ l. a ++ l) (take-append-add t (four ++ (d ++ r)) (length four + (length d + 0)))
-    ∙ ap (λ l. a ++ (t ++ l)) (take-append-add four (d ++ r) (length d + 0) ∙ ap (λ l. four ++ l) (take-append-add d r 0 ∙ append-nil d)))
+    let all : k ≡ length a + (length t + (length part + (length d + 0))) = omega (arith, k_is, before, t_size, pair, left_two, sum) in
+    rw (front, back) (ap (take k) (append_assoc a t (part ++ (d ++ r))) ∙ ap (λ l. take l (a ++ (t ++ (part ++ (d ++ r))))) all
+    ∙ take-append-add a (t ++ (part ++ (d ++ r))) (length t + (length part + (length d + 0))) ∙ ap (λ l. a ++ l) (take-append-add t (part ++ (d ++ r)) (length part + (length d + 0)))
+    ∙ ap (λ l. a ++ (t ++ l)) (take-append-add part (d ++ r) (length d + 0) ∙ ap (λ l. part ++ l) (take-append-add d r 0 ∙ append-nil d)))

@@ -17,6 +17,7 @@ pub mod PathLaws
 pub mod PlainLaws
 pub mod ReplaceLaws
 pub mod SiblingLaws
+pub mod SiblingLineLaws
 pub mod SpreadLaws
 pub mod TextLaws
 pub mod WriteLaws

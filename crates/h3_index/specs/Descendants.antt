@@ -2,7 +2,7 @@
 --
 -- H3's hierarchy: the parent of a cell at a coarser resolution keeps the digits up to that resolution; its children
 -- at a finer resolution are the cells there that have it as their parent.
-use Rattle.std.specs.Prelude.{ℕ, ◌≡◌, ◌-◌, List, [], ◌∷◌, ◌++◌, take, map, replicate}
+use Rattle.std.specs.Prelude.{ℕ, ◌≡◌, ◌+◌, ◌-◌, List, [], ◌∷◌, ◌++◌, take, map, replicate}
 use Rattle.h3_index.specs.Cell.{Address, IsCell, is_pentagon, resolution}
 use Rattle.h3_index.specs.Paths.{paths}
 
@@ -35,3 +35,7 @@ pub record IsDescendant (c : Address) (s : ℕ) (x : Address) : Type 0 where
 -- the descendants of c at resolution s, in ascending order
 unfoldable pub descendants : Address → ℕ → List Address
 descendants c s = map (along c) (paths (is_pentagon c) (s - resolution c))
+
+-- the cells one level below c, in ascending order
+abbrev pub children : Address → List Address
+children c = descendants c (resolution c + 1)

@@ -12,6 +12,7 @@ mod moves;
 mod siblings;
 
 use crate::error::H3Error;
+pub use siblings::Siblings;
 use std::marker::Model;
 
 /// A bit for each base cell that is a pentagon.

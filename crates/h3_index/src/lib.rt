@@ -12,7 +12,7 @@ pub mod laws;
 mod stream;
 mod text;
 
-pub use cell::{Cell, is_pentagon_base};
+pub use cell::{Cell, Siblings, is_pentagon_base};
 pub use count::{num_cells, pentagon, res0_cell, resolution_from};
 pub use counted::CountedReader;
 pub use edge::Edge;

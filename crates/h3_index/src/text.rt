@@ -8,6 +8,7 @@ ghost use Rattle.h3_index.specs.Text.{without_leading_zeros, is_blank, without_l
 
 mod halves;
 mod lines;
+mod pairs;
 mod plain;
 
 use crate::error::H3Error;

@@ -2,6 +2,7 @@
 use Rattle.std.specs.Prelude.{ℕ, Bool, List, [], ◌∷◌, ◌++◌, codes, decimal, Result, Ok, Err, if◌then◌else◌}
 use Rattle.std.specs.List.{flat_map}
 use Rattle.h3_index.specs.Cell.{Address, number_of}
+use Rattle.h3_index.specs.Descendants.{children}
 use Rattle.h3_index.specs.Edge.{DirectedEdge, edge_number}
 use Rattle.h3_index.specs.Text.{text_of}
 use Rattle.h3_index.specs.declared.error.H3Error.{H3Error}
@@ -51,6 +52,10 @@ ring_line item = text_of (number_of item.0) ++ 32 ∷ decimal item.1 ++ 10 ∷ [
 -- a line for each cell
 abbrev pub cell_lines : List Address → List ℕ
 cell_lines cells = flat_map cell_line cells
+
+-- a line for each child of a cell
+abbrev pub children_lines : Address → List ℕ
+children_lines c = cell_lines (children c)
 
 -- the text of the edge's number, and a line feed
 abbrev pub edge_line : DirectedEdge → List ℕ

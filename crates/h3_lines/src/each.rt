@@ -19,7 +19,7 @@ use h3_index::{CellLines, CountedReader, H3Error, Sink, Source, is_blank_text, r
 use std::alloc::Global;
 
 /// The room that the answer to a line may take.
-pub const ANSWER: usize = 192;
+pub const ANSWER: usize = 672;
 
 /// A function of one index.
 pub trait IndexFunction {

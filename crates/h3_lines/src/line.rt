@@ -1,24 +1,24 @@
 //! The lines of answers.
 
 ghost use Rattle.std.specs.Prelude.{◌≡◌, ◌+◌, ◌<◌, ◌≤◌, ◌++◌, ◌∷◌, [], ℕ, List, length, take};
-ghost use Rattle.h3_lines.specs.Answer.{cell_line, edge_line, number_line, ring_line, truth_line};
+ghost use Rattle.h3_lines.specs.Answer.{cell_line, children_lines, edge_line, number_line, ring_line, truth_line};
 
-use h3_index::{Cell, CellLines, Edge, index_bytes};
+use h3_index::{Cell, CellLines, Edge, Siblings, index_bytes};
 use itoa::Buffer;
 
-/// The room that a line may take, its line feed included.
-pub const ROOM: usize = 32;
+/// The room that the lines of an item may take, their line feeds included.
+pub const ROOM: usize = 112;
 
 /// The bytes of a block, in which lines are put before they go out together.
 pub const BLOCK: usize = 4096;
 
-/// What is written as a line.
+/// What is written as a line, or as several.
 pub trait Line {
-    /// The line, ended by a line feed.
+    /// The line or lines, each ended by a line feed.
     ghost line_of: { Self → List ℕ };
 
-    /// Puts the line into a block from the byte `at` on, and returns where it ends. The bytes after
-    /// it may change too. A cell's line is put faster where it is near to that of the cell before,
+    /// Puts the lines into a block from the byte `at` on, and returns where they end. The bytes after
+    /// them may change too. A cell's line is put faster where it is near to that of the cell before,
     /// which `lines` has put.
     fn put(&self, lines: &mut CellLines, block: &mut [u8; BLOCK], at: usize) -> usize
         requires room { at + ROOM ≤ BLOCK }
@@ -72,6 +72,16 @@ impl Line for Cell {
     #[inline(always)]
     fn put(&self, lines: &mut CellLines, block: &mut [u8; BLOCK], at: usize) -> usize {
         lines.put(*self, block, at)
+    }
+}
+
+/// A line for each of them.
+impl Line for Siblings {
+    ghost line_of = { children_lines };
+
+    #[inline(always)]
+    fn put(&self, lines: &mut CellLines, block: &mut [u8; BLOCK], at: usize) -> usize {
+        lines.put_children(self.parent(), block, at)
     }
 }
 

@@ -68,7 +68,7 @@ fn the_lines_of_a_walk_stand_before_its_error(rt: HostRuntime) -> Result<(), Fai
 fn a_walk_of_many_lines_goes_out_by_blocks(rt: HostRuntime) -> Result<(), Fail> {
     let cell = Cell::new(0x85283473fffffff)?;
     let line = b"85283473fffffff\n".as_slice();
-    // 255 lines of 16 bytes fill a block: it goes out, then the other 45, and then comes a flush
+    // 250 lines of 16 bytes fill a block: it goes out, then the other 50, and then comes a flush
     let mut steps: [Result<Cell, H3Error>; 300] = [Ok(cell); 300];
     let mut out: FaultySink<4800> = FaultySink::new(65536, Faults::From(3));
     let written = write_walk(&mut out, steps.iter().copied());
@@ -92,7 +92,7 @@ fn a_walk_of_many_lines_ends_at_a_write_fault(rt: HostRuntime) -> Result<(), Fai
     let cell = Cell::new(0x85283473fffffff)?;
     let steps: [Result<Cell, H3Error>; 300] = [Ok(cell); 300];
     // the first push, the second one and the flush, each with the calls and the bytes up to it
-    for (fault, calls, length) in [(0, 1, 0), (1, 2, 4080), (2, 3, 4800)] {
+    for (fault, calls, length) in [(0, 1, 0), (1, 2, 4000), (2, 3, 4800)] {
         let mut out: FaultySink<4800> = FaultySink::new(65536, Faults::Once(fault));
         let written = write_walk(&mut out, steps.iter().copied());
         assert_eq!(&rt; written, Err(Refusal::Write));

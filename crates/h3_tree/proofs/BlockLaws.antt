@@ -77,7 +77,7 @@ unfolding descendants paths
 blocks_at m s n more =
     rw more (blocks_of m s n (λ d. omega (arith, length-append m.digits (d ∷ []), more)) (steps (is_pentagon m)))
 
-blocks : (m : Address) (s : ℕ) → length m.digits < s → descendants m s ≡ flat_map (λ d. descendants (child m d) s) (steps (is_pentagon m))
+pub blocks : (m : Address) (s : ℕ) → length m.digits < s → descendants m s ≡ flat_map (λ d. descendants (child m d) s) (steps (is_pentagon m))
 blocks m s lt = blocks_at m s (s - length m.digits - 1) (omega (arith, lt))
 
 -- ---- where each block begins

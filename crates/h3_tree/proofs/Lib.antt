@@ -1,5 +1,6 @@
 pub mod BlockLaws
 pub mod AncestorLaws
+pub mod SiblingGroupLaws
 pub mod FollowingLaws
 pub mod PositionLaws
 pub mod PostOrderLaws

@@ -1,5 +1,6 @@
 pub mod Children
 pub mod Examples
+pub mod SiblingGroups
 pub mod Following
 pub mod Known
 pub mod Positions

@@ -2,20 +2,23 @@
 //! natural number.
 
 ghost use Rattle.std.specs.Prelude.{◌≡◌, ◌+◌, ◌-◌, ◌*◌, ◌/◌, ◌^◌, ◌<◌, ◌≤◌, ◌↔◌, length, pos, false, true, IfOk, unsigned_abs, AllPairs, Contains};
+ghost use Rattle.std.specs.List.{flat_map};
 ghost use Rattle.std.specs.Result.{result_err};
 ghost use Rattle.h3_index.specs.Cell.{Address, is_pentagon, IsCell, number_of, resolution};
-ghost use Rattle.h3_index.specs.Descendants.{center_at, descendants, IsDescendant};
+ghost use Rattle.h3_index.specs.Descendants.{center_at, children, descendants, IsDescendant};
 ghost use Rattle.h3_tree.specs.Children.{children_left};
+ghost use Rattle.h3_tree.specs.SiblingGroups.{parents_left};
 ghost use Rattle.h3_tree.specs.Refusals.{descent_refusal};
 
 use crate::iter::Children;
 use crate::powers::power_of_seven;
+use crate::sibling_groups::SiblingGroups;
 use h3_index::laws::descendants_are_listed;
 use h3_index::{Cell, H3Error, resolution_from};
 
 /// The resolution that a whole number is, where a cell has descendants at it, which is from the
 /// cell's own to 15; `ResDomain` elsewhere.
-fn resolution_below(cell: Cell, res: i32) -> Result<u8, H3Error>
+pub fn resolution_below(cell: Cell, res: i32) -> Result<u8, H3Error>
     ensures refused { result_err result ≡ descent_refusal (resolution cell) res }
     ensures is { IfOk result (λ r. (pos r ≡ res) × (resolution cell ≤ r) × (r ≤ 15)) }
 {
@@ -87,6 +90,17 @@ pub fn children_at(cell: Cell, r: u8) -> Children
 {
     descendants_are_listed();
     Children::below(cell, r)
+}
+
+/// The descendants of a cell at a resolution finer than its own, up to 15, in ascending order and
+/// each once, those of one parent at a time: the children of each descendant one level above.
+pub fn sibling_groups_at(cell: Cell, r: u8) -> SiblingGroups
+    requires finer { resolution cell < r }
+    requires at_most_fifteen { r ≤ 15 }
+    ensures parents { parents_left result ≡ descendants cell (r - 1) }
+    ensures list { flat_map children (parents_left result) ≡ descendants cell r }
+{
+    SiblingGroups::below(cell, r)
 }
 
 /// The descendants of a cell at a resolution, as H3's `cellToChildren` gives them, in ascending

@@ -8,12 +8,16 @@ pub mod laws;
 mod positions;
 mod post_order;
 mod powers;
+mod sibling_groups;
 
 pub use ancestors::parent;
-pub use descendants::{center_child, children, children_at, children_size};
+pub use descendants::{
+    center_child, children, children_at, children_size, resolution_below, sibling_groups_at,
+};
 pub use iter::Children;
 pub use positions::{child_at, child_pos};
 pub use post_order::post_order_key;
+pub use sibling_groups::SiblingGroups;
 
 #[cfg(test)]
 mod tests;

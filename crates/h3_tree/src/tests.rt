@@ -1,5 +1,6 @@
 use crate::{
-    center_child, child_at, child_pos, children, children_at, children_size, parent, post_order_key,
+    center_child, child_at, child_pos, children, children_at, children_size, parent,
+    post_order_key, sibling_groups_at,
 };
 use h3_index::{Cell, H3Error};
 use std::process::Abort;
@@ -90,6 +91,27 @@ fn children_at_a_known_resolution(rt: HostRuntime) -> Result<(), Fail> {
     assert!(rt; items.next().is_none());
     let finest = children_at(cell, 15).next().ok_or("none")?;
     assert_eq!(rt; finest.raw(), 0x8f2834700000000);
+    Ok(())
+}
+
+#[test]
+fn sibling_groups_of_grandchildren(rt: HostRuntime) -> Result<(), Fail> {
+    let cell = Cell::new(0x8009fffffffffff)?;
+    assert!(rt; cell.resolution() < 2);
+    let mut sibling_groups = sibling_groups_at(cell, 2);
+    for raw in [
+        0x81083ffffffffff,
+        0x8108bffffffffff,
+        0x8108fffffffffff,
+        0x81093ffffffffff,
+        0x81097ffffffffff,
+        0x8109bffffffffff,
+    ] {
+        let siblings = sibling_groups.next().ok_or("too few")?;
+        assert_eq!(rt; siblings.parent().raw(), raw);
+    }
+    assert!(rt; sibling_groups.next().is_none());
+    assert!(rt; sibling_groups.next().is_none());
     Ok(())
 }
 

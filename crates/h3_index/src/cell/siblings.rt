@@ -1,10 +1,47 @@
-//! The step from a cell to its next sibling, which is one addition.
+//! The children of one cell: all of them, and the step from one to the next, which is one addition.
 
-ghost use Rattle.std.specs.Prelude.{◌≡◌, ◌-◌, ◌^◌, IfSome, is_some};
+ghost use Rattle.std.specs.Prelude.{◌≡◌, ◌<◌, ◌-◌, ◌^◌, IfSome, is_some};
 ghost use Rattle.h3_index.specs.Cell.{IsCell, resolution};
 ghost use Rattle.h3_index.specs.Siblings.{has_raised, raised};
 
 use super::Cell;
+use std::marker::Model;
+
+/// All children of a cell, one level below it: six below a pentagon, and seven below any other
+/// cell. Contracts see their parent.
+#[derive(Debug, Drop)]
+pub struct Siblings {
+    parent: Cell,
+}
+
+impl Model for Siblings {
+    ghost use Rattle.std.specs.Prelude.{◌<◌};
+    ghost use Rattle.h3_index.specs.Cell.{Address, resolution};
+
+    ghost Value = { Address };
+
+    ghost view = { λ s. s.parent };
+
+    ghost invariant = { λ s. resolution s.parent < 15 };
+}
+
+impl Siblings {
+    /// The children of a cell coarser than resolution 15.
+    pub fn below(parent: Cell) -> Siblings
+        requires { resolution parent < 15 }
+        ensures { result ≡ parent }
+    {
+        Siblings { parent }
+    }
+
+    /// The cell that they are the children of.
+    pub fn parent(&self) -> Cell
+        ensures is { result ≡ self.now }
+        ensures coarse { resolution result < 15 }
+    {
+        self.parent
+    }
+}
 
 impl Cell {
     /// How much one more in its last digit adds to the cell's number. It is the same for all cells

@@ -1,18 +1,38 @@
 //! The lines of cells, one after another.
 
-ghost use Rattle.std.specs.Prelude.{◌≡◌, ◌+◌, ◌-◌, ◌*◌, ◌/◌, ◌≤◌, ◌++◌, ◌∷◌, ◌^◌, [], length, map, min, take, true};
+ghost use Rattle.std.specs.Prelude.{◌≡◌, ◌+◌, ◌-◌, ◌*◌, ◌/◌, ◌<◌, ◌≤◌, ◌++◌, ◌∷◌, ◌^◌, [], drop, length, map, min, take, true};
 ghost use Rattle.std.specs.Char.{digit_char};
+ghost use Rattle.std.specs.List.{flat_map};
 ghost use Rattle.h3_index.specs.Cell.{number_of, resolution};
 ghost use Rattle.h3_index.specs.CellNumber.{is_cell};
+ghost use Rattle.h3_index.specs.Descendants.{children};
 ghost use Rattle.h3_index.specs.Digits.{last_digits};
 ghost use Rattle.h3_index.specs.Text.{text_of};
 
 use super::digits_of;
 use super::halves::characters;
+use super::pairs::pair;
 use crate::cell::Cell;
 
 /// The bytes of a cell's line: the fifteen digits of its text, and a line feed.
 const LINE: usize = 16;
+
+/// Puts a line whose hexadecimal digits before the last `after` are those of a byte, and all others
+/// those of another line.
+#[inline(always)]
+fn put_sibling(line: &[u8; LINE], byte: u64, after: usize, bytes: &mut [u8], at: usize) -> usize
+    requires byte { byte < 256 }
+    requires within { after ≤ 13 }
+    requires room { at + LINE ≤ length bytes.old }
+    ensures end { result ≡ at + LINE }
+    ensures line { take result bytes.new ≡ take at bytes.old ++ (take (13 - after) line.now
+        ++ (map digit_char (last_digits 16 2 byte) ++ drop 2 (drop (13 - after) line.now))) }
+{
+    bytes[at..at + LINE].copy_from_slice(line);
+    let two = at + 13 - after;
+    bytes[two..two + 2].copy_from_slice(&pair(byte));
+    at + LINE
+}
 
 /// The last four hexadecimal digits of a number, in lower case.
 #[inline(always)]
@@ -83,6 +103,38 @@ impl CellLines {
         bytes[four..four + 4].copy_from_slice(&last_four(cell.raw() >> (4 * self.after)));
         at + LINE
     }
+
+    /// Puts the texts of the children of a cell, one level below it and in ascending order, each
+    /// with a line feed, into bytes from `at` on, and returns where they end. The bytes after them
+    /// may change too.
+    #[inline(always)]
+    pub fn put_children(&mut self, parent: Cell, bytes: &mut [u8], at: usize) -> usize
+        requires coarse { resolution parent < 15 }
+        requires room { at + 7 * LINE ≤ length bytes.old }
+        ensures end { result ≡ at + LINE * length (children parent) }
+        ensures few { length (children parent) ≤ 7 }
+        ensures some { 6 ≤ length (children parent) }
+        ensures lines { take result bytes.new ≡ take at bytes.old
+            ++ flat_map (λ c. text_of (number_of c) ++ 10 ∷ []) (children parent) }
+    {
+        let first = parent.child(0);
+        let mut line = [0; LINE];
+        self.put(first, &mut line, 0);
+        // A child's own digit lies in the two hexadecimal digits of a byte, that of the first child
+        // and a number of steps.
+        let places = 3 * (14 - parent.resolution());
+        let after = usize::from(places / 4);
+        let byte = first.raw() >> (4 * after) & 255;
+        let step = 1 << (places % 4);
+        let mut end = put_sibling(&line, byte, after, bytes, at);
+        if !parent.is_pentagon() {
+            end = put_sibling(&line, byte + step, after, bytes, end);
+        }
+        for digit in 2..7 {
+            end = put_sibling(&line, byte + digit * step, after, bytes, end);
+        }
+        end
+    }
 }
 
 #[cfg(test)]
@@ -117,6 +169,43 @@ mod tests {
             let end = lines.put(Cell::new(raw)?, &mut bytes, 3);
             assert_eq!(rt; &bytes[..3], b"...".as_slice());
             assert_eq!(rt; &bytes[3..end], line);
+        }
+        Ok(())
+    }
+
+    #[test]
+    fn the_lines_of_children_are_put_together(rt: HostRuntime) -> Result<(), Fail> {
+        // of hexagons, a pentagon, and the cell before once more
+        let parents: [(u64, &[u8]); 4] = [
+            (
+                0x85283473fffffff,
+                b"862834707ffffff\n86283470fffffff\n862834717ffffff\n86283471fffffff\n\
+                  862834727ffffff\n86283472fffffff\n862834737ffffff\n",
+            ),
+            (
+                0x8e2834700000007,
+                b"8f2834700000000\n8f2834700000001\n8f2834700000002\n8f2834700000003\n\
+                  8f2834700000004\n8f2834700000005\n8f2834700000006\n",
+            ),
+            (
+                0x8009fffffffffff,
+                b"81083ffffffffff\n8108bffffffffff\n8108fffffffffff\n81093ffffffffff\n\
+                  81097ffffffffff\n8109bffffffffff\n",
+            ),
+            (
+                0x8e2834700000007,
+                b"8f2834700000000\n8f2834700000001\n8f2834700000002\n8f2834700000003\n\
+                  8f2834700000004\n8f2834700000005\n8f2834700000006\n",
+            ),
+        ];
+        let mut lines = CellLines::new();
+        let mut bytes = [b'.'; 116];
+        for (parent, expected) in parents {
+            let parent = Cell::new(parent)?;
+            assert!(rt; parent.resolution() < 15);
+            let end = lines.put_children(parent, &mut bytes, 3);
+            assert_eq!(rt; &bytes[..3], b"...".as_slice());
+            assert_eq!(rt; &bytes[3..end], expected);
         }
         Ok(())
     }

@@ -1,4 +1,4 @@
-use Rattle.std.proofs.Common.{◌≡◌, ◌+◌, ◌≤◌, arith, ap, length}
+use Rattle.std.proofs.Common.{◌+◌, ◌≤◌, arith, ap, length}
 use Rattle.std.specs.Iterator.{Yields, YieldsFirst}
 use Rattle.h3_grid.specs.Edges.{edges_left}
 use Rattle.h3_lines.specs.Answer.{edge_lines, printed}

@@ -6,5 +6,5 @@ use Rattle.h3_command.proofs.for_each.put_edges.Given as goal
 abbrev pub invariant-loop-edge : goal.invariant-loop-edge
 invariant-loop-edge l = record {
   put : take l.end l.block ≡ take l.fn.at l.fn.block ++ flat_map edge_line l.yielded;
-  room : l.end ≤ l.fn.at + 32 * length l.yielded;
+  room : l.end ≤ l.fn.at + 112 * length l.yielded;
 }

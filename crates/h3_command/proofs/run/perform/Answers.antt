@@ -4,11 +4,9 @@ use Rattle.std.proofs.KnownBytes.{Keeps-refl}
 use Rattle.std.proofs.lemmas.Int.{to_z-of_z}
 use Rattle.std.proofs.lemmas.Iterator.Consumers.{YieldsList-from_first}
 use Rattle.std.proofs.lemmas.Result.{err_from_is_err_and}
-use Rattle.h3_tree.specs.Children.{children_left}
 use Rattle.h3_grid.specs.Edges.{edges_left}
 use Rattle.h3_lines.specs.Answer.{cell_lines, edge_lines, written}
 use Rattle.h3_functions.specs.Bases.{base_cells_left, pentagons_left}
-use Rattle.h3_functions.specs.Hierarchy.{cell_to_children}
 use Rattle.h3_functions.specs.Resolutions.{get_pentagons}
 use Rattle.h3_command.proofs.Written.{answered_error}
 use Rattle.h3_command.proofs.run.perform.Goals as goal
@@ -22,10 +20,10 @@ returns-in_err-get_pentagons-in-GetPentagons-clause-ends g c =
     let p = err_from_is_err_and c.from_residual.result c.from_residual.ensures.1 in
     rw (c.in-GetPentagons.is, p.1, p.2) (answered_error (λ cells. written (cell_lines cells)) (YieldsFirst pentagons_left) _ _ _ _ (ap get_pentagons (to_z-of_z w32 c.in-GetPentagons.res (search rules))) c.in_err-get_pentagons-in-GetPentagons.ensures (Keeps-refl _, refl))
 
-pub returns-in_err-cell_to_children-in-CellToChildren-clause-ends : goal.returns-in_err-cell_to_children-in-CellToChildren-clause-ends
-returns-in_err-cell_to_children-in-CellToChildren-clause-ends g c =
-    let p = err_from_is_err_and c.from_residual-in_err-cell_to_children-in-CellToChildren.result c.from_residual-in_err-cell_to_children-in-CellToChildren.ensures.1 in
-    rw (c.in-CellToChildren.is, p.1, p.2) (answered_error (λ cells. written (cell_lines cells)) (YieldsFirst children_left) _ _ _ _ (ap (cell_to_children c.in-CellToChildren.cell) (to_z-of_z w32 c.in-CellToChildren.res (search rules))) c.in_err-cell_to_children-in-CellToChildren.ensures (Keeps-refl _, refl))
+pub returns-in-CellToChildren-clause-ends : goal.returns-in-CellToChildren-clause-ends
+returns-in-CellToChildren-clause-ends g c =
+    let res = c.in-CellToChildren.res in
+    rw c.in-CellToChildren.is (rw (to_z-of_z w32 res (search rules)) at c.cell_to_children.ensures)
 
 pub returns-in-UncompactCells-clause-ends : goal.returns-in-UncompactCells-clause-ends
 returns-in-UncompactCells-clause-ends g c =

@@ -28,7 +28,7 @@ returns-clause-line c =
     let parts : List _ → List _ → List _ = λ t b. take c.args.at c.args.bytes.now ++ (take m t ++ (b ++ drop 4 (drop m t))) in
     let t = c.copy_from_slice.new.self in
     let size : length t ≡ 16 = c.copy_from_slice.ensures.len ∙ length-take-le (c.args.at + 16 - c.args.at) (drop c.args.at c.args.bytes.now) (omega (arith, length-drop c.args.at c.args.bytes.now, c.requires.room)) ∙ omega arith in
-    put_twice c.args.bytes.now t c.copy_from_slice-2.new.self c.args.at m (1 + n) (c.args.at + 16 - c.args.at) _ (c.args.at + 16 - 5 - held.after) (c.args.at + 16) size (ap length four) (omega (arith, sum)) c.requires.room (omega arith) (omega (arith, after)) (omega arith) refl
+    put_twice c.args.bytes.now t c.copy_from_slice-2.new.self 4 c.args.at m (1 + n) (c.args.at + 16 - c.args.at) _ (c.args.at + 16 - 5 - held.after) (c.args.at + 16) size (ap length four) (omega (arith, sum)) c.requires.room (omega arith) (omega (arith, after)) (omega arith) refl
     ∙ ap (λ l. parts l c.copy_from_slice-2.new.self) line ∙ ap (parts (text_of (number_of held.cell) ++ 10 ∷ [])) four
     ∙ ap (λ l. take c.args.at c.args.bytes.now ++ l) (line_differs held.cell d m valid c.raw.ensures.valid sum (rw after at (high ∙ held.high_is)))
 

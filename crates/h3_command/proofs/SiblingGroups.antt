@@ -1,0 +1,36 @@
+-- The lines of the descendants of a cell.
+use Rattle.std.specs.List.{flat_map}
+use Rattle.std.proofs.Common.{◌≡◌, ℕ, ℤ, Option, Ok, Err, ◌-◌, List, [], ◌∷◌, ◌++◌, length, append-nil, arith, refl, ap, ◌∙◌}
+use Rattle.std.specs.Prelude.{unsigned_abs}
+use Rattle.std.proofs.lemmas.Grind.{flat_map-append}
+use Rattle.h3_index.specs.Cell.{Address, resolution}
+use Rattle.h3_index.specs.Descendants.{children, descendants}
+use Rattle.h3_index.specs.Paths.{paths}
+use Rattle.h3_index.specs.declared.error.H3Error.{H3Error}
+use Rattle.h3_tree.specs.Refusals.{descent_refusal}
+use Rattle.h3_lines.specs.Answer.{cell_line, cell_lines, children_lines}
+use Rattle.h3_functions.specs.Hierarchy.{cell_to_children, unless}
+use Rattle.h3_functions.specs.Inspection.{cell_from, for_value}
+
+-- at its own resolution a cell has itself
+own : (c : Address) (r : ℕ) → r ≡ length c.digits → descendants c r ≡ c ∷ []
+unfolding descendants paths
+own c r is =
+    let none : r - length c.digits ≡ 0 = omega arith in
+    rw none (ap (λ x. x ∷ []) (ap {B = Address} (λ ds. record { base = c.base; digits = ds }) (append-nil c.digits)))
+
+pub own_line : (c : Address) (r : ℕ) → r ≡ length c.digits → cell_lines (descendants c r) ≡ cell_line c
+own_line c r is = ap cell_lines (own c r is) ∙ append-nil (cell_line c)
+
+-- those of one parent after those of another
+pub group_lines : (parents : List Address) → cell_lines (flat_map children parents) ≡ flat_map children_lines parents
+group_lines [] = refl
+group_lines (p ∷ ps) = flat_map-append cell_line (children p) (flat_map children ps) ∙ ap (λ l. children_lines p ++ l) (group_lines ps)
+
+-- ---- what is asked of an index
+
+pub no_cell : (index : Option ℕ) (res : ℤ) (e : H3Error) → cell_from index ≡ Err e → cell_to_children index res ≡ Err e
+no_cell index res e found = ap (for_value (λ c. unless (descent_refusal (resolution c) res) (descendants c (unsigned_abs res)))) found
+
+pub of_cell : (index : Option ℕ) (res : ℤ) (cell : Address) → cell_from index ≡ Ok cell → cell_to_children index res ≡ unless (descent_refusal (resolution cell) res) (descendants cell (unsigned_abs res))
+of_cell index res cell found = ap (for_value (λ c. unless (descent_refusal (resolution c) res) (descendants c (unsigned_abs res)))) found
