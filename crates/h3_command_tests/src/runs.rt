@@ -141,6 +141,11 @@ fn descendants_are_written(rt: HostRuntime) {
         Command::CellToChildren { cell, res: 1 },
         below_pentagon,
     );
+    assert_written(
+        &rt,
+        Command::CellToChildren { cell, res: 0 },
+        "8009fffffffffff\n",
+    );
 }
 
 #[test]
