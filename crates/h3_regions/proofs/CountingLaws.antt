@@ -1,0 +1,104 @@
+-- Counting cells by the cell of a region that covers them.
+use Rattle.std.specs.List.{count_by, flat_map, sum_by}
+use Rattle.std.specs.List.Sorted.{IsPermutation}
+use Rattle.std.proofs.Common.{ℕ, suc, ◌≡◌, ◌≢◌, ◌+◌, ◌<◌, List, [], ◌∷◌, length, take, set, map, not, sum, Bool, true, false, cond, Some, None, refl, arith, ◌∙◌, sym, ap, subst, inl, inr, get_or}
+use Rattle.std.proofs.Math.ListN.{length-set}
+use Rattle.std.proofs.lemmas.Bool.{cases_eq}
+use Rattle.std.proofs.lemmas.List.{get_or-set_same, get_or-set_other}
+use Rattle.std.proofs.lemmas.List.Elements.{Contains-get_or}
+use Rattle.std.proofs.lemmas.List.Sums.{count_by_more_no, count_by_more_yes, sum-map, sum_by-append, sum_by-set}
+use Rattle.std.proofs.lemmas.List.Sorted.{sum_by-IsPermutation}
+use Rattle.h3_index.specs.Cell.{Address}
+use Rattle.h3_index.specs.Descendants.{IsAncestor}
+use Rattle.h3_set.specs.Coverage.{is_ancestor, is_covered}
+use Rattle.h3_set.specs.Laws.{AncestorsAreFound}
+use Rattle.h3_regions.specs.Laws.{CountsAddUp}
+use Rattle.h3_regions.specs.Zones.{StandsAbove}
+use Rattle.h3_regions.proofs.ListLaws.{any_default}
+use Rattle.h3_regions.proofs.RegionLaws.{none_above}
+use Rattle.h3_regions.proofs.TestLaws.{covered_false, covered_true}
+
+-- the first k cells are counted
+pub record IsCounting (list cells : List Address) (counts : List ℕ) (others k : ℕ) : Type 0 where
+  pub size : length counts ≡ length list
+  pub each : (i : ℕ) (d : Address) → i < length list → get_or counts i 0 ≡ count_by (λ x. is_ancestor (get_or list i d) x) (take k cells)
+  pub none : others ≡ count_by (λ x. not (is_covered list x)) (take k cells)
+  pub total : sum counts + others ≡ k
+
+not_true : (b : Bool) → (b ≢ true) → b ≡ false
+not_true true h = absurd (h refl)
+not_true false h = refl
+
+pub as_map : (f : Address → ℕ) (list : List Address) (counts : List ℕ) → length counts ≡ length list → ((i : ℕ) (d : Address) → i < length list → get_or counts i 0 ≡ f (get_or list i d)) → counts ≡ map f list
+as_map f [] [] e h = refl
+as_map f [] (n ∷ counts) e h = absurd (omega (arith, e))
+as_map f (x ∷ list) [] e h = absurd (omega (arith, e))
+as_map f (x ∷ list) (n ∷ counts) e h =
+    let head : n ≡ f x = h 0 x (omega arith) in
+    let rest : counts ≡ map f list = as_map f list counts (omega (arith, e)) (λ i d lt. h (suc i) d (omega (arith, lt))) in
+    cc
+
+module _ (found : AncestorsAreFound) (list cells : List Address) (counts : List ℕ) (others k : ℕ) (x : Address) (lt : k < length cells) (is : x ≡ get_or cells k x) (inv : IsCounting list cells counts others k) where
+  yes : (p : Address → Bool) → p x ≡ true → count_by p (take (k + 1) cells) ≡ count_by p (take k cells) + 1
+  yes p e = count_by_more_yes p cells k x lt (ap p (sym is) ∙ e)
+
+  no : (p : Address → Bool) → p x ≡ false → count_by p (take (k + 1) cells) ≡ count_by p (take k cells)
+  no p e = count_by_more_no p cells k x lt (ap p (sym is) ∙ e)
+
+  -- the cell at i covers x, and no other does
+  pub counted : (i : ℕ) → i < length list → StandsAbove list i x → ((j : ℕ) → j < length list → StandsAbove list j x → Some i ≡ Some j) → IsCounting list cells (set counts i (get_or counts i 0 + 1)) others (k + 1)
+  counted i li above one =
+      let room : i < length counts = omega (arith, li, inv.size) in
+      let covered = covered_true found list x (get_or list i x) (Contains-get_or list i x li) (above x) in
+      record {
+        size = length-set counts i (get_or counts i 0 + 1) ∙ inv.size;
+        each = λ j d lj. elim (cases_eq j i) [
+          | inl e ↦
+              let more = yes (λ y. is_ancestor (get_or list i d) y) ((found (get_or list i d) x).1 (above d)) in
+              rw (e, get_or-set_same counts i (get_or counts i 0 + 1) 0 room, more) (ap (λ n. n + 1) (inv.each i d li))
+          | inr ne ↦
+              let miss : is_ancestor (get_or list j d) x ≡ false = not_true (is_ancestor (get_or list j d) x) (λ t. (
+              let over : StandsAbove list j x = λ d'. subst (λ a. IsAncestor a x) (any_default list j d d' lj) ((found (get_or list j d) x).0 t) in
+              let same = one j lj over in
+              let eq : i ≡ j = cc in
+              ne (sym eq))) in
+              rw (get_or-set_other counts i j (get_or counts i 0 + 1) 0 ne, no (λ y. is_ancestor (get_or list j d) y) miss) (inv.each j d lj)
+        ];
+        none = inv.none ∙ sym (no (λ y. not (is_covered list y)) (ap not covered));
+        total = omega (arith, inv.total, sum_by-set (λ n. n) counts i (get_or counts i 0 + 1) 0 room);
+      }
+
+  -- no cell covers x
+  pub uncounted : ((j : ℕ) → j < length list → StandsAbove list j x → None ≡ Some j) → IsCounting list cells counts (others + 1) (k + 1)
+  uncounted one =
+      let out = none_above list x one in
+      let uncovered = covered_false found list x out in
+      record {
+        size = inv.size;
+        each = λ j d lj. (
+            let miss : is_ancestor (get_or list j d) x ≡ false = not_true (is_ancestor (get_or list j d) x) (λ t. out (get_or list j d) (Contains-get_or list j d lj) ((found (get_or list j d) x).0 t)) in
+            inv.each j d lj ∙ sym (no (λ y. is_ancestor (get_or list j d) y) miss));
+        none = ap (λ n. n + 1) inv.none ∙ sym (yes (λ y. not (is_covered list y)) (ap not uncovered));
+        total = omega (arith, inv.total);
+      }
+
+-- ---- in parts
+
+sum_of_parts : (f : Address → ℕ) (parts : List (List Address)) → sum_by f (flat_map (λ part. part) parts) ≡ sum_by (sum_by f) parts
+sum_of_parts f [] = refl
+sum_of_parts f (part ∷ parts) =
+    let first = sum_by-append f part (flat_map (λ part. part) parts) in
+    let rest = sum_of_parts f parts in
+    let all = sum_by-append (sum_by f) (part ∷ []) parts in
+    let one : sum_by (sum_by f) (part ∷ []) ≡ sum_by f part = omega arith in
+    omega (arith, first, rest, all, one)
+
+parts_add_up : (p : Address → Bool) (cells : List Address) (parts : List (List Address)) → IsPermutation cells (flat_map (λ part. part) parts) → count_by p cells ≡ sum (map (count_by p) parts)
+parts_add_up p cells parts same =
+    sym (sum_by-IsPermutation (λ x. cond (p x) 1 0) cells (flat_map (λ part. part) parts) same) ∙ sum_of_parts (λ x. cond (p x) 1 0) parts ∙ sym (sum-map (count_by p) parts)
+
+pub counts_add_up : CountsAddUp
+counts_add_up = record {
+  zone = λ zone cells parts same. parts_add_up (λ x. is_ancestor zone x) cells parts same;
+  others = λ zones cells parts same. parts_add_up (λ x. not (is_covered zones x)) cells parts same;
+}

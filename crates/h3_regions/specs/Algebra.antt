@@ -1,0 +1,19 @@
+-- What two lists of cells share, and what one has beyond the other: compacted lists.
+use Rattle.std.specs.Prelude.{ℕ, List, max, not}
+use Rattle.std.specs.List.{filter}
+use Rattle.h3_index.specs.Cell.{Address}
+use Rattle.h3_set.specs.Compacted.{compacted}
+use Rattle.h3_set.specs.Coverage.{finest, is_covered}
+use Rattle.h3_set.specs.Uncompaction.{uncompacted}
+
+-- the finest resolution of the cells of two lists
+abbrev pub finest_of_both : List Address → List Address → ℕ
+finest_of_both a b = max (finest a) (finest b)
+
+-- of the cells that the first covers at the finest resolution of both those that the second covers too, compacted
+unfoldable pub intersection : List Address → List Address → List Address
+intersection a b = compacted (filter (is_covered b) (uncompacted a (finest_of_both a b)))
+
+-- of those cells the ones that the second does not cover, compacted
+unfoldable pub difference : List Address → List Address → List Address
+difference a b = compacted (filter (λ x. not (is_covered b x)) (uncompacted a (finest_of_both a b)))

@@ -1,0 +1,9 @@
+pub mod Algebra
+pub mod Coarsest
+pub mod Counts
+pub mod Examples
+pub mod Laws
+pub mod Left
+pub mod Region
+pub mod Shared
+pub mod Zones

@@ -1,0 +1,30 @@
+//! Laws of regions and zones. Each function does nothing; what it ensures is a law that holds
+//! always.
+
+ghost use Rattle.h3_regions.specs.Laws.{CoverageAtOneResolution, RegionsAreUnique, RegionsCoverAlike, UnionsCoverBoth, UnionsInAnyOrder, UnionsInParts, UnionsOfOne};
+
+use h3_set::laws::coverages_decide_lists;
+use h3_tree::laws::cells_form_trees;
+
+/// A union covers what either list does, and is the same in any order and in any parts; a region
+/// united with itself is itself.
+pub fn unions_are_lawful()
+    ensures covers { UnionsCoverBoth }
+    ensures in_any_order { UnionsInAnyOrder }
+    ensures in_parts { UnionsInParts }
+    ensures of_one { UnionsOfOne }
+{
+    cells_form_trees();
+    coverages_decide_lists();
+}
+
+/// A list covers what its region does. What a region covers at one resolution that is not coarser
+/// than any of its cells decides what it covers at each such resolution, and it decides the region.
+pub fn coverages_decide_regions()
+    ensures alike { RegionsCoverAlike }
+    ensures at_one_resolution { CoverageAtOneResolution }
+    ensures unique { RegionsAreUnique }
+{
+    coverages_decide_lists();
+    cells_form_trees();
+}
