@@ -4,9 +4,10 @@
 //! ring of radius 1000 by 6000 steps. Each prints a sum of what it found.
 #![tactic(auto)]
 
+use h3_directions::{Direction, TableError};
 use h3_grid::step;
 use h3_index::{Cell, H3Error, Streamed};
-use h3_lattice::{BaseTable, Direction, TableError};
+use h3_lattice::BaseTable;
 use h3_tree::{child_at, child_pos};
 use std::alloc::Global;
 use std::io::Read;

@@ -5,10 +5,10 @@ use Rattle.h3_index.specs.Edge.{DirectedEdge, edge_number}
 use Rattle.h3_index.specs.declared.error.H3Error.{H3Error}
 use Rattle.h3_index.specs.declared.error.H3Error.TheVariants.{Failed}
 use Rattle.h3_lattice.specs.BaseTable.{link_of}
-use Rattle.h3_lattice.specs.Direction.{digit_of}
+use Rattle.h3_directions.specs.Direction.{digit_of}
 use Rattle.h3_lattice.specs.Links.{Links}
-use Rattle.h3_lattice.specs.declared.error.TableError.{TableError}
-use Rattle.h3_lattice.specs.declared.error.TableError.TheVariants as fault
+use Rattle.h3_directions.specs.declared.error.TableError.{TableError}
+use Rattle.h3_directions.specs.declared.error.TableError.TheVariants as fault
 use Rattle.h3_functions.specs.Edges.{are_neighbor_cells as are_neighbors, cell_pair_from, cells_to_directed_edge as edge_between, edge_from, get_directed_edge_destination as edge_destination}
 use Rattle.h3_functions.specs.Inspection.{cell_from, for_value}
 use Rattle.h3_functions.specs.Walks.{Walk, grid_disk_distances_unsafe as disk_distances, grid_disk_unsafe as disk, grid_ring_unsafe as ring}

@@ -2,9 +2,9 @@
 
 ghost use Rattle.std.specs.Prelude.{◌≡◌, ℕ, Result, map, length};
 ghost use Rattle.h3_index.specs.declared.error.H3Error.{H3Error};
-ghost use Rattle.h3_c.specs.Columns.{column_code, column_over, place_over};
+ghost use Rattle.h3_c.specs.Columns.{column_code, column_code_at, column_over, column_over_at, place_over, place_over_at};
 
-use h3_index::H3Error;
+use h3_index::{H3Error, resolution_from};
 
 /// H3's number for an array with too little room.
 pub(crate) const MEMORY_BOUNDS: u32 = 14;
@@ -66,4 +66,29 @@ pub(crate) fn fill<T: Copy, Q: Question<T>>(
     }
     *at = if code == 0 { indexes.len() } else { first };
     code
+}
+
+/// [`fill`], where the question is about a resolution. A number that is none is refused before any
+/// index is asked, and where there are none: then nothing is written.
+#[inline(always)]
+pub(crate) fn fill_at<T: Copy, Q: Question<T>>(
+    res: i32,
+    question: &Q,
+    indexes: &[u64],
+    missing: T,
+    out: &mut [T],
+    at: &mut usize,
+) -> u32
+    ensures code { result
+        ≡ column_code_at res (map (λ h. Q.outcome question.now h) indexes.now) (length out.old) }
+    ensures values { out.new
+        ≡ column_over_at res missing (map (λ h. Q.outcome question.now h) indexes.now) out.old }
+    ensures place { at.new
+        ≡ place_over_at res (map (λ h. Q.outcome question.now h) indexes.now)
+        (length out.old) at.old }
+{
+    match resolution_from(res) {
+        Ok(_) => fill(question, indexes, missing, out, at),
+        Err(error) => u32::from(error.number()),
+    }
 }

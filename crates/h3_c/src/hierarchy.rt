@@ -2,11 +2,11 @@
 
 ghost use Rattle.std.specs.Prelude.{◌≡◌, ◌-◌, ◌^◌, Some, map, length};
 ghost use Rattle.h3_functions.specs.Hierarchy.{cell_to_center_child, cell_to_child_pos, cell_to_children, cell_to_children_size, cell_to_parent, child_pos_to_cell};
-ghost use Rattle.h3_c.specs.Columns.{column_code, column_over, place_over};
+ghost use Rattle.h3_c.specs.Columns.{column_code_at, column_over_at, place_over_at};
 ghost use Rattle.h3_c.specs.Lists.{list_code, list_over};
 ghost use Rattle.h3_c.specs.Outcome.{code_of, index_of, put_over};
 
-use crate::column::{NO_COUNT, NULL, Question, fill};
+use crate::column::{NO_COUNT, NULL, Question, fill_at};
 use crate::lists::put_list;
 use crate::outcome::{index_of, put};
 use h3_functions::{
@@ -39,7 +39,7 @@ impl Question<u64> for Parents {
     }
 }
 
-/// [`h3w_cellToParent`] of each index.
+/// [`h3w_cellToParent`] of each index, once the resolution is judged.
 #[unsafe(no_mangle)]
 pub extern "C" fn h3w_cellsToParents(
     cells: &[u64],
@@ -48,15 +48,15 @@ pub extern "C" fn h3w_cellsToParents(
     at: &mut usize,
 ) -> u32
     ensures code { result
-        ≡ column_code (map (λ h. index_of (cell_to_parent (Some h) res)) cells.now)
+        ≡ column_code_at res (map (λ h. index_of (cell_to_parent (Some h) res)) cells.now)
         (length out.old) }
     ensures values { out.new
-        ≡ column_over 0 (map (λ h. index_of (cell_to_parent (Some h) res)) cells.now) out.old }
+        ≡ column_over_at res 0 (map (λ h. index_of (cell_to_parent (Some h) res)) cells.now) out.old }
     ensures place { at.new
-        ≡ place_over (map (λ h. index_of (cell_to_parent (Some h) res)) cells.now)
+        ≡ place_over_at res (map (λ h. index_of (cell_to_parent (Some h) res)) cells.now)
         (length out.old) at.old }
 {
-    fill(&Parents { res }, cells, NULL, out, at)
+    fill_at(res, &Parents { res }, cells, NULL, out, at)
 }
 
 /// H3's `cellToCenterChild`.
@@ -83,7 +83,7 @@ impl Question<u64> for CenterChildren {
     }
 }
 
-/// [`h3w_cellToCenterChild`] of each index.
+/// [`h3w_cellToCenterChild`] of each index, once the resolution is judged.
 #[unsafe(no_mangle)]
 pub extern "C" fn h3w_cellsToCenterChildren(
     cells: &[u64],
@@ -92,16 +92,16 @@ pub extern "C" fn h3w_cellsToCenterChildren(
     at: &mut usize,
 ) -> u32
     ensures code { result
-        ≡ column_code (map (λ h. index_of (cell_to_center_child (Some h) res)) cells.now)
+        ≡ column_code_at res (map (λ h. index_of (cell_to_center_child (Some h) res)) cells.now)
         (length out.old) }
     ensures values { out.new
-        ≡ column_over 0 (map (λ h. index_of (cell_to_center_child (Some h) res)) cells.now)
+        ≡ column_over_at res 0 (map (λ h. index_of (cell_to_center_child (Some h) res)) cells.now)
         out.old }
     ensures place { at.new
-        ≡ place_over (map (λ h. index_of (cell_to_center_child (Some h) res)) cells.now)
+        ≡ place_over_at res (map (λ h. index_of (cell_to_center_child (Some h) res)) cells.now)
         (length out.old) at.old }
 {
-    fill(&CenterChildren { res }, cells, NULL, out, at)
+    fill_at(res, &CenterChildren { res }, cells, NULL, out, at)
 }
 
 /// H3's `cellToChildrenSize`.
@@ -128,7 +128,7 @@ impl Question<u64> for ChildrenSizes {
     }
 }
 
-/// [`h3w_cellToChildrenSize`] of each index.
+/// [`h3w_cellToChildrenSize`] of each index, once the resolution is judged.
 #[unsafe(no_mangle)]
 pub extern "C" fn h3w_cellsToChildrenSizes(
     cells: &[u64],
@@ -136,16 +136,16 @@ pub extern "C" fn h3w_cellsToChildrenSizes(
     out: &mut [u64],
     at: &mut usize,
 ) -> u32
-    ensures code { result ≡ column_code (map (λ h. cell_to_children_size (Some h) res) cells.now)
+    ensures code { result ≡ column_code_at res (map (λ h. cell_to_children_size (Some h) res) cells.now)
         (length out.old) }
     ensures values { out.new
-        ≡ column_over (2 ^ 64 - 1) (map (λ h. cell_to_children_size (Some h) res) cells.now)
+        ≡ column_over_at res (2 ^ 64 - 1) (map (λ h. cell_to_children_size (Some h) res) cells.now)
         out.old }
     ensures place { at.new
-        ≡ place_over (map (λ h. cell_to_children_size (Some h) res) cells.now)
+        ≡ place_over_at res (map (λ h. cell_to_children_size (Some h) res) cells.now)
         (length out.old) at.old }
 {
-    fill(&ChildrenSizes { res }, cells, NO_COUNT, out, at)
+    fill_at(res, &ChildrenSizes { res }, cells, NO_COUNT, out, at)
 }
 
 /// H3's `cellToChildPos`.
@@ -172,7 +172,7 @@ impl Question<u64> for ChildPositions {
     }
 }
 
-/// [`h3w_cellToChildPos`] of each index.
+/// [`h3w_cellToChildPos`] of each index, once the resolution is judged.
 #[unsafe(no_mangle)]
 pub extern "C" fn h3w_cellsToChildPositions(
     cells: &[u64],
@@ -180,14 +180,14 @@ pub extern "C" fn h3w_cellsToChildPositions(
     out: &mut [u64],
     at: &mut usize,
 ) -> u32
-    ensures code { result ≡ column_code (map (λ h. cell_to_child_pos (Some h) res) cells.now)
+    ensures code { result ≡ column_code_at res (map (λ h. cell_to_child_pos (Some h) res) cells.now)
         (length out.old) }
     ensures values { out.new
-        ≡ column_over (2 ^ 64 - 1) (map (λ h. cell_to_child_pos (Some h) res) cells.now) out.old }
+        ≡ column_over_at res (2 ^ 64 - 1) (map (λ h. cell_to_child_pos (Some h) res) cells.now) out.old }
     ensures place { at.new
-        ≡ place_over (map (λ h. cell_to_child_pos (Some h) res) cells.now) (length out.old) at.old }
+        ≡ place_over_at res (map (λ h. cell_to_child_pos (Some h) res) cells.now) (length out.old) at.old }
 {
-    fill(&ChildPositions { res }, cells, NO_COUNT, out, at)
+    fill_at(res, &ChildPositions { res }, cells, NO_COUNT, out, at)
 }
 
 /// H3's `childPosToCell`. A position below 0 is one of 2^63 or more here, which no descendant has.

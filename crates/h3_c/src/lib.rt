@@ -12,4 +12,5 @@ mod resolutions;
 mod sets;
 mod tables;
 mod texts;
+mod version;
 mod walks;

@@ -6,7 +6,7 @@ use Rattle.std.specs.Iterator.{Yields, YieldsFirst}
 use Rattle.h3_index.specs.Cell.{Address}
 use Rattle.h3_index.specs.Edge.{DirectedEdge, directed_edge, has_edge}
 use Rattle.h3_index.specs.declared.error.H3Error.{H3Error}
-use Rattle.h3_lattice.specs.Direction.{digit_of, directions}
+use Rattle.h3_directions.specs.Direction.{digit_of, directions}
 use Rattle.h3_grid.specs.DirectedEdges.{edges_from}
 use Rattle.h3_grid.specs.Edges.{edges_left}
 use Rattle.h3_grid.specs.declared.iter.Edges.{Edges}

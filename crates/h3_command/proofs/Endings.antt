@@ -6,8 +6,8 @@ use Rattle.h3_index.specs.declared.error.H3Error.{H3Error}
 use Rattle.h3_lattice.specs.Fields.{records_of}
 use Rattle.h3_lattice.specs.Links.{Links}
 use Rattle.h3_lattice.specs.Table.{RefusesTable, links_of, table_fault}
-use Rattle.h3_lattice.specs.declared.error.TableError.{TableError}
-use Rattle.h3_lattice.specs.declared.error.TableError.TheVariants as fault
+use Rattle.h3_directions.specs.declared.error.TableError.{TableError}
+use Rattle.h3_directions.specs.declared.error.TableError.TheVariants as fault
 use Rattle.h3_lines.specs.Answer.{Answer, answer_or_error, out_of_memory}
 use Rattle.h3_lines.specs.EachLine.{EndsEach, answer_at, list_answer}
 use Rattle.h3_lines.specs.List.{RefusesList, listed_cells}

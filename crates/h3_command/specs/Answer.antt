@@ -5,7 +5,7 @@ use Rattle.h3_index.specs.declared.error.H3Error.{H3Error}
 use Rattle.h3_lattice.specs.Fields.{records_of}
 use Rattle.h3_lattice.specs.Links.{Links}
 use Rattle.h3_lattice.specs.Table.{links_of, table_fault}
-use Rattle.h3_lattice.specs.declared.error.TableError.{TableError}
+use Rattle.h3_directions.specs.declared.error.TableError.{TableError}
 use Rattle.h3_lines.specs.Answer.{Answer, answer_or_error, cell_line, cell_lines, edge_line, edge_lines, number_line, printed, refused, ring_line, table_refused, truth_line, walked, written}
 use Rattle.h3_lines.specs.EachLine.{list_answer}
 use Rattle.h3_lines.specs.List.{listed_cells}
@@ -15,10 +15,10 @@ use Rattle.h3_functions.specs.Inspection.{cell_from, get_base_cell_number, get_r
 use Rattle.h3_functions.specs.Resolutions.{get_num_cells, get_pentagons, get_res0_cells}
 use Rattle.h3_functions.specs.Sets.{compact_cells, uncompact_cells}
 use Rattle.h3_functions.specs.Walks.{grid_disk_distances_unsafe, grid_disk_unsafe, grid_ring_unsafe}
-use Rattle.h3_command.specs.declared.command.CellFunction.{CellFunction}
-use Rattle.h3_command.specs.declared.command.CellFunction.TheVariants as each
-use Rattle.h3_command.specs.declared.command.Command.{Command}
-use Rattle.h3_command.specs.declared.command.Command.TheVariants as command
+use Rattle.h3_requests.specs.declared.command.CellFunction.{CellFunction}
+use Rattle.h3_requests.specs.declared.command.CellFunction.TheVariants as each
+use Rattle.h3_requests.specs.declared.command.Command.{Command}
+use Rattle.h3_requests.specs.declared.command.Command.TheVariants as command
 
 -- what a command reads and writes: an answer that its words alone fix, one about the cells listed on standard input, one
 -- for each line of it, or one about the links of a base cell table

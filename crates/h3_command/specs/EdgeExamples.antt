@@ -14,7 +14,7 @@ use Rattle.h3_lines.specs.Answer.{refused, written}
 use Rattle.h3_command.specs.Answer.{answer, request}
 use Rattle.h3_command.specs.Answer.Request.{plain}
 use Rattle.h3_functions.specs.Edges.{are_neighbor_cells, cells_to_directed_edge}
-use Rattle.h3_command.specs.declared.command.Command.TheVariants.{AreNeighborCells, CellsToDirectedEdge, GetDirectedEdgeDestination, GetDirectedEdgeOrigin, IsValidDirectedEdge, OriginToDirectedEdges}
+use Rattle.h3_requests.specs.declared.command.Command.TheVariants.{AreNeighborCells, CellsToDirectedEdge, GetDirectedEdgeDestination, GetDirectedEdgeOrigin, IsValidDirectedEdge, OriginToDirectedEdges}
 
 -- an edge; direction 1 at a pentagon; a cell
 which_are_edges : map (λ (index : ℕ). answer (IsValidDirectedEdge (Some index)) [] []) (0x115283473fffffff ∷ 0x11009fffffffffff ∷ 0x85283473fffffff ∷ [])

@@ -8,7 +8,7 @@ use Rattle.h3_index.specs.declared.error.H3Error.TheVariants.{CellInvalid, Domai
 use Rattle.h3_lattice.specs.Fields.{records_of}
 use Rattle.h3_lattice.specs.Table.{table_fault}
 use Rattle.h3_lattice.specs.Vectors.{test_link}
-use Rattle.h3_lattice.specs.declared.error.TableError.TheVariants as fault
+use Rattle.h3_directions.specs.declared.error.TableError.TheVariants as fault
 use Rattle.h3_lattice.specs.declared.vectors.TestTable.TheVariants.{Plain}
 use Rattle.h3_grid.specs.Moves.{moves, ring_moves}
 use Rattle.h3_grid.specs.Search.{candidates, digit_lists, found_sum, step_of}
@@ -18,8 +18,8 @@ use Rattle.h3_lines.specs.Answer.{answer_or_error, before, cell_line, refused, t
 use Rattle.h3_command.specs.Answer.{answer, request}
 use Rattle.h3_command.specs.Answer.Request.{plain}
 use Rattle.h3_functions.specs.Walks.{grid_disk_unsafe}
-use Rattle.h3_command.specs.declared.command.CellFunction.TheVariants as each
-use Rattle.h3_command.specs.declared.command.Command.TheVariants.{CellToParent, ForEach, GridDiskUnsafe, IsValidCell}
+use Rattle.h3_requests.specs.declared.command.CellFunction.TheVariants as each
+use Rattle.h3_requests.specs.declared.command.Command.TheVariants.{CellToParent, ForEach, GridDiskUnsafe, IsValidCell}
 
 -- ---- answers
 

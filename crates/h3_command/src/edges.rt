@@ -8,7 +8,7 @@
 ghost use Rattle.std.specs.Prelude.{◌≡◌};
 ghost use Rattle.h3_command.specs.Answer.{request, with_table};
 ghost use Rattle.h3_command.specs.TableQuery.{table_answer};
-ghost use Rattle.h3_command.specs.declared.command.Command.TheVariants.{AreNeighborCells, CellsToDirectedEdge, GetDirectedEdgeDestination};
+ghost use Rattle.h3_requests.specs.declared.command.Command.TheVariants.{AreNeighborCells, CellsToDirectedEdge, GetDirectedEdgeDestination};
 
 use crate::table_query::TableQuery;
 use h3_functions::{cell_pair_from, edge_from};

@@ -6,7 +6,6 @@ ghost use Rattle.h3_lines.specs.Answer.{edge_lines, printed, refused};
 ghost use Rattle.h3_lines.specs.Answering.{Puts};
 ghost use Rattle.h3_command.specs.Answer.{answer_for};
 
-use crate::command::CellFunction::{self, *};
 use h3_functions::{
     cell_to_center_child, cell_to_child_pos, cell_to_children_size, cell_to_parent,
     get_base_cell_number, get_directed_edge_origin, get_resolution, is_pentagon, is_res_class_iii,
@@ -14,6 +13,7 @@ use h3_functions::{
 };
 use h3_index::{CellLines, H3Error};
 use h3_lines::{ANSWER, BLOCK, IndexFunction, Line, put_result};
+use h3_requests::CellFunction::{self, *};
 
 /// Puts a line for each edge that leaves a cell, at most six, into a block from the byte `at` on.
 // Inlined, the place of its iterator would be cleared for each line, whatever the function.
@@ -39,8 +39,12 @@ fn put_edges(
     Ok(end)
 }
 
-impl IndexFunction for CellFunction {
-    ghost answer_of = { answer_for };
+/// A function of one index, of which `answer_each` writes the answers.
+#[derive(Drop)]
+pub struct AnswerOf(pub CellFunction);
+
+impl IndexFunction for AnswerOf {
+    ghost answer_of = { λ f. answer_for f.0 };
 
     #[inline(always)]
     fn put(
@@ -50,7 +54,7 @@ impl IndexFunction for CellFunction {
         block: &mut [u8; BLOCK],
         at: usize,
     ) -> Result<usize, H3Error> {
-        match *self {
+        match self.0 {
             IsValidCell => put_result(is_valid_cell(index), lines, block, at),
             IsValidDirectedEdge => put_result(is_valid_directed_edge(index), lines, block, at),
             GetResolution => put_result(get_resolution(index), lines, block, at),

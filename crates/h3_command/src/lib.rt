@@ -2,13 +2,9 @@
 #![tactic(auto)]
 
 mod children;
-mod command;
 mod edges;
 mod for_each;
-pub mod laws;
 pub mod run;
 mod sets;
 mod table_query;
 mod walks;
-
-pub use command::{CellFunction, Command};

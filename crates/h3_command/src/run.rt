@@ -6,9 +6,8 @@ ghost use Rattle.h3_command.specs.Answer.{reads_list, reads_table, request};
 ghost use Rattle.h3_command.specs.Run.{Ends, Runs, source_use};
 
 use crate::children::cell_to_children;
-use crate::command::Command;
-use crate::command::Command::*;
 use crate::edges::{are_neighbor_cells, cells_to_directed_edge, get_directed_edge_destination};
+use crate::for_each::AnswerOf;
 use crate::sets::{compact_cells, uncompact_cells};
 use crate::table_query::over_table;
 use crate::walks::{grid_disk_distances_unsafe, grid_disk_unsafe, grid_ring_unsafe};
@@ -20,6 +19,8 @@ use h3_functions::{
 };
 use h3_index::{Sink, Source};
 use h3_lines::{Refusal, answer_each, report, write_lines, write_result};
+use h3_requests::Command;
+use h3_requests::Command::*;
 use std::alloc::Global;
 
 /// Does the work of a command, up to the line on standard error.
@@ -74,7 +75,7 @@ fn perform<R: Source, T: Source, W: Sink>(
             over_table(alloc, get_directed_edge_destination(edge), table, out)
         }
         OriginToDirectedEdges { cell } => write_lines(out, origin_to_directed_edges(cell)?),
-        ForEach(function) => answer_each(alloc, &function, input, out),
+        ForEach(function) => answer_each(alloc, &AnswerOf(function), input, out),
     }
 }
 
@@ -86,9 +87,10 @@ fn perform<R: Source, T: Source, W: Sink>(
 /// once the indexes of its words are valid. The others read neither and take no memory. Where a
 /// walk over a table is refused on its way, the lines of the cells before that stand on `out`.
 ///
-/// After a write that failed, a beginning of the answer stands on `out`; after a read that failed,
-/// or where memory is refused, nothing does. A source that is not at its end after 2^40 reads
-/// counts as one that failed. A standard error that fails changes no status.
+/// After a write that failed, a beginning of the answer stands on `out`. After a read that failed,
+/// or where memory is refused, nothing does, but of a command in the plural: where a read of its
+/// list fails, the answers to the lines that ended before. A source that is not at its end after
+/// 2^40 reads counts as one that failed. A standard error that fails changes no status.
 pub fn run<R: Source, T: Source, W: Sink, E: Sink>(
     alloc: Global,
     command: &Command,

@@ -6,7 +6,7 @@
 ghost use Rattle.std.specs.Prelude.{◌≡◌};
 ghost use Rattle.h3_command.specs.Answer.{request, with_table};
 ghost use Rattle.h3_command.specs.TableQuery.{table_answer};
-ghost use Rattle.h3_command.specs.declared.command.Command.TheVariants.{GridDiskDistancesUnsafe, GridDiskUnsafe, GridRingUnsafe};
+ghost use Rattle.h3_requests.specs.declared.command.Command.TheVariants.{GridDiskDistancesUnsafe, GridDiskUnsafe, GridRingUnsafe};
 
 use crate::table_query::TableQuery;
 use h3_functions::cell_from;

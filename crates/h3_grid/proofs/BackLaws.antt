@@ -2,10 +2,10 @@
 use Rattle.std.proofs.Common.{ℕ, ℤ, zero, suc, pos, negsuc, ◌≡◌, ◌≢◌, ◌<◌, ◌+◌, ◌-◌, ◌%◌, List, length, map, false, Option, Some, None, refl, arith, sym, ap, ◌∙◌, subst}
 use Rattle.std.specs.Int.Digits.{AllBelowBase}
 use Rattle.h3_index.specs.Cell.{Address, is_pentagon_base}
-use Rattle.h3_lattice.specs.declared.direction.Direction.{Direction}
-use Rattle.h3_lattice.specs.declared.direction.Direction.TheVariants.{K, J, JK, I, IK, IJ}
-use Rattle.h3_lattice.specs.Eisenstein.{Eisenstein, sum_of}
-use Rattle.h3_lattice.specs.Direction.{digit_turned, opposite, turned, turned_once, unit_of, value_of}
+use Rattle.h3_directions.specs.declared.direction.Direction.{Direction}
+use Rattle.h3_directions.specs.declared.direction.Direction.TheVariants.{K, J, JK, I, IK, IJ}
+use Rattle.h3_directions.specs.Eisenstein.{Eisenstein, sum_of}
+use Rattle.h3_directions.specs.Direction.{digit_turned, opposite, turned, turned_once, unit_of, value_of}
 use Rattle.h3_lattice.specs.Digits.{cell_of}
 use Rattle.h3_lattice.specs.Expansion.{place, scaled}
 use Rattle.h3_lattice.specs.Laws.{OppositesAreThreeTurns}

@@ -9,9 +9,9 @@ use Rattle.h3_index.specs.Cell.{Address, IsCell, is_pentagon, is_pentagon_base}
 use Rattle.h3_index.specs.Edge.{DirectedEdge, IsEdge, direction_refusal, directed_edge, has_edge}
 use Rattle.h3_index.specs.declared.error.H3Error.{H3Error}
 use Rattle.h3_index.specs.declared.error.H3Error.TheVariants.{DirEdgeInvalid, NotNeighbors, Pentagon}
-use Rattle.h3_lattice.specs.declared.direction.Direction.{Direction}
-use Rattle.h3_lattice.specs.declared.direction.Direction.TheVariants.{K, J, JK, I, IK, IJ}
-use Rattle.h3_lattice.specs.Direction.{digit_of, direction_of}
+use Rattle.h3_directions.specs.declared.direction.Direction.{Direction}
+use Rattle.h3_directions.specs.declared.direction.Direction.TheVariants.{K, J, JK, I, IK, IJ}
+use Rattle.h3_directions.specs.Direction.{digit_of, direction_of}
 use Rattle.h3_lattice.specs.Links.{Links}
 use Rattle.h3_grid.specs.DirectedEdges.{IsDestination, IsEdgeBetween, ListsEdges, edge_between, edge_destination, edge_refusal, edges_from}
 use Rattle.h3_grid.specs.Neighbors.{AreNeighbors, DirectionsAreFound, direction_to, neighbor}

@@ -7,10 +7,10 @@ use Rattle.h3_index.specs.Cell.{Address, IsCell, is_pentagon_base, number_of, re
 use Rattle.h3_index.specs.Laws.{NumbersAreUnique}
 use Rattle.h3_index.specs.declared.error.H3Error.{H3Error}
 use Rattle.h3_index.specs.declared.error.H3Error.TheVariants.{Pentagon, ResMismatch}
-use Rattle.h3_lattice.specs.declared.direction.Direction.{Direction}
-use Rattle.h3_lattice.specs.declared.direction.Direction.TheVariants.{K, J, JK, I, IK, IJ}
+use Rattle.h3_directions.specs.declared.direction.Direction.{Direction}
+use Rattle.h3_directions.specs.declared.direction.Direction.TheVariants.{K, J, JK, I, IK, IJ}
 use Rattle.h3_lattice.specs.Digits.{cell_of}
-use Rattle.h3_lattice.specs.Direction.{digit_turned, directions, opposite, turned}
+use Rattle.h3_directions.specs.Direction.{digit_turned, directions, opposite, turned}
 use Rattle.h3_lattice.specs.Links.{IsSound, Links}
 use Rattle.h3_lattice.specs.Moved.{IsSum}
 use Rattle.h3_grid.specs.Laws.{IsState, OverSoundLinks, StepsLeave, StepsDiffer}

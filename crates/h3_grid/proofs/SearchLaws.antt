@@ -6,10 +6,10 @@ use Rattle.std.specs.Ordering.{int_eq}
 use Rattle.std.proofs.lemmas.Bool.{and_parts}
 use Rattle.std.proofs.lemmas.Bool.Decides.{Decides-int_eq}
 use Rattle.h3_index.specs.Cell.{is_pentagon_base}
-use Rattle.h3_lattice.specs.declared.direction.Direction.{Direction}
-use Rattle.h3_lattice.specs.declared.direction.Direction.TheVariants.{K, J, JK, I, IK, IJ}
-use Rattle.h3_lattice.specs.Eisenstein.{Eisenstein}
-use Rattle.h3_lattice.specs.Direction.{turned}
+use Rattle.h3_directions.specs.declared.direction.Direction.{Direction}
+use Rattle.h3_directions.specs.declared.direction.Direction.TheVariants.{K, J, JK, I, IK, IJ}
+use Rattle.h3_directions.specs.Eisenstein.{Eisenstein}
+use Rattle.h3_directions.specs.Direction.{turned}
 use Rattle.h3_lattice.specs.Laws.{SumsExist, SumsAreUnique}
 use Rattle.h3_lattice.specs.Links.{Links}
 use Rattle.h3_lattice.specs.Moved.{IsSum}

@@ -4,9 +4,9 @@ use Rattle.std.specs.Prelude.{unwrap_or}
 use Rattle.std.proofs.lemmas.Bool.{cases_lt}
 use Rattle.std.specs.List.{flat_map, range_with_len}
 use Rattle.h3_index.specs.Cell.{Address}
-use Rattle.h3_lattice.specs.declared.direction.Direction.{Direction}
-use Rattle.h3_lattice.specs.declared.direction.Direction.TheVariants.{I}
-use Rattle.h3_lattice.specs.Direction.{turned}
+use Rattle.h3_directions.specs.declared.direction.Direction.{Direction}
+use Rattle.h3_directions.specs.declared.direction.Direction.TheVariants.{I}
+use Rattle.h3_directions.specs.Direction.{turned}
 use Rattle.h3_lattice.specs.Links.{IsSound, Links}
 use Rattle.h3_grid.specs.Chart.{states_from}
 use Rattle.h3_grid.specs.Laws.{IsState, OverSoundLinks, StepsReachStates}

@@ -1,8 +1,8 @@
 -- What the counters of the walks mean. Public contracts cite these definitions only by what a walk has left.
 use Rattle.std.specs.Prelude.{ℕ, ◌+◌, ◌-◌, List, ◌++◌, drop, replicate, slice_index_or}
 use Rattle.std.specs.List.{flat_map, range_with_len}
-use Rattle.h3_lattice.specs.declared.direction.Direction.{Direction}
-use Rattle.h3_lattice.specs.declared.direction.Direction.TheVariants.{I}
+use Rattle.h3_directions.specs.declared.direction.Direction.{Direction}
+use Rattle.h3_directions.specs.declared.direction.Direction.TheVariants.{I}
 use Rattle.h3_grid.specs.Moves.{Move, ring_moves, side_moves, sides, write}
 
 -- the direction of the side that has this many sides after it

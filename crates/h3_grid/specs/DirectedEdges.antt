@@ -8,8 +8,8 @@ use Rattle.h3_index.specs.Cell.{Address}
 use Rattle.h3_index.specs.Edge.{DirectedEdge, IsEdge, directed_edge, has_edge}
 use Rattle.h3_index.specs.declared.error.H3Error.{H3Error}
 use Rattle.h3_index.specs.declared.error.H3Error.TheVariants.{NotNeighbors, Pentagon}
-use Rattle.h3_lattice.specs.declared.direction.Direction.{Direction}
-use Rattle.h3_lattice.specs.Direction.{digit_of, direction_of, directions}
+use Rattle.h3_directions.specs.declared.direction.Direction.{Direction}
+use Rattle.h3_directions.specs.Direction.{digit_of, direction_of, directions}
 use Rattle.h3_lattice.specs.Links.{Links}
 use Rattle.h3_grid.specs.Neighbors.{direction_to, neighbor, pair_refusal, unless_refused}
 

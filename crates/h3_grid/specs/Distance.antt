@@ -1,9 +1,9 @@
 -- Distances, counted in neighbors.
 use Rattle.std.specs.Prelude.{◌↔◌, ◌≤◌, ℕ, suc, List, Contains}
 use Rattle.h3_index.specs.Cell.{Address, IsCell}
-use Rattle.h3_lattice.specs.declared.direction.Direction.{Direction}
-use Rattle.h3_lattice.specs.Eisenstein.{Eisenstein, sum_of, zero_point}
-use Rattle.h3_lattice.specs.Direction.{unit_of}
+use Rattle.h3_directions.specs.declared.direction.Direction.{Direction}
+use Rattle.h3_directions.specs.Eisenstein.{Eisenstein, sum_of, zero_point}
+use Rattle.h3_directions.specs.Direction.{unit_of}
 use Rattle.h3_lattice.specs.Links.{IsSound, Links}
 use Rattle.h3_grid.specs.Laws.{WritesCells}
 use Rattle.h3_grid.specs.Moves.{spiral}

@@ -2,9 +2,9 @@
 use Rattle.std.specs.Prelude.{◌≡◌, ◌≢◌, ℕ, ◌+◌, ◌*◌, ◌<◌, Some, List, ◌∷◌, length, map, All, AllPairs, Ok}
 use Rattle.std.specs.Int.Digits.{AllBelowBase}
 use Rattle.h3_index.specs.Cell.{Address, IsCell}
-use Rattle.h3_lattice.specs.declared.direction.Direction.{Direction}
-use Rattle.h3_lattice.specs.Eisenstein.{sum_of, zero_point}
-use Rattle.h3_lattice.specs.Direction.{opposite, turned, turned_once}
+use Rattle.h3_directions.specs.declared.direction.Direction.{Direction}
+use Rattle.h3_directions.specs.Eisenstein.{sum_of, zero_point}
+use Rattle.h3_directions.specs.Direction.{opposite, turned, turned_once}
 use Rattle.h3_lattice.specs.Expansion.{place}
 use Rattle.h3_lattice.specs.Links.{IsHexagonBase, IsSound, Links}
 use Rattle.h3_grid.specs.Moves.{moves, spiral, sums_from}

@@ -4,10 +4,10 @@
 -- in each of the directions J, JK, K, IK, I and IJ, as many steps as the ring's number, each of which writes a cell.
 use Rattle.std.specs.Prelude.{ℕ, pos, List, [], ◌∷◌, map, replicate, Bool, true, false, if◌then◌else◌}
 use Rattle.std.specs.List.{flat_map, range_with_len}
-use Rattle.h3_lattice.specs.declared.direction.Direction.{Direction}
-use Rattle.h3_lattice.specs.declared.direction.Direction.TheVariants.{K, J, JK, I, IK, IJ}
-use Rattle.h3_lattice.specs.Eisenstein.{Eisenstein, eisenstein, product_of, sum_of, zero_point}
-use Rattle.h3_lattice.specs.Direction.{turning, unit_of}
+use Rattle.h3_directions.specs.declared.direction.Direction.{Direction}
+use Rattle.h3_directions.specs.declared.direction.Direction.TheVariants.{K, J, JK, I, IK, IJ}
+use Rattle.h3_directions.specs.Eisenstein.{Eisenstein, eisenstein, product_of, sum_of, zero_point}
+use Rattle.h3_directions.specs.Direction.{turning, unit_of}
 
 -- a move in a direction, on the way around a ring, and whether the cell that it leads to is written
 pub record Move : Type 0 where

@@ -2,7 +2,7 @@
 use Rattle.std.specs.Prelude.{List, ◌∷◌, replicate, Some, Result, Ok, if◌then◌else◌}
 use Rattle.h3_index.specs.Cell.{Address}
 use Rattle.h3_index.specs.declared.error.H3Error.{H3Error}
-use Rattle.h3_lattice.specs.declared.direction.Direction.TheVariants.{I}
+use Rattle.h3_directions.specs.declared.direction.Direction.TheVariants.{I}
 use Rattle.h3_lattice.specs.BaseTable.{link_of}
 use Rattle.h3_grid.specs.declared.rings.Ring.{Ring}
 use Rattle.h3_grid.specs.Counters.{directions_left}

@@ -6,9 +6,9 @@ use Rattle.std.specs.Prelude.{◌≡◌, ◌↔◌, ℕ, zero, suc, List, [], �
 use Rattle.std.specs.List.{find, flat_map, range_with_len}
 use Rattle.std.specs.Ordering.{int_eq}
 use Rattle.h3_index.specs.Cell.{is_pentagon_base}
-use Rattle.h3_lattice.specs.declared.direction.Direction.{Direction}
-use Rattle.h3_lattice.specs.Eisenstein.{Eisenstein, sum_of}
-use Rattle.h3_lattice.specs.Direction.{directions, turned, unit_of, value_of}
+use Rattle.h3_directions.specs.declared.direction.Direction.{Direction}
+use Rattle.h3_directions.specs.Eisenstein.{Eisenstein, sum_of}
+use Rattle.h3_directions.specs.Direction.{directions, turned, unit_of, value_of}
 use Rattle.h3_lattice.specs.Expansion.{place, scaled}
 use Rattle.h3_lattice.specs.Links.{Links}
 use Rattle.h3_grid.specs.Steps.{IsStep, State, led_to}

@@ -6,8 +6,8 @@
 -- is in the base cell to which the table links that border. No step starts or ends in a pentagon base cell.
 use Rattle.std.specs.Prelude.{◌≡◌, ℕ, ◌+◌, ◌%◌, List, map, true, false, if◌then◌else◌, Option, Some, None}
 use Rattle.h3_index.specs.Cell.{Address, is_pentagon_base}
-use Rattle.h3_lattice.specs.declared.direction.Direction.{Direction}
-use Rattle.h3_lattice.specs.Direction.{digit_turned, turned}
+use Rattle.h3_directions.specs.declared.direction.Direction.{Direction}
+use Rattle.h3_directions.specs.Direction.{digit_turned, turned}
 use Rattle.h3_lattice.specs.Digits.{cell_of}
 use Rattle.h3_lattice.specs.Links.{Links}
 use Rattle.h3_lattice.specs.Moved.{IsSum}

@@ -5,13 +5,13 @@ ghost use Rattle.h3_index.specs.Cell.{Address};
 ghost use Rattle.h3_lattice.specs.BaseTable.{link_of};
 ghost use Rattle.h3_grid.specs.DirectedEdges.{IsDestination, IsEdgeBetween, ListsEdges, edge_between, edge_destination, edge_refusal, edges_from};
 ghost use Rattle.h3_grid.specs.Edges.{edges_left};
-ghost use Rattle.h3_grid.specs.declared.iter.Edges.{Edges};
 ghost use Rattle.h3_grid.specs.Neighbors.{AreNeighbors, DirectionsAreFound, DirectionsDiffer};
 
 use crate::iter::Edges;
 use crate::neighbors::{direction_to, neighbor, neighbor_is_lawful, pair_refusal};
+use h3_directions::Direction;
 use h3_index::{Cell, Edge, H3Error};
-use h3_lattice::{BaseTable, Direction};
+use h3_lattice::{BaseTable, edge_direction};
 
 /// The edge that leaves one cell and leads to another, as H3's `cellsToDirectedEdge` returns it
 /// outside pentagon base cells. Which pairs are refused, and with which error, is this library's
@@ -57,7 +57,7 @@ pub fn edge_destination(table: &BaseTable, edge: Edge) -> Result<Cell, H3Error>
     ensures refused { IfErr result (λ e. (e ≡ H3Error.Pentagon)
         × ((cell : Address) → ¬ IsDestination (link_of table.now) edge cell)) }
 {
-    match neighbor(table, edge.origin(), Direction::from_edge(edge)) {
+    match neighbor(table, edge.origin(), edge_direction(edge)) {
         Some(cell) => Ok(cell),
         None => Err(H3Error::Pentagon),
     }
@@ -68,9 +68,6 @@ pub fn edge_destination(table: &BaseTable, edge: Edge) -> Result<Cell, H3Error>
 pub fn edges_of(cell: Cell) -> Edges
     ensures items { edges_left result ≡ edges_from cell }
     ensures listed { ListsEdges cell (edges_from cell) }
-
-    // A clone of the iterator is equal to it.
-    ensures clone { (a b : Edges) → ⟦<Edges as Clone>⟧.is_clone a b → b ≡ a }
 {
     Edges::from(cell)
 }

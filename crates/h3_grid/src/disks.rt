@@ -13,9 +13,10 @@ ghost use Rattle.h3_grid.specs.Walks.{disk};
 ghost use Rattle.h3_grid.specs.WholeDisk.{IsWholeDisk};
 
 use crate::steps::{step, steps_are_found, steps_are_lawful};
+use h3_directions::Direction;
 use h3_index::{Cell, H3Error};
+use h3_lattice::BaseTable;
 use h3_lattice::laws::{sums_are_lawful, turns_add_up};
-use h3_lattice::{BaseTable, Direction};
 
 /// The direction of the side of a ring that has this many sides after it.
 pub(crate) fn side_before(sides: u8) -> Direction
@@ -99,7 +100,6 @@ fn disk_is_lawful(table: &BaseTable, cell: Cell, k: i32)
 
 impl<'a> Disk<'a> {
     ghost use Rattle.h3_grid.specs.Disk.{disk_left};
-    ghost use Rattle.h3_grid.specs.declared.disks.Disk.{Disk};
 
     /// The disk of a radius around a cell, as H3's `gridDiskUnsafe` and `gridDiskDistancesUnsafe`
     /// walk it; which disks are refused is this library's own. Nothing of it is walked yet.
@@ -123,9 +123,6 @@ impl<'a> Disk<'a> {
         ensures places { SpiralsHaveSizes }
         ensures simple { SpiralsAreSimple }
         ensures sums { SpiralsHoldSums }
-
-        // A clone of a disk is equal to it.
-        ensures clone { (a b : Disk) → ⟦<Disk<'a> as Clone>⟧.is_clone a b → b ≡ a }
     {
         disk_is_lawful(table, cell, k);
         disks_are_spirals();
@@ -217,37 +214,5 @@ impl<'a> Iterator for Disk<'a> {
                 Some(self.go_on())
             }
         }
-    }
-}
-
-#[cfg(test)]
-mod tests {
-    use super::Disk;
-    use h3_index::Cell;
-    use h3_lattice::BaseTable;
-
-    #[test]
-    fn a_disk_holds_a_cell_a_rotation_and_counters(_rt: HostRuntime) {
-        let parts = |walk: Disk<'_>| {
-            let Disk {
-                table,
-                cell,
-                rotation,
-                ring,
-                steps,
-                sides,
-                rings,
-                begun,
-            } = walk;
-            let _table: &BaseTable = table;
-            let _cell: Cell = cell;
-            let _rotation: u8 = rotation;
-            let _ring: u32 = ring;
-            let _steps: u32 = steps;
-            let _sides: u8 = sides;
-            let _rings: u32 = rings;
-            let _begun: bool = begun;
-        };
-        let _parts = parts;
     }
 }

@@ -62,19 +62,3 @@ impl Iterator for Edges {
         }
     }
 }
-
-#[cfg(test)]
-mod tests {
-    use super::Edges;
-    use h3_index::Cell;
-
-    #[test]
-    fn edges_hold_a_cell_and_a_direction(_rt: HostRuntime) {
-        let parts = |walk: Edges| {
-            let Edges { origin, direction } = walk;
-            let _origin: Cell = origin;
-            let _direction: u8 = direction;
-        };
-        let _parts = parts;
-    }
-}

@@ -8,10 +8,11 @@ ghost use Rattle.h3_grid.specs.Laws.{OverSoundLinks};
 ghost use Rattle.h3_grid.specs.Neighbors.{AreNeighbors, BothOrdersAgree, DirectionsAreFound, DirectionsDiffer, NeighborsAreFound, NeighborsAreMutual, NeighborsDiffer, are_neighbors, direction_to, is_same, is_some_same, neighbor, neighbor_refusal, pair_refusal};
 
 use crate::steps::{step, steps_are_lawful};
+use h3_directions::{DIRECTIONS, Direction};
 use h3_index::laws::numbers_are_unique;
 use h3_index::{Cell, H3Error};
+use h3_lattice::BaseTable;
 use h3_lattice::laws::{sums_are_lawful, turns_add_up};
-use h3_lattice::{BaseTable, DIRECTIONS, Direction};
 
 /// Laws of neighbors over sound links. It does nothing.
 fn neighbors_are_lawful()

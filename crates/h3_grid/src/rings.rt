@@ -11,8 +11,9 @@ ghost use Rattle.h3_grid.specs.Walks.{ring, stepped};
 
 use crate::disks::{disks_are_charts, side_before};
 use crate::steps::step;
+use h3_directions::Direction;
 use h3_index::{Cell, H3Error};
-use h3_lattice::{BaseTable, Direction};
+use h3_lattice::BaseTable;
 
 /// The cell and the rotation that k steps in the direction I lead to from a cell.
 fn outward(table: &BaseTable, cell: Cell, k: u32) -> Result<(Cell, u8), H3Error>
@@ -71,7 +72,6 @@ fn ring_is_lawful(table: &BaseTable, cell: Cell, k: i32)
 
 impl<'a> Ring<'a> {
     ghost use Rattle.h3_grid.specs.Ring.{ring_left};
-    ghost use Rattle.h3_grid.specs.declared.rings.Ring.{Ring};
 
     /// The ring of a radius around a cell, as H3's `gridRingUnsafe` walks it. Nothing of it is
     /// walked yet: the first call of `next` takes as many steps as the radius, every other at most
@@ -88,9 +88,6 @@ impl<'a> Ring<'a> {
         // in the same order but for the ring's first, which is the disk's last.
         ensures agree { RingEndsDisk (link_of table.now) cell (unsigned_abs k) }
         ensures origin { OriginsAreAlone }
-
-        // A clone of a ring is equal to it.
-        ensures clone { (a b : Ring) → ⟦<Ring<'a> as Clone>⟧.is_clone a b → b ≡ a }
     {
         disks_are_charts();
         ring_is_lawful(table, cell, k);
@@ -196,37 +193,5 @@ impl<'a> Iterator for Ring<'a> {
         self.sides -= 1;
         self.steps = self.radius;
         self.go_on()
-    }
-}
-
-#[cfg(test)]
-mod tests {
-    use super::Ring;
-    use h3_index::Cell;
-    use h3_lattice::BaseTable;
-
-    #[test]
-    fn a_ring_holds_two_cells_a_rotation_and_counters(_rt: HostRuntime) {
-        let parts = |walk: Ring<'_>| {
-            let Ring {
-                table,
-                cell,
-                rotation,
-                first,
-                radius,
-                steps,
-                sides,
-                begun,
-            } = walk;
-            let _table: &BaseTable = table;
-            let _cell: Cell = cell;
-            let _rotation: u8 = rotation;
-            let _first: Cell = first;
-            let _radius: u32 = radius;
-            let _steps: u32 = steps;
-            let _sides: u8 = sides;
-            let _begun: bool = begun;
-        };
-        let _parts = parts;
     }
 }

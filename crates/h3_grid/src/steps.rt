@@ -7,9 +7,10 @@ ghost use Rattle.h3_grid.specs.Laws.{OverSoundLinks, StepsCloseTriangles, StepsD
 ghost use Rattle.h3_grid.specs.Search.{step_of, StepsAreFound};
 ghost use Rattle.h3_grid.specs.Steps.{state, IsStep};
 
+use h3_directions::Direction;
 use h3_index::{Cell, H3Error, is_pentagon_base};
 use h3_lattice::laws::{checks_lift_to_steps, sums_are_lawful, turns_add_up};
-use h3_lattice::{BaseTable, Direction, Moved, add, turn};
+use h3_lattice::{BaseTable, Moved, add, turn};
 
 /// A law: a state has exactly one step in each direction, that which the function `step_of` of the
 /// definitions gives. It does nothing.

@@ -1,6 +1,7 @@
 //! A source with a limit on the number of its reads.
 
 ghost use Rattle.std.specs.Prelude.{◌≡◌, ◌≢◌, ◌≤◌, ◌+◌, ◌⊎◌, true, length, IfOk, OnOk, OnErr};
+ghost use Rattle.std.specs.Io.KnownBytes.{Keeps};
 ghost use Rattle.h3_index.specs.Stream.{Pulls};
 
 use crate::stream::{Source, StreamFault};
@@ -37,7 +38,7 @@ impl<'a, R: Source> CountedReader<'a, R> {
     /// Reads once, to the front of a page, and returns the number of bytes read.
     ///
     /// A [`StreamFault`] where the read fails, which counts as a read too, or where no
-    /// read is left: then none is made.
+    /// read is left: then none is made. Neither takes bytes of the source.
     pub fn read(&mut self, page: &mut [u8]) -> Result<usize, StreamFault>
         ensures bound { IfOk result (λ n. n ≤ length page.new) }
         ensures bytes { IfOk result (λ n.
@@ -48,6 +49,8 @@ impl<'a, R: Source> CountedReader<'a, R> {
         ensures spent { reads_allowed self.old ≡ 0 → source_of self.new ≡ source_of self.old }
         ensures ok { OnOk result
             (R.has_failed (source_of self.new) ≡ R.has_failed (source_of self.old)) }
+        ensures refused { OnErr result
+            (Keeps (R.left (source_of self.old)) (R.left (source_of self.new))) }
         ensures err { OnErr result
             ((reads_allowed self.old ≡ 0) ⊎ (R.has_failed (source_of self.new) ≡ true)) }
         ensures same { KeepsSource self.old self.new }
@@ -57,65 +60,5 @@ impl<'a, R: Source> CountedReader<'a, R> {
         }
         self.reads_left -= 1;
         self.source.pull(page)
-    }
-}
-
-#[cfg(test)]
-mod tests {
-    use super::CountedReader;
-    use crate::stream::{Source, StreamFault, Streamed};
-    use crate::tests::stream_with;
-
-    #[test]
-    fn a_read_past_the_limit_is_not_made(rt: HostRuntime) {
-        let mut page = [0; 1];
-        let mut source = Streamed::new(b"abcd".as_slice());
-        let mut reader = CountedReader::new(&mut source, 3);
-        for byte in *b"abc" {
-            assert_eq!(rt; reader.read(&mut page), Ok(1));
-            assert_eq!(rt; page[0], byte);
-        }
-        assert_eq!(rt; reader.read(&mut page), Err(StreamFault));
-        assert_eq!(rt; reader.reads_left(), 0);
-        assert!(rt; !source.failed());
-        assert_eq!(rt; source.pull(&mut page), Ok(1));
-        assert_eq!(rt; page[0], b'd');
-    }
-
-    #[test]
-    fn the_end_and_empty_pages_are_read(rt: HostRuntime) {
-        let mut source = Streamed::new(b"a".as_slice());
-        let mut reader = CountedReader::new(&mut source, 3);
-        assert_eq!(rt; reader.read(&mut []), Ok(0));
-        assert_eq!(rt; reader.read(&mut [0; 2]), Ok(1));
-        assert_eq!(rt; reader.read(&mut [0; 2]), Ok(0));
-        assert_eq!(rt; reader.reads_left(), 0);
-    }
-
-    #[test]
-    fn a_read_that_fails_below_the_limit_is_a_fault(rt: HostRuntime) {
-        let mut page = [0; 1];
-        for good in 0..3u32 {
-            let mut source = stream_with(good, 1);
-            let mut reader = CountedReader::new(&mut source, 3);
-            for _ in 0..good {
-                assert_eq!(rt; reader.read(&mut page), Ok(1));
-            }
-            assert_eq!(rt; reader.read(&mut page), Err(StreamFault));
-            assert_eq!(rt; reader.reads_left(), 2 - u64::from(good));
-            assert!(rt; source.failed());
-        }
-    }
-
-    #[test]
-    fn a_page_is_asked_for_whole(rt: HostRuntime) {
-        let mut page = [7; 5000];
-        for length in [0, 3, 5000usize] {
-            let mut source = stream_with(1, 5000);
-            let mut reader = CountedReader::new(&mut source, 3);
-            assert_eq!(rt; reader.read(&mut page[..length]), Ok(length));
-            let inner = source.into_inner();
-            assert_eq!(rt; (inner.calls, inner.handed), (1, length));
-        }
     }
 }

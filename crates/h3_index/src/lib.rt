@@ -19,6 +19,3 @@ pub use edge::Edge;
 pub use error::H3Error;
 pub use stream::{Sink, Source, StreamFault, Streamed};
 pub use text::{CellLines, index_bytes, is_blank_text, read_index, read_plain, write_index};
-
-#[cfg(test)]
-mod tests;

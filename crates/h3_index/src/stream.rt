@@ -22,12 +22,12 @@ pub trait Source {
     ghost has_failed: { Self → Bool };
 
     /// Reads the next bytes into the front of a buffer, and returns how many they are: none only at
-    /// the end of the bytes, or where the buffer is empty. After a failure nothing is said of the
-    /// bytes that are left.
+    /// the end of the bytes, or where the buffer is empty. A failure takes none.
     fn pull(&mut self, buf: &mut [u8]) -> Result<usize, StreamFault>
         ensures bound { IfOk result (λ n. n ≤ length buf.new) }
         ensures bytes { IfOk result (λ n. Pulls (left self.old) (left self.new) buf.new n) }
         ensures ok { OnOk result (has_failed self.new ≡ has_failed self.old) }
+        ensures refused { OnErr result (Keeps (left self.old) (left self.new)) }
         ensures err { OnErr result (has_failed self.new ≡ true) };
 }
 
@@ -110,8 +110,7 @@ impl<T: Read> Source for Streamed<T> {
     ghost has_failed = { streamed_failed };
 
     /// Reads the next bytes into the front of a buffer, and returns how many they are: none only at
-    /// the end of the bytes, or where the buffer is empty. After a failure nothing is said of the
-    /// bytes that are left.
+    /// the end of the bytes, or where the buffer is empty. A failure takes none.
     fn pull(&mut self, buf: &mut [u8]) -> Result<usize, StreamFault> {
         match self.inner.read(buf) {
             Ok(n) => Ok(n),

@@ -1,11 +1,11 @@
 -- What a digit and a direction add up to, entry by entry.
 use Rattle.std.proofs.Common.{◌≡◌, refl, sym, ap, subst, arith, Option, Some, None}
-use Rattle.h3_lattice.specs.declared.direction.Direction.{Direction}
-use Rattle.h3_lattice.specs.declared.direction.Direction.TheVariants.{K, J, JK, I, IK, IJ}
+use Rattle.h3_directions.specs.declared.direction.Direction.{Direction}
+use Rattle.h3_directions.specs.declared.direction.Direction.TheVariants.{K, J, JK, I, IK, IJ}
 use Rattle.h3_lattice.specs.declared.class.Class.{Class}
 use Rattle.h3_lattice.specs.declared.class.Class.TheVariants.{Two, Three}
-use Rattle.h3_lattice.specs.Eisenstein.{Eisenstein, product_of, sum_of, zero_point}
-use Rattle.h3_lattice.specs.Direction.{opposite, turned, turned_once, unit_of, value_of}
+use Rattle.h3_directions.specs.Eisenstein.{Eisenstein, product_of, sum_of, zero_point}
+use Rattle.h3_directions.specs.Direction.{opposite, turned, turned_once, unit_of, value_of}
 use Rattle.h3_lattice.specs.Class.{multiplier}
 use Rattle.h3_lattice.specs.Laws.{option_opposite, Triangle, all_inside, z_across, x_across, y_across, all_across}
 use Rattle.h3_lattice.proofs.LinearLaws.{points}

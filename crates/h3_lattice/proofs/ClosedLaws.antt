@@ -1,14 +1,13 @@
 -- Links that all lead to pentagon base cells are sound.
-use Rattle.std.proofs.Common.{◌≡◌, ◌<◌, ◌*◌, ◌+◌, ◌-◌, ◌%◌, ◌∙◌, ℕ, Bool, true, false, List, [], ◌∷◌, length, get_or, map, zero, suc, All, ◌==◌, if◌then◌else◌, refl, ap, sym, arith, rules}
+use Rattle.std.proofs.Common.{◌≡◌, ◌<◌, ◌*◌, ◌+◌, ◌%◌, ◌∙◌, ℕ, true, false, List, [], ◌∷◌, length, get_or, map, zero, suc, All, ◌==◌, if◌then◌else◌, refl, ap, sym, arith, rules}
 use Rattle.std.proofs.lemmas.List.{get_or-map, length-map}
 use Rattle.std.proofs.lemmas.List.Elements.{All-from_get_or}
 use Rattle.h3_index.specs.Cell.{is_pentagon_base}
 use Rattle.h3_lattice.specs.Closed.{closed_link}
-use Rattle.h3_lattice.specs.Direction.{digit_of}
-use Rattle.h3_lattice.specs.Links.{IsHexagonBase, IsLink, IsSound, Links, links_in, pair_of, slot_of}
+use Rattle.h3_lattice.specs.Links.{IsLink, IsSound, Links, links_in, pair_of}
 use Rattle.h3_lattice.specs.declared.links.Link.{Link}
-use Rattle.h3_lattice.specs.declared.direction.Direction.{Direction}
-use Rattle.h3_lattice.specs.declared.direction.Direction.TheVariants.{K, J, JK, I, IK, IJ}
+use Rattle.h3_directions.specs.declared.direction.Direction.{Direction}
+use Rattle.h3_directions.specs.declared.direction.Direction.TheVariants.{K, J, JK, I, IK, IJ}
 
 abbrev pub to_at : ℕ → ℕ
 to_at r = get_or (4 ∷ 14 ∷ 24 ∷ 38 ∷ 49 ∷ 58 ∷ []) r 0

@@ -1,12 +1,12 @@
 -- Division by a multiplier: the remainder that is a digit, and that there is only one.
 use Rattle.std.proofs.Common.{◌≡◌, ℕ, zero, suc, ◌/◌, ◌<◌, ◌≤◌, ℤ, pos, negsuc, ◌+ℤ◌, ◌-ℤ◌, ◌*ℤ◌, refl, arith, sym, ap, ◌∙◌, Option, Some, None, List, [], ◌∷◌, get_or, lit≤, nat_abs}
 use Rattle.std.specs.Int.{int_rem_euclid}
-use Rattle.h3_lattice.specs.declared.direction.Direction.{Direction}
-use Rattle.h3_lattice.specs.declared.direction.Direction.TheVariants.{K, J, JK, I, IK, IJ}
+use Rattle.h3_directions.specs.declared.direction.Direction.{Direction}
+use Rattle.h3_directions.specs.declared.direction.Direction.TheVariants.{K, J, JK, I, IK, IJ}
 use Rattle.h3_lattice.specs.declared.class.Class.{Class}
 use Rattle.h3_lattice.specs.declared.class.Class.TheVariants.{Two, Three}
-use Rattle.h3_lattice.specs.Eisenstein.{Eisenstein, eisenstein, sum_of, product_of}
-use Rattle.h3_lattice.specs.Direction.{digit_or_zero, digit_value, direction_of, value_of}
+use Rattle.h3_directions.specs.Eisenstein.{Eisenstein, eisenstein, sum_of, product_of}
+use Rattle.h3_directions.specs.Direction.{digit_or_zero, digit_value, direction_of, value_of}
 use Rattle.h3_lattice.specs.Class.{multiplier}
 use Rattle.h3_lattice.proofs.LinearLaws.{points}
 

@@ -1,10 +1,10 @@
 -- The carry tables, entry by entry.
 use Rattle.std.proofs.Common.{◌≡◌, ℕ, zero, suc, ◌-◌, ◌≤◌, ◌<◌, nat_lt, true, ltb-true, arith, sym, ◌∙◌, Option, None, List, [], slice_index_or}
 use Rattle.h3_lattice.specs.declared.carries.TheConstants.{CARRIES_THREE, CARRIES_TWO}
-use Rattle.h3_lattice.specs.declared.direction.Direction.{Direction}
+use Rattle.h3_directions.specs.declared.direction.Direction.{Direction}
 use Rattle.h3_lattice.specs.declared.class.Class.{Class}
 use Rattle.h3_lattice.specs.declared.class.Class.TheVariants.{Two, Three}
-use Rattle.h3_lattice.specs.Direction.{digit_of, value_of}
+use Rattle.h3_directions.specs.Direction.{digit_of, value_of}
 use Rattle.h3_lattice.specs.Class.{IsCarry, IsOnlyCarry}
 use Rattle.h3_lattice.proofs.CarryLaws.{EachDirection, at_direction}
 use Rattle.h3_lattice.proofs.DivisionLaws.{one_digit}

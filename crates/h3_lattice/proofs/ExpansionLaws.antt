@@ -2,11 +2,11 @@
 use Rattle.std.proofs.Common.{◌≡◌, ℕ, zero, suc, ◌+◌, ◌++◌, refl, arith, sym, ap, ◌∙◌, Option, Some, List, [], ◌∷◌, length, map}
 use Rattle.std.proofs.lemmas.List.{length-map}
 use Rattle.std.specs.Int.Digits.{AllBelowBase}
-use Rattle.h3_lattice.specs.declared.direction.Direction.{Direction}
+use Rattle.h3_directions.specs.declared.direction.Direction.{Direction}
 use Rattle.h3_lattice.specs.declared.class.Class.{Class}
 use Rattle.h3_lattice.specs.declared.class.Class.TheVariants.{Two, Three}
-use Rattle.h3_lattice.specs.Eisenstein.{Eisenstein, product_of, sum_of, zero_point}
-use Rattle.h3_lattice.specs.Direction.{digit_or_zero, digit_value, direction_of, unit_of, value_of}
+use Rattle.h3_directions.specs.Eisenstein.{Eisenstein, product_of, sum_of, zero_point}
+use Rattle.h3_directions.specs.Direction.{digit_or_zero, digit_value, direction_of, unit_of, value_of}
 use Rattle.h3_lattice.specs.Class.{class_at, multiplier}
 use Rattle.h3_lattice.specs.Expansion.{multiplier_at, place_from, place, scaled, IsExpansion, ExpansionsAreUnique, sum_from, PlacesAreSums}
 use Rattle.h3_lattice.proofs.LinearLaws.{points}

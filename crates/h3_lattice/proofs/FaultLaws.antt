@@ -2,12 +2,12 @@
 use Rattle.std.proofs.Common.{◌≡◌, ◌<◌, ◌≤◌, ◌+◌, ◌-◌, ◌⊎◌, ℕ, zero, suc, Bool, true, false, Option, Some, None, List, [], ◌∷◌, ◌++◌, length, get_or, refl, arith, sym, subst, ◌∙◌, ap, append_assoc, append-nil, inl, inr, take, slice_get}
 use Rattle.std.specs.Prelude.{if◌then◌else◌, is_some}
 use Rattle.std.specs.Option.{option_or}
-use Rattle.h3_lattice.specs.declared.direction.Direction.{Direction}
-use Rattle.h3_lattice.specs.declared.direction.Direction.TheVariants.{K}
-use Rattle.h3_lattice.specs.declared.error.TableError.{TableError}
-use Rattle.h3_lattice.specs.declared.error.TableError.TheVariants as fault
+use Rattle.h3_directions.specs.declared.direction.Direction.{Direction}
+use Rattle.h3_directions.specs.declared.direction.Direction.TheVariants.{K}
+use Rattle.h3_directions.specs.declared.error.TableError.{TableError}
+use Rattle.h3_directions.specs.declared.error.TableError.TheVariants as fault
 use Rattle.h3_lattice.specs.declared.checks.Check.TheVariants as check
-use Rattle.h3_lattice.specs.Direction.{digit_of, directions}
+use Rattle.h3_directions.specs.Direction.{digit_of, directions}
 use Rattle.h3_lattice.specs.Fields.{Record}
 use Rattle.h3_lattice.specs.First.{AreGood, FailsFirst, FaultsAreFirst, HoldsEverywhere, LeadsApart, IsEarlier, IsClosed, IsFirstFault, IsFirstFaulty, IsMissing, IsReversed}
 use Rattle.h3_lattice.specs.Links.{IsHexagonBase, Links, is_hexagon_base}

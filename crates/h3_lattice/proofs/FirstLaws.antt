@@ -4,9 +4,9 @@ use Rattle.std.specs.Prelude.{is_some}
 use Rattle.std.proofs.Math.Seq.{drop-cons}
 use Rattle.std.specs.Option.{option_or}
 use Rattle.std.specs.List.{list_all}
-use Rattle.h3_lattice.specs.declared.direction.Direction.{Direction}
-use Rattle.h3_lattice.specs.declared.error.TableError.{TableError}
-use Rattle.h3_lattice.specs.Direction.{directions}
+use Rattle.h3_directions.specs.declared.direction.Direction.{Direction}
+use Rattle.h3_directions.specs.declared.error.TableError.{TableError}
+use Rattle.h3_directions.specs.Direction.{directions}
 use Rattle.h3_lattice.specs.Links.{is_hexagon_base}
 use Rattle.h3_lattice.specs.Checks.{from_base, in_directions}
 

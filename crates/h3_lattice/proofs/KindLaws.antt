@@ -2,12 +2,12 @@
 use Rattle.std.proofs.Common.{◌≡◌, ◌<◌, ◌+◌, ℕ, zero, suc, Bool, true, false, not, Option, Some, None, List, [], ◌∷◌, ◌++◌, length, refl, arith, slice_index}
 use Rattle.std.specs.Prelude.{if◌then◌else◌, ⊤, is_some}
 use Rattle.std.specs.Option.{option_or}
-use Rattle.h3_lattice.specs.declared.direction.Direction.{Direction}
-use Rattle.h3_lattice.specs.declared.error.TableError.{TableError}
-use Rattle.h3_lattice.specs.declared.error.TableError.TheVariants as fault
+use Rattle.h3_directions.specs.declared.direction.Direction.{Direction}
+use Rattle.h3_directions.specs.declared.error.TableError.{TableError}
+use Rattle.h3_directions.specs.declared.error.TableError.TheVariants as fault
 use Rattle.h3_lattice.specs.declared.checks.Check.{Check}
 use Rattle.h3_lattice.specs.declared.checks.Check.TheVariants as check
-use Rattle.h3_lattice.specs.Direction.{digit_of, directions}
+use Rattle.h3_directions.specs.Direction.{digit_of, directions}
 use Rattle.h3_lattice.specs.declared.format.Format.{Format}
 use Rattle.h3_lattice.specs.Fields.{Record, numbers_in}
 use Rattle.h3_lattice.specs.Format.{own_digit, header_format, format_after, in_range, width}

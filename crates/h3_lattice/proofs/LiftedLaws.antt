@@ -1,8 +1,8 @@
 -- Reversal and corner of steps.
 use Rattle.std.proofs.Common.{◌≡◌, ◌<◌, ◌+◌, ◌-◌, ◌%◌, ℕ, List, map, Option, Some, None, refl, arith, sym, ap, ◌∙◌, subst}
 use Rattle.std.specs.Int.Digits.{AllBelowBase}
-use Rattle.h3_lattice.specs.declared.direction.Direction.{Direction}
-use Rattle.h3_lattice.specs.Direction.{digit_turned, opposite, turned, turned_once}
+use Rattle.h3_directions.specs.declared.direction.Direction.{Direction}
+use Rattle.h3_directions.specs.Direction.{digit_turned, opposite, turned, turned_once}
 use Rattle.h3_lattice.specs.Laws.{Triangle, all_inside, z_across, x_across, y_across, all_across}
 use Rattle.h3_lattice.specs.Lifted.{CornersLift, Reached, Reaches, ReversalsLift, across, led_by, reached}
 use Rattle.h3_lattice.specs.Links.{IsHexagonBase, IsSound, Links}

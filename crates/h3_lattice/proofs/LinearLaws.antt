@@ -1,10 +1,10 @@
 -- Linear equations of Eisenstein integers.
 use Rattle.std.proofs.Common.{◌≡◌, ◌+◌, ◌*◌, ℕ, zero, suc, arith, ap, refl, sym, ◌∙◌, ℤ, pos, ◌-ℤ◌, ◌*ℤ◌}
 use borrow.Author.Differences.{up, down, same_in, same_out, sum_is_lem, neg_is, product_is, le_out, at_most_in}
-use Rattle.h3_lattice.specs.declared.direction.Direction.{Direction}
-use Rattle.h3_lattice.specs.declared.direction.Direction.TheVariants.{K, J, JK, I, IK, IJ}
-use Rattle.h3_lattice.specs.Eisenstein.{Eisenstein, eisenstein, product_of}
-use Rattle.h3_lattice.specs.Direction.{turned, turned_once, turning, unit_of}
+use Rattle.h3_directions.specs.declared.direction.Direction.{Direction}
+use Rattle.h3_directions.specs.declared.direction.Direction.TheVariants.{K, J, JK, I, IK, IJ}
+use Rattle.h3_directions.specs.Eisenstein.{Eisenstein, eisenstein, product_of}
+use Rattle.h3_directions.specs.Direction.{turned, turned_once, turning, unit_of}
 
 pub point_in : (x y : Eisenstein) → (up x.a + down y.a ≡ up y.a + down x.a) × (up x.b + down y.b ≡ up y.b + down x.b) → x ≡ y
 point_in x y h =

@@ -8,13 +8,13 @@ use Rattle.std.proofs.lemmas.Bool.{cases_eq, not-true}
 use Rattle.std.proofs.lemmas.Bool.Decides.{nat_tests}
 use Rattle.std.specs.Option.{option_or}
 use Rattle.std.specs.List.{list_all}
-use Rattle.h3_lattice.specs.declared.direction.Direction.{Direction}
-use Rattle.h3_lattice.specs.declared.direction.Direction.TheVariants.{K, J, JK, I, IK, IJ}
-use Rattle.h3_lattice.specs.declared.error.TableError.{TableError}
-use Rattle.h3_lattice.specs.declared.error.TableError.TheVariants as fault
+use Rattle.h3_directions.specs.declared.direction.Direction.{Direction}
+use Rattle.h3_directions.specs.declared.direction.Direction.TheVariants.{K, J, JK, I, IK, IJ}
+use Rattle.h3_directions.specs.declared.error.TableError.{TableError}
+use Rattle.h3_directions.specs.declared.error.TableError.TheVariants as fault
 use Rattle.h3_lattice.specs.declared.checks.Check.TheVariants as check
 use Rattle.h3_index.specs.Cell.{is_pentagon_base}
-use Rattle.h3_lattice.specs.Direction.{digit_of, directions, turned_once}
+use Rattle.h3_directions.specs.Direction.{digit_of, directions, turned_once}
 use Rattle.h3_lattice.specs.Links.{IsHexagonBase, IsLink, IsSound, Links, is_hexagon_base, links_in, slot_of}
 use Rattle.h3_lattice.specs.Checks.{at_links, closes, fault_at, fault_of_links, from_base, in_directions, leads_apart, are_apart, reverses, same_link, error_unless}
 use Rattle.h3_lattice.specs.First.{LeadsApart, IsClosed, IsReversed}

@@ -3,12 +3,12 @@ use Rattle.std.proofs.Common.{◌≡◌, ◌-◌, ◌<◌, ◌≤◌, ◌++◌, 
 use Rattle.std.specs.Int.Digits.{AllBelowBase}
 use Rattle.std.proofs.Math.Seq.{take-suc}
 use Rattle.std.proofs.lemmas.List.{append_assoc, drop-set, length-map, length-take-le, set_split, take-set}
-use Rattle.h3_lattice.specs.declared.direction.Direction.{Direction}
-use Rattle.h3_lattice.specs.declared.direction.Direction.TheVariants.{K, J, JK, I, IK, IJ}
+use Rattle.h3_directions.specs.declared.direction.Direction.{Direction}
+use Rattle.h3_directions.specs.declared.direction.Direction.TheVariants.{K, J, JK, I, IK, IJ}
 use Rattle.h3_lattice.specs.declared.class.Class.{Class}
 use Rattle.h3_lattice.specs.declared.class.Class.TheVariants.{Two, Three}
-use Rattle.h3_lattice.specs.Eisenstein.{Eisenstein, minus_one, product_of, sum_of, zero_point}
-use Rattle.h3_lattice.specs.Direction.{digit_or_zero, digit_turned, digit_value, direction_of, opposite, option_turned, turned, turned_once, unit_of, value_of}
+use Rattle.h3_directions.specs.Eisenstein.{Eisenstein, minus_one, product_of, sum_of, zero_point}
+use Rattle.h3_directions.specs.Direction.{digit_or_zero, digit_turned, digit_value, direction_of, opposite, option_turned, turned, turned_once, unit_of, value_of}
 use Rattle.h3_lattice.specs.Class.{class_at, multiplier, IsCarry}
 use Rattle.h3_lattice.specs.Expansion.{multiplier_at, place, place_from, scaled}
 use Rattle.h3_lattice.specs.Moved.{IsSum}

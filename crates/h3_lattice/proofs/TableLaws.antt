@@ -2,9 +2,9 @@
 use Rattle.std.proofs.Common.{◌≡◌, ◌<◌, ℕ, Option, Some, None, List, refl, arith, sym, ◌∙◌, ap, subst, slice_index_or, inl, inr}
 use Rattle.std.specs.Prelude.{is_some, unwrap_or}
 use Rattle.std.specs.Option.{option_or}
-use Rattle.h3_lattice.specs.declared.error.TableError.{TableError}
-use Rattle.h3_lattice.specs.declared.error.TableError.TheVariants as fault
-use Rattle.h3_lattice.specs.Direction.{digit_of}
+use Rattle.h3_directions.specs.declared.error.TableError.{TableError}
+use Rattle.h3_directions.specs.declared.error.TableError.TheVariants as fault
+use Rattle.h3_directions.specs.Direction.{digit_of}
 use Rattle.h3_lattice.specs.Fields.{Record, records_of}
 use Rattle.h3_lattice.specs.Links.{Links, links_in, slot_of}
 use Rattle.h3_lattice.specs.Checks.{at_links, fault_of_links, error_unless}

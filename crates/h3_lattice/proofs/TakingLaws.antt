@@ -4,7 +4,7 @@ use Rattle.std.specs.Prelude.{IfSome, if◌then◌else◌}
 use Rattle.csv.specs.Reading.{Reached, default_config, strip_bom, is_bom}
 use Rattle.csv.specs.declared.parser.State.{State}
 use Rattle.csv.specs.declared.parser.State.TheVariants as st
-use Rattle.h3_lattice.specs.declared.error.TableError.{TableError}
+use Rattle.h3_directions.specs.declared.error.TableError.{TableError}
 use Rattle.h3_lattice.specs.declared.format.Format.{Format}
 use Rattle.h3_lattice.specs.Fields.{Record, numbers_in, records_of}
 use Rattle.h3_lattice.specs.Format.{header_format, format_after, width}

@@ -3,12 +3,12 @@ use Rattle.std.proofs.Common.{◌≡◌, ℕ, zero, suc, ◌+◌, ◌*◌, ◌/�
 use Rattle.std.specs.Int.Digits.{AllBelowBase}
 use Rattle.std.proofs.lemmas.Bool.{agree_below_at}
 use Rattle.h3_lattice.specs.declared.digits.TheConstants.{TURNED}
-use Rattle.h3_lattice.specs.declared.direction.Direction.{Direction}
-use Rattle.h3_lattice.specs.declared.direction.Direction.TheVariants.{K, J, JK, I, IK, IJ}
+use Rattle.h3_directions.specs.declared.direction.Direction.{Direction}
+use Rattle.h3_directions.specs.declared.direction.Direction.TheVariants.{K, J, JK, I, IK, IJ}
 use Rattle.h3_lattice.specs.declared.class.Class.{Class}
 use Rattle.h3_lattice.specs.declared.class.Class.TheVariants.{Two, Three}
-use Rattle.h3_lattice.specs.Eisenstein.{Eisenstein, eisenstein, one, product_of, sum_of, zero_point}
-use Rattle.h3_lattice.specs.Direction.{digit_or_zero, digit_turned, digit_value, direction_of, option_turned, turned, turned_once, turning, value_of, AreTurned}
+use Rattle.h3_directions.specs.Eisenstein.{Eisenstein, eisenstein, one, product_of, sum_of, zero_point}
+use Rattle.h3_directions.specs.Direction.{digit_or_zero, digit_turned, digit_value, direction_of, option_turned, turned, turned_once, turning, value_of, AreTurned}
 use Rattle.h3_lattice.specs.Class.{class_at, multiplier}
 use Rattle.h3_lattice.specs.Expansion.{place_from, place}
 use Rattle.h3_lattice.specs.Laws.{DigitTurnsAdd, OppositesAreThreeTurns, SixDigitTurnsAreNone, SixTurnsAreNone, TurnsAdd}

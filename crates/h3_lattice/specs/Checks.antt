@@ -2,12 +2,12 @@
 use Rattle.std.specs.Prelude.{ℕ, zero, suc, ◌+◌, ◌-◌, ◌%◌, Bool, not, ◌==◌, ◌&&◌, ◌||◌, if◌then◌else◌, List, [], ◌∷◌, Option, Some, None}
 use Rattle.std.specs.Option.{option_or}
 use Rattle.std.specs.List.{list_all}
-use Rattle.h3_lattice.specs.declared.direction.Direction.{Direction}
-use Rattle.h3_lattice.specs.declared.error.TableError.{TableError}
-use Rattle.h3_lattice.specs.declared.error.TableError.TheVariants as fault
+use Rattle.h3_directions.specs.declared.direction.Direction.{Direction}
+use Rattle.h3_directions.specs.declared.error.TableError.{TableError}
+use Rattle.h3_directions.specs.declared.error.TableError.TheVariants as fault
 use Rattle.h3_lattice.specs.declared.checks.Check.{Check}
 use Rattle.h3_lattice.specs.declared.checks.Check.TheVariants as check
-use Rattle.h3_lattice.specs.Direction.{digit_of, directions, opposite, turned, turned_once}
+use Rattle.h3_directions.specs.Direction.{digit_of, directions, opposite, turned, turned_once}
 use Rattle.h3_lattice.specs.Links.{Links, is_hexagon_base}
 
 -- ---- the checks at one base cell and direction

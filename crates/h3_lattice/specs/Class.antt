@@ -6,9 +6,9 @@
 use Rattle.std.specs.Prelude.{◌≡◌, ℕ, ◌%◌, ◌≤◌, ◌==◌, pos, negsuc, if◌then◌else◌}
 use Rattle.h3_lattice.specs.declared.class.Class.{Class}
 use Rattle.h3_lattice.specs.declared.class.Class.TheVariants.{Two, Three}
-use Rattle.h3_lattice.specs.Eisenstein.{Eisenstein, eisenstein, product_of, sum_of}
-use Rattle.h3_lattice.specs.Direction.{digit_value, unit_of}
-use Rattle.h3_lattice.specs.declared.direction.Direction.{Direction}
+use Rattle.h3_directions.specs.Eisenstein.{Eisenstein, eisenstein, product_of, sum_of}
+use Rattle.h3_directions.specs.Direction.{digit_value, unit_of}
+use Rattle.h3_directions.specs.declared.direction.Direction.{Direction}
 
 -- the class of a resolution
 abbrev pub class_at : ℕ → Class

@@ -1,7 +1,7 @@
 -- Links that all lead to pentagon base cells, so that no step goes along them.
 use Rattle.std.specs.Prelude.{ℕ}
-use Rattle.h3_lattice.specs.declared.direction.Direction.{Direction}
-use Rattle.h3_lattice.specs.declared.direction.Direction.TheVariants.{K, J, JK, I, IK, IJ}
+use Rattle.h3_directions.specs.declared.direction.Direction.{Direction}
+use Rattle.h3_directions.specs.declared.direction.Direction.TheVariants.{K, J, JK, I, IK, IJ}
 
 abbrev pub closed_link : Direction → ℕ × ℕ
 closed_link K = (4, 0)

@@ -1,15 +1,15 @@
 -- The definitions at worked values, by computation.
 use Rattle.std.specs.Prelude.{◌≡◌, ℕ, List, [], ◌∷◌, map, pos, negsuc, Option, Some, None, codes, refl}
 use Rattle.std.specs.List.{flat_map}
-use Rattle.h3_lattice.specs.declared.direction.Direction.{Direction}
-use Rattle.h3_lattice.specs.declared.direction.Direction.TheVariants.{K, J, JK, I, IK, IJ}
+use Rattle.h3_directions.specs.declared.direction.Direction.{Direction}
+use Rattle.h3_directions.specs.declared.direction.Direction.TheVariants.{K, J, JK, I, IK, IJ}
 use Rattle.h3_lattice.specs.declared.class.Class.{Class}
 use Rattle.h3_lattice.specs.declared.class.Class.TheVariants.{Two, Three}
-use Rattle.h3_lattice.specs.declared.error.TableError.TheVariants.{Corner, Form, Range, Repeated}
+use Rattle.h3_directions.specs.declared.error.TableError.TheVariants.{Corner, Form, Range, Repeated}
 use Rattle.h3_lattice.specs.declared.vectors.TestTable.TheVariants.{Plain, Skew, Twisted}
 use Rattle.h3_lattice.specs.declared.format.Format.TheVariants as format
-use Rattle.h3_lattice.specs.Eisenstein.{Eisenstein, eisenstein, minus_one, norm, one, product_of, sum_of, zero_point}
-use Rattle.h3_lattice.specs.Direction.{digit_of, digit_turned, digit_value, direction_of, directions, opposite, turned, turning, unit_of, value_of}
+use Rattle.h3_directions.specs.Eisenstein.{Eisenstein, eisenstein, minus_one, norm, one, product_of, sum_of, zero_point}
+use Rattle.h3_directions.specs.Direction.{digit_of, digit_turned, digit_value, direction_of, directions, opposite, turned, turning, unit_of, value_of}
 use Rattle.h3_lattice.specs.Class.{class_at, multiplier}
 use Rattle.h3_lattice.specs.Expansion.{place, scaled, sum_from}
 use Rattle.h3_lattice.specs.Fields.{Record, all_numbers, number_from, number_in, same_fields}

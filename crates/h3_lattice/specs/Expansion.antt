@@ -4,8 +4,8 @@
 -- the grid of its resolution. From one resolution to the next the place is multiplied, and the next digit is added.
 use Rattle.std.specs.Prelude.{◌≡◌, ℕ, zero, suc, ◌+◌, List, [], ◌∷◌, length}
 use Rattle.std.specs.Int.Digits.{AllBelowBase}
-use Rattle.h3_lattice.specs.Eisenstein.{Eisenstein, product_of, sum_of, zero_point}
-use Rattle.h3_lattice.specs.Direction.{digit_value}
+use Rattle.h3_directions.specs.Eisenstein.{Eisenstein, product_of, sum_of, zero_point}
+use Rattle.h3_directions.specs.Direction.{digit_value}
 use Rattle.h3_lattice.specs.Class.{class_at, multiplier}
 
 -- M_n, by which resolution n multiplies

@@ -2,10 +2,10 @@
 --
 -- The definitions of `Records`, `Checks` and `Table` compute it. Here it is said once more, as what holds of the file.
 use Rattle.std.specs.Prelude.{◌≡◌, ◌≢◌, ◌⊎◌, ◌↔◌, ℕ, ◌+◌, ◌-◌, ◌%◌, ◌<◌, List, [], None, Some, take, slice_get}
-use Rattle.h3_lattice.specs.declared.direction.Direction.{Direction}
-use Rattle.h3_lattice.specs.declared.error.TableError.{TableError}
-use Rattle.h3_lattice.specs.declared.error.TableError.TheVariants as fault
-use Rattle.h3_lattice.specs.Direction.{digit_of, opposite, turned, turned_once}
+use Rattle.h3_directions.specs.declared.direction.Direction.{Direction}
+use Rattle.h3_directions.specs.declared.error.TableError.{TableError}
+use Rattle.h3_directions.specs.declared.error.TableError.TheVariants as fault
+use Rattle.h3_directions.specs.Direction.{digit_of, opposite, turned, turned_once}
 use Rattle.h3_lattice.specs.Fields.{Record}
 use Rattle.h3_lattice.specs.Links.{IsHexagonBase, Links}
 use Rattle.h3_lattice.specs.Records.{body_of, fault_of, format_of, first_link}

@@ -4,8 +4,8 @@
 -- the same order.
 use Rattle.std.specs.Prelude.{ℕ, ◌+◌, Bool, ◌==◌, ◌&&◌, nat_lt, if◌then◌else◌, List, [], ◌∷◌, Option, Some, None, slice_index, codes}
 use Rattle.std.specs.List.{list_all}
-use Rattle.h3_lattice.specs.declared.direction.Direction.{Direction}
-use Rattle.h3_lattice.specs.Direction.{digit_of, directions}
+use Rattle.h3_directions.specs.declared.direction.Direction.{Direction}
+use Rattle.h3_directions.specs.Direction.{digit_of, directions}
 use Rattle.h3_lattice.specs.Fields.{Record}
 use Rattle.h3_lattice.specs.Links.{is_hexagon_base, is_link}
 

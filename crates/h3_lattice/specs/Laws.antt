@@ -1,8 +1,8 @@
 -- Laws of turns, and of sums of a digit list and a direction.
 use Rattle.std.specs.Prelude.{◌≡◌, ℕ, ◌+◌, ◌%◌, List, map, Option, Some, None}
 use Rattle.std.specs.Int.Digits.{AllBelowBase}
-use Rattle.h3_lattice.specs.declared.direction.Direction.{Direction}
-use Rattle.h3_lattice.specs.Direction.{digit_turned, opposite, option_turned, turned, turned_once}
+use Rattle.h3_directions.specs.declared.direction.Direction.{Direction}
+use Rattle.h3_directions.specs.Direction.{digit_turned, opposite, option_turned, turned, turned_once}
 use Rattle.h3_lattice.specs.Moved.{IsSum}
 
 -- ---- turns

@@ -3,8 +3,6 @@ pub mod Checks
 pub mod Class
 pub mod Closed
 pub mod Digits
-pub mod Direction
-pub mod Eisenstein
 pub mod Examples
 pub mod Expansion
 pub mod Fields

@@ -6,8 +6,8 @@
 -- border says.
 use Rattle.std.specs.Prelude.{◌≡◌, ℕ, ◌+◌, ◌-◌, ◌%◌, List, map, Option, Some, None}
 use Rattle.std.specs.Int.Digits.{AllBelowBase}
-use Rattle.h3_lattice.specs.declared.direction.Direction.{Direction}
-use Rattle.h3_lattice.specs.Direction.{digit_turned, opposite, turned, turned_once}
+use Rattle.h3_directions.specs.declared.direction.Direction.{Direction}
+use Rattle.h3_directions.specs.Direction.{digit_turned, opposite, turned, turned_once}
 use Rattle.h3_lattice.specs.Links.{IsHexagonBase, IsSound, Links}
 use Rattle.h3_lattice.specs.Moved.{IsSum}
 

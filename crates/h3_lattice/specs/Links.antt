@@ -4,9 +4,9 @@
 -- digit is turned on crossing into it.
 use Rattle.std.specs.Prelude.{◌≡◌, ◌≢◌, ℕ, ◌+◌, ◌-◌, ◌*◌, ◌%◌, ◌<◌, Bool, false, not, ◌&&◌, nat_lt, List, slice_index_or}
 use Rattle.h3_index.specs.Cell.{is_pentagon_base}
-use Rattle.h3_lattice.specs.declared.direction.Direction.{Direction}
+use Rattle.h3_directions.specs.declared.direction.Direction.{Direction}
 use Rattle.h3_lattice.specs.declared.links.Link.{Link}
-use Rattle.h3_lattice.specs.Direction.{digit_of, opposite, turned, turned_once}
+use Rattle.h3_directions.specs.Direction.{digit_of, opposite, turned, turned_once}
 
 -- the base cells that are hexagons
 abbrev pub IsHexagonBase : ℕ → Type 0

@@ -1,11 +1,11 @@
 -- Sums of a cell and a direction.
 use Rattle.std.specs.Prelude.{◌≡◌, ℕ, List, length, Option, Some, None}
 use Rattle.h3_index.specs.Cell.{Address, IsCell}
-use Rattle.h3_lattice.specs.declared.direction.Direction.{Direction}
+use Rattle.h3_directions.specs.declared.direction.Direction.{Direction}
 use Rattle.h3_lattice.specs.declared.moved.Moved.{Moved}
 use Rattle.h3_lattice.specs.declared.moved.Moved.TheVariants.{Inside, Across}
-use Rattle.h3_lattice.specs.Eisenstein.{sum_of}
-use Rattle.h3_lattice.specs.Direction.{unit_of, value_of}
+use Rattle.h3_directions.specs.Eisenstein.{sum_of}
+use Rattle.h3_directions.specs.Direction.{unit_of, value_of}
 use Rattle.h3_lattice.specs.Digits.{IsDigits}
 use Rattle.h3_lattice.specs.Expansion.{place, IsExpansion}
 

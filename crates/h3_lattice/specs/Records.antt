@@ -1,8 +1,8 @@
 -- What a list of records says of a table, and the first faulty record.
 use Rattle.std.specs.Prelude.{ℕ, ◌+◌, not, is_some, if◌then◌else◌, List, [], ◌∷◌, ◌++◌, length, Option, Some, None, slice_index}
 use Rattle.std.specs.Option.{option_and_then, option_or}
-use Rattle.h3_lattice.specs.declared.error.TableError.{TableError}
-use Rattle.h3_lattice.specs.declared.error.TableError.TheVariants as fault
+use Rattle.h3_directions.specs.declared.error.TableError.{TableError}
+use Rattle.h3_directions.specs.declared.error.TableError.TheVariants as fault
 use Rattle.h3_lattice.specs.declared.format.Format.{Format}
 use Rattle.h3_lattice.specs.declared.format.Format.TheVariants.{One}
 use Rattle.h3_lattice.specs.Fields.{Record, numbers_in}

@@ -2,11 +2,11 @@
 --
 -- The base cells stand in a row that closes to a ring of 122, and each direction goes a fixed step along it.
 use Rattle.std.specs.Prelude.{ℕ, ◌+◌, ◌-◌, ◌%◌}
-use Rattle.h3_lattice.specs.declared.direction.Direction.{Direction}
-use Rattle.h3_lattice.specs.declared.direction.Direction.TheVariants.{K, J, JK, I, IK, IJ}
+use Rattle.h3_directions.specs.declared.direction.Direction.{Direction}
+use Rattle.h3_directions.specs.declared.direction.Direction.TheVariants.{K, J, JK, I, IK, IJ}
 use Rattle.h3_lattice.specs.declared.vectors.TestTable.{TestTable}
 use Rattle.h3_lattice.specs.declared.vectors.TestTable.TheVariants.{Plain, Twisted, Skew}
-use Rattle.h3_lattice.specs.Direction.{turned}
+use Rattle.h3_directions.specs.Direction.{turned}
 use Rattle.h3_lattice.specs.Links.{Links}
 
 -- the step in a direction: those in opposite directions add up to the whole ring

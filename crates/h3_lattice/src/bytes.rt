@@ -3,10 +3,10 @@
 ghost use Rattle.std.specs.Prelude.{◌≡◌, ◌≢◌, ◌<◌, ◌≤◌, ◌+◌, ◌*◌, ◌++◌, ◌⊎◌, ℕ, true, List, [], length, Some, Err, IfOk, IfErr, OnOk};
 ghost use Rattle.h3_index.specs.Counted.{KeepsSource, reads_allowed, source_of};
 ghost use Rattle.h3_index.specs.Stream.{HasLeft};
-ghost use Rattle.h3_lattice.specs.declared.error.TableError.{TableError};
+ghost use Rattle.h3_directions.specs.declared.error.TableError.{TableError};
 ghost use Rattle.h3_lattice.specs.Slots.{StopsReading};
 
-use crate::error::TableError;
+use h3_directions::TableError;
 use h3_index::{CountedReader, Source};
 use std::alloc::Global;
 
@@ -67,71 +67,4 @@ pub(crate) fn read_bytes<R: Source>(
     let _ = &*source;
     read?;
     Ok(text)
-}
-
-#[cfg(test)]
-mod tests {
-    use super::read_bytes;
-    use crate::error::TableError;
-    use h3_index::{Source, StreamFault, Streamed};
-    use std::test::Fail;
-
-    /// A source of one byte a pull, which fails after `pulls_left` pulls.
-    #[derive(Drop)]
-    struct TornSource {
-        pulls_left: u64,
-        failed: bool,
-    }
-
-    impl Source for TornSource {
-        ghost use Rattle.std.specs.Prelude.{None};
-
-        ghost left = { λ _. None };
-
-        ghost has_failed = { λ s. s.failed };
-
-        fn pull(&mut self, buf: &mut [u8]) -> Result<usize, StreamFault> {
-            if self.pulls_left == 0 || buf.is_empty() {
-                self.failed = true;
-                return Err(StreamFault);
-            }
-            self.pulls_left -= 1;
-            Ok(1)
-        }
-    }
-
-    #[test]
-    fn bytes_are_read_to_their_end(rt: HostRuntime) -> Result<(), Fail> {
-        let mut page = [0; 2];
-        let mut source = Streamed::new("abcde".as_bytes());
-        let text = read_bytes(rt.alloc(), &mut source, 4, &mut page)?;
-        assert_eq!(rt; text.as_slice(), "abcde".as_bytes());
-        Ok(())
-    }
-
-    #[test]
-    fn a_read_past_the_limit_is_not_made(rt: HostRuntime) -> Result<(), Fail> {
-        let mut page = [0; 1];
-        let mut source = Streamed::new("abcd".as_bytes());
-        let read = read_bytes(rt.alloc(), &mut source, 3, &mut page);
-        assert!(rt; matches!(read, Err(TableError::Read)));
-        assert_eq!(rt; source.pull(&mut page), Ok(1));
-        assert_eq!(rt; page[0], b'd');
-        Ok(())
-    }
-
-    #[test]
-    fn a_reader_that_fails_below_the_limit_is_a_read_fault(rt: HostRuntime) {
-        let mut page = [0; 1];
-        for pulls_left in 0..4u64 {
-            let mut source = TornSource {
-                pulls_left,
-                failed: false,
-            };
-            let read = read_bytes(rt.alloc(), &mut source, 3, &mut page);
-            assert!(rt; matches!(read, Err(TableError::Read)));
-            // the fourth read is past the limit, and not made
-            assert_eq!(rt; source.failed, pulls_left < 3);
-        }
-    }
 }

@@ -4,7 +4,7 @@
 //! is the digit that is left, and the direction that is carried to the next coarser resolution,
 //! where there is one.
 
-use crate::direction::Direction;
+use h3_directions::Direction;
 
 /// The carries of the odd resolutions.
 pub(crate) static CARRIES_THREE: [[(u8, Option<Direction>); 6]; 7] = [

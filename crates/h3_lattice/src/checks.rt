@@ -4,10 +4,10 @@ ghost use Rattle.std.specs.Prelude.{◌≡◌, ◌<◌, All};
 ghost use Rattle.h3_lattice.specs.Links.{IsLink, links_in};
 ghost use Rattle.h3_lattice.specs.Checks.{at_links, closes, fault_at, fault_of_links, leads_apart, are_apart, reverses};
 
-use crate::direction::{DIRECTIONS, Direction, turn};
-use crate::error::TableError;
+use crate::direction::turn;
 use crate::links::{Links, is_hexagon_base, link_at};
 use crate::scan::{AtLink, first_fault};
+use h3_directions::{DIRECTIONS, Direction, TableError};
 
 /// A check of a full table.
 #[derive(Clone, Copy, Debug, PartialEq, Eq)]

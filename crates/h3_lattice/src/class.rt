@@ -1,11 +1,11 @@
 //! The classes of resolutions, and carries.
 
 ghost use Rattle.std.specs.Prelude.{◌≡◌, ◌≤◌};
-ghost use Rattle.h3_lattice.specs.Direction.{value_of};
+ghost use Rattle.h3_directions.specs.Direction.{value_of};
 ghost use Rattle.h3_lattice.specs.Class.{class_at, IsCarry, IsOnlyCarry};
 
 use crate::carries::{CARRIES_THREE, CARRIES_TWO};
-use crate::direction::Direction;
+use h3_directions::Direction;
 
 /// The class of a resolution. It has the multiplier by which the grid of that resolution is finer
 /// than the one before.

@@ -2,8 +2,8 @@
 
 ghost use Rattle.std.specs.Prelude.{◌≡◌, ◌-◌, ◌<◌, ◌≤◌, [], ◌∷◌, ◌++◌, length, map, slice_index_or, false};
 ghost use Rattle.h3_index.specs.Cell.{is_pentagon_base, IsCell};
-ghost use Rattle.h3_lattice.specs.Eisenstein.{product_of};
-ghost use Rattle.h3_lattice.specs.Direction.{digit_turned, turning, AreTurned};
+ghost use Rattle.h3_directions.specs.Eisenstein.{product_of};
+ghost use Rattle.h3_directions.specs.Direction.{digit_turned, turning, AreTurned};
 ghost use Rattle.h3_lattice.specs.Digits.{cell_of, IsDigits};
 ghost use Rattle.h3_lattice.specs.Expansion.{place};
 

@@ -8,11 +8,11 @@ ghost use Rattle.h3_lattice.specs.Links.{IsLink, slot_of};
 ghost use Rattle.h3_lattice.specs.Records.{fault_in};
 ghost use Rattle.h3_lattice.specs.Slots.{SetsLinks};
 
-use crate::error::TableError;
 use crate::fields::{has_fields, numbers_in};
 use crate::links::Slots;
 use crate::{format_one, format_two};
 use csv::ByteRecord;
+use h3_directions::TableError;
 
 /// The format of a table file, which its header says.
 #[derive(Clone, Copy, Debug, PartialEq, Eq)]

@@ -7,9 +7,8 @@ ghost use Rattle.h3_lattice.specs.Links.{IsLink, slot_of};
 ghost use Rattle.h3_lattice.specs.Records.{fault_in};
 ghost use Rattle.h3_lattice.specs.Slots.{IsInRangeTwo, SetsLinks};
 
-use crate::direction::{DIRECTIONS, Direction};
-use crate::error::TableError;
 use crate::links::{Slots, is_hexagon_number, slot_of};
+use h3_directions::{DIRECTIONS, Direction, TableError};
 
 /// The header.
 pub(crate) const HEADER: [&[u8]; 13] = [

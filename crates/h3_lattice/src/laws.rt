@@ -3,8 +3,6 @@
 
 ghost use Rattle.std.specs.Prelude.{◌≡◌, ℕ, List};
 ghost use Rattle.h3_lattice.specs.declared.class.Class.{Class};
-ghost use Rattle.h3_lattice.specs.declared.direction.Direction.{Direction};
-ghost use Rattle.h3_lattice.specs.declared.error.TableError.{TableError};
 ghost use Rattle.h3_lattice.specs.declared.moved.Moved.{Moved};
 ghost use Rattle.h3_lattice.specs.declared.vectors.TestTable.{TestTable};
 ghost use Rattle.h3_lattice.specs.Lifted.{CornersLift, ReversalsLift};
@@ -12,8 +10,6 @@ ghost use Rattle.h3_lattice.specs.Laws.{TurnsAdd, SixTurnsAreNone, OppositesAreT
 
 use crate::class::Class;
 use crate::digits::Digits;
-use crate::direction::Direction;
-use crate::error::TableError;
 use crate::moved::Moved;
 use crate::vectors::TestTable;
 
@@ -44,12 +40,14 @@ pub fn checks_lift_to_steps()
     ensures corners { CornersLift }
 {}
 
-/// A clone is equal to its original.
+/// A clone is made, and is equal to its original.
 pub fn clones_are_equal()
-    ensures directions { (a b : Direction) → ⟦<Direction as Clone>⟧.is_clone a b → b ≡ a }
     ensures classes { (a b : Class) → ⟦<Class as Clone>⟧.is_clone a b → b ≡ a }
+    ensures classes_made { (a : Class) → ⟦<Class as Clone>⟧.is_infallible a }
     ensures digits { (a b : List ℕ) → ⟦<Digits as Clone>⟧.is_clone a b → b ≡ a }
+    ensures digits_made { (a : List ℕ) → ⟦<Digits as Clone>⟧.is_infallible a }
     ensures sums { (a b : Moved) → ⟦<Moved as Clone>⟧.is_clone a b → b ≡ a }
-    ensures errors { (a b : TableError) → ⟦<TableError as Clone>⟧.is_clone a b → b ≡ a }
+    ensures sums_made { (a : Moved) → ⟦<Moved as Clone>⟧.is_infallible a }
     ensures tables { (a b : TestTable) → ⟦<TestTable as Clone>⟧.is_clone a b → b ≡ a }
+    ensures tables_made { (a : TestTable) → ⟦<TestTable as Clone>⟧.is_infallible a }
 {}

@@ -1,4 +1,4 @@
-//! The hexagonal grid of H3: directions, digit lists, the sums of a cell and a direction, and the
+//! The hexagonal grid of H3: turns, digit lists, the sums of a cell and a direction, and the
 //! table of the base cells' neighbors. [`vectors`] has the test tables.
 #![tactic(auto)]
 
@@ -8,7 +8,6 @@ mod checks;
 mod class;
 mod digits;
 mod direction;
-mod error;
 mod fields;
 mod format;
 mod format_one;
@@ -23,10 +22,6 @@ pub mod vectors;
 
 pub use class::{Class, carry};
 pub use digits::Digits;
-pub use direction::{DIRECTIONS, Direction, turn};
-pub use error::TableError;
+pub use direction::{edge_direction, turn};
 pub use moved::{Moved, add};
 pub use table::BaseTable;
-
-#[cfg(test)]
-mod tests;

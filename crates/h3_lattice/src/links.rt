@@ -1,13 +1,12 @@
 //! Links between base cells, and slots for them.
 
 ghost use Rattle.std.specs.Prelude.{◌≡◌, ◌+◌, ◌*◌, ◌<◌, ◌≤◌, ℕ, true, None, Some, IfSome, unwrap_or, slice_index_or, map, All};
-ghost use Rattle.h3_lattice.specs.Direction.{digit_of};
+ghost use Rattle.h3_directions.specs.Direction.{digit_of};
 ghost use Rattle.h3_lattice.specs.Links.{IsHexagonBase, IsLink, is_hexagon_base, links_in, pair_of, slot_of};
 ghost use Rattle.h3_lattice.specs.Slots.{missing_at};
 
-use crate::direction::Direction;
-use crate::error::TableError;
 use crate::scan::AtLink;
+use h3_directions::{Direction, TableError};
 use h3_index::is_pentagon_base;
 
 /// Six links for each of 122 base cells.

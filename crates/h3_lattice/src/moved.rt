@@ -7,7 +7,7 @@ ghost use Rattle.h3_lattice.specs.Moved.{IsMoved, IsSum};
 
 use crate::class::{Class, carry};
 use crate::digits::Digits;
-use crate::direction::Direction;
+use h3_directions::Direction;
 use h3_index::Cell;
 
 /// Where the sum of a cell and a direction lies.

@@ -6,10 +6,10 @@ ghost use Rattle.h3_lattice.specs.Links.{IsLink};
 ghost use Rattle.h3_lattice.specs.Records.{body_of, fault_of_records, format_of};
 ghost use Rattle.h3_lattice.specs.Slots.{Holds, IsFaultOrMemory};
 
-use crate::error::TableError;
 use crate::format::{header_format, take};
 use crate::links::{LINKS, Slots};
 use csv::{ByteRecord, ReaderBuilder};
+use h3_directions::TableError;
 use std::alloc::Global;
 
 /// An upper bound on the number of records in a text.

@@ -1,14 +1,13 @@
 //! The first fault at a link, by ascending base cell and then direction.
 
 ghost use Rattle.std.specs.Prelude.{◌≡◌, ◌<◌, ℕ, Option};
-ghost use Rattle.h3_lattice.specs.declared.direction.Direction.{Direction};
-ghost use Rattle.h3_lattice.specs.declared.error.TableError.{TableError};
-ghost use Rattle.h3_lattice.specs.Direction.{directions};
+ghost use Rattle.h3_directions.specs.declared.direction.Direction.{Direction};
+ghost use Rattle.h3_directions.specs.declared.error.TableError.{TableError};
+ghost use Rattle.h3_directions.specs.Direction.{directions};
 ghost use Rattle.h3_lattice.specs.Checks.{at_links, in_directions};
 
-use crate::direction::{DIRECTIONS, Direction};
-use crate::error::TableError;
 use crate::links::is_hexagon_base;
+use h3_directions::{DIRECTIONS, Direction, TableError};
 
 /// What is asked at each link.
 pub(crate) trait AtLink {

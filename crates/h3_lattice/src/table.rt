@@ -6,19 +6,18 @@ ghost use Rattle.h3_index.specs.Stream.{HasLeft};
 ghost use Rattle.h3_lattice.specs.Fields.{records_of};
 ghost use Rattle.h3_lattice.specs.Closed.{closed_link};
 ghost use Rattle.h3_lattice.specs.Links.{IsLink, IsSound, links_in, pair_of};
-ghost use Rattle.h3_lattice.specs.declared.direction.Direction.{Direction};
-ghost use Rattle.h3_lattice.specs.declared.error.TableError.{TableError};
+ghost use Rattle.h3_directions.specs.declared.direction.Direction.{Direction};
+ghost use Rattle.h3_directions.specs.declared.error.TableError.{TableError};
 ghost use Rattle.h3_lattice.specs.Checks.{fault_of_links};
 ghost use Rattle.h3_lattice.specs.First.{FaultsAreFirst};
 ghost use Rattle.h3_lattice.specs.Table.{ChecksMeanSound, RefusesTable, SoundFilesAreAccepted, links_of, table_fault};
 
 use crate::bytes::read_bytes;
 use crate::checks::fault_of_links;
-use crate::direction::Direction;
-use crate::error::TableError;
 use crate::links::{LINKS, Link, Links, filled, packed, packed_at};
 use crate::records::read_records;
 use crate::scan::first_fault;
+use h3_directions::{Direction, TableError};
 use h3_index::Source;
 use std::alloc::Global;
 
@@ -158,6 +157,3 @@ impl BaseTable {
         packed_at(&self.links, base, direction)
     }
 }
-
-#[cfg(test)]
-mod tests;

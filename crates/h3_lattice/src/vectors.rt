@@ -5,7 +5,8 @@ ghost use Rattle.std.specs.Prelude.{◌≡◌, ◌<◌, false};
 ghost use Rattle.h3_index.specs.Cell.{is_pentagon_base};
 ghost use Rattle.h3_lattice.specs.Vectors.{plain_step, skew_step, test_link};
 
-use crate::direction::{Direction, turn};
+use crate::direction::turn;
+use h3_directions::Direction;
 
 /// A table for tests.
 #[derive(Clone, Copy, Debug, PartialEq, Eq)]

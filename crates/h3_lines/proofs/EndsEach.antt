@@ -122,6 +122,7 @@ module _ {S V : Type 0} (taken : S → Option (List ℕ)) (failed : S → Bool) 
     ended = s.ended;
     last = s.last;
     lines = s.lines;
+    short = s.short;
     writes = all_written taken failed (answer_of v) (empty w s.settles) (from_start v w s.ended one none s.takes);
   }
 

@@ -122,16 +122,15 @@ list_refused v w e old new had has limit size none (inr (s, kept)) =
       ],
     )
 
-pub list_stops : (v w : ListedCells) (e : Refusal) (old new : Option (List ℕ)) (had has : Bool) (limit size : ℕ) → v.cells.items ≡ [] → Stops v w e old new had has limit size → (e ≡ Read → has ≡ false)
+pub list_stops : (v w : ListedCells) (e : Refusal) (old new : Option (List ℕ)) (had has : Bool) (limit size : ℕ) → v.cells.items ≡ [] → Stops v w e old new had has limit size
     → (list : List ℕ) → old ≡ Some list → (left : List ℕ) × (new ≡ Some left) × StopsAtFault size list left
-list_stops v w e old new had has limit size none (inl (is, s)) sound list known =
-    let told : Consumes old new s.part = elim s.told [ inl fails ↦ absurd (cc (fails, sound is)) | inr told ↦ told ] in
-    let (left, known', split) = left_of old new s.part list told known in (
+list_stops v w e old new had has limit size none (inl (is, s)) list known =
+    let (left, known', split) = left_of old new s.part list s.told known in (
       left,
       known',
       record { before = s.part; last = []; split = split ∙ ap (λ l. l ++ left) (sym (append-nil s.part)); within = omega arith; good = no_fault_yet v w s.part s.last s.ended none s.takes s.lines s.short },
     )
-list_stops v w e old new had has limit size none (inr (s, kept)) sound list known =
+list_stops v w e old new had has limit size none (inr (s, kept)) list known =
     let (left, known', split) = left_of old new (s.part ++ s.last) list s.told known in
     (left, known', record { before = s.part; last = s.last; split = split; within = s.short; good = no_fault_yet v s.mid s.part s.unended s.ended none s.takes s.lines s.begun })
 

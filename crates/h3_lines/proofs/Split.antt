@@ -3,8 +3,8 @@ use Rattle.std.specs.Char.{is_digit}
 use Rattle.std.specs.List.{list_all}
 use Rattle.std.proofs.Common.{◌≡◌, ℕ, ◌+◌, ◌-◌, ◌*◌, ◌<◌, ◌≤◌, ◌==◌, ◌⊎◌, true, List, [], ◌∷◌, ◌++◌, length, take, drop, get_or, Option, Some, sym, ap, ◌∙◌, refl, subst, inl, inr, append_assoc, append-nil, length-append, length-take, arith}
 use Rattle.std.proofs.lemmas.Bool.Decides.{nat_tests}
-use Rattle.std.specs.Io.KnownBytes.{Consumes}
-use Rattle.std.proofs.KnownBytes.{Consumes-nil, Consumes-trans}
+use Rattle.std.specs.Io.KnownBytes.{Consumes, Keeps}
+use Rattle.std.proofs.KnownBytes.{Consumes-kept, Consumes-nil, Consumes-trans}
 use Rattle.h3_index.specs.Stream.{HasLeft, Pulls}
 use Rattle.h3_index.specs.Text.{parsed_index}
 use Rattle.h3_lines.specs.List.{lines_of}
@@ -190,8 +190,8 @@ module _ {V : Type 0} (taken : V → List (List ℕ) → V → Type 0) where
 
   -- a read fails, or none is left
   pub took_stopped : (settled : V → Type 0) → {v w : V} {line : List ℕ} {old now : Option (List ℕ)} {limit reads size : ℕ} → is_unended line ≡ true → length line ≤ 64 → Took taken v w line old now limit reads size → settled w
-      → (fails : Type 0) (now' : Option (List ℕ)) → ((reads ≡ 0) × (now' ≡ now)) ⊎ fails → StopsReading taken settled v w old now' fails limit
-  took_stopped settled {v} {w} {line} {old} {now} {limit} {reads} {size} h begun t settles fails now' why =
+      → (fails : Type 0) (now' : Option (List ℕ)) → (reads ≡ 0) ⊎ fails → Keeps now now' → StopsReading taken settled v w old now' fails limit
+  took_stopped settled {v} {w} {line} {old} {now} {limit} {reads} {size} h begun t settles fails now' why kept =
       let (rest, held) = all_bytes old now t.bytes t.told in
       let counted : limit ≤ reads + length t.bytes = t.counted in
       let parts : length (t.bytes ++ rest) ≡ length t.bytes + length rest = length-append t.bytes rest in
@@ -199,8 +199,8 @@ module _ {V : Type 0} (taken : V → List (List ℕ) → V → Type 0) where
         part = t.bytes;
         rest = rest;
         held = held;
-        why = elim why [ inl none ↦ (let zero : reads ≡ 0 = none.0 in inr (omega arith)) | inr f ↦ inl f ];
-        told = elim why [ inl none ↦ inr (subst (λ o. Consumes old o t.bytes) (sym none.1) t.told) | inr f ↦ inl f ];
+        why = elim why [ inl none ↦ inr (omega arith) | inr f ↦ inl f ];
+        told = Consumes-kept old now now' t.bytes t.told kept;
         ended = t.goes.ended;
         last = line;
         lines = took_lines h t;

@@ -6,7 +6,7 @@ use Rattle.h3_index.specs.Descendants.{children}
 use Rattle.h3_index.specs.Edge.{DirectedEdge, edge_number}
 use Rattle.h3_index.specs.Text.{text_of}
 use Rattle.h3_index.specs.declared.error.H3Error.{H3Error}
-use Rattle.h3_lattice.specs.declared.error.TableError.{TableError}
+use Rattle.h3_directions.specs.declared.error.TableError.{TableError}
 use Rattle.h3_lines.specs.declared.refusal.Refusal.{Refusal}
 use Rattle.h3_lines.specs.declared.refusal.Refusal.TheVariants.{Error, Memory, Table}
 

@@ -54,17 +54,19 @@ pub record AnswersAll (answer : Option ℕ → Answer) (old new : Option (List �
   pub within : IsWithinReads (2 ^ 40) 65536 list
   pub writes : Writes (list_answer answer list) ending out
 
--- A read fails, or none is left. The lines that end in what was read before are answered, and no other: not the one that
--- the fault cuts.
+-- A read fails, or none is left. What was read before is a beginning of the list, and the rest is still left in the source:
+-- a read that fails takes none. The lines that end in what was read are answered, without an error, and no other: not the
+-- one that the fault cuts, of which at most 64 bytes were read.
 pub record AnswersBeforeFault (answer : Option ℕ → Answer) (old new : Option (List ℕ)) (has_failed : Bool) (out : SinkUse) : Type 0 where
   pub part : List ℕ
   pub rest : List ℕ
   pub held : HasLeft old (part ++ rest)
   pub fails : (has_failed ≡ true) ⊎ (2 ^ 40 ≤ length (part ++ rest))
-  pub told : (has_failed ≡ true) ⊎ Consumes old new part
+  pub told : Consumes old new part
   pub ended : List (List ℕ)
   pub last : List ℕ
   pub lines : lines_of part ≡ ended ++ last ∷ []
+  pub short : length last ≤ 64
   pub writes : Writes (lines_answer answer 1 ended) (Ok tt) out
 
 -- The bytes of the list, those left in the source where they are known. A part of them is read, and then at most a page

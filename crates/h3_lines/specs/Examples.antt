@@ -6,8 +6,8 @@ use Rattle.h3_index.specs.CellNumber.{address_in, cell_in}
 use Rattle.h3_index.specs.Count.{base_cell}
 use Rattle.h3_index.specs.Text.{parsed_index, text_of}
 use Rattle.h3_index.specs.declared.error.H3Error.TheVariants.{CellInvalid, Failed, Pentagon}
-use Rattle.h3_lattice.specs.declared.direction.Direction.TheVariants.{I, K}
-use Rattle.h3_lattice.specs.declared.error.TableError.TheVariants as fault
+use Rattle.h3_directions.specs.declared.direction.Direction.TheVariants.{I, K}
+use Rattle.h3_directions.specs.declared.error.TableError.TheVariants as fault
 use Rattle.h3_lines.specs.Answer.{before, cell_line, refused, ring_line, walked}
 use Rattle.h3_lines.specs.List.{lines_of, listed_cells, said_by}
 use Rattle.h3_lines.specs.Refusal.{refusal_line, refusal_status}

@@ -3,10 +3,10 @@ use Rattle.std.specs.Prelude.{ℕ, List, [], ◌∷◌, ◌++◌, codes, decimal
 use Rattle.h3_index.specs.Error.{error_name, error_number}
 use Rattle.h3_index.specs.declared.error.H3Error.{H3Error}
 use Rattle.h3_index.specs.declared.error.H3Error.TheVariants.{MemoryAlloc}
-use Rattle.h3_lattice.specs.Direction.{digit_of}
-use Rattle.h3_lattice.specs.declared.direction.Direction.{Direction}
-use Rattle.h3_lattice.specs.declared.error.TableError.{TableError}
-use Rattle.h3_lattice.specs.declared.error.TableError.TheVariants as fault
+use Rattle.h3_directions.specs.Direction.{digit_of}
+use Rattle.h3_directions.specs.declared.direction.Direction.{Direction}
+use Rattle.h3_directions.specs.declared.error.TableError.{TableError}
+use Rattle.h3_directions.specs.declared.error.TableError.TheVariants as fault
 use Rattle.h3_lines.specs.declared.refusal.Refusal.{Refusal}
 use Rattle.h3_lines.specs.declared.refusal.Refusal.TheVariants.{Error, At, Memory, Read, Write, Table, TableOpen}
 

@@ -43,7 +43,7 @@ pub record StopsReading {V : Type 0} (taken : V → List (List ℕ) → V → Ty
   pub rest : List ℕ
   pub held : HasLeft old (part ++ rest)
   pub why : fails ⊎ (reads ≤ length (part ++ rest))
-  pub told : fails ⊎ Consumes old new part
+  pub told : Consumes old new part
   pub ended : List (List ℕ)
   pub last : List ℕ
   pub lines : lines_of part ≡ ended ++ last ∷ []

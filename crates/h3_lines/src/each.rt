@@ -11,7 +11,7 @@ ghost use Rattle.h3_lines.specs.declared.line.TheConstants.{BLOCK};
 ghost use Rattle.h3_lines.specs.declared.refusal.Refusal.{Refusal};
 ghost use Rattle.h3_lines.specs.declared.refusal.Refusal.TheVariants.{Write};
 
-use crate::line::{BLOCK, Line, ROOM};
+use crate::line::{BLOCK, Line};
 use crate::refusal::Refusal;
 use crate::splitting::{LONGEST_LINE, LineTaker, PAGE, READS, take_lines};
 use crate::write::{write_all, write_answer};
@@ -36,8 +36,8 @@ pub trait IndexFunction {
         block: &mut [u8; BLOCK],
         at: usize,
     ) -> Result<usize, H3Error>
-        requires room { at + ANSWER ≤ BLOCK }
-        ensures end { IfOk result (λ end. end ≤ at + ANSWER) }
+        requires room { at + 672 ≤ 4096 }
+        ensures end { IfOk result (λ end. end ≤ at + 672) }
         ensures ok { IfOk result (λ end.
             Puts (answer_of self.now index) block.old block.new at end) }
         ensures err { IfErr result (λ e. answer_of self.now index ≡ refused e) }
@@ -53,8 +53,8 @@ pub fn put_result<L: Line + Drop>(
     block: &mut [u8; BLOCK],
     at: usize,
 ) -> Result<usize, H3Error>
-    requires room { at + ROOM ≤ BLOCK }
-    ensures end { IfOk result (λ end. end ≤ at + ROOM) }
+    requires room { at + 112 ≤ 4096 }
+    ensures end { IfOk result (λ end. end ≤ at + 112) }
     ensures ok { IfOk result (λ end.
         Puts (printed L.line_of value) block.old block.new at end) }
     ensures err { IfErr result (λ e. printed L.line_of value ≡ refused e) }

@@ -5,7 +5,8 @@ ghost use Rattle.std.specs.Prelude.{◌≡◌};
 
 use crate::refusal::Refusal;
 
-/// A clone is equal to what it was made of.
+/// A clone is made, and is equal to what it was made of.
 pub fn clones_are_equal()
-    ensures { (a b : Refusal) → ⟦<Refusal as Clone>⟧.is_clone a b → b ≡ a }
+    ensures refusals { (a b : Refusal) → ⟦<Refusal as Clone>⟧.is_clone a b → b ≡ a }
+    ensures refusals_made { (a : Refusal) → ⟦<Refusal as Clone>⟧.is_infallible a }
 {}

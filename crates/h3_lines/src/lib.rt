@@ -14,7 +14,7 @@ mod write;
 pub use each::{ANSWER, IndexFunction, answer_each, put_result};
 pub use ending::report;
 pub use line::{BLOCK, Line, ROOM};
-pub use list::read_cells;
+pub use list::{read_cells, read_list};
 pub use refusal::Refusal;
 pub use splitting::{PAGE, READS};
 pub use write::{write_all, write_answer, write_lines, write_result, write_walk};

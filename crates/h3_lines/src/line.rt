@@ -21,8 +21,8 @@ pub trait Line {
     /// them may change too. A cell's line is put faster where it is near to that of the cell before,
     /// which `lines` has put.
     fn put(&self, lines: &mut CellLines, block: &mut [u8; BLOCK], at: usize) -> usize
-        requires room { at + ROOM ≤ BLOCK }
-        ensures end { result ≤ at + ROOM }
+        requires room { at + 112 ≤ 4096 }
+        ensures end { result ≤ at + 112 }
         ensures some { at < result }
         ensures line { take result block.new ≡ take at block.old ++ line_of self.now };
 }

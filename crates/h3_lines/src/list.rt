@@ -1,7 +1,7 @@
 //! Lists of cells, one a line.
 
 ghost use Rattle.std.proofs.Common.{refl};
-ghost use Rattle.std.specs.Prelude.{◌≡◌, ◌≢◌, ◌≤◌, ◌<◌, ◌*◌, ◌^◌, ◌⊎◌, ⊤, ℕ, true, false, List, [], length, Some, Result, Ok, IsOk, IfOk, IfErr, OnOk, IsErrOf};
+ghost use Rattle.std.specs.Prelude.{◌≡◌, ◌≢◌, ◌≤◌, ◌<◌, ◌*◌, ◌^◌, ◌⊎◌, ⊤, ℕ, true, List, [], length, Some, Result, Ok, IsOk, IfOk, IfErr, OnOk, OnErr, IsErrOf};
 ghost use Rattle.h3_index.specs.Cell.{Address};
 ghost use Rattle.h3_index.specs.CellNumber.{cell_in};
 ghost use Rattle.h3_index.specs.Stream.{HasLeft};
@@ -96,7 +96,7 @@ impl LineTaker for ListedCells {
 }
 
 /// Reads a list in at most a given number of reads, each to a page.
-fn read_list<R: Source>(
+pub fn read_list<R: Source>(
     alloc: Global,
     input: &mut R,
     limit: u64,
@@ -112,9 +112,7 @@ fn read_list<R: Source>(
         (e ≢ Refusal.Read → e ≢ Refusal.Memory → IsListWithinReads limit (length page.old) list)) }
     ensures whole { IsOk result →
         (list : List ℕ) → R.left input.old ≡ Some list → R.left input.new ≡ Some [] }
-    ensures stops { IfErr result (λ e.
-        (e ≡ Refusal.Read → R.has_failed input.new ≡ false) →
-        (list : List ℕ) → R.left input.old ≡ Some list →
+    ensures stops { OnErr result ((list : List ℕ) → R.left input.old ≡ Some list →
         (left : List ℕ) × (R.left input.new ≡ Some left) × StopsAtFault (length page.old) list left) }
     ensures sound { ¬ (IsErrOf result Refusal.Read)
         → R.has_failed input.new ≡ R.has_failed input.old }
@@ -150,12 +148,11 @@ pub fn read_cells<R: Source>(alloc: Global, input: &mut R) -> Result<Vec<Cell>, 
         (listed_cells list) e ×
         (e ≢ Refusal.Read → e ≢ Refusal.Memory → IsListWithinReads READS PAGE list)) }
     // All of a list without a faulty line is read, and of any other at most a page more than bytes
-    // in which no line is known to be faulty; so too where memory is refused, or no read is left.
+    // in which no line is known to be faulty; so too where memory is refused, a read fails
+    // or none is left.
     ensures whole { IsOk result →
         (list : List ℕ) → R.left input.old ≡ Some list → R.left input.new ≡ Some [] }
-    ensures stops { IfErr result (λ e.
-        (e ≡ Refusal.Read → R.has_failed input.new ≡ false) →
-        (list : List ℕ) → R.left input.old ≡ Some list →
+    ensures stops { OnErr result ((list : List ℕ) → R.left input.old ≡ Some list →
         (left : List ℕ) × (R.left input.new ≡ Some left) × StopsAtFault PAGE list left) }
     ensures sound { ¬ (IsErrOf result Refusal.Read)
         → R.has_failed input.new ≡ R.has_failed input.old }
@@ -163,6 +160,3 @@ pub fn read_cells<R: Source>(alloc: Global, input: &mut R) -> Result<Vec<Cell>, 
     let mut page = vec![in alloc; 0u8; PAGE].map_err(|_| Refusal::Memory)?;
     read_list(alloc, input, READS, &mut page)
 }
-
-#[cfg(test)]
-mod tests;

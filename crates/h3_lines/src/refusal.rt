@@ -4,8 +4,8 @@ ghost use Rattle.std.specs.Prelude.{◌≡◌, ◌≤◌, length};
 ghost use Rattle.h3_lines.specs.Refusal.{error_line, error_line_at, link_line, numbered_line, read_fault_line, table_line};
 
 use arrayvec::ArrayString;
+use h3_directions::{Direction, TableError};
 use h3_index::{H3Error, StreamFault};
-use h3_lattice::{Direction, TableError};
 use itoa::Buffer;
 
 /// The room for a line on standard error.
@@ -194,35 +194,4 @@ fn link_line(words: &str, base: u8, direction: Direction) -> ArrayString<LINE_RO
     line.push_str(buffer.format(direction.digit()));
     line.push_str("\n");
     line
-}
-
-#[cfg(test)]
-mod tests {
-    use super::Refusal;
-    use h3_index::H3Error;
-    use h3_lattice::TableError;
-
-    #[test]
-    fn only_the_same_refusals_are_equal(rt: HostRuntime) {
-        let refusals = [
-            Refusal::Error(H3Error::Failed),
-            Refusal::Error(H3Error::MemoryAlloc),
-            Refusal::At(1, H3Error::Failed),
-            Refusal::At(1, H3Error::MemoryAlloc),
-            Refusal::At(2, H3Error::Failed),
-            Refusal::Memory,
-            Refusal::Read,
-            Refusal::Write,
-            Refusal::Table(TableError::Missing),
-            Refusal::Table(TableError::Form(1)),
-            Refusal::Table(TableError::Form(2)),
-            Refusal::TableOpen,
-        ];
-        for (i, one) in refusals.iter().enumerate() {
-            for (j, other) in refusals.iter().enumerate() {
-                assert_eq!(&rt; one == other, i == j, "{i} and {j}");
-                assert_eq!(&rt; one != other, i != j, "{i} and {j}");
-            }
-        }
-    }
 }

@@ -6,10 +6,10 @@
 
 use arrayvec::ArrayVec;
 use h3_command::run::run;
-use h3_command::{CellFunction, Command};
 use h3_fakes::{bases_file, table_file};
 use h3_index::Streamed;
 use h3_lattice::vectors::TestTable;
+use h3_requests::{CellFunction, Command};
 use itoa::Buffer;
 use std::alloc::Global;
 use std::io::{self, Write};

@@ -89,6 +89,3 @@ pub fn run_words<R: Source, T: OpenTable, W: Sink, E: Sink>(
         Err(WordsFault::Memory) => report(err, Err(Refusal::Memory)),
     }
 }
-
-#[cfg(test)]
-mod tests;

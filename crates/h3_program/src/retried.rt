@@ -87,6 +87,3 @@ impl<T: Write> Write for Retried<T> {
         Err(too_many_tries())
     }
 }
-
-#[cfg(test)]
-mod tests;

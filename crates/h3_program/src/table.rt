@@ -1,6 +1,7 @@
 //! The base cell table, which is opened by its path.
 
 ghost use Rattle.std.specs.Prelude.{◌≡◌, ◌≤◌, List, ℕ, None, true, false, length, IsSome, IsErr, IfOk, OnOk, OnErr};
+ghost use Rattle.std.specs.Io.KnownBytes.{Keeps};
 ghost use Rattle.h3_index.specs.Stream.{Pulls};
 
 use crate::retried::Retried;
@@ -67,6 +68,7 @@ impl<'a, R: Files> Source for TableFile<'a, R> {
         ensures bound { IfOk result (λ n. n ≤ length buf.new) }
         ensures bytes { IfOk result (λ n. Pulls None None buf.new n) }
         ensures ok { OnOk result (table_failed self.new ≡ table_failed self.old) }
+        ensures refused { OnErr result (Keeps None None) }
         ensures err { OnErr result (table_failed self.new ≡ true) }
         ensures unopened { table_file self.old ≡ None → IsErr result }
     {

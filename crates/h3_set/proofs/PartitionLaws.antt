@@ -10,10 +10,10 @@ use Rattle.h3_index.specs.Descendants.{center_at, cut, IsAncestor, IsDescendant}
 use Rattle.h3_tree.specs.Laws.{CellsFormTrees}
 use Rattle.h3_set.specs.Compacted.{compacted, IsCompacted}
 use Rattle.h3_set.specs.Coverage.{finest, IsApart, IsCovered, Overlap}
-use Rattle.h3_set.specs.Laws.{ListsCompactInParts}
+use Rattle.h3_set.specs.Laws.{CompactedListsAreCompacted, CompactedListsCoverAlike, CoveragesDecideLists, ListsCompactInParts, ReducedListsAreCompacted}
 use Rattle.h3_set.proofs.PermutedLaws.{apart_permuted, members_permuted}
 use Rattle.h3_set.proofs.ResolutionLaws.{none_finer}
-use Rattle.h3_set.proofs.SetLaws.{one_compacted}
+use Rattle.h3_set.proofs.SetLaws.{member_top, one_compacted, reduced_top, top_member, top_reduced, IsReduced}
 use Rattle.h3_set.proofs.TestLaws.{computes}
 use Rattle.h3_set.proofs.TreeLaws.{contains_cases, contains_head, contains_tail}
 
@@ -145,6 +145,56 @@ module _ (tree : CellsFormTrees) (all_cells : CellsUpToAreListed) where
         no_siblings = k.no_siblings;
       })
       (made cells v)
+
+  -- ---- coverage decides the list
+
+  members_valid : (cells : List Address) → All IsCell cells → (c : Address) → Contains cells c → IsCell c
+  members_valid cells valid c m = All-contains IsCell cells c valid m
+
+  pub compacted_made : CompactedListsAreCompacted
+  compacted_made cells valid = made cells (members_valid cells valid)
+
+  pub compacted_alike : CompactedListsCoverAlike
+  compacted_alike cells r valid le = made_alike cells r (members_valid cells valid) le
+
+  -- the compacted list, at a finer resolution
+  made_at : (cells : List Address) (r : ℕ) → ((c : Address) → Contains cells c → IsCell c) → finest cells ≤ r → IsCompacted (IsCovered cells r) r (compacted cells)
+  made_at cells r valid le =
+      let k = made cells valid in
+      record {
+        ascending = k.ascending;
+        cells_valid = k.cells_valid;
+        coarse = all_of (λ c. resolution c ≤ r) (compacted cells) (λ c m. (let here = made_coarse cells valid c m in omega (arith, here, le)));
+        apart = k.apart;
+        covers = made_alike cells r valid le;
+        no_siblings = k.no_siblings;
+      }
+
+  covers_as : (S T : Address → Type 0) (r : ℕ) (cells : List Address) → ((x : Address) → S x ↔ T x) → IsCompacted S r cells → IsCompacted T r cells
+  covers_as S T r cells same k =
+      record {
+        ascending = k.ascending;
+        cells_valid = k.cells_valid;
+        coarse = k.coarse;
+        apart = k.apart;
+        covers = λ x. ((λ t. (k.covers x).0 ((same x).1 t)), (λ c. (same x).0 ((k.covers x).1 c)));
+        no_siblings = k.no_siblings;
+      }
+
+  pub coverages_decide : CoveragesDecideLists
+  coverages_decide cells others r valid valid_others le le_others fine alike =
+      one_compacted tree (IsCovered others r) r (compacted cells) (compacted others) (omega (arith, fine))
+      (covers_as (IsCovered cells r) (IsCovered others r) r (compacted cells) alike (made_at cells r (members_valid cells valid) le))
+      (made_at others r (members_valid others valid_others) le_others)
+
+  pub reduced_made : ReducedListsAreCompacted
+  reduced_made cells valid apart none x =
+      let fine = fine_within cells (members_valid cells valid) in
+      let k = compacted_made cells valid in
+      let h : IsReduced (IsCovered cells (finest cells)) (finest cells) cells = record { cells_valid = valid; coarse = all_of (λ c. resolution c ≤ finest cells) cells (no_finer cells); apart = apart; covers = λ y. ((λ c. c), (λ c. c)); no_siblings = none } in (
+        (λ m. top_member tree (IsCovered cells (finest cells)) (finest cells) (compacted cells) (omega (arith, fine)) k x (reduced_top tree (IsCovered cells (finest cells)) (finest cells) cells (omega (arith, fine)) h x m)),
+        (λ m. top_reduced tree (IsCovered cells (finest cells)) (finest cells) cells (omega (arith, fine)) h x (member_top tree (IsCovered cells (finest cells)) (finest cells) (compacted cells) (omega (arith, fine)) k x m)),
+      )
 
   -- ---- parts that are joined
 

@@ -1,5 +1,4 @@
--- The order of the slots between rounds, in which each cell comes right after its descendants. Private contracts and
--- proofs alone cite this file.
+-- Post order, in which each cell comes right after its descendants; the slots are in it between rounds.
 use Rattle.std.specs.Prelude.{◌+◌, ◌-◌, ◌^◌, ◌≤◌, List, AllPairs}
 use Rattle.h3_index.specs.Cell.{Address, resolution}
 use Rattle.h3_tree.specs.PostOrder.{post_order_key}

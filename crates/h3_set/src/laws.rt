@@ -2,12 +2,15 @@
 //! holds always.
 
 ghost use Rattle.std.specs.Prelude.{◌≡◌};
+ghost use Rattle.h3_set.specs.Laws.{AncestorsAreFound, ApartInAnyOrder, CompactedListsAreCompacted, CompactedListsCoverAlike, CoveragesDecideLists, ListsCompactInParts, OverlapsAreFound, ReducedListsAreCompacted};
 ghost use Rattle.h3_set.specs.Uncompact.{cells_left};
 ghost use Rattle.h3_set.specs.declared.iter.Uncompact.{Uncompact};
 ghost use Rattle.h3_set.specs.declared.rounds.Compaction.{Compaction};
 
 use crate::iter::Uncompact;
 use crate::rounds::Compaction;
+use h3_index::laws::cells_are_listed;
+use h3_tree::laws::cells_form_trees;
 
 /// A clone of an `Uncompact` is made, and has the same cells still to come; one of a `Compaction`
 /// is made, and is equal to it.
@@ -18,3 +21,19 @@ pub fn clones_go_on<'a>()
     ensures compaction { (a b : Compaction) → ⟦<Compaction as Clone>⟧.is_clone a b → b ≡ a }
     ensures compaction_made { (a : Compaction) → ⟦<Compaction as Clone>⟧.is_infallible a }
 {}
+
+/// Any list of cells has a compacted list, which covers the same; lists that cover the same have the
+/// same one.
+pub fn coverages_decide_lists()
+    ensures compacted { CompactedListsAreCompacted }
+    ensures alike { CompactedListsCoverAlike }
+    ensures decide { CoveragesDecideLists }
+    ensures overlaps { OverlapsAreFound }
+    ensures reordered { ApartInAnyOrder }
+    ensures ancestors { AncestorsAreFound }
+    ensures reduced { ReducedListsAreCompacted }
+    ensures parts { ListsCompactInParts }
+{
+    cells_form_trees();
+    cells_are_listed();
+}

@@ -12,8 +12,6 @@ mod uncompaction;
 
 pub use compact::{compact_cells, compact_in_place};
 pub use iter::Uncompact;
+pub use order::{has_overlap, put_in_order};
 pub use rounds::Compaction;
 pub use uncompaction::uncompact;
-
-#[cfg(test)]
-mod tests;

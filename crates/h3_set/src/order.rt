@@ -10,8 +10,9 @@ use h3_index::Cell;
 use h3_tree::laws::cells_form_intervals;
 use h3_tree::post_order_key;
 
-/// Puts cells in order. Where they are in order already, that takes one pass.
-pub(crate) fn put_in_order(cells: &mut [Cell])
+/// Puts cells in post order: by `post_order_key`, so that each comes right after those below it.
+/// Where they are in order already, that takes one pass.
+pub fn put_in_order(cells: &mut [Cell])
     ensures same { IsPermutation cells.old cells.new }
     ensures in_order { IsInOrder cells.new }
 {
@@ -27,8 +28,9 @@ pub(crate) fn keys_below(cell: Cell) -> u64
     1 << (3 * (15 - cell.resolution()))
 }
 
-/// Whether cells at two places of a list in order overlap: then two neighboring ones do.
-fn has_overlap(cells: &[Cell]) -> bool
+/// Whether cells at two places of a list overlap: one is the other, or stands above it. The list
+/// must be in post order, as `put_in_order` leaves it: then two neighboring ones do.
+pub fn has_overlap(cells: &[Cell]) -> bool
     requires valid { All IsCell cells.now }
     requires in_order { IsInOrder cells.now }
     ensures { result ≡ has_overlap cells.now }

@@ -99,36 +99,3 @@ impl Iterator for Children {
         Some(cell)
     }
 }
-
-#[cfg(test)]
-mod tests {
-    use super::Children;
-    use crate::children;
-    use h3_index::Cell;
-    use std::test::Fail;
-
-    fn copy_of<T: Copy>(value: T) -> T {
-        value
-    }
-
-    #[test]
-    fn children_are_copied(rt: HostRuntime) -> Result<(), Fail> {
-        let mut all = children(Cell::new(0x85283473fffffff)?, 6)?;
-        let mut again = copy_of(all);
-        assert_eq!(rt; all.next(), again.next());
-        assert_eq!(rt; all.next(), again.next());
-        Ok(())
-    }
-
-    #[test]
-    fn children_hold_a_cell_and_two_numbers(rt: HostRuntime) -> Result<(), Fail> {
-        let Children { next, unit, left } = children(Cell::new(0x85283473fffffff)?, 6)?;
-        let next: Cell = next;
-        let unit: u64 = unit;
-        let left: u64 = left;
-        assert_eq!(rt; next.raw(), 0x862834707ffffff);
-        assert_eq!(rt; unit, 0x8000000);
-        assert_eq!(rt; left, 7);
-        Ok(())
-    }
-}

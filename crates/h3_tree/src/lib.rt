@@ -18,6 +18,3 @@ pub use iter::Children;
 pub use positions::{child_at, child_pos};
 pub use post_order::post_order_key;
 pub use sibling_groups::SiblingGroups;
-
-#[cfg(test)]
-mod tests;

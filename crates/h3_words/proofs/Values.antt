@@ -17,7 +17,7 @@ use Rattle.h3_words.specs.declared.options.CommandOption.{CommandOption}
 use Rattle.h3_words.specs.declared.options.CommandOption.TheVariants.{Cell, Resolution, Radius, To, Position, Edge, Table}
 use Rattle.h3_words.specs.declared.commands.CommandName.{CommandName}
 use Rattle.h3_words.specs.declared.commands.Values.{Values}
-use Rattle.h3_command.specs.declared.command.Command.{Command}
+use Rattle.h3_requests.specs.declared.command.Command.{Command}
 use Rattle.h3_words.proofs.Leaf.{Differs, differ}
 
 is_in : (o : CommandOption) (os : List CommandOption) → list_any (λ x. bytes_eq (id_of x) (id_of o)) os ≡ true → IsListed o os

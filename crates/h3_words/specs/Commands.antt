@@ -5,9 +5,9 @@ use Rattle.std.specs.Str.{bytes_eq}
 use Rattle.clap.specs.Words.{App, Shape, Text}
 use Rattle.clap.specs.Simple.{new_shape}
 use Rattle.h3_words.specs.Options.{id_of, rule_for}
-use Rattle.h3_command.specs.declared.command.CellFunction.TheVariants as each
-use Rattle.h3_command.specs.declared.command.Command.{Command}
-use Rattle.h3_command.specs.declared.command.Command.TheVariants as command
+use Rattle.h3_requests.specs.declared.command.CellFunction.TheVariants as each
+use Rattle.h3_requests.specs.declared.command.Command.{Command}
+use Rattle.h3_requests.specs.declared.command.Command.TheVariants as command
 use Rattle.h3_words.specs.declared.options.CommandOption.{CommandOption}
 use Rattle.h3_words.specs.declared.options.CommandOption.TheVariants.{Cell, Resolution, Radius, To, Position, Edge, Table}
 use Rattle.h3_words.specs.declared.commands.CommandName.{CommandName}

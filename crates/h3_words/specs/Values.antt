@@ -12,7 +12,7 @@ use Rattle.h3_words.specs.declared.options.CommandOption.TheVariants.{Cell, Reso
 use Rattle.h3_words.specs.declared.commands.CommandName.{CommandName}
 use Rattle.h3_words.specs.declared.commands.Values.{Values}
 use Rattle.h3_words.specs.declared.words.Words.{Words}
-use Rattle.h3_command.specs.declared.command.Command.{Command}
+use Rattle.h3_requests.specs.declared.command.Command.{Command}
 
 -- there is a text, and this is the index that it parses as, or none where it parses as none
 abbrev pub IsIndex : Option Text → Option ℕ → Type 0

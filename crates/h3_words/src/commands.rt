@@ -2,7 +2,7 @@
 
 ghost use Rattle.std.specs.Prelude.{◌≡◌, Option, IfOk, find, false, filter_map, option_map, string_bytes};
 ghost use Rattle.std.specs.Str.{bytes_eq};
-ghost use Rattle.clap.specs.Words.{Text, app_of, found_of, shape_of};
+ghost use Rattle.clap.specs.Words.{Text, app_of, found_of, new_app, shape_of};
 ghost use Rattle.clap.specs.declared.builder.command.Command.TheViews.{out-Command};
 ghost use Rattle.h3_words.specs.Commands.{app, command_names, has_option, name_of_command, options_of, shape_for, values_of_command, word_of};
 ghost use Rattle.h3_words.specs.Values.{AreFound, HasTable, HasValues, value_in};
@@ -10,8 +10,57 @@ ghost use Rattle.h3_words.specs.declared.options.CommandOption.{CommandOption};
 
 use crate::options::CommandOption::{self, Cell, Edge, Position, Radius, Resolution, Table, To};
 use clap::{ArgMatches, Command as Parser};
-use h3_command::{CellFunction, Command};
+use h3_requests::{CellFunction, Command};
 use std::alloc::{AllocError, Global};
+
+/// What `h3 --help` prints: the commands by what they are for, in lines of at most 80 characters.
+const HELP: &str = "Inspect, traverse and compact H3 cells\n\n\
+    Usage: h3 <COMMAND>\n\n\
+    Cells:\n\
+    \x20 isValidCell                 Whether an index is a valid cell\n\
+    \x20 getResolution               The resolution of a cell\n\
+    \x20 getBaseCellNumber           The base cell of a cell\n\
+    \x20 isPentagon                  Whether a cell is a pentagon\n\
+    \x20 isResClassIII               Whether the resolution of a cell is Class III\n\
+    \x20 getNumCells                 How many cells a resolution has\n\
+    \x20 getRes0Cells                The 122 cells of resolution 0\n\
+    \x20 getPentagons                The twelve pentagons of a resolution\n\n\
+    Hierarchy:\n\
+    \x20 cellToParent                The ancestor of a cell at a resolution\n\
+    \x20 cellToCenterChild           The center descendant of a cell at a resolution\n\
+    \x20 cellToChildren              The descendants of a cell at a resolution\n\
+    \x20 cellToChildrenSize          How many descendants a cell has at a resolution\n\
+    \x20 cellToChildPos              The position of a cell below an ancestor\n\
+    \x20 childPosToCell              The descendant of a cell at a position\n\n\
+    Over a table of base cells:\n\
+    \x20 gridDiskUnsafe              The cells within a radius of a cell, ring by ring\n\
+    \x20 gridDiskDistancesUnsafe     The same, each with the number of its ring\n\
+    \x20 gridRingUnsafe              The cells of the ring of a radius around a cell\n\
+    \x20 areNeighborCells            Whether two cells are neighbors\n\
+    \x20 cellsToDirectedEdge         The directed edge from a cell to its neighbor\n\
+    \x20 getDirectedEdgeDestination  The cell that a directed edge leads to\n\n\
+    Directed edges:\n\
+    \x20 isValidDirectedEdge         Whether an index is a valid directed edge\n\
+    \x20 getDirectedEdgeOrigin       The cell that a directed edge leaves\n\
+    \x20 originToDirectedEdges       The directed edges that leave a cell\n\n\
+    Lists on standard input, one index a line:\n\
+    \x20 compactCells                The cells, compacted\n\
+    \x20 uncompactCells              The descendants of the cells at a resolution\n\
+    \x20 areValidCells               Whether each index is a valid cell\n\
+    \x20 areValidDirectedEdges       Whether each index is a valid directed edge\n\
+    \x20 getResolutions              The resolution of each cell\n\
+    \x20 getBaseCellNumbers          The base cell of each cell\n\
+    \x20 arePentagons                Whether each cell is a pentagon\n\
+    \x20 areResClassIII              Whether the resolution of each cell is Class III\n\
+    \x20 cellsToParents              The ancestor of each cell at a resolution\n\
+    \x20 cellsToCenterChildren       The center descendant of each cell\n\
+    \x20 cellsToChildrenSizes        How many descendants each cell has\n\
+    \x20 cellsToChildPositions       The position of each cell below an ancestor\n\
+    \x20 getDirectedEdgeOrigins      The cell that each directed edge leaves\n\
+    \x20 originsToDirectedEdges      The directed edges that leave each cell\n\n\
+    Options:\n\
+    \x20 -h, --help  Print help\n\n\
+    The options, the errors and an example of a command: h3 COMMAND --help";
 
 /// The name of a command.
 #[derive(Clone, Copy)]
@@ -281,7 +330,8 @@ impl CommandName {
                 word: "areNeighborCells",
                 options: &[Cell, To, Table],
                 about: "Whether two cells are neighbors",
-                notes: "Errors: 1 no index, 5 no cell, 12 cells of two resolutions,\n\
+                notes: "Error 1 or 5 is that of -c, if it has one, else that of --to.\n\
+                    Errors: 1 no index, 5 no cell, 12 cells of two resolutions,\n\
                     9 a step that starts or ends in a pentagon base cell, 13 out of memory\n\
                     Example: h3 areNeighborCells -c 85283473fffffff --to 85283477fffffff --table h3.csv\n\
                     A table: h3-table baseCells.c -o h3.csv, of the file in H3's source",
@@ -290,7 +340,8 @@ impl CommandName {
                 word: "cellsToDirectedEdge",
                 options: &[Cell, To, Table],
                 about: "The directed edge from a cell to its neighbor",
-                notes: "Errors: 1 no index, 5 no cell, 12 cells of two resolutions,\n\
+                notes: "Error 1 or 5 is that of -c, if it has one, else that of --to.\n\
+                    Errors: 1 no index, 5 no cell, 12 cells of two resolutions,\n\
                     11 no neighbors, 9 a step that starts or ends in a pentagon base cell,\n\
                     13 out of memory\n\
                     Example: h3 cellsToDirectedEdge -c 85283473fffffff --to 85283477fffffff --table h3.csv\n\
@@ -441,6 +492,38 @@ impl CommandName {
         self.entry().notes
     }
 
+    /// The usage of a command that reads a list, which shows how one is given; `clap` makes that of
+    /// any other.
+    fn usage<'a>(self) -> Option<&'a str> {
+        match self {
+            CommandName::CompactCells => Some("h3 compactCells < cells"),
+            CommandName::UncompactCells => Some(
+                "h3 uncompactCells --resolution <resolution> < cells",
+            ),
+            CommandName::AreValidCells => Some("h3 areValidCells < cells"),
+            CommandName::AreValidDirectedEdges => Some("h3 areValidDirectedEdges < edges"),
+            CommandName::GetResolutions => Some("h3 getResolutions < cells"),
+            CommandName::GetBaseCellNumbers => Some("h3 getBaseCellNumbers < cells"),
+            CommandName::ArePentagons => Some("h3 arePentagons < cells"),
+            CommandName::AreResClassIII => Some("h3 areResClassIII < cells"),
+            CommandName::CellsToParents => Some(
+                "h3 cellsToParents --resolution <resolution> < cells",
+            ),
+            CommandName::CellsToCenterChildren => Some(
+                "h3 cellsToCenterChildren --resolution <resolution> < cells",
+            ),
+            CommandName::CellsToChildrenSizes => Some(
+                "h3 cellsToChildrenSizes --resolution <resolution> < cells",
+            ),
+            CommandName::CellsToChildPositions => Some(
+                "h3 cellsToChildPositions --resolution <resolution> < cells",
+            ),
+            CommandName::GetDirectedEdgeOrigins => Some("h3 getDirectedEdgeOrigins < edges"),
+            CommandName::OriginsToDirectedEdges => Some("h3 originsToDirectedEdges < cells"),
+            _ => None,
+        }
+    }
+
     /// The command that the word names.
     pub(crate) fn named_by(word: &str) -> Option<CommandName>
         ensures { result ≡ find (λ name. bytes_eq (word_of name) word.now) command_names }
@@ -451,14 +534,26 @@ impl CommandName {
             .find(|name| name.word() == word)
     }
 
+    /// The command with its texts of help, and without its options.
+    fn described<'a>(self, alloc: Global) -> Parser<'a>
+        ensures app { app_of result ≡ new_app (word_of self) }
+        ensures local { (out-Command result).has_globals ≡ false }
+    {
+        let parser = Parser::new(alloc, self.word())
+            .about(self.about())
+            .after_help(self.notes());
+        match self.usage() {
+            Some(usage) => parser.override_usage(usage),
+            None => parser,
+        }
+    }
+
     /// The command as `clap` takes it.
     pub(crate) fn parser<'a>(self, alloc: Global) -> Result<Parser<'a>, AllocError>
         ensures shape { IfOk result (λ parser. shape_of parser ≡ shape_for self) }
         ensures local { IfOk result (λ parser. (out-Command parser).has_globals ≡ false) }
     {
-        let mut parser = Parser::new(alloc, self.word())
-            .about(self.about())
-            .after_help(self.notes());
+        let mut parser = self.described(alloc);
         for option in self.options() {
             parser = parser.arg(option.argument(alloc))?;
         }
@@ -585,7 +680,7 @@ pub(crate) fn command_line<'a>(alloc: Global) -> Result<Parser<'a>, AllocError>
     ensures { IfOk result (λ parser. app_of parser ≡ app) }
 {
     let mut parser = Parser::new(alloc, "h3")
-        .about("Inspect, traverse and compact H3 cells")
+        .override_help(HELP)
         .subcommand_required(true)
         .disable_help_subcommand(true);
     for name in &COMMAND_NAMES {

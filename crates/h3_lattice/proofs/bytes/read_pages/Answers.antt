@@ -1,6 +1,6 @@
 use Rattle.std.proofs.Common.{◌≡◌, ◌<◌, ◌∙◌, true, refl, inl, inr, arith, rules}
 use Rattle.std.proofs.lemmas.Result.{err_from_is_err_and}
-use Rattle.h3_lattice.specs.declared.error.TableError.TheVariants as fault
+use Rattle.h3_directions.specs.declared.error.TableError.TheVariants as fault
 use Rattle.h3_lattice.proofs.ByteLaws.{reads_more, reads_some, reads_stopped}
 use Rattle.h3_lattice.proofs.bytes.read_pages.Goals as goal
 

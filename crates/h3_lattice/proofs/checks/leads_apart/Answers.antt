@@ -1,10 +1,10 @@
 use Rattle.std.proofs.Common.{◌≡◌, ◌∙◌, sym, refl, arith, rules, not, true, false}
 use Rattle.std.specs.Prelude.{◌==◌}
 use Rattle.std.specs.List.{list_all}
-use Rattle.h3_lattice.specs.Direction.{directions}
+use Rattle.h3_directions.specs.Direction.{directions}
 use Rattle.h3_lattice.specs.Links.{links_in}
 use Rattle.h3_lattice.specs.Checks.{are_apart}
-use Rattle.h3_lattice.specs.declared.direction.Direction.TheVariants.{K}
+use Rattle.h3_directions.specs.declared.direction.Direction.TheVariants.{K}
 use Rattle.h3_lattice.proofs.FirstLaws.{each-next, each-end, both_false}
 use Rattle.h3_lattice.proofs.checks.leads_apart.Goals as goal
 

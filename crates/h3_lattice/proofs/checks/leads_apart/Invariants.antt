@@ -1,6 +1,6 @@
 use Rattle.std.proofs.Common.{◌≡◌, drop}
 use Rattle.std.specs.List.{list_all}
-use Rattle.h3_lattice.specs.Direction.{directions}
+use Rattle.h3_directions.specs.Direction.{directions}
 use Rattle.h3_lattice.specs.Links.{links_in}
 use Rattle.h3_lattice.specs.Checks.{are_apart}
 use Rattle.h3_lattice.proofs.checks.leads_apart.Given as goal

@@ -1,5 +1,5 @@
 use Rattle.std.proofs.Common.{◌≡◌, ◌∙◌, ap, arith}
-use Rattle.h3_lattice.specs.Direction.{turned, unit_of}
+use Rattle.h3_directions.specs.Direction.{turned, unit_of}
 use Rattle.h3_lattice.proofs.LinearLaws.{unit_of-turned}
 use Rattle.h3_lattice.proofs.direction.turn.Goals as goal
 

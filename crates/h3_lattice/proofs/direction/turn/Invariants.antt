@@ -1,5 +1,5 @@
 use Rattle.std.proofs.Common.{◌≡◌}
-use Rattle.h3_lattice.specs.Direction.{turned}
+use Rattle.h3_directions.specs.Direction.{turned}
 use Rattle.h3_lattice.proofs.direction.turn.Given as goal
 
 abbrev pub invariant-loop-done : goal.invariant-loop-done

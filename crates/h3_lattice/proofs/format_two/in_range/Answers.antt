@@ -1,8 +1,8 @@
 use Rattle.std.proofs.Common.{◌≡◌, ◌∙◌, sym, refl, arith, true, false}
 use Rattle.std.specs.List.{list_all}
-use Rattle.h3_lattice.specs.Direction.{directions}
+use Rattle.h3_directions.specs.Direction.{directions}
 use Rattle.h3_lattice.specs.FormatTwo.{in_range_two, is_link_two}
-use Rattle.h3_lattice.specs.declared.direction.Direction.TheVariants.{K}
+use Rattle.h3_directions.specs.declared.direction.Direction.TheVariants.{K}
 use Rattle.h3_lattice.proofs.FirstLaws.{each-next, each-end, both_false}
 use Rattle.h3_lattice.proofs.SlotLaws.{in_range_two-true}
 use Rattle.h3_lattice.proofs.format_two.in_range.Goals as goal

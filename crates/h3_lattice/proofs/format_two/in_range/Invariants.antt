@@ -1,6 +1,6 @@
 use Rattle.std.proofs.Common.{◌≡◌, true, drop, slice_index}
 use Rattle.std.specs.List.{list_all}
-use Rattle.h3_lattice.specs.Direction.{directions}
+use Rattle.h3_directions.specs.Direction.{directions}
 use Rattle.h3_lattice.specs.FormatTwo.{is_link_two}
 use Rattle.h3_lattice.specs.Links.{is_hexagon_base}
 use Rattle.h3_lattice.proofs.format_two.in_range.Given as goal

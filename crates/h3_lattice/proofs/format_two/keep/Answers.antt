@@ -1,6 +1,6 @@
 use Rattle.std.proofs.Common.{◌≡◌, ◌-◌, ◌∙◌, arith, rules, get_or}
-use Rattle.h3_lattice.specs.Direction.{digit_of, directions}
-use Rattle.h3_lattice.specs.declared.direction.Direction.TheVariants.{K}
+use Rattle.h3_directions.specs.Direction.{digit_of, directions}
+use Rattle.h3_directions.specs.declared.direction.Direction.TheVariants.{K}
 use Rattle.h3_lattice.proofs.SoundLaws.{digit_at}
 use Rattle.h3_lattice.proofs.format_two.keep.Goals as goal
 

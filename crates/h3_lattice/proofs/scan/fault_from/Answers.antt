@@ -1,7 +1,7 @@
 use Rattle.std.proofs.Common.{◌≡◌, ◌∙◌, sym, arith}
-use Rattle.h3_lattice.specs.Direction.{directions}
+use Rattle.h3_directions.specs.Direction.{directions}
 use Rattle.h3_lattice.specs.Checks.{in_directions}
-use Rattle.h3_lattice.specs.declared.direction.Direction.TheVariants.{K}
+use Rattle.h3_directions.specs.declared.direction.Direction.TheVariants.{K}
 use Rattle.h3_lattice.proofs.FirstLaws.{directions-some, directions-none}
 use Rattle.h3_lattice.proofs.scan.fault_from.Goals as goal
 

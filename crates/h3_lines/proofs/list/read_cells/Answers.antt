@@ -1,6 +1,6 @@
 use Rattle.std.proofs.Common.{rules, ◌≡◌, length, arith}
 use Rattle.std.proofs.lemmas.Grind.{common_steps}
-use Rattle.std.proofs.lemmas.Result.{err_from_is_err_and, IfErr-weaker, IfOk-weaker}
+use Rattle.std.proofs.lemmas.Result.{err_from_is_err_and, on_err_weaker, IfErr-weaker, IfOk-weaker}
 use Rattle.h3_lines.specs.declared.refusal.Refusal.TheVariants.{Memory}
 use Rattle.h3_lines.proofs.Listed.{stops_at_start}
 use Rattle.h3_lines.proofs.Pages.{some_held}
@@ -26,12 +26,12 @@ returns-clause-refused g c =
 pub returns-in_err-page-clause-stops : goal.returns-in_err-page-clause-stops
 returns-in_err-page-clause-stops g c =
     let p = err_from_is_err_and c.from_residual.result c.from_residual.ensures.1 in
-    rw (p.1, p.2) (λ sound list known. (list, known, stops_at_start 65536 list))
+    rw p.1 (λ list known. (list, known, stops_at_start 65536 list))
 
 pub returns-clause-stops : goal.returns-clause-stops
 returns-clause-stops g c =
     let full : length c.deref_mut.result.now ≡ 65536 = first_of (search rules, grind (arith, common_steps)) in
-    IfErr-weaker c.read_list.result _ _
-    (λ e stops sound list known. (
-    let (left, is, stopped) = stops sound list known in
+    on_err_weaker c.read_list.result
+    (λ stops list known. (
+    let (left, is, stopped) = stops list known in
     (left, is, rw full at stopped))) c.read_list.ensures.stops

@@ -23,8 +23,8 @@ pub returns-in_err-read-clause-stops : goal.returns-in_err-read-clause-stops
 returns-in_err-read-clause-stops g c =
     let p = err_from_is_err_and c.from_residual.result c.from_residual.ensures.1 in
     let stops = rw (c.new-reader.ensures.source, c.new-reader.ensures.limit) at c.in_err-read.ensures.err in
-    rw (p.1, p.2) (λ other list known. (
-    let (left, is, stopped) = list_stops _ _ _ _ _ _ _ _ _ c.new.ensures.items stops (λ read. search (rules, other read, c.take_lines-read.ensures.same)) list known in
+    rw p.1 (λ list known. (
+    let (left, is, stopped) = list_stops _ _ _ _ _ _ _ _ _ c.new.ensures.items stops list known in
     (left, search (rules, is, c.take_lines-read.ensures.same), stopped)))
 
 pub returns-in_err-read-clause-sound : goal.returns-in_err-read-clause-sound

@@ -1,4 +1,4 @@
-use Rattle.std.proofs.Common.{◌≡◌, ◌<◌, ◌≤◌, ◌+◌, ◌*◌, ◌∙◌, ℕ, length, length-take, take, ap, refl, inl, inr, arith}
+use Rattle.std.proofs.Common.{◌≡◌, ◌<◌, ◌≤◌, ◌+◌, ◌*◌, ◌∙◌, ℕ, length, length-take, take, refl, inl, inr, arith}
 use Rattle.std.proofs.lemmas.Result.{err_from_is_err_and, on_ok_weaker, IfErr-weaker}
 use Rattle.h3_index.specs.Counted.{reads_allowed, source_of}
 use Rattle.h3_lines.proofs.Pages.{one_less}
@@ -19,7 +19,7 @@ returns-in_default-clause-err g c =
     inl (
       refl,
       took_stopped g.V.LineTaker.taken g.V.LineTaker.settled c.loop-count.start.unended c.loop-count.start.short c.loop-count.invariant.took c.loop-count.invariant.settled (g.R.Source.has_failed (source_of c.read.new.self) ≡ _) _
-          (elim c.in_default.ensures.err [ inl none ↦ inl (none, ap (g.R.Source.left) (c.read.ensures.spent none)) | inr failed ↦ inr failed ]),
+          c.in_default.ensures.err c.in_default.ensures.refused,
     )
 
 pub returns-then-count-eq0-clause-ok : goal.returns-then-count-eq0-clause-ok

@@ -10,7 +10,7 @@ use Rattle.h3_words.proofs.commands.command_line.Goals as goal
 pub loop-name-init : goal.loop-name-init
 loop-name-init c = ap app_of_fields c.disable_help_subcommand-parser.ensures
     ∙ ap (on_top (λ s. record s { disable_help_subcommand = true })) (ap app_of_fields c.subcommand_required.ensures
-    ∙ ap (on_top (λ s. record s { subcommand_required = true })) (ap app_of_fields c.about.ensures ∙ c.new.ensures.app))
+    ∙ ap (on_top (λ s. record s { subcommand_required = true })) (ap app_of_fields c.override_help.ensures ∙ c.new.ensures.app))
 
 pub loop-name-preserved : goal.loop-name-preserved
 loop-name-preserved c = let made = c.in_ok-parser-2.ensures in let inner = c.in_ok-parser.ensures in

@@ -1,6 +1,6 @@
 use Rattle.std.proofs.Common.{◌≡◌, ◌∙◌, ap, sym, subst, arith, map}
 use Rattle.std.proofs.lemmas.List.{length-map, take_all}
-use Rattle.h3_lattice.specs.Direction.{digit_turned, AreTurned}
+use Rattle.h3_directions.specs.Direction.{digit_turned, AreTurned}
 use Rattle.h3_lattice.specs.Digits.{IsDigits}
 use Rattle.h3_lattice.specs.Expansion.{place}
 use Rattle.h3_lattice.proofs.TurnLaws.{all_small-turned, are_turned, place-turned}

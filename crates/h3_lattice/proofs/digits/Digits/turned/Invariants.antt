@@ -1,5 +1,5 @@
 use Rattle.std.proofs.Common.{◌≡◌, ◌-◌, length, map, take}
-use Rattle.h3_lattice.specs.Direction.{digit_turned}
+use Rattle.h3_directions.specs.Direction.{digit_turned}
 use Rattle.h3_lattice.proofs.digits.Digits.turned.Given as goal
 
 abbrev pub invariant-loop-r : goal.invariant-loop-r

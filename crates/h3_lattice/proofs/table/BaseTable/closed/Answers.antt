@@ -1,5 +1,5 @@
-use Rattle.std.proofs.Common.{◌≡◌, ◌<◌, ℕ, map, arith, All, length, get_or}
-use Rattle.h3_lattice.specs.Links.{IsLink, links_in, pair_of}
+use Rattle.std.proofs.Common.{map, arith}
+use Rattle.h3_lattice.specs.Links.{links_in, pair_of}
 use Rattle.h3_lattice.proofs.ClosedLaws.{all_links, closed_at, closed_links_are_sound}
 use Rattle.h3_lattice.proofs.table.BaseTable.closed.Goals as goal
 

@@ -1,5 +1,3 @@
-use Rattle.std.proofs.Common.{◌≡◌, sym}
-use Rattle.h3_lattice.specs.Links.{IsLink}
 use Rattle.h3_lattice.proofs.table.BaseTable.link.Goals as goal
 
 pub returns-clause-within : goal.returns-clause-within

@@ -1,4 +1,4 @@
-use Rattle.std.proofs.Common.{◌∙◌, ap, arith, sym, subst, All}
+use Rattle.std.proofs.Common.{◌∙◌, arith, sym, subst, All}
 use Rattle.h3_lattice.specs.Links.{IsLink, IsSound, links_in}
 use Rattle.h3_lattice.proofs.SoundLaws.{links_within, sound_of}
 use Rattle.h3_lattice.proofs.table.BaseTable.new.Goals as goal

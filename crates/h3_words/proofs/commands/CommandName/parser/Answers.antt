@@ -1,17 +1,12 @@
 use Rattle.std.proofs.Common.{ap, ap₂, ◌∙◌, ◌||◌, Bool, take_all}
-use Rattle.clap.specs.Words.{App, new_app, with_rule}
-use Rattle.clap.specs.Simple.{app_of_fields}
+use Rattle.clap.specs.Words.{App, with_rule}
 use Rattle.h3_words.specs.Commands.{leaf_with, word_of}
 use Rattle.h3_words.specs.declared.options.CommandOption.TheVariants.{Cell}
 use Rattle.h3_words.proofs.Building.{leaf_more}
 use Rattle.h3_words.proofs.commands.CommandName.parser.Goals as goal
 
 pub loop-option-init : goal.loop-option-init
-loop-option-init c = (
-  ap app_of_fields c.after_help-parser.ensures ∙ ap app_of_fields c.about-2.ensures
-      ∙ c.new.ensures.app ∙ ap new_app c.word.ensures,
-  ap (λ f. f.has_globals) c.after_help-parser.ensures ∙ ap (λ f. f.has_globals) c.about-2.ensures ∙ c.new.ensures.local,
-)
+loop-option-init c = (c.described-parser.ensures.app, c.described-parser.ensures.local)
 
 pub loop-option-preserved : goal.loop-option-preserved
 loop-option-preserved c =

@@ -1,0 +1,248 @@
+//! The hierarchy of cells: parents, children and positions among them.
+
+use crate::rows::{Expected, cell, clone_of, copy_of, holds, is_cell, same};
+use h3_index::{Cell, H3Error};
+use h3_tree::{
+    Children, center_child, child_at, child_pos, children, children_at, children_size, parent,
+    post_order_key, sibling_groups_at,
+};
+use std::mem::size_of;
+
+/// A hexagon of resolution 5, and its children.
+const HEXAGON: u64 = 0x85283473fffffff;
+
+static CHILDREN: [u64; 7] = [
+    0x862834707ffffff,
+    0x86283470fffffff,
+    0x862834717ffffff,
+    0x86283471fffffff,
+    0x862834727ffffff,
+    0x86283472fffffff,
+    0x862834737ffffff,
+];
+
+/// The pentagon of base cell 4, and its children.
+const PENTAGON: u64 = 0x8009fffffffffff;
+
+static CHILDREN_OF_PENTAGON: [u64; 6] = [
+    0x81083ffffffffff,
+    0x8108bffffffffff,
+    0x8108fffffffffff,
+    0x81093ffffffffff,
+    0x81097ffffffffff,
+    0x8109bffffffffff,
+];
+
+fn parent_of(cell: u64, res: i32) -> Result<u64, H3Error> {
+    Ok(parent(Cell::new(cell)?, res)?.raw())
+}
+
+#[test]
+fn parents(rt: HostRuntime) {
+    static ROWS: [(i32, Expected); 5] = [
+        (4, Ok(0x8428347ffffffff)),
+        (5, Ok(HEXAGON)),
+        (6, Err(H3Error::ResMismatch)),
+        (16, Err(H3Error::ResDomain)),
+        (-1, Err(H3Error::ResDomain)),
+    ];
+    for (row, (res, expected)) in ROWS.iter().enumerate() {
+        assert!(rt; holds(&rt, row, same(parent_of(HEXAGON, *res), *expected)));
+    }
+}
+
+fn children_of(cell: u64, res: i32) -> Result<Children, H3Error> {
+    children(Cell::new(cell)?, res)
+}
+
+/// Whether these cells are the next children.
+fn begins(rt: &HostRuntime, items: &mut Children, expected: &[u64]) -> bool {
+    for (place, cell) in expected.iter().enumerate() {
+        if !holds(rt, place, is_cell(items.next(), *cell)) {
+            return false;
+        }
+    }
+    true
+}
+
+/// Whether these cells are all children that are left. There are none after the end.
+fn gives(rt: &HostRuntime, items: &mut Children, expected: &[u64]) -> bool {
+    begins(rt, items, expected) && items.next().is_none() && items.next().is_none()
+}
+
+/// Whether the children of a cell at a resolution are the cells listed.
+fn has_children(rt: &HostRuntime, cell: u64, res: i32, expected: &[u64]) -> bool {
+    match children_of(cell, res) {
+        Ok(mut items) => gives(rt, &mut items, expected),
+        Err(_) => false,
+    }
+}
+
+#[test]
+fn cells_have_children(rt: HostRuntime) {
+    assert!(rt; has_children(&rt, HEXAGON, 6, &CHILDREN));
+    assert!(rt; has_children(&rt, PENTAGON, 1, &CHILDREN_OF_PENTAGON));
+    assert!(rt; matches!(children_of(HEXAGON, 4), Err(H3Error::ResDomain)));
+}
+
+/// Whether children and a copy of them give the same.
+fn are_copied(rt: &HostRuntime) -> bool {
+    let Ok(mut items) = children_of(HEXAGON, 6) else {
+        return false;
+    };
+    let mut again = copy_of(&items);
+    gives(rt, &mut items, &CHILDREN) && gives(rt, &mut again, &CHILDREN)
+}
+
+/// Whether children, after the first two of them, and a clone of them give the rest.
+fn are_cloned(rt: &HostRuntime) -> bool {
+    let Ok(mut items) = children_of(HEXAGON, 6) else {
+        return false;
+    };
+    let (first, rest) = CHILDREN.split_at(2);
+    let begins_well = begins(rt, &mut items, first);
+    let Ok(mut again) = clone_of(&items) else {
+        return false;
+    };
+    begins_well && gives(rt, &mut items, rest) && gives(rt, &mut again, rest)
+}
+
+#[test]
+fn a_copy_or_a_clone_of_children_goes_on_where_they_stand(rt: HostRuntime) {
+    assert!(rt; are_copied(&rt));
+    assert!(rt; are_cloned(&rt));
+}
+
+/// They have room for a cell and two numbers alone, and what is copied owns no collection.
+#[test]
+fn children_hold_a_cell_and_two_numbers(rt: HostRuntime) {
+    assert!(rt; size_of::<Children>() == size_of::<(Cell, u64, u64)>());
+}
+
+/// At its own resolution there is the cell alone.
+#[test]
+fn children_at_a_known_resolution(rt: HostRuntime) {
+    let parent = cell(&rt, HEXAGON);
+    let own = parent.resolution();
+    assert!(rt; gives(&rt, &mut children_at(parent, own), &[HEXAGON]));
+    assert!(rt; begins(&rt, &mut children_at(parent, 15), &[0x8f2834700000000]));
+}
+
+/// Whether the sibling groups of resolution 2 below a coarser cell have these parents.
+fn has_groups(rt: &HostRuntime, cell: Cell, parents: &[u64]) -> bool {
+    if cell.resolution() >= 2 {
+        return false;
+    }
+    let mut groups = sibling_groups_at(cell, 2);
+    for (place, raw) in parents.iter().enumerate() {
+        let found = groups.next().map(|siblings| siblings.parent());
+        if !holds(rt, place, is_cell(found, *raw)) {
+            return false;
+        }
+    }
+    groups.next().is_none() && groups.next().is_none()
+}
+
+#[test]
+fn sibling_groups_of_grandchildren(rt: HostRuntime) {
+    assert!(rt; has_groups(&rt, cell(&rt, PENTAGON), &CHILDREN_OF_PENTAGON));
+}
+
+fn key_of(cell: u64) -> Result<u64, H3Error> {
+    Ok(post_order_key(Cell::new(cell)?))
+}
+
+/// The last child of a cell, the cell, and a child of the next one.
+#[test]
+fn a_cell_comes_after_its_children(rt: HostRuntime) {
+    static ROWS: [(u64, u64); 3] = [
+        (0x862834737ffffff, 0x2834737ffffff),
+        (HEXAGON, 0x283473fffffff),
+        (0x862834747ffffff, 0x2834747ffffff),
+    ];
+    let mut before = 0;
+    for (row, (cell, key)) in ROWS.iter().enumerate() {
+        assert!(rt; holds(&rt, row, before < *key && same(key_of(*cell), Ok(*key))));
+        before = *key;
+    }
+}
+
+fn size_of_children(cell: u64, res: i32) -> Result<u64, H3Error> {
+    children_size(Cell::new(cell)?, res)
+}
+
+#[test]
+fn children_are_counted(rt: HostRuntime) {
+    static ROWS: [(u64, i32, Expected); 6] = [
+        (0x8029fffffffffff, 15, Ok(4747561509943)),
+        (PENTAGON, 15, Ok(3956301258286)),
+        (HEXAGON, 6, Ok(7)),
+        (HEXAGON, -1, Err(H3Error::ResDomain)),
+        (HEXAGON, 4, Err(H3Error::ResDomain)),
+        (HEXAGON, 16, Err(H3Error::ResDomain)),
+    ];
+    for (row, (cell, res, expected)) in ROWS.iter().enumerate() {
+        assert!(rt; holds(&rt, row, same(size_of_children(*cell, *res), *expected)));
+    }
+}
+
+fn center_of(cell: u64, res: i32) -> Result<u64, H3Error> {
+    Ok(center_child(Cell::new(cell)?, res)?.raw())
+}
+
+#[test]
+fn center_children(rt: HostRuntime) {
+    static ROWS: [(i32, Expected); 5] = [
+        (15, Ok(0x8f2834700000000)),
+        (5, Ok(HEXAGON)),
+        (-1, Err(H3Error::ResDomain)),
+        (4, Err(H3Error::ResDomain)),
+        (16, Err(H3Error::ResDomain)),
+    ];
+    for (row, (res, expected)) in ROWS.iter().enumerate() {
+        assert!(rt; holds(&rt, row, same(center_of(HEXAGON, *res), *expected)));
+    }
+}
+
+fn position_of(cell: u64, res: i32) -> Result<u64, H3Error> {
+    child_pos(Cell::new(cell)?, res)
+}
+
+#[test]
+fn positions(rt: HostRuntime) {
+    static ROWS: [(u64, i32, Expected); 8] = [
+        (HEXAGON, 0, Ok(2279)),
+        (HEXAGON, 5, Ok(0)),
+        (HEXAGON, 6, Err(H3Error::ResMismatch)),
+        (HEXAGON, 16, Err(H3Error::ResDomain)),
+        (HEXAGON, -1, Err(H3Error::ResDomain)),
+        (0x8209b7fffffffff, 0, Ok(40)),
+        (0x8108bffffffffff, 0, Ok(1)),
+        (0x820817fffffffff, 0, Ok(1)),
+    ];
+    for (row, (cell, res, expected)) in ROWS.iter().enumerate() {
+        assert!(rt; holds(&rt, row, same(position_of(*cell, *res), *expected)));
+    }
+}
+
+fn member_at(position: u64, cell: u64, res: i32) -> Result<u64, H3Error> {
+    Ok(child_at(position, Cell::new(cell)?, res)?.raw())
+}
+
+#[test]
+fn members_at_positions(rt: HostRuntime) {
+    static ROWS: [(u64, u64, i32, Expected); 9] = [
+        (2279, 0x8029fffffffffff, 5, Ok(HEXAGON)),
+        (0, PENTAGON, 2, Ok(0x820807fffffffff)),
+        (6, PENTAGON, 2, Ok(0x820887fffffffff)),
+        (40, PENTAGON, 2, Ok(0x8209b7fffffffff)),
+        (41, PENTAGON, 2, Err(H3Error::Domain)),
+        (0, 0x8108bffffffffff, 0, Err(H3Error::ResMismatch)),
+        (0, PENTAGON, 16, Err(H3Error::ResDomain)),
+        (41, 0x8108bffffffffff, 16, Err(H3Error::ResDomain)),
+        (41, 0x8108bffffffffff, 0, Err(H3Error::ResMismatch)),
+    ];
+    for (row, (position, cell, res, expected)) in ROWS.iter().enumerate() {
+        assert!(rt; holds(&rt, row, same(member_at(*position, *cell, *res), *expected)));
+    }
+}

@@ -1,0 +1,32 @@
+//! The tests of `h3_index`, `h3_directions`, `h3_lattice`, `h3_tree`, `h3_set`, `h3_regions` and
+//! `h3_grid`, a file for each subject.
+#![tactic(auto)]
+
+#[cfg(test)]
+mod cells;
+#[cfg(test)]
+mod chart;
+#[cfg(test)]
+mod edges;
+#[cfg(test)]
+mod errors;
+#[cfg(test)]
+mod format_two;
+#[cfg(test)]
+mod grid;
+#[cfg(test)]
+mod hierarchy;
+#[cfg(test)]
+mod regions;
+#[cfg(test)]
+mod rows;
+#[cfg(test)]
+mod sets;
+#[cfg(test)]
+mod streams;
+#[cfg(test)]
+mod sums;
+#[cfg(test)]
+mod table;
+#[cfg(test)]
+mod texts;

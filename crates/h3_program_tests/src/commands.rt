@@ -1,0 +1,95 @@
+//! Which commands are equal.
+
+use h3_requests::{CellFunction, Command};
+
+/// A command of each variant, of these words, with each function of one index.
+fn commands(cell: Option<u64>, to: Option<u64>, position: u64, res: i32) -> [Command; 37] {
+    let edge = cell;
+    let k = res;
+    [
+        Command::IsValidCell { cell },
+        Command::GetResolution { cell },
+        Command::GetBaseCellNumber { cell },
+        Command::IsPentagon { cell },
+        Command::IsResClassIII { cell },
+        Command::GetNumCells { res },
+        Command::GetRes0Cells,
+        Command::GetPentagons { res },
+        Command::CellToParent { cell, res },
+        Command::CellToCenterChild { cell, res },
+        Command::CellToChildren { cell, res },
+        Command::CellToChildrenSize { cell, res },
+        Command::CellToChildPos { cell, res },
+        Command::ChildPosToCell {
+            position,
+            cell,
+            res,
+        },
+        Command::CompactCells,
+        Command::UncompactCells { res },
+        Command::GridDiskUnsafe { cell, k },
+        Command::GridDiskDistancesUnsafe { cell, k },
+        Command::GridRingUnsafe { cell, k },
+        Command::AreNeighborCells { cell, to },
+        Command::CellsToDirectedEdge { cell, to },
+        Command::IsValidDirectedEdge { edge },
+        Command::GetDirectedEdgeOrigin { edge },
+        Command::GetDirectedEdgeDestination { edge },
+        Command::OriginToDirectedEdges { cell },
+        Command::ForEach(CellFunction::IsValidCell),
+        Command::ForEach(CellFunction::IsValidDirectedEdge),
+        Command::ForEach(CellFunction::GetResolution),
+        Command::ForEach(CellFunction::GetBaseCellNumber),
+        Command::ForEach(CellFunction::IsPentagon),
+        Command::ForEach(CellFunction::IsResClassIII),
+        Command::ForEach(CellFunction::CellToParent { res }),
+        Command::ForEach(CellFunction::CellToCenterChild { res }),
+        Command::ForEach(CellFunction::CellToChildrenSize { res }),
+        Command::ForEach(CellFunction::CellToChildPos { res }),
+        Command::ForEach(CellFunction::GetDirectedEdgeOrigin),
+        Command::ForEach(CellFunction::OriginToDirectedEdges),
+    ]
+}
+
+/// How many of the commands differ from the one in the same place.
+fn differences(these: &[Command], others: &[Command]) -> usize {
+    let mut count = 0usize;
+    for (one, other) in these.iter().zip(others) {
+        if one != other {
+            count = count.saturating_add(1);
+        }
+    }
+    count
+}
+
+#[test]
+fn only_the_same_commands_are_equal(rt: HostRuntime) {
+    let these = commands(Some(1), Some(2), 3, 4);
+    for (i, one) in these.iter().enumerate() {
+        for (j, other) in these.iter().enumerate() {
+            let right = (one == other) == (i == j) && (one != other) == (i != j);
+            assert!(&rt; right, "{i} and {j}");
+        }
+    }
+}
+
+/// Words of commands, and how many commands differ by them from those of 1, 2, 3 and 4: 17 commands
+/// have a cell and 3 an edge, 2 another cell, 1 a position, 13 a resolution and 3 a radius.
+static OTHER_WORDS: [(Option<u64>, Option<u64>, u64, i32, usize); 7] = [
+    (Some(1), Some(2), 3, 4, 0),
+    (None, Some(2), 3, 4, 20),
+    (Some(5), Some(2), 3, 4, 20),
+    (Some(1), None, 3, 4, 2),
+    (Some(1), Some(5), 3, 4, 2),
+    (Some(1), Some(2), 5, 4, 1),
+    (Some(1), Some(2), 3, 5, 16),
+];
+
+#[test]
+fn commands_of_other_words_differ(rt: HostRuntime) {
+    let these = commands(Some(1), Some(2), 3, 4);
+    for (row, (cell, to, position, res, count)) in OTHER_WORDS.iter().enumerate() {
+        let others = commands(*cell, *to, *position, *res);
+        assert!(&rt; differences(&these, &others) == *count, "row {row}");
+    }
+}

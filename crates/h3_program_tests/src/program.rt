@@ -1,0 +1,342 @@
+//! Command lines that are run over streams and a table in memory.
+
+use crate::words::words_of;
+use arrayvec::ArrayVec;
+use h3_fakes::table_file;
+use h3_index::{Sink, Source, StreamFault, Streamed};
+use h3_lattice::vectors::TestTable;
+use h3_program::{OpenFault, OpenTable, PageWriter, run_words};
+use std::alloc::Global;
+use std::io;
+use std::io::Write;
+
+/// A table in memory, at one path.
+#[derive(Drop)]
+struct MemoryTable<'a> {
+    path: &'a str,
+    rows: &'a [u8],
+    source: Streamed<&'a [u8]>,
+    /// How often `open` was called.
+    opened: u8,
+}
+
+impl<'a> MemoryTable<'a> {
+    fn new(path: &'a str, rows: &'a str) -> Self {
+        MemoryTable {
+            path,
+            rows: rows.as_bytes(),
+            source: Streamed::new(b"".as_slice()),
+            opened: 0,
+        }
+    }
+}
+
+impl<'a> Source for MemoryTable<'a> {
+    ghost use Rattle.std.specs.Prelude.{Some};
+    ghost use Rattle.h3_index.specs.Streamed.{streamed_failed, streamed_inner};
+
+    ghost left = { λ table. Some (streamed_inner table.source).now };
+
+    ghost has_failed = { λ table. streamed_failed table.source };
+
+    fn pull(&mut self, buf: &mut [u8]) -> Result<usize, StreamFault> {
+        self.source.pull(buf)
+    }
+}
+
+impl<'a> OpenTable for MemoryTable<'a> {
+    ghost use Rattle.std.specs.Prelude.{◌≡◌, ◌≢◌, false};
+    ghost use Rattle.h3_index.specs.Streamed.{streamed_failed, streamed_inner};
+
+    ghost opens = { λ old path new. (old.path.now ≡ path)
+        × ((streamed_inner new.source).now ≡ old.rows.now) × (streamed_failed new.source ≡ false) };
+
+    ghost fails_to_open = { λ old path new. old.path.now ≢ path };
+
+    fn open(&mut self, path: &str) -> Result<(), OpenFault> {
+        self.opened = self.opened.saturating_add(1);
+        if self.path != path {
+            return Err(OpenFault);
+        }
+        self.source = Streamed::new(self.rows);
+        Ok(())
+    }
+}
+
+/// A writer that counts its flushes.
+#[derive(Drop)]
+struct Flushed {
+    bytes: ArrayVec<u8, 4096>,
+    flushes: u8,
+}
+
+impl Write for Flushed {
+    fn write(&mut self, bytes: &[u8]) -> io::Result<usize> {
+        self.bytes.write(bytes)
+    }
+
+    fn flush(&mut self) -> io::Result<()> {
+        self.flushes = self.flushes.saturating_add(1);
+        Ok(())
+    }
+}
+
+/// A stream that counts its flushes.
+fn flush_counter() -> Streamed<Flushed> {
+    Streamed::new(Flushed {
+        bytes: ArrayVec::new(),
+        flushes: 0,
+    })
+}
+
+/// What a run left behind: its status, its writers, and how often it opened its table.
+#[derive(Drop)]
+struct Ended {
+    status: u8,
+    out: Flushed,
+    err: Flushed,
+    opened: u8,
+}
+
+impl Ended {
+    /// Whether a run ended so, with this output and this line on standard error.
+    fn is(&self, status: u8, output: &str, line: &str, opened: u8) -> bool {
+        self.status == status
+            && self.out.bytes.as_slice() == output.as_bytes()
+            && self.err.bytes.as_slice() == line.as_bytes()
+            && self.opened == opened
+    }
+}
+
+/// The status of a command line, run over a list, a table and these streams, or nothing where
+/// memory runs out for its words.
+fn status_of<W: Sink, E: Sink>(
+    alloc: Global,
+    line: &str,
+    list: &str,
+    table: &mut MemoryTable<'_>,
+    out: &mut W,
+    err: &mut E,
+) -> Option<u8> {
+    let words = words_of(alloc, line).ok()?;
+    let mut input = Streamed::new(list.as_bytes());
+    Some(run_words(alloc, words, &mut input, table, out, err))
+}
+
+/// Runs a command line over a table at a path, and an empty list.
+fn run_over(alloc: Global, line: &str, path: &str, rows: &str) -> Option<Ended> {
+    let mut table = MemoryTable::new(path, rows);
+    let (mut out, mut err) = (flush_counter(), flush_counter());
+    let status = status_of(alloc, line, "", &mut table, &mut out, &mut err)?;
+    Some(Ended {
+        status,
+        out: out.into_inner(),
+        err: err.into_inner(),
+        opened: table.opened,
+    })
+}
+
+/// Whether a command line is reported as invalid on standard error alone.
+fn is_reported(alloc: Global, line: &str) -> bool {
+    match run_over(alloc, line, "", "") {
+        Some(run) => run.status == 2 && run.out.bytes.is_empty() && !run.err.bytes.is_empty(),
+        None => false,
+    }
+}
+
+/// Invalid command lines.
+static INVALID: [&str; 4] = [
+    "h3",
+    "h3 nothing",
+    "h3 isValidCell",
+    "h3 getNumCells -r five",
+];
+
+#[test]
+fn invalid_command_lines_are_reported_on_standard_error(rt: HostRuntime) {
+    for line in &INVALID {
+        assert!(&rt; is_reported(rt.alloc(), line), "{line}");
+    }
+}
+
+/// Whether the text of help is written to standard output alone.
+fn writes_help(alloc: Global, line: &str) -> bool {
+    match run_over(alloc, line, "", "") {
+        Some(run) => run.status == 0 && !run.out.bytes.is_empty() && run.err.bytes.is_empty(),
+        None => false,
+    }
+}
+
+#[test]
+fn help_is_written_to_standard_output(rt: HostRuntime) {
+    assert!(&rt; writes_help(rt.alloc(), "h3 --help"));
+    assert!(&rt; writes_help(rt.alloc(), "h3 cellToParent --help"));
+}
+
+/// Whether a run writes to one of its streams alone, and flushes the output so many times.
+fn flushes(alloc: Global, line: &str, count: u8) -> bool {
+    match run_over(alloc, line, "", "") {
+        Some(run) => {
+            run.out.bytes.is_empty() != run.err.bytes.is_empty()
+                && run.out.flushes == count
+                && run.err.flushes == 0
+        }
+        None => false,
+    }
+}
+
+/// Command lines, and how many times their output is flushed.
+static FLUSHES: [(&str, u8); 4] = [
+    ("h3 --help", 1),
+    ("h3 isValidCell -c 85283473fffffff", 1),
+    ("h3 isValidCell -c xyz", 0),
+    ("h3 isValidCell", 0),
+];
+
+#[test]
+fn an_output_is_flushed_once(rt: HostRuntime) {
+    for (line, count) in &FLUSHES {
+        assert!(&rt; flushes(rt.alloc(), line, *count), "{line}");
+    }
+}
+
+#[test]
+fn help_that_cannot_be_written_is_a_write_fault(rt: HostRuntime) {
+    let mut table = MemoryTable::new("", "");
+    let mut out = Streamed::new(PageWriter::new(ArrayVec::<u8, 8>::new()));
+    let mut err = Streamed::new(ArrayVec::<u8, 64>::new());
+    let status = status_of(rt.alloc(), "h3 --help", "", &mut table, &mut out, &mut err);
+    assert!(&rt; status == Some(4));
+    assert!(&rt; err.into_inner().as_slice() == b"fault: write\n".as_slice());
+}
+
+#[test]
+fn a_list_reaches_what_is_behind_the_page(rt: HostRuntime) {
+    let line = "h3 uncompactCells -r 5";
+    let list = "85283473fffffff\n85283473fffffff\n";
+    let mut table = MemoryTable::new("", "");
+    let mut out = Vec::new(rt.alloc());
+    let mut page = Streamed::new(PageWriter::new(&mut out));
+    let mut err = Streamed::new(ArrayVec::<u8, 64>::new());
+    let status = status_of(rt.alloc(), line, list, &mut table, &mut page, &mut err);
+    assert!(&rt; status == Some(0));
+    assert!(&rt; out.as_slice() == list.as_bytes());
+}
+
+/// Whether a command line over a table at a path ends so.
+fn ends(alloc: Global, line: &str, path: &str, rows: &str, ending: (u8, &str, &str, u8)) -> bool {
+    match run_over(alloc, line, path, rows) {
+        Some(run) => run.is(ending.0, ending.1, ending.2, ending.3),
+        None => false,
+    }
+}
+
+/// Command lines over a table that is not there.
+static OVER_NO_TABLE: [&str; 6] = [
+    "h3 gridDiskUnsafe -c 85283473fffffff -k 1 --table none.csv",
+    "h3 gridDiskDistancesUnsafe -c xyz -k 1 --table none.csv",
+    "h3 gridRingUnsafe -c 0 -k 1 --table=none.csv",
+    "h3 areNeighborCells -c 0 --to 0 --table none.csv",
+    "h3 cellsToDirectedEdge -c xyz --to xyz --table none.csv",
+    "h3 getDirectedEdgeDestination --edge 0 --table none.csv",
+];
+
+#[test]
+fn table_that_cannot_be_opened(rt: HostRuntime) {
+    for line in &OVER_NO_TABLE {
+        let refused = (3, "", "table: open\n", 1);
+        assert!(&rt; ends(rt.alloc(), line, "plain.csv", "", refused), "{line}");
+    }
+}
+
+/// Whether a command line ends with this status, and opens no table.
+fn opens_none(alloc: Global, line: &str, status: u8) -> bool {
+    match run_over(alloc, line, "plain.csv", "") {
+        Some(run) => run.status == status && run.opened == 0,
+        None => false,
+    }
+}
+
+/// Command lines that open no table, and their status.
+static OPENING_NONE: [(&str, u8); 6] = [
+    (
+        "h3 gridDiskUnsafe -c 85283473fffffff -k -1 --table plain.csv",
+        2,
+    ),
+    ("h3 gridDiskUnsafe -c 85283473fffffff -k 1", 2),
+    ("h3 gridDiskUnsafe --table plain.csv --help", 0),
+    (
+        "h3 areNeighborCells -c 85283473fffffff --table plain.csv",
+        2,
+    ),
+    ("h3 isValidCell -c 85283473fffffff --table plain.csv", 2),
+    ("h3 isValidCell -c 85283473fffffff", 0),
+];
+
+#[test]
+fn opens_no_table(rt: HostRuntime) {
+    for (line, status) in &OPENING_NONE {
+        assert!(&rt; opens_none(rt.alloc(), line, *status), "{line}");
+    }
+}
+
+/// Command lines over a table, and the output.
+static OVER_A_TABLE: [(&str, &str); 4] = [
+    (
+        "h3 gridDiskUnsafe -c 85283473fffffff -k 1 --table t",
+        "85283473fffffff\n85283447fffffff\n8528347bfffffff\n85283463fffffff\n\
+         85283477fffffff\n8528340ffffffff\n8528340bfffffff\n",
+    ),
+    (
+        "h3 gridDiskUnsafe --table t -k 0 -c 85283473fffffff",
+        "85283473fffffff\n",
+    ),
+    (
+        "h3 gridDiskDistancesUnsafe -k 0 -c 85283473fffffff --table t",
+        "85283473fffffff 0\n",
+    ),
+    (
+        "h3 gridRingUnsafe -c 85283473fffffff -k 1 --table t",
+        "8528340bfffffff\n85283447fffffff\n8528347bfffffff\n85283463fffffff\n\
+         85283477fffffff\n8528340ffffffff\n",
+    ),
+];
+
+#[test]
+fn runs_over_the_table_that_is_opened(rt: HostRuntime) {
+    let file = table_file(TestTable::Plain);
+    for (line, output) in &OVER_A_TABLE {
+        let ending = (0, *output, "", 1);
+        assert!(&rt;
+            ends(rt.alloc(), line, "t", file.as_str(), ending),
+            "{line}"
+        );
+    }
+}
+
+/// Command lines over an empty table, the status and the line on standard error.
+static AFTER_THE_OPENING: [(&str, u8, &str); 3] = [
+    (
+        "h3 gridDiskUnsafe -c xyz -k 1 --table t",
+        1,
+        "error 1: E_FAILED\n",
+    ),
+    (
+        "h3 gridRingUnsafe -c 81087ffffffffff -k 1 --table t",
+        1,
+        "error 5: E_CELL_INVALID\n",
+    ),
+    (
+        "h3 gridDiskUnsafe -c 85283473fffffff -k 1 --table t",
+        3,
+        "table: form 1\n",
+    ),
+];
+
+#[test]
+fn errors_after_the_opening(rt: HostRuntime) {
+    for (line, status, text) in &AFTER_THE_OPENING {
+        let ending = (*status, "", *text, 1);
+        assert!(&rt; ends(rt.alloc(), line, "t", "", ending), "{line}");
+    }
+}
