@@ -19,6 +19,7 @@ class Server:
     """A server, with its files."""
 
     def __init__(self, place):
+        self.tables = f"{place}{asked('sharedir')}/extension/h3whole"
         self.data, self.socket, self.log = (os.path.join(place, name) for name in ("data", "socket", "log"))
 
     def command(self, *words):

@@ -4,6 +4,8 @@ import os
 import random
 import subprocess
 
+import plain_table
+
 ROOT = os.path.dirname(os.path.dirname(os.path.realpath(__file__)))
 PROGRAM = os.path.join(ROOT, "crates", "h3_cli", "out", "h3_cli")
 PENTAGON_BASES = {4, 14, 24, 38, 49, 58, 63, 72, 83, 97, 107, 117}
@@ -58,33 +60,96 @@ ROWS = {
     "SELECT count(*) FROM h3_get_pentagons(NULL) AS value": ["0"],
 }
 
+# the error of H3 that ends a query, and what it is about
 ERRORS = {
-    "SELECT h3_get_resolution('81087ffffffffff')": "error 5: E_CELL_INVALID",
-    "SELECT h3_get_base_cell_number('80f5fffffffffff')": "error 5: E_CELL_INVALID",
-    "SELECT h3_is_pentagon('0')": "error 5: E_CELL_INVALID",
-    "SELECT h3_is_res_class_iii('115283473fffffff')": "error 5: E_CELL_INVALID",
-    "SELECT h3_cell_to_parent('ffffffffffffffff', 4)": "error 5: E_CELL_INVALID",
-    "SELECT h3_cell_to_parent('81087ffffffffff', 16)": "error 5: E_CELL_INVALID",
-    "SELECT h3_cell_to_parent('xyz', 4)": "error 1: E_FAILED",
-    "SELECT h3_cell_to_parent('', 4)": "error 1: E_FAILED",
-    "SELECT h3_cell_to_parent('885283473fffffff0', 4)": "error 1: E_FAILED",
-    "SELECT h3_cell_to_parent('85283473fffffff', 16)": "error 4: E_RES_DOMAIN",
-    "SELECT h3_cell_to_parent('85283473fffffff', -1)": "error 4: E_RES_DOMAIN",
-    "SELECT h3_cell_to_parent('85283473fffffff', 2147483647)": "error 4: E_RES_DOMAIN",
-    "SELECT h3_cell_to_parent('85283473fffffff', 6)": "error 12: E_RES_MISMATCH",
-    "SELECT h3_cell_to_center_child('85283473fffffff', 4)": "error 4: E_RES_DOMAIN",
-    "SELECT h3_cell_to_children_size('85283473fffffff', 4)": "error 4: E_RES_DOMAIN",
-    "SELECT h3_cell_to_child_pos('85283473fffffff', 6)": "error 12: E_RES_MISMATCH",
-    "SELECT h3_child_pos_to_cell(-1, '8029fffffffffff', 5)": "error 2: E_DOMAIN",
-    "SELECT h3_child_pos_to_cell(16807, '8029fffffffffff', 5)": "error 2: E_DOMAIN",
-    "SELECT h3_child_pos_to_cell(0, '85283473fffffff', 4)": "error 12: E_RES_MISMATCH",
-    "SELECT h3_get_num_cells(16)": "error 4: E_RES_DOMAIN",
-    "SELECT value FROM h3_get_pentagons(-1) AS value": "error 4: E_RES_DOMAIN",
-    "SELECT value FROM h3_cell_to_children('85283473fffffff', 16) AS value": "error 4: E_RES_DOMAIN",
-    "SELECT value FROM h3_cell_to_children('81087ffffffffff', 4) AS value": "error 5: E_CELL_INVALID",
-    "SELECT value FROM h3_origin_to_directed_edges('11009fffffffffff') AS value": "error 5: E_CELL_INVALID",
-    "SELECT h3_get_directed_edge_origin('85283473fffffff')": "error 6: E_DIR_EDGE_INVALID",
+    "SELECT h3_get_resolution('81087ffffffffff')": "error 5: E_CELL_INVALID: 81087ffffffffff",
+    "SELECT h3_get_base_cell_number('80f5fffffffffff')": "error 5: E_CELL_INVALID: 80f5fffffffffff",
+    "SELECT h3_is_pentagon('0')": "error 5: E_CELL_INVALID: 0",
+    "SELECT h3_is_res_class_iii('115283473fffffff')": "error 5: E_CELL_INVALID: 115283473fffffff",
+    "SELECT h3_cell_to_parent('ffffffffffffffff', 4)": "error 5: E_CELL_INVALID: ffffffffffffffff",
+    "SELECT h3_cell_to_parent('81087ffffffffff', 16)": "error 5: E_CELL_INVALID: 81087ffffffffff",
+    "SELECT h3_cell_to_parent(' 0X81087FFFFFFFFFF', 0)": "error 5: E_CELL_INVALID: 81087ffffffffff",
+    "SELECT h3_cell_to_parent('85283473fffffff', 16)": "error 4: E_RES_DOMAIN: 85283473fffffff at resolution 16",
+    "SELECT h3_cell_to_parent('85283473fffffff', -1)": "error 4: E_RES_DOMAIN: 85283473fffffff at resolution -1",
+    "SELECT h3_cell_to_parent('85283473fffffff', 2147483647)":
+        "error 4: E_RES_DOMAIN: 85283473fffffff at resolution 2147483647",
+    "SELECT h3_cell_to_parent('85283473fffffff', 6)": "error 12: E_RES_MISMATCH: 85283473fffffff at resolution 6",
+    "SELECT h3_cell_to_center_child('85283473fffffff', 4)": "error 4: E_RES_DOMAIN: 85283473fffffff at resolution 4",
+    "SELECT h3_cell_to_children_size('85283473fffffff', 4)": "error 4: E_RES_DOMAIN: 85283473fffffff at resolution 4",
+    "SELECT h3_cell_to_child_pos('85283473fffffff', 6)": "error 12: E_RES_MISMATCH: 85283473fffffff at resolution 6",
+    "SELECT h3_child_pos_to_cell(-1, '8029fffffffffff', 5)":
+        "error 2: E_DOMAIN: position -1 in 8029fffffffffff at resolution 5",
+    "SELECT h3_child_pos_to_cell(16807, '8029fffffffffff', 5)":
+        "error 2: E_DOMAIN: position 16807 in 8029fffffffffff at resolution 5",
+    "SELECT h3_child_pos_to_cell(0, '85283473fffffff', 4)":
+        "error 12: E_RES_MISMATCH: position 0 in 85283473fffffff at resolution 4",
+    "SELECT h3_child_pos_to_cell(0, '81087ffffffffff', 4)": "error 5: E_CELL_INVALID: 81087ffffffffff",
+    "SELECT h3_get_num_cells(16)": "error 4: E_RES_DOMAIN: resolution 16",
+    "SELECT value FROM h3_get_pentagons(-1) AS value": "error 4: E_RES_DOMAIN: resolution -1",
+    "SELECT value FROM h3_cell_to_children('85283473fffffff', 16) AS value":
+        "error 4: E_RES_DOMAIN: 85283473fffffff at resolution 16",
+    "SELECT value FROM h3_cell_to_children('81087ffffffffff', 4) AS value": "error 5: E_CELL_INVALID: 81087ffffffffff",
+    "SELECT value FROM h3_origin_to_directed_edges('11009fffffffffff') AS value":
+        "error 5: E_CELL_INVALID: 11009fffffffffff",
+    "SELECT h3_get_directed_edge_origin('85283473fffffff')": "error 6: E_DIR_EDGE_INVALID: 85283473fffffff",
 }
+
+# over the base cell table of .ci/plain_table.py; within one base cell, as here, all tables are alike
+DISK = [
+    "85283473fffffff", "85283447fffffff", "8528347bfffffff", "85283463fffffff", "85283477fffffff", "8528340ffffffff",
+    "8528340bfffffff",
+]
+OVER_TABLE = {
+    "SELECT value FROM h3_grid_disk_unsafe('85283473fffffff', 1) AS value": DISK,
+    "SELECT value FROM h3_grid_disk_unsafe('8108bffffffffff', 0) AS value": ["8108bffffffffff"],
+    # a ring begins where the walk comes to it, with the cell that ends it in a disk
+    "SELECT value FROM h3_grid_ring_unsafe('85283473fffffff', 1) AS value": [*DISK[-1:], *DISK[1:-1]],
+    "SELECT value FROM h3_grid_ring_unsafe('8009fffffffffff', 0) AS value": ["8009fffffffffff"],
+    "SELECT count(*) FROM h3_grid_ring_unsafe('88283472b9fffff', 5) AS value": ["30"],
+    "SELECT * FROM h3_grid_disk_distances_unsafe('85283473fffffff', 1) AS value":
+        [f"{cell}|{place > 0:d}" for place, cell in enumerate(DISK)],
+    "SELECT distance, count(*) FROM h3_grid_disk_distances_unsafe('88283472b9fffff', 3) AS value GROUP BY 1 ORDER BY 1":
+        ["0|1", "1|6", "2|12", "3|18"],
+    f"SELECT h3_are_neighbor_cells('{DISK[0]}', '{DISK[1]}'), h3_are_neighbor_cells('{DISK[1]}', '{DISK[4]}')": ["1|0"],
+    f"SELECT h3_are_neighbor_cells('{DISK[0]}', '{DISK[0]}')": ["0"],
+    f"SELECT h3_get_directed_edge_origin(h3_cells_to_directed_edge('{DISK[0]}', '{DISK[5]}'))": [DISK[0]],
+    f"SELECT h3_get_directed_edge_destination(h3_cells_to_directed_edge('{DISK[0]}', '{DISK[5]}'))": [DISK[5]],
+    f"SELECT h3_is_valid_directed_edge(h3_cells_to_directed_edge('{DISK[0]}', '{DISK[5]}'))": ["1"],
+    # NULL in, NULL out, and no rows
+    "SELECT count(*) FROM h3_grid_disk_unsafe(NULL, 1) AS value": ["0"],
+    "SELECT count(*) FROM h3_grid_ring_unsafe('85283473fffffff', NULL) AS value": ["0"],
+    "SELECT h3_are_neighbor_cells(NULL, '85283473fffffff'), h3_get_directed_edge_destination(NULL)": ["|"],
+    "SELECT h3_cells_to_directed_edge('85283473fffffff', NULL)": [""],
+}
+OVER_TABLE_ERRORS = {
+    "SELECT value FROM h3_grid_disk_unsafe('8009fffffffffff', 1) AS value":
+        "error 9: E_PENTAGON: 1 steps from 8009fffffffffff",
+    "SELECT value FROM h3_grid_disk_unsafe('81083ffffffffff', 0) AS value":
+        "error 9: E_PENTAGON: 0 steps from 81083ffffffffff",
+    "SELECT * FROM h3_grid_disk_distances_unsafe('81083ffffffffff', 2) AS value":
+        "error 9: E_PENTAGON: 2 steps from 81083ffffffffff",
+    # beside base cell 3 the table has base cell 14, which is a pentagon's
+    "SELECT value FROM h3_grid_ring_unsafe('8007fffffffffff', 1) AS value": "error 9: E_PENTAGON: 1 steps from 8007fffffffffff",
+    "SELECT value FROM h3_grid_ring_unsafe('85283473fffffff', -1) AS value": "error 2: E_DOMAIN: -1 steps from 85283473fffffff",
+    "SELECT value FROM h3_grid_disk_unsafe('85283473fffffff', 4294967296) AS value":
+        "error 2: E_DOMAIN: 4294967296 steps from 85283473fffffff",
+    "SELECT value FROM h3_grid_disk_unsafe('81087ffffffffff', 1) AS value": "error 5: E_CELL_INVALID: 81087ffffffffff",
+    "SELECT h3_are_neighbor_cells('85283473fffffff', '5')": "error 5: E_CELL_INVALID: 5",
+    "SELECT h3_are_neighbor_cells('81087ffffffffff', '5')": "error 5: E_CELL_INVALID: 81087ffffffffff",
+    "SELECT h3_are_neighbor_cells('85283473fffffff', '8029fffffffffff')":
+        "error 12: E_RES_MISMATCH: 85283473fffffff and 8029fffffffffff",
+    "SELECT h3_are_neighbor_cells('8009fffffffffff', '8029fffffffffff')":
+        "error 9: E_PENTAGON: 8009fffffffffff and 8029fffffffffff",
+    "SELECT h3_cells_to_directed_edge('85283473fffffff', '85283473fffffff')":
+        "error 11: E_NOT_NEIGHBORS: 85283473fffffff and 85283473fffffff",
+    f"SELECT h3_cells_to_directed_edge('{DISK[1]}', '{DISK[4]}')":
+        f"error 11: E_NOT_NEIGHBORS: {DISK[1]} and {DISK[4]}",
+    "SELECT h3_get_directed_edge_destination('85283473fffffff')": "error 6: E_DIR_EDGE_INVALID: 85283473fffffff",
+    "SELECT h3_get_directed_edge_destination('12009fffffffffff')": "error 9: E_PENTAGON: 12009fffffffffff",
+}
+
+# texts that parse as no index
+NO_INDEX = ["xyz", "", "885283473fffffff0", "-1", "0x"]
 
 # over a column of cells
 COLUMNS = {
@@ -130,6 +195,19 @@ def without_overlap(seed):
     cells = h3(["uncompactCells", "-r", "6"], ["8001fffffffffff", "8009fffffffffff"])
     chance.shuffle(cells)
     return cells[:COUNT]
+
+
+def write_table(path):
+    """Writes a table of base cells into a file."""
+    with open(path, "wb") as out:
+        out.writelines(plain_table.rows())
+
+
+def walked(words, cell, steps, path):
+    """What the command h3 prints for a walk: its lines, whose columns are divided by |, or its error."""
+    given = [PROGRAM, words, "-c", cell, "-k", str(steps), "--table", path]
+    ran = subprocess.run(given, capture_output=True, text=True, check=False)
+    return [line.replace(" ", "|") for line in ran.stdout.split("\n")[:-1]] if ran.returncode == 0 else ran.stderr.strip()
 
 
 def h3(words, given):

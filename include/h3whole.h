@@ -26,9 +26,11 @@
 #define H3WHOLE_H
 #include <stddef.h>
 #include <stdint.h>
+#include <stdlib.h>
 #include <string.h>
 
-#define H3WHOLE_VERSION "1.0.0"
+/* The version of this page. h3w_version returns that of the library which runs. */
+#define H3WHOLE_VERSION "1.1.0"
 
 /* H3's own page has the same types and numbers: a program that includes both includes that one first. */
 #ifndef H3API_H
@@ -90,6 +92,9 @@ typedef struct {
 #ifdef __cplusplus
 extern "C" {
 #endif
+
+/* The version of the library as a number: 10,000 times the major one, and 100 times the minor one, and the patch. */
+int h3w_version(void);
 
 /* ---- Inspection */
 
@@ -220,10 +225,14 @@ H3Error h3w_uncompactCells(const H3Index *cells, size_t n, H3Index *out, size_t 
  *
  * Of each index the result is written at its place in `out`, and H3_NULL, or -1 where the results are no indexes, where
  * the function of one index returns an error. h3w_arePentagons and h3w_areResClassIII have E_CELL_INVALID and -1 for an
- * index that is no cell's, where the functions of one index return 0. What is returned is the first of these errors, and `*at` is its place; or
- * E_SUCCESS, and `*at` is n. So a column with a few refused indexes is done in one call, and a caller who wants none
- * looks at what is returned. Where `room` is below n it is E_MEMORY_BOUNDS, and nothing is written. What stands in
- * `out` from n on stays. The functions of one index say what is written, and when there is an error. */
+ * index that is no cell's, where the functions of one index return 0. What is returned is the first of these errors, and
+ * `*at` is its place; or E_SUCCESS, and `*at` is n. So a column with a few refused indexes is done in one call, and a
+ * caller who wants none looks at what is returned. Where `room` is below n it is E_MEMORY_BOUNDS, and nothing is
+ * written. What stands in `out` from n on stays. The functions of one index say what is written, and when there is an
+ * error.
+ *
+ * The functions at a resolution judge it first, and also where there are no indexes: E_RES_DOMAIN for a number that is
+ * none, before any other error. Then nothing is written, `*at` neither. */
 H3Error h3w_areValidCells(const H3Index *cells, size_t n, int *out, size_t room, size_t *at); /* 1 or 0 */
 H3Error h3w_getResolutions(const H3Index *cells, size_t n, int *out, size_t room, size_t *at);
 H3Error h3w_getBaseCellNumbers(const H3Index *cells, size_t n, int *out, size_t room, size_t *at);
@@ -279,8 +288,12 @@ static inline H3Error childPosToCell(int64_t childPos, H3Index parent, int child
 }
 
 static inline H3Error h3ToString(H3Index h, char *str, size_t sz) { return h3w_h3ToString(h, str, sz); }
-/* `str` ends with a 0 byte. */
-static inline H3Error stringToH3(const char *str, H3Index *out) { return h3w_stringToH3(str, strlen(str), out); }
+/* `str` ends with a 0 byte. Line feeds at its end are dropped, as of a line that fgets has read. */
+static inline H3Error stringToH3(const char *str, H3Index *out) {
+    size_t n = strlen(str);
+    while (n > 0 && str[n - 1] == '\n') n--;
+    return h3w_stringToH3(str, n, out);
+}
 
 static inline int isValidDirectedEdge(H3Index edge) { return h3w_isValidDirectedEdge(edge); }
 static inline H3Error getDirectedEdgeOrigin(H3Index edge, H3Index *out) { return h3w_getDirectedEdgeOrigin(edge, out); }
@@ -288,22 +301,102 @@ static inline H3Error originToDirectedEdges(H3Index origin, H3Index *edges) {
     return h3w_originToDirectedEdges(origin, edges);
 }
 
-/* The compacted cells, and after them H3_NULL up to n. E_DOMAIN: n is below 0. Both pointers may be null where n is 0. */
+/* What an error is, in words. */
+static inline const char *describeH3Error(H3Error err) {
+    static const char *const texts[] = {
+        "Success",
+        "The operation failed but a more specific error is not available",
+        "Argument was outside of acceptable range",
+        "Latitude or longitude arguments were outside of acceptable range",
+        "Resolution argument was outside of acceptable range",
+        "Cell argument was not valid",
+        "Directed edge argument was not valid",
+        "Undirected edge argument was not valid",
+        "Vertex argument was not valid",
+        "Pentagon distortion was encountered",
+        "Duplicate input",
+        "Cell arguments were not neighbors",
+        "Cell arguments had incompatible resolutions",
+        "Memory allocation failed",
+        "Bounds of provided memory were insufficient",
+        "Mode or flags argument was not valid",
+    };
+    return err < sizeof texts / sizeof *texts ? texts[err] : "Invalid error code";
+}
+
+/* The least size, in cells, of an array that has room for any disk of k steps; the number of all cells of resolution 15
+ * where that is less. E_DOMAIN: k is below 0. */
+static inline H3Error maxGridDiskSize(int k, int64_t *out) {
+    uint64_t size;
+    H3Error error;
+    if (k < 0) return E_DOMAIN;
+    error = h3w_getNumCells(15, out);
+    size = 3 * (uint64_t)k * ((uint64_t)k + 1) + 1;
+    if (!error && size < (uint64_t)*out) *out = (int64_t)size;
+    return error;
+}
+
+/* A list without its H3_NULLs, in memory that is to be freed; or NULL, where it has none of them or where there is no
+ * memory. `*count` is its length. */
+static inline H3Index *h3w_withoutNulls(const H3Index *cells, size_t n, size_t *count) {
+    H3Index *kept;
+    size_t i;
+    for (i = *count = 0; i < n; i++) *count += cells[i] != H3_NULL;
+    if (*count == n) return NULL;
+    kept = (H3Index *)malloc((*count + 1) * sizeof *kept);
+    if (!kept) return NULL;
+    for (i = *count = 0; i < n; i++)
+        if (cells[i] != H3_NULL) kept[(*count)++] = cells[i];
+    return kept;
+}
+
+/* The compacted cells, and after them H3_NULL up to n. H3_NULL among the given ones is passed over. E_DOMAIN: n is
+ * below 0. Both pointers may be null where n is 0. */
 static inline H3Error compactCells(const H3Index *cells, H3Index *out, const int64_t n) {
-    size_t count = 0;
+    H3Index *kept;
+    size_t given = 0, count = 0;
     H3Error error;
     if (n < 0) return E_DOMAIN;
     if (n == 0) return E_SUCCESS;
-    error = h3w_compactCells(cells, (size_t)n, out, (size_t)n, &count);
+    kept = h3w_withoutNulls(cells, (size_t)n, &given);
+    if (!kept && given < (size_t)n) return E_MEMORY_ALLOC;
+    error = h3w_compactCells(kept ? kept : cells, given, out, (size_t)n, &count);
+    free(kept);
     if (!error) memset(out + count, 0, ((size_t)n - count) * sizeof *out);
     return error;
 }
-/* E_DOMAIN: a length is below 0. A pointer may be null where its length is 0. */
+/* H3_NULL is passed over. E_DOMAIN: a length is below 0. A pointer may be null where its length is 0. */
 static inline H3Error uncompactCells(const H3Index *cells, const int64_t n, H3Index *out, const int64_t room,
                                      const int res) {
-    H3Index none = H3_NULL;
+    H3Index none = H3_NULL, *kept = NULL;
+    size_t given = 0;
+    H3Error error;
     if (n < 0 || room < 0) return E_DOMAIN;
-    return h3w_uncompactCells(n ? cells : &none, (size_t)n, room ? out : &none, (size_t)room, res);
+    if (n > 0) kept = h3w_withoutNulls(cells, (size_t)n, &given);
+    if (!kept && given < (size_t)n) return E_MEMORY_ALLOC;
+    error = h3w_uncompactCells(kept ? kept : n ? cells : &none, given, room ? out : &none, (size_t)room, res);
+    free(kept);
+    return error;
+}
+/* The number of cells that uncompactCells writes. H3_NULL is passed over. E_DOMAIN: n is below 0. Then the first of
+ * these: E_CELL_INVALID, E_RES_DOMAIN, E_RES_MISMATCH, as of h3w_uncompactCells; E_MEMORY_BOUNDS: a number of cells that
+ * no int64_t holds. */
+static inline H3Error uncompactCellsSize(const H3Index *cells, const int64_t n, const int res, int64_t *out) {
+    int64_t all = 0, size = 0, i;
+    H3Error error, first = E_SUCCESS;
+    if (n < 0) return E_DOMAIN;
+    for (i = 0; i < n; i++) {
+        if (cells[i] == H3_NULL) continue;
+        error = h3w_cellToChildrenSize(cells[i], res, &size);
+        if (error == E_CELL_INVALID) return error;
+        if (error && !first) first = E_RES_MISMATCH;
+        if (!first && size > INT64_MAX - all) first = E_MEMORY_BOUNDS;
+        if (!first) all += size;
+    }
+    error = h3w_getNumCells(res, &size);
+    if (error || first) return error ? error : first;
+    *out = all;
+    return E_SUCCESS;
 }
 
 #ifdef H3WHOLE_TABLE
@@ -334,6 +427,23 @@ static inline H3Error cellsToDirectedEdge(H3Index origin, H3Index destination, H
 }
 static inline H3Error getDirectedEdgeDestination(H3Index edge, H3Index *out) {
     return h3w_getDirectedEdgeDestination(H3WHOLE_TABLE, edge, out);
+}
+/* The cell that an edge leaves, and the one that it leads to. */
+static inline H3Error directedEdgeToCells(H3Index edge, H3Index *originDestination) {
+    H3Index destination = H3_NULL;
+    H3Error error = h3w_getDirectedEdgeDestination(H3WHOLE_TABLE, edge, &destination);
+    if (!error) error = h3w_getDirectedEdgeOrigin(edge, originDestination);
+    if (!error) originDestination[1] = destination;
+    return error;
+}
+/* The disks of `length` cells, one after another, each in as many places as maxGridDiskSize returns; the first error
+ * ends them. */
+static inline H3Error gridDisksUnsafe(H3Index *cells, int length, int k, H3Index *out) {
+    int64_t size = 0;
+    int i;
+    H3Error error = maxGridDiskSize(k, &size);
+    for (i = 0; !error && i < length; i++) error = gridDiskUnsafe(cells[i], k, out + i * size);
+    return error;
 }
 #endif
 

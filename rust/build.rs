@@ -1,7 +1,10 @@
-//! Finds the archive of libh3whole: in the folder that `H3WHOLE_LIB_DIR` names, else in the
-//! repository that this crate is part of, else where pkg-config says that it is installed.
+//! Finds the archive of libh3whole: in the folder that `H3WHOLE_LIB_DIR` names, from the folder in
+//! which cargo runs, else in the repository that this crate is part of, else where pkg-config says
+//! that it is installed.
 
 use std::env;
+use std::fs;
+use std::os::unix::process::parent_id;
 use std::path::{Path, PathBuf};
 use std::process::{exit, Command};
 
@@ -26,10 +29,19 @@ fn main() {
 
 fn folder() -> Option<PathBuf> {
     match env::var_os("H3WHOLE_LIB_DIR") {
-        Some(given) => with_archive(PathBuf::from(given)),
+        Some(given) => with_archive(from_cargo(PathBuf::from(given))),
         None => with_archive(Path::new(env!("CARGO_MANIFEST_DIR")).join("..").join(BUILT))
             .or_else(installed),
     }
+}
+
+/// A path from the folder in which cargo runs. This program runs in the folder of this crate, and
+/// cargo is its parent; where the system does not say where that is, the shell's variable does.
+fn from_cargo(path: PathBuf) -> PathBuf {
+    let folder = fs::read_link(format!("/proc/{}/cwd", parent_id()))
+        .ok()
+        .or_else(|| env::var_os("PWD").map(PathBuf::from));
+    folder.unwrap_or_default().join(path)
 }
 
 fn with_archive(folder: PathBuf) -> Option<PathBuf> {

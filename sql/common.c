@@ -1,5 +1,6 @@
 #include "common.h"
 
+#include <inttypes.h>
 #include <stdio.h>
 
 static const char *const error_names[] = {
@@ -13,6 +14,54 @@ void h3sql_error_text(H3Error error, char text[H3SQL_ERROR_ROOM]) {
     if (error < sizeof error_names / sizeof *error_names)
         snprintf(text, H3SQL_ERROR_ROOM, "error %u: %s", (unsigned)error, error_names[error]);
     else snprintf(text, H3SQL_ERROR_ROOM, "error %u", (unsigned)error);
+}
+
+/* The place of the first index of a list that is no cell's, or that of a cell which is finer than a
+ * resolution; the length of the list where there is none. */
+static size_t first_refused(H3Error error, const H3Index *cells, size_t count, int res) {
+    size_t at = 0;
+    while (at < count && (error == E_CELL_INVALID ? h3w_isValidCell(cells[at])
+                                                  : h3w_getResolution(cells[at]) <= res))
+        at++;
+    return at;
+}
+
+void h3sql_about_list(char text[H3SQL_ABOUT_ROOM], H3Error error, const H3Index *cells,
+                      size_t count, int res) {
+    bool is_finer = error == E_RES_MISMATCH;
+    size_t at = is_finer || error == E_CELL_INVALID ? first_refused(error, cells, count, res) : count;
+    int n;
+    if (at == count) {
+        snprintf(text, H3SQL_ABOUT_ROOM, "among %zu cells", count);
+        return;
+    }
+    n = snprintf(text, H3SQL_ABOUT_ROOM, "%" PRIx64 ", cell %zu of %zu", cells[at], at + 1, count);
+    if (is_finer) snprintf(text + n, H3SQL_ABOUT_ROOM - (size_t)n, ", at resolution %d", res);
+}
+
+H3Error h3sql_read_table(H3wTable *table, const char *bytes, size_t count,
+                         char text[H3SQL_FAULT_ROOM]) {
+    static const char *const formats[] = {
+        "table: refused",
+        "table: read",
+        "table: memory",
+        "table: form %" PRIu64,
+        "table: range %" PRIu64,
+        "table: repeated %" PRIu64,
+        "table: missing",
+        "table: neighbours %" PRIu64,
+        "table: reversal %" PRIu64 " %" PRIu32,
+        "table: corner %" PRIu64 " %" PRIu32,
+    };
+    H3wTableFault fault;
+    H3wTable found = h3w_readTable(bytes, count, &fault);
+    size_t code = fault.code < sizeof formats / sizeof *formats ? fault.code : 0;
+    if (fault.code == H3W_TABLE_ACCEPTED) {
+        *table = found;
+        return E_SUCCESS;
+    }
+    snprintf(text, H3SQL_FAULT_ROOM, formats[code], fault.at, fault.direction);
+    return fault.code == H3W_TABLE_MEMORY ? E_MEMORY_ALLOC : E_FAILED;
 }
 
 H3Error h3sql_reserve(h3sql_List *list, size_t more, h3sql_Resize resize, void *engine) {
@@ -37,6 +86,11 @@ H3Error h3sql_push(h3sql_List *list, H3Index cell, h3sql_Resize resize, void *en
     return error;
 }
 
+H3Index h3sql_first_invalid(const h3sql_List *list) {
+    size_t at = first_refused(E_CELL_INVALID, list->cells, list->count, 0);
+    return at < list->count ? list->cells[at] : H3_NULL;
+}
+
 H3Error h3sql_compact(const h3sql_List *list, H3Index *out, size_t *count) {
     static const H3Index none = H3_NULL;
     return h3w_compactCells(list->count ? list->cells : &none, list->count, out, list->count,
@@ -48,6 +102,7 @@ void h3sql_listed(h3sql_Rows *rows, const H3Index *cells, size_t count) {
     rows->count = count;
     rows->at = 0;
     rows->descend = false;
+    rows->distances = NULL;
 }
 
 /* The descendants of cells. */
@@ -85,6 +140,46 @@ H3Error h3sql_uncompacted(h3sql_Rows *rows, const H3Index *cells, size_t count, 
     H3Error error = h3w_uncompactCells(cells, count, &none, 0, res);
     descend(rows, cells, count, res);
     return error == E_MEMORY_BOUNDS ? E_SUCCESS : error;
+}
+
+static H3Error walk_into(H3Index *out, int *distances, size_t room, h3sql_Walk walk,
+                         const H3wTable *table, H3Index origin, int k) {
+    switch (walk) {
+        case H3SQL_DISK:
+            return h3w_gridDiskUnsafe(table, origin, k, out, room);
+        case H3SQL_DISTANCES:
+            return h3w_gridDiskDistancesUnsafe(table, origin, k, out, room, distances, room);
+        default:
+            return h3w_gridRingUnsafe(table, origin, k, out, room);
+    }
+}
+
+/* The number of cells of a walk. */
+static uint64_t walk_count(h3sql_Walk walk, int k) {
+    uint64_t steps = (uint64_t)k;
+    if (walk == H3SQL_RING) return k ? 6 * steps : 1;
+    return 3 * steps * (steps + 1) + 1;
+}
+
+H3Error h3sql_walk(h3sql_Rows *rows, h3sql_Walk walk, const H3wTable *table, H3Index origin, int k,
+                   h3sql_Resize resize, void *engine, void **memory) {
+    const size_t item = sizeof(H3Index) + sizeof(int);
+    H3Index *cells, first;
+    int *distances, distance;
+    uint64_t count;
+    /* with room for one cell it says which error there is, before memory is taken */
+    H3Error error = walk_into(&first, &distance, 1, walk, table, origin, k);
+    *memory = NULL;
+    if (error && error != E_MEMORY_BOUNDS) return error;
+    count = walk_count(walk, k);
+    if (count > SIZE_MAX / 2 / item) return E_MEMORY_ALLOC;
+    cells = *memory = resize(engine, NULL, (size_t)count * item);
+    if (!cells) return E_MEMORY_ALLOC;
+    distances = (int *)(cells + count);
+    error = walk_into(cells, distances, (size_t)count, walk, table, origin, k);
+    h3sql_listed(rows, cells, (size_t)count);
+    if (walk == H3SQL_DISTANCES) rows->distances = distances;
+    return error;
 }
 
 /* Takes the next cell itself, without H3_NULL. */

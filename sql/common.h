@@ -9,11 +9,27 @@
 
 #include "h3whole.h"
 
-/* The room of an error's text. */
+/* The room of an error's text, and of what the error of a list is about. */
 #define H3SQL_ERROR_ROOM 40
+#define H3SQL_ABOUT_ROOM 120
 
 /* Writes an error as the command h3 prints it: "error 5: E_CELL_INVALID". */
 void h3sql_error_text(H3Error error, char text[H3SQL_ERROR_ROOM]);
+
+/* Writes what an error of a list of cells is about: the first cell that is refused and which one it
+ * is, from 1 on, as "5, cell 2 of 3"; else how many there are. `res` is the resolution at which the
+ * cells were asked for, or any where they were not. */
+void h3sql_about_list(char text[H3SQL_ABOUT_ROOM], H3Error error, const H3Index *cells,
+                      size_t count, int res);
+
+/* The room of a text that says why a table is refused, and the most bytes that its file may have. */
+#define H3SQL_FAULT_ROOM 40
+#define H3SQL_TABLE_MOST 1048576
+
+/* Reads a base cell table from the bytes of its file. E_MEMORY_ALLOC: there is no memory. E_FAILED:
+ * it is refused, and `text` says why, as the command h3 does: "table: reversal 30 4". */
+H3Error h3sql_read_table(H3wTable *table, const char *bytes, size_t count,
+                         char text[H3SQL_FAULT_ROOM]);
 
 /* The engine's function that takes more memory for what it has given before (NULL: nothing). It
  * returns NULL where there is none, or it does not return. */
@@ -31,6 +47,9 @@ H3Error h3sql_reserve(h3sql_List *list, size_t more, h3sql_Resize resize, void *
 /* Puts a cell at the end. E_MEMORY_ALLOC: there is no memory; the list stays as it is. */
 H3Error h3sql_push(h3sql_List *list, H3Index cell, h3sql_Resize resize, void *engine);
 
+/* The first index of a list that is no cell's; H3_NULL where all are. */
+H3Index h3sql_first_invalid(const h3sql_List *list);
+
 /* Compacts a list as h3w_compactCells does, into room for as many cells as it has, and one more. */
 H3Error h3sql_compact(const h3sql_List *list, H3Index *out, size_t *count);
 
@@ -46,6 +65,8 @@ typedef struct {
     int64_t position, size;
     /* the cells of small sets */
     H3Index own[122];
+    /* how far each cell is, where the rows are of such a walk */
+    const int *distances;
 } h3sql_Rows;
 
 /* Begin the rows of a set. The errors are those of the functions of libh3whole that are named. What
@@ -57,6 +78,15 @@ H3Error h3sql_edges(h3sql_Rows *rows, H3Index origin); /* h3w_originToDirectedEd
 H3Error h3sql_children(h3sql_Rows *rows, H3Index cell, int res); /* h3w_cellToChildren */
 H3Error h3sql_uncompacted(h3sql_Rows *rows, const H3Index *cells, size_t count,
                           int res); /* h3w_uncompactCells */
+
+/* The walks over a base cell table: a disk, a disk with the distance of each cell, and a ring. */
+typedef enum { H3SQL_DISK, H3SQL_DISTANCES, H3SQL_RING } h3sql_Walk;
+
+/* Begins the rows of a walk: h3w_gridDiskUnsafe, h3w_gridDiskDistancesUnsafe or h3w_gridRingUnsafe.
+ * `*memory`, which is written in every case, is the engine's that has its cells, or null; it must
+ * stay while rows are taken. */
+H3Error h3sql_walk(h3sql_Rows *rows, h3sql_Walk walk, const H3wTable *table, H3Index origin, int k,
+                   h3sql_Resize resize, void *engine, void **memory);
 
 /* Takes the next row; `*found` is false where there is none. */
 H3Error h3sql_next(h3sql_Rows *rows, H3Index *row, bool *found);

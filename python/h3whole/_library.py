@@ -1,24 +1,29 @@
 """The shared object libh3whole, and its functions as its header, h3whole.h, declares them.
 
-It is looked for at the path in H3WHOLE_LIBRARY, if that is set; then where tools/library makes it, in a tree of the
-project's sources; then where the system's linker looks."""
+It is looked for at the path in H3WHOLE_LIBRARY, if that is set; then in the package, where pip puts it; then where
+tools/library makes it, in a tree of the project's sources; then where the system's linker looks."""
 
 import ctypes
 import os
 from ctypes.util import find_library
+from typing import Any, Callable
 
 from .errors import error_of
 
+__all__: "list[str]" = []
+
 _NAME = "libh3whole.so.1"
-_IN_TREE = os.path.join(os.path.dirname(os.path.realpath(__file__)), "..", "..", "lib", _NAME)
+_HERE = os.path.dirname(os.path.realpath(__file__))
+_PLACES = [os.path.join(_HERE, _NAME), os.path.join(_HERE, "..", "..", "lib", _NAME)]
 
 
-def _load():
+def _load() -> ctypes.CDLL:
     chosen = os.environ.get("H3WHOLE_LIBRARY")
     if chosen:
         return ctypes.CDLL(chosen)
-    if os.path.exists(_IN_TREE):
-        return ctypes.CDLL(_IN_TREE)
+    for place in _PLACES:
+        if os.path.exists(place):
+            return ctypes.CDLL(place)
     try:
         return ctypes.CDLL(find_library("h3whole") or _NAME)
     except OSError as error:
@@ -40,40 +45,31 @@ _size = ctypes.c_size_t
 _array = ctypes.c_void_p
 
 
-def _declared(name, result, *arguments):
-    function = getattr(_library, "h3w_" + name)
-    function.restype = result
-    function.argtypes = arguments
+def value(name: str, result: Any, *arguments: Any) -> Callable[..., Any]:
+    """A function of the library, by what it returns: a result, or an error."""
+    function: Callable[..., Any] = getattr(_library, "h3w_" + name)
+    _declare(function, result, arguments)
     return function
 
 
-def value(name, result, *arguments):
-    """A function that returns its result."""
-    return _declared(name, result, *arguments)
+def _declare(function: Any, result: Any, arguments: Any) -> None:
+    function.restype = result
+    function.argtypes = arguments
 
 
-def checked(name, out, *arguments):
-    """A function that writes its result to its last argument, and returns an error."""
-    function = _declared(name, _error, *arguments, ctypes.POINTER(out))
-
-    def call(*given):
-        result = out()
-        number = function(*given, ctypes.byref(result))
-        if number:
-            raise error_of(number)
-        return result.value
-
-    return call
+def number(name: str, *arguments: Any) -> Callable[..., int]:
+    """A function that returns the number of an error."""
+    return value(name, _error, *arguments)
 
 
-def raising(name, *arguments):
-    """A function that returns an error."""
-    function = _declared(name, _error, *arguments)
+def raising(name: str, *arguments: Any) -> Callable[..., None]:
+    """A function that returns an error, which is raised."""
+    function = number(name, *arguments)
 
-    def call(*given):
-        number = function(*given)
-        if number:
-            raise error_of(number)
+    def call(*given: Any) -> None:
+        code = function(*given)
+        if code:
+            raise error_of(code)
 
     return call
 

@@ -2,21 +2,44 @@
 
 A column is anything whose memory holds 64-bit integers one after another: an array of the module `array`, a
 memoryview, a numpy array, a column of pandas. None is copied. The result is a column of the same kind: an array for
-an array, a memoryview for a memoryview, a numpy array for a numpy array, and a Series with the same index for one of
-pandas. Its items are 64-bit integers (unsigned where they are indexes), and of the tests True or False, which in an
-array and a memoryview are 1 or 0 in a byte.
+an array, a memoryview for a memoryview, a numpy array of the same shape for a numpy array, and a Series with the same
+index for one of pandas. Where the results are indexes, their type is that of the given ones, signed or not. Else they
+are integers of 32 or 64 bits, and of the tests True or False, which in an array and a memoryview are 1 or 0 in a byte.
 
-Where an index is refused, an exception says which error it is and at which place, the first one's; with
+Where an index is refused, an exception says which error it is, which index, and at which place, the first one's; with
 `missing=True` there is none, and what is refused has 0 in place of an index, -1 in place of a number, and False in
-place of a truth value."""
+place of a truth value. A value that pandas marks as missing (NA) is refused as the index 0 is. A number that is no
+resolution is an error always, before any index. An array of numpy with a mask is refused."""
 
 import ctypes
 import sys
 from array import array
+from typing import Any, Callable, Iterable, List, Optional, SupportsIndex, Tuple, TypeVar, Union
 
 from . import _library
-from ._library import _array, _error, _resolution, _size
-from .errors import H3ResDomainError, error_of
+from ._arguments import as_int
+from ._library import _array, _index, _resolution, _size
+from .errors import error_of
+
+__all__ = [
+    "are_pentagons",
+    "are_res_class_III",
+    "are_valid_cells",
+    "are_valid_directed_edges",
+    "cells_to_center_children",
+    "cells_to_child_positions",
+    "cells_to_children_sizes",
+    "cells_to_parents",
+    "compact_cells",
+    "get_base_cell_numbers",
+    "get_directed_edge_origins",
+    "get_resolutions",
+    "int_to_str",
+    "str_to_int",
+    "uncompact_cells",
+]
+
+_Column = TypeVar("_Column")
 
 
 class _View(ctypes.Structure):
@@ -37,151 +60,332 @@ class _View(ctypes.Structure):
     ]
 
 
-class _Memory:
-    """The memory of a column while it is used: its address and how many 64-bit integers it has."""
-
-    _CONTIGUOUS = 0x0038  # PyBUF_C_CONTIGUOUS
-
-    def __init__(self, column):
-        seen = memoryview(column)
-        if seen.itemsize != 8 or seen.format.lstrip("@=<") not in ("q", "Q", "l", "L") or not seen.c_contiguous:
-            raise TypeError("a column is of 64-bit integers, one after another in memory")
-        self.count = seen.nbytes // 8
-        self._seen = seen
-        self._view = _View()
-
-    def __enter__(self):
-        ctypes.pythonapi.PyObject_GetBuffer(
-            ctypes.py_object(self._seen), ctypes.byref(self._view), self._CONTIGUOUS
-        )
-        # (the library wants an address for no indexes too)
-        self.address = self._view.buf or ctypes.addressof(self._view)
-        return self
-
-    def __exit__(self, *_):
-        ctypes.pythonapi.PyBuffer_Release(ctypes.byref(self._view))
-
-
 ctypes.pythonapi.PyObject_GetBuffer.argtypes = [ctypes.py_object, ctypes.POINTER(_View), ctypes.c_int]
 ctypes.pythonapi.PyBuffer_Release.argtypes = [ctypes.POINTER(_View)]
 ctypes.pythonapi.PyBuffer_Release.restype = None
+_CONTIGUOUS = 0x0038  # PyBUF_C_CONTIGUOUS
 
 
-def _is_of(column, module, name):
+def _is_of(column: Any, module: str, name: str) -> bool:
     """Whether a column is of a class of a module, which is not imported for this."""
     kind = getattr(sys.modules.get(module), name, None)
     return kind is not None and isinstance(column, kind)
 
 
-def _memory_of(column):
-    return column.to_numpy() if _is_of(column, "pandas", "Series") else column
+def _is_series(column: Any) -> bool:
+    return _is_of(column, "pandas", "Series")
 
 
-def _room_for(column, typecode, count):
-    """Room for the results of a column, and its address."""
-    if _is_of(column, "pandas", "Series") or _is_of(column, "numpy", "ndarray"):
-        items = sys.modules["numpy"].empty(count, dtype=typecode)
+def _is_numpy(column: Any) -> bool:
+    return _is_of(column, "numpy", "ndarray")
+
+
+def _memory_of(column: Any) -> Any:
+    """What has the memory of a column's integers."""
+    if _is_series(column):
+        # (the nullable types of pandas have their integers beside a mask)
+        own = getattr(column.dtype, "numpy_dtype", None)
+        return column.to_numpy() if own is None else column.to_numpy(dtype=own, na_value=0)
+    if _is_numpy(column) and _is_of(column, "numpy.ma", "MaskedArray"):
+        raise TypeError("an array with a mask is no column: pass column.filled(0), with missing=True")
+    return column
+
+
+def _refuse(column: Any) -> TypeError:
+    kind = getattr(column, "dtype", None)
+    found = type(column).__name__ if kind is None else f"{type(column).__name__} of {kind}"
+    hint = ""
+    if str(kind) in ("int64", "uint64"):
+        hint = ": numpy.ascontiguousarray(column) puts them one after another"
+    elif getattr(kind, "kind", "") in ("O", "S", "U") or isinstance(column, (list, tuple)):
+        hint = ": h3whole.columns.str_to_int makes one of texts, and array('Q', column) of integers"
+    elif kind is not None:
+        hint = ": column.astype('uint64') makes one"
+    elif isinstance(column, memoryview):
+        hint = ": memoryview(bytes(column)).cast('Q') is one, where the items are such integers"
+    return TypeError(f"a column is of 64-bit integers, one after another in memory, and not a {found}{hint}")
+
+
+class _Memory:
+    """The memory of a column while it is used: its address and how many 64-bit integers it has."""
+
+    address: int
+
+    def __init__(self, column: Any) -> None:
+        memory = _memory_of(column)
+        try:
+            seen = memoryview(memory)
+        except (TypeError, ValueError, BufferError):
+            raise _refuse(column) from None
+        self.typecode = seen.format.lstrip("@=<")
+        if seen.itemsize != 8 or self.typecode not in ("q", "Q", "l", "L") or not seen.c_contiguous:
+            raise _refuse(memory)
+        self.count = seen.nbytes // 8
+        self.shape: Tuple[int, ...] = tuple(seen.shape or ())
+        self.dtype = getattr(memory, "dtype", None)
+        self._seen = seen
+        self._view = _View()
+
+    def __enter__(self) -> "_Memory":
+        ctypes.pythonapi.PyObject_GetBuffer(
+            ctypes.py_object(self._seen), ctypes.byref(self._view), _CONTIGUOUS
+        )
+        # (the library wants an address for no indexes too)
+        self.address = self._view.buf or ctypes.addressof(self._view)
+        return self
+
+    def __exit__(self, *_: Any) -> None:
+        ctypes.pythonapi.PyBuffer_Release(ctypes.byref(self._view))
+
+    def named(self, place: int) -> str:
+        """The index at a place, and the place, as an exception names them."""
+        return f"{_index.from_address(self.address + 8 * place).value:x} at place {place}"
+
+
+_INDEXES = ""
+
+
+def _room_for(column: Any, given: _Memory, typecode: str, count: int) -> Tuple[Any, int]:
+    """Room for so many results of a column, and its address. Indexes have the type of those that were given."""
+    if _is_series(column) or _is_numpy(column):
+        items = sys.modules["numpy"].empty(count, dtype=typecode or given.dtype)
         return items, items.ctypes.data
-    items = array(typecode, [0]) * count
-    return items, items.buffer_info()[0]
+    numbers = array(typecode or given.typecode, [0]) * count
+    return numbers, numbers.buffer_info()[0]
 
 
-def _as_kind_of(column, items, is_truth):
-    """Items as a column of the same kind as another."""
-    if _is_of(column, "pandas", "Series"):
-        return type(column)(_as_numpy(items, is_truth), index=column.index, name=column.name)
-    if _is_of(column, "numpy", "ndarray"):
-        return _as_numpy(items, is_truth)
+def _as_kind_of(column: Any, given: _Memory, items: Any, typecode: str, is_truth: bool) -> Any:
+    """Results as a column of the same kind and shape as another."""
+    if _is_series(column):
+        dtype = column.dtype if typecode == _INDEXES else None
+        return type(column)(items > 0 if is_truth else items, index=column.index, name=column.name, dtype=dtype)
+    if _is_numpy(column):
+        return (items > 0 if is_truth else items).reshape(given.shape)
     if is_truth:
         items = array("b", [item > 0 for item in items])
+    if not isinstance(column, memoryview):
+        return items
+    if len(given.shape) == 1:
+        return memoryview(items)
+    return memoryview(items).cast("B").cast(items.typecode, list(given.shape))
+
+
+def _fill(
+    function: Callable[..., int],
+    column: Any,
+    typecode: str,
+    missing: bool,
+    *,
+    res: Optional[SupportsIndex] = None,
+    is_truth: bool = False,
+) -> Any:
+    """What a function for columns writes."""
+    resolution = () if res is None else (as_int(res),)
+    with _Memory(column) as given:
+        place = _size(0)
+        room, address = _room_for(column, given, typecode, given.count)
+        # (the library wants an address for no results too)
+        address = address or ctypes.addressof(place)
+        number = function(given.address, given.count, *resolution, address, given.count, ctypes.byref(place))
+        if resolution and number == 4 and not 0 <= resolution[0] <= 15:
+            raise error_of(number, f"resolution {res}")
+        if number and not missing:
+            raise error_of(number, given.named(place.value) + (f", at resolution {res}" if number in (4, 12) else ""))
+    return _as_kind_of(column, given, room, typecode, is_truth)
+
+
+def _function(name: str, *more: Any) -> Callable[..., int]:
+    return _library.number(name, _array, _size, *more, _array, _size, ctypes.POINTER(_size))
+
+
+_are_valid_cells = _function("areValidCells")
+_are_valid_directed_edges = _function("areValidDirectedEdges")
+_get_resolutions = _function("getResolutions")
+_get_base_cell_numbers = _function("getBaseCellNumbers")
+_are_pentagons = _function("arePentagons")
+_are_res_class_iii = _function("areResClassIII")
+_cells_to_parents = _function("cellsToParents", _resolution)
+_cells_to_center_children = _function("cellsToCenterChildren", _resolution)
+_cells_to_children_sizes = _function("cellsToChildrenSizes", _resolution)
+_cells_to_child_positions = _function("cellsToChildPositions", _resolution)
+_get_directed_edge_origins = _function("getDirectedEdgeOrigins")
+_compact_cells = _function("compactCells")
+_uncompact_cells = _library.number("uncompactCells", _array, _size, _array, _size, _resolution)
+_string_to_h3 = _library.number("stringToH3", ctypes.c_char_p, _size, ctypes.POINTER(_index))
+_h3_to_string = _library.number("h3ToString", _index, ctypes.c_char_p, _size)
+
+
+def are_valid_cells(column: _Column, *, missing: bool = False) -> _Column:
+    """Whether each number is the index of a cell."""
+    return _fill(_are_valid_cells, column, "i", missing, is_truth=True)  # type: ignore[no-any-return]
+
+
+def are_valid_directed_edges(column: _Column, *, missing: bool = False) -> _Column:
+    """Whether each number is the index of a directed edge."""
+    return _fill(_are_valid_directed_edges, column, "i", missing, is_truth=True)  # type: ignore[no-any-return]
+
+
+def get_resolutions(column: _Column, *, missing: bool = False) -> _Column:
+    """The resolution of each cell."""
+    return _fill(_get_resolutions, column, "i", missing)  # type: ignore[no-any-return]
+
+
+def get_base_cell_numbers(column: _Column, *, missing: bool = False) -> _Column:
+    """The base cell of each cell."""
+    return _fill(_get_base_cell_numbers, column, "i", missing)  # type: ignore[no-any-return]
+
+
+def are_pentagons(column: _Column, *, missing: bool = False) -> _Column:
+    """Whether each cell is a pentagon."""
+    return _fill(_are_pentagons, column, "i", missing, is_truth=True)  # type: ignore[no-any-return]
+
+
+def are_res_class_III(column: _Column, *, missing: bool = False) -> _Column:
+    """Whether the resolution of each cell is Class III, which is odd."""
+    return _fill(_are_res_class_iii, column, "i", missing, is_truth=True)  # type: ignore[no-any-return]
+
+
+def cells_to_parents(column: _Column, res: SupportsIndex, *, missing: bool = False) -> _Column:
+    """The ancestor of each cell at a resolution."""
+    return _fill(_cells_to_parents, column, _INDEXES, missing, res=res)  # type: ignore[no-any-return]
+
+
+def cells_to_center_children(column: _Column, res: SupportsIndex, *, missing: bool = False) -> _Column:
+    """The descendant in the center of each cell at a resolution."""
+    return _fill(_cells_to_center_children, column, _INDEXES, missing, res=res)  # type: ignore[no-any-return]
+
+
+def cells_to_children_sizes(column: _Column, res: SupportsIndex, *, missing: bool = False) -> _Column:
+    """The number of descendants of each cell at a resolution."""
+    return _fill(_cells_to_children_sizes, column, "q", missing, res=res)  # type: ignore[no-any-return]
+
+
+def cells_to_child_positions(column: _Column, res: SupportsIndex, *, missing: bool = False) -> _Column:
+    """The position of each cell among the descendants of its ancestor at a resolution."""
+    return _fill(_cells_to_child_positions, column, "q", missing, res=res)  # type: ignore[no-any-return]
+
+
+def get_directed_edge_origins(column: _Column, *, missing: bool = False) -> _Column:
+    """The cell that each edge leaves."""
+    return _fill(_get_directed_edge_origins, column, _INDEXES, missing)  # type: ignore[no-any-return]
+
+
+# ---- sets of cells: a result has as many items as it has
+
+
+def _alone(column: Any, items: Any) -> Any:
+    """Cells as a column of the same kind, in one dimension."""
+    if _is_series(column):
+        return type(column)(items, name=column.name, dtype=column.dtype)
     return memoryview(items) if isinstance(column, memoryview) else items
 
 
-def _as_numpy(items, is_truth):
-    numpy = sys.modules["numpy"]
-    if isinstance(items, array):
-        items = numpy.frombuffer(items, dtype=items.typecode) if items else numpy.empty(0, dtype=items.typecode)
-    return items > 0 if is_truth else items
+def _first_of_no_cell(given: _Memory) -> str:
+    found, place = array("i", [0]) * given.count, _size()
+    _are_valid_cells(given.address, given.count, found.buffer_info()[0], given.count, ctypes.byref(place))
+    return given.named(found.index(0))
 
 
-def _columnwise(name, typecode, about, is_truth=False, takes_res=False):
-    """A function over a column, by that of the library: `typecode` is that of its results' array."""
-    kinds = (_array, _size) + ((_resolution,) if takes_res else ())
-    function = _library.value(name, _error, *kinds, _array, _size, ctypes.POINTER(_size))
-
-    def call(column, *resolution, missing=False):
-        with _Memory(_memory_of(column)) as given:
-            place = _size(0)
-            room, address = _room_for(column, typecode, given.count)
-            # (the library wants an address for no results too)
-            address = address or ctypes.addressof(place)
-            number = function(given.address, given.count, *resolution, address, given.count, ctypes.byref(place))
-        if number and not missing:
-            raise error_of(number, f"at place {place.value}")
-        return _as_kind_of(column, room, is_truth)
-
-    if takes_res:
-
-        def over_column(column, res, *, missing=False):
-            if not -(2**31) <= res < 2**31:
-                raise H3ResDomainError(f"error 4: E_RES_DOMAIN: {res}")
-            return call(column, res, missing=missing)
-
-    else:
-
-        def over_column(column, *, missing=False):
-            return call(column, missing=missing)
-
-    over_column.__doc__ = about
-    return over_column
-
-
-are_valid_cells = _columnwise("areValidCells", "i", "Whether each number is the index of a cell.", is_truth=True)
-are_valid_directed_edges = _columnwise(
-    "areValidDirectedEdges", "i", "Whether each number is the index of a directed edge.", is_truth=True
-)
-get_resolutions = _columnwise("getResolutions", "i", "The resolution of each cell.")
-get_base_cell_numbers = _columnwise("getBaseCellNumbers", "i", "The base cell of each cell.")
-are_pentagons = _columnwise("arePentagons", "i", "Whether each cell is a pentagon.", is_truth=True)
-are_res_class_III = _columnwise("areResClassIII", "i", "Whether the resolution of each is Class III.", is_truth=True)
-cells_to_parents = _columnwise("cellsToParents", "Q", "The ancestor of each cell at a resolution.", takes_res=True)
-cells_to_center_children = _columnwise(
-    "cellsToCenterChildren", "Q", "The descendant in the center of each cell at a resolution.", takes_res=True
-)
-cells_to_children_sizes = _columnwise(
-    "cellsToChildrenSizes", "q", "The number of descendants of each cell at a resolution.", takes_res=True
-)
-cells_to_child_positions = _columnwise(
-    "cellsToChildPositions",
-    "q",
-    "The position of each cell among the descendants of its ancestor at a resolution.",
-    takes_res=True,
-)
-get_directed_edge_origins = _columnwise("getDirectedEdgeOrigins", "Q", "The cell that each edge leaves.")
-
-
-def compact_cells(column):
+def compact_cells(column: _Column) -> _Column:
     """The least list of cells that covers what those of a column cover, ascending, as a column."""
-    function = _library.checked("compactCells", _size, _array, _size, _array, _size)
-    with _Memory(_memory_of(column)) as given:
-        room = array("Q", [0]) * max(given.count, 1)
-        count = function(given.address, given.count, room.buffer_info()[0], given.count)
-    return _alone(column, room[:count])
+    with _Memory(column) as given:
+        room, address = _room_for(column, given, _INDEXES, max(given.count, 1))
+        found = _size()
+        number = _compact_cells(given.address, given.count, address, given.count, ctypes.byref(found))
+        if number:
+            raise error_of(number, _first_of_no_cell(given) if number == 5 else f"among {given.count} cells")
+    # (a copy, so that the room of those that merged is given back)
+    kept = room[: found.value]
+    return _alone(column, kept.copy() if hasattr(kept, "copy") else kept)  # type: ignore[no-any-return]
 
 
-def uncompact_cells(column, res):
-    """The descendants at a resolution of the cells of a column, in their order, as a column."""
-    function = _library.raising("uncompactCells", _array, _size, _array, _size, _resolution)
-    sizes = cells_to_children_sizes(memoryview(_memory_of(column)), res, missing=True)
-    count = sum(size for size in sizes if size > 0)
-    room = array("Q", [0]) * max(count, 1)
-    with _Memory(_memory_of(column)) as given:
-        function(given.address, given.count, room.buffer_info()[0], count, res)
-    return _alone(column, room[:count])
+def uncompact_cells(column: _Column, res: SupportsIndex) -> _Column:
+    """The descendants at a resolution of the cells of a column, in their order, as a column. A number that is no
+    resolution is refused before any cell."""
+    with _Memory(column) as given:
+        sizes, place = array("q", [0]) * max(given.count, 1), _size()
+        address = sizes.buffer_info()[0]
+        number = _cells_to_children_sizes(
+            given.address, given.count, as_int(res), address, given.count, ctypes.byref(place)
+        )
+        if number == 4 and not 0 <= as_int(res) <= 15:
+            raise error_of(number, f"resolution {res}")
+        count = _sum(sizes) if not number else 0
+        room, address = _room_for(column, given, _INDEXES, max(count, 1))
+        number = _uncompact_cells(given.address, given.count, address, count, as_int(res))
+        if number:
+            about = _first_of_no_cell(given) if number == 5 else f"{given.named(place.value)}, at resolution {res}"
+            raise error_of(number, about)
+    return _alone(column, room[:count])  # type: ignore[no-any-return]
 
 
-def _alone(column, cells):
-    """Cells as a column of the same kind, which has as many items as it has."""
-    if _is_of(column, "pandas", "Series"):
-        return type(column)(_as_numpy(cells, False), name=column.name)
-    return _as_kind_of(column, cells, False)
+def _sum(sizes: Any) -> int:
+    """The sum of numbers of cells, which has no limit: by numpy, where a program has imported it, a million at a time,
+    whose sum an int64 holds, since none is above 2^43."""
+    numpy = sys.modules.get("numpy")
+    if numpy is None or not len(sizes):
+        return sum(sizes)
+    numbers = numpy.frombuffer(sizes, dtype="int64")
+    return sum(int(numbers[start : start + 2**20].sum()) for start in range(0, len(numbers), 2**20))
+
+
+# ---- texts
+
+
+def _parse(texts: Iterable[Any], missing: bool) -> "array[int]":
+    """The indexes of texts."""
+    found = array("Q")
+    out = _index()
+    at = ctypes.byref(out)
+    for text in texts:
+        try:
+            given = text if isinstance(text, bytes) else text.encode("ascii")
+        except (AttributeError, UnicodeEncodeError):
+            number = 1
+        else:
+            number = _string_to_h3(given, len(given), at)
+        if number and not missing:
+            raise error_of(number, f"{text!r} at place {len(found)}")
+        found.append(0 if number else out.value)
+    return found
+
+
+def str_to_int(column: Any, *, missing: bool = False) -> Any:
+    """The indexes of a column of texts, each as `h3whole.str_to_int` parses it: an array for a list, a numpy array of the
+    same shape for one of texts, bytes or objects, and a Series for a Series. With `missing=True` what parses as no index,
+    or is no text, is 0."""
+    if _is_series(column):
+        found = sys.modules["numpy"].frombuffer(_parse(column, missing) or b"", dtype="uint64")
+        return type(column)(found.copy(), index=column.index, name=column.name)
+    if _is_numpy(column):
+        if column.dtype.kind not in "OSU":
+            raise TypeError(f"a column of texts is wanted, and not one of {column.dtype}")
+        found = sys.modules["numpy"].frombuffer(_parse(column.ravel().tolist(), missing) or b"", dtype="uint64")
+        return found.copy().reshape(column.shape)
+    if isinstance(column, (str, bytes)):
+        raise TypeError(f"a column of texts is wanted, and not {column!r}")
+    return _parse(column, missing)
+
+
+def _write(given: _Memory) -> List[str]:
+    """The texts of indexes."""
+    found = []
+    room = (ctypes.c_char * 17)()
+    for index in (_index * given.count).from_address(given.address):
+        number = _h3_to_string(index, room, 17)
+        if number:
+            raise error_of(number)
+        found.append(room.value.decode("ascii"))
+    return found
+
+
+def int_to_str(column: Any) -> Any:
+    """The texts of a column of indexes, each as `h3whole.int_to_str` writes it: a list for an array or a memoryview, a
+    numpy array of the same shape for a numpy array, and a Series for a Series."""
+    with _Memory(column) as given:
+        texts = _write(given)
+    if _is_series(column):
+        return type(column)(texts, index=column.index, name=column.name, dtype=object)
+    if _is_numpy(column):
+        return sys.modules["numpy"].array(texts, dtype="U16").reshape(given.shape)
+    return texts

@@ -1,11 +1,32 @@
 """The errors of H3's functions: an exception for each number of H3's table, with h3-py's names."""
 
+from typing import Dict, Optional, Type
+
+__all__ = [
+    "H3BaseException",
+    "H3CellInvalidError",
+    "H3DirEdgeInvalidError",
+    "H3DomainError",
+    "H3DuplicateInputError",
+    "H3FailedError",
+    "H3GridNavigationError",
+    "H3MemoryAllocError",
+    "H3MemoryBoundsError",
+    "H3MemoryError",
+    "H3NotNeighborsError",
+    "H3PentagonError",
+    "H3ResDomainError",
+    "H3ResMismatchError",
+    "H3ValueError",
+    "UnknownH3ErrorCode",
+]
+
 
 class H3BaseException(Exception):
     """An error of H3. `number` is its number in H3's table, and `name` its name there."""
 
-    number = None
-    name = None
+    number: Optional[int] = None
+    name: Optional[str] = None
 
 
 class H3MemoryError(H3BaseException, MemoryError):
@@ -68,7 +89,7 @@ class H3MemoryBoundsError(H3MemoryError):
     number, name = 14, "E_MEMORY_BOUNDS"
 
 
-_BY_NUMBER = {
+_BY_NUMBER: Dict[Optional[int], Type[H3BaseException]] = {
     kind.number: kind
     for kind in (
         H3FailedError,
@@ -86,10 +107,15 @@ _BY_NUMBER = {
 }
 
 
-def error_of(number, about=None):
+def error_of(number: int, about: Optional[str] = None) -> H3BaseException:
     """The exception for a number of H3's table, with what it is about."""
     kind = _BY_NUMBER.get(number)
     if kind is None:
         return UnknownH3ErrorCode(f"error {number}")
     text = f"error {kind.number}: {kind.name}"
     return kind(text if about is None else f"{text}: {about}")
+
+
+def error_at(number: int, index: int, res: object) -> H3BaseException:
+    """The exception of a function of an index and a resolution."""
+    return error_of(number, f"{index:x} at resolution {res}")

@@ -1,82 +1,92 @@
 """H3's functions over indexes as integers, with h3-py's names. The package itself has the same over texts.
 
-A cell or an edge is an int from 0 to 2^64 - 1. Errors are exceptions of `h3whole.errors`: H3CellInvalidError where
-the index is no cell's and H3DirEdgeInvalidError where it is no edge's, before any other."""
+A cell or an edge is an integer from 0 to 2^64 - 1, of Python or of numpy. Errors are exceptions of `h3whole.errors`:
+H3CellInvalidError where the index is no cell's and H3DirEdgeInvalidError where it is no edge's, before any other."""
 
 import ctypes
 from array import array
-from typing import Iterable, List, NewType, Optional
+from typing import Any, Callable, Iterable, List, Optional, SupportsIndex, Tuple, overload
 
 from . import _library
+from ._arguments import MOST, as_cell, as_edge, as_int, as_int64, as_text, whole_number
 from ._library import _array, _index, _number, _resolution, _size, _table, _truth
-from .errors import H3CellInvalidError, H3MemoryAllocError, H3MemoryBoundsError, H3ResDomainError, error_of
-from .table import Table
+from .errors import H3BaseException, H3MemoryAllocError, error_at, error_of
+from .table import Table, over_table
 
-Index = NewType("Index", int)
+__all__ = [
+    "are_neighbor_cells",
+    "cell_to_center_child",
+    "cell_to_child_pos",
+    "cell_to_children",
+    "cell_to_children_size",
+    "cell_to_parent",
+    "cells_to_directed_edge",
+    "child_pos_to_cell",
+    "compact_cells",
+    "get_base_cell_number",
+    "get_directed_edge_destination",
+    "get_directed_edge_origin",
+    "get_num_cells",
+    "get_pentagons",
+    "get_res0_cells",
+    "get_resolution",
+    "grid_disk_distances_unsafe",
+    "grid_disk_unsafe",
+    "grid_ring_unsafe",
+    "int_to_str",
+    "is_pentagon",
+    "is_res_class_III",
+    "is_valid_cell",
+    "is_valid_directed_edge",
+    "origin_to_directed_edges",
+    "str_to_int",
+    "uncompact_cells",
+]
 
-_MOST = 2**64
-
-
-def _whole(number, most):
-    """A number as the library's parameter can hold it: -1 in place of one that it can't, which is refused alike."""
-    if not isinstance(number, int):
-        raise TypeError(f"a whole number is wanted, and not {number!r}")
-    return number if -most <= number < most else -1
-
-
-def _int(number):
-    return _whole(number, 2**31)
-
-
-def _cell(number):
-    """A number that an index can be; any other is no index."""
-    if not isinstance(number, int):
-        raise TypeError(f"an index is a whole number, and not {number!r}")
-    if not 0 <= number < _MOST:
-        raise H3CellInvalidError(f"error 5: E_CELL_INVALID: {number}")
-    return number
-
-
+_out_index = ctypes.POINTER(_index)
+_out_number = ctypes.POINTER(_number)
 _is_valid_cell = _library.value("isValidCell", _truth, _index)
 _get_resolution = _library.value("getResolution", _truth, _index)
 _get_base_cell_number = _library.value("getBaseCellNumber", _truth, _index)
 _is_pentagon = _library.value("isPentagon", _truth, _index)
 _is_res_class_iii = _library.value("isResClassIII", _truth, _index)
-_get_num_cells = _library.checked("getNumCells", _number, _resolution)
+_get_num_cells = _library.number("getNumCells", _resolution, _out_number)
 _get_res0_cells = _library.raising("getRes0Cells", _array, _size)
-_get_pentagons = _library.raising("getPentagons", _resolution, _array, _size)
-_cell_to_parent = _library.checked("cellToParent", _index, _index, _resolution)
-_cell_to_center_child = _library.checked("cellToCenterChild", _index, _index, _resolution)
-_cell_to_children_size = _library.checked("cellToChildrenSize", _number, _index, _resolution)
+_get_pentagons = _library.number("getPentagons", _resolution, _array, _size)
+_cell_to_parent = _library.number("cellToParent", _index, _resolution, _out_index)
+_cell_to_center_child = _library.number("cellToCenterChild", _index, _resolution, _out_index)
+_cell_to_children_size = _library.number("cellToChildrenSize", _index, _resolution, _out_number)
 _cell_to_children = _library.raising("cellToChildren", _index, _resolution, _array, _size)
-_cell_to_child_pos = _library.checked("cellToChildPos", _number, _index, _resolution)
-_child_pos_to_cell = _library.checked("childPosToCell", _index, _number, _index, _resolution)
-_string_to_h3 = _library.checked("stringToH3", _index, ctypes.c_char_p, _size)
-_h3_to_string = _library.raising("h3ToString", _index, _array, _size)
+_cell_to_child_pos = _library.number("cellToChildPos", _index, _resolution, _out_number)
+_child_pos_to_cell = _library.number("childPosToCell", _number, _index, _resolution, _out_index)
+_string_to_h3 = _library.number("stringToH3", ctypes.c_char_p, _size, _out_index)
+# (a text of 17 bytes has room for any index)
+_h3_to_string = _library.number("h3ToString", _index, ctypes.c_char_p, _size)
 _is_valid_directed_edge = _library.value("isValidDirectedEdge", _truth, _index)
-_get_directed_edge_origin = _library.checked("getDirectedEdgeOrigin", _index, _index)
-_origin_to_directed_edges = _library.raising("originToDirectedEdges", _index, _array)
-_compact_cells = _library.checked("compactCells", _size, _array, _size, _array, _size)
-_uncompact_cells = _library.raising("uncompactCells", _array, _size, _array, _size, _resolution)
-_grid_disk_unsafe = _library.raising("gridDiskUnsafe", _table, _index, _resolution, _array, _size)
-_grid_disk_distances_unsafe = _library.raising(
+_get_directed_edge_origin = _library.number("getDirectedEdgeOrigin", _index, _out_index)
+_origin_to_directed_edges = _library.number("originToDirectedEdges", _index, _array)
+_are_valid_cells = _library.number("areValidCells", _array, _size, _array, _size, ctypes.POINTER(_size))
+_compact_cells = _library.number("compactCells", _array, _size, _array, _size, ctypes.POINTER(_size))
+_uncompact_cells = _library.number("uncompactCells", _array, _size, _array, _size, _resolution)
+_grid_disk_unsafe = _library.number("gridDiskUnsafe", _table, _index, _resolution, _array, _size)
+_grid_disk_distances_unsafe = _library.number(
     "gridDiskDistancesUnsafe", _table, _index, _resolution, _array, _size, _array, _size
 )
-_grid_ring_unsafe = _library.raising("gridRingUnsafe", _table, _index, _resolution, _array, _size)
-_are_neighbor_cells = _library.checked("areNeighborCells", _truth, _table, _index, _index)
-_cells_to_directed_edge = _library.checked("cellsToDirectedEdge", _index, _table, _index, _index)
-_get_directed_edge_destination = _library.checked("getDirectedEdgeDestination", _index, _table, _index)
+_grid_ring_unsafe = _library.number("gridRingUnsafe", _table, _index, _resolution, _array, _size)
+_are_neighbor_cells = _library.number("areNeighborCells", _table, _index, _index, ctypes.POINTER(_truth))
+_cells_to_directed_edge = _library.number("cellsToDirectedEdge", _table, _index, _index, _out_index)
+_get_directed_edge_destination = _library.number("getDirectedEdgeDestination", _table, _index, _out_index)
 
 
-def _indexes(count):
+def _indexes(count: int) -> Tuple["array[int]", int]:
     """Room for so many indexes, at least one, and its address."""
     room = array("Q", [0]) * max(count, 1)
     return room, room.buffer_info()[0]
 
 
-def _column(cells):
+def _column(cells: Iterable[SupportsIndex]) -> Tuple["array[int]", int, int]:
     """Indexes one after another in memory, their address and their number."""
-    column = array("Q", [_cell(cell) for cell in cells])
+    column = array("Q", [as_cell(cell) for cell in cells])
     count = len(column)
     if not count:
         column.append(0)
@@ -86,248 +96,385 @@ def _column(cells):
 # ---- texts
 
 
-def str_to_int(text: str) -> Index:
-    """The index that a text parses as: 1 to 16 hexadecimal digits, with or without 0x. H3FailedError where it parses
-    as none. It need not be that of a cell."""
+_byref = ctypes.byref
+_Text = ctypes.c_char * 17
+
+
+def _parse(text: str) -> ctypes.c_uint64:
+    """The index of a text, as the library's functions take it."""
     try:
         given = text.encode("ascii")
-    except UnicodeEncodeError:
-        raise error_of(1, repr(text)) from None
-    return _string_to_h3(given or b"\0", len(given))
+    except (AttributeError, UnicodeEncodeError):
+        # (which says what is wrong)
+        given = as_text(text)
+    found = _index()
+    number = _string_to_h3(given, len(given), _byref(found))
+    if number:
+        raise error_of(number, repr(text))
+    return found
 
 
-def int_to_str(index: Index) -> str:
+def _write(index: ctypes.c_uint64) -> str:
+    """The text of an index, as the library's functions write it."""
+    room = _Text()
+    _h3_to_string(index, room, 17)
+    return room.value.decode("ascii")
+
+
+def str_to_int(text: str) -> int:
+    """The index that a text parses as: 1 to 16 hexadecimal digits, with or without 0x. H3FailedError where it parses
+    as none. It need not be that of a cell."""
+    return _parse(text).value
+
+
+def int_to_str(index: SupportsIndex) -> str:
     """The text of an index: lower-case hexadecimal digits."""
-    room = array("B", bytes(17))
-    _h3_to_string(_cell(index), room.buffer_info()[0], 17)
-    return room.tobytes().split(b"\0")[0].decode("ascii")
+    return _write(_index(as_cell(index)))
 
 
 # ---- inspection
 
 
-def is_valid_cell(cell: Index) -> bool:
-    """Whether a number is the index of a cell."""
-    return isinstance(cell, int) and 0 <= cell < _MOST and _is_valid_cell(cell) == 1
+def _is(test: Callable[..., int], index: Any) -> bool:
+    """A test, which is false of what no index can be."""
+    try:
+        given = whole_number(index)
+    except TypeError:
+        return False
+    return 0 <= given < MOST and test(given) == 1
 
 
-def _known(found, cell):
+def is_valid_cell(cell: Any) -> bool:
+    """Whether a number is the index of a cell. False of anything that is no number, too."""
+    return _is(_is_valid_cell, cell)
+
+
+def _known(function: Callable[..., int], cell: SupportsIndex) -> int:
+    given = as_cell(cell)
+    found = function(given)
     if found < 0:
-        raise error_of(5, cell)
+        raise error_of(5, f"{given:x}")
     return found
 
 
-def get_resolution(cell: Index) -> int:
+def get_resolution(cell: SupportsIndex) -> int:
     """The resolution of a cell, 0 to 15."""
-    return _known(_get_resolution(_cell(cell)), cell)
+    return _known(_get_resolution, cell)
 
 
-def get_base_cell_number(cell: Index) -> int:
+def get_base_cell_number(cell: SupportsIndex) -> int:
     """The base cell of a cell, 0 to 121."""
-    return _known(_get_base_cell_number(_cell(cell)), cell)
+    return _known(_get_base_cell_number, cell)
 
 
-def is_pentagon(cell: Index) -> bool:
+def is_pentagon(cell: SupportsIndex) -> bool:
     """Whether a cell is a pentagon."""
     get_resolution(cell)
-    return _is_pentagon(cell) == 1
+    return bool(_is_pentagon(as_cell(cell)) == 1)
 
 
-def is_res_class_III(cell: Index) -> bool:
+def is_res_class_III(cell: SupportsIndex) -> bool:
     """Whether the resolution of a cell is Class III, which is odd."""
     get_resolution(cell)
-    return _is_res_class_iii(cell) == 1
+    return bool(_is_res_class_iii(as_cell(cell)) == 1)
 
 
 # ---- resolutions
 
 
-def get_num_cells(res: int) -> int:
+def get_num_cells(res: SupportsIndex) -> int:
     """The number of cells of a resolution."""
-    return _get_num_cells(_int(res))
+    found = _number()
+    number = _get_num_cells(as_int(res), ctypes.byref(found))
+    if number:
+        raise error_of(number, f"resolution {res}")
+    return found.value
 
 
-def get_res0_cells() -> List[Index]:
+def get_res0_cells() -> List[int]:
     """The 122 cells of resolution 0, ascending."""
     room, at = _indexes(122)
     _get_res0_cells(at, 122)
     return list(room)
 
 
-def get_pentagons(res: int) -> List[Index]:
+def get_pentagons(res: SupportsIndex) -> List[int]:
     """The 12 pentagons of a resolution, ascending."""
     room, at = _indexes(12)
-    _get_pentagons(_int(res), at, 12)
+    number = _get_pentagons(as_int(res), at, 12)
+    if number:
+        raise error_of(number, f"resolution {res}")
     return list(room)
 
 
 # ---- the hierarchy
 
 
-def cell_to_parent(cell: Index, res: Optional[int] = None) -> Index:
+def _at_resolution(function: Callable[..., int], found: Any, cell: SupportsIndex, res: SupportsIndex) -> int:
+    """What a function of a cell and a resolution writes."""
+    given = as_cell(cell)
+    number = function(given, as_int(res), _byref(found))
+    if number:
+        raise _error_at(number, given, res)
+    return int(found.value)
+
+
+def _error_at(number: int, cell: int, res: object) -> H3BaseException:
+    return error_of(number, f"{cell:x}") if number == 5 else error_at(number, cell, res)
+
+
+def _text_at_resolution(function: Callable[..., int], cell: str, res: SupportsIndex) -> str:
+    """The text of the cell that a function of a cell and a resolution writes. One that is refused stays in its place."""
+    index = _parse(cell)
+    number = function(index, as_int(res), _byref(index))
+    if number:
+        raise _error_at(number, index.value, res)
+    return _write(index)
+
+
+def cell_to_parent(cell: SupportsIndex, res: Optional[SupportsIndex] = None) -> int:
     """The ancestor of a cell at a resolution, by default the next coarser one."""
-    return _cell_to_parent(_cell(cell), _int(get_resolution(cell) - 1 if res is None else res))
+    return _at_resolution(_cell_to_parent, _index(), cell, get_resolution(cell) - 1 if res is None else res)
 
 
-def _below(cell, res):
-    return _int(get_resolution(cell) + 1 if res is None else res)
+def _finer(cell: SupportsIndex, res: Optional[SupportsIndex]) -> SupportsIndex:
+    return get_resolution(cell) + 1 if res is None else res
 
 
-def cell_to_center_child(cell: Index, res: Optional[int] = None) -> Index:
+def cell_to_center_child(cell: SupportsIndex, res: Optional[SupportsIndex] = None) -> int:
     """The descendant in a cell's center at a resolution, by default the next finer one."""
-    return _cell_to_center_child(_cell(cell), _below(cell, res))
+    return _at_resolution(_cell_to_center_child, _index(), cell, _finer(cell, res))
 
 
-def cell_to_children_size(cell: Index, res: Optional[int] = None) -> int:
+def cell_to_children_size(cell: SupportsIndex, res: Optional[SupportsIndex] = None) -> int:
     """The number of descendants of a cell at a resolution, by default the next finer one."""
-    return _cell_to_children_size(_cell(cell), _below(cell, res))
+    return _at_resolution(_cell_to_children_size, _number(), cell, _finer(cell, res))
 
 
-def cell_to_children(cell: Index, res: Optional[int] = None) -> List[Index]:
+def cell_to_children(cell: SupportsIndex, res: Optional[SupportsIndex] = None) -> List[int]:
     """The descendants of a cell at a resolution, by default the next finer one, ascending."""
-    res = _below(cell, res)
-    count = _cell_to_children_size(cell, res)
+    wanted = _finer(cell, res)
+    count = cell_to_children_size(cell, wanted)
     room, at = _indexes(count)
-    _cell_to_children(cell, res, at, count)
+    _cell_to_children(as_cell(cell), as_int(wanted), at, count)
     return list(room)
 
 
-def cell_to_child_pos(child: Index, res_parent: int) -> int:
+def cell_to_child_pos(child: SupportsIndex, res_parent: SupportsIndex) -> int:
     """The position of a cell, from 0 on, among the descendants of its ancestor at a resolution."""
-    return _cell_to_child_pos(_cell(child), _int(res_parent))
+    return _at_resolution(_cell_to_child_pos, _number(), child, res_parent)
 
 
-def child_pos_to_cell(parent: Index, res_child: int, child_pos: int) -> Index:
+def child_pos_to_cell(parent: SupportsIndex, res_child: SupportsIndex, child_pos: SupportsIndex) -> int:
     """The descendant of a cell at a resolution that has this position."""
-    return _child_pos_to_cell(_whole(child_pos, 2**63), _cell(parent), _int(res_child))
+    given = as_cell(parent)
+    found = _index()
+    number = _child_pos_to_cell(as_int64(child_pos), given, as_int(res_child), ctypes.byref(found))
+    if number == 5:
+        raise error_of(number, f"{given:x}")
+    if number:
+        raise error_of(number, f"position {child_pos} in {given:x} at resolution {res_child}")
+    return found.value
 
 
 # ---- directed edges
 
 
-def is_valid_directed_edge(edge: Index) -> bool:
-    """Whether a number is the index of a directed edge."""
-    return isinstance(edge, int) and 0 <= edge < _MOST and _is_valid_directed_edge(edge) == 1
+def is_valid_directed_edge(edge: Any) -> bool:
+    """Whether a number is the index of a directed edge. False of anything that is no number, too."""
+    return _is(_is_valid_directed_edge, edge)
 
 
-def get_directed_edge_origin(edge: Index) -> Index:
+def get_directed_edge_origin(edge: SupportsIndex) -> int:
     """The cell that an edge leaves."""
-    if isinstance(edge, int) and not 0 <= edge < _MOST:
-        raise error_of(6, edge)
-    return _get_directed_edge_origin(_cell(edge))
+    given = as_edge(edge)
+    found = _index()
+    number = _get_directed_edge_origin(given, ctypes.byref(found))
+    if number:
+        raise error_of(number, f"{given:x}")
+    return found.value
 
 
-def origin_to_directed_edges(origin: Index) -> List[Index]:
+def origin_to_directed_edges(origin: SupportsIndex) -> List[int]:
     """The edges that leave a cell, in ascending direction: six, a pentagon's five."""
+    given = as_cell(origin)
     room, at = _indexes(6)
-    _origin_to_directed_edges(_cell(origin), at)
+    number = _origin_to_directed_edges(given, at)
+    if number:
+        raise error_of(number, f"{given:x}")
     return [edge for edge in room if edge]
 
 
 # ---- over a base cell table
 
 
-def _over(table):
+def _over(table: Table) -> Any:
     """The address of a table."""
     if not isinstance(table, Table):
         raise TypeError(f"a table is wanted, and not {table!r}")
     return table._address()
 
 
-def _walk_room(walk, over, cell, k, count):
+def _check_walk(number: int, cell: int, k: SupportsIndex) -> None:
+    if number == 5:
+        raise error_of(number, f"{cell:x}")
+    if number:
+        raise error_of(number, f"{k} steps from {cell:x}")
+
+
+def _walk_room(walk: Callable[..., int], over: Any, cell: int, k: SupportsIndex, count: int) -> Tuple["array[int]", int]:
     """Room for the cells of a walk. The walk is taken with room for one first, since its errors come before want of
     memory."""
     room, at = _indexes(1)
-    try:
-        walk(over, cell, k, at, 1)
-    except H3MemoryBoundsError:
-        pass
+    number = walk(over, cell, as_int(k), at, 1)
+    if number != 14:
+        _check_walk(number, cell, k)
     try:
         return _indexes(count)
     except (MemoryError, OverflowError):
         raise H3MemoryAllocError(f"error 13: E_MEMORY_ALLOC: {count} cells") from None
 
 
-def _disk_len(k):
+def _disk_len(k: int) -> int:
     return 3 * k * (k + 1) + 1
 
 
-def grid_disk_unsafe(table: Table, origin: Index, k: int) -> List[Index]:
+@overload
+def grid_disk_unsafe(table: Table, origin: SupportsIndex, k: SupportsIndex) -> List[int]: ...
+@overload
+def grid_disk_unsafe(origin: SupportsIndex, k: SupportsIndex) -> List[int]: ...
+@over_table
+def grid_disk_unsafe(table, origin, k):  # type: ignore[no-untyped-def]
     """The cells within k steps of a cell, in the order in which they are walked: ring by ring. H3PentagonError where a
     step meets a pentagon base cell."""
-    over, cell, radius = _over(table), _cell(origin), _int(k)
-    room, at = _walk_room(_grid_disk_unsafe, over, cell, radius, _disk_len(radius))
-    _grid_disk_unsafe(over, cell, radius, at, len(room))
+    over, cell, radius = _over(table), as_cell(origin), as_int(k)
+    room, at = _walk_room(_grid_disk_unsafe, over, cell, k, _disk_len(radius))
+    _check_walk(_grid_disk_unsafe(over, cell, radius, at, len(room)), cell, k)
     return list(room)
 
 
-def grid_disk_distances_unsafe(table: Table, origin: Index, k: int) -> List[List[Index]]:
-    """The same, ring by ring: a list for each of 0 to k steps."""
-    over, cell, radius = _over(table), _cell(origin), _int(k)
-    room, at = _walk_room(_grid_disk_unsafe, over, cell, radius, _disk_len(radius))
+@overload
+def grid_disk_distances_unsafe(table: Table, origin: SupportsIndex, k: SupportsIndex) -> List[List[int]]: ...
+@overload
+def grid_disk_distances_unsafe(origin: SupportsIndex, k: SupportsIndex) -> List[List[int]]: ...
+@over_table
+def grid_disk_distances_unsafe(table, origin, k):  # type: ignore[no-untyped-def]
+    """The same as `grid_disk_unsafe`, ring by ring: a list for each of 0 to k steps."""
+    over, cell, radius = _over(table), as_cell(origin), as_int(k)
+    room, at = _walk_room(_grid_disk_unsafe, over, cell, k, _disk_len(radius))
     try:
         rings = array("i", [0]) * len(room)
     except MemoryError:
         raise H3MemoryAllocError(f"error 13: E_MEMORY_ALLOC: {len(room)} rings") from None
-    _grid_disk_distances_unsafe(over, cell, radius, at, len(room), rings.buffer_info()[0], len(rings))
-    found = [[] for _ in range(radius + 1)]
+    number = _grid_disk_distances_unsafe(over, cell, radius, at, len(room), rings.buffer_info()[0], len(rings))
+    _check_walk(number, cell, k)
+    found: List[List[int]] = [[] for _ in range(radius + 1)]
     for one, ring in zip(room, rings):
         found[ring].append(one)
     return found
 
 
-def grid_ring_unsafe(table: Table, origin: Index, k: int) -> List[Index]:
+@overload
+def grid_ring_unsafe(table: Table, origin: SupportsIndex, k: SupportsIndex) -> List[int]: ...
+@overload
+def grid_ring_unsafe(origin: SupportsIndex, k: SupportsIndex) -> List[int]: ...
+@over_table
+def grid_ring_unsafe(table, origin, k):  # type: ignore[no-untyped-def]
     """The cells at k steps from a cell. Errors as of `grid_disk_unsafe`."""
-    over, cell, radius = _over(table), _cell(origin), _int(k)
-    room, at = _walk_room(_grid_ring_unsafe, over, cell, radius, 6 * radius)
-    _grid_ring_unsafe(over, cell, radius, at, len(room))
+    over, cell, radius = _over(table), as_cell(origin), as_int(k)
+    room, at = _walk_room(_grid_ring_unsafe, over, cell, k, 6 * radius)
+    _check_walk(_grid_ring_unsafe(over, cell, radius, at, len(room)), cell, k)
     return list(room)
 
 
-def are_neighbor_cells(table: Table, origin: Index, destination: Index) -> bool:
+def _check_pair(number: int, origin: int, destination: int) -> None:
+    if number == 5:
+        raise error_of(number, f"{destination if _is_valid_cell(origin) else origin:x}")
+    if number:
+        raise error_of(number, f"{origin:x} and {destination:x}")
+
+
+@overload
+def are_neighbor_cells(table: Table, origin: SupportsIndex, destination: SupportsIndex) -> bool: ...
+@overload
+def are_neighbor_cells(origin: SupportsIndex, destination: SupportsIndex) -> bool: ...
+@over_table
+def are_neighbor_cells(table, origin, destination):  # type: ignore[no-untyped-def]
     """Whether a step leads from the one cell to the other."""
-    return _are_neighbor_cells(_over(table), _cell(origin), _cell(destination)) == 1
+    over, first, second = _over(table), as_cell(origin), as_cell(destination)
+    found = _truth()
+    _check_pair(_are_neighbor_cells(over, first, second, ctypes.byref(found)), first, second)
+    return found.value == 1
 
 
-def cells_to_directed_edge(table: Table, origin: Index, destination: Index) -> Index:
+@overload
+def cells_to_directed_edge(table: Table, origin: SupportsIndex, destination: SupportsIndex) -> int: ...
+@overload
+def cells_to_directed_edge(origin: SupportsIndex, destination: SupportsIndex) -> int: ...
+@over_table
+def cells_to_directed_edge(table, origin, destination):  # type: ignore[no-untyped-def]
     """The edge from a cell to a neighbor. H3NotNeighborsError where it is none."""
-    return _cells_to_directed_edge(_over(table), _cell(origin), _cell(destination))
+    over, first, second = _over(table), as_cell(origin), as_cell(destination)
+    found = _index()
+    _check_pair(_cells_to_directed_edge(over, first, second, ctypes.byref(found)), first, second)
+    return found.value
 
 
-def get_directed_edge_destination(table: Table, edge: Index) -> Index:
+@overload
+def get_directed_edge_destination(table: Table, edge: SupportsIndex) -> int: ...
+@overload
+def get_directed_edge_destination(edge: SupportsIndex) -> int: ...
+@over_table
+def get_directed_edge_destination(table, edge):  # type: ignore[no-untyped-def]
     """The cell that an edge leads to."""
-    if isinstance(edge, int) and not 0 <= edge < _MOST:
-        raise error_of(6, edge)
-    return _get_directed_edge_destination(_over(table), _cell(edge))
+    over, given = _over(table), as_edge(edge)
+    found = _index()
+    number = _get_directed_edge_destination(over, given, ctypes.byref(found))
+    if number:
+        raise error_of(number, f"{given:x}")
+    return found.value
 
 
 # ---- sets of cells
 
 
-def compact_cells(cells: Iterable[Index]) -> List[Index]:
+def _first_of_no_cell(column: "array[int]", at: int, count: int) -> str:
+    """The first index that is no cell's, and its place."""
+    found, place = array("i", [0]) * count, _size()
+    _are_valid_cells(at, count, found.buffer_info()[0], count, ctypes.byref(place))
+    first = found.index(0)
+    return f"{column[first]:x} at place {first}"
+
+
+def compact_cells(cells: Iterable[SupportsIndex]) -> List[int]:
     """The least list of cells that covers what the given ones cover, ascending. H3DuplicateInputError where a cell is
     given twice, or together with an ancestor of it. They may have different resolutions."""
     given, at, count = _column(cells)
     room, out = _indexes(count)
-    return list(room[: _compact_cells(at, count, out, count)])
+    found = _size()
+    number = _compact_cells(at, count, out, count, ctypes.byref(found))
+    if number:
+        raise error_of(number, _first_of_no_cell(given, at, count) if number == 5 else f"among {count} cells")
+    return list(room[: found.value])
 
 
-def uncompact_cells(cells: Iterable[Index], res: int) -> List[Index]:
+def uncompact_cells(cells: Iterable[SupportsIndex], res: SupportsIndex) -> List[int]:
     """The descendants at a resolution of the first cell, ascending, then those of the second, and so on.
     H3ResMismatchError where a cell is finer."""
     given, at, count = _column(cells)
-    res = _int(res)
-    size = sum(_size_at(cell, res) for cell in given[:count])
+    wanted = as_int(res)
+    size = sum(_size_at(cell, wanted) for cell in given[:count])
     room, out = _indexes(size)
-    _uncompact_cells(at, count, out, size, res)
+    number = _uncompact_cells(at, count, out, size, wanted)
+    if number == 12:
+        place = next(place for place in range(count) if not _size_at(given[place], wanted))
+        raise error_of(number, f"{given[place]:x} at place {place}, at resolution {res}")
+    if number:
+        raise error_of(number, _first_of_no_cell(given, at, count) if number == 5 else f"resolution {res}")
     return list(room[:size])
 
 
-def _size_at(cell, res):
+def _size_at(cell: int, res: int) -> int:
     """How many cells a cell has at a resolution; none where the library refuses it, as it will."""
-    try:
-        return _cell_to_children_size(cell, res)
-    except H3CellInvalidError:
-        return 0
-    except H3ResDomainError:
-        return 0
+    found = _number()
+    return 0 if _cell_to_children_size(cell, res, ctypes.byref(found)) else found.value

@@ -4,9 +4,14 @@ A table says how the base cells of hexagons lie beside each other. H3 ships none
 tools/h3-table makes it of H3's sources."""
 
 import ctypes
+import functools
+from os import PathLike
+from typing import Any, Callable, Optional, Union
 
 from . import _library
 from .errors import H3MemoryAllocError
+
+__all__ = ["Table", "TableError", "use_table"]
 
 _FAULTS = {
     3: "form {at}",
@@ -23,11 +28,11 @@ class TableError(ValueError):
     """A table file is refused. `code` says why, by the numbers of h3whole.h; `at` is a record (1 is the header) or a base
     cell, and `direction` 1 to 6; both are 0 where the error has none."""
 
-    def __init__(self, code, at, direction):
+    def __init__(self, code: int, at: int, direction: int) -> None:
         super().__init__(code, at, direction)
         self.code, self.at, self.direction = code, at, direction
 
-    def __str__(self):
+    def __str__(self) -> str:
         text = _FAULTS.get(self.code, "error {code}")
         return "table: " + text.format(code=self.code, at=self.at, direction=self.direction)
 
@@ -39,7 +44,7 @@ class Table:
 
     __slots__ = ("_own",)
 
-    def __init__(self, file: bytes):
+    def __init__(self, file: bytes) -> None:
         if not isinstance(file, bytes):
             raise TypeError(f"the bytes of a table's file are wanted, and not {file!r}")
         fault = _library.TableFault()
@@ -50,10 +55,40 @@ class Table:
             raise TableError(fault.code, fault.at, fault.direction)
 
     @classmethod
-    def read(cls, path) -> "Table":
+    def read(cls, path: "Union[str, bytes, PathLike[Any]]") -> "Table":
         """The table in the file at a path."""
         with open(path, "rb") as file:
             return cls(file.read())
 
-    def _address(self):
+    def _address(self) -> Any:
         return ctypes.byref(self._own)
+
+
+_used: Optional[Table] = None
+
+
+def use_table(table: Table) -> None:
+    """Sets the table of the calls that pass none, as `grid_disk_unsafe(cell, k)`, in this process."""
+    global _used
+    if not isinstance(table, Table):
+        raise TypeError(f"a table is wanted, and not {table!r}")
+    _used = table
+
+
+def over_table(walk: Callable[..., Any]) -> Callable[..., Any]:
+    """The same function, over the table of `use_table` where none is passed. A table is passed first, or by its name."""
+    most = walk.__code__.co_argcount
+
+    @functools.wraps(walk)
+    def over(*given: Any, **named: Any) -> Any:
+        if "table" in named or (given and isinstance(given[0], Table)):
+            return walk(*given, **named)
+        if len(given) + len(named) >= most:
+            raise TypeError(f"{walk.__name__}: a table is wanted first, and not {given[:1]!r}")
+        if _used is None:
+            raise TypeError(
+                f"{walk.__name__}: a table is wanted first; or call h3whole.use_table(h3whole.Table.read(path)) once"
+            )
+        return walk(_used, *given, **named)
+
+    return over

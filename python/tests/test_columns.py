@@ -101,7 +101,7 @@ class Kinds(unittest.TestCase):
         for typecode in "QqLl":
             column = array(typecode, cells(5))
             self.assertIsInstance(columns.cells_to_parents(column, 0), array)
-        self.assertEqual(columns.cells_to_parents(array("Q"), 16), array("Q"))
+        self.assertEqual(columns.cells_to_parents(array("Q"), 15), array("Q"))
         self.assertEqual(columns.compact_cells(array("Q")), array("Q"))
         for column in (array("I", [1]), array("d", [1.0]), b"12345678", [1], "text"):
             self.assertRaises(TypeError, columns.get_resolutions, column)

@@ -1,12 +1,13 @@
 use crate::index::{index, write_text};
-use crate::{ffi, Edge, Error, Resolution};
+use crate::{ffi, Edge, Error, Refused, Resolution};
 use std::fmt;
 use std::iter::FusedIterator;
+use std::num::NonZeroU64;
 use std::ops::Range;
 use std::str::FromStr;
 
 /// A cell. It holds the index of one: a number that is the index of no cell is refused where it is
-/// converted.
+/// converted. No index is 0, so an `Option<Cell>` takes 8 bytes too.
 ///
 /// Cells are ordered by their numbers: by resolution, then base cell, then digits.
 ///
@@ -18,12 +19,12 @@ use std::str::FromStr;
 /// assert_eq!(cell.resolution(), Resolution::Five);
 /// assert_eq!(cell.parent(Resolution::Four)?.to_string(), "8428347ffffffff");
 /// assert_eq!(cell.parent(Resolution::Six), Err(Error::ResMismatch));
-/// assert_eq!(Cell::try_from(5), Err(Error::CellInvalid));
+/// assert_eq!(Cell::try_from(5).unwrap_err(), Error::CellInvalid);
 /// # Ok::<(), Error>(())
 /// ```
 #[derive(Clone, Copy, PartialEq, Eq, PartialOrd, Ord, Hash)]
 #[repr(transparent)]
-pub struct Cell(pub(crate) u64);
+pub struct Cell(pub(crate) NonZeroU64);
 
 index!(Cell, ffi::is_valid_cell, Error::CellInvalid);
 
@@ -32,45 +33,45 @@ impl Cell {
     pub fn base_cells() -> [Cell; 122] {
         ffi::base_cells()
             .expect("there are 122 cells of resolution 0")
-            .map(Cell)
+            .map(Self::known)
     }
 
     /// The resolution: H3's `getResolution`.
     pub fn resolution(self) -> Resolution {
-        Resolution::try_from(ffi::resolution(self.0)).expect("a cell has a resolution")
+        Resolution::try_from(ffi::resolution(self.raw())).expect("a cell has a resolution")
     }
 
     /// The base cell, 0 to 121: H3's `getBaseCellNumber`.
     pub fn base_cell(self) -> u8 {
-        u8::try_from(ffi::base_cell(self.0)).expect("a cell has a base cell")
+        u8::try_from(ffi::base_cell(self.raw())).expect("a cell has a base cell")
     }
 
     /// Whether the cell is a pentagon: H3's `isPentagon`.
     pub fn is_pentagon(self) -> bool {
-        ffi::is_pentagon(self.0) == 1
+        ffi::is_pentagon(self.raw()) == 1
     }
 
     /// Whether the resolution is Class III, which is odd: H3's `isResClassIII`.
     pub fn is_class3(self) -> bool {
-        ffi::is_class3(self.0) == 1
+        ffi::is_class3(self.raw()) == 1
     }
 
     /// The ancestor at a resolution: H3's `cellToParent`. `ResMismatch` where the resolution is
     /// finer than the cell's.
     pub fn parent(self, resolution: Resolution) -> Result<Cell, Error> {
-        ffi::parent(self.0, resolution.into()).map(Cell)
+        ffi::parent(self.raw(), resolution.into()).map(Self::known)
     }
 
     /// The descendant in the center: H3's `cellToCenterChild`. `ResDomain` where the resolution is
     /// coarser than the cell's.
     pub fn center_child(self, resolution: Resolution) -> Result<Cell, Error> {
-        ffi::center_child(self.0, resolution.into()).map(Cell)
+        ffi::center_child(self.raw(), resolution.into()).map(Self::known)
     }
 
     /// How many descendants there are at a resolution: H3's `cellToChildrenSize`. `ResDomain` where
     /// the resolution is coarser than the cell's.
     pub fn children_count(self, resolution: Resolution) -> Result<u64, Error> {
-        ffi::children_size(self.0, resolution.into()).map(i64::unsigned_abs)
+        ffi::children_size(self.raw(), resolution.into()).map(i64::unsigned_abs)
     }
 
     /// An iterator over the descendants at a resolution, ascending. It takes no memory, and asks
@@ -98,13 +99,13 @@ impl Cell {
     pub fn children_vec(self, resolution: Resolution) -> Result<Vec<Cell>, Error> {
         let count = self.children_count(resolution)?;
         let count = usize::try_from(count).map_err(|_| Error::MemoryAlloc)?;
-        ffi::children(self.0, resolution.into(), count)
+        ffi::children(self.raw(), resolution.into(), count)
     }
 
     /// The position, from 0 on, among the descendants of the ancestor at a resolution: H3's
     /// `cellToChildPos`. `ResMismatch` where the resolution is finer than the cell's.
     pub fn child_position(self, resolution: Resolution) -> Result<u64, Error> {
-        ffi::child_position(self.0, resolution.into()).map(i64::unsigned_abs)
+        ffi::child_position(self.raw(), resolution.into()).map(i64::unsigned_abs)
     }
 
     /// The descendant that has this position: H3's `childPosToCell`. `ResMismatch` where the
@@ -112,14 +113,14 @@ impl Cell {
     pub fn child_at(self, position: u64, resolution: Resolution) -> Result<Cell, Error> {
         // no descendant has a position that is no i64
         let position = i64::try_from(position).unwrap_or(i64::MAX);
-        ffi::child_at(position, self.0, resolution.into()).map(Cell)
+        ffi::child_at(position, self.raw(), resolution.into()).map(Self::known)
     }
 
     /// The edges that leave the cell, in ascending direction: H3's `originToDirectedEdges`. They
     /// are six; of a pentagon five.
     pub fn edges(self) -> impl Iterator<Item = Edge> {
-        let edges = ffi::edges(self.0).expect("a cell has edges");
-        edges.into_iter().filter(|edge| *edge != 0).map(Edge)
+        let edges = ffi::edges(self.raw()).expect("a cell has edges");
+        edges.into_iter().filter(|edge| *edge != 0).map(Edge::known)
     }
 }
 
@@ -145,6 +146,8 @@ impl Children {
     }
 }
 
+/// The descendants that are passed over are not asked for: [`last`](Iterator::last),
+/// [`nth`](Iterator::nth) and [`count`](Iterator::count) go by the positions.
 impl Iterator for Children {
     type Item = Cell;
 
@@ -156,6 +159,14 @@ impl Iterator for Children {
         self.positions.nth(n).map(|position| self.at(position))
     }
 
+    fn last(mut self) -> Option<Cell> {
+        self.next_back()
+    }
+
+    fn count(self) -> usize {
+        usize::try_from(self.len()).expect("a usize counts them")
+    }
+
     fn size_hint(&self) -> (usize, Option<usize>) {
         self.positions.size_hint()
     }
@@ -164,6 +175,10 @@ impl Iterator for Children {
 impl DoubleEndedIterator for Children {
     fn next_back(&mut self) -> Option<Cell> {
         self.positions.next_back().map(|position| self.at(position))
+    }
+
+    fn nth_back(&mut self, n: usize) -> Option<Cell> {
+        self.positions.nth_back(n).map(|position| self.at(position))
     }
 }
 

@@ -21,17 +21,29 @@ use std::fmt;
 
 /// The first error of a column, and its place.
 #[derive(Clone, Copy, Debug, PartialEq, Eq, Hash)]
+#[non_exhaustive]
 pub struct ColumnError {
     /// The error.
     pub error: Error,
     /// The place of the index that the error is about, from 0 on; the length of `out` where that is
     /// too short.
     pub at: usize,
+    /// The index that the error is about; none where `out` is too short.
+    pub index: Option<u64>,
+}
+
+impl ColumnError {
+    fn new(error: Error, at: usize, indexes: &[u64]) -> Self {
+        let is_of_room = error == Error::MemoryBounds;
+        let index = indexes.get(at).copied().filter(|_| !is_of_room);
+        Self { error, at, index }
+    }
 }
 
 impl fmt::Display for ColumnError {
     fn fmt(&self, f: &mut fmt::Formatter<'_>) -> fmt::Result {
-        write!(f, "at {}: {}", self.at, self.error)
+        write!(f, "at {}: {}", self.at, self.error)?;
+        self.index.map_or(Ok(()), |index| write!(f, ": {index:x}"))
     }
 }
 
@@ -53,7 +65,7 @@ macro_rules! columns {
             out: &mut [$result],
         ) -> Result<(), ColumnError> {
             ffi::$export(indexes, $($res.into(),)? out)
-                .map_err(|(error, at)| ColumnError { error, at })
+                .map_err(|(error, at)| ColumnError::new(error, at, indexes))
         })*
     };
 }

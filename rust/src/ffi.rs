@@ -390,7 +390,8 @@ fn written(room: usize, write: impl FnOnce(*mut u64) -> (u32, usize)) -> Result<
     let (code, count) = write(cells.as_mut_ptr().cast());
     checked(code)?;
     assert!(count <= room);
-    // SAFETY: the function has written the numbers of cells to the first `count` places.
+    // SAFETY: the function has written the indexes of cells to the first `count` places; a `Cell` is
+    // such a number, and no index is 0.
     unsafe { cells.set_len(count) };
     Ok(cells)
 }

@@ -13,35 +13,48 @@ pub(crate) fn write_text(index: u64, f: &mut fmt::Formatter<'_>) -> fmt::Result 
 /// Implements the conversions and formats of a type that holds an index of one kind.
 macro_rules! index {
     ($type:ident, $is_valid:path, $error:expr) => {
-        impl TryFrom<u64> for $type {
-            type Error = Error;
+        impl $type {
+            /// What the library returned: an index that is none of 0.
+            pub(crate) fn known(index: u64) -> Self {
+                Self(NonZeroU64::new(index).expect("no index is 0"))
+            }
 
-            fn try_from(index: u64) -> Result<Self, Error> {
+            /// The number.
+            pub(crate) fn raw(self) -> u64 {
+                self.0.get()
+            }
+        }
+
+        impl TryFrom<u64> for $type {
+            type Error = Refused;
+
+            fn try_from(index: u64) -> Result<Self, Refused> {
                 if $is_valid(index) == 1 {
-                    Ok(Self(index))
+                    Ok(Self::known(index))
                 } else {
-                    Err($error)
+                    Err(Refused::number($error, index))
                 }
             }
         }
 
         impl From<$type> for u64 {
             fn from(index: $type) -> u64 {
-                index.0
+                index.raw()
             }
         }
 
         impl FromStr for $type {
-            type Err = Error;
+            type Err = Refused;
 
-            fn from_str(text: &str) -> Result<Self, Error> {
-                Self::try_from(ffi::from_text(text)?)
+            fn from_str(text: &str) -> Result<Self, Refused> {
+                let index = ffi::from_text(text).map_err(|error| Refused::text(error, text))?;
+                Self::try_from(index)
             }
         }
 
         impl fmt::Display for $type {
             fn fmt(&self, f: &mut fmt::Formatter<'_>) -> fmt::Result {
-                write_text(self.0, f)
+                write_text(self.raw(), f)
             }
         }
 
@@ -53,13 +66,13 @@ macro_rules! index {
 
         impl fmt::LowerHex for $type {
             fn fmt(&self, f: &mut fmt::Formatter<'_>) -> fmt::Result {
-                fmt::LowerHex::fmt(&self.0, f)
+                fmt::LowerHex::fmt(&self.raw(), f)
             }
         }
 
         impl fmt::UpperHex for $type {
             fn fmt(&self, f: &mut fmt::Formatter<'_>) -> fmt::Result {
-                fmt::UpperHex::fmt(&self.0, f)
+                fmt::UpperHex::fmt(&self.raw(), f)
             }
         }
     };

@@ -23,6 +23,7 @@ mod error;
 #[allow(unsafe_code)]
 mod ffi;
 mod index;
+mod refused;
 mod resolution;
 mod sets;
 mod table;
@@ -30,6 +31,7 @@ mod table;
 pub use cell::{Cell, Children};
 pub use edge::Edge;
 pub use error::Error;
+pub use refused::Refused;
 pub use resolution::Resolution;
 pub use sets::{compact, uncompact};
 pub use table::{Table, TableError};

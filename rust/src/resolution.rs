@@ -59,11 +59,29 @@ impl Resolution {
             .unsigned_abs()
     }
 
+    /// The next finer resolution; none of the finest.
+    ///
+    /// ```
+    /// use h3whole::Resolution;
+    ///
+    /// assert_eq!(Resolution::Four.succ(), Some(Resolution::Five));
+    /// assert_eq!(Resolution::Fifteen.succ(), None);
+    /// assert_eq!(Resolution::Zero.pred(), None);
+    /// ```
+    pub fn succ(self) -> Option<Self> {
+        Self::ALL.get(self as usize + 1).copied()
+    }
+
+    /// The next coarser resolution; none of the coarsest.
+    pub fn pred(self) -> Option<Self> {
+        Self::ALL[..self as usize].last().copied()
+    }
+
     /// The pentagons of the resolution, ascending: H3's `getPentagons`.
     pub fn pentagons(self) -> [Cell; 12] {
         ffi::pentagons(self.into())
             .expect("a resolution has twelve pentagons")
-            .map(Cell)
+            .map(Cell::known)
     }
 }
 
@@ -98,6 +116,24 @@ impl TryFrom<u8> for Resolution {
 
     fn try_from(number: u8) -> Result<Self, Error> {
         Self::try_from(i32::from(number))
+    }
+}
+
+/// `ResDomain` where the number is no resolution.
+impl TryFrom<u32> for Resolution {
+    type Error = Error;
+
+    fn try_from(number: u32) -> Result<Self, Error> {
+        Self::try_from(i32::try_from(number).map_err(|_| Error::ResDomain)?)
+    }
+}
+
+/// `ResDomain` where the number is no resolution.
+impl TryFrom<usize> for Resolution {
+    type Error = Error;
+
+    fn try_from(number: usize) -> Result<Self, Error> {
+        Self::try_from(i32::try_from(number).map_err(|_| Error::ResDomain)?)
     }
 }
 

@@ -51,7 +51,7 @@ impl Table {
     /// step meets a pentagon base cell.
     pub fn grid_disk_unsafe(&self, origin: Cell, k: u32) -> Result<Vec<Cell>, Error> {
         let radius = radius(k)?;
-        ffi::disk(&self.0, origin.0, radius, disk_len(k)?)
+        ffi::disk(&self.0, origin.raw(), radius, disk_len(k)?)
     }
 
     /// The same, each cell with its ring, 0 to k: H3's `gridDiskDistancesUnsafe`. Errors as of
@@ -62,7 +62,7 @@ impl Table {
         k: u32,
     ) -> Result<Vec<(Cell, u32)>, Error> {
         let radius = radius(k)?;
-        let (cells, rings) = ffi::distances(&self.0, origin.0, radius, disk_len(k)?)?;
+        let (cells, rings) = ffi::distances(&self.0, origin.raw(), radius, disk_len(k)?)?;
         let mut found = Vec::new();
         found
             .try_reserve_exact(cells.len())
@@ -76,27 +76,27 @@ impl Table {
     pub fn grid_ring_unsafe(&self, origin: Cell, k: u32) -> Result<Vec<Cell>, Error> {
         let radius = radius(k)?;
         let count = usize::try_from(6 * u64::from(k)).map_err(|_| Error::MemoryAlloc)?;
-        ffi::ring(&self.0, origin.0, radius, count.max(1))
+        ffi::ring(&self.0, origin.raw(), radius, count.max(1))
     }
 
     /// Whether a step leads from the one cell to the other: H3's `areNeighborCells`. `ResMismatch`
     /// where their resolutions differ; then, for different cells, `Pentagon` where the base cell of
     /// either is a pentagon.
     pub fn are_neighbors(&self, a: Cell, b: Cell) -> Result<bool, Error> {
-        ffi::are_neighbors(&self.0, a.0, b.0)
+        ffi::are_neighbors(&self.0, a.raw(), b.raw())
     }
 
     /// The edge from a cell to a neighbor: H3's `cellsToDirectedEdge`. `ResMismatch`, then
     /// `NotNeighbors` where both are the same, then `Pentagon` where the base cell of either is a
     /// pentagon, then `NotNeighbors`.
     pub fn edge_between(&self, origin: Cell, destination: Cell) -> Result<Edge, Error> {
-        ffi::edge_between(&self.0, origin.0, destination.0).map(Edge)
+        ffi::edge_between(&self.0, origin.raw(), destination.raw()).map(Edge::known)
     }
 
     /// The cell that an edge leads to: H3's `getDirectedEdgeDestination`. `Pentagon` where the base
     /// cell of the edge's origin, or of that cell, is a pentagon.
     pub fn edge_destination(&self, edge: Edge) -> Result<Cell, Error> {
-        ffi::edge_destination(&self.0, edge.0).map(Cell)
+        ffi::edge_destination(&self.0, edge.raw()).map(Cell::known)
     }
 }
 

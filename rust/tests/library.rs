@@ -55,7 +55,7 @@ fn fields() {
     );
     assert!(pentagon.is_pentagon() && !pentagon.is_class3());
     for index in INVALID {
-        assert_eq!(Cell::try_from(index), Err(Error::CellInvalid));
+        assert_eq!(Cell::try_from(index).unwrap_err(), Error::CellInvalid);
     }
 }
 
@@ -80,10 +80,10 @@ fn texts() {
         "é",
         "\0",
     ] {
-        assert_eq!(text.parse::<Cell>(), Err(Error::Failed), "{text:?}");
-        assert_eq!(text.parse::<Edge>(), Err(Error::Failed), "{text:?}");
+        assert_eq!(text.parse::<Cell>().unwrap_err(), Error::Failed, "{text:?}");
+        assert_eq!(text.parse::<Edge>().unwrap_err(), Error::Failed, "{text:?}");
     }
-    assert_eq!("5".parse::<Cell>(), Err(Error::CellInvalid));
+    assert_eq!("5".parse::<Cell>().unwrap_err(), Error::CellInvalid);
     assert_eq!(hexagon.to_string(), "85283473fffffff");
     assert_eq!(
         format!("{hexagon:?} {hexagon:#x} {hexagon:X}"),
@@ -108,6 +108,22 @@ fn resolutions() {
     }
     assert_eq!(Resolution::try_from(15), Ok(Resolution::Fifteen));
     assert_eq!(Resolution::try_from(16u8), Err(Error::ResDomain));
+    for number in [16u32, u32::MAX] {
+        assert_eq!(Resolution::try_from(number), Err(Error::ResDomain));
+    }
+    for number in [16usize, usize::MAX, 1 << 33] {
+        assert_eq!(Resolution::try_from(number), Err(Error::ResDomain));
+    }
+    assert_eq!(Resolution::try_from(15u32), Ok(Resolution::Fifteen));
+    assert_eq!(Resolution::try_from(0usize), Ok(Resolution::Zero));
+    for pair in Resolution::ALL.windows(2) {
+        assert_eq!(pair[0].succ(), Some(pair[1]));
+        assert_eq!(pair[1].pred(), Some(pair[0]));
+    }
+    assert_eq!(
+        (Resolution::Fifteen.succ(), Resolution::Zero.pred()),
+        (None, None)
+    );
     assert_eq!("7".parse(), Ok(Resolution::Seven));
     assert_eq!("16".parse::<Resolution>(), Err(Error::ResDomain));
     assert_eq!("seven".parse::<Resolution>(), Err(Error::Failed));
@@ -220,6 +236,35 @@ fn children_one_after_another() {
     }
 }
 
+/// The descendants that are passed over are not asked for, so none of this takes years.
+#[test]
+fn children_by_number() {
+    let parent = cell(0x8029fffffffffff);
+    let all = parent.children(Resolution::Fifteen).unwrap();
+    let (count, last) = (4_747_561_509_943, cell(0x8f29b6db6db6db6));
+    assert_eq!(all.clone().last(), Some(last));
+    assert_eq!(all.clone().count(), count);
+    assert_eq!(all.clone().nth(count - 1), Some(last));
+    assert_eq!(all.clone().nth(count), None);
+    assert_eq!(all.clone().nth_back(0), Some(last));
+    assert_eq!(
+        all.clone().nth_back(count - 1),
+        Some(cell(0x8f2800000000000))
+    );
+    let mut rest = all;
+    assert!(rest.nth(count - 3).is_some());
+    assert_eq!((rest.len(), rest.clone().count()), (2, 2));
+    assert_eq!(rest.next_back(), Some(last));
+    assert!(rest.next().is_some() && rest.clone().last().is_none());
+}
+
+/// No index is 0, so there is room for the absence of one.
+#[test]
+fn sizes() {
+    assert_eq!(std::mem::size_of::<Option<Cell>>(), 8);
+    assert_eq!(std::mem::size_of::<Option<Edge>>(), 8);
+}
+
 #[test]
 fn edges() {
     let hexagon = cell(0x85283473fffffff);
@@ -245,7 +290,7 @@ fn edges() {
         0x10085283473fffff,
         u64::MAX,
     ] {
-        assert_eq!(Edge::try_from(index), Err(Error::DirEdgeInvalid));
+        assert_eq!(Edge::try_from(index).unwrap_err(), Error::DirEdgeInvalid);
     }
 }
 
@@ -313,7 +358,10 @@ fn columns_of_all_kinds() {
     let mut parents = vec![1; n];
     let refused = columns::parents(&indexes, Resolution::Three, &mut parents).unwrap_err();
     assert_eq!((refused.error, refused.at), (Error::ResMismatch, 0));
-    assert_eq!(refused.to_string(), "at 0: error 12: E_RES_MISMATCH");
+    assert_eq!(
+        refused.to_string(),
+        "at 0: error 12: E_RES_MISMATCH: 8009fffffffffff"
+    );
     assert_eq!(parents[..3], [0, 0x832834fffffffff, 0]);
     let refused =
         columns::center_children(&indexes, Resolution::Fifteen, &mut parents).unwrap_err();
@@ -331,6 +379,10 @@ fn columns_of_all_kinds() {
 
     let refused = columns::parents(&indexes, Resolution::Zero, &mut parents[..n - 1]).unwrap_err();
     assert_eq!((refused.error, refused.at), (Error::MemoryBounds, n - 1));
+    assert_eq!(
+        refused.to_string(),
+        format!("at {}: error 14: E_MEMORY_BOUNDS", n - 1)
+    );
     assert_eq!(columns::parents(&[], Resolution::Zero, &mut []), Ok(()));
 }
 
@@ -363,7 +415,35 @@ fn errors() {
         "error 15: E_OPTION_INVALID"
     );
     let boxed: Box<dyn std::error::Error> = "xyz".parse::<Cell>().unwrap_err().into();
-    assert_eq!(boxed.to_string(), "error 1: E_FAILED");
+    assert_eq!(boxed.to_string(), "error 1: E_FAILED: \"xyz\"");
+}
+
+/// What was refused is named, a long text by its beginning.
+#[test]
+fn refusals() {
+    for (text, wanted) in [
+        ("it's\n", "error 1: E_FAILED: \"it's\\n\""),
+        ("", "error 1: E_FAILED: \"\""),
+        (" 0X5", "error 5: E_CELL_INVALID: 5"),
+    ] {
+        assert_eq!(text.parse::<Cell>().unwrap_err().to_string(), wanted);
+    }
+    let long = "é".repeat(50).parse::<Cell>().unwrap_err();
+    assert_eq!(
+        long.to_string(),
+        format!("error 1: E_FAILED: \"{}\"", "é".repeat(40))
+    );
+    let refused = Edge::try_from(0x85283473fffffff).unwrap_err();
+    assert_eq!(
+        refused.to_string(),
+        "error 6: E_DIR_EDGE_INVALID: 85283473fffffff"
+    );
+    assert_eq!(refused.error(), Error::DirEdgeInvalid);
+    let parent = || -> Result<Cell, Error> {
+        let cell = "xyz".parse::<Cell>()?;
+        cell.parent(Resolution::Zero)
+    };
+    assert_eq!(parent(), Err(Error::Failed));
 }
 
 #[test]

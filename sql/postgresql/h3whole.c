@@ -1,15 +1,22 @@
-/* H3's functions in PostgreSQL. h3whole--1.0.sql declares them; docs/LIBRARY.md lists them. */
+/* H3's functions in PostgreSQL. h3whole--1.0.sql and h3whole--1.0--1.1.sql declare them; docs/LIBRARY.md lists them. */
 #include "postgres.h"
 
 #include "fmgr.h"
 #include "funcapi.h"
 #include "miscadmin.h"
+#include "nodes/nodeFuncs.h"
+#include "nodes/supportnodes.h"
+#include "optimizer/optimizer.h"
+#include "storage/fd.h"
 #include "utils/array.h"
+#include "utils/guc.h"
 #include "utils/lsyscache.h"
 #include "utils/memutils.h"
 #if PG_VERSION_NUM >= 160000
 #include "varatt.h"
 #endif
+
+#include <inttypes.h>
 
 #include "common.h"
 
@@ -34,26 +41,83 @@ static int sqlstate_of(H3Error error)
 	}
 }
 
-/* Reports an error of H3. */
-static void check(H3Error error)
+/* Reports an error of H3, and what was refused. */
+static void pg_attribute_printf(2, 3) refuse(H3Error error, const char *format, ...)
 {
 	char		text[H3SQL_ERROR_ROOM];
+	char		about[H3SQL_ABOUT_ROOM];
+	va_list		given;
 
-	if (error == E_SUCCESS)
-		return;
 	h3sql_error_text(error, text);
-	ereport(ERROR, (errcode(sqlstate_of(error)), errmsg("%s", text)));
+	if (error == E_MEMORY_ALLOC)
+		ereport(ERROR, (errcode(sqlstate_of(error)), errmsg("%s", text)));
+	va_start(given, format);
+	vsnprintf(about, sizeof about, format, given);
+	va_end(given);
+	ereport(ERROR, (errcode(sqlstate_of(error)), errmsg("%s: %s", text, about)));
+}
+
+/* Reports an error of a function of an index. */
+static void check(H3Error error, H3Index index)
+{
+	if (unlikely(error))
+		refuse(error, "%" PRIx64, index);
+}
+
+/* Reports an error of a function of an index and a resolution. */
+static void check_at(H3Error error, H3Index index, int64 res)
+{
+	if (likely(!error))
+		return;
+	if (error == E_CELL_INVALID)
+		check(error, index);
+	refuse(error, "%" PRIx64 " at resolution " INT64_FORMAT, index, res);
+}
+
+/* Reports an error of a function of a resolution. */
+static void check_resolution(H3Error error, int64 res)
+{
+	if (unlikely(error))
+		refuse(error, "resolution " INT64_FORMAT, res);
+}
+
+/* Reports an error of a function of a list of cells, which may be asked for at a resolution. */
+static void check_list(H3Error error, const H3Index *cells, size_t count, int64 res)
+{
+	char		about[H3SQL_ABOUT_ROOM];
+
+	if (likely(!error))
+		return;
+	if (error == E_RES_DOMAIN)
+		check_resolution(error, res);
+	h3sql_about_list(about, error, cells, count, (int) res);
+	refuse(error, "%s", about);
 }
 
 /* ---- The type h3cell; what it shares with bigint is PostgreSQL's own */
+
+/* An error of a type's input, which the caller may ask to be kept: from PostgreSQL 16 on. */
+#if PG_VERSION_NUM >= 160000
+#define REFUSE_INPUT(...) ereturn(fcinfo->context, (Datum) 0, (__VA_ARGS__))
+#else
+#define REFUSE_INPUT(...) ereport(ERROR, (__VA_ARGS__))
+#endif
 
 PG_FUNCTION_INFO_V1(h3whole_in);
 Datum h3whole_in(PG_FUNCTION_ARGS)
 {
 	const char *text = PG_GETARG_CSTRING(0);
 	H3Index		index = H3_NULL;
+	char		said[H3SQL_ERROR_ROOM];
+	H3Error		error = h3w_stringToH3(text, strlen(text), &index);
 
-	check(h3w_stringToH3(text, strlen(text), &index));
+	if (unlikely(error))
+	{
+		h3sql_error_text(error, said);
+		REFUSE_INPUT(errcode(sqlstate_of(error)),
+					 errmsg("invalid input syntax for type %s: \"%s\"", "h3cell", text),
+					 errdetail("%s", said));
+	}
 	PG_RETURN_DATUM(INDEX_DATUM(index));
 }
 
@@ -63,7 +127,7 @@ Datum h3whole_out(PG_FUNCTION_ARGS)
 	const size_t room = 17;
 	char	   *text = palloc(room);
 
-	check(h3w_h3ToString(GET_INDEX(0), text, room));
+	check(h3w_h3ToString(GET_INDEX(0), text, room), GET_INDEX(0));
 	PG_RETURN_CSTRING(text);
 }
 
@@ -85,6 +149,19 @@ COMPARISON(h3whole_lt, <)
 COMPARISON(h3whole_le, <=)
 COMPARISON(h3whole_gt, >)
 COMPARISON(h3whole_ge, >=)
+
+/* What the aggregates min and max keep. */
+PG_FUNCTION_INFO_V1(h3whole_smaller);
+Datum h3whole_smaller(PG_FUNCTION_ARGS)
+{
+	PG_RETURN_DATUM(INDEX_DATUM(Min(GET_INDEX(0), GET_INDEX(1))));
+}
+
+PG_FUNCTION_INFO_V1(h3whole_larger);
+Datum h3whole_larger(PG_FUNCTION_ARGS)
+{
+	PG_RETURN_DATUM(INDEX_DATUM(Max(GET_INDEX(0), GET_INDEX(1))));
+}
 
 /* ---- Functions of one index */
 
@@ -108,7 +185,7 @@ static int number_of(H3Index index, Column *function)
 	int			out = 0;
 	size_t		at;
 
-	check(function(&index, 1, &out, 1, &at));
+	check(function(&index, 1, &out, 1, &at), index);
 	return out;
 }
 
@@ -136,66 +213,103 @@ Datum h3whole_is_res_class_iii(PG_FUNCTION_ARGS)
 	PG_RETURN_BOOL(number_of(GET_INDEX(0), h3w_areResClassIII));
 }
 
-PG_FUNCTION_INFO_V1(h3whole_cell_to_parent);
-Datum h3whole_cell_to_parent(PG_FUNCTION_ARGS)
+/* ---- Functions at a resolution */
+
+/* A number as an int of C: -1, which the library refuses alike, in place of one that it can't hold. */
+static int as_int(int64 number)
+{
+	return number < INT_MIN || number > INT_MAX ? -1 : (int) number;
+}
+
+/* A function for SQL whose argument of this place is a resolution, as a bigint; and the same of version 1.0, where it is
+ * an integer. What they do is the function `name_of`. */
+#define AT_RESOLUTION(name, place) \
+	PG_FUNCTION_INFO_V1(name##_at); \
+	Datum name##_at(PG_FUNCTION_ARGS) { return name##_of(fcinfo, PG_GETARG_INT64(place)); } \
+	PG_FUNCTION_INFO_V1(name); \
+	Datum name(PG_FUNCTION_ARGS) { return name##_of(fcinfo, PG_GETARG_INT32(place)); }
+
+/* The same at a resolution that is so many steps finer than that of the cell. */
+#define AT_NEXT(name, steps) \
+	PG_FUNCTION_INFO_V1(name##_next); \
+	Datum name##_next(PG_FUNCTION_ARGS) \
+	{ return name##_of(fcinfo, number_of(GET_INDEX(0), h3w_getResolutions) + (steps)); }
+
+static Datum h3whole_cell_to_parent_of(FunctionCallInfo fcinfo, int64 res)
 {
 	H3Index		out = H3_NULL;
 
-	check(h3w_cellToParent(GET_INDEX(0), PG_GETARG_INT32(1), &out));
+	check_at(h3w_cellToParent(GET_INDEX(0), as_int(res), &out), GET_INDEX(0), res);
 	PG_RETURN_DATUM(INDEX_DATUM(out));
 }
 
-PG_FUNCTION_INFO_V1(h3whole_cell_to_center_child);
-Datum h3whole_cell_to_center_child(PG_FUNCTION_ARGS)
+AT_RESOLUTION(h3whole_cell_to_parent, 1)
+AT_NEXT(h3whole_cell_to_parent, -1)
+
+static Datum h3whole_cell_to_center_child_of(FunctionCallInfo fcinfo, int64 res)
 {
 	H3Index		out = H3_NULL;
 
-	check(h3w_cellToCenterChild(GET_INDEX(0), PG_GETARG_INT32(1), &out));
+	check_at(h3w_cellToCenterChild(GET_INDEX(0), as_int(res), &out), GET_INDEX(0), res);
 	PG_RETURN_DATUM(INDEX_DATUM(out));
 }
 
-PG_FUNCTION_INFO_V1(h3whole_cell_to_children_size);
-Datum h3whole_cell_to_children_size(PG_FUNCTION_ARGS)
+AT_RESOLUTION(h3whole_cell_to_center_child, 1)
+AT_NEXT(h3whole_cell_to_center_child, 1)
+
+static Datum h3whole_cell_to_children_size_of(FunctionCallInfo fcinfo, int64 res)
 {
 	int64_t		out = 0;
 
-	check(h3w_cellToChildrenSize(GET_INDEX(0), PG_GETARG_INT32(1), &out));
+	check_at(h3w_cellToChildrenSize(GET_INDEX(0), as_int(res), &out), GET_INDEX(0), res);
 	PG_RETURN_INT64(out);
 }
 
-PG_FUNCTION_INFO_V1(h3whole_cell_to_child_pos);
-Datum h3whole_cell_to_child_pos(PG_FUNCTION_ARGS)
+AT_RESOLUTION(h3whole_cell_to_children_size, 1)
+
+static Datum h3whole_cell_to_child_pos_of(FunctionCallInfo fcinfo, int64 res)
 {
 	int64_t		out = 0;
 
-	check(h3w_cellToChildPos(GET_INDEX(0), PG_GETARG_INT32(1), &out));
+	check_at(h3w_cellToChildPos(GET_INDEX(0), as_int(res), &out), GET_INDEX(0), res);
 	PG_RETURN_INT64(out);
 }
 
-PG_FUNCTION_INFO_V1(h3whole_child_pos_to_cell);
-Datum h3whole_child_pos_to_cell(PG_FUNCTION_ARGS)
+AT_RESOLUTION(h3whole_cell_to_child_pos, 1)
+
+static Datum h3whole_child_pos_to_cell_of(FunctionCallInfo fcinfo, int64 res)
 {
+	int64		position = PG_GETARG_INT64(0);
+	H3Index		parent = GET_INDEX(1);
 	H3Index		out = H3_NULL;
+	H3Error		error = h3w_childPosToCell(position, parent, as_int(res), &out);
 
-	check(h3w_childPosToCell(PG_GETARG_INT64(0), GET_INDEX(1), PG_GETARG_INT32(2), &out));
+	if (error == E_CELL_INVALID)
+		check(error, parent);
+	if (unlikely(error))
+		refuse(error, "position " INT64_FORMAT " in %" PRIx64 " at resolution " INT64_FORMAT,
+			   position, parent, res);
 	PG_RETURN_DATUM(INDEX_DATUM(out));
 }
 
-PG_FUNCTION_INFO_V1(h3whole_get_num_cells);
-Datum h3whole_get_num_cells(PG_FUNCTION_ARGS)
+AT_RESOLUTION(h3whole_child_pos_to_cell, 2)
+
+static Datum h3whole_get_num_cells_of(FunctionCallInfo fcinfo, int64 res)
 {
 	int64_t		out = 0;
 
-	check(h3w_getNumCells(PG_GETARG_INT32(0), &out));
+	check_resolution(h3w_getNumCells(as_int(res), &out), res);
 	PG_RETURN_INT64(out);
 }
+
+AT_RESOLUTION(h3whole_get_num_cells, 0)
 
 PG_FUNCTION_INFO_V1(h3whole_get_directed_edge_origin);
 Datum h3whole_get_directed_edge_origin(PG_FUNCTION_ARGS)
 {
 	H3Index		out = H3_NULL;
 
-	check(h3w_getDirectedEdgeOrigin(GET_INDEX(0), &out));
+	check(h3w_getDirectedEdgeOrigin(GET_INDEX(0), &out), GET_INDEX(0));
 	PG_RETURN_DATUM(INDEX_DATUM(out));
 }
 
@@ -217,7 +331,7 @@ static Datum next_row(FunctionCallInfo fcinfo)
 	bool		found;
 
 	CHECK_FOR_INTERRUPTS();
-	check(h3sql_next(context->user_fctx, &row, &found));
+	check_resolution(h3sql_next(context->user_fctx, &row, &found), ((h3sql_Rows *) context->user_fctx)->res);
 	if (!found)
 		SRF_RETURN_DONE(context);
 	SRF_RETURN_NEXT(context, INDEX_DATUM(row));
@@ -229,19 +343,20 @@ Datum h3whole_get_res_0_cells(PG_FUNCTION_ARGS)
 	FuncCallContext *context;
 
 	if (SRF_IS_FIRSTCALL())
-		check(h3sql_res0_cells(new_rows(fcinfo, &context)));
+		check_resolution(h3sql_res0_cells(new_rows(fcinfo, &context)), 0);
 	return next_row(fcinfo);
 }
 
-PG_FUNCTION_INFO_V1(h3whole_get_pentagons);
-Datum h3whole_get_pentagons(PG_FUNCTION_ARGS)
+static Datum h3whole_get_pentagons_of(FunctionCallInfo fcinfo, int64 res)
 {
 	FuncCallContext *context;
 
 	if (SRF_IS_FIRSTCALL())
-		check(h3sql_pentagons(new_rows(fcinfo, &context), PG_GETARG_INT32(0)));
+		check_resolution(h3sql_pentagons(new_rows(fcinfo, &context), as_int(res)), res);
 	return next_row(fcinfo);
 }
+
+AT_RESOLUTION(h3whole_get_pentagons, 0)
 
 PG_FUNCTION_INFO_V1(h3whole_origin_to_directed_edges);
 Datum h3whole_origin_to_directed_edges(PG_FUNCTION_ARGS)
@@ -249,18 +364,245 @@ Datum h3whole_origin_to_directed_edges(PG_FUNCTION_ARGS)
 	FuncCallContext *context;
 
 	if (SRF_IS_FIRSTCALL())
-		check(h3sql_edges(new_rows(fcinfo, &context), GET_INDEX(0)));
+		check(h3sql_edges(new_rows(fcinfo, &context), GET_INDEX(0)), GET_INDEX(0));
 	return next_row(fcinfo);
 }
 
-PG_FUNCTION_INFO_V1(h3whole_cell_to_children);
-Datum h3whole_cell_to_children(PG_FUNCTION_ARGS)
+static Datum h3whole_cell_to_children_of(FunctionCallInfo fcinfo, int64 res)
 {
 	FuncCallContext *context;
 
 	if (SRF_IS_FIRSTCALL())
-		check(h3sql_children(new_rows(fcinfo, &context), GET_INDEX(0), PG_GETARG_INT32(1)));
+		check_at(h3sql_children(new_rows(fcinfo, &context), GET_INDEX(0), as_int(res)), GET_INDEX(0), res);
 	return next_row(fcinfo);
+}
+
+AT_RESOLUTION(h3whole_cell_to_children, 1)
+AT_NEXT(h3whole_cell_to_children, 1)
+
+/* ---- The base cell table: the file that the setting h3whole.base_cells names, which is read when that is set */
+
+static char *table_name;
+static const H3wTable *table;
+
+/* Reads the file of a table; false where it is refused, and then the detail says why. */
+static bool read_table(const char *name, H3wTable *found)
+{
+	char		folder[MAXPGPATH];
+	char		path[MAXPGPATH];
+	char		text[H3SQL_FAULT_ROOM] = "table: more than a megabyte";
+	char	   *bytes;
+	size_t		count;
+	FILE	   *file;
+	bool		is_read;
+
+	get_share_path(my_exec_path, folder);
+	snprintf(path, sizeof path, "%s/extension/h3whole/%s.csv", folder, name);
+	file = AllocateFile(path, PG_BINARY_R);
+	if (!file)
+	{
+		GUC_check_errdetail("table: open: \"%s\": %m", path);
+		return false;
+	}
+	bytes = palloc(H3SQL_TABLE_MOST + 1);
+	count = fread(bytes, 1, H3SQL_TABLE_MOST + 1, file);
+	is_read = !ferror(file);
+	FreeFile(file);
+	if (!is_read)
+		snprintf(text, sizeof text, "table: read");
+	else if (count <= H3SQL_TABLE_MOST)
+		is_read = h3sql_read_table(found, bytes, count, text) == E_SUCCESS;
+	else
+		is_read = false;
+	pfree(bytes);
+	if (!is_read)
+		GUC_check_errdetail("%s: \"%s\"", text, path);
+	return is_read;
+}
+
+static void *take_for_setting(size_t size)
+{
+#if PG_VERSION_NUM >= 160000
+	return guc_malloc(LOG, size);
+#else
+	return malloc(size);
+#endif
+}
+
+/* A file's name without its folder and its end, so that no other file of the server can be asked for. */
+static bool is_plain_name(const char *name)
+{
+	return strspn(name, "abcdefghijklmnopqrstuvwxyzABCDEFGHIJKLMNOPQRSTUVWXYZ0123456789_-") == strlen(name);
+}
+
+static bool check_table(char **name, void **extra, GucSource source)
+{
+	H3wTable	found;
+
+	if (**name == 0)
+		return true;
+	if (!is_plain_name(*name))
+	{
+		GUC_check_errdetail("The name of a table has letters, digits, _ and -.");
+		return false;
+	}
+	if (!read_table(*name, &found))
+		return false;
+	*extra = take_for_setting(sizeof found);
+	if (*extra)
+		memcpy(*extra, &found, sizeof found);
+	return *extra != NULL;
+}
+
+static void assign_table(const char *name, void *extra)
+{
+	table = extra;
+}
+
+void		_PG_init(void);
+
+void _PG_init(void)
+{
+	DefineCustomStringVariable("h3whole.base_cells", "The base cell table of the functions that walk from cell to cell.",
+							   "NAME stands for extension/h3whole/NAME.csv in the server's folder of shared files.",
+							   &table_name, "", PGC_USERSET, 0, check_table, assign_table, NULL);
+#if PG_VERSION_NUM >= 150000
+	MarkGUCPrefixReserved("h3whole");
+#endif
+}
+
+/* The table that is set. */
+static const H3wTable *the_table(void)
+{
+	if (!table)
+		ereport(ERROR, (errcode(ERRCODE_OBJECT_NOT_IN_PREREQUISITE_STATE),
+						errmsg("there is no base cell table"),
+						errhint("SET h3whole.base_cells = 'NAME' reads extension/h3whole/NAME.csv in the server's folder "
+								"of shared files.")));
+	return table;
+}
+
+/* ---- Functions over the table */
+
+/* Reports an error of a walk. */
+static void check_walk(H3Error error, H3Index origin, int64 k)
+{
+	if (likely(!error))
+		return;
+	if (error == E_CELL_INVALID)
+		check(error, origin);
+	refuse(error, INT64_FORMAT " steps from %" PRIx64, k, origin);
+}
+
+static void *resize_rows(void *engine, void *memory, size_t size)
+{
+	return MemoryContextAllocHuge((MemoryContext) engine, size);
+}
+
+/* Begins the rows of a walk. */
+static FuncCallContext *begin_walk(FunctionCallInfo fcinfo, h3sql_Walk walk)
+{
+	FuncCallContext *context;
+	h3sql_Rows *rows = new_rows(fcinfo, &context);
+	int64		k = PG_GETARG_INT64(1);
+	void	   *memory;
+	H3Error		error = h3sql_walk(rows, walk, the_table(), GET_INDEX(0), as_int(k), resize_rows,
+								   context->multi_call_memory_ctx, &memory);
+
+	check_walk(error, GET_INDEX(0), k);
+	return context;
+}
+
+PG_FUNCTION_INFO_V1(h3whole_grid_disk_unsafe);
+Datum h3whole_grid_disk_unsafe(PG_FUNCTION_ARGS)
+{
+	if (SRF_IS_FIRSTCALL())
+		begin_walk(fcinfo, H3SQL_DISK);
+	return next_row(fcinfo);
+}
+
+PG_FUNCTION_INFO_V1(h3whole_grid_ring_unsafe);
+Datum h3whole_grid_ring_unsafe(PG_FUNCTION_ARGS)
+{
+	if (SRF_IS_FIRSTCALL())
+		begin_walk(fcinfo, H3SQL_RING);
+	return next_row(fcinfo);
+}
+
+/* The kind of row that the query expects of a call. */
+static TupleDesc row_kind(FunctionCallInfo fcinfo, FuncCallContext *context)
+{
+	MemoryContext before = MemoryContextSwitchTo(context->multi_call_memory_ctx);
+	TupleDesc	kind;
+
+	if (get_call_result_type(fcinfo, NULL, &kind) != TYPEFUNC_COMPOSITE)
+		ereport(ERROR, (errcode(ERRCODE_FEATURE_NOT_SUPPORTED), errmsg("rows of two columns are not expected")));
+	kind = BlessTupleDesc(kind);
+	MemoryContextSwitchTo(before);
+	return kind;
+}
+
+PG_FUNCTION_INFO_V1(h3whole_grid_disk_distances_unsafe);
+Datum h3whole_grid_disk_distances_unsafe(PG_FUNCTION_ARGS)
+{
+	FuncCallContext *context;
+	h3sql_Rows *rows;
+	H3Index		row = H3_NULL;
+	Datum		values[2];
+	bool		nulls[2] = {false, false};
+	bool		found;
+
+	if (SRF_IS_FIRSTCALL())
+	{
+		context = begin_walk(fcinfo, H3SQL_DISTANCES);
+		context->tuple_desc = row_kind(fcinfo, context);
+	}
+	context = SRF_PERCALL_SETUP();
+	rows = context->user_fctx;
+	CHECK_FOR_INTERRUPTS();
+	check(h3sql_next(rows, &row, &found), row);
+	if (!found)
+		SRF_RETURN_DONE(context);
+	values[0] = INDEX_DATUM(row);
+	values[1] = Int32GetDatum(rows->distances[rows->at - 1]);
+	SRF_RETURN_NEXT(context, HeapTupleGetDatum(heap_form_tuple(context->tuple_desc, values, nulls)));
+}
+
+/* Reports an error of a pair of cells: the first that is no cell, or both. */
+static void check_pair(H3Error error, H3Index a, H3Index b)
+{
+	if (likely(!error))
+		return;
+	if (error == E_CELL_INVALID)
+		check(error, h3w_isValidCell(a) ? b : a);
+	refuse(error, "%" PRIx64 " and %" PRIx64, a, b);
+}
+
+PG_FUNCTION_INFO_V1(h3whole_are_neighbor_cells);
+Datum h3whole_are_neighbor_cells(PG_FUNCTION_ARGS)
+{
+	int			out = 0;
+
+	check_pair(h3w_areNeighborCells(the_table(), GET_INDEX(0), GET_INDEX(1), &out), GET_INDEX(0), GET_INDEX(1));
+	PG_RETURN_BOOL(out == 1);
+}
+
+PG_FUNCTION_INFO_V1(h3whole_cells_to_directed_edge);
+Datum h3whole_cells_to_directed_edge(PG_FUNCTION_ARGS)
+{
+	H3Index		out = H3_NULL;
+
+	check_pair(h3w_cellsToDirectedEdge(the_table(), GET_INDEX(0), GET_INDEX(1), &out), GET_INDEX(0), GET_INDEX(1));
+	PG_RETURN_DATUM(INDEX_DATUM(out));
+}
+
+PG_FUNCTION_INFO_V1(h3whole_get_directed_edge_destination);
+Datum h3whole_get_directed_edge_destination(PG_FUNCTION_ARGS)
+{
+	H3Index		out = H3_NULL;
+
+	check(h3w_getDirectedEdgeDestination(the_table(), GET_INDEX(0), &out), GET_INDEX(0));
+	PG_RETURN_DATUM(INDEX_DATUM(out));
 }
 
 /* ---- Lists of cells */
@@ -279,14 +621,19 @@ static h3sql_List cells_of(ArrayType *array)
 	return list;
 }
 
-/* The compacted cells of a list, in the current memory. */
-static h3sql_List compacted(const h3sql_List *list)
+/* The compacted cells of a list, in the current memory. Where the list is not the whole of what was given, an error
+ * names a cell without its place. */
+static h3sql_List compacted(const h3sql_List *list, bool is_whole)
 {
 	h3sql_List	out = {NULL, 0, list->count + 1};
+	H3Error		error;
 
 	CHECK_FOR_INTERRUPTS();
 	out.cells = MemoryContextAllocHuge(CurrentMemoryContext, out.room * sizeof(H3Index));
-	check(h3sql_compact(list, out.cells, &out.count));
+	error = h3sql_compact(list, out.cells, &out.count);
+	if (error == E_CELL_INVALID && !is_whole)
+		check(error, h3sql_first_invalid(list));
+	check_list(error, list->cells, list->count, 0);
 	return out;
 }
 
@@ -299,7 +646,7 @@ Datum h3whole_compact_cells(PG_FUNCTION_ARGS)
 		h3sql_Rows *rows = new_rows(fcinfo, &context);
 		h3sql_List	given = cells_of(PG_GETARG_ARRAYTYPE_P(0));
 		MemoryContext before = MemoryContextSwitchTo(context->multi_call_memory_ctx);
-		h3sql_List	out = compacted(&given);
+		h3sql_List	out = compacted(&given, true);
 
 		MemoryContextSwitchTo(before);
 		h3sql_listed(rows, out.cells, out.count);
@@ -307,24 +654,179 @@ Datum h3whole_compact_cells(PG_FUNCTION_ARGS)
 	return next_row(fcinfo);
 }
 
-PG_FUNCTION_INFO_V1(h3whole_uncompact_cells);
-Datum h3whole_uncompact_cells(PG_FUNCTION_ARGS)
+/* The rows of cells of an array that stays, at a resolution. */
+static void uncompact(FunctionCallInfo fcinfo, FuncCallContext *context, const h3sql_List *given, int64 res)
+{
+	check_list(h3sql_uncompacted(context->user_fctx, given->cells, given->count, as_int(res)),
+			   given->cells, given->count, res);
+}
+
+/* The cells of the first argument, in memory that stays while rows are returned. */
+static h3sql_List kept_cells(FunctionCallInfo fcinfo, FuncCallContext *context)
+{
+	MemoryContext before = MemoryContextSwitchTo(context->multi_call_memory_ctx);
+	h3sql_List	given = cells_of(PG_GETARG_ARRAYTYPE_P_COPY(0));
+
+	MemoryContextSwitchTo(before);
+	return given;
+}
+
+static Datum h3whole_uncompact_cells_of(FunctionCallInfo fcinfo, int64 res)
 {
 	if (SRF_IS_FIRSTCALL())
 	{
 		FuncCallContext *context;
-		h3sql_Rows *rows = new_rows(fcinfo, &context);
-		MemoryContext before = MemoryContextSwitchTo(context->multi_call_memory_ctx);
-		h3sql_List	given = cells_of(PG_GETARG_ARRAYTYPE_P_COPY(0));
+		h3sql_List	given;
 
-		MemoryContextSwitchTo(before);
-		check(h3sql_uncompacted(rows, given.cells, given.count, PG_GETARG_INT32(1)));
+		new_rows(fcinfo, &context);
+		given = kept_cells(fcinfo, context);
+		uncompact(fcinfo, context, &given, res);
 	}
 	return next_row(fcinfo);
 }
 
-/* ---- The aggregate h3_compact_cells. Its state is a list of cells. A worker hands on its part
- * compacted: the compacted list of all parts' compacted lists is that of the whole. */
+AT_RESOLUTION(h3whole_uncompact_cells, 1)
+
+/* At the resolution that follows the finest of the cells, which for resolution 15 is that itself. */
+PG_FUNCTION_INFO_V1(h3whole_uncompact_cells_next);
+Datum h3whole_uncompact_cells_next(PG_FUNCTION_ARGS)
+{
+	if (SRF_IS_FIRSTCALL())
+	{
+		FuncCallContext *context;
+		h3sql_List	given;
+		int			finest = -1;
+
+		new_rows(fcinfo, &context);
+		given = kept_cells(fcinfo, context);
+		for (size_t i = 0; i < given.count; i++)
+			finest = Max(finest, h3w_getResolution(given.cells[i]));
+		uncompact(fcinfo, context, &given, Min(finest + 1, 15));
+	}
+	return next_row(fcinfo);
+}
+
+/* ---- What the planner asks: how many rows a function that returns a set has */
+
+/* The argument of this place, where it is known while a query is planned; else NULL. */
+static Const *known(SupportRequestRows *request, int place)
+{
+	List	   *arguments = ((FuncExpr *) request->node)->args;
+	Node	   *value;
+
+	if (place >= list_length(arguments))
+		return NULL;
+	value = estimate_expression_value(request->root, list_nth(arguments, place));
+	return IsA(value, Const) && !((Const *) value)->constisnull ? (Const *) value : NULL;
+}
+
+/* The number of rows for known arguments, or a number below 0. */
+typedef double Estimate(SupportRequestRows *request);
+
+static Datum estimated(FunctionCallInfo fcinfo, Estimate *estimate)
+{
+	Node	   *request = (Node *) PG_GETARG_POINTER(0);
+	double		rows = -1;
+
+	if (IsA(request, SupportRequestRows) && is_funcclause(((SupportRequestRows *) request)->node))
+		rows = estimate((SupportRequestRows *) request);
+	if (rows < 0)
+		PG_RETURN_POINTER(NULL);
+	((SupportRequestRows *) request)->rows = rows;
+	PG_RETURN_POINTER(request);
+}
+
+/* The cell's children at a resolution, where both are known; by default a cell has seven. */
+static double children_estimate(SupportRequestRows *request)
+{
+	Const	   *cell = known(request, 0);
+	Const	   *res = known(request, 1);
+	int64_t		size = 0;
+
+	if (list_length(((FuncExpr *) request->node)->args) == 1)
+		return 7;
+	if (!cell || !res)
+		return -1;
+	if (h3w_cellToChildrenSize((H3Index) DatumGetInt64(cell->constvalue), as_int(DatumGetInt64(res->constvalue)), &size))
+		return -1;
+	return size;
+}
+
+/* The cells of a disk or a ring of so many steps, of which there are none below 0. */
+static double disk_estimate(SupportRequestRows *request)
+{
+	Const	   *k = known(request, 1);
+	double		steps = k ? DatumGetInt64(k->constvalue) : -1;
+
+	return steps < 0 ? -1 : 3 * steps * (steps + 1) + 1;
+}
+
+static double ring_estimate(SupportRequestRows *request)
+{
+	Const	   *k = known(request, 1);
+	double		steps = k ? DatumGetInt64(k->constvalue) : -1;
+
+	return steps == 0 ? 1 : 6 * steps;
+}
+
+PG_FUNCTION_INFO_V1(h3whole_disk_rows);
+Datum h3whole_disk_rows(PG_FUNCTION_ARGS)
+{
+	return estimated(fcinfo, disk_estimate);
+}
+
+PG_FUNCTION_INFO_V1(h3whole_ring_rows);
+Datum h3whole_ring_rows(PG_FUNCTION_ARGS)
+{
+	return estimated(fcinfo, ring_estimate);
+}
+
+PG_FUNCTION_INFO_V1(h3whole_children_rows);
+Datum h3whole_children_rows(PG_FUNCTION_ARGS)
+{
+	return estimated(fcinfo, children_estimate);
+}
+
+/* The cells of a known array; at a known resolution, their descendants. */
+static double list_estimate(SupportRequestRows *request)
+{
+	Const	   *array = known(request, 0);
+	Const	   *res = known(request, 1);
+	ArrayType  *items = array ? DatumGetArrayTypeP(array->constvalue) : NULL;
+	double		rows = 0;
+	h3sql_List	cells;
+
+	if (!items || array_contains_nulls(items))
+		return -1;
+	cells = cells_of(items);
+	if (!res)
+		return cells.count;
+	for (size_t i = 0; i < cells.count; i++)
+	{
+		int64_t		size = 0;
+
+		if (h3w_cellToChildrenSize(cells.cells[i], as_int(DatumGetInt64(res->constvalue)), &size))
+			return -1;
+		rows += size;
+	}
+	return rows;
+}
+
+PG_FUNCTION_INFO_V1(h3whole_list_rows);
+Datum h3whole_list_rows(PG_FUNCTION_ARGS)
+{
+	return estimated(fcinfo, list_estimate);
+}
+
+/* ---- The aggregate h3_compact_cells. A worker hands on its part compacted: the compacted list of all parts'
+ * compacted lists is that of the whole. */
+
+/* The state: a list of cells, and whether it is joined of several parts. */
+typedef struct
+{
+	h3sql_List	list;
+	bool		is_joined;
+} Gathered;
 
 static void *resize(void *engine, void *memory, size_t size)
 {
@@ -343,16 +845,16 @@ static MemoryContext aggregate_memory(FunctionCallInfo fcinfo)
 }
 
 /* The state of the first argument, which may be NULL before the first cell. */
-static h3sql_List *state(FunctionCallInfo fcinfo, MemoryContext memory)
+static Gathered *state(FunctionCallInfo fcinfo, MemoryContext memory)
 {
 	if (PG_ARGISNULL(0))
-		return MemoryContextAllocZero(memory, sizeof(h3sql_List));
-	return (h3sql_List *) PG_GETARG_POINTER(0);
+		return MemoryContextAllocZero(memory, sizeof(Gathered));
+	return (Gathered *) PG_GETARG_POINTER(0);
 }
 
 static void append(h3sql_List *list, const void *cells, size_t count, MemoryContext memory)
 {
-	check(h3sql_reserve(list, count, resize, memory));
+	check_list(h3sql_reserve(list, count, resize, memory), list->cells, list->count, 0);
 	if (count > 0)
 		memcpy(list->cells + list->count, cells, count * sizeof(H3Index));
 	list->count += count;
@@ -362,26 +864,27 @@ PG_FUNCTION_INFO_V1(h3whole_compact_step);
 Datum h3whole_compact_step(PG_FUNCTION_ARGS)
 {
 	MemoryContext memory = aggregate_memory(fcinfo);
-	h3sql_List *list = state(fcinfo, memory);
+	Gathered	   *group = state(fcinfo, memory);
 
 	if (!PG_ARGISNULL(1))
-		check(h3sql_push(list, GET_INDEX(1), resize, memory));
-	PG_RETURN_POINTER(list);
+		check(h3sql_push(&group->list, GET_INDEX(1), resize, memory), GET_INDEX(1));
+	PG_RETURN_POINTER(group);
 }
 
 PG_FUNCTION_INFO_V1(h3whole_compact_combine);
 Datum h3whole_compact_combine(PG_FUNCTION_ARGS)
 {
 	MemoryContext memory = aggregate_memory(fcinfo);
-	h3sql_List *list = state(fcinfo, memory);
+	Gathered	   *group = state(fcinfo, memory);
 
+	group->is_joined = true;
 	if (!PG_ARGISNULL(1))
 	{
-		const h3sql_List *other = (const h3sql_List *) PG_GETARG_POINTER(1);
+		const Gathered *other = (const Gathered *) PG_GETARG_POINTER(1);
 
-		append(list, other->cells, other->count, memory);
+		append(&group->list, other->list.cells, other->list.count, memory);
 	}
-	PG_RETURN_POINTER(list);
+	PG_RETURN_POINTER(group);
 }
 
 PG_FUNCTION_INFO_V1(h3whole_compact_serial);
@@ -391,7 +894,7 @@ Datum h3whole_compact_serial(PG_FUNCTION_ARGS)
 	bytea	   *out;
 
 	aggregate_memory(fcinfo);
-	part = compacted((const h3sql_List *) PG_GETARG_POINTER(0));
+	part = compacted(&((const Gathered *) PG_GETARG_POINTER(0))->list, false);
 	if (part.count > (MaxAllocSize - VARHDRSZ) / sizeof(H3Index))
 		ereport(ERROR, (errcode(ERRCODE_PROGRAM_LIMIT_EXCEEDED),
 						errmsg("the compacted cells of a worker take more than a gigabyte")));
@@ -406,24 +909,26 @@ PG_FUNCTION_INFO_V1(h3whole_compact_deserial);
 Datum h3whole_compact_deserial(PG_FUNCTION_ARGS)
 {
 	bytea	   *given = PG_GETARG_BYTEA_PP(0);
-	h3sql_List *list;
+	Gathered	   *group;
 
 	aggregate_memory(fcinfo);
-	list = palloc0(sizeof *list);
-	append(list, VARDATA_ANY(given), VARSIZE_ANY_EXHDR(given) / sizeof(H3Index), CurrentMemoryContext);
-	PG_RETURN_POINTER(list);
+	group = palloc0(sizeof *group);
+	append(&group->list, VARDATA_ANY(given), VARSIZE_ANY_EXHDR(given) / sizeof(H3Index), CurrentMemoryContext);
+	PG_RETURN_POINTER(group);
 }
 
 PG_FUNCTION_INFO_V1(h3whole_compact_final);
 Datum h3whole_compact_final(PG_FUNCTION_ARGS)
 {
 	Oid			element = get_element_type(get_fn_expr_rettype(fcinfo->flinfo));
-	h3sql_List	none = {NULL, 0, 0};
+	Gathered		none = {{NULL, 0, 0}, false};
+	const Gathered *group;
 	h3sql_List	out;
 	ArrayType  *array;
 
 	aggregate_memory(fcinfo);
-	out = compacted(PG_ARGISNULL(0) ? &none : (const h3sql_List *) PG_GETARG_POINTER(0));
+	group = PG_ARGISNULL(0) ? &none : (const Gathered *) PG_GETARG_POINTER(0);
+	out = compacted(&group->list, !group->is_joined);
 	if (out.count > MaxAllocSize / sizeof(H3Index))
 		ereport(ERROR, (errcode(ERRCODE_PROGRAM_LIMIT_EXCEEDED),
 						errmsg("the compacted cells take more than a gigabyte")));

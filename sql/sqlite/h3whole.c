@@ -1,5 +1,6 @@
 /* H3's functions in SQLite: a loadable extension. A cell is an integer or a text, and what is
  * returned is of the same kind. docs/LIBRARY.md lists the functions. */
+#include <errno.h>
 #include <limits.h>
 #include <stdio.h>
 
@@ -27,8 +28,8 @@ static H3Error index_of(sqlite3_value *value, H3Index *out) {
 
 static bool is_text(sqlite3_value *value) { return sqlite3_value_type(value) == SQLITE_TEXT; }
 
-/* What a value is in place of a resolution: the library refuses -1, and so it does all that is no
- * int. */
+/* What a value is in place of a resolution or a number of steps: the library refuses -1, and so it
+ * does all that is no int. */
 static int resolution_of(sqlite3_value *value) {
     sqlite3_int64 res;
     if (sqlite3_value_numeric_type(value) != SQLITE_INTEGER) return -1;
@@ -48,14 +49,76 @@ static bool has_null(int count, sqlite3_value **values) {
     return false;
 }
 
-static void put_error(sqlite3_context *context, H3Error error) {
-    char text[H3SQL_ERROR_ROOM];
-    if (error == E_MEMORY_ALLOC) {
-        sqlite3_result_error_nomem(context);
-        return;
+/* ---- Errors: H3's number and name, and what was refused. The texts are SQLite's memory, or NULL where
+ * there is none. */
+
+/* How many characters of a text an error shows. */
+#define SHOWN "%!.40Q"
+
+/* A value as it stands in a statement. */
+static char *shown(sqlite3_value *value) {
+    switch (sqlite3_value_type(value)) {
+        case SQLITE_INTEGER:
+            return sqlite3_mprintf("%lld", sqlite3_value_int64(value));
+        case SQLITE_FLOAT:
+            return sqlite3_mprintf("%!.15g", sqlite3_value_double(value));
+        case SQLITE_BLOB:
+            return sqlite3_mprintf("a blob of %d bytes", sqlite3_value_bytes(value));
+        default:
+            return sqlite3_mprintf(SHOWN, sqlite3_value_text(value));
     }
+}
+
+/* An index by its hexadecimal digits, or the value that is none. */
+static char *named(sqlite3_value *value) {
+    H3Index index;
+    if (index_of(value, &index)) return shown(value);
+    return sqlite3_mprintf("%llx", (sqlite3_uint64)index);
+}
+
+/* Two texts in a format, which are freed. */
+static char *joined(const char *format, char *first, char *second) {
+    char *text = first && second ? sqlite3_mprintf(format, first, second) : NULL;
+    sqlite3_free(first);
+    sqlite3_free(second);
+    return text;
+}
+
+/* What an error of an index at a resolution is about. */
+static char *at_resolution(H3Error error, sqlite3_value *index, sqlite3_value *res) {
+    if (error == E_FAILED || error == E_CELL_INVALID) return named(index);
+    return joined("%s at resolution %s", named(index), shown(res));
+}
+
+static char *resolution(sqlite3_value *res) {
+    return joined("%s %s", sqlite3_mprintf("resolution"), shown(res));
+}
+
+/* What an error of the item of a list is about, whose items are counted from 1 on. */
+static char *item(sqlite3_value *value, size_t number) {
+    return joined("%s, cell %s", named(value), sqlite3_mprintf("%llu", (sqlite3_uint64)number));
+}
+
+/* What an error of a list of cells is about, of which each is one. */
+static char *listed(H3Error error, const h3sql_List *list, int res) {
+    char text[H3SQL_ABOUT_ROOM];
+    h3sql_about_list(text, error, list->cells, list->count, res);
+    return sqlite3_mprintf("%s", text);
+}
+
+/* The whole text of an error; what it is about is freed. */
+static char *error_text(H3Error error, char *about) {
+    char text[H3SQL_ERROR_ROOM];
     h3sql_error_text(error, text);
-    sqlite3_result_error(context, text, -1);
+    return joined("%s: %s", sqlite3_mprintf("%s", text), about);
+}
+
+/* Ends a call with an error; what it is about is freed. */
+static void put_error(sqlite3_context *context, H3Error error, char *about) {
+    char *text = error_text(error, about);
+    if (error == E_MEMORY_ALLOC || !text) sqlite3_result_error_nomem(context);
+    else sqlite3_result_error(context, text, -1);
+    sqlite3_free(text);
 }
 
 static void put_index(sqlite3_context *context, H3Index index, bool as_text) {
@@ -66,7 +129,7 @@ static void put_index(sqlite3_context *context, H3Index index, bool as_text) {
         return;
     }
     error = h3w_h3ToString(index, text, sizeof text);
-    if (error) put_error(context, error);
+    if (error) put_error(context, error, sqlite3_mprintf("%llx", (sqlite3_uint64)index));
     else sqlite3_result_text(context, text, -1, SQLITE_TRANSIENT);
 }
 
@@ -95,7 +158,7 @@ static void test(sqlite3_context *context, int count, sqlite3_value **values) {
     H3Error error;
     if (has_null(count, values)) return;
     error = index_of(values[0], &index);
-    if (error == E_MEMORY_ALLOC) put_error(context, error);
+    if (error == E_MEMORY_ALLOC) sqlite3_result_error_nomem(context);
     else sqlite3_result_int(context, !error && called(context)->of.test(index));
 }
 
@@ -109,7 +172,7 @@ static void number(sqlite3_context *context, int count, sqlite3_value **values) 
     if (has_null(count, values)) return;
     error = index_of(values[0], &index);
     if (!error) error = called(context)->of.number(&index, 1, &out, 1, &at);
-    if (error) put_error(context, error);
+    if (error) put_error(context, error, named(values[0]));
     else sqlite3_result_int(context, out);
 }
 
@@ -119,7 +182,7 @@ static void origin(sqlite3_context *context, int count, sqlite3_value **values) 
     if (has_null(count, values)) return;
     error = index_of(values[0], &index);
     if (!error) error = called(context)->of.origin(index, &out);
-    if (error) put_error(context, error);
+    if (error) put_error(context, error, named(values[0]));
     else put_index(context, out, is_text(values[0]));
 }
 
@@ -129,7 +192,7 @@ static void cell(sqlite3_context *context, int count, sqlite3_value **values) {
     if (has_null(count, values)) return;
     error = index_of(values[0], &index);
     if (!error) error = called(context)->of.cell(index, resolution_of(values[1]), &out);
-    if (error) put_error(context, error);
+    if (error) put_error(context, error, at_resolution(error, values[0], values[1]));
     else put_index(context, out, is_text(values[0]));
 }
 
@@ -140,8 +203,15 @@ static void count_of(sqlite3_context *context, int count, sqlite3_value **values
     if (has_null(count, values)) return;
     error = index_of(values[0], &index);
     if (!error) error = called(context)->of.count(index, resolution_of(values[1]), &out);
-    if (error) put_error(context, error);
+    if (error) put_error(context, error, at_resolution(error, values[0], values[1]));
     else sqlite3_result_int64(context, out);
+}
+
+/* What an error of a position is about. */
+static char *at_position(H3Error error, sqlite3_value **values) {
+    char *where = at_resolution(error, values[1], values[2]);
+    if (error == E_FAILED || error == E_CELL_INVALID) return where;
+    return joined("position %s in %s", shown(values[0]), where);
 }
 
 static void cell_at_position(sqlite3_context *context, int count, sqlite3_value **values) {
@@ -151,7 +221,7 @@ static void cell_at_position(sqlite3_context *context, int count, sqlite3_value 
     error = index_of(values[1], &index);
     if (!error)
         error = h3w_childPosToCell(position_of(values[0]), index, resolution_of(values[2]), &out);
-    if (error) put_error(context, error);
+    if (error) put_error(context, error, at_position(error, values));
     else put_index(context, out, is_text(values[1]));
 }
 
@@ -160,7 +230,7 @@ static void cells_of_resolution(sqlite3_context *context, int count, sqlite3_val
     H3Error error;
     if (has_null(count, values)) return;
     error = h3w_getNumCells(resolution_of(values[0]), &out);
-    if (error) put_error(context, error);
+    if (error) put_error(context, error, resolution(values[0]));
     else sqlite3_result_int64(context, out);
 }
 
@@ -169,7 +239,7 @@ static void as_text(sqlite3_context *context, int count, sqlite3_value **values)
     H3Error error;
     if (has_null(count, values)) return;
     error = index_of(values[0], &index);
-    if (error) put_error(context, error);
+    if (error) put_error(context, error, named(values[0]));
     else put_index(context, index, true);
 }
 
@@ -178,7 +248,7 @@ static void as_integer(sqlite3_context *context, int count, sqlite3_value **valu
     H3Error error;
     if (has_null(count, values)) return;
     error = index_of(values[0], &index);
-    if (error) put_error(context, error);
+    if (error) put_error(context, error, named(values[0]));
     else put_index(context, index, false);
 }
 
@@ -253,7 +323,7 @@ static void put_json(sqlite3_context *context, const H3Index *cells, size_t coun
     H3Error error = text ? write_json(text, &length, cells, count, as_texts) : E_MEMORY_ALLOC;
     if (error) {
         sqlite3_free(text);
-        put_error(context, error);
+        sqlite3_result_error_nomem(context);
         return;
     }
     sqlite3_result_text64(context, text, length, sqlite3_free, SQLITE_UTF8);
@@ -264,8 +334,12 @@ static void compact_step(sqlite3_context *context, int count, sqlite3_value **va
     Cells *cells = sqlite3_aggregate_context(context, sizeof *cells);
     H3Error error;
     if (has_null(count, values)) return;
-    error = cells ? take(cells, values[0]) : E_MEMORY_ALLOC;
-    if (error) put_error(context, error);
+    if (!cells) {
+        sqlite3_result_error_nomem(context);
+        return;
+    }
+    error = take(cells, values[0]);
+    if (error) put_error(context, error, item(values[0], cells->list.count + 1));
 }
 
 /* (it is called to give the memory back after an error of a step, too) */
@@ -277,13 +351,181 @@ static void compact_final(sqlite3_context *context) {
     if (!cells) cells = &none;
     out = sqlite3_malloc64((cells->list.count + 1) * sizeof *out);
     if (out) error = h3sql_compact(&cells->list, out, &count);
-    if (error) put_error(context, error);
+    if (error) put_error(context, error, listed(error, &cells->list, 0));
     else put_json(context, out, count, cells->any_text);
     sqlite3_free(out);
     release(cells);
 }
 
-/* ---- Functions that return sets: tables of one column, whose hidden columns are the arguments */
+/* ---- The base cell table of a connection */
+
+typedef struct Set Set;
+
+/* A function that returns a set, in a connection. */
+typedef struct {
+    const Set *set;
+    struct Connection *connection;
+} Module;
+
+#define SETS 8
+
+/* What the functions of one connection share. Each that has it holds it. */
+typedef struct Connection {
+    int holders;
+    bool has_table;
+    H3wTable table;
+    Module modules[SETS];
+} Connection;
+
+static void let_go(void *held) {
+    Connection *connection = held;
+    if (--connection->holders == 0) sqlite3_free(connection);
+}
+
+static void let_go_of_module(void *module) { let_go(((Module *)module)->connection); }
+
+/* The bytes of a file, at most one more than a table's may have; or NULL, and a message, or none
+ * where there is no memory. */
+static char *read_file(const char *path, size_t *count, char **message) {
+    FILE *file = fopen(path, "rb");
+    char *bytes = NULL;
+    *message = NULL;
+    if (!file) {
+        *message = sqlite3_mprintf("table: open: %s: %s", path, strerror(errno));
+        return NULL;
+    }
+    bytes = sqlite3_malloc64(H3SQL_TABLE_MOST + 1);
+    if (bytes) *count = fread(bytes, 1, H3SQL_TABLE_MOST + 1, file);
+    if (bytes && ferror(file)) {
+        *message = sqlite3_mprintf("table: read: %s: %s", path, strerror(errno));
+        sqlite3_free(bytes);
+        bytes = NULL;
+    }
+    fclose(file);
+    return bytes;
+}
+
+/* Ends a call with a message, which is freed; without one there was no memory for it. */
+static void put_message(sqlite3_context *context, char *message) {
+    if (message) sqlite3_result_error(context, message, -1);
+    else sqlite3_result_error_nomem(context);
+    sqlite3_free(message);
+}
+
+static void take_table(sqlite3_context *context, const char *bytes, size_t count) {
+    Connection *connection = sqlite3_user_data(context);
+    char text[H3SQL_FAULT_ROOM] = "table: more than a megabyte";
+    H3Error error = E_FAILED;
+    if (count <= H3SQL_TABLE_MOST)
+        error = h3sql_read_table(&connection->table, bytes, count, text);
+    if (error) {
+        put_message(context, error == E_MEMORY_ALLOC ? NULL : sqlite3_mprintf("%s", text));
+        return;
+    }
+    connection->has_table = true;
+    sqlite3_result_int(context, 1);
+}
+
+/* h3_use_table: the table of a file, by its name, or of the bytes of one. The one that the
+ * connection has stays where it is refused. */
+static void use_table(sqlite3_context *context, int arity, sqlite3_value **values) {
+    int type = sqlite3_value_type(values[0]);
+    const char *path;
+    char *bytes, *message;
+    size_t count = 0;
+    (void)arity;
+    if (type == SQLITE_BLOB) {
+        bytes = (char *)sqlite3_value_blob(values[0]);
+        take_table(context, bytes ? bytes : "", (size_t)sqlite3_value_bytes(values[0]));
+        return;
+    }
+    if (type != SQLITE_TEXT) {
+        put_message(context, sqlite3_mprintf("h3_use_table takes a file's name, or its bytes"));
+        return;
+    }
+    path = (const char *)sqlite3_value_text(values[0]);
+    bytes = path ? read_file(path, &count, &message) : (message = NULL);
+    if (bytes) take_table(context, bytes, count);
+    else put_message(context, message);
+    sqlite3_free(bytes);
+}
+
+static char *no_table(const char *function) {
+    return sqlite3_mprintf("%s takes a base cell table: SELECT h3_use_table('FILE') first", function);
+}
+
+/* The table of the connection; NULL where there is none, and the call has ended. */
+static const H3wTable *table_of(sqlite3_context *context, const char *function) {
+    Connection *connection = sqlite3_user_data(context);
+    if (connection->has_table) return &connection->table;
+    put_message(context, no_table(function));
+    return NULL;
+}
+
+/* The indexes that two values are. */
+static H3Error pair_of(sqlite3_value **values, H3Index pair[2]) {
+    H3Error error = index_of(values[0], &pair[0]);
+    return error ? error : index_of(values[1], &pair[1]);
+}
+
+/* What an error of a pair of cells is about: the first that is refused, or both. */
+static char *about_pair(H3Error error, sqlite3_value **values) {
+    H3Index first;
+    bool is_index = index_of(values[0], &first) == E_SUCCESS;
+    if (error == E_FAILED) return named(values[is_index ? 1 : 0]);
+    if (error == E_CELL_INVALID) return named(values[h3w_isValidCell(first) ? 1 : 0]);
+    return joined("%s and %s", named(values[0]), named(values[1]));
+}
+
+static void are_neighbors(sqlite3_context *context, int count, sqlite3_value **values) {
+    const H3wTable *table = table_of(context, "h3_are_neighbor_cells");
+    H3Index pair[2];
+    int out = 0;
+    H3Error error;
+    if (!table || has_null(count, values)) return;
+    error = pair_of(values, pair);
+    if (!error) error = h3w_areNeighborCells(table, pair[0], pair[1], &out);
+    if (error) put_error(context, error, about_pair(error, values));
+    else sqlite3_result_int(context, out);
+}
+
+static void edge_between(sqlite3_context *context, int count, sqlite3_value **values) {
+    const H3wTable *table = table_of(context, "h3_cells_to_directed_edge");
+    H3Index pair[2], out = H3_NULL;
+    H3Error error;
+    if (!table || has_null(count, values)) return;
+    error = pair_of(values, pair);
+    if (!error) error = h3w_cellsToDirectedEdge(table, pair[0], pair[1], &out);
+    if (error) put_error(context, error, about_pair(error, values));
+    else put_index(context, out, is_text(values[0]));
+}
+
+static void destination(sqlite3_context *context, int count, sqlite3_value **values) {
+    const H3wTable *table = table_of(context, "h3_get_directed_edge_destination");
+    H3Index edge, out = H3_NULL;
+    H3Error error;
+    if (!table || has_null(count, values)) return;
+    error = index_of(values[0], &edge);
+    if (!error) error = h3w_getDirectedEdgeDestination(table, edge, &out);
+    if (error) put_error(context, error, named(values[0]));
+    else put_index(context, out, is_text(values[0]));
+}
+
+/* The functions over the table, which another one may replace. */
+static const struct {
+    const char *name;
+    int arity, flags;
+    Call *call;
+} walks[] = {
+    {"h3_use_table", 1, SQLITE_DIRECTONLY, use_table},
+    {"h3_are_neighbor_cells", 2, SQLITE_INNOCUOUS, are_neighbors},
+    {"h3_cells_to_directed_edge", 2, SQLITE_INNOCUOUS, edge_between},
+    {"h3_get_directed_edge_destination", 1, SQLITE_INNOCUOUS, destination},
+};
+
+/* ---- Functions that return sets: tables of one column or two, whose hidden columns are the arguments. A
+ * hidden column is seen by its name wherever the table is, so a name that a user's column has would
+ * stand for that column in silence: no one has columns of these names. */
 
 #define MOST_ARGUMENTS 2
 
@@ -292,29 +534,64 @@ typedef struct {
     h3sql_Rows rows;
     Cells cells;
     sqlite3_value *arguments[MOST_ARGUMENTS];
+    /* what the error of an item is about */
+    char *refused;
+    /* the memory of a walk */
+    void *walked;
     bool as_texts, found;
     H3Index row;
     sqlite3_int64 place;
 } Cursor;
 
-typedef struct {
+struct Set {
     const char *name, *schema;
-    int arity;
+    /* how many columns are seen, and how many are hidden */
+    int columns, arity;
     /* begins the rows; what it returns is an error of H3, or E_SUCCESS, and `*code` is one of
      * SQLite */
     H3Error (*begin)(Cursor *cursor, sqlite3 *engine, sqlite3_value **values, int *code);
-} Set;
+    /* what an error of that is about */
+    char *(*about)(H3Error error, Cursor *cursor, sqlite3_value **values);
+    bool is_over_table;
+};
 
 typedef struct {
     sqlite3_vtab base;
     sqlite3 *engine;
     const Set *set;
+    const Connection *connection;
 } Table;
 
 static H3Error begin_res0_cells(Cursor *cursor, sqlite3 *engine, sqlite3_value **values,
                                 int *code) {
     (void)engine, (void)values, (void)code;
     return h3sql_res0_cells(&cursor->rows);
+}
+
+static char *about_nothing(H3Error error, Cursor *cursor, sqlite3_value **values) {
+    (void)error, (void)cursor, (void)values;
+    return sqlite3_mprintf("resolution 0");
+}
+
+static char *about_resolution(H3Error error, Cursor *cursor, sqlite3_value **values) {
+    (void)error, (void)cursor;
+    return resolution(values[0]);
+}
+
+static char *about_index(H3Error error, Cursor *cursor, sqlite3_value **values) {
+    (void)error, (void)cursor;
+    return named(values[0]);
+}
+
+static char *about_children(H3Error error, Cursor *cursor, sqlite3_value **values) {
+    (void)cursor;
+    return at_resolution(error, values[0], values[1]);
+}
+
+static char *about_uncompacted(H3Error error, Cursor *cursor, sqlite3_value **values) {
+    if (cursor->refused) return sqlite3_mprintf("%s", cursor->refused);
+    if (error == E_RES_DOMAIN) return resolution(values[1]);
+    return listed(error, &cursor->cells.list, resolution_of(values[1]));
 }
 
 static H3Error begin_pentagons(Cursor *cursor, sqlite3 *engine, sqlite3_value **values, int *code) {
@@ -344,17 +621,25 @@ static bool is_array(sqlite3_value *value) {
     return text && text[strspn(text, " \t\r\n")] == '[';
 }
 
+/* Takes a cell, and keeps what an error of it is about. */
+static H3Error take_item(Cursor *cursor, sqlite3_value *value, bool is_alone) {
+    h3sql_List *list = &cursor->cells.list;
+    H3Error error = take(&cursor->cells, value);
+    if (error == E_FAILED) cursor->refused = is_alone ? named(value) : item(value, list->count + 1);
+    return error;
+}
+
 /* Takes the items of a JSON array, which SQLite reads. */
-static H3Error take_items(Cells *cells, sqlite3 *engine, sqlite3_value *array, int *code) {
+static H3Error take_items(Cursor *cursor, sqlite3 *engine, sqlite3_value *array, int *code) {
     sqlite3_stmt *items = NULL;
     H3Error error = E_SUCCESS;
     *code = sqlite3_prepare_v2(engine, "SELECT value FROM json_each(?)", -1, &items, NULL);
     if (*code == SQLITE_OK) *code = sqlite3_bind_value(items, 1, array);
     while (*code == SQLITE_OK && !error && (*code = sqlite3_step(items)) == SQLITE_ROW) {
         /* (a column's value may be looked at only as a copy) */
-        sqlite3_value *item = sqlite3_value_dup(sqlite3_column_value(items, 0));
-        error = item ? take(cells, item) : E_MEMORY_ALLOC;
-        sqlite3_value_free(item);
+        sqlite3_value *value = sqlite3_value_dup(sqlite3_column_value(items, 0));
+        error = value ? take_item(cursor, value, false) : E_MEMORY_ALLOC;
+        sqlite3_value_free(value);
         *code = SQLITE_OK;
     }
     if (*code == SQLITE_DONE) *code = SQLITE_OK;
@@ -366,28 +651,72 @@ static H3Error begin_uncompacted(Cursor *cursor, sqlite3 *engine, sqlite3_value 
                                  int *code) {
     static const H3Index none = H3_NULL;
     Cells *cells = &cursor->cells;
-    H3Error error =
-        is_array(values[0]) ? take_items(cells, engine, values[0], code) : take(cells, values[0]);
+    H3Error error = is_array(values[0]) ? take_items(cursor, engine, values[0], code)
+                                        : take_item(cursor, values[0], true);
     cursor->as_texts = cells->any_text;
     if (error || *code != SQLITE_OK) return error;
     return h3sql_uncompacted(&cursor->rows, cells->list.count ? cells->list.cells : &none,
                              cells->list.count, resolution_of(values[1]));
 }
 
-static const Set sets[] = {
-    {"h3_get_res_0_cells", "CREATE TABLE x(value)", 0, begin_res0_cells},
-    {"h3_get_pentagons", "CREATE TABLE x(value, resolution HIDDEN)", 1, begin_pentagons},
-    {"h3_origin_to_directed_edges", "CREATE TABLE x(value, origin HIDDEN)", 1, begin_edges},
-    {"h3_cell_to_children", "CREATE TABLE x(value, cell HIDDEN, resolution HIDDEN)", 2,
-     begin_children},
-    {"h3_uncompact_cells", "CREATE TABLE x(value, cells HIDDEN, resolution HIDDEN)", 2,
-     begin_uncompacted},
+static char *about_walk(H3Error error, Cursor *cursor, sqlite3_value **values) {
+    (void)cursor;
+    if (error == E_FAILED || error == E_CELL_INVALID) return named(values[0]);
+    return joined("%s steps from %s", shown(values[1]), named(values[0]));
+}
+
+static H3Error begin_walk(Cursor *cursor, h3sql_Walk walk, sqlite3_value **values) {
+    const Connection *connection = ((Table *)cursor->base.pVtab)->connection;
+    H3Index origin;
+    H3Error error = index_of(values[0], &origin);
+    cursor->as_texts = is_text(values[0]);
+    if (error) return error;
+    return h3sql_walk(&cursor->rows, walk, &connection->table, origin, resolution_of(values[1]),
+                      resize, NULL, &cursor->walked);
+}
+
+static H3Error begin_disk(Cursor *cursor, sqlite3 *engine, sqlite3_value **values, int *code) {
+    (void)engine, (void)code;
+    return begin_walk(cursor, H3SQL_DISK, values);
+}
+
+static H3Error begin_distances(Cursor *cursor, sqlite3 *engine, sqlite3_value **values, int *code) {
+    (void)engine, (void)code;
+    return begin_walk(cursor, H3SQL_DISTANCES, values);
+}
+
+static H3Error begin_ring(Cursor *cursor, sqlite3 *engine, sqlite3_value **values, int *code) {
+    (void)engine, (void)code;
+    return begin_walk(cursor, H3SQL_RING, values);
+}
+
+#define ARGUMENTS_OF_WALK "\"h3whole.origin\" HIDDEN, \"h3whole.k\" HIDDEN)"
+
+static const Set sets[SETS] = {
+    {"h3_get_res_0_cells", "CREATE TABLE x(value)", 1, 0, begin_res0_cells, about_nothing, false},
+    {"h3_get_pentagons", "CREATE TABLE x(value, \"h3whole.resolution\" HIDDEN)", 1, 1, begin_pentagons,
+     about_resolution, false},
+    {"h3_origin_to_directed_edges", "CREATE TABLE x(value, \"h3whole.origin\" HIDDEN)", 1, 1, begin_edges,
+     about_index, false},
+    {"h3_cell_to_children",
+     "CREATE TABLE x(value, \"h3whole.cell\" HIDDEN, \"h3whole.resolution\" HIDDEN)", 1, 2,
+     begin_children, about_children, false},
+    {"h3_uncompact_cells",
+     "CREATE TABLE x(value, \"h3whole.cells\" HIDDEN, \"h3whole.resolution\" HIDDEN)", 1, 2,
+     begin_uncompacted, about_uncompacted, false},
+    {"h3_grid_disk_unsafe", "CREATE TABLE x(value, " ARGUMENTS_OF_WALK, 1, 2, begin_disk,
+     about_walk, true},
+    {"h3_grid_disk_distances_unsafe", "CREATE TABLE x(value, distance, " ARGUMENTS_OF_WALK, 2, 2,
+     begin_distances, about_walk, true},
+    {"h3_grid_ring_unsafe", "CREATE TABLE x(value, " ARGUMENTS_OF_WALK, 1, 2, begin_ring,
+     about_walk, true},
 };
 
-static int connect(sqlite3 *engine, void *set, int argc, const char *const *argv,
+static int connect(sqlite3 *engine, void *data, int argc, const char *const *argv,
                    sqlite3_vtab **out, char **message) {
+    const Module *module = data;
     Table *table;
-    int code = sqlite3_declare_vtab(engine, ((const Set *)set)->schema);
+    int code = sqlite3_declare_vtab(engine, module->set->schema);
     (void)argc, (void)argv, (void)message;
     if (code != SQLITE_OK) return code;
     sqlite3_vtab_config(engine, SQLITE_VTAB_INNOCUOUS);
@@ -395,7 +724,8 @@ static int connect(sqlite3 *engine, void *set, int argc, const char *const *argv
     if (!table) return SQLITE_NOMEM;
     memset(table, 0, sizeof *table);
     table->engine = engine;
-    table->set = set;
+    table->set = module->set;
+    table->connection = module->connection;
     *out = &table->base;
     return SQLITE_OK;
 }
@@ -417,7 +747,7 @@ static int best_index(sqlite3_vtab *base, sqlite3_index_info *info) {
     const Set *set = ((Table *)base)->set;
     int i, asked = 0, count = 0;
     for (i = 0; i < info->nConstraint; i++) {
-        int column = info->aConstraint[i].iColumn;
+        int column = info->aConstraint[i].iColumn - set->columns + 1;
         if (column < 1 || info->aConstraint[i].op != SQLITE_INDEX_CONSTRAINT_EQ ||
             asked & 1 << column)
             continue;
@@ -449,6 +779,10 @@ static int open(sqlite3_vtab *table, sqlite3_vtab_cursor **out) {
 static void clear(Cursor *cursor) {
     int i;
     release(&cursor->cells);
+    sqlite3_free(cursor->refused);
+    cursor->refused = NULL;
+    sqlite3_free(cursor->walked);
+    cursor->walked = NULL;
     for (i = 0; i < MOST_ARGUMENTS; i++) {
         sqlite3_value_free(cursor->arguments[i]);
         cursor->arguments[i] = NULL;
@@ -464,18 +798,19 @@ static int close(sqlite3_vtab_cursor *base) {
     return SQLITE_OK;
 }
 
-static int refuse(sqlite3_vtab *table, H3Error error) {
-    char text[H3SQL_ERROR_ROOM];
-    if (error == E_MEMORY_ALLOC) return SQLITE_NOMEM;
-    h3sql_error_text(error, text);
-    return say(table, SQLITE_ERROR, sqlite3_mprintf("%s", text));
+/* Ends a call with an error; what it is about is freed. */
+static int refuse(sqlite3_vtab *table, H3Error error, char *about) {
+    char *text = error_text(error, about);
+    if (error != E_MEMORY_ALLOC) return say(table, SQLITE_ERROR, text);
+    sqlite3_free(text);
+    return SQLITE_NOMEM;
 }
 
 static int next(sqlite3_vtab_cursor *base) {
     Cursor *cursor = (Cursor *)base;
     H3Error error = h3sql_next(&cursor->rows, &cursor->row, &cursor->found);
     cursor->place++;
-    return error ? refuse(base->pVtab, error) : SQLITE_OK;
+    return error ? refuse(base->pVtab, error, sqlite3_mprintf("row %lld", cursor->place)) : SQLITE_OK;
 }
 
 static int keep_arguments(Cursor *cursor, int count, sqlite3_value **values) {
@@ -496,21 +831,27 @@ static int filter(sqlite3_vtab_cursor *base, int plan, const char *words, int co
     (void)plan, (void)words;
     clear(cursor);
     if (has_null(count, values)) return SQLITE_OK;
+    if (table->set->is_over_table && !table->connection->has_table)
+        return say(base->pVtab, SQLITE_ERROR, no_table(table->set->name));
     code = keep_arguments(cursor, count, values);
     if (code != SQLITE_OK) return code;
     error = table->set->begin(cursor, table->engine, values, &code);
     if (code == SQLITE_ERROR)
         return say(base->pVtab, code, sqlite3_mprintf("%s", sqlite3_errmsg(table->engine)));
     if (code != SQLITE_OK) return code;
-    return error ? refuse(base->pVtab, error) : next(base);
+    if (error == E_MEMORY_ALLOC || !error) return error ? SQLITE_NOMEM : next(base);
+    return refuse(base->pVtab, error, table->set->about(error, cursor, values));
 }
 
 static int at_end(sqlite3_vtab_cursor *base) { return !((Cursor *)base)->found; }
 
 static int column(sqlite3_vtab_cursor *base, sqlite3_context *context, int number) {
     Cursor *cursor = (Cursor *)base;
+    int columns = ((Table *)base->pVtab)->set->columns;
     if (number == 0) put_index(context, cursor->row, cursor->as_texts);
-    else sqlite3_result_value(context, cursor->arguments[number - 1]);
+    else if (number < columns)
+        sqlite3_result_int(context, cursor->rows.distances[cursor->rows.at - 1]);
+    else sqlite3_result_value(context, cursor->arguments[number - columns]);
     return SQLITE_OK;
 }
 
@@ -534,22 +875,59 @@ static const sqlite3_module module = {
 
 /* ---- The extension */
 
-/* (SQLite looks for the name of the file, without digits) */
-__attribute__((visibility("default"))) int sqlite3_hwhole_init(sqlite3 *engine, char **message,
-                                                               const sqlite3_api_routines *api) {
+static int add_functions(sqlite3 *engine) {
     const int flags = SQLITE_UTF8 | SQLITE_DETERMINISTIC | SQLITE_INNOCUOUS;
     int code = SQLITE_OK;
     size_t i;
-    SQLITE_EXTENSION_INIT2(api);
-    (void)message, (void)api;
     for (i = 0; code == SQLITE_OK && i < sizeof functions / sizeof *functions; i++)
         code =
             sqlite3_create_function_v2(engine, functions[i].name, functions[i].arity, flags,
                                        (void *)&functions[i], functions[i].call, NULL, NULL, NULL);
-    for (i = 0; code == SQLITE_OK && i < sizeof sets / sizeof *sets; i++)
-        code = sqlite3_create_module_v2(engine, sets[i].name, &module, (void *)&sets[i], NULL);
     if (code == SQLITE_OK)
         code = sqlite3_create_function_v2(engine, "h3_compact_cells", 1, flags, NULL, NULL,
                                           compact_step, compact_final, NULL);
+    return code;
+}
+
+/* (SQLite calls what lets go also where it refuses the function) */
+static int add_walks(sqlite3 *engine, Connection *connection) {
+    int code = SQLITE_OK;
+    size_t i;
+    for (i = 0; code == SQLITE_OK && i < sizeof walks / sizeof *walks; i++) {
+        connection->holders++;
+        code = sqlite3_create_function_v2(engine, walks[i].name, walks[i].arity,
+                                          SQLITE_UTF8 | walks[i].flags, connection, walks[i].call,
+                                          NULL, NULL, let_go);
+    }
+    return code;
+}
+
+static int add_sets(sqlite3 *engine, Connection *connection) {
+    int code = SQLITE_OK, i;
+    for (i = 0; code == SQLITE_OK && i < SETS; i++) {
+        Module *own = &connection->modules[i];
+        own->set = &sets[i];
+        own->connection = connection;
+        connection->holders++;
+        code = sqlite3_create_module_v2(engine, sets[i].name, &module, own, let_go_of_module);
+    }
+    return code;
+}
+
+/* (SQLite looks for the name of the file, without digits) */
+__attribute__((visibility("default"))) int sqlite3_hwhole_init(sqlite3 *engine, char **message,
+                                                               const sqlite3_api_routines *api) {
+    Connection *connection;
+    int code;
+    SQLITE_EXTENSION_INIT2(api);
+    (void)message, (void)api;
+    connection = sqlite3_malloc64(sizeof *connection);
+    if (!connection) return SQLITE_NOMEM;
+    memset(connection, 0, sizeof *connection);
+    connection->holders = 1;
+    code = add_functions(engine);
+    if (code == SQLITE_OK) code = add_walks(engine, connection);
+    if (code == SQLITE_OK) code = add_sets(engine, connection);
+    let_go(connection);
     return code;
 }

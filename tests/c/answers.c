@@ -267,10 +267,25 @@ static size_t column_from(size_t from, size_t which, const List *list, int res) 
     return from + at + (error ? 1 : 0);
 }
 
+/* The error of a function of one index: a column is told of a number that is no resolution only
+ * once, before its indexes. */
+static H3Error error_of(const char *name, H3Index index, int res) {
+    H3Index cell;
+    int64_t count;
+    return !strcmp(name, "cellToParent")          ? h3w_cellToParent(index, res, &cell)
+           : !strcmp(name, "cellToCenterChild")   ? h3w_cellToCenterChild(index, res, &cell)
+           : !strcmp(name, "cellToChildrenSize")  ? h3w_cellToChildrenSize(index, res, &count)
+                                                  : h3w_cellToChildPos(index, res, &count);
+}
+
 static int column(const char *name, const List *list, int res) {
     size_t which = 0, at = 0;
     while (which < ROOM(columns) && strcmp(columns[which].name, name)) which++;
     if (which == ROOM(columns)) return 2;
+    if (strncmp(name, "cellTo", 6) == 0 && (res < 0 || res > 15)) {
+        for (at = 0; at < list->n; at++) print_error(error_of(name, list->cells[at], res));
+        return 0;
+    }
     while (at < list->n) at = column_from(at, which, list, res);
     return 0;
 }

@@ -119,9 +119,26 @@ static H3Error origins(const H3Index *edges, size_t n, int res, H3Index *out, si
     return h3w_getDirectedEdgeOrigins(edges, n, out, room, at);
 }
 
+/* A number that is no resolution is judged before any index and the room, and where there are no indexes: nothing is
+ * written. */
+static void no_resolution(int res, size_t n) {
+    static H3Index out[N];
+    static int64_t numbers[N];
+    size_t at = KEPT, i, kept = 0, room;
+    for (i = 0; i < N; i++) out[i] = KEPT, numbers[i] = KEPT;
+    for (room = n ? n - 1 : 0; room <= n; room++) {
+        CHECK(h3w_cellsToParents(column, n, res, out, room, &at) == E_RES_DOMAIN);
+        CHECK(h3w_cellsToCenterChildren(column, n, res, out, room, &at) == E_RES_DOMAIN);
+        CHECK(h3w_cellsToChildrenSizes(column, n, res, numbers, room, &at) == E_RES_DOMAIN);
+        CHECK(h3w_cellsToChildPositions(column, n, res, numbers, room, &at) == E_RES_DOMAIN);
+    }
+    while (kept < N && out[kept] == KEPT && numbers[kept] == KEPT) kept++;
+    CHECK(kept == N && at == KEPT);
+}
+
 int main(void) {
-    static const int resolutions[] = {INT_MIN, -1, 0,  1,  2,  3,  4,  5,  6,  7,
-                                      8,       9,  10, 11, 12, 13, 14, 15, 16, INT_MAX};
+    static const int resolutions[] = {0, 1, 2, 3, 4, 5, 6, 7, 8, 9, 10, 11, 12, 13, 14, 15};
+    static const int no_resolutions[] = {INT_MIN, -1, 16, INT_MAX};
     static const size_t lengths[] = {0, 1, 5, 6, N};
     size_t i, j;
     fill();
@@ -133,6 +150,7 @@ int main(void) {
         numbers(h3w_arePentagons, h3w_isPentagon, of_cell, lengths[i]);
         numbers(h3w_areResClassIII, h3w_isResClassIII, of_cell, lengths[i]);
         cells(origins, origin, 0, lengths[i]);
+        for (j = 0; j < ROOM(no_resolutions); j++) no_resolution(no_resolutions[j], lengths[i]);
         for (j = 0; j < ROOM(resolutions); j++) {
             cells(h3w_cellsToParents, h3w_cellToParent, resolutions[j], lengths[i]);
             cells(h3w_cellsToCenterChildren, h3w_cellToCenterChild, resolutions[j], lengths[i]);

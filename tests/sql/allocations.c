@@ -1,6 +1,6 @@
 /* The extension for SQLite with each allocation refused in turn, SQLite's own and those of
  * libh3whole: a statement then ends with SQLITE_NOMEM, or with its answer where SQLite does
- * without. Nothing is left behind. */
+ * without. Nothing is left behind. The word that it takes is the path of a base cell table. */
 #include <sqlite3.h>
 #include <stdbool.h>
 #include <stdio.h>
@@ -23,6 +23,17 @@ static const char *const statements[] = {
     "SELECT count(*) FROM h3_uncompact_cells('[\"85283473fffffff\",576636674163867647]', 5)",
     "SELECT group_concat(value) FROM h3_uncompact_cells((SELECT h3_compact_cells(value)"
     " FROM h3_cell_to_children('85283473fffffff', 6)), 6)",
+};
+
+/* over the table that a statement reads, which is 1 */
+static const char *const walks[] = {
+    "SELECT group_concat(distance) FROM (SELECT h3_use_table('%s') AS table1),"
+    " h3_grid_disk_distances_unsafe('85283473fffffff', table1)",
+    "SELECT group_concat(value) FROM (SELECT h3_use_table('%s') AS table1),"
+    " h3_grid_ring_unsafe('85283473fffffff', table1)",
+    "SELECT h3_use_table('%s'), h3_are_neighbor_cells('85283473fffffff', '85283447fffffff'),"
+    " h3_get_directed_edge_destination("
+    "h3_cells_to_directed_edge('85283473fffffff', '85283447fffffff'))",
 };
 
 /* how many allocations there were, the number of the one that is refused, and whether those after
@@ -102,9 +113,11 @@ static void try_statement(const char *text) {
     }
 }
 
-int main(void) {
+int main(int count, char **words) {
     sqlite3_mem_methods counted;
+    char text[1024];
     size_t i;
+    if (count != 2) return 2;
     sqlite3_config(SQLITE_CONFIG_GETMALLOC, &plain);
     counted = plain;
     counted.xMalloc = take;
@@ -115,6 +128,11 @@ int main(void) {
     for (i = 0; i < 2 * sizeof statements / sizeof *statements; i++) {
         all_after = i % 2 == 1;
         try_statement(statements[i / 2]);
+    }
+    for (i = 0; i < 2 * sizeof walks / sizeof *walks; i++) {
+        all_after = i % 2 == 1;
+        snprintf(text, sizeof text, walks[i / 2], words[1]);
+        try_statement(text);
     }
     printf("%d passed, %d failed\n", passed, failed);
     return failed > 0;
