@@ -1,9 +1,30 @@
 # Completions of the command h3 for bash.
+# made from h3 --help (tools/pages)
+_h3_commands='isValidCell getResolution getBaseCellNumber isPentagon isResClassIII getNumCells getRes0Cells getPentagons cellToParent cellToCenterChild cellToChildren cellToChildrenSize cellToChildPos childPosToCell gridDiskUnsafe gridDiskDistancesUnsafe gridRingUnsafe areNeighborCells cellsToDirectedEdge getDirectedEdgeDestination isValidDirectedEdge getDirectedEdgeOrigin originToDirectedEdges compactCells uncompactCells areValidCells areValidDirectedEdges getResolutions getBaseCellNumbers arePentagons areResClassIII cellsToParents cellsToCenterChildren cellsToChildrenSizes cellsToChildPositions getDirectedEdgeOrigins originsToDirectedEdges'
+_h3_options() {
+    case $1 in
+        isValidCell | getResolution | getBaseCellNumber | isPentagon | isResClassIII | originToDirectedEdges) echo --cell ;;
+        getNumCells | getPentagons | uncompactCells | cellsToParents | cellsToCenterChildren | cellsToChildrenSizes | cellsToChildPositions) echo --resolution ;;
+        cellToParent | cellToCenterChild | cellToChildren | cellToChildrenSize | cellToChildPos) echo --cell --resolution ;;
+        childPosToCell) echo --position --cell --resolution ;;
+        gridDiskUnsafe | gridDiskDistancesUnsafe | gridRingUnsafe) echo --cell -k --table ;;
+        areNeighborCells | cellsToDirectedEdge) echo --cell --to --table ;;
+        getDirectedEdgeDestination) echo --edge --table ;;
+        isValidDirectedEdge | getDirectedEdgeOrigin) echo --edge ;;
+    esac
+}
+# end of what is made (tools/pages)
+
 _h3() {
     local word=${COMP_WORDS[COMP_CWORD]} before=${COMP_WORDS[COMP_CWORD - 1]} command=${COMP_WORDS[1]} options
     COMPREPLY=()
+    # (after a redirection stands a file, whose name is bash's own to complete; `2>` comes as one word or as two)
+    if [[ $before =~ ^[0-9]*[\<\>\&]+[\|]?$ && $before != '&' ]]; then
+        compopt -o default
+        return
+    fi
     if [ "$COMP_CWORD" -eq 1 ]; then
-        mapfile -t COMPREPLY < <(compgen -W "isValidCell getResolution getBaseCellNumber isPentagon isResClassIII getNumCells getRes0Cells getPentagons cellToParent cellToCenterChild cellToChildren cellToChildrenSize cellToChildPos childPosToCell compactCells uncompactCells gridDiskUnsafe gridDiskDistancesUnsafe gridRingUnsafe areNeighborCells cellsToDirectedEdge isValidDirectedEdge getDirectedEdgeOrigin getDirectedEdgeDestination originToDirectedEdges areValidCells areValidDirectedEdges getResolutions getBaseCellNumbers arePentagons areResClassIII cellsToParents cellsToCenterChildren cellsToChildrenSizes cellsToChildPositions getDirectedEdgeOrigins originsToDirectedEdges --help" -- "$word")
+        mapfile -t COMPREPLY < <(compgen -W "$_h3_commands --help" -- "$word")
         return
     fi
     # (bash gives --table=FILE as three words)
@@ -24,17 +45,10 @@ _h3() {
             ;;
         -c | --cell | -k | --to | --position | --edge) return ;;
     esac
-    case $command in
-        isValidCell | getResolution | getBaseCellNumber | isPentagon | isResClassIII | originToDirectedEdges) options="--cell" ;;
-        getNumCells | getPentagons | uncompactCells | cellsToParents | cellsToCenterChildren | cellsToChildrenSizes | cellsToChildPositions) options="--resolution" ;;
-        cellToParent | cellToCenterChild | cellToChildren | cellToChildrenSize | cellToChildPos) options="--cell --resolution" ;;
-        childPosToCell) options="--position --cell --resolution" ;;
-        gridDiskUnsafe | gridDiskDistancesUnsafe | gridRingUnsafe) options="--cell -k --table" ;;
-        areNeighborCells | cellsToDirectedEdge) options="--cell --to --table" ;;
-        isValidDirectedEdge | getDirectedEdgeOrigin) options="--edge" ;;
-        getDirectedEdgeDestination) options="--edge --table" ;;
-        *) options="" ;;
-    esac
-    mapfile -t COMPREPLY < <(compgen -W "$options --help" -- "$word")
+    options=$(_h3_options "$command")
+    # (a command that has no options awaits nothing)
+    if [ -n "$word$options" ]; then
+        mapfile -t COMPREPLY < <(compgen -W "$options --help" -- "$word")
+    fi
 }
 complete -F _h3 h3
