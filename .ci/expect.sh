@@ -2,7 +2,7 @@
 # What the checks in shell share: each case is counted, one that fails has a line, and the last line
 # is NAME: N passed, M failed, and `, K skipped` where there are any. .ci/expect.py is the same for
 # python3. A script reads it with `. .ci/expect.sh`, and ends with `finish`.
-check=$(basename "$0")
+check_name=$(basename "$0")
 passed=0 failed=0 skipped=0
 
 pass() {
@@ -12,7 +12,7 @@ pass() {
 # Counts a case that fails: `fail TEXT` says what it is, and what was found.
 fail() {
     failed=$((failed + 1))
-    echo "$check, $1"
+    echo "$check_name, $1"
 }
 
 # Compares: `expect NAME FOUND WANTED`.
@@ -27,7 +27,7 @@ expect() {
 # Counts a case that cannot be tried here: `skip NAME WHAT_IS_MISSING`.
 skip() {
     skipped=$((skipped + 1))
-    echo "$check, $1: skipped: $2"
+    echo "$check_name, $1: skipped: $2"
 }
 
 # Whether these commands are installed. Where one is not, the case is skipped, and its line says
@@ -48,6 +48,6 @@ counts() {
 }
 
 finish() {
-    echo "$check: $(counts)"
+    echo "$check_name: $(counts)"
     exit $((failed > 0))
 }
