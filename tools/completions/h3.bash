@@ -24,7 +24,7 @@ _h3() {
         return
     fi
     if [ "$COMP_CWORD" -eq 1 ]; then
-        mapfile -t COMPREPLY < <(compgen -W "$_h3_commands --help" -- "$word")
+        mapfile -t COMPREPLY < <(compgen -W "$_h3_commands --help --version" -- "$word")
         return
     fi
     # (bash gives --table=FILE as three words)

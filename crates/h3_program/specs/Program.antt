@@ -1,5 +1,5 @@
 -- What a program does for the words of its command line.
-use Rattle.std.specs.Prelude.{◌≡◌, ◌⊎◌, ℕ, false, List, Option, Some, None, option_map, string_bytes, Result, Ok, Err}
+use Rattle.std.specs.Prelude.{◌≡◌, ◌⊎◌, ◌++◌, ℕ, false, List, [], ◌∷◌, codes, Option, Some, None, option_map, string_bytes, Result, Ok, Err}
 use Rattle.std.specs.Io.KnownBytes.{Appends}
 use Rattle.h3_lines.specs.Answer.{written}
 use Rattle.h3_lines.specs.Writing.{AppendsPart, IsLeft, Reports, Writes}
@@ -9,7 +9,7 @@ use Rattle.h3_command.specs.Answer.{Request, reads_list, reads_table, request}
 use Rattle.h3_command.specs.Run.{Runs, SourceUse, Streams}
 use Rattle.h3_words.specs.declared.words.Words.{Words}
 use Rattle.h3_words.specs.declared.words.WordsFault.{WordsFault}
-use Rattle.h3_words.specs.declared.words.WordsFault.TheVariants.{Help, Usage, Memory}
+use Rattle.h3_words.specs.declared.words.WordsFault.TheVariants.{Help, Version, Usage, Memory}
 
 -- a stream before a run and after it
 pub record Change (S : Type 0) : Type 0 where
@@ -47,13 +47,21 @@ RunsCommand {T = T} tables (Some path) r status input table s =
     × RunsOver r status input (record { old = opened; new = table.new }) (record s { table = tables.as_source opened table.new }))
     ⊎ (tables.fails_to_open table.old path table.new × CannotOpen status input s)
 
--- a command is run; help goes to standard output, where a write may fail; the text of an invalid command line goes to
--- standard error, with status 2; out of memory is an error line; where no command is run, nothing is opened or read
+-- what `h3 --version` prints, with its line feed (10)
+abbrev pub version_line : List ℕ
+version_line = codes "h3 1.1.0" ++ 10 ∷ []
+
+-- a command is run; help and the version go to standard output, where a write may fail; the text of an invalid command
+-- line goes to standard error, with status 2; out of memory is an error line; where no command is run, nothing is opened
+-- or read
 abbrev pub Follows : {R T : Type 0} → Tables T → Result Words WordsFault → ℕ → Change R → Change T → Streams → Type 0
 Follows tables (Ok words) status input table s =
     RunsCommand tables (option_map string_bytes words.table) (request words.command) status input table s
 Follows tables (Err (Help text)) status input table s =
     ((ending : Result (Unit {0}) Refusal) × Writes (written (string_bytes text)) ending s.out × Reports ending status s.err)
+    × IsUntouched input × IsUntouched table
+Follows tables (Err Version) status input table s =
+    ((ending : Result (Unit {0}) Refusal) × Writes (written version_line) ending s.out × Reports ending status s.err)
     × IsUntouched input × IsUntouched table
 Follows tables (Err (Usage text)) status input table s =
     ((status ≡ 2) × IsLeft s.out × AppendsPart s.err.before s.err.after (string_bytes text)

@@ -16,6 +16,9 @@ use h3_lines::{Refusal, report, write_all, write_answer};
 use h3_words::{Words, WordsFault, read_words};
 use std::alloc::Global;
 
+/// What `h3 --version` prints.
+const VERSION_LINE: &str = "h3 1.1.0\n";
+
 /// Runs a command, and returns the exit status. Its table is opened first, if it has one; where
 /// that fails, nothing is run.
 fn run_command<R: Source, T: OpenTable, W: Sink, E: Sink>(
@@ -50,7 +53,7 @@ fn run_command<R: Source, T: OpenTable, W: Sink, E: Sink>(
 }
 
 /// Runs the command that the words of a command line parse as, and returns the exit status. Help
-/// goes to `out`; the text of an invalid command line goes to `err`, with status 2.
+/// and the version go to `out`; the text of an invalid command line goes to `err`, with status 2.
 ///
 /// The table of a command that has one is opened once the words are parsed, and before anything
 /// else is looked at; where it cannot be opened, the line `table: open` goes to `err`, with status
@@ -82,6 +85,7 @@ pub fn run_words<R: Source, T: OpenTable, W: Sink, E: Sink>(
     match read_words(alloc, words) {
         Ok(words) => run_command(alloc, &words, input, table, out, err),
         Err(WordsFault::Help(text)) => report(err, write_answer(out, text.as_bytes())),
+        Err(WordsFault::Version) => report(err, write_answer(out, VERSION_LINE.as_bytes())),
         Err(WordsFault::Usage(text)) => {
             let _ = write_all(err, text.as_bytes());
             2

@@ -186,8 +186,9 @@ fn flushes(alloc: Global, line: &str, count: u8) -> bool {
 }
 
 /// Command lines, and how many times their output is flushed.
-static FLUSHES: [(&str, u8); 4] = [
+static FLUSHES: [(&str, u8); 5] = [
     ("h3 --help", 1),
+    ("h3 --version", 1),
     ("h3 isValidCell -c 85283473fffffff", 1),
     ("h3 isValidCell -c xyz", 0),
     ("h3 isValidCell", 0),
@@ -198,6 +199,23 @@ fn an_output_is_flushed_once(rt: HostRuntime) {
     for (line, count) in &FLUSHES {
         assert!(&rt; flushes(rt.alloc(), line, *count), "{line}");
     }
+}
+
+#[test]
+fn the_version_is_written_to_standard_output(rt: HostRuntime) {
+    for line in &["h3 --version", "h3 -V", "h3 --version isValidCell"] {
+        assert!(&rt; ends(rt.alloc(), line, "", "", (0, "h3 1.1.0\n", "", 0)), "{line}");
+    }
+}
+
+#[test]
+fn a_version_that_cannot_be_written_is_a_write_fault(rt: HostRuntime) {
+    let mut table = MemoryTable::new("", "");
+    let mut out = Streamed::new(PageWriter::new(ArrayVec::<u8, 8>::new()));
+    let mut err = Streamed::new(ArrayVec::<u8, 64>::new());
+    let status = status_of(rt.alloc(), "h3 --version", "", &mut table, &mut out, &mut err);
+    assert!(&rt; status == Some(4));
+    assert!(&rt; err.into_inner().as_slice() == b"fault: write\n".as_slice());
 }
 
 #[test]

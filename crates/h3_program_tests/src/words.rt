@@ -554,6 +554,50 @@ fn helps(rt: HostRuntime) {
     }
 }
 
+/// Whether a line asks for the version.
+fn asks_for_version(alloc: Global, line: &str) -> bool {
+    matches!(read(alloc, line), Err(WordsFault::Version))
+}
+
+/// Lines that ask for the version.
+static VERSION: [&str; 6] = [
+    "h3 --version",
+    "h3 -V",
+    "h3 --version --help",
+    "h3 -V isValidCell",
+    "h3 --version isValidCell -c 85283473fffffff",
+    "another --version",
+];
+
+#[test]
+fn is_asked_for_the_version(rt: HostRuntime) {
+    for line in &VERSION {
+        assert!(&rt; asks_for_version(rt.alloc(), line), "{line}");
+    }
+}
+
+/// Lines that do not ask for the version, and are invalid.
+static NO_VERSION: [&str; 9] = [
+    "h3 -v",
+    "h3 --Version",
+    "h3 --versio",
+    "h3 --version=1",
+    "h3 -VV",
+    "h3 version",
+    "h3 isValidCell -V",
+    "h3 isValidCell --version -c 85283473fffffff",
+    "h3 getRes0Cells --version",
+];
+
+#[test]
+fn refuses_the_version_elsewhere(rt: HostRuntime) {
+    for line in &NO_VERSION {
+        assert!(&rt; is_invalid(rt.alloc(), line), "{line}");
+    }
+    assert!(&rt; asks_for_help(rt.alloc(), "h3 --help --version"));
+    assert!(&rt; is_invalid(rt.alloc(), "--version"));
+}
+
 /// Words with a path that has blanks.
 static WITH_BLANKS: [&str; 8] = [
     "h3",

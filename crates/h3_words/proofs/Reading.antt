@@ -24,7 +24,7 @@ use Rattle.h3_words.specs.Options.{id_of, parser_done}
 use Rattle.h3_words.specs.Values.{AreFound, HasTable, HasValues, AsksFor}
 use Rattle.h3_words.specs.declared.words.Words.{Words}
 use Rattle.h3_words.specs.declared.words.WordsFault.{WordsFault}
-use Rattle.h3_words.specs.declared.words.WordsFault.TheVariants.{Help, Usage, Memory}
+use Rattle.h3_words.specs.declared.words.WordsFault.TheVariants.{Help, Version, Usage, Memory}
 use Rattle.h3_words.specs.declared.options.CommandOption.{CommandOption}
 use Rattle.h3_words.specs.declared.commands.CommandName.{CommandName}
 use Rattle.h3_words.proofs.Lexed.{given_same}
@@ -44,6 +44,7 @@ fault_reported a ws given_words e is same kinds f reported = go f reported (subs
     go (Help text) reported (inr among) = subst (λ k. IsAmong k (fault_of app ws)) reported among
     go (Usage text) reported (inl memory) = absurd (reported.1 memory)
     go (Usage text) reported (inr among) = (kind_of e, among, reported.0)
+    go Version reported has = absurd reported
     go Memory reported has = tt
 
 -- where no step of the parse fails, memory was wanted
@@ -53,6 +54,7 @@ only_memory ws f fault none = go f (subst (λ k. IsFaultOf k f) none fault)
     go : (f : WordsFault) → IsFaultOf [] f → f ≡ Memory
     go (Help text) bad = absurd bad
     go (Usage text) bad = absurd bad.1
+    go Version bad = absurd bad
     go Memory fine = refl
 
 -- where the parse has no fault, the words have none

@@ -4,18 +4,21 @@ use Rattle.clap.specs.Words.{IsAmong, Kinds}
 use Rattle.clap.specs.declared.error.kind.ErrorKind.{ErrorKind}
 use Rattle.clap.specs.declared.error.kind.ErrorKind.TheVariants.{DisplayHelp, OutOfMemory}
 use Rattle.h3_words.specs.declared.words.WordsFault.{WordsFault}
-use Rattle.h3_words.specs.declared.words.WordsFault.TheVariants.{Help, Usage, Memory}
+use Rattle.h3_words.specs.declared.words.WordsFault.TheVariants.{Help, Version, Usage, Memory}
 
 -- what is reported for an error of this kind: help only where help is asked for, an invalid command line only for any
--- other error of the parse, and out of memory at any time. Private contracts alone cite it.
+-- other error of the parse, out of memory at any time, and the version for none. Private contracts alone cite it.
 abbrev pub IsReportedAs : ErrorKind → WordsFault → Type 0
 IsReportedAs kind (Help text) = kind ≡ DisplayHelp
+IsReportedAs kind Version = ⊥
 IsReportedAs kind (Usage text) = (kind ≢ DisplayHelp) × (kind ≢ OutOfMemory)
 IsReportedAs kind Memory = ⊤
 
 -- what is reported where the first step of a parse that fails gives one of these kinds: help only where it may be the
--- kind of help, an invalid command line only where it may be another kind, and out of memory at any time
+-- kind of help, an invalid command line only where it may be another kind, out of memory at any time, and the version
+-- for none
 abbrev pub IsFaultOf : Kinds → WordsFault → Type 0
 IsFaultOf kinds (Help text) = IsAmong DisplayHelp kinds
+IsFaultOf kinds Version = ⊥
 IsFaultOf kinds (Usage text) = (kind : ErrorKind) × IsAmong kind kinds × (kind ≢ DisplayHelp)
 IsFaultOf kinds Memory = ⊤

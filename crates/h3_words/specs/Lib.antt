@@ -5,3 +5,4 @@ pub mod Given
 pub mod Options
 pub mod Parse
 pub mod Values
+pub mod Version

@@ -59,7 +59,8 @@ const HELP: &str = "Inspect, traverse and compact H3 cells\n\n\
     \x20 getDirectedEdgeOrigins      The cell that each directed edge leaves\n\
     \x20 originsToDirectedEdges      The directed edges that leave each cell\n\n\
     Options:\n\
-    \x20 -h, --help  Print help\n\n\
+    \x20 -h, --help     Print help\n\
+    \x20 -V, --version  Print the version\n\n\
     The options, the errors and an example of a command: h3 COMMAND --help";
 
 /// The name of a command.

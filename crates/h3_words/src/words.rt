@@ -1,12 +1,13 @@
 //! The words of a command line.
 
-ghost use Rattle.std.specs.Prelude.{◌≡◌, [], IfOk, IfErr, OnOk, map, string_bytes};
+ghost use Rattle.std.specs.Prelude.{◌≡◌, [], true, false, Err, IfOk, IfErr, OnOk, map, string_bytes};
 ghost use Rattle.clap.specs.Words.{fault_of, kind_of};
 ghost use Rattle.h3_words.specs.Call.{IsPlainCall};
 ghost use Rattle.h3_words.specs.Commands.{app};
 ghost use Rattle.h3_words.specs.Faults.{IsFaultOf, IsReportedAs};
 ghost use Rattle.h3_words.specs.Values.{AsksFor};
-ghost use Rattle.h3_words.specs.declared.words.WordsFault.TheVariants.{Memory};
+ghost use Rattle.h3_words.specs.Version.{asks_version};
+ghost use Rattle.h3_words.specs.declared.words.WordsFault.TheVariants.{Memory, Version};
 
 use crate::commands::{CommandName, command_line};
 use clap::error::ErrorKind;
@@ -28,6 +29,9 @@ pub struct Words {
 pub enum WordsFault {
     /// Help was asked for: its text.
     Help(String),
+
+    /// The version was asked for.
+    Version,
 
     /// The command line is invalid: the text that says why.
     Usage(String),
@@ -108,16 +112,22 @@ fn text_of(alloc: Global, error: &clap::Error, words: &[String]) -> Result<Strin
     format!(in alloc; "{error}")
 }
 
-/// Parses the words of a command line, of which the first is the program's name.
-///
-/// [`WordsFault::Help`] where they ask for help, [`WordsFault::Usage`] where the command line is
-/// invalid: it is not a command with each of its options once, each value in range; and
-/// [`WordsFault::Memory`] where there is no memory for the parse.
-pub fn read_words(alloc: Global, words: Vec<String>) -> Result<Words, WordsFault>
+/// Whether the word after the program's name asks for the version.
+fn asks_for_version(words: &[String]) -> bool
+    ensures { result ≡ asks_version (map string_bytes words.now) }
+{
+    match words.get(1) {
+        Some(word) => matches!(word.as_str(), "-V" | "--version"),
+        None => false,
+    }
+}
+
+/// Parses the words of a command line that does not ask for the version.
+fn parse_words(alloc: Global, words: Vec<String>) -> Result<Words, WordsFault>
     ensures read { IfOk result (AsksFor (map string_bytes words.items)) }
     ensures accepted { OnOk result (fault_of app (map string_bytes words.items) ≡ []) }
     ensures taken { IsPlainCall (map string_bytes words.items)
-        → IfErr result (λ fault. fault ≡ WordsFault.Memory) }
+        → IfErr result (λ fault. fault ≡ Memory) }
     ensures faults { IfErr result (IsFaultOf (fault_of app (map string_bytes words.items))) }
 {
     let parser = command_line(alloc)?;
@@ -135,4 +145,25 @@ pub fn read_words(alloc: Global, words: Vec<String>) -> Result<Words, WordsFault
         command: name.command(inner),
         table: name.table_path(alloc, inner)?,
     })
+}
+
+/// Parses the words of a command line, of which the first is the program's name.
+///
+/// [`WordsFault::Version`] where the second word is `-V` or `--version`, whatever follows;
+/// [`WordsFault::Help`] where they ask for help, [`WordsFault::Usage`] where the command line is
+/// invalid: it is not a command with each of its options once, each value in range; and
+/// [`WordsFault::Memory`] where there is no memory for the parse.
+pub fn read_words(alloc: Global, words: Vec<String>) -> Result<Words, WordsFault>
+    ensures read { IfOk result (AsksFor (map string_bytes words.items)) }
+    ensures accepted { OnOk result (fault_of app (map string_bytes words.items) ≡ []) }
+    ensures taken { IsPlainCall (map string_bytes words.items)
+        → IfErr result (λ fault. fault ≡ Memory) }
+    ensures version { asks_version (map string_bytes words.items) ≡ true → result ≡ Err Version }
+    ensures faults { asks_version (map string_bytes words.items) ≡ false
+        → IfErr result (IsFaultOf (fault_of app (map string_bytes words.items))) }
+{
+    if asks_for_version(words.as_slice()) {
+        return Err(WordsFault::Version);
+    }
+    parse_words(alloc, words)
 }

@@ -6,7 +6,7 @@ use Rattle.h3_words.specs.Commands.{command_names, word_of}
 use Rattle.h3_words.proofs.Plain.{call_passes}
 use Rattle.h3_words.proofs.Names.{word_named}
 use Rattle.h3_words.proofs.Reading.{fault_reported, met, only_memory, passed, some_none, some_same, asks_for}
-use Rattle.h3_words.proofs.words.read_words.Goals as goal
+use Rattle.h3_words.proofs.words.parse_words.Goals as goal
 
 pub returns-in-Err-clause-faults : goal.returns-in-Err-clause-faults
 returns-in-Err-clause-faults c = fault_reported _ _ _ c.in-Err.error c.in_ok-parser.ensures (ap (map string_bytes) c.as_slice.ensures.value) c.in-Err.ensures.kinds c.from_parse.result c.from_parse.ensures
