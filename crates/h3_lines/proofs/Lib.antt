@@ -1,5 +1,6 @@
 pub mod AnsweredLines
 pub mod Blocks
+pub mod CountedLines
 pub mod EndsEach
 pub mod Lengths
 pub mod Lines

@@ -1,8 +1,7 @@
 -- A list of cells whose lines are taken one after another.
-use Rattle.std.proofs.Common.{◌≡◌, ℕ, ◌<◌, ◌≤◌, ◌⊎◌, Bool, true, false, List, [], ◌∷◌, ◌++◌, length, Option, Some, Result, Ok, Err, IsOk, nat_lt, sym, ap, ◌∙◌, refl, subst, inl, inr, append-nil, arith}
+use Rattle.std.proofs.Common.{◌≡◌, ℕ, ◌<◌, ◌≤◌, ◌⊎◌, Bool, true, List, [], ◌∷◌, ◌++◌, length, Option, Some, Result, Ok, Err, IsOk, nat_lt, sym, ap, ◌∙◌, refl, subst, inl, inr, append-nil, arith}
 use Rattle.std.specs.Prelude.{⊤}
 use Rattle.std.proofs.lemmas.Bool.Decides.{nat_tests}
-use Rattle.std.specs.Io.KnownBytes.{Consumes}
 use Rattle.h3_index.specs.Cell.{Address}
 use Rattle.h3_index.specs.Stream.{HasLeft}
 use Rattle.h3_index.specs.declared.error.H3Error.{H3Error}
@@ -72,19 +71,19 @@ abbrev Settled : ListedCells → Type 0
 Settled v = ⊤
 
 -- from the first line on
-from_start : (v w : ListedCells) (ls : List (List ℕ)) → v.cells.items ≡ [] → Gives v ls w → (later : List (List ℕ)) → cells_said (ls ++ later) ≡ cells_before w.cells.items (cells_said later)
+pub from_start : (v w : ListedCells) (ls : List (List ℕ)) → v.cells.items ≡ [] → Gives v ls w → (later : List (List ℕ)) → cells_said (ls ++ later) ≡ cells_before w.cells.items (cells_said later)
 from_start v w ls none gives later =
     cells_said-append ls later ∙ sym (no_cells (said_lines ls (cells_said later))) ∙ ap (λ found. cells_before found (said_lines ls (cells_said later))) (sym none) ∙ gives (cells_said later)
 
 -- the cells of these lines
-all_said : (v w : ListedCells) (ls : List (List ℕ)) → v.cells.items ≡ [] → Gives v ls w → cells_said ls ≡ Ok w.cells.items
+pub all_said : (v w : ListedCells) (ls : List (List ℕ)) → v.cells.items ≡ [] → Gives v ls w → cells_said ls ≡ Ok w.cells.items
 all_said v w ls none gives = ap cells_said (sym (append-nil ls)) ∙ from_start v w ls none gives [] ∙ ap Ok (append-nil w.cells.items)
 
 -- one of the lines after them is refused
 refused_list : (v w mid : ListedCells) (e : Refusal) (ended : List (List ℕ)) (bytes : List ℕ) → v.cells.items ≡ [] → Gives v ended mid → RefusesAfter Refuses mid w e ended bytes → RefusesList ⊥ (listed_cells bytes) e
 refused_list v w mid e ended bytes none gives r = subst (λ list. RefusesList ⊥ list e) (sym (ap cells_said r.lines ∙ from_start v mid ended none gives r.later)) r.refuses
 
-no_fault_yet : (v w : ListedCells) (part last : List ℕ) (ended : List (List ℕ)) → v.cells.items ≡ [] → Gives v ended w → lines_of part ≡ ended ++ last ∷ [] → length last ≤ 64 → HasNoFaultYet part
+pub no_fault_yet : (v w : ListedCells) (part last : List ℕ) (ended : List (List ℕ)) → v.cells.items ≡ [] → Gives v ended w → lines_of part ≡ ended ++ last ∷ [] → length last ≤ 64 → HasNoFaultYet part
 no_fault_yet v w part last ended none gives lines short = record { ended = ended; last = last; lines = lines; good = is_good (cells_said ended) w.cells.items (all_said v w ended none gives); short = short }
 
 -- ---- how it ends

@@ -6,6 +6,7 @@ pub mod EachLine
 pub mod Examples
 pub mod List
 pub mod ListLaws
+pub mod Numbered
 pub mod Reading
 pub mod Reads
 pub mod Refusal

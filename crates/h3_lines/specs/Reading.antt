@@ -4,6 +4,7 @@ use Rattle.std.specs.List.{list_all}
 use Rattle.h3_index.specs.Cell.{Address}
 use Rattle.h3_index.specs.declared.error.H3Error.{H3Error}
 use Rattle.h3_lines.specs.List.{RefusesList, cells_said, said_before, said_by}
+use Rattle.h3_lines.specs.Numbered.{RefusesAt, faulty_from}
 use Rattle.h3_lines.specs.declared.refusal.Refusal.{Refusal}
 
 -- no byte is a line feed
@@ -27,3 +28,11 @@ GivesCells cells lines cells' = (later : Result (List Address) H3Error) → cell
 -- a refusal fits the lines that come after these cells
 abbrev pub RefusesLines : List Address → List (List ℕ) → Refusal → Type 0
 RefusesLines cells lines e = RefusesList ⊥ (cells_before cells (cells_said lines)) e
+
+-- the lines are counted from the one number to the other, and none of them is faulty
+abbrev pub CountsLines : ℕ → List (List ℕ) → ℕ → Type 0
+CountsLines number lines number' = (more : List (List ℕ)) → faulty_from number (lines ++ more) ≡ faulty_from number' more
+
+-- a refusal fits the lines that come after these cells, of which the first has this number
+abbrev pub RefusesLinesAt : ℕ → List Address → List (List ℕ) → Refusal → Type 0
+RefusesLinesAt number cells lines e = RefusesAt ⊥ (cells_before cells (cells_said lines)) (faulty_from number lines) e

@@ -18,7 +18,7 @@ use std::alloc::Global;
 
 /// The cell with an index, or the error where no cell has it.
 #[inline(always)]
-fn cell_with(index: u64) -> Result<Option<Cell>, H3Error>
+pub(crate) fn cell_with(index: u64) -> Result<Option<Cell>, H3Error>
     ensures { result ≡ said_by_cell (cell_in index) }
 {
     let cell = Cell::new(index)?;
@@ -26,7 +26,7 @@ fn cell_with(index: u64) -> Result<Option<Cell>, H3Error>
 }
 
 /// The cell of a line, nothing where it is blank, or the error of a faulty line.
-fn read_line(line: &[u8]) -> Result<Option<Cell>, H3Error>
+pub(crate) fn read_line(line: &[u8]) -> Result<Option<Cell>, H3Error>
     ensures { result ≡ said_by line.now }
 {
     if line.len() > LONGEST_LINE {

@@ -1,0 +1,32 @@
+-- The list of cells in the bytes of an input, where the error of a faulty line is told with the number of the line.
+use Rattle.std.specs.Prelude.{◌≡◌, ℕ, ◌+◌, List, [], ◌∷◌, ⊤, Option, Result, Ok, Err}
+use Rattle.h3_index.specs.Cell.{Address}
+use Rattle.h3_index.specs.declared.error.H3Error.{H3Error}
+use Rattle.h3_lines.specs.List.{lines_of, said_by}
+use Rattle.h3_lines.specs.declared.refusal.Refusal.{Refusal}
+use Rattle.h3_lines.specs.declared.refusal.Refusal.TheVariants.{Error, At, Memory, Read, Write, Table, TableOpen}
+
+-- this number, where a line says an error; else the later one
+abbrev pub number_of_fault : ℕ → Result (Option Address) H3Error → ℕ → ℕ
+number_of_fault number (Err e) later = number
+number_of_fault number (Ok said) later = later
+
+-- the number of the first faulty one of lines, of which the first has this number
+abbrev pub faulty_from : ℕ → List (List ℕ) → ℕ
+faulty_from number [] = number
+faulty_from number (line ∷ lines) = number_of_fault number (said_by line) (faulty_from (number + 1) lines)
+
+-- the number of the first faulty line in these bytes; the first line is 1, and blank lines count
+abbrev pub faulty_line : List ℕ → ℕ
+faulty_line bytes = faulty_from 1 (lines_of bytes)
+
+-- a refusal fits the list: an error is the list's own, told with this number, out of memory says nothing of it, and a
+-- read fault comes only where reads fail
+abbrev pub RefusesAt : Type 0 → Result (List Address) H3Error → ℕ → Refusal → Type 0
+RefusesAt read_fails list number (Error e) = ⊥
+RefusesAt read_fails list number (At line e) = (list ≡ Err e) × (line ≡ number)
+RefusesAt read_fails list number Memory = ⊤
+RefusesAt read_fails list number Read = read_fails
+RefusesAt read_fails list number Write = ⊥
+RefusesAt read_fails list number (Table e) = ⊥
+RefusesAt read_fails list number TableOpen = ⊥
