@@ -11,13 +11,14 @@ use Rattle.h3_directions.specs.declared.error.TableError.TheVariants as fault
 use Rattle.h3_lines.specs.Answer.{Answer, answer_or_error, out_of_memory}
 use Rattle.h3_lines.specs.EachLine.{EndsEach, answer_at, list_answer}
 use Rattle.h3_lines.specs.List.{RefusesList, listed_cells}
+use Rattle.h3_lines.specs.Numbered.{RefusesAt, faulty_line}
 use Rattle.h3_lines.specs.Reads.{IsListWithinReads, IsWithinReads}
 use Rattle.h3_lines.specs.Refusal.{table_refusal}
 use Rattle.h3_lines.specs.declared.refusal.Refusal.{Refusal}
 use Rattle.h3_lines.specs.declared.refusal.Refusal.TheVariants.{Error, At, Memory, Read, Write, Table, TableOpen}
 use Rattle.h3_lines.specs.Writing.{IsLeft, Reports, SinkUse, Writes}
-use Rattle.h3_command.specs.Answer.{Request, about_table, with_table, unless_faulty}
-use Rattle.h3_command.specs.Answer.Request.{of_lines, of_list, of_table, plain}
+use Rattle.h3_command.specs.Answer.{Request, about_numbered_list, about_table, answer_or_error_at, with_table, unless_faulty}
+use Rattle.h3_command.specs.Answer.Request.{of_lines, of_list, of_numbered_list, of_table, plain}
 use Rattle.h3_command.specs.Run.{Answers, Ends, Gives, NoReadFails, ReadFails, Runs, SourceUse, Streams, WritesReading}
 use Rattle.h3_command.proofs.Written.{nothing, writes_refused}
 
@@ -55,6 +56,37 @@ pub list_written : (about : List Address → Answer) (list : List ℕ) (cells : 
     → WritesReading (answer_or_error about (listed_cells list)) list (IsListWithinReads (2 ^ 40) 65536 list) input ending out
 list_written about list cells input ending out is short sound writes =
     reading_written _ list _ input ending out (inl short) sound (subst (λ read. Writes (answer_or_error about read) ending out) (sym is) writes)
+
+-- ---- a list whose faulty line is told with its number
+
+-- an error at a line is written
+writes_refused_at : (line : ℕ) (e : H3Error) (out : SinkUse) → IsLeft out → Writes (record { output = []; ending = Err (At line e) }) (Err (At line e)) out
+unfolding Writes
+writes_refused_at line e out left = (refl, (nothing _ _ left.0, left.1))
+
+-- the list is refused
+pub numbered_refused : (about : List Address → Answer) (list : List ℕ) (input : SourceUse) (e : Refusal) (out : SinkUse) → RefusesAt (ReadFails input list) (listed_cells list) (faulty_line list) e
+    → ((e ≡ Read → ⊥) → (e ≡ Memory → ⊥) → IsListWithinReads (2 ^ 40) 65536 list) → ((e ≡ Read → ⊥) → NoReadFails input) → IsLeft out
+    → WritesReading (about_numbered_list about list) list (IsListWithinReads (2 ^ 40) 65536 list) input (Err e) out
+numbered_refused about list input (Error d) out never within sound left = absurd never
+numbered_refused about list input (At n d) out (is, number) within sound left = (
+  within (λ never. cc never) (λ never. cc never),
+  sound (λ never. cc never),
+  subst (λ cells. Writes (answer_or_error_at (faulty_line list) about cells) (Err (At n d)) out) (sym is)
+      (subst (λ line. Writes (record { output = []; ending = Err (At line d) }) (Err (At n d)) out) number (writes_refused_at n d out left)),
+)
+numbered_refused about list input Memory out is within sound left = (sound (λ never. cc never), left)
+numbered_refused about list input Read out fails within sound left = (fails, left)
+numbered_refused about list input Write out never within sound left = absurd never
+numbered_refused about list input (Table d) out never within sound left = absurd never
+numbered_refused about list input TableOpen out never within sound left = absurd never
+
+-- the list is read, and the answer about its cells is written
+pub numbered_written : (about : List Address → Answer) (list : List ℕ) (cells : List Address) (input : SourceUse) (ending : Result (Unit {0}) Refusal) (out : SinkUse) → listed_cells list ≡ Ok cells
+    → IsWithinReads (2 ^ 40) 65536 list → NoReadFails input → Writes (about cells) ending out
+    → WritesReading (about_numbered_list about list) list (IsListWithinReads (2 ^ 40) 65536 list) input ending out
+numbered_written about list cells input ending out is short sound writes =
+    reading_written _ list _ input ending out (inl short) sound (subst (λ read. Writes (answer_or_error_at (faulty_line list) about read) ending out) (sym is) writes)
 
 -- ---- a table
 
@@ -157,6 +189,15 @@ answers (plain a) ending status s writes reports =
     let (file, kept) = some_left s.table.left in
     record { list = list; file = file; list_is = held; file_is = kept; given = λ none. inl (gives_written a ending status s writes none.answer_written reports) }
 answers (of_list about) ending status s (list, held, writes) reports =
+    let (file, kept) = some_left s.table.left in
+    record {
+      list = list;
+      file = file;
+      list_is = held;
+      file_is = kept;
+      given = λ none. with_memory true refl (gives_reading _ list _ s.input ending status s writes (none.list_read refl) none.answer_written reports);
+    }
+answers (of_numbered_list about) ending status s (list, held, writes) reports =
     let (file, kept) = some_left s.table.left in
     record {
       list = list;

@@ -1,5 +1,5 @@
 -- The request of a command, and the answer to it.
-use Rattle.std.specs.Prelude.{ℕ, Bool, true, false, List, Option, None, Some, Result, Ok, Err}
+use Rattle.std.specs.Prelude.{ℕ, Bool, true, false, List, [], Option, None, Some, Result, Ok, Err}
 use Rattle.h3_index.specs.Cell.{Address}
 use Rattle.h3_index.specs.declared.error.H3Error.{H3Error}
 use Rattle.h3_lattice.specs.Fields.{records_of}
@@ -9,22 +9,26 @@ use Rattle.h3_directions.specs.declared.error.TableError.{TableError}
 use Rattle.h3_lines.specs.Answer.{Answer, answer_or_error, cell_line, cell_lines, edge_line, edge_lines, number_line, printed, refused, ring_line, table_refused, truth_line, walked, written}
 use Rattle.h3_lines.specs.EachLine.{list_answer}
 use Rattle.h3_lines.specs.List.{listed_cells}
+use Rattle.h3_lines.specs.Numbered.{faulty_line}
+use Rattle.h3_lines.specs.declared.refusal.Refusal.TheVariants.{At}
 use Rattle.h3_functions.specs.Edges.{are_neighbor_cells, cell_pair_from, cells_to_directed_edge, edge_from, get_directed_edge_destination, get_directed_edge_origin, is_valid_directed_edge, origin_to_directed_edges}
 use Rattle.h3_functions.specs.Hierarchy.{cell_to_center_child, cell_to_child_pos, cell_to_children, cell_to_children_size, cell_to_parent, child_pos_to_cell}
 use Rattle.h3_functions.specs.Inspection.{cell_from, get_base_cell_number, get_resolution, is_pentagon, is_res_class_iii, is_valid_cell}
 use Rattle.h3_functions.specs.Resolutions.{get_num_cells, get_pentagons, get_res0_cells}
 use Rattle.h3_functions.specs.Sets.{compact_cells, uncompact_cells}
 use Rattle.h3_functions.specs.Walks.{grid_disk_distances_unsafe, grid_disk_unsafe, grid_ring_unsafe}
+use Rattle.h3_set.specs.Compacted.{compacted}
 use Rattle.h3_requests.specs.declared.command.CellFunction.{CellFunction}
 use Rattle.h3_requests.specs.declared.command.CellFunction.TheVariants as each
 use Rattle.h3_requests.specs.declared.command.Command.{Command}
 use Rattle.h3_requests.specs.declared.command.Command.TheVariants as command
 
--- what a command reads and writes: an answer that its words alone fix, one about the cells listed on standard input, one
--- for each line of it, or one about the links of a base cell table
+-- what a command reads and writes: an answer that its words alone fix, one about the cells listed on standard input, also
+-- with the number of a faulty line, one for each line of it, or one about the links of a base cell table
 pub data Request : Type 0 where
   plain : Answer → Request
   of_list : (List Address → Answer) → Request
+  of_numbered_list : (List Address → Answer) → Request
   of_lines : (Option ℕ → Answer) → Request
   of_table : (Links → Answer) → Request
 
@@ -66,6 +70,7 @@ request (command.CellToChildPos cell res) = plain (answer_for (each.CellToChildP
 request (command.ChildPosToCell position cell res) = plain (printed cell_line (child_pos_to_cell position cell res))
 request command.CompactCells = of_list (λ cells. printed cell_lines (compact_cells cells))
 request (command.UncompactCells res) = of_list (λ cells. printed cell_lines (uncompact_cells res cells))
+request command.UniteCells = of_numbered_list (λ cells. written (cell_lines (compacted cells)))
 request (command.GridDiskUnsafe cell k) = with_table (λ c link. answer_or_error (walked cell_line) (grid_disk_unsafe link c k)) (cell_from cell)
 request (command.GridDiskDistancesUnsafe cell k) = with_table (λ c link. answer_or_error (walked ring_line) (grid_disk_distances_unsafe link c k)) (cell_from cell)
 request (command.GridRingUnsafe cell k) = with_table (λ c link. answer_or_error (walked cell_line) (grid_ring_unsafe link c k)) (cell_from cell)
@@ -81,6 +86,7 @@ request (command.ForEach function) = of_lines (answer_for function)
 abbrev pub reads_list : Request → Bool
 reads_list (plain a) = false
 reads_list (of_list about) = true
+reads_list (of_numbered_list about) = true
 reads_list (of_lines about) = true
 reads_list (of_table about) = false
 
@@ -88,6 +94,7 @@ reads_list (of_table about) = false
 abbrev pub reads_table : Request → Bool
 reads_table (plain a) = false
 reads_table (of_list about) = false
+reads_table (of_numbered_list about) = false
 reads_table (of_lines about) = false
 reads_table (of_table about) = true
 
@@ -95,10 +102,16 @@ reads_table (of_table about) = true
 abbrev pub takes_memory : Request → Bool
 takes_memory (plain a) = false
 takes_memory (of_list about) = true
+takes_memory (of_numbered_list about) = true
 takes_memory (of_lines about) = true
 takes_memory (of_table about) = true
 
 -- ---- the answer
+
+-- the answer about these cells, or an error that is told with this number of a line
+abbrev pub answer_or_error_at : ℕ → (List Address → Answer) → Result (List Address) H3Error → Answer
+answer_or_error_at line about (Ok cells) = about cells
+answer_or_error_at line about (Err e) = record { output = []; ending = Err (At line e) }
 
 -- an answer, or an error of the table in its place
 abbrev pub unless_faulty : Option TableError → Answer → Answer
@@ -109,10 +122,15 @@ unless_faulty (Some e) a = table_refused e
 abbrev pub about_table : (Links → Answer) → List ℕ → Answer
 about_table about file = unless_faulty (table_fault (records_of file)) (about (links_of (records_of file)))
 
+-- the answer about the cells in these bytes, or the error of the first faulty line, told with the line's number
+abbrev pub about_numbered_list : (List Address → Answer) → List ℕ → Answer
+about_numbered_list about list = answer_or_error_at (faulty_line list) about (listed_cells list)
+
 -- the answer to a request, for the bytes of the list and of the table
 abbrev pub answer_to : Request → List ℕ → List ℕ → Answer
 answer_to (plain a) list file = a
 answer_to (of_list about) list file = answer_or_error about (listed_cells list)
+answer_to (of_numbered_list about) list file = about_numbered_list about list
 answer_to (of_lines about) list file = list_answer about list
 answer_to (of_table about) list file = about_table about file
 

@@ -2,7 +2,9 @@
 use Rattle.std.specs.Prelude.{◌≡◌, ℕ, List, [], ◌∷◌, ◌++◌, codes, pos, negsuc, None, Some, Err, refl}
 use Rattle.h3_index.specs.Cell.{number_of}
 use Rattle.h3_index.specs.CellNumber.{address_in, cell_in}
-use Rattle.h3_index.specs.Count.{base_cell, number_below}
+use Rattle.h3_index.specs.Count.{base_cell, cells_of, cells_up_to, number_below}
+use Rattle.h3_index.specs.Descendants.{descendants}
+use Rattle.h3_index.specs.Paths.{paths}
 use Rattle.h3_index.specs.Text.{parsed_index, text_of}
 use Rattle.h3_index.specs.declared.error.H3Error.TheVariants.{CellInvalid, Domain, Failed, Pentagon}
 use Rattle.h3_lattice.specs.Fields.{records_of}
@@ -13,13 +15,14 @@ use Rattle.h3_lattice.specs.declared.vectors.TestTable.TheVariants.{Plain}
 use Rattle.h3_grid.specs.Moves.{moves, ring_moves}
 use Rattle.h3_grid.specs.Search.{candidates, digit_lists, found_sum, step_of}
 use Rattle.h3_grid.specs.Walks.{disk, followed}
+use Rattle.h3_set.specs.Compacted.{compacted}
 use Rattle.h3_lines.specs.declared.refusal.Refusal.TheVariants.{At}
 use Rattle.h3_lines.specs.Answer.{answer_or_error, before, cell_line, refused, table_refused, walked, written}
 use Rattle.h3_command.specs.Answer.{answer, request}
 use Rattle.h3_command.specs.Answer.Request.{plain}
 use Rattle.h3_functions.specs.Walks.{grid_disk_unsafe}
 use Rattle.h3_requests.specs.declared.command.CellFunction.TheVariants as each
-use Rattle.h3_requests.specs.declared.command.Command.TheVariants.{CellToParent, ForEach, GridDiskUnsafe, IsValidCell}
+use Rattle.h3_requests.specs.declared.command.Command.TheVariants.{CellToParent, ForEach, GridDiskUnsafe, IsValidCell, UniteCells}
 
 -- ---- answers
 
@@ -46,6 +49,15 @@ third_line = refl
 no_cell : (answer (ForEach each.GetResolution) (codes "81087ffffffffff") []).ending ≡ Err (At 1 CellInvalid)
 unfolding cell_in address_in number_of parsed_index
 no_cell = refl
+
+-- a cell that is listed twice is united; behind a blank line a faulty one is told with its number, and nothing is written
+united : answer UniteCells (codes "8029fffffffffff" ++ 10 ∷ codes "8029fffffffffff") [] ≡ written (codes "8029fffffffffff" ++ 10 ∷ [])
+unfolding cell_in address_in number_of parsed_index text_of compacted cells_up_to cells_of descendants paths
+united = refl
+
+not_united : answer UniteCells (codes "85283473fffffff" ++ 10 ∷ 10 ∷ codes "xyz" ++ 10 ∷ codes "85283473fffffff") [] ≡ record { output = []; ending = Err (At 3 Failed) }
+unfolding cell_in address_in number_of parsed_index
+not_united = refl
 
 -- ---- walks
 

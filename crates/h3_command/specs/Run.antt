@@ -10,8 +10,8 @@ use Rattle.h3_lines.specs.Writing.{IsLeft, Reports, SinkUse, Takes, Writes}
 use Rattle.h3_lines.specs.EachLine.{EndsEach}
 use Rattle.h3_lines.specs.List.{listed_cells}
 use Rattle.h3_lines.specs.Reads.{IsListWithinReads, IsWithinReads}
-use Rattle.h3_command.specs.Answer.{Request, about_table, answer_to, reads_list, reads_table, takes_memory}
-use Rattle.h3_command.specs.Answer.Request.{plain, of_lines, of_list, of_table}
+use Rattle.h3_command.specs.Answer.{Request, about_numbered_list, about_table, answer_to, reads_list, reads_table, takes_memory}
+use Rattle.h3_command.specs.Answer.Request.{plain, of_lines, of_list, of_numbered_list, of_table}
 
 -- ---- streams
 
@@ -56,6 +56,11 @@ abbrev pub WritesOfList : (List Address → Answer) → SourceUse → Result (Un
 WritesOfList about input ending out =
     (list : List ℕ) × HasLeft input.left list × WritesReading (answer_or_error about (listed_cells list)) list (IsListWithinReads (2 ^ 40) 65536 list) input ending out
 
+-- the same where the error of a faulty line is told with its number
+abbrev pub WritesOfNumberedList : (List Address → Answer) → SourceUse → Result (Unit {0}) Refusal → SinkUse → Type 0
+WritesOfNumberedList about input ending out =
+    (list : List ℕ) × HasLeft input.left list × WritesReading (about_numbered_list about list) list (IsListWithinReads (2 ^ 40) 65536 list) input ending out
+
 -- the same of a table, of which 2^40 reads can find the end, and the answer about its links
 abbrev pub WritesOfTable : (Links → Answer) → SourceUse → Result (Unit {0}) Refusal → SinkUse → Type 0
 WritesOfTable about table ending out =
@@ -65,6 +70,7 @@ WritesOfTable about table ending out =
 abbrev pub Ends : Request → SourceUse → SourceUse → Result (Unit {0}) Refusal → SinkUse → Type 0
 Ends (plain a) input table ending out = Writes a ending out
 Ends (of_list about) input table ending out = WritesOfList about input ending out
+Ends (of_numbered_list about) input table ending out = WritesOfNumberedList about input ending out
 Ends (of_lines about) input table ending out = EndsEach about input.left input.left_after input.had_failed input.has_failed ending out
 Ends (of_table about) input table ending out = WritesOfTable about table ending out
 

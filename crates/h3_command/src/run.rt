@@ -8,7 +8,7 @@ ghost use Rattle.h3_command.specs.Run.{Ends, Runs, source_use};
 use crate::children::cell_to_children;
 use crate::edges::{are_neighbor_cells, cells_to_directed_edge, get_directed_edge_destination};
 use crate::for_each::AnswerOf;
-use crate::sets::{compact_cells, uncompact_cells};
+use crate::sets::{compact_cells, uncompact_cells, unite_cells};
 use crate::table_query::over_table;
 use crate::walks::{grid_disk_distances_unsafe, grid_disk_unsafe, grid_ring_unsafe};
 use h3_functions::{
@@ -58,6 +58,7 @@ fn perform<R: Source, T: Source, W: Sink>(
         } => write_result(out, child_pos_to_cell(position, cell, res)),
         CompactCells => compact_cells(alloc, input, out),
         UncompactCells { res } => uncompact_cells(alloc, res, input, out),
+        UniteCells => unite_cells(alloc, input, out),
         GridDiskUnsafe { cell, k } => over_table(alloc, grid_disk_unsafe(cell, k), table, out),
         GridDiskDistancesUnsafe { cell, k } => {
             over_table(alloc, grid_disk_distances_unsafe(cell, k), table, out)

@@ -1,12 +1,14 @@
 //! H3's functions on lists of cells.
 
-ghost use Rattle.h3_lines.specs.Answer.{cell_lines, printed};
+ghost use Rattle.h3_lines.specs.Answer.{cell_lines, printed, written};
 ghost use Rattle.h3_lines.specs.Writing.{Writes, sink_use};
-ghost use Rattle.h3_command.specs.Run.{WritesOfList, source_use};
+ghost use Rattle.h3_command.specs.Run.{WritesOfList, WritesOfNumberedList, source_use};
 ghost use Rattle.h3_functions.specs.Sets.{compact_cells, uncompact_cells};
+ghost use Rattle.h3_set.specs.Compacted.{compacted};
 
 use h3_index::{Cell, Sink, Source};
-use h3_lines::{Refusal, read_cells, write_lines};
+use h3_lines::{Refusal, read_cells, read_numbered_cells, write_lines};
+use h3_regions::unite;
 use h3_set::{compact_in_place, uncompact};
 use std::alloc::Global;
 
@@ -61,4 +63,29 @@ pub(crate) fn uncompact_cells<R: Source, W: Sink>(
 {
     let cells = read_cells(alloc, input)?;
     write_uncompacted(&cells, res, out)
+}
+
+/// Writes the compacted list of what the cells of a list cover, which is made in the list's own
+/// memory.
+fn write_united<W: Sink>(cells: &mut [Cell], out: &mut W) -> Result<(), Refusal>
+    ensures { Writes (written (cell_lines (compacted cells.old))) result
+        (sink_use W.taken W.has_failed out.old out.new) }
+{
+    let count = unite(cells);
+    write_lines(out, cells[..count].iter().copied())
+}
+
+/// Writes the region of the cells listed on the input: the compacted list of what they cover. They
+/// may repeat and overlap one another.
+pub(crate) fn unite_cells<R: Source, W: Sink>(
+    alloc: Global,
+    input: &mut R,
+    out: &mut W,
+) -> Result<(), Refusal>
+    ensures { WritesOfNumberedList (λ cells. written (cell_lines (compacted cells)))
+        (source_use R.left R.has_failed input.old input.new) result
+        (sink_use W.taken W.has_failed out.old out.new) }
+{
+    let mut cells = read_numbered_cells(alloc, input)?;
+    write_united(&mut cells, out)
 }

@@ -128,6 +128,10 @@ pub enum Command {
         res: i32,
     },
 
+    /// The cells that cover what those of a list cover, which may overlap one another, with no
+    /// overlap and no complete set of siblings.
+    UniteCells,
+
     /// The cells within a radius of a cell, over a base cell table.
     GridDiskUnsafe {
         cell: Option<u64>,
