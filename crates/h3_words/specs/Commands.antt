@@ -19,7 +19,7 @@ command_names =
     name.IsValidCell ∷ name.GetResolution ∷ name.GetBaseCellNumber ∷ name.IsPentagon ∷ name.IsResClassIII ∷
     name.GetNumCells ∷ name.GetRes0Cells ∷ name.GetPentagons ∷ name.CellToParent ∷ name.CellToCenterChild ∷
     name.CellToChildren ∷ name.CellToChildrenSize ∷ name.CellToChildPos ∷ name.ChildPosToCell ∷ name.CompactCells ∷
-    name.UncompactCells ∷ name.GridDiskUnsafe ∷ name.GridDiskDistancesUnsafe ∷ name.GridRingUnsafe ∷
+    name.UncompactCells ∷ name.UniteCells ∷ name.GridDiskUnsafe ∷ name.GridDiskDistancesUnsafe ∷ name.GridRingUnsafe ∷
     name.AreNeighborCells ∷ name.CellsToDirectedEdge ∷ name.IsValidDirectedEdge ∷ name.GetDirectedEdgeOrigin ∷
     name.GetDirectedEdgeDestination ∷ name.OriginToDirectedEdges ∷
     name.AreValidCells ∷ name.AreValidDirectedEdges ∷ name.GetResolutions ∷ name.GetBaseCellNumbers ∷ name.ArePentagons ∷ name.AreResClassIII ∷
@@ -48,6 +48,7 @@ entry_of name.CellToChildPos = record { word = codes "cellToChildPos"; options =
 entry_of name.ChildPosToCell = record { word = codes "childPosToCell"; options = Position ∷ Cell ∷ Resolution ∷ [] }
 entry_of name.CompactCells = record { word = codes "compactCells"; options = [] }
 entry_of name.UncompactCells = record { word = codes "uncompactCells"; options = Resolution ∷ [] }
+entry_of name.UniteCells = record { word = codes "uniteCells"; options = [] }
 entry_of name.GridDiskUnsafe = record { word = codes "gridDiskUnsafe"; options = Cell ∷ Radius ∷ Table ∷ [] }
 entry_of name.GridDiskDistancesUnsafe = record { word = codes "gridDiskDistancesUnsafe"; options = Cell ∷ Radius ∷ Table ∷ [] }
 entry_of name.GridRingUnsafe = record { word = codes "gridRingUnsafe"; options = Cell ∷ Radius ∷ Table ∷ [] }
@@ -106,6 +107,7 @@ call_of (command.ChildPosToCell position cell res) =
     (name.ChildPosToCell, Number Position (pos position) ∷ Index Cell cell ∷ Number Resolution res ∷ [])
 call_of command.CompactCells = (name.CompactCells, [])
 call_of (command.UncompactCells res) = (name.UncompactCells, Number Resolution res ∷ [])
+call_of command.UniteCells = (name.UniteCells, [])
 call_of (command.GridDiskUnsafe cell k) = (name.GridDiskUnsafe, Index Cell cell ∷ Number Radius k ∷ [])
 call_of (command.GridDiskDistancesUnsafe cell k) = (name.GridDiskDistancesUnsafe, Index Cell cell ∷ Number Radius k ∷ [])
 call_of (command.GridRingUnsafe cell k) = (name.GridRingUnsafe, Index Cell cell ∷ Number Radius k ∷ [])

@@ -46,6 +46,7 @@ const HELP: &str = "Inspect, traverse and compact H3 cells\n\n\
     Lists on standard input, one index a line:\n\
     \x20 compactCells                The cells, compacted\n\
     \x20 uncompactCells              The descendants of the cells at a resolution\n\
+    \x20 uniteCells                  What the cells cover, compacted\n\
     \x20 areValidCells               Whether each index is a valid cell\n\
     \x20 areValidDirectedEdges       Whether each index is a valid directed edge\n\
     \x20 getResolutions              The resolution of each cell\n\
@@ -82,6 +83,7 @@ pub enum CommandName {
     ChildPosToCell,
     CompactCells,
     UncompactCells,
+    UniteCells,
     GridDiskUnsafe,
     GridDiskDistancesUnsafe,
     GridRingUnsafe,
@@ -105,7 +107,7 @@ pub enum CommandName {
     OriginsToDirectedEdges,
 }
 
-static COMMAND_NAMES: [CommandName; 37] = [
+static COMMAND_NAMES: [CommandName; 38] = [
     CommandName::IsValidCell,
     CommandName::GetResolution,
     CommandName::GetBaseCellNumber,
@@ -122,6 +124,7 @@ static COMMAND_NAMES: [CommandName; 37] = [
     CommandName::ChildPosToCell,
     CommandName::CompactCells,
     CommandName::UncompactCells,
+    CommandName::UniteCells,
     CommandName::GridDiskUnsafe,
     CommandName::GridDiskDistancesUnsafe,
     CommandName::GridRingUnsafe,
@@ -299,6 +302,13 @@ impl CommandName {
                 notes: "Errors: 1 no index, 5 no cell, 4 no resolution,\n\
                     12 a resolution coarser than a cell's, 13 out of memory\n\
                     Example: h3 uncompactCells -r 6 < cells",
+            },
+            CommandName::UniteCells => Entry {
+                word: "uniteCells",
+                options: &[],
+                about: "The compacted list of what the cells on standard input cover, which may repeat and overlap",
+                notes: "Errors: 1 no index, 5 no cell, 13 out of memory\n\
+                    Example: h3 uniteCells < cells",
             },
             CommandName::GridDiskUnsafe => Entry {
                 word: "gridDiskUnsafe",
@@ -501,6 +511,7 @@ impl CommandName {
             CommandName::UncompactCells => Some(
                 "h3 uncompactCells --resolution <resolution> < cells",
             ),
+            CommandName::UniteCells => Some("h3 uniteCells < cells"),
             CommandName::AreValidCells => Some("h3 areValidCells < cells"),
             CommandName::AreValidDirectedEdges => Some("h3 areValidDirectedEdges < edges"),
             CommandName::GetResolutions => Some("h3 getResolutions < cells"),
@@ -611,6 +622,7 @@ impl CommandName {
             },
             CommandName::CompactCells => Command::CompactCells,
             CommandName::UncompactCells => Command::UncompactCells { res },
+            CommandName::UniteCells => Command::UniteCells,
             CommandName::GridDiskUnsafe => Command::GridDiskUnsafe { cell, k },
             CommandName::GridDiskDistancesUnsafe => Command::GridDiskDistancesUnsafe { cell, k },
             CommandName::GridRingUnsafe => Command::GridRingUnsafe { cell, k },
