@@ -364,7 +364,7 @@ const FIVE: &str = "81083ffffffffff\n8108bffffffffff\n8108fffffffffff\n81093ffff
                     81097ffffffffff\n";
 
 /// Commands on a list.
-pub static LIST_CASES: [Case<'static>; 5] = [
+pub static LIST_CASES: [Case<'static>; 6] = [
     Case {
         command: Command::CompactCells,
         reads: Reads::List(
@@ -402,6 +402,13 @@ pub static LIST_CASES: [Case<'static>; 5] = [
         output: "",
         line: "error 10: E_DUPLICATE_INPUT\n",
         status: 1,
+    },
+    Case {
+        command: Command::UniteCells,
+        reads: Reads::List("85283473fffffff\n8428347ffffffff\n85283473fffffff\n"),
+        output: "8428347ffffffff\n",
+        line: "",
+        status: 0,
     },
 ];
 

@@ -31,6 +31,17 @@ fn compaction<'a>(list: &'a str, output: &'a str, line: &'a str) -> Case<'a> {
     }
 }
 
+/// The union of the cells of a list that is refused with this line.
+fn refused_union<'a>(list: &'a str, line: &'a str) -> Case<'a> {
+    Case {
+        command: Command::UniteCells,
+        reads: Reads::List(list),
+        output: "",
+        line,
+        status: 1,
+    }
+}
+
 /// Whether the compaction of a list writes its output and ends so, and reads the list to its end.
 fn is_compacted(alloc: Global, case: &Case<'_>) -> bool {
     for most in &PIECES {
@@ -137,6 +148,43 @@ fn a_faulty_line_that_is_known_decides_before_a_read_fault(rt: HostRuntime) {
         let case = compaction(list, "", line);
         assert!(&rt; is_known(rt.alloc(), &case, *bytes), "{list}");
     }
+}
+
+/// Faulty lists, their errors where the number of the line is told, and the bytes by which they are
+/// known.
+static FAULTY_AT: [(&str, &str, usize); 5] = [
+    ("xyz\n", "line 1: error 1: E_FAILED\n", 4),
+    (
+        "81087ffffffffff\nxyz\n",
+        "line 1: error 5: E_CELL_INVALID\n",
+        16,
+    ),
+    (
+        "85283473fffffff\n\nxyz\n85283473fffffff\n",
+        "line 3: error 1: E_FAILED\n",
+        21,
+    ),
+    (
+        "85283473fffffff\n0\nxyz",
+        "line 2: error 5: E_CELL_INVALID\n",
+        18,
+    ),
+    (
+        "85283473fffffff\n85283473fffffff\n81087ffffffffff\n",
+        "line 3: error 5: E_CELL_INVALID\n",
+        48,
+    ),
+];
+
+#[test]
+fn a_faulty_line_of_a_union_is_told(rt: HostRuntime) {
+    for (list, line, bytes) in &FAULTY_AT {
+        let case = refused_union(list, line);
+        assert!(&rt; is_known(rt.alloc(), &case, *bytes), "{list}");
+    }
+    let long = after(65, '8', "");
+    let case = refused_union(&long, "line 1: error 1: E_FAILED\n");
+    assert!(&rt; is_known(rt.alloc(), &case, 65));
 }
 
 /// Lists whose last line is not ended, and their compactions or the error.

@@ -444,3 +444,63 @@ fn a_list_that_lacks_a_cell_is_compacted(rt: HostRuntime) {
     let compact = Command::CompactCells;
     assert!(&rt; answers(rt.alloc(), compact, list, ALL_BUT_ONE, "", &PIECES));
 }
+
+/// Lists whose cells may repeat and overlap, and the compacted list of what they cover, or the
+/// error.
+static UNITED: [(&str, &str, &str); 11] = [
+    (
+        "85283463fffffff\n85283467fffffff\n8528346bfffffff\n8428347ffffffff\n\
+         85283463fffffff\n85283467fffffff\n",
+        "8428347ffffffff\n",
+        "",
+    ),
+    (
+        "85283463fffffff\n85283463fffffff\n85283467fffffff\n85283467fffffff\n\
+         8528346bfffffff\n8528346bfffffff\n8528346ffffffff\n8528346ffffffff\n\
+         85283473fffffff\n85283473fffffff\n85283477fffffff\n85283477fffffff\n\
+         8528347bfffffff\n8528347bfffffff\n",
+        "8428347ffffffff\n",
+        "",
+    ),
+    ("", "", ""),
+    (" \n\n\t\n", "", ""),
+    (FIVE, FIVE, ""),
+    // the six children of a pentagon, one of them twice and in parts
+    (
+        "81083ffffffffff\n8108bffffffffff\n8108fffffffffff\n81093ffffffffff\n\
+         81097ffffffffff\n8109bffffffffff\n81083ffffffffff\n820837fffffffff\n",
+        "8009fffffffffff\n",
+        "",
+    ),
+    // of several resolutions, in any order
+    (
+        "85283473fffffff\n81083ffffffffff\n820837fffffffff\n85283473fffffff\n",
+        "81083ffffffffff\n85283473fffffff\n",
+        "",
+    ),
+    ("xyz\n", "", "line 1: error 1: E_FAILED\n"),
+    (
+        "85283473fffffff\n\nxyz\n81087ffffffffff\n",
+        "",
+        "line 3: error 1: E_FAILED\n",
+    ),
+    (
+        "85283473fffffff\n85283473fffffff\n81087ffffffffff\nxyz\n",
+        "",
+        "line 3: error 5: E_CELL_INVALID\n",
+    ),
+    (
+        "\n85283473fffffff\n 81087ffffffffff",
+        "",
+        "line 3: error 5: E_CELL_INVALID\n",
+    ),
+];
+
+#[test]
+fn lists_are_united(rt: HostRuntime) {
+    for (number, (list, output, line)) in UNITED.iter().enumerate() {
+        let list = Reads::List(list);
+        let right = answers(rt.alloc(), Command::UniteCells, list, output, line, &PIECES);
+        assert!(&rt; right, "row {number}");
+    }
+}

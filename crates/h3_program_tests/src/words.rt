@@ -115,7 +115,7 @@ fn reads_a_cell(rt: HostRuntime) {
 }
 
 /// Lines of commands with a resolution, and on a list.
-static OF_A_RESOLUTION: [(&str, Command); 4] = [
+static OF_A_RESOLUTION: [(&str, Command); 5] = [
     ("h3 getNumCells -r 15", Command::GetNumCells { res: 15 }),
     (
         "h3 getPentagons --resolution=2147483647",
@@ -123,6 +123,7 @@ static OF_A_RESOLUTION: [(&str, Command); 4] = [
     ),
     ("h3 compactCells", Command::CompactCells),
     ("h3 uncompactCells -r 6", Command::UncompactCells { res: 6 }),
+    ("h3 uniteCells", Command::UniteCells),
 ];
 
 #[test]
@@ -521,7 +522,7 @@ fn refuses_other_words_of_functions_of_each_index(rt: HostRuntime) {
 }
 
 /// Lines that ask for help.
-static HELP: [&str; 23] = [
+static HELP: [&str; 24] = [
     "h3 --help",
     "h3 -h",
     "h3 isValidCell --help",
@@ -532,6 +533,7 @@ static HELP: [&str; 23] = [
     "h3 childPosToCell --help",
     "h3 compactCells --help",
     "h3 uncompactCells -r 6 --help",
+    "h3 uniteCells --help",
     "h3 gridDiskUnsafe --help",
     "h3 gridDiskDistancesUnsafe -k 1 --help",
     "h3 gridRingUnsafe -h",
@@ -634,7 +636,7 @@ fn keeps_a_path_as_it_is(rt: HostRuntime) {
 }
 
 /// The words that name the commands.
-static COMMAND_WORDS: [&str; 37] = [
+static COMMAND_WORDS: [&str; 38] = [
     "isValidCell",
     "getResolution",
     "getBaseCellNumber",
@@ -651,6 +653,7 @@ static COMMAND_WORDS: [&str; 37] = [
     "childPosToCell",
     "compactCells",
     "uncompactCells",
+    "uniteCells",
     "gridDiskUnsafe",
     "gridDiskDistancesUnsafe",
     "gridRingUnsafe",
@@ -781,12 +784,13 @@ fn says_what_is_invalid(rt: HostRuntime) {
 }
 
 /// How a list is given to each command that reads one.
-static LIST_USAGES: [(&str, &str); 14] = [
+static LIST_USAGES: [(&str, &str); 15] = [
     ("h3 compactCells -h", "Usage: h3 compactCells < cells\n"),
     (
         "h3 uncompactCells -h",
         "Usage: h3 uncompactCells --resolution <resolution> < cells\n",
     ),
+    ("h3 uniteCells -h", "Usage: h3 uniteCells < cells\n"),
     ("h3 areValidCells -h", "Usage: h3 areValidCells < cells\n"),
     (
         "h3 areValidDirectedEdges -h",
