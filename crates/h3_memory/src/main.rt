@@ -1,7 +1,7 @@
-//! Runs five commands over streams in fixed arrays, and prints the status of each and what it
-//! wrote: a list of 49 cells that compact to one, one of mixed resolutions, a disk over a table in
-//! format 1, an edge over one in format 2, and the resolution of each cell of a list. `.ci/memory`
-//! refuses each allocation of it in turn.
+//! Runs six commands over streams in fixed arrays, and prints the status of each and what it wrote:
+//! a list of 49 cells that compact to one, one of mixed resolutions, a disk over a table in format
+//! 1, an edge over one in format 2, the resolution of each cell of a list, and a list of cells that
+//! overlap, united. `.ci/memory` refuses each allocation of it in turn.
 #![tactic(auto)]
 
 use arrayvec::ArrayVec;
@@ -34,6 +34,10 @@ const MIXED: &str = "862834707ffffff\n86283470fffffff\n862834717ffffff\n86283471
      862834727ffffff\n86283472fffffff\n862834737ffffff\n85283463fffffff\n\
      85283467fffffff\n8528346bfffffff\n8528346ffffffff\n85283477fffffff\n\
      8528347bfffffff\n";
+
+/// Three children of 8428347ffffffff, that cell, and two of the children again.
+const OVERLAPPING: &str = "85283463fffffff\n85283467fffffff\n8528346bfffffff\n\
+     8428347ffffffff\n85283463fffffff\n85283467fffffff\n";
 
 /// Prints how many bytes these are, after a name, and then the bytes.
 fn print_bytes<W: Write>(name: &str, bytes: &[u8], to: &mut W) -> io::Result<()> {
@@ -79,6 +83,7 @@ fn main(rt: HostRuntime) -> io::Result<()> {
         (disk, ("", file.as_str())),
         (edge, ("", bases.as_str())),
         (Command::ForEach(CellFunction::GetResolution), (MIXED, "")),
+        (Command::UniteCells, (OVERLAPPING, "")),
     ];
     let mut stdout = rt.stdout();
     for (command, reads) in &runs {
