@@ -30,9 +30,10 @@ fn awaited_list<'a>(alloc: Global, words: &Vec<String>) -> Option<&'a str> {
     match read_words(alloc, words).ok()?.command {
         Command::ForEach(CellFunction::IsValidDirectedEdge | CellFunction::GetDirectedEdgeOrigin) =>
             Some("h3: reading edges from standard input, one a line\n"),
-        Command::CompactCells | Command::UncompactCells { .. } | Command::ForEach(_) => {
-            Some("h3: reading cells from standard input, one a line\n")
-        }
+        Command::CompactCells
+        | Command::UncompactCells { .. }
+        | Command::UniteCells
+        | Command::ForEach(_) => Some("h3: reading cells from standard input, one a line\n"),
         _ => None,
     }
 }
