@@ -1,6 +1,6 @@
 # Completions of the command h3 for bash.
 # made from h3 --help (tools/pages)
-_h3_commands='isValidCell getResolution getBaseCellNumber isPentagon isResClassIII getNumCells getRes0Cells getPentagons cellToParent cellToCenterChild cellToChildren cellToChildrenSize cellToChildPos childPosToCell gridDiskUnsafe gridDiskDistancesUnsafe gridRingUnsafe areNeighborCells cellsToDirectedEdge getDirectedEdgeDestination isValidDirectedEdge getDirectedEdgeOrigin originToDirectedEdges compactCells uncompactCells areValidCells areValidDirectedEdges getResolutions getBaseCellNumbers arePentagons areResClassIII cellsToParents cellsToCenterChildren cellsToChildrenSizes cellsToChildPositions getDirectedEdgeOrigins originsToDirectedEdges'
+_h3_commands='isValidCell getResolution getBaseCellNumber isPentagon isResClassIII getNumCells getRes0Cells getPentagons cellToParent cellToCenterChild cellToChildren cellToChildrenSize cellToChildPos childPosToCell gridDiskUnsafe gridDiskDistancesUnsafe gridRingUnsafe areNeighborCells cellsToDirectedEdge getDirectedEdgeDestination isValidDirectedEdge getDirectedEdgeOrigin originToDirectedEdges compactCells uncompactCells uniteCells areValidCells areValidDirectedEdges getResolutions getBaseCellNumbers arePentagons areResClassIII cellsToParents cellsToCenterChildren cellsToChildrenSizes cellsToChildPositions getDirectedEdgeOrigins originsToDirectedEdges'
 _h3_options() {
     case $1 in
         isValidCell | getResolution | getBaseCellNumber | isPentagon | isResClassIII | originToDirectedEdges) echo --cell ;;
