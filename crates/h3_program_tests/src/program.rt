@@ -203,8 +203,9 @@ fn an_output_is_flushed_once(rt: HostRuntime) {
 
 #[test]
 fn the_version_is_written_to_standard_output(rt: HostRuntime) {
+    let ending = (0, "h3 1.1.0\n", "", 0);
     for line in &["h3 --version", "h3 -V", "h3 --version isValidCell"] {
-        assert!(&rt; ends(rt.alloc(), line, "", "", (0, "h3 1.1.0\n", "", 0)), "{line}");
+        assert!(&rt; ends(rt.alloc(), line, "", "", ending), "{line}");
     }
 }
 
@@ -213,7 +214,8 @@ fn a_version_that_cannot_be_written_is_a_write_fault(rt: HostRuntime) {
     let mut table = MemoryTable::new("", "");
     let mut out = Streamed::new(PageWriter::new(ArrayVec::<u8, 8>::new()));
     let mut err = Streamed::new(ArrayVec::<u8, 64>::new());
-    let status = status_of(rt.alloc(), "h3 --version", "", &mut table, &mut out, &mut err);
+    let line = "h3 --version";
+    let status = status_of(rt.alloc(), line, "", &mut table, &mut out, &mut err);
     assert!(&rt; status == Some(4));
     assert!(&rt; err.into_inner().as_slice() == b"fault: write\n".as_slice());
 }
