@@ -404,7 +404,7 @@ static OTHER_WORDS: [&str; 27] = [
     "h3 uncompactCells -r 6 junk",
     "h3 getResolution -c 0 --table t",
     "h3 uncompactCells -r 6 --table t",
-    "h3 --version",
+    "h3 --versions",
 ];
 
 #[test]
