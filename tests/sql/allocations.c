@@ -23,6 +23,17 @@ static const char *const statements[] = {
     "SELECT count(*) FROM h3_uncompact_cells('[\"85283473fffffff\",576636674163867647]', 5)",
     "SELECT group_concat(value) FROM h3_uncompact_cells((SELECT h3_compact_cells(value)"
     " FROM h3_cell_to_children('85283473fffffff', 6)), 6)",
+    "SELECT h3_unite_cells(value) FROM (SELECT '85283473fffffff' AS value UNION ALL"
+    " SELECT value FROM h3_cell_to_children('85283473fffffff', 8))",
+    "SELECT h3_intersect_cells('[\"8428347ffffffff\"]', '[\"85283473fffffff\",576636674163867647]')",
+    "SELECT h3_subtract_cells('8428347ffffffff', h3_cell_to_center_child('8428347ffffffff', 15))",
+    "SELECT sum(h3_is_covered(value, '[\"862834707ffffff\",\"8009fffffffffff\"]'))"
+    " FROM h3_cell_to_children('85283473fffffff', 7)",
+    "SELECT group_concat(h3_zone_of(value, (SELECT h3_compact_cells(value)"
+    " FROM h3_cell_to_children('85283473fffffff', 6)))) FROM h3_cell_to_children('85283473fffffff', 6)",
+    "SELECT sum(h3_is_covered('85283473fffffff', '[' || value || ']')),"
+    " h3_zone_of('85283473fffffff', 599686042433355775) FROM h3_cell_to_children(599686042433355775, 6)",
+    "SELECT group_concat(value) FROM h3_cell_to_ancestors('85283473fffffff')",
 };
 
 /* over the table that a statement reads, which is 1 */
@@ -52,9 +63,7 @@ void *__wrap_malloc(size_t size) { return is_refused() ? NULL : __real_malloc(si
 
 static sqlite3_mem_methods plain;
 static void *take(int size) { return is_refused() ? NULL : plain.xMalloc(size); }
-static void *take_more(void *memory, int size) {
-    return is_refused() ? NULL : plain.xRealloc(memory, size);
-}
+static void *take_more(void *memory, int size) { return is_refused() ? NULL : plain.xRealloc(memory, size); }
 
 /* Runs a statement, whose one row's values go into `answer`. */
 static int run(sqlite3 *engine, const char *text, char *answer, size_t room) {
@@ -95,7 +104,7 @@ static void judge(bool is_so, const char *text, long at, int code, const char *a
 }
 
 static void try_statement(const char *text) {
-    static char wanted[4096], found[4096];
+    static char wanted[8192], found[8192];
     long all, at;
     int code;
     refused = allocations = 0;
@@ -107,8 +116,7 @@ static void try_statement(const char *text) {
         refused = at;
         code = run_alone(text, found, sizeof found);
         refused = 0;
-        judge(code == SQLITE_NOMEM || (code == SQLITE_OK && !strcmp(found, wanted)), text, at, code,
-              found);
+        judge(code == SQLITE_NOMEM || (code == SQLITE_OK && !strcmp(found, wanted)), text, at, code, found);
         judge(sqlite3_memory_used() == 0, "memory that is left", at, code, text);
     }
 }

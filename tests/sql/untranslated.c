@@ -1,4 +1,4 @@
-/* Texts without translation, for a server under a sanitizer: see .ci/postgresql. */
+/* Texts without translation, for a server under a sanitizer: see tests/sql/postgresql. */
 #include <libintl.h>
 
 char *bindtextdomain(const char *domain, const char *folder) {

@@ -1,5 +1,5 @@
 """What the checks in python3 share: each case is counted, one that fails has a line, and the last
-line is NAME: N passed, M failed, and `, K skipped` where there are any. .ci/expect.sh is the same
+line is NAME: N passed, M failed, and `, K skipped` where there are any. tests/expect.sh is the same
 for shell."""
 import os
 import shutil
@@ -15,11 +15,7 @@ counts = {"passed": 0, "failed": 0, "skipped": 0}
 
 def shown(found):
     """What a case found, in at most 200 characters."""
-    return (
-        repr(found)
-        if len(repr(found)) <= 200
-        else repr(found)[:150] + f".. ({len(repr(found))} characters)"
-    )
+    return repr(found) if len(repr(found)) <= 200 else repr(found)[:150] + f".. ({len(repr(found))} characters)"
 
 
 def expect(name, found, wanted):

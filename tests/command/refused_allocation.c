@@ -19,36 +19,25 @@ static int is_refused(size_t size) {
     const char *number = getenv("REFUSED_ALLOCATION");
     const char *granted = getenv("GRANTED_BYTES");
     allocations += 1;
-    if (number && allocations == atol(number))
-        return 1;
-    if (granted && size > (size_t)atol(granted) - bytes)
-        return 1;
+    if (number && allocations == atol(number)) return 1;
+    if (granted && size > (size_t)atol(granted) - bytes) return 1;
     bytes += size;
     return 0;
 }
 
-void *malloc(size_t size) {
-    return is_refused(size) ? 0 : __libc_malloc(size);
-}
+void *malloc(size_t size) { return is_refused(size) ? 0 : __libc_malloc(size); }
 
 void *calloc(size_t count, size_t size) {
     size_t all;
-    if (__builtin_mul_overflow(count, size, &all))
-        return 0;
+    if (__builtin_mul_overflow(count, size, &all)) return 0;
     return is_refused(all) ? 0 : __libc_calloc(count, size);
 }
 
-void *realloc(void *old, size_t size) {
-    return is_refused(size) ? 0 : __libc_realloc(old, size);
-}
+void *realloc(void *old, size_t size) { return is_refused(size) ? 0 : __libc_realloc(old, size); }
 
-void *memalign(size_t alignment, size_t size) {
-    return is_refused(size) ? 0 : __libc_memalign(alignment, size);
-}
+void *memalign(size_t alignment, size_t size) { return is_refused(size) ? 0 : __libc_memalign(alignment, size); }
 
-void *aligned_alloc(size_t alignment, size_t size) {
-    return memalign(alignment, size);
-}
+void *aligned_alloc(size_t alignment, size_t size) { return memalign(alignment, size); }
 
 int posix_memalign(void **place, size_t alignment, size_t size) {
     *place = memalign(alignment, size);
@@ -56,6 +45,5 @@ int posix_memalign(void **place, size_t alignment, size_t size) {
 }
 
 __attribute__((destructor)) static void tell(void) {
-    if (!getenv("REFUSED_ALLOCATION") && !getenv("GRANTED_BYTES"))
-        dprintf(3, "%ld %zu\n", allocations, bytes);
+    if (!getenv("REFUSED_ALLOCATION") && !getenv("GRANTED_BYTES")) dprintf(3, "%ld %zu\n", allocations, bytes);
 }

@@ -14,16 +14,13 @@ static long calls, interrupted, opened;
 
 static int is_interrupted(void) {
     calls += 1;
-    if (calls % 2 == 0)
-        return 0;
+    if (calls % 2 == 0) return 0;
     interrupted += 1;
     *__errno_location() = INTERRUPTED;
     return 1;
 }
 
-ssize_t read(int file, void *bytes, size_t count) {
-    return is_interrupted() ? -1 : syscall(READ, file, bytes, count);
-}
+ssize_t read(int file, void *bytes, size_t count) { return is_interrupted() ? -1 : syscall(READ, file, bytes, count); }
 
 ssize_t write(int file, const void *bytes, size_t count) {
     return is_interrupted() ? -1 : syscall(WRITE, file, bytes, count);
@@ -34,6 +31,4 @@ int open(const char *path, int flags, ...) {
     return (int)syscall(OPEN, path, flags, 0);
 }
 
-__attribute__((destructor)) static void report(void) {
-    dprintf(3, "%ld %ld\n", interrupted, opened);
-}
+__attribute__((destructor)) static void report(void) { dprintf(3, "%ld %ld\n", interrupted, opened); }

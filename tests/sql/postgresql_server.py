@@ -1,6 +1,6 @@
-"""A PostgreSQL server with the extension: a copy of the installed server in a temporary folder, where `make install` puts
-the extension, so that nothing of the system is changed. It listens on a socket in that folder alone, and is stopped and
-removed at the end, whatever happens. root runs it as another user, since PostgreSQL refuses root."""
+"""A PostgreSQL server with the extension: a copy of the installed server in a temporary folder, where `make install`
+puts the extension, so that nothing of the system is changed. It listens on a socket in that folder alone, and is
+stopped and removed at the end, whatever happens. root runs it as another user, since PostgreSQL refuses root."""
 import contextlib
 import os
 import pwd
@@ -8,7 +8,7 @@ import shutil
 import subprocess
 import tempfile
 
-ROOT = os.path.dirname(os.path.dirname(os.path.realpath(__file__)))
+ROOT = os.path.dirname(os.path.dirname(os.path.dirname(os.path.realpath(__file__))))
 
 
 def asked(what):
@@ -24,8 +24,22 @@ class Server:
 
     def command(self, *words):
         return [
-            asked("bindir") + "/psql", "-X", "-q", "-A", "-t", "-v", "ON_ERROR_STOP=1", "-v", "VERBOSITY=terse",
-            "-h", self.socket, "-U", "postgres", "-d", "postgres", *words,
+            asked("bindir") + "/psql",
+            "-X",
+            "-q",
+            "-A",
+            "-t",
+            "-v",
+            "ON_ERROR_STOP=1",
+            "-v",
+            "VERBOSITY=terse",
+            "-h",
+            self.socket,
+            "-U",
+            "postgres",
+            "-d",
+            "postgres",
+            *words,
         ]
 
     def psql(self, text):
@@ -47,9 +61,20 @@ def copy_server(place, words):
     sources = os.path.join(place, "sql")
     shutil.copytree(os.path.join(ROOT, "sql"), sources, ignore=shutil.ignore_patterns("*.o", "*.so"))
     made = subprocess.run(
-        ["make", "-s", "-C", os.path.join(sources, "postgresql"), "install", f"DESTDIR={place}",
-         f"H3WHOLE_LIB_DIR={ROOT}/lib", f"H3WHOLE_INCLUDE_DIR={ROOT}/include", *words],
-        capture_output=True, text=True, check=False,
+        [
+            "make",
+            "-s",
+            "-C",
+            os.path.join(sources, "postgresql"),
+            "install",
+            f"DESTDIR={place}",
+            f"H3WHOLE_LIB_DIR={ROOT}/lib",
+            f"H3WHOLE_INCLUDE_DIR={ROOT}/include",
+            *words,
+        ],
+        capture_output=True,
+        text=True,
+        check=False,
     )
     if made.returncode or made.stderr:
         raise RuntimeError(f"make install: {made.stdout[-1000:]} {made.stderr[-3000:]}")
@@ -76,8 +101,12 @@ def prepared(*words):
             os.chmod(place, 0o755)
             for path in (found.data, found.socket, found.log):
                 os.chown(path, user.pw_uid, user.pw_gid)
-        subprocess.run(own_words(f"{programs}/initdb", "-D", found.data, "-U", "postgres", "-A", "trust", "--no-sync"),
-                       cwd="/", stdout=subprocess.DEVNULL, check=True)
+        subprocess.run(
+            own_words(f"{programs}/initdb", "-D", found.data, "-U", "postgres", "-A", "trust", "--no-sync"),
+            cwd="/",
+            stdout=subprocess.DEVNULL,
+            check=True,
+        )
         yield found, programs
 
 
@@ -88,9 +117,18 @@ def server(*words, settings=()):
         options = " ".join(f"-c {setting}" for setting in ("listen_addresses=", "fsync=off", *settings))
         control = own_words(f"{programs}/pg_ctl", "-D", found.data, "-l", found.log, "-w")
         try:
-            subprocess.run([*control, "-o", f"-k {found.socket} {options}", "start"],
-                           cwd="/", stdout=subprocess.DEVNULL, check=True)
+            subprocess.run(
+                [*control, "-o", f"-k {found.socket} {options}", "start"],
+                cwd="/",
+                stdout=subprocess.DEVNULL,
+                check=True,
+            )
             yield found
         finally:
-            subprocess.run([*control, "-m", "immediate", "stop"], cwd="/", stdout=subprocess.DEVNULL,
-                           stderr=subprocess.DEVNULL, check=False)
+            subprocess.run(
+                [*control, "-m", "immediate", "stop"],
+                cwd="/",
+                stdout=subprocess.DEVNULL,
+                stderr=subprocess.DEVNULL,
+                check=False,
+            )

@@ -1,12 +1,17 @@
-"""What .ci/sqlite and .ci/postgresql share: worked queries, wrong input, and random cells with what the command h3 says
-of them. A text that is a cell stands for one in both engines."""
+"""What tests/sql/sqlite and tests/sql/postgresql share: worked queries, wrong input, and random cells with what the
+command h3 says of them. A text that is a cell stands for one in both engines."""
 import os
 import random
 import subprocess
+import sys
 
-import plain_table
+ROOT = os.path.dirname(os.path.dirname(os.path.dirname(os.path.realpath(__file__))))
+sys.path.insert(0, os.path.join(ROOT, "tests"))
+import plain_table  # noqa: E402
 
-ROOT = os.path.dirname(os.path.dirname(os.path.realpath(__file__)))
+sys.path.append(os.path.join(ROOT, "python", "tests"))
+import plain_cells as plain  # noqa: E402, F401 (cells in plain Python, which the tests of the package have)
+
 PROGRAM = os.path.join(ROOT, "crates", "h3_cli", "out", "h3_cli")
 PENTAGON_BASES = {4, 14, 24, 38, 49, 58, 63, 72, 83, 97, 107, 117}
 PENTAGONS = [f"{0x8001FFFFFFFFFFF + (base << 45):x}" for base in sorted(PENTAGON_BASES)]
@@ -31,12 +36,21 @@ ROWS = {
     "SELECT h3_cell_to_children_size('8029fffffffffff', 15)": ["4747561509943"],
     "SELECT h3_cell_to_children_size('8009fffffffffff', 15)": ["3956301258286"],
     "SELECT value FROM h3_cell_to_children('85283473fffffff', 6) AS value": [
-        "862834707ffffff", "86283470fffffff", "862834717ffffff", "86283471fffffff",
-        "862834727ffffff", "86283472fffffff", "862834737ffffff",
+        "862834707ffffff",
+        "86283470fffffff",
+        "862834717ffffff",
+        "86283471fffffff",
+        "862834727ffffff",
+        "86283472fffffff",
+        "862834737ffffff",
     ],
     "SELECT value FROM h3_cell_to_children('8009fffffffffff', 1) AS value": [
-        "81083ffffffffff", "8108bffffffffff", "8108fffffffffff",
-        "81093ffffffffff", "81097ffffffffff", "8109bffffffffff",
+        "81083ffffffffff",
+        "8108bffffffffff",
+        "8108fffffffffff",
+        "81093ffffffffff",
+        "81097ffffffffff",
+        "8109bffffffffff",
     ],
     "SELECT value FROM h3_cell_to_children('85283473fffffff', 5) AS value": ["85283473fffffff"],
     "SELECT h3_cell_to_child_pos('85283473fffffff', 0), h3_cell_to_child_pos('85283473fffffff', 5)": ["2279|0"],
@@ -71,32 +85,43 @@ ERRORS = {
     "SELECT h3_cell_to_parent(' 0X81087FFFFFFFFFF', 0)": "error 5: E_CELL_INVALID: 81087ffffffffff",
     "SELECT h3_cell_to_parent('85283473fffffff', 16)": "error 4: E_RES_DOMAIN: 85283473fffffff at resolution 16",
     "SELECT h3_cell_to_parent('85283473fffffff', -1)": "error 4: E_RES_DOMAIN: 85283473fffffff at resolution -1",
-    "SELECT h3_cell_to_parent('85283473fffffff', 2147483647)":
-        "error 4: E_RES_DOMAIN: 85283473fffffff at resolution 2147483647",
+    "SELECT h3_cell_to_parent('85283473fffffff', 2147483647)": (
+        "error 4: E_RES_DOMAIN: 85283473fffffff at resolution 2147483647"
+    ),
     "SELECT h3_cell_to_parent('85283473fffffff', 6)": "error 12: E_RES_MISMATCH: 85283473fffffff at resolution 6",
     "SELECT h3_cell_to_center_child('85283473fffffff', 4)": "error 4: E_RES_DOMAIN: 85283473fffffff at resolution 4",
     "SELECT h3_cell_to_children_size('85283473fffffff', 4)": "error 4: E_RES_DOMAIN: 85283473fffffff at resolution 4",
     "SELECT h3_cell_to_child_pos('85283473fffffff', 6)": "error 12: E_RES_MISMATCH: 85283473fffffff at resolution 6",
-    "SELECT h3_child_pos_to_cell(-1, '8029fffffffffff', 5)":
-        "error 2: E_DOMAIN: position -1 in 8029fffffffffff at resolution 5",
-    "SELECT h3_child_pos_to_cell(16807, '8029fffffffffff', 5)":
-        "error 2: E_DOMAIN: position 16807 in 8029fffffffffff at resolution 5",
-    "SELECT h3_child_pos_to_cell(0, '85283473fffffff', 4)":
-        "error 12: E_RES_MISMATCH: position 0 in 85283473fffffff at resolution 4",
+    "SELECT h3_child_pos_to_cell(-1, '8029fffffffffff', 5)": (
+        "error 2: E_DOMAIN: position -1 in 8029fffffffffff at resolution 5"
+    ),
+    "SELECT h3_child_pos_to_cell(16807, '8029fffffffffff', 5)": (
+        "error 2: E_DOMAIN: position 16807 in 8029fffffffffff at resolution 5"
+    ),
+    "SELECT h3_child_pos_to_cell(0, '85283473fffffff', 4)": (
+        "error 12: E_RES_MISMATCH: position 0 in 85283473fffffff at resolution 4"
+    ),
     "SELECT h3_child_pos_to_cell(0, '81087ffffffffff', 4)": "error 5: E_CELL_INVALID: 81087ffffffffff",
     "SELECT h3_get_num_cells(16)": "error 4: E_RES_DOMAIN: resolution 16",
     "SELECT value FROM h3_get_pentagons(-1) AS value": "error 4: E_RES_DOMAIN: resolution -1",
-    "SELECT value FROM h3_cell_to_children('85283473fffffff', 16) AS value":
-        "error 4: E_RES_DOMAIN: 85283473fffffff at resolution 16",
+    "SELECT value FROM h3_cell_to_children('85283473fffffff', 16) AS value": (
+        "error 4: E_RES_DOMAIN: 85283473fffffff at resolution 16"
+    ),
     "SELECT value FROM h3_cell_to_children('81087ffffffffff', 4) AS value": "error 5: E_CELL_INVALID: 81087ffffffffff",
-    "SELECT value FROM h3_origin_to_directed_edges('11009fffffffffff') AS value":
-        "error 5: E_CELL_INVALID: 11009fffffffffff",
+    "SELECT value FROM h3_origin_to_directed_edges('11009fffffffffff') AS value": (
+        "error 5: E_CELL_INVALID: 11009fffffffffff"
+    ),
     "SELECT h3_get_directed_edge_origin('85283473fffffff')": "error 6: E_DIR_EDGE_INVALID: 85283473fffffff",
 }
 
-# over the base cell table of .ci/plain_table.py; within one base cell, as here, all tables are alike
+# over the base cell table of tests/plain_table.py; within one base cell, as here, all tables are alike
 DISK = [
-    "85283473fffffff", "85283447fffffff", "8528347bfffffff", "85283463fffffff", "85283477fffffff", "8528340ffffffff",
+    "85283473fffffff",
+    "85283447fffffff",
+    "8528347bfffffff",
+    "85283463fffffff",
+    "85283477fffffff",
+    "8528340ffffffff",
     "8528340bfffffff",
 ]
 OVER_TABLE = {
@@ -106,10 +131,16 @@ OVER_TABLE = {
     "SELECT value FROM h3_grid_ring_unsafe('85283473fffffff', 1) AS value": [*DISK[-1:], *DISK[1:-1]],
     "SELECT value FROM h3_grid_ring_unsafe('8009fffffffffff', 0) AS value": ["8009fffffffffff"],
     "SELECT count(*) FROM h3_grid_ring_unsafe('88283472b9fffff', 5) AS value": ["30"],
-    "SELECT * FROM h3_grid_disk_distances_unsafe('85283473fffffff', 1) AS value":
-        [f"{cell}|{place > 0:d}" for place, cell in enumerate(DISK)],
-    "SELECT distance, count(*) FROM h3_grid_disk_distances_unsafe('88283472b9fffff', 3) AS value GROUP BY 1 ORDER BY 1":
-        ["0|1", "1|6", "2|12", "3|18"],
+    "SELECT * FROM h3_grid_disk_distances_unsafe('85283473fffffff', 1) AS value": [
+        f"{cell}|{place > 0:d}" for place, cell in enumerate(DISK)
+    ],
+    "SELECT distance, count(*) FROM h3_grid_disk_distances_unsafe('88283472b9fffff', 3) AS value"
+    " GROUP BY 1 ORDER BY 1": [
+        "0|1",
+        "1|6",
+        "2|12",
+        "3|18",
+    ],
     f"SELECT h3_are_neighbor_cells('{DISK[0]}', '{DISK[1]}'), h3_are_neighbor_cells('{DISK[1]}', '{DISK[4]}')": ["1|0"],
     f"SELECT h3_are_neighbor_cells('{DISK[0]}', '{DISK[0]}')": ["0"],
     f"SELECT h3_get_directed_edge_origin(h3_cells_to_directed_edge('{DISK[0]}', '{DISK[5]}'))": [DISK[0]],
@@ -122,31 +153,66 @@ OVER_TABLE = {
     "SELECT h3_cells_to_directed_edge('85283473fffffff', NULL)": [""],
 }
 OVER_TABLE_ERRORS = {
-    "SELECT value FROM h3_grid_disk_unsafe('8009fffffffffff', 1) AS value":
-        "error 9: E_PENTAGON: 1 steps from 8009fffffffffff",
-    "SELECT value FROM h3_grid_disk_unsafe('81083ffffffffff', 0) AS value":
-        "error 9: E_PENTAGON: 0 steps from 81083ffffffffff",
-    "SELECT * FROM h3_grid_disk_distances_unsafe('81083ffffffffff', 2) AS value":
-        "error 9: E_PENTAGON: 2 steps from 81083ffffffffff",
+    "SELECT value FROM h3_grid_disk_unsafe('8009fffffffffff', 1) AS value": (
+        "error 9: E_PENTAGON: 1 steps from 8009fffffffffff"
+    ),
+    "SELECT value FROM h3_grid_disk_unsafe('81083ffffffffff', 0) AS value": (
+        "error 9: E_PENTAGON: 0 steps from 81083ffffffffff"
+    ),
+    "SELECT * FROM h3_grid_disk_distances_unsafe('81083ffffffffff', 2) AS value": (
+        "error 9: E_PENTAGON: 2 steps from 81083ffffffffff"
+    ),
     # beside base cell 3 the table has base cell 14, which is a pentagon's
-    "SELECT value FROM h3_grid_ring_unsafe('8007fffffffffff', 1) AS value": "error 9: E_PENTAGON: 1 steps from 8007fffffffffff",
-    "SELECT value FROM h3_grid_ring_unsafe('85283473fffffff', -1) AS value": "error 2: E_DOMAIN: -1 steps from 85283473fffffff",
-    "SELECT value FROM h3_grid_disk_unsafe('85283473fffffff', 4294967296) AS value":
-        "error 2: E_DOMAIN: 4294967296 steps from 85283473fffffff",
+    "SELECT value FROM h3_grid_ring_unsafe('8007fffffffffff', 1) AS value": (
+        "error 9: E_PENTAGON: 1 steps from 8007fffffffffff"
+    ),
+    "SELECT value FROM h3_grid_ring_unsafe('85283473fffffff', -1) AS value": (
+        "error 2: E_DOMAIN: -1 steps from 85283473fffffff"
+    ),
+    "SELECT value FROM h3_grid_disk_unsafe('85283473fffffff', 4294967296) AS value": (
+        "error 2: E_DOMAIN: 4294967296 steps from 85283473fffffff"
+    ),
     "SELECT value FROM h3_grid_disk_unsafe('81087ffffffffff', 1) AS value": "error 5: E_CELL_INVALID: 81087ffffffffff",
     "SELECT h3_are_neighbor_cells('85283473fffffff', '5')": "error 5: E_CELL_INVALID: 5",
     "SELECT h3_are_neighbor_cells('81087ffffffffff', '5')": "error 5: E_CELL_INVALID: 81087ffffffffff",
-    "SELECT h3_are_neighbor_cells('85283473fffffff', '8029fffffffffff')":
-        "error 12: E_RES_MISMATCH: 85283473fffffff and 8029fffffffffff",
-    "SELECT h3_are_neighbor_cells('8009fffffffffff', '8029fffffffffff')":
-        "error 9: E_PENTAGON: 8009fffffffffff and 8029fffffffffff",
-    "SELECT h3_cells_to_directed_edge('85283473fffffff', '85283473fffffff')":
-        "error 11: E_NOT_NEIGHBORS: 85283473fffffff and 85283473fffffff",
-    f"SELECT h3_cells_to_directed_edge('{DISK[1]}', '{DISK[4]}')":
-        f"error 11: E_NOT_NEIGHBORS: {DISK[1]} and {DISK[4]}",
+    "SELECT h3_are_neighbor_cells('85283473fffffff', '8029fffffffffff')": (
+        "error 12: E_RES_MISMATCH: 85283473fffffff and 8029fffffffffff"
+    ),
+    "SELECT h3_are_neighbor_cells('8009fffffffffff', '8029fffffffffff')": (
+        "error 9: E_PENTAGON: 8009fffffffffff and 8029fffffffffff"
+    ),
+    "SELECT h3_cells_to_directed_edge('85283473fffffff', '85283473fffffff')": (
+        "error 11: E_NOT_NEIGHBORS: 85283473fffffff and 85283473fffffff"
+    ),
+    f"SELECT h3_cells_to_directed_edge('{DISK[1]}', '{DISK[4]}')": (
+        f"error 11: E_NOT_NEIGHBORS: {DISK[1]} and {DISK[4]}"
+    ),
     "SELECT h3_get_directed_edge_destination('85283473fffffff')": "error 6: E_DIR_EDGE_INVALID: 85283473fffffff",
     "SELECT h3_get_directed_edge_destination('12009fffffffffff')": "error 9: E_PENTAGON: 12009fffffffffff",
 }
+
+# of 8428347ffffffff, and what is left of 8009fffffffffff without 820807fffffffff
+SEVEN = [
+    "85283463fffffff",
+    "85283467fffffff",
+    "8528346bfffffff",
+    "8528346ffffffff",
+    "85283473fffffff",
+    "85283477fffffff",
+    "8528347bfffffff",
+]
+LEFT_OF_PENTAGON = [
+    "8108bffffffffff",
+    "8108fffffffffff",
+    "81093ffffffffff",
+    "81097ffffffffff",
+    "8109bffffffffff",
+    "820817fffffffff",
+    "82081ffffffffff",
+    "820827fffffffff",
+    "82082ffffffffff",
+    "820837fffffffff",
+]
 
 # texts that parse as no index
 NO_INDEX = ["xyz", "", "885283473fffffff0", "-1", "0x"]
@@ -197,6 +263,14 @@ def without_overlap(seed):
     return cells[:COUNT]
 
 
+def overlapping(seed):
+    """100,000 cells of resolutions 3 to 6 in two base cells, one of them a pentagon's, in no order, many twice."""
+    chance = random.Random(seed)
+    cells = h3(["uncompactCells", "-r", "6"], ["8001fffffffffff", "8009fffffffffff"])
+    found = chance.choices(cells, k=COUNT - 1000)
+    return found + h3(["cellsToParents", "-r", "5"], found[:900]) + h3(["cellsToParents", "-r", "3"], found[:100])
+
+
 def write_table(path):
     """Writes a table of base cells into a file."""
     with open(path, "wb") as out:
@@ -207,7 +281,9 @@ def walked(words, cell, steps, path):
     """What the command h3 prints for a walk: its lines, whose columns are divided by |, or its error."""
     given = [PROGRAM, words, "-c", cell, "-k", str(steps), "--table", path]
     ran = subprocess.run(given, capture_output=True, text=True, check=False)
-    return [line.replace(" ", "|") for line in ran.stdout.split("\n")[:-1]] if ran.returncode == 0 else ran.stderr.strip()
+    return (
+        [line.replace(" ", "|") for line in ran.stdout.split("\n")[:-1]] if ran.returncode == 0 else ran.stderr.strip()
+    )
 
 
 def h3(words, given):

@@ -7,13 +7,10 @@ long syscall(long number, ...);
 static const int TERM = 15;
 static const long WAITID = 247;
 
-__attribute__((constructor)) static void begin(void) {
-    unsetenv("LD_PRELOAD");
-}
+__attribute__((constructor)) static void begin(void) { unsetenv("LD_PRELOAD"); }
 
 int waitid(int type, unsigned id, void *info, int options) {
     static int called;
-    if (++called == 2)
-        raise(TERM);
+    if (++called == 2) raise(TERM);
     return (int)syscall(WAITID, type, id, info, options, (void *)0);
 }

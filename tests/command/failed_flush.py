@@ -1,4 +1,5 @@
-"""A file system whose files take every byte, and tell only when they are closed that there is no room: run by .ci/faults.
+"""A file system whose files take every byte, and tell only when they are closed that there is no room: run by
+tests/command/faults.
 
 python3 failed_flush.py FOLDER    mounts it there, until it is unmounted"""
 import errno

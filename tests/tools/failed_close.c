@@ -8,14 +8,11 @@ long syscall(long number, ...);
 static const int QUOTA_EXCEEDED = 122;
 static const long CLOSE = 3;
 
-__attribute__((constructor)) static void begin(void) {
-    unsetenv("LD_PRELOAD");
-}
+__attribute__((constructor)) static void begin(void) { unsetenv("LD_PRELOAD"); }
 
 int close(int file) {
     int closed = (int)syscall(CLOSE, file);
-    if (file != 1)
-        return closed;
+    if (file != 1) return closed;
     *__errno_location() = QUOTA_EXCEEDED;
     return -1;
 }

@@ -1,7 +1,7 @@
 # shellcheck shell=bash
 # What the checks in shell share: each case is counted, one that fails has a line, and the last line
-# is NAME: N passed, M failed, and `, K skipped` where there are any. .ci/expect.py is the same for
-# python3. A script reads it with `. .ci/expect.sh`, and ends with `finish`.
+# is NAME: N passed, M failed, and `, K skipped` where there are any. tests/expect.py is the same for
+# python3. A script reads it with `. tests/expect.sh`, and ends with `finish`.
 check_name=$(basename "$0")
 passed=0 failed=0 skipped=0
 

@@ -13,20 +13,16 @@ static const long READ = 0;
 static const ssize_t LIMIT = 400000;
 static ssize_t taken;
 
-__attribute__((constructor)) static void begin(void) {
-    unsetenv("LD_PRELOAD");
-}
+__attribute__((constructor)) static void begin(void) { unsetenv("LD_PRELOAD"); }
 
 ssize_t read(int file, void *bytes, size_t count) {
-    if (file != 0)
-        return syscall(READ, file, bytes, count);
+    if (file != 0) return syscall(READ, file, bytes, count);
     if (taken == LIMIT) {
         *__errno_location() = INPUT_OUTPUT;
         return -1;
     }
     size_t left = LIMIT - taken;
     ssize_t moved = syscall(READ, file, bytes, count < left ? count : left);
-    if (moved > 0)
-        taken += moved;
+    if (moved > 0) taken += moved;
     return moved;
 }

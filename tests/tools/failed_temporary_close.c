@@ -11,9 +11,7 @@ long syscall(long number, ...);
 static const int QUOTA_EXCEEDED = 122;
 static const long CLOSE = 3;
 
-__attribute__((constructor)) static void begin(void) {
-    unsetenv("LD_PRELOAD");
-}
+__attribute__((constructor)) static void begin(void) { unsetenv("LD_PRELOAD"); }
 
 int close(int file) {
     char path[32];
@@ -21,8 +19,7 @@ int close(int file) {
     snprintf(path, sizeof path, "/proc/self/fd/%d", file);
     readlink(path, target, sizeof target - 1);
     int closed = (int)syscall(CLOSE, file);
-    if (!strstr(target, " (deleted)"))
-        return closed;
+    if (!strstr(target, " (deleted)")) return closed;
     *__errno_location() = QUOTA_EXCEEDED;
     return -1;
 }
