@@ -8,7 +8,7 @@ use Rattle.h3_directions.specs.declared.direction.Direction.{Direction}
 use Rattle.h3_directions.specs.declared.direction.Direction.TheVariants.{K, J, JK, I, IK, IJ}
 use Rattle.h3_directions.specs.Eisenstein.{Eisenstein, eisenstein, one, product_of, zero_point}
 
--- the digit of a direction
+-- digit_of d: H3's digit of a direction
 abbrev pub digit_of : Direction → ℕ
 digit_of K = 1
 digit_of J = 2
@@ -21,6 +21,8 @@ digit_of IJ = 6
 abbrev pub directions : List Direction
 directions = K ∷ J ∷ JK ∷ I ∷ IK ∷ IJ ∷ []
 
+-- direction_of n: the direction of a digit, if it has one
+--
 -- the direction that a digit stands for: none for 0, nor above 6
 abbrev pub direction_of : ℕ → Option Direction
 direction_of d =
@@ -32,6 +34,8 @@ direction_of d =
     else (if d == 6 then Some IJ
     else None)))))
 
+-- unit_of d: the unit of a direction, an Eisenstein integer
+--
 -- the unit of a direction: K = -1 - w, J = w, JK = -1, I = 1, IK = -w, IJ = 1 + w
 abbrev pub unit_of : Direction → Eisenstein
 unit_of K = eisenstein (negsuc 0) (negsuc 0)
@@ -41,7 +45,7 @@ unit_of I = eisenstein (pos 1) (pos 0)
 unit_of IK = eisenstein (pos 0) (negsuc 0)
 unit_of IJ = eisenstein (pos 1) (pos 1)
 
--- the unit of a direction, or 0 where there is none
+-- value_of d: the same, or 0 where there is no direction
 abbrev pub value_of : Option Direction → Eisenstein
 value_of None = zero_point
 value_of (Some d) = unit_of d
@@ -52,11 +56,12 @@ digit_value digit = value_of (direction_of digit)
 
 -- ---- turns
 
--- (1 + w)^n: the product with it is n turns
+-- turning n: (1 + w)^n
 abbrev pub turning : ℕ → Eisenstein
 turning zero = one
 turning (suc n) = product_of (eisenstein (pos 1) (pos 1)) (turning n)
 
+-- turned_once d: a direction turned once, by a sixth
 abbrev pub turned_once : Direction → Direction
 turned_once K = IK
 turned_once IK = I
@@ -65,7 +70,7 @@ turned_once IJ = J
 turned_once J = JK
 turned_once JK = K
 
--- a direction turned n times
+-- turned n d: a direction turned n times
 abbrev pub turned : ℕ → Direction → Direction
 turned zero d = d
 turned (suc n) d = turned_once (turned n d)
@@ -79,10 +84,11 @@ abbrev pub option_turned : ℕ → Option Direction → Option Direction
 option_turned n None = None
 option_turned n (Some d) = Some (turned n d)
 
--- a digit turned n times
+-- digit_turned n d: a digit turned n times
 abbrev pub digit_turned : ℕ → ℕ → ℕ
 digit_turned n digit = digit_or_zero (option_turned n (direction_of digit))
 
+-- opposite d: the direction that leads back
 abbrev pub opposite : Direction → Direction
 opposite K = IJ
 opposite J = IK
@@ -91,6 +97,6 @@ opposite I = JK
 opposite IK = J
 opposite IJ = K
 
--- each digit of a list is multiplied by (1 + w)^n
+-- AreTurned n ds es: each digit of es is that of ds multiplied by (1 + w)^n
 abbrev pub AreTurned : ℕ → List ℕ → List ℕ → Type 0
 AreTurned n ds es = map digit_value es ≡ map (λ d. product_of (turning n) (digit_value d)) ds

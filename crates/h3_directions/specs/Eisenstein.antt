@@ -4,7 +4,7 @@
 -- third of a full turn: w*w = -1 - w.
 use Rattle.std.specs.Prelude.{ℤ, pos, negsuc, ◌+ℤ◌, ◌-ℤ◌, ◌*ℤ◌}
 
--- a + b*w
+-- Eisenstein: a number a + b*w with w*w = -1 - w
 pub record Eisenstein : Type 0 where
   pub a : ℤ
   pub b : ℤ
@@ -18,13 +18,15 @@ zero_point = eisenstein (pos 0) (pos 0)
 abbrev pub one : Eisenstein
 one = eisenstein (pos 1) (pos 0)
 
--- antt writes -1 as negsuc 0
+-- minus_one: -1
 abbrev pub minus_one : Eisenstein
 minus_one = eisenstein (negsuc 0) (pos 0)
 
 abbrev pub sum_of : Eisenstein → Eisenstein → Eisenstein
 sum_of x y = eisenstein (x.a +ℤ y.a) (x.b +ℤ y.b)
 
+-- product_of x y: a product
+--
 -- (a + b*w) * (c + d*w) = (ac - bd) + (ad + bc - bd)*w
 abbrev pub product_of : Eisenstein → Eisenstein → Eisenstein
 product_of x y =

@@ -13,13 +13,13 @@ use Rattle.h3_directions.specs.Direction.{digit_of, direction_of, directions}
 use Rattle.h3_lattice.specs.Links.{Links}
 use Rattle.h3_grid.specs.Neighbors.{direction_to, neighbor, pair_refusal, unless_refused}
 
--- y is the destination of the edge: the neighbor of its origin in its direction
+-- IsDestination link e y: y is the neighbor of the edge's origin in its direction
 pub record IsDestination (link : Links) (e : DirectedEdge) (y : Address) : Type 0 where
   pub direction : Direction
   pub digit_is : e.direction ≡ digit_of direction
   pub leads : neighbor link e.origin direction ≡ Some y
 
--- the edge leaves x and leads to y
+-- IsEdgeBetween link x y e: the edge leaves x and leads to y
 pub record IsEdgeBetween (link : Links) (x y : Address) (e : DirectedEdge) : Type 0 where
   pub valid : IsEdge e
   pub leaves : e.origin ≡ x
@@ -27,6 +27,8 @@ pub record IsEdgeBetween (link : Links) (x y : Address) (e : DirectedEdge) : Typ
 
 -- ---- as functions
 
+-- edge_refusal x y: the error of two cells: `pair_refusal`, where one cell given twice is `NotNeighbors`
+--
 -- the error with which two cells are refused before a direction is looked for, if they are
 abbrev pub edge_refusal : Address → Address → Option H3Error
 edge_refusal x y = pair_refusal (Some NotNeighbors) x y
@@ -35,7 +37,7 @@ abbrev pub edge_toward : Address → Option Direction → Result DirectedEdge H3
 edge_toward x None = Err NotNeighbors
 edge_toward x (Some d) = Ok (directed_edge x (digit_of d))
 
--- the edge that leaves x and leads to y, where there is one
+-- edge_between link x y: that edge, or the error
 unfoldable pub edge_between : Links → Address → Address → Result DirectedEdge H3Error
 edge_between link x y = unless_refused (edge_refusal x y) (edge_toward x (direction_to link x y))
 
@@ -47,17 +49,17 @@ abbrev pub or_pentagon : Option Address → Result Address H3Error
 or_pentagon None = Err Pentagon
 or_pentagon (Some y) = Ok y
 
--- the destination of an edge
+-- edge_destination link e: the cell to which an edge leads, or the error
 unfoldable pub edge_destination : Links → DirectedEdge → Result Address H3Error
 edge_destination link e = or_pentagon (neighbor_toward link e.origin (direction_of e.direction))
 
 -- ---- the edges of a cell
 
--- the edges that leave a cell, in ascending direction
+-- edges_from c: the edges that leave a cell, in ascending direction
 unfoldable pub edges_from : Address → List DirectedEdge
 edges_from c = map (directed_edge c) (filter (has_edge c) (map digit_of directions))
 
--- the list holds the edges that leave a cell and nothing else, and ascends
+-- ListsEdges c edges: the list holds the edges that leave a cell and nothing else, and ascends
 pub record ListsEdges (c : Address) (edges : List DirectedEdge) : Type 0 where
   pub each : (e : DirectedEdge) → Contains edges e ↔ (IsEdge e × (e.origin ≡ c))
   pub ascending : AllPairs (λ a b. a.direction < b.direction) edges

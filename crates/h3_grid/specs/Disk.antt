@@ -8,6 +8,8 @@ use Rattle.h3_grid.specs.Counters.{moves_left}
 use Rattle.h3_grid.specs.Steps.{state}
 use Rattle.h3_grid.specs.Walks.{followed}
 
+-- disk_left walk: the items that a `Disk` has still to give
+--
 -- the cells that are still to come, with their rings, and the error where a step is refused
 unfoldable pub disk_left : Disk → List (Result (Address × ℕ) H3Error)
 disk_left walk =

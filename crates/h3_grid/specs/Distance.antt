@@ -20,11 +20,12 @@ pub record IsWritten (cells : List (Address × ℕ)) (j : ℕ) (y : Address) : T
   pub within : ring ≤ j
   pub item : Contains cells (y, ring)
 
--- for each j up to k, the cells with rings up to j are those that a path of at most j neighbors joins to c
+-- HasDistances link c k cells: for each j up to k, the cells written with a ring of at most j are those that a path of
+-- at most j neighbors joins to c
 abbrev pub HasDistances : Links → Address → ℕ → List (Address × ℕ) → Type 0
 HasDistances link c k cells = (j : ℕ) → j ≤ k → (y : Address) → IsWritten cells j y ↔ Joins link c j y
 
--- it is so in a disk of which no step is refused
+-- RingsAreDistances: a disk of which no step is refused has distances, over sound links
 abbrev pub RingsAreDistances : Type 0
 RingsAreDistances =
     (link : Links) (c : Address) (k : ℕ) (cells : List (Address × ℕ)) → IsSound link → IsCell c → WritesCells link c k cells → HasDistances link c k cells
@@ -34,6 +35,6 @@ pub data IsSumOfUnits : ℕ → Eisenstein → Type 0 where
   no_unit : (n : ℕ) → IsSumOfUnits n zero_point
   one_more : (n : ℕ) (z : Eisenstein) (d : Direction) → IsSumOfUnits n z → IsSumOfUnits (suc n) (sum_of z (unit_of d))
 
--- the spiral has each sum of at most k units, and nothing else
+-- SpiralsHoldSums: the spiral has each sum of at most k units, and nothing else
 abbrev pub SpiralsHoldSums : Type 0
 SpiralsHoldSums = (k : ℕ) (z : Eisenstein) → Contains (spiral k) z ↔ IsSumOfUnits k z

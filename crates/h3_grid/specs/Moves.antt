@@ -9,7 +9,7 @@ use Rattle.h3_directions.specs.declared.direction.Direction.TheVariants.{K, J, J
 use Rattle.h3_directions.specs.Eisenstein.{Eisenstein, eisenstein, product_of, sum_of, zero_point}
 use Rattle.h3_directions.specs.Direction.{turning, unit_of}
 
--- a move in a direction, on the way around a ring, and whether the cell that it leads to is written
+-- Move: a direction, a ring, and whether the cell that the move leads to is written
 pub record Move : Type 0 where
   pub direction : Direction
   pub ring : ℕ
@@ -33,7 +33,8 @@ side_moves r d = replicate r (write r d)
 unfoldable pub ring_moves : ℕ → List Move
 ring_moves r = silent r I ∷ flat_map (side_moves r) sides
 
--- the moves from the origin, which is written first, through the rings 1 to k
+-- moves k: the moves of a disk's walk: for each ring r of 1 to k one I that writes nothing, and then r written moves
+-- each of J, JK, K, IK, I, IJ
 unfoldable pub moves : ℕ → List Move
 moves k = flat_map ring_moves (range_with_len 1 k)
 
@@ -50,7 +51,7 @@ side_places r i = map (spiral_place r i) (range_with_len 1 r)
 unfoldable pub ring_places : ℕ → List Eisenstein
 ring_places r = flat_map (side_places r) (range_with_len 0 6)
 
--- 0, and the places of the rings 1 to k
+-- spiral k: 0, and the places (1 + w)^i * (r + j*w), ring by ring
 unfoldable pub spiral : ℕ → List Eisenstein
 spiral k = zero_point ∷ flat_map ring_places (range_with_len 1 k)
 
@@ -58,7 +59,7 @@ spiral k = zero_point ∷ flat_map ring_places (range_with_len 1 k)
 abbrev pub kept : Bool → Eisenstein → List Eisenstein → List Eisenstein
 kept written z places = if written then z ∷ places else places
 
--- what the moves from z up to each write add up to
+-- sums_from z moves: what the moves up to each write add up to
 unfoldable pub sums_from : Eisenstein → List Move → List Eisenstein
 sums_from z [] = []
 sums_from z (m ∷ ms) = kept m.written (sum_of z (unit_of m.direction)) (sums_from (sum_of z (unit_of m.direction)) ms)

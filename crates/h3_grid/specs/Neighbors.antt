@@ -19,11 +19,11 @@ abbrev pub cell_reached : Option State → Option Address
 cell_reached None = None
 cell_reached (Some s) = Some s.cell
 
--- the neighbor of x in a direction: the cell of the step of x, with rotation 0, in it; none where the step is refused
+-- neighbor link x d: the cell of the step of x, with rotation 0, in the direction d; none where the step is refused
 unfoldable pub neighbor : Links → Address → Direction → Option Address
 neighbor link x d = cell_reached (step_of link (state x 0) d)
 
--- y is the neighbor of x in some direction
+-- AreNeighbors link x y: y is the neighbor of x in some direction
 pub record AreNeighbors (link : Links) (x y : Address) : Type 0 where
   pub direction : Direction
   pub leads : neighbor link x direction ≡ Some y
@@ -43,8 +43,8 @@ is_some_same y (Some z) = is_same z y
 unfoldable pub direction_to : Links → Address → Address → Option Direction
 direction_to link x y = find (λ d. is_some_same y (neighbor link x d)) directions
 
--- the error with which two cells are refused, if they are: first that their resolutions differ; then, for one cell
--- given twice, the error that is passed for that, if any; then that either is in a pentagon base cell
+-- pair_refusal twice x y: the error of two cells: their resolutions differ; else, for one cell given twice, the error
+-- `twice`, if any; else either is in a pentagon base cell
 unfoldable pub pair_refusal : Option H3Error → Address → Address → Option H3Error
 pair_refusal twice x y =
     if not (resolution x == resolution y) then Some ResMismatch
@@ -57,40 +57,40 @@ abbrev pub unless_refused : {A : Type 0} → Option H3Error → Result A H3Error
 unless_refused None r = r
 unless_refused (Some e) r = Err e
 
--- for whether two cells are neighbors, one cell given twice is no error
+-- neighbor_refusal x y: the same, where one cell given twice is no error
 abbrev pub neighbor_refusal : Address → Address → Option H3Error
 neighbor_refusal x y = pair_refusal None x y
 
--- whether two cells are neighbors; no cell is its own
+-- are_neighbors link x y: whether two cells are neighbors, or that error
 unfoldable pub are_neighbors : Links → Address → Address → Result Bool H3Error
 are_neighbors link x y =
     unless_refused (neighbor_refusal x y) (Ok (not (is_same x y) && is_some (direction_to link x y)))
 
 -- ---- laws of neighbors over links
 
--- the function finds the direction, which is the only one
+-- DirectionsAreFound: the function that looks for the direction finds it, and it is the only one
 abbrev pub DirectionsAreFound : Links → Type 0
 DirectionsAreFound link =
     (x y : Address) (d : Direction) → IsCell x → IsCell y → (direction_to link x y ≡ Some d) ↔ (neighbor link x d ≡ Some y)
 
--- and so the function is true of neighbors, and of no other cells
+-- NeighborsAreFound: `are_neighbors` is true exactly of neighbors
 abbrev pub NeighborsAreFound : Links → Type 0
 NeighborsAreFound link =
     (x y : Address) → IsCell x → IsCell y → (are_neighbors link x y ≡ Ok true) ↔ AreNeighbors link x y
 
--- no two directions lead to one cell
+-- DirectionsDiffer: no two directions lead to one cell
 abbrev pub DirectionsDiffer : Links → Type 0
 DirectionsDiffer link =
     (x y : Address) (d e : Direction) → IsCell x → neighbor link x d ≡ Some y → neighbor link x e ≡ Some y → d ≡ e
 
--- no cell is its own neighbor
+-- NeighborsDiffer: no cell is its own neighbor
 abbrev pub NeighborsDiffer : Links → Type 0
 NeighborsDiffer link = (x y : Address) (d : Direction) → IsCell x → neighbor link x d ≡ Some y → y ≢ x
 
--- of two cells each is the other's neighbor, or neither is
+-- NeighborsAreMutual: of two cells each is the other's neighbor, or neither is
 abbrev pub NeighborsAreMutual : Links → Type 0
 NeighborsAreMutual link = (x y : Address) → IsCell x → IsCell y → AreNeighbors link x y ↔ AreNeighbors link y x
 
--- two cells have the same result in either order: the same error, or the same truth value
+-- BothOrdersAgree: two cells have the same result in either order, errors included
 abbrev pub BothOrdersAgree : Links → Type 0
 BothOrdersAgree link = (x y : Address) → IsCell x → IsCell y → are_neighbors link x y ≡ are_neighbors link y x

@@ -9,6 +9,8 @@ use Rattle.h3_grid.specs.Counters.{directions_left}
 use Rattle.h3_grid.specs.Steps.{state}
 use Rattle.h3_grid.specs.Walks.{or_refused, ring_round, stepped}
 
+-- ring_left walk: the items that a `Ring` has still to give
+--
 -- the cells that are still to come, and the error where a move or the closing test is refused
 unfoldable pub ring_left : Ring → List (Result Address H3Error)
 ring_left walk =

@@ -42,11 +42,11 @@ abbrev pub found_state : Links → State → Option (Option Direction × List �
 found_state link s None = None
 found_state link s (Some p) = led_to link s p.0 p.1
 
--- the state to which a step leads; none where it is refused
+-- step_of link s d: the state to which a step leads, as a function; none where it is refused
 unfoldable pub step_of : Links → State → Direction → Option State
 step_of link s d =
     if is_pentagon_base s.cell.base then None else found_state link s (found_sum s.cell.digits (turned s.rotation d))
 
--- the function finds the step, and no other
+-- StepsAreFound: `step_of` is the step
 abbrev pub StepsAreFound : Type 0
 StepsAreFound = (link : Links) (s : State) (d : Direction) (r : Option State) → IsStep link s d r ↔ (step_of link s d ≡ r)

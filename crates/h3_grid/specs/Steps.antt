@@ -12,11 +12,12 @@ use Rattle.h3_lattice.specs.Digits.{cell_of}
 use Rattle.h3_lattice.specs.Links.{Links}
 use Rattle.h3_lattice.specs.Moved.{IsSum}
 
--- a cell, and the rotation of a walk that is on it
+-- State: a cell, and a walk's rotation there
 pub record State : Type 0 where
   pub cell : Address
   pub rotation : ℕ
 
+-- state c rot: that state
 abbrev pub state : Address → ℕ → State
 state c rot = record { cell = c; rotation = rot }
 
@@ -38,7 +39,9 @@ pub record Leads (link : Links) (s : State) (d : Direction) (r : Option State) :
   pub sum : IsSum s.cell.digits (turned s.rotation d) out list
   pub is : r ≡ led_to link s out list
 
--- the step from a state by a direction gives this state, or, where it is refused, none
+-- IsStep link s d r: a sum of the cell's digits and the direction turned by the rotation leads from s to r: inside the
+-- base cell, or across a border by the link, with the digits turned; to none where it starts or ends in a pentagon base
+-- cell
 pub record IsStep (link : Links) (s : State) (d : Direction) (r : Option State) : Type 0 where
   pub from_pentagon : is_pentagon_base s.cell.base ≡ true → r ≡ None
   pub from_hexagon : is_pentagon_base s.cell.base ≡ false → Leads link s d r

@@ -27,6 +27,9 @@ unfoldable pub followed : Links → State → List Move → List (Result (Addres
 followed link s [] = []
 followed link s (m ∷ ms) = or_refused (step_of link s m.direction) (λ t. noted m.written t.cell m.ring (followed link t ms))
 
+-- disk link c k: the cells that the moves lead to and write, with their rings, up to the first step that is refused,
+-- and then the error
+--
 -- the disk of radius k around c: c, and what the moves write from c with rotation 0
 unfoldable pub disk : Links → Address → ℕ → List (Result (Address × ℕ) H3Error)
 disk link c k = Ok (c, 0) ∷ followed link (state c 0) (moves k)
@@ -50,6 +53,8 @@ stepped link None ds = None
 stepped link (Some s) [] = Some s
 stepped link (Some s) (d ∷ ds) = stepped link (step_of link s d) ds
 
+-- ring link c k: the same of a ring, which ends with the error too where its last step does not lead to its first cell
+--
 -- the ring of radius k around c: out to it by k steps I, and around it by k steps for each side
 unfoldable pub ring : Links → Address → ℕ → List (Result Address H3Error)
 ring link c k = or_refused (stepped link (Some (state c 0)) (replicate k I)) (λ s. Ok s.cell ∷ ring_round link s.cell s (flat_map (replicate k) sides))

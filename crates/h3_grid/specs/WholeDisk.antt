@@ -6,6 +6,9 @@ use Rattle.h3_grid.specs.Chart.{HasStatesOf, IsChart, LeadsAlongPaths}
 use Rattle.h3_grid.specs.Distance.{HasDistances}
 use Rattle.h3_grid.specs.Laws.{IsChartedInside}
 
+-- IsWholeDisk link c k cells: `IsChartedInside` where all cells are in one base cell, `HasStatesOf`, `IsChart`,
+-- `LeadsAlongPaths` and `HasDistances`
+--
 -- Where the cells of the disk of radius k around c are, if all are in the origin's base cell; that the walk's states,
 -- one for each cell, are on these cells; that steps between them lead where the places of the spiral say (chart,
 -- paths); and that rings are distances.

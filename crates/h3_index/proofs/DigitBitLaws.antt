@@ -1,15 +1,14 @@
 -- The test of all digits at once.
 use Rattle.std.specs.Int.Bits.{bit_and, and_zero_r}
-use Rattle.std.specs.Int.Count.{count_leading_zeros, leading_of_zero}
 use Rattle.std.specs.List.{list_all}
-use Rattle.std.proofs.Common.{ℕ, zero, suc, ◌≡◌, ◌≢◌, ◌+◌, ◌-◌, ◌*◌, ◌/◌, ◌%◌, ◌^◌, ◌<◌, ◌≤◌, ◌==◌, nat_lt, List, [], ◌∷◌, ◌++◌, length, take, drop, replicate, Bool, true, false, not, ◌&&◌, refl, arith, sym, ap, ◌∙◌, lit<}
+use Rattle.std.proofs.Common.{ℕ, zero, suc, ◌≡◌, ◌+◌, ◌-◌, ◌*◌, ◌/◌, ◌%◌, ◌^◌, ◌<◌, ◌≤◌, ◌==◌, nat_lt, List, [], ◌∷◌, ◌++◌, length, take, drop, replicate, Bool, true, false, not, ◌&&◌, refl, arith, sym, ap, ◌∙◌, lit<}
 use Rattle.std.proofs.Math.Bool.{and-true}
 use Rattle.std.proofs.Math.Nat.{div-eq_of_lt, pow-suc, pow-zero, one-le-pow}
 use Rattle.std.proofs.Math.Seq.{take-append_seam, drop-append_seam}
 use Rattle.std.proofs.lemmas.Bool.{agree_below_at}
 use Rattle.std.proofs.lemmas.Bool.Decides.{nat_tests}
 use Rattle.std.proofs.lemmas.List.Folds.{list_all-append}
-use Rattle.std.proofs.lemmas.Nat.{and_block, and_mask, field_of, leading_top, mod_below, and_le_l}
+use Rattle.std.proofs.lemmas.Nat.{and_block, and_mask, field_of, mod_below, and_le_l, and_le_r}
 use Rattle.h3_index.specs.Cell.{leading}
 use Rattle.h3_index.specs.CellNumber.{digits_in}
 use Rattle.h3_index.specs.Digits.{last_digits}
@@ -95,72 +94,72 @@ sevens_are (suc n) m =
 
 -- ---- the first digit that is not 0
 
-record IsLeading (j ds_leading : ℕ) : Type 0 where
-  some : ds_leading ≢ 0
-  test : (ds_leading == 1) ≡ (j % 3 == 0)
-
 leading_one : (d : ℕ) → leading (d ∷ []) ≡ d
 leading_one zero = refl
 leading_one (suc d) = let other : (suc d == 0) ≡ false = grind (arith, nat_tests) in rw other refl
 
-leading_alone : (v j : ℕ) → v < 8 → 2 ^ j ≤ v → v < 2 ^ suc j → IsLeading j v
-leading_alone v zero less low high = record { some = omega (arith, low); test = (let one : v ≡ 1 = omega (arith, low, high) in rw one refl) }
-leading_alone v (suc zero) less low high = record { some = omega (arith, low); test = grind (arith, nat_tests) }
-leading_alone v (suc (suc zero)) less low high = record { some = omega (arith, low); test = grind (arith, nat_tests) }
-leading_alone v (suc (suc (suc j))) less low high =
-    let some : 0 < 2 ^ j = one-le-pow j 2 (lit< tt) in
-    let power : 2 ^ suc (suc (suc j)) ≡ 2 ^ j * 2 * 2 * 2 = rw (pow-suc 2 (suc (suc j)), pow-suc 2 (suc j), pow-suc 2 j) refl in
-    absurd (omega (arith, less, low, power, some))
+-- the two higher bits of each of the last n digits
+abbrev pub sixes : ℕ → ℕ
+sixes zero = 0
+sixes (suc n) = sixes n * 8 + 6
 
-leading_deeper : (n v j : ℕ) → ((w i : ℕ) → w < 8 ^ n → 2 ^ i ≤ w → w < 2 ^ suc i → IsLeading i (leading (last_digits 8 n w)))
-    → v < 8 ^ suc n → 0 < v / 8 → 2 ^ j ≤ v → v < 2 ^ suc j → IsLeading j (leading (last_digits 8 n (v / 8) ++ v % 8 ∷ []))
-leading_deeper n v zero above less some low high = absurd (omega (arith, some, high))
-leading_deeper n v (suc zero) above less some low high = absurd (omega (arith, some, high))
-leading_deeper n v (suc (suc zero)) above less some low high = absurd (omega (arith, some, high))
-leading_deeper n v (suc (suc (suc j))) above less some low high =
-    let power : 2 ^ suc (suc (suc j)) ≡ 2 ^ j * 2 * 2 * 2 = rw (pow-suc 2 (suc (suc j)), pow-suc 2 (suc j), pow-suc 2 j) refl in
-    let power-2 : 2 ^ suc (suc (suc (suc j))) ≡ 2 ^ suc j * 2 * 2 * 2 = rw (pow-suc 2 (suc (suc (suc j))), pow-suc 2 (suc (suc j)), pow-suc 2 (suc j)) refl in
-    let size : 8 ^ suc n ≡ 8 ^ n * 8 = pow-suc 8 n in
-    let first : IsLeading j (leading (last_digits 8 n (v / 8))) = above (v / 8) j (omega (arith, less, size)) (omega (arith, low, power)) (omega (arith, high, power-2)) in
-    let three : j % 3 ≡ suc (suc (suc j)) % 3 = omega arith in
-    let same : leading (last_digits 8 n (v / 8) ++ v % 8 ∷ []) ≡ leading (last_digits 8 n (v / 8)) = leading_before (last_digits 8 n (v / 8)) (v % 8 ∷ []) first.some in
-    rw same (record { some = first.some; test = first.test ∙ ap (λ k. k == 0) three })
+-- which is larger, what the lowest bits of the digits make or what the others do, by the first digit that is not 0
+record IsWeighed (first lowest others : ℕ) : Type 0 where
+  none : first ≡ 0 → (lowest ≡ 0) × (others ≡ 0)
+  one : first ≡ 1 → others < lowest
+  more : 2 ≤ first → lowest < others
 
-leading_last : (n v j : ℕ) → v / 8 ≡ 0 → 2 ^ j ≤ v → v < 2 ^ suc j → IsLeading j (leading (last_digits 8 n (v / 8) ++ v % 8 ∷ []))
-leading_last n v j e low high =
-    let alone : v % 8 ≡ v = omega (arith, e) in
-    let none : leading (last_digits 8 n 0) ≡ 0 = ap leading (last_digits-zero 8 n (lit< tt)) ∙ leading_zeros n in
-    let same : leading (last_digits 8 n (v / 8) ++ v % 8 ∷ []) ≡ v = rw (e, alone) (leading_after (last_digits 8 n 0) (v ∷ []) none ∙ leading_one v) in
-    rw same (leading_alone v j (omega (arith, e)) low high)
+digit_weighed : (d : ℕ) → d < 8 → IsWeighed d (bit_and d 1) (bit_and d 6)
+digit_weighed d less =
+    let by_one : nat_lt (bit_and d 6) (bit_and d 1) ≡ (d == 1) = agree_below_at (λ k. nat_lt (bit_and k 6) (bit_and k 1)) (λ k. k == 1) 8 d refl less in
+    let by_more : nat_lt (bit_and d 1) (bit_and d 6) ≡ nat_lt 1 d = agree_below_at (λ k. nat_lt (bit_and k 1) (bit_and k 6)) (λ k. nat_lt 1 k) 8 d refl less in
+    record {
+      none = λ e. rw e (refl, refl);
+      one = λ e. grind (arith, nat_tests);
+      more = λ h. grind (arith, nat_tests);
+    }
 
-leading_is : (n v j : ℕ) → v < 8 ^ n → 2 ^ j ≤ v → v < 2 ^ suc j → IsLeading j (leading (last_digits 8 n v))
-leading_is zero v j less low high = absurd (omega (arith, rw (pow-zero 8) at less, one-le-pow j 2 (lit< tt), low))
-leading_is (suc n) v j less low high = by_size (v / 8) refl (leading_is n)
+weighed_more : (ds : List ℕ) (d lowest others : ℕ) → d < 8 → IsWeighed (leading ds) lowest others
+    → IsWeighed (leading (ds ++ d ∷ [])) (lowest * 8 + bit_and d 1) (others * 8 + bit_and d 6)
+weighed_more ds d lowest others less h = by_first (leading ds) refl
   where
-    by_size : (a : ℕ) → v / 8 ≡ a → ((w i : ℕ) → w < 8 ^ n → 2 ^ i ≤ w → w < 2 ^ suc i → IsLeading i (leading (last_digits 8 n w)))
-        → IsLeading j (leading (last_digits 8 n (v / 8) ++ v % 8 ∷ []))
-    by_size zero e above = leading_last n v j e low high
-    by_size (suc a) e above = leading_deeper n v j above less (omega (arith, e)) low high
+    by_first : (first : ℕ) → leading ds ≡ first → IsWeighed (leading (ds ++ d ∷ [])) (lowest * 8 + bit_and d 1) (others * 8 + bit_and d 6)
+    by_first zero e =
+        let zeros = h.none e in
+        let same : leading (ds ++ d ∷ []) ≡ d = leading_after ds (d ∷ []) e ∙ leading_one d in
+        let low : 0 * 8 + bit_and d 1 ≡ bit_and d 1 = omega arith in
+        let high : 0 * 8 + bit_and d 6 ≡ bit_and d 6 = omega arith in
+        rw (same, zeros.0, zeros.1, low, high) (digit_weighed d less)
+    by_first (suc zero) e =
+        let same : leading (ds ++ d ∷ []) ≡ 1 = leading_before ds (d ∷ []) (omega (arith, e)) ∙ e in
+        let above = h.one e in
+        let few = and_le_r d 6 in
+        rw same (record { none = λ f. omega (arith, f); one = λ _. omega (arith, above, few); more = λ f. omega (arith, f) })
+    by_first (suc (suc first)) e =
+        let same : leading (ds ++ d ∷ []) ≡ suc (suc first) = leading_before ds (d ∷ []) (omega (arith, e)) ∙ e in
+        let above = h.more (omega (arith, e)) in
+        let few = and_le_r d 1 in
+        rw same (record { none = λ f. omega (arith, f); one = λ f. omega (arith, f); more = λ _. omega (arith, above, few) })
 
-counted : (n v : ℕ) → v < 8 ^ n → v < 2 ^ 64 → (count_leading_zeros 64 v % 3 == 0) ≡ (leading (last_digits 8 n v) == 1)
-counted n zero less fits =
-    let none : leading (last_digits 8 n 0) ≡ 0 = ap leading (last_digits-zero 8 n (lit< tt)) ∙ leading_zeros n in
-    rw (none, leading_of_zero 64) refl
-counted n (suc v) less fits =
-    let top = leading_top 64 (suc v) (omega arith) fits in
-    let j = top.0 in
-    let is : IsLeading j (leading (last_digits 8 n (suc v))) = leading_is n (suc v) j less top.2 top.3 in
-    let place : count_leading_zeros 64 (suc v) + suc j ≡ 64 = top.1 in
-    let three : (count_leading_zeros 64 (suc v) % 3 == 0) ≡ (j % 3 == 0) = by_place _ j (j % 3 == 0) refl place in
-    three ∙ sym is.test
+weighed : (n v : ℕ) → IsWeighed (leading (last_digits 8 n v)) (bit_and v (ones n)) (bit_and v (sixes n))
+weighed zero v = rw (and_zero_r v) (record { none = λ _. (refl, refl); one = λ f. omega (arith, f); more = λ f. omega (arith, f) })
+weighed (suc n) v =
+    let a = v / 8 in
+    let d = v % 8 in
+    let less : d < 8 = mod_below v 8 (lit< tt) in
+    let whole : v ≡ a * 8 + d = omega arith in
+    let lowest : bit_and v (ones n * 8 + 1) ≡ bit_and a (ones n) * 8 + bit_and d 1 = ap (λ k. bit_and k (ones n * 8 + 1)) whole ∙ and_block 3 a (ones n) d 1 less (lit< tt) in
+    let others : bit_and v (sixes n * 8 + 6) ≡ bit_and a (sixes n) * 8 + bit_and d 6 = ap (λ k. bit_and k (sixes n * 8 + 6)) whole ∙ and_block 3 a (sixes n) d 6 less (lit< tt) in
+    rw (lowest, others) (weighed_more (last_digits 8 n a) d (bit_and a (ones n)) (bit_and a (sixes n)) less (weighed n a))
+
+-- what the comparison of both says
+pub leads_with_one_is : (n v : ℕ) → nat_lt (bit_and v (sixes n)) (bit_and v (ones n)) ≡ (leading (last_digits 8 n v) == 1)
+leads_with_one_is n v = by_first (leading (last_digits 8 n v)) refl
   where
-    by_place : (c j : ℕ) (b : Bool) → (j % 3 == 0) ≡ b → c + suc j ≡ 64 → (c % 3 == 0) ≡ (j % 3 == 0)
-    by_place c j true e h = grind (arith, nat_tests)
-    by_place c j false e h = grind (arith, nat_tests)
-
--- what the count of zeros in front says
-pub leads_with_one_is : (v : ℕ) → v < 2 ^ 45 → (count_leading_zeros 64 v % 3 == 0) ≡ (leading (last_digits 8 15 v) == 1)
-leads_with_one_is v less = counted 15 v less (omega (arith, less))
+    by_first : (first : ℕ) → leading (last_digits 8 n v) ≡ first → nat_lt (bit_and v (sixes n)) (bit_and v (ones n)) ≡ (leading (last_digits 8 n v) == 1)
+    by_first zero e = let zeros = (weighed n v).none e in rw (e, zeros.0, zeros.1) refl
+    by_first (suc zero) e = let above = (weighed n v).one e in rw e (grind (arith, nat_tests))
+    by_first (suc (suc first)) e = let above = (weighed n v).more (omega (arith, e)) in rw e (grind (arith, nat_tests))
 
 -- ---- ---- the digits up to the resolution and the others
 

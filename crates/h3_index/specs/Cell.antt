@@ -8,11 +8,12 @@ use Rattle.std.specs.Prelude.{ℕ, ◌≢◌, ◌+◌, ◌-◌, ◌*◌, ◌%◌
 use Rattle.std.specs.List.{list_any}
 use Rattle.std.specs.Int.Digits.{number_from_digits, AllBelowBase}
 
--- where a cell lies in the hierarchy: its base cell, and a digit for each resolution from 1 up to its own
+-- Address: a base cell and a list of digits, one for each resolution from 1 up to the cell's own
 pub record Address : Type 0 where
   pub base : ℕ
   pub digits : List ℕ
 
+-- resolution c: how many digits c has
 abbrev pub resolution : Address → ℕ
 resolution c = length c.digits
 
@@ -20,6 +21,7 @@ resolution c = length c.digits
 abbrev pub pentagon_bases : List ℕ
 pentagon_bases = 4 ∷ 14 ∷ 24 ∷ 38 ∷ 49 ∷ 58 ∷ 63 ∷ 72 ∷ 83 ∷ 97 ∷ 107 ∷ 117 ∷ []
 
+-- is_pentagon_base b: b is one of the twelve base cells that are pentagons
 abbrev pub is_pentagon_base : ℕ → Bool
 is_pentagon_base b = list_any (λ p. b == p) pentagon_bases
 
@@ -28,18 +30,19 @@ abbrev pub leading : List ℕ → ℕ
 leading [] = 0
 leading (d ∷ ds) = if d == 0 then leading ds else d
 
--- an address is a cell's
+-- IsCell c: the base cell is 0 to 121, there are at most 15 digits, each 0 to 6, and in a pentagon base cell the first
+-- digit that is not 0 is not 1
 pub record IsCell (c : Address) : Type 0 where
   pub base_small : c.base < 122
   pub coarse : resolution c < 16
   pub digits_small : AllBelowBase 7 c.digits
   pub not_deleted : IsTrue (is_pentagon_base c.base) → leading c.digits ≢ 1
 
--- a cell of a pentagon base cell whose digits are all 0
+-- is_pentagon c: the base cell is a pentagon and all digits are 0
 abbrev pub is_pentagon : Address → Bool
 is_pentagon c = is_pentagon_base c.base && leading c.digits == 0
 
--- cells of odd resolution are Class III, the others Class II
+-- is_class_iii c: the resolution is odd
 abbrev pub is_class_iii : Address → Bool
 is_class_iii c = resolution c % 2 == 1
 
@@ -47,7 +50,8 @@ is_class_iii c = resolution c % 2 == 1
 abbrev pub padded : List ℕ → List ℕ
 padded ds = ds ++ replicate (15 - length ds) 7
 
--- the number of a cell
+-- number_of c: 2^59 + resolution * 2^52 + base cell * 2^45 + the fifteen octal digits, those above the resolution being
+-- 7
 unfoldable pub number_of : Address → ℕ
 number_of c =
     2 ^ 59 + resolution c * 2 ^ 52 + c.base * 2 ^ 45 + number_from_digits 8 (padded c.digits)

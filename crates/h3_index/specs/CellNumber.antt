@@ -14,11 +14,11 @@ base_in m = m / 2 ^ 45 % 128
 unfoldable pub digits_in : ℕ → List ℕ
 digits_in m = last_digits 8 15 m
 
--- the base cell, and the digits up to the resolution
+-- address_in m: the base cell and the digits that the fields of a number say
 unfoldable pub address_in : ℕ → Address
 address_in m = record { base = base_in m; digits = take (resolution_in m) (last_digits 8 15 m) }
 
--- the number is that of a cell, the one that its fields give
+-- IsCellNumber m: the number is that of a cell, the one that its fields say
 pub record IsCellNumber (m : ℕ) : Type 0 where
   pub is : number_of (address_in m) ≡ m
   pub valid : IsCell (address_in m)
@@ -28,6 +28,6 @@ abbrev pub is_cell : Address → Bool
 is_cell c =
     nat_lt c.base 122 && nat_lt (resolution c) 16 && list_all (λ d. nat_lt d 7) c.digits && not (is_pentagon_base c.base && leading c.digits == 1)
 
--- the cell with this number, if there is one
+-- cell_in m: the cell with this number, if there is one
 unfoldable pub cell_in : ℕ → Option Address
 cell_in m = if is_cell (address_in m) && number_of (address_in m) == m then Some (address_in m) else None

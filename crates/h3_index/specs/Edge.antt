@@ -7,14 +7,16 @@ use Rattle.h3_index.specs.Cell.{Address, IsCell, is_pentagon, number_of}
 use Rattle.h3_index.specs.declared.error.H3Error.{H3Error}
 use Rattle.h3_index.specs.declared.error.H3Error.TheVariants.{DirEdgeInvalid}
 
--- the cell that an edge leaves, and the direction in which it does
+-- DirectedEdge: a cell, the origin, and a direction
 pub record DirectedEdge : Type 0 where
   pub origin : Address
   pub direction : ℕ
 
+-- directed_edge c d: the edge of this origin and direction
 abbrev pub directed_edge : Address → ℕ → DirectedEdge
 directed_edge c d = record { origin = c; direction = d }
 
+-- IsEdge e: the origin is a cell, and the direction 1 to 6, not 1 at a pentagon
 pub record IsEdge (e : DirectedEdge) : Type 0 where
   pub origin_cell : IsCell e.origin
   pub some_direction : 0 < e.direction
@@ -25,10 +27,10 @@ pub record IsEdge (e : DirectedEdge) : Type 0 where
 abbrev pub has_edge : Address → ℕ → Bool
 has_edge c d = nat_lt 0 d && nat_lt d 7 && not (is_pentagon c && d == 1)
 
--- the error where it has none
+-- direction_refusal c d: the error where the cell has no edge in the direction
 abbrev pub direction_refusal : Address → ℕ → Option H3Error
 direction_refusal c d = if has_edge c d then None else Some DirEdgeInvalid
 
--- the number of an edge: mode 2 is one more than mode 1
+-- edge_number e: the origin's number + 2^59 + direction * 2^56
 unfoldable pub edge_number : DirectedEdge → ℕ
 edge_number e = number_of e.origin + 2 ^ 59 + e.direction * 2 ^ 56

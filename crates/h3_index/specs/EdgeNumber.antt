@@ -7,11 +7,11 @@ use Rattle.h3_index.specs.Edge.{DirectedEdge, IsEdge, directed_edge, edge_number
 abbrev pub direction_in : ℕ → ℕ
 direction_in m = m / 2 ^ 56 % 8
 
--- the cell of the resolution, the base cell and the digits, and the direction
+-- directed_edge_in m: the origin and the direction that the fields of a number say
 unfoldable pub directed_edge_in : ℕ → DirectedEdge
 directed_edge_in m = directed_edge (address_in m) (direction_in m)
 
--- the number is that of an edge, the one that its fields give
+-- IsEdgeNumber m: the number is that of an edge, the one that its fields say
 pub record IsEdgeNumber (m : ℕ) : Type 0 where
   pub is : edge_number (directed_edge_in m) ≡ m
   pub valid : IsEdge (directed_edge_in m)
@@ -20,7 +20,7 @@ pub record IsEdgeNumber (m : ℕ) : Type 0 where
 abbrev pub is_edge : DirectedEdge → Bool
 is_edge e = is_cell e.origin && has_edge e.origin e.direction
 
--- the edge with this number, if there is one
+-- edge_in m: the edge with this number, if there is one
 unfoldable pub edge_in : ℕ → Option DirectedEdge
 edge_in m =
     if is_edge (directed_edge_in m) && edge_number (directed_edge_in m) == m then Some (directed_edge_in m) else None

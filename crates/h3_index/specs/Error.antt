@@ -3,6 +3,7 @@ use Rattle.std.specs.Prelude.{ℕ, List, codes}
 use Rattle.h3_index.specs.declared.error.H3Error.{H3Error}
 use Rattle.h3_index.specs.declared.error.H3Error.TheVariants.{Failed, Domain, ResDomain, CellInvalid, DirEdgeInvalid, Pentagon, DuplicateInput, NotNeighbors, ResMismatch, MemoryAlloc}
 
+-- error_number e: the error's number in H3's table of error codes
 abbrev pub error_number : H3Error → ℕ
 error_number Failed = 1
 error_number Domain = 2
@@ -15,6 +16,7 @@ error_number NotNeighbors = 11
 error_number ResMismatch = 12
 error_number MemoryAlloc = 13
 
+-- error_name e: its name there
 abbrev pub error_name : H3Error → List ℕ
 error_name Failed = codes "E_FAILED"
 error_name Domain = codes "E_DOMAIN"

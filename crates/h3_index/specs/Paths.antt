@@ -10,7 +10,7 @@ abbrev pub steps : Bool → List ℕ
 steps false = 0 ∷ (1 ∷ (2 ∷ (3 ∷ (4 ∷ (5 ∷ (6 ∷ []))))))
 steps true = 0 ∷ (2 ∷ (3 ∷ (4 ∷ (5 ∷ (6 ∷ [])))))
 
--- the digits that lead n levels down, in ascending order
+-- paths p n: the digits that lead n levels down, from a pentagon or not, ascending
 unfoldable pub paths : Bool → ℕ → List (List ℕ)
 paths pentagon zero = [] ∷ []
 paths pentagon (suc n) =

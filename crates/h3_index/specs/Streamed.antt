@@ -3,10 +3,10 @@ use Rattle.std.specs.Prelude.{Bool}
 use Rattle.h3_index.specs.declared.stream.Streamed.{Streamed}
 
 module _ {T : Type 0} where
-  -- the reader or writer inside
+  -- streamed_inner s: the reader or writer below a `Streamed`
   abbrev pub streamed_inner : Streamed T → T
   streamed_inner s = s.inner
 
-  -- a call of it failed
+  -- streamed_failed s: a call of it failed
   abbrev pub streamed_failed : Streamed T → Bool
   streamed_failed s = s.failed

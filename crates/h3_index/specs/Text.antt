@@ -14,7 +14,7 @@ abbrev pub without_leading_zeros : List ℕ → List ℕ
 without_leading_zeros [] = 0 ∷ []
 without_leading_zeros (d ∷ ds) = if d == 0 then without_leading_zeros ds else d ∷ ds
 
--- the text of a number of 64 bits
+-- text_of n: the number in lower-case hexadecimal without leading zeros, `0` for 0
 unfoldable pub text_of : ℕ → List ℕ
 text_of v = map digit_char (without_leading_zeros (last_digits 16 16 v))
 
@@ -29,7 +29,7 @@ without_leading_blanks (b ∷ bs) = if is_blank b then without_leading_blanks bs
 abbrev pub without_trailing_blanks : List ℕ → List ℕ
 without_trailing_blanks bs = reverse (without_leading_blanks (reverse bs))
 
--- without the blanks at both ends
+-- trimmed bytes: the bytes without the spaces, tabs and carriage returns at both ends
 abbrev pub trimmed : List ℕ → List ℕ
 trimmed bs = without_trailing_blanks (without_leading_blanks bs)
 
@@ -44,7 +44,8 @@ is_hexadecimal ds = nat_lt 0 (length ds) && nat_le (length ds) 16 && list_all (�
 abbrev pub parsed_number : List ℕ → Option ℕ
 parsed_number ds = if is_hexadecimal ds then Some (digits_value 16 ds) else None
 
--- the number that a list of bytes parses as, where it parses as one
+-- parsed_index bytes: the value, if the bytes, trimmed and without one `0x` or `0X`, are 1 to 16 hexadecimal digits of
+-- either case
 unfoldable pub parsed_index : List ℕ → Option ℕ
 parsed_index bs = parsed_number (without_prefix (trimmed bs))
 
@@ -52,7 +53,8 @@ parsed_index bs = parsed_number (without_prefix (trimmed bs))
 abbrev pub is_lower_digit : ℕ → Bool
 is_lower_digit b = (nat_le 48 b && nat_le b 57) || (nat_le 97 b && nat_le b 102)
 
--- the number that 8 to 16 hexadecimal digits in lower case stand for; none for other bytes
+-- plain_index bytes: the number of 8 to 16 hexadecimal digits in lower case, with nothing beside them; none for other
+-- bytes
 abbrev pub plain_index : List ℕ → Option ℕ
 plain_index bs = if nat_le 8 (length bs) && nat_le (length bs) 16 && list_all is_lower_digit bs then Some (digits_value 16 bs) else None
 

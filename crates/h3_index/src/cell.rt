@@ -15,26 +15,24 @@ use crate::error::H3Error;
 pub use siblings::Siblings;
 use std::marker::Model;
 
-/// A bit for each base cell that is a pentagon.
-const PENTAGON_BASES: u128 = 1 << 4
-    | 1 << 14
-    | 1 << 24
-    | 1 << 38
-    | 1 << 49
-    | 1 << 58
-    | 1 << 63
-    | 1 << 72
-    | 1 << 83
-    | 1 << 97
-    | 1 << 107
-    | 1 << 117;
+/// A bit for each base cell below 64 that is a pentagon.
+const LOW_PENTAGON_BASES: u64 = 1 << 4 | 1 << 14 | 1 << 24 | 1 << 38 | 1 << 49 | 1 << 58 | 1 << 63;
+
+/// A bit for each of the other base cells that is one: for base cell 64 the lowest.
+const HIGH_PENTAGON_BASES: u64 = 1 << 8 | 1 << 19 | 1 << 33 | 1 << 43 | 1 << 53;
 
 /// Whether a base cell is one of the twelve pentagons.
 #[inline(always)]
 pub fn is_pentagon_base(b: u8) -> bool
     ensures { result ≡ is_pentagon_base b }
 {
-    b < 122 && PENTAGON_BASES >> b & 1 == 1
+    let bases = if b < 64 {
+        LOW_PENTAGON_BASES
+    } else {
+        HIGH_PENTAGON_BASES
+    };
+    // (as in a cell, no number of a base cell has more than seven bits)
+    (b < 128) & (bases >> (b & 63) & 1 == 1)
 }
 
 /// Whether none of the last fifteen octal digits of a number is 7.
@@ -46,15 +44,14 @@ fn has_no_seven(digits: u64) -> bool
     digits & digits >> 1 & digits >> 2 & 0o111_111_111_111_111 == 0
 }
 
-/// Whether the first octal digit that is not 0 of a number of fifteen octal digits is 1.
+/// Whether the first octal digit that is not 0 of the last fifteen of a number is 1.
 #[inline(always)]
 fn leads_with_one(digits: u64) -> bool
-    requires { digits < 2 ^ 45 }
     ensures { result ≡ (leading (last_digits 8 15 digits) == 1) }
 {
-    // It is 1 exactly where a multiple of three bits follows the highest set bit, and so where a
-    // multiple of three stands before it in 64 bits, of which the highest set one is one.
-    digits.leading_zeros() % 3 == 0
+    // It is 1 exactly where the highest bit of all is the lowest of its digit: then these bits make
+    // a larger number than the others.
+    digits & 0o111_111_111_111_111 > digits & 0o666_666_666_666_666
 }
 
 /// Whether the fifteen digits of a number are those of a cell in a base cell: 0 to 6 up to the
@@ -67,13 +64,15 @@ fn has_valid_digits(raw: u64, resolution: u64, base: u8) -> bool
     let places = 3 * (15 - resolution);
     let sevens: u64 = (1 << places) - 1;
     let digits = (raw & 0x1fff_ffff_ffff) >> places;
-    // The digits alone decide for most numbers.
-    raw & sevens == sevens
-        && has_no_seven(digits)
-        && !(leads_with_one(digits) && is_pentagon_base(base))
+    // (no operand is skipped, so that there is no branch)
+    (raw & sevens == sevens)
+        & has_no_seven(digits)
+        & !(leads_with_one(digits) & is_pentagon_base(base))
 }
 
 /// A valid H3 cell. Cells are ordered by their numbers: by resolution, then base cell, then digits.
+/// In memory a cell is its number, also for C.
+#[repr(C)]
 #[derive(Clone, Copy, Debug, PartialEq, Eq, PartialOrd, Ord, Hash)]
 pub struct Cell {
     raw: u64,
@@ -106,7 +105,10 @@ impl Cell {
     {
         let resolution = raw >> 52 & 15;
         let base = raw >> 45 & 127;
-        if raw >> 56 == 8 && base < 122 && has_valid_digits(raw, resolution, base as u8) {
+        let is_cell = (raw >> 56 == 8)
+            & (base < 122)
+            & has_valid_digits(raw, resolution, base as u8);
+        if is_cell {
             Ok(Cell { raw })
         } else {
             Err(H3Error::CellInvalid)

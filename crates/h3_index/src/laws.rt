@@ -9,7 +9,7 @@ ghost use Rattle.h3_index.specs.Count.{CellsUpToAreListed};
 ghost use Rattle.h3_index.specs.Edge.{DirectedEdge, edge_number};
 ghost use Rattle.h3_index.specs.declared.error.H3Error.{H3Error};
 ghost use Rattle.h3_index.specs.declared.stream.StreamFault.{StreamFault};
-ghost use Rattle.h3_index.specs.Laws.{EdgeNumbersFollowFields, NumbersFollowFields, NumbersAreUnique, CutsAreCells, DescendantsAreListed, DescendantsAscend, HexagonsHaveSevens, PentagonsHaveFewer, PathsAreChains};
+ghost use Rattle.h3_index.specs.Laws.{EdgeNumbersFollowFields, NumbersFollowFields, NumbersAreRead, NumbersAreUnique, CutsAreCells, DescendantsAreListed, DescendantsAscend, HexagonsHaveSevens, PentagonsHaveFewer, PathsAreChains};
 
 use crate::cell::Cell;
 use crate::edge::Edge;
@@ -58,6 +58,11 @@ pub fn clones_are_equal()
 /// Cells with the same number are equal.
 pub fn numbers_are_unique()
     ensures { NumbersAreUnique }
+{}
+
+/// The number of a cell is read as that cell.
+pub fn numbers_are_read()
+    ensures { NumbersAreRead }
 {}
 
 /// A cell cut at a resolution that is not finer than its own is a cell.

@@ -59,7 +59,8 @@ fault_at check.Neighbors link b d = error_unless (leads_apart link b d) (fault.N
 fault_at check.Reversal link b d = error_unless (reverses link b d) (fault.Reversal b d)
 fault_at check.Corner link b d = error_unless (closes link b d) (fault.Corner b d)
 
--- the first error of the three checks of a full table: one after the other, each at every base cell and direction
+-- fault_of_links link: the first of the three checks that a full table fails, one after the other, each by ascending
+-- base cell and direction
 abbrev pub fault_of_links : Links → Option TableError
 fault_of_links link =
     option_or (at_links (fault_at check.Neighbors link)) (option_or (at_links (fault_at check.Reversal link)) (at_links (fault_at check.Corner link)))

@@ -3,6 +3,8 @@ use Rattle.std.specs.Prelude.{ℕ}
 use Rattle.h3_directions.specs.declared.direction.Direction.{Direction}
 use Rattle.h3_directions.specs.declared.direction.Direction.TheVariants.{K, J, JK, I, IK, IJ}
 
+-- closed_link d: the link of a closed table: to one of six pentagon base cells, a different one for each direction,
+-- without turns
 abbrev pub closed_link : Direction → ℕ × ℕ
 closed_link K = (4, 0)
 closed_link J = (14, 0)

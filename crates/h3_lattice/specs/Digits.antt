@@ -6,10 +6,11 @@ use Rattle.std.specs.Prelude.{ℕ, ◌≤◌, List, length}
 use Rattle.std.specs.Int.Digits.{AllBelowBase}
 use Rattle.h3_index.specs.Cell.{Address}
 
+-- IsDigits ds: at most 15 digits, each 0 to 6
 pub record IsDigits (ds : List ℕ) : Type 0 where
   pub coarse : length ds ≤ 15
   pub small : AllBelowBase 7 ds
 
--- the cell of a base cell and a digit list
+-- cell_of b ds: the cell of a base cell and a digit list
 abbrev pub cell_of : ℕ → List ℕ → Address
 cell_of b ds = record { base = b; digits = ds }

@@ -18,7 +18,7 @@ place_from n z [] = z
 place_from n z (d ∷ ds) =
     place_from (n + 1) (sum_of (product_of (multiplier_at (n + 1)) z) (digit_value d)) ds
 
--- the place of a digit list
+-- place ds: where a digit list lies in its base cell
 abbrev pub place : List ℕ → Eisenstein
 place ds = place_from 0 zero_point ds
 
@@ -27,7 +27,7 @@ abbrev pub scaled : ℕ → ℕ → Eisenstein → Eisenstein
 scaled n zero z = z
 scaled n (suc k) z = scaled (n + 1) k (product_of (multiplier_at (n + 1)) z)
 
--- a pair (u, ds) is an expansion of z at resolution r: ds has r digits of 0 to 6, and z = u * M_1 * .. * M_r + place ds
+-- IsExpansion z r u ds: ds has r digits of 0 to 6, and z = u * M_1 * .. * M_r + the place of ds
 pub record IsExpansion (z : Eisenstein) (r : ℕ) (u : Eisenstein) (ds : List ℕ) : Type 0 where
   pub long : length ds ≡ r
   pub digits : AllBelowBase 7 ds
@@ -40,7 +40,7 @@ pub record OneExpansion (z : Eisenstein) (r : ℕ) : Type 0 where
   pub is : IsExpansion z r unit list
   pub only : (u : Eisenstein) (ds : List ℕ) → IsExpansion z r u ds → (u ≡ unit) × (ds ≡ list)
 
--- every Eisenstein integer has exactly one expansion at each resolution
+-- ExpansionsAreUnique: each number has exactly one expansion at each resolution
 abbrev pub ExpansionsAreUnique : Type 0
 ExpansionsAreUnique = (z : Eisenstein) (r : ℕ) → OneExpansion z r
 
@@ -51,6 +51,8 @@ abbrev pub sum_from : ℕ → List ℕ → Eisenstein
 sum_from n [] = zero_point
 sum_from n (d ∷ ds) = sum_of (scaled (n + 1) (length ds) (digit_value d)) (sum_from (n + 1) ds)
 
+-- PlacesAreSums: a place is the sum of its digits' own places
+--
 -- the place of r digits is the sum over n of digit n times M_(n+1) * .. * M_r
 abbrev pub PlacesAreSums : Type 0
 PlacesAreSums = (ds : List ℕ) → place ds ≡ sum_from 0 ds

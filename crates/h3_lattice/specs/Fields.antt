@@ -7,7 +7,7 @@ use Rattle.std.specs.Char.{is_ascii_digit}
 abbrev pub Record : Type 0
 Record = List (List ℕ)
 
--- the records that the crate `csv` reads from a file's bytes, without one byte order mark in front
+-- records_of bytes: the records of a file's bytes, without one byte order mark in front, by `csv`'s own rule
 abbrev pub records_of : List ℕ → List Record
 records_of bytes = records default_config (strip_bom bytes)
 
@@ -38,6 +38,6 @@ unfoldable pub all_numbers : Record → Option (List ℕ)
 all_numbers [] = Some []
 all_numbers (field ∷ rest) = with_number (number_in field) (all_numbers rest)
 
--- the numbers in a record of this many fields
+-- numbers_in n r: the numbers of a record with n fields of 1 to 3 digits each
 abbrev pub numbers_in : ℕ → Record → Option (List ℕ)
 numbers_in width r = if length r == width then all_numbers r else None

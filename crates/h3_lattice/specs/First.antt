@@ -82,6 +82,7 @@ IsFirstFault records (fault.Corner b d) =
     IsOfForm records × HoldsEverywhere (LeadsApart (links_of records)) × HoldsEverywhere (IsReversed (links_of records))
     × FailsFirst (IsClosed (links_of records)) b d
 
--- the error that the definitions compute is the first
+-- FaultsAreFirst: which error of a file is the first, case by case: an error is the file's exactly where it applies and
+-- none before it does
 abbrev pub FaultsAreFirst : Type 0
 FaultsAreFirst = (records : List Record) (e : TableError) → (table_fault records ≡ Some e) ↔ IsFirstFault records e

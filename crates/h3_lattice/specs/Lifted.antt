@@ -29,13 +29,16 @@ abbrev pub led_by : Links → ℕ → Option Direction → List ℕ → Reached
 led_by link b None es = reached b 0 es
 led_by link b (Some border) es = across (link b border) es
 
--- the step from the cell of base cell b and digits ds in the direction d leads there
+-- Reaches link b ds d r: from the cell of base cell b and digits ds the direction d leads to r: a base cell, digits,
+-- and how often they were turned on the way
 pub record Reaches (link : Links) (b : ℕ) (ds : List ℕ) (d : Direction) (r : Reached) : Type 0 where
   pub out : Option Direction
   pub list : List ℕ
   pub sum : IsSum ds d out list
   pub is : r ≡ led_by link b out list
 
+-- ReversalsLift: over sound links, a step back undoes a step, at every resolution
+--
 -- from a hexagon base cell into another or the same, the opposite direction, turned as on the way, leads back and
 -- undoes the turns
 abbrev pub ReversalsLift : Type 0
@@ -43,6 +46,8 @@ ReversalsLift =
     (link : Links) → IsSound link → (b : ℕ) (ds : List ℕ) (d : Direction) (r : Reached) → IsHexagonBase b → AllBelowBase 7 ds → Reaches link b ds d r
     → IsHexagonBase r.base → Reaches link r.base r.digits (turned r.turns (opposite d)) (reached b ((6 - r.turns) % 6) ds)
 
+-- CornersLift: and the steps in a direction and in the next one are a step apart
+--
 -- where the cells in a direction and in the next one are in hexagon base cells, the direction turned twice, and as on
 -- the way, leads from the first to the second, and its turns make up the difference
 abbrev pub CornersLift : Type 0

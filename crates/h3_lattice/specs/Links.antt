@@ -16,7 +16,7 @@ IsHexagonBase b = (b < 122) × (is_pentagon_base b ≡ false)
 unfoldable pub is_hexagon_base : ℕ → Bool
 is_hexagon_base b = nat_lt b 122 && not (is_pentagon_base b)
 
--- a base cell, and a number of turns
+-- IsLink: a base cell of 0 to 121, and 0 to 5 turns
 abbrev pub IsLink : ℕ × ℕ → Type 0
 IsLink link = (link.0 < 122) × (link.1 < 6)
 
@@ -24,11 +24,11 @@ IsLink link = (link.0 < 122) × (link.1 < 6)
 abbrev pub is_link : ℕ × ℕ → Bool
 is_link link = nat_lt link.0 122 && nat_lt link.1 6
 
--- the link of each base cell and direction
+-- Links: for a base cell and a direction, the base cell that lies there and how often digits are turned on crossing
 abbrev pub Links : Type 0
 Links = ℕ → Direction → ℕ × ℕ
 
--- a link that is held in two bytes, as the neighbor and the turns
+-- pair_of link: a link that is held in two bytes, as the neighbor and the turns
 abbrev pub pair_of : Link → ℕ × ℕ
 pair_of l = (l.to, l.turns)
 
@@ -36,12 +36,15 @@ pair_of l = (l.to, l.turns)
 abbrev pub slot_of : ℕ → ℕ → ℕ
 slot_of b d = b * 6 + (d - 1)
 
--- the links of such a list
+-- links_in list: the links of a list of such pairs, six for each base cell
 unfoldable pub links_in : List (ℕ × ℕ) → Links
 links_in links b d = slice_index_or links (slot_of b (digit_of d)) (0, 0)
 
 -- ---- links that fit together
 
+-- IsSound link: for all hexagon base cells: links are links, the six neighbors differ from each other and from the base
+-- cell, the link back undoes the link, and the links round each corner agree
+--
 -- For each hexagon base cell b and direction d: b's six neighbors differ from each other and from b (apart, away).
 -- From a neighbor that is a hexagon base cell, the link in the opposite direction, turned as on crossing, leads back
 -- and undoes the turns (reversal). Where the neighbors in d and in d turned once are both hexagon base cells, the link

@@ -9,13 +9,13 @@ use Rattle.h3_directions.specs.Direction.{unit_of, value_of}
 use Rattle.h3_lattice.specs.Digits.{IsDigits}
 use Rattle.h3_lattice.specs.Expansion.{place, IsExpansion}
 
--- the place of the digits ds plus a direction has, at their resolution, an expansion by the digits es, and by the unit
--- of the direction `out`, or by 0 where there is none
+-- IsSum ds d u es: the place of ds plus the direction has an expansion by the digits es, and by the unit u or 0
 abbrev pub IsSum : List ℕ → Direction → Option Direction → List ℕ → Type 0
 IsSum ds direction out es =
     IsExpansion (sum_of (place ds) (unit_of direction)) (length ds) (value_of out) es
 
--- by 0: the sum is a cell of the same base cell. By a unit: it lies across the border of the base cell in that direction
+-- IsMoved cell d r: r is the sum of the cell and the direction: a cell of the same base cell, or a border of it and
+-- digits
 abbrev pub IsMoved : Address → Direction → Moved → Type 0
 IsMoved cell direction (Inside moved) =
     (moved.base ≡ cell.base) × IsSum cell.digits direction None moved.digits × IsCell moved

@@ -50,7 +50,8 @@ unfoldable pub first_fault : List Record → List Record → Option TableError
 first_fault before [] = None
 first_fault before (r ∷ rest) = option_or (fault_of before r) (first_fault (before ++ r ∷ []) rest)
 
--- the first faulty record of a file: an empty file has no header
+-- fault_of_records records: the first faulty record, each judged after those before it, by the format whose header the
+-- first is
 abbrev pub fault_of_records : List Record → Option TableError
 fault_of_records [] = Some (fault.Form 1)
 fault_of_records (front ∷ body) = first_fault [] (front ∷ body)

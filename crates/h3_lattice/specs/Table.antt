@@ -13,7 +13,7 @@ use Rattle.h3_lattice.specs.Links.{IsHexagonBase, IsLink, IsSound, Links}
 use Rattle.h3_lattice.specs.Checks.{at_links, fault_of_links, error_unless}
 use Rattle.h3_lattice.specs.Records.{body_of, fault_of_records, format_of, record_link, first_link}
 
--- the table of these records
+-- links_of records: the table that a file holds
 abbrev pub links_of : List Record → Links
 links_of records b d = unwrap_or (first_link (format_of records) b (digit_of d) (body_of records)) (0, 0)
 
@@ -21,10 +21,14 @@ links_of records b d = unwrap_or (first_link (format_of records) b (digit_of d) 
 abbrev pub missing_of : List Record → ℕ → Direction → Option TableError
 missing_of records b d = error_unless (is_some (first_link (format_of records) b (digit_of d) (body_of records))) fault.Missing
 
+-- table_fault records: a file's first error: of the records, a missing one, of the checks
+--
 -- why a table file is refused: its first faulty record, or else a missing one, or else the first check that fails
 abbrev pub table_fault : List Record → Option TableError
 table_fault records = option_or (fault_of_records records) (option_or (at_links (missing_of records)) (fault_of_links (links_of records)))
 
+-- RefusesTable: which errors a file may get
+--
 -- An error fits the file: out of memory says nothing of it, a read fault comes only where reads fail, and any other
 -- is the file's first fault.
 abbrev pub RefusesTable : Type 0 → Option TableError → TableError → Type 0
@@ -34,6 +38,8 @@ RefusesTable read_fails first e = first ≡ Some e
 
 -- ---- the tables that are accepted
 
+-- ChecksMeanSound: of links that are links, no check fails exactly where they are sound
+--
 -- of links that lead to base cells by 0 to 5 turns, none of the checks fails exactly where they are sound
 abbrev pub ChecksMeanSound : Type 0
 ChecksMeanSound =
@@ -49,6 +55,9 @@ pub record IsLinkRecord (format : Format) (r : Record) : Type 0 where
   pub parsed : numbers_in (width format) r ≡ Some numbers
   pub ranges : in_range format numbers ≡ true
 
+-- IsOfForm records: the header of one of the formats, and records in range, of which for each hexagon base cell and
+-- direction exactly one has the link
+--
 -- the form of a table file: the header of one of the formats, and then, in any order, records in their ranges, of which
 -- for each hexagon base cell and direction exactly one has the link: so there is one record for each of both in format
 -- 1, and one for each hexagon base cell in format 2
@@ -58,6 +67,6 @@ pub record IsOfForm (records : List Record) : Type 0 where
   pub each : All (IsLinkRecord format) (body_of records)
   pub once : (b : ℕ) (d : Direction) → IsHexagonBase b → count_by (has_link format b (digit_of d)) (body_of records) ≡ 1
 
--- a file has no error exactly where it is of the form and its links are sound
+-- SoundFilesAreAccepted: there is no error exactly where the file is of the form and its links are sound
 abbrev pub SoundFilesAreAccepted : Type 0
 SoundFilesAreAccepted = (records : List Record) → (table_fault records ≡ None) ↔ (IsOfForm records × IsSound (links_of records))

@@ -41,6 +41,7 @@ turned_back n d = turned (6 - n) d
 abbrev pub twisted_neighbor : ℕ → Direction → ℕ
 twisted_neighbor b d = plain_neighbor b (turned_back (twist b) d)
 
+-- test_link table: the links of the test tables
 abbrev pub test_link : TestTable → Links
 test_link Plain b d = (plain_neighbor b d, 0)
 test_link Twisted b d = (twisted_neighbor b d, (twist (twisted_neighbor b d) + 6 - twist b) % 6)

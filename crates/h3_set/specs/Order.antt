@@ -3,7 +3,7 @@ use Rattle.std.specs.Prelude.{◌+◌, ◌-◌, ◌^◌, ◌≤◌, List, AllPai
 use Rattle.h3_index.specs.Cell.{Address, resolution}
 use Rattle.h3_tree.specs.PostOrder.{post_order_key}
 
--- no cell has a smaller key than one before it
+-- IsInOrder cells: the list is in post order: no cell has a smaller key than one before it
 abbrev pub IsInOrder : List Address → Type 0
 IsInOrder = AllPairs (λ a b. post_order_key a ≤ post_order_key b)
 

@@ -4,6 +4,6 @@ use Rattle.h3_index.specs.Cell.{Address}
 use Rattle.h3_tree.specs.Following.{cells_from}
 use Rattle.h3_tree.specs.declared.iter.Children.{Children}
 
--- the cells that are still to come
+-- children_left s: the cells that a `Children` has still to give
 unfoldable pub children_left : Children → List Address
 children_left s = cells_from s.left s.next

@@ -3,7 +3,8 @@ use Rattle.std.specs.Prelude.{ℕ, ◌≡◌, ◌<◌, ◌≤◌, ◌↔◌, Con
 use Rattle.h3_index.specs.Cell.{Address, IsCell, number_of, resolution}
 use Rattle.h3_index.specs.Descendants.{center_at, cut, descendants, IsAncestor, IsDescendant}
 
--- the cells of a base cell form a tree
+-- CellsFormTrees: of two ancestors of a cell one stands above the other; a cell has an ancestor at each resolution up
+-- to its own, and from there on descendants, as listed
 pub record CellsFormTrees : Type 0 where
   -- a cell is an ancestor of itself, and an ancestor of its ancestor is its own
   pub own : (c : Address) → IsAncestor c c
