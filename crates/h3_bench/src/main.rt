@@ -1,15 +1,19 @@
 //! Loops over the library for `bench/run`, which measures them against plain Rust. `h3_bench COUNT`
 //! goes from COUNT positions to their cells and back; `h3_bench COUNT tables` reads the table on
 //! standard input COUNT times; `h3_bench COUNT steps` reads it once and goes COUNT times round the
-//! ring of radius 1000 by 6000 steps. Each prints a sum of what it found.
+//! ring of radius 1000 by 6000 steps; `h3_bench COUNT zones PERCENT ORDER WAY` looks a million cells up
+//! COUNT times in zones that are so many in a hundred of the cells of resolution 5. ORDER is
+//! `sorted` or `random`; WAY is `each` for `zone_of`, `near` for
+//! `zone_near`, or `indexed` for a table with four places for each zone. Each prints a sum of what it found.
 #![tactic(auto)]
 
 use h3_directions::{Direction, TableError};
 use h3_grid::step;
 use h3_index::{Cell, H3Error, Streamed};
 use h3_lattice::BaseTable;
-use h3_tree::{child_at, child_pos};
-use std::alloc::Global;
+use h3_regions::{ZoneIndex, Zones};
+use h3_tree::{child_at, child_pos, children_at};
+use std::alloc::{AllocError, Global};
 use std::io::Read;
 use std::{env, io};
 
@@ -113,6 +117,115 @@ fn tables(rt: &HostRuntime, count: u64) -> io::Result<()> {
     }
 }
 
+/// A random number, the same from the same state.
+fn random(state: &mut u64) -> u64 {
+    let next = state
+        .wrapping_mul(6_364_136_223_846_793_005)
+        .wrapping_add(1_442_695_040_888_963_407);
+    *state = next;
+    next >> 33
+}
+
+/// So many in a hundred of the cells of resolution 5, at random.
+fn some_of_world(alloc: Global, percent: u64) -> Result<Vec<Cell>, AllocError> {
+    let mut cells = Vec::new(alloc);
+    let mut state: u64 = 1;
+    for base in 0..122 {
+        for cell in children_at(Cell::in_base(base), 5) {
+            if random(&mut state) % 100 < percent {
+                cells.push(cell)?;
+            }
+        }
+    }
+    Ok(cells)
+}
+
+/// A million random cells of resolution 9.
+fn random_cells(alloc: Global) -> Result<Vec<Cell>, AllocError> {
+    let mut cells = Vec::new(alloc);
+    let mut state: u64 = 2;
+    for _cell in 0..1_000_000 {
+        let base = Cell::in_base((random(&mut state) % 122) as u8);
+        if let Ok(cell) = child_at(random(&mut state) % 30_000_000, base, 9) {
+            cells.push(cell)?;
+        }
+    }
+    Ok(cells)
+}
+
+/// Looks the zone of each cell up, and adds them.
+fn zones_of(zones: &Zones, cells: &[Cell]) -> u64 {
+    let mut sum: u64 = 0;
+    for cell in cells {
+        if let Some(zone) = zones.zone_of(*cell) {
+            sum = sum.wrapping_add(zone.raw());
+        }
+    }
+    sum
+}
+
+/// As `zones_of`, each from where the one before was found.
+fn zones_near(zones: &Zones, cells: &[Cell]) -> u64 {
+    let mut sum: u64 = 0;
+    let mut place: usize = 0;
+    for cell in cells {
+        if let Some(zone) = zones.zone_near(*cell, &mut place) {
+            sum = sum.wrapping_add(zone.raw());
+        }
+    }
+    sum
+}
+
+/// As `zones_of`, by a table of first places.
+fn zones_indexed(index: &ZoneIndex, cells: &[Cell]) -> u64 {
+    let mut sum: u64 = 0;
+    for cell in cells {
+        if let Some(zone) = index.zone_of(*cell) {
+            sum = sum.wrapping_add(zone.raw());
+        }
+    }
+    sum
+}
+
+/// The ways to look zones up.
+#[derive(Clone, Copy)]
+enum Way {
+    Each,
+    Near,
+    Indexed,
+}
+
+/// Looks the zones of the cells up `count` times.
+fn look_up(zones: &Zones, index: &ZoneIndex, cells: &[Cell], way: Way, count: u64) -> u64 {
+    let mut sum: u64 = 0;
+    for _round in 0..count {
+        let found = match way {
+            Way::Each => zones_of(zones, cells),
+            Way::Near => zones_near(zones, cells),
+            Way::Indexed => zones_indexed(index, cells),
+        };
+        sum = sum.wrapping_add(found);
+    }
+    sum
+}
+
+/// Looks a million cells up in zones, `count` times.
+fn zones(rt: &HostRuntime, count: u64, percent: u64, sorted: bool, way: Way) -> io::Result<()> {
+    let mut cells = some_of_world(rt.alloc(), percent)?;
+    let mut others = random_cells(rt.alloc())?;
+    if sorted {
+        others.sort_unstable();
+    }
+    let mut places = vec![in rt.alloc(); 0u32; 4 * cells.len()]?;
+    match Zones::of(&mut cells) {
+        Ok(zones) => {
+            let index = ZoneIndex::of(&zones, &mut places);
+            println!(rt; "{}", look_up(&zones, &index, &others, way, count))
+        }
+        Err(error) => println!(rt; "{error}"),
+    }
+}
+
 /// Goes from `count` positions to their cells and back.
 fn positions(rt: &HostRuntime, count: u64) -> io::Result<()> {
     match positions_and_back(count) {
@@ -129,6 +242,19 @@ fn main(rt: HostRuntime) -> io::Result<()> {
     };
     match words.next() {
         Some(word) if word.as_str() == "steps" => steps(&rt, count),
+        Some(word) if word.as_str() == "zones" => {
+            let percent = match words.next() {
+                Some(word) => word.as_str().parse().unwrap_or(0),
+                None => 0,
+            };
+            let sorted = words.next().is_some_and(|word| word.as_str() == "sorted");
+            let way = match words.next() {
+                Some(word) if word.as_str() == "near" => Way::Near,
+                Some(word) if word.as_str() == "indexed" => Way::Indexed,
+                _ => Way::Each,
+            };
+            zones(&rt, count, percent, sorted, way)
+        }
         Some(_) => tables(&rt, count),
         None => positions(&rt, count),
     }

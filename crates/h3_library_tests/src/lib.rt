@@ -30,3 +30,5 @@ mod sums;
 mod table;
 #[cfg(test)]
 mod texts;
+#[cfg(test)]
+mod zones;

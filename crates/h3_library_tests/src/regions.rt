@@ -176,9 +176,9 @@ fn shares(rt: &HostRuntime, row: &Row<'_>) -> bool {
     let mut slots = [Cell::in_base(0); SLOTS];
     let given = put(&mut cells, first, &[]);
     let more = put(&mut others, second, &[]);
-    let a = Region::of(&mut cells[..given]);
-    let b = Region::of(&mut others[..more]);
-    is_sorted_list(rt, intersect(&a, &b, &mut slots).cells(), expected)
+    let one = Region::of(&mut cells[..given]);
+    let other = Region::of(&mut others[..more]);
+    is_sorted_list(rt, intersect(&one, &other, &mut slots).cells(), expected)
 }
 
 #[test]
@@ -273,13 +273,13 @@ fn leaves_list(rt: &HostRuntime, row: &Row<'_>) -> bool {
     let mut slots = [Cell::in_base(0); SLOTS];
     let given = put(&mut cells, first, &[]);
     let more = put(&mut others, second, &[]);
-    let a = Region::of(&mut cells[..given]);
-    let b = Region::of(&mut others[..more]);
+    let one = Region::of(&mut cells[..given]);
+    let other = Region::of(&mut others[..more]);
     let room = expected.len().min(SLOTS);
-    if room > 0 && subtract(&a, &b, &mut slots[..room - 1]).is_some() {
+    if room > 0 && subtract(&one, &other, &mut slots[..room - 1]).is_some() {
         return false;
     }
-    match subtract(&a, &b, &mut slots[..room]) {
+    match subtract(&one, &other, &mut slots[..room]) {
         Some(left) => is_sorted_list(rt, left.cells(), expected),
         None => false,
     }
@@ -639,10 +639,10 @@ fn agree(leaves: &[Cell], first: [Cell; 8], second: [Cell; 8]) -> bool {
         second: &second,
         kind,
     };
-    let a = Region::of(&mut cells);
-    let b = Region::of(&mut others);
-    let shared = intersect(&a, &b, &mut slots);
-    match subtract(&a, &b, &mut more) {
+    let one = Region::of(&mut cells);
+    let other = Region::of(&mut others);
+    let shared = intersect(&one, &other, &mut slots);
+    match subtract(&one, &other, &mut more) {
         Some(left) => {
             is_region_of(leaves, set(Kind::Both), shared.cells())
                 && is_region_of(leaves, set(Kind::Beyond), left.cells())

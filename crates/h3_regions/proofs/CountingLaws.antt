@@ -1,10 +1,10 @@
 -- Counting cells by the cell of a region that covers them.
 use Rattle.std.specs.List.{count_by, flat_map, sum_by}
 use Rattle.std.specs.List.Sorted.{IsPermutation}
-use Rattle.std.proofs.Common.{ℕ, suc, ◌≡◌, ◌≢◌, ◌+◌, ◌<◌, List, [], ◌∷◌, length, take, set, map, not, sum, Bool, true, false, cond, Some, None, refl, arith, ◌∙◌, sym, ap, subst, inl, inr, get_or}
+use Rattle.std.proofs.Common.{ℕ, zero, suc, ◌++◌, replicate, length-append, take_all, Contains, ◌≡◌, ◌≢◌, ◌+◌, ◌<◌, List, [], ◌∷◌, length, take, set, map, not, sum, Bool, true, false, cond, Some, None, refl, arith, ◌∙◌, sym, ap, subst, inl, inr, get_or}
 use Rattle.std.proofs.Math.ListN.{length-set}
 use Rattle.std.proofs.lemmas.Bool.{cases_eq}
-use Rattle.std.proofs.lemmas.List.{get_or-set_same, get_or-set_other}
+use Rattle.std.proofs.lemmas.List.{length-map, get_or-set_same, get_or-set_other}
 use Rattle.std.proofs.lemmas.List.Elements.{Contains-get_or}
 use Rattle.std.proofs.lemmas.List.Sums.{count_by_more_no, count_by_more_yes, sum-map, sum_by-append, sum_by-set}
 use Rattle.std.proofs.lemmas.List.Sorted.{sum_by-IsPermutation}
@@ -12,6 +12,7 @@ use Rattle.h3_index.specs.Cell.{Address}
 use Rattle.h3_index.specs.Descendants.{IsAncestor}
 use Rattle.h3_set.specs.Coverage.{is_ancestor, is_covered}
 use Rattle.h3_set.specs.Laws.{AncestorsAreFound}
+use Rattle.h3_regions.specs.Counts.{AreCounts}
 use Rattle.h3_regions.specs.Laws.{CountsAddUp}
 use Rattle.h3_regions.specs.Zones.{StandsAbove}
 use Rattle.h3_regions.proofs.ListLaws.{any_default}
@@ -81,6 +82,69 @@ module _ (found : AncestorsAreFound) (list cells : List Address) (counts : List 
         none = ap (λ n. n + 1) inv.none ∙ sym (yes (λ y. not (is_covered list y)) (ap not uncovered));
         total = omega (arith, inv.total);
       }
+
+-- ---- one cell more
+
+at_map : (f : Address → ℕ) (list : List Address) (i : ℕ) (d : Address) → i < length list → get_or (map f list) i 0 ≡ f (get_or list i d)
+at_map f [] i d lt = absurd (omega (arith, lt))
+at_map f (x ∷ list) zero d lt = refl
+at_map f (x ∷ list) (suc i) d lt = at_map f list i d (omega (arith, lt))
+
+take_all_of : (cells more : List Address) → take (length cells) (cells ++ more) ≡ cells
+take_all_of [] more = refl
+take_all_of (x ∷ cells) more = ap (λ l. x ∷ l) (take_all_of cells more)
+
+all_of_one : (cells : List Address) (x : Address) → take (length cells + 1) (cells ++ x ∷ []) ≡ cells ++ x ∷ []
+all_of_one cells x = take_all (length cells + 1) (cells ++ x ∷ []) (omega (arith, length-append cells (x ∷ [])))
+
+at_end : (cells : List Address) (x : Address) → x ≡ get_or (cells ++ x ∷ []) (length cells) x
+at_end [] x = refl
+at_end (y ∷ cells) x = at_end cells x
+
+-- counts of a list, as the first cells of a longer one
+begun : (list cells more : List Address) (counts : List ℕ) (others : ℕ) → AreCounts list cells counts others → IsCounting list (cells ++ more) counts others (length cells)
+begun list cells more counts others h =
+    record {
+      size = ap length h.each ∙ length-map list (λ zone. count_by (λ x. is_ancestor zone x) cells);
+      each = λ i d lt. rw (take_all_of cells more) (ap (λ l. get_or l i 0) h.each ∙ at_map (λ zone. count_by (λ x. is_ancestor zone x) cells) list i d lt);
+      none = rw (take_all_of cells more) h.none;
+      total = h.all;
+    }
+
+ended : (list cells : List Address) (x : Address) (counts : List ℕ) (others : ℕ) → IsCounting list (cells ++ x ∷ []) counts others (length cells + 1) → AreCounts list (cells ++ x ∷ []) counts others
+ended list cells x counts others h =
+    let whole = all_of_one cells x in
+    record {
+      each = as_map (λ a. count_by (λ y. is_ancestor a y) (cells ++ x ∷ [])) list counts h.size (λ i d lt. rw whole at (h.each i d lt));
+      none = rw whole at h.none;
+      all = omega (arith, h.total, length-append cells (x ∷ []));
+    }
+
+module _ (found : AncestorsAreFound) (list : List Address) (counts : List ℕ) (others : ℕ) (x : Address) where
+  pub one_counted : (i : ℕ) → i < length list → StandsAbove list i x → ((j : ℕ) → j < length list → StandsAbove list j x → Some i ≡ Some j)
+      → (cells : List Address) → AreCounts list cells counts others → AreCounts list (cells ++ x ∷ []) (set counts i (get_or counts i 0 + 1)) others
+  one_counted i li above one cells h =
+      ended list cells x _ _ (counted found list (cells ++ x ∷ []) counts others (length cells) x (omega (arith, length-append cells (x ∷ []))) (at_end cells x) (begun list cells (x ∷ []) counts others h) i li above one)
+
+  pub one_uncounted : ((j : ℕ) → j < length list → StandsAbove list j x → None ≡ Some j) → (cells : List Address) → AreCounts list cells counts others → AreCounts list (cells ++ x ∷ []) counts (others + 1)
+  one_uncounted one cells h =
+      ended list cells x _ _ (uncounted found list (cells ++ x ∷ []) counts others (length cells) x (omega (arith, length-append cells (x ∷ []))) (at_end cells x) (begun list cells (x ∷ []) counts others h) one)
+
+-- the count of a zone stands at its place
+pub count_at : (list cells : List Address) (counts : List ℕ) (others : ℕ) (z : Address) (m : Contains list z) → AreCounts list cells counts others → get_or counts m.0 0 ≡ count_by (λ x. is_ancestor z x) cells
+count_at list cells counts others z m h =
+    ap (λ l. get_or l m.0 0) h.each ∙ at_map (λ zone. count_by (λ x. is_ancestor zone x) cells) list m.0 z m.1 ∙ ap (λ zone. count_by (λ x. is_ancestor zone x) cells) m.2
+
+zeros : (list : List Address) → replicate {A = ℕ} (length list) 0 ≡ map (λ zone. 0) list
+zeros [] = refl
+zeros (x ∷ list) = ap (λ l. 0 ∷ l) (zeros list)
+
+no_sum : (n : ℕ) → sum (replicate {A = ℕ} n 0) ≡ 0
+no_sum zero = refl
+no_sum (suc n) = no_sum n
+
+pub none_counted : (list : List Address) → AreCounts list [] (replicate {A = ℕ} (length list) 0) 0
+none_counted list = record { each = zeros list; none = refl; all = omega (arith, no_sum (length list)) }
 
 -- ---- in parts
 

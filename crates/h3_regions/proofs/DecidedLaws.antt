@@ -24,7 +24,7 @@ true_or_not false = inr refl
 
 -- ---- the members of lists
 
-kept_from : (p : Address → Bool) (xs : List Address) (x : Address) → Contains (filter p xs) x → Contains xs x × (p x ≡ true)
+pub kept_from : (p : Address → Bool) (xs : List Address) (x : Address) → Contains (filter p xs) x → Contains xs x × (p x ≡ true)
 kept_from p [] x m = absurd (omega (arith, m.1))
 kept_from p (y ∷ xs) x m =
     elim (true_or_not (p y)) [
@@ -40,7 +40,7 @@ kept_from p (y ∷ xs) x m =
           (contains_tail y x xs r.0, r.1)
     ]
 
-kept : (p : Address → Bool) (xs : List Address) (x : Address) → Contains xs x → p x ≡ true → Contains (filter p xs) x
+pub kept : (p : Address → Bool) (xs : List Address) (x : Address) → Contains xs x → p x ≡ true → Contains (filter p xs) x
 kept p [] x m t = absurd (omega (arith, m.1))
 kept p (y ∷ xs) x m t =
     elim (true_or_not (p y)) [
@@ -124,7 +124,7 @@ module _ (tree : CellsFormTrees) (found : AncestorsAreFound) (cells : List Addre
 
 -- ---- regions of what is shared, and of what is left
 
-module _ (tree : CellsFormTrees) (found : AncestorsAreFound) (reordered : ApartInAnyOrder) (made : CompactedListsAreCompacted) (reduced : ReducedListsAreCompacted) (decide : CoveragesDecideLists) (a b list : List Address) (va : All IsCell a) (vb : All IsCell b) (region : IsRegion list) where
+module _ (tree : CellsFormTrees) (found : AncestorsAreFound) (decide : CoveragesDecideLists) (a b list : List Address) (va : All IsCell a) (vb : All IsCell b) (valid_list : All IsCell list) where
   fine_both : finest_of_both a b ≤ 15
   fine_both = omega (arith, fine_within a va, fine_within b vb)
 
@@ -134,25 +134,24 @@ module _ (tree : CellsFormTrees) (found : AncestorsAreFound) (reordered : ApartI
   fine_second : finest b ≤ finest_of_both a b
   fine_second = omega arith
 
-  picked_list : (p : Address → Bool) → ((x : Address) → IsCovered list 15 x ↔ (IsCovered a 15 x × (p (cut x (finest_of_both a b)) ≡ true))) → IsPermutation (compacted (filter p (uncompacted a (finest_of_both a b)))) list
-  picked_list p covers =
+  picked_same : (p : Address → Bool) → ((x : Address) → IsCovered list 15 x ↔ (IsCovered a 15 x × (p (cut x (finest_of_both a b)) ≡ true))) → compacted list ≡ compacted (filter p (uncompacted a (finest_of_both a b)))
+  picked_same p covers =
       let valid = picked_valid tree a (finest_of_both a b) fine_first va fine_both p in
       let picks = picked_covers tree a (finest_of_both a b) fine_first va fine_both p in
-      let same : compacted (filter p (uncompacted a (finest_of_both a b))) ≡ compacted list = decide (filter p (uncompacted a (finest_of_both a b))) list 15 valid region.valid (fine_within (filter p (uncompacted a (finest_of_both a b))) valid) (fine_within list region.valid) (omega arith) (λ x. ((λ c. (covers x).1 ((picks x).0 c)), (λ c. (picks x).1 ((covers x).0 c)))) in
-      subst (λ l. IsPermutation l list) (sym same) (region_permutes tree reordered made reduced list region)
+      decide list (filter p (uncompacted a (finest_of_both a b))) 15 valid_list valid (fine_within list valid_list) (fine_within (filter p (uncompacted a (finest_of_both a b))) valid) (omega arith) (λ x. ((λ c. (picks x).1 ((covers x).0 c)), (λ c. (covers x).1 ((picks x).0 c))))
 
-  pub intersection_list : ((x : Address) → IsCovered list 15 x ↔ (IsCovered a 15 x × IsCovered b 15 x)) → IsPermutation (intersection a b) list
+  pub intersection_same : ((x : Address) → IsCovered list 15 x ↔ (IsCovered a 15 x × IsCovered b 15 x)) → compacted list ≡ intersection a b
   unfolding intersection
-  intersection_list covers =
-      picked_list (is_covered b) (λ x. (
+  intersection_same covers =
+      picked_same (is_covered b) (λ x. (
         (λ c. let w = (covers x).0 c in (w.0, covered_to tree found b (finest_of_both a b) fine_second fine_both x c.below.valid c.below.resolution_is w.1)),
         (λ (c, t). (covers x).1 (c, covered_from tree found b (finest_of_both a b) fine_second fine_both x c.below.valid c.below.resolution_is t)),
       ))
 
-  pub difference_list : ((x : Address) → IsCovered list 15 x ↔ (IsCovered a 15 x × (¬ IsCovered b 15 x))) → IsPermutation (difference a b) list
+  pub difference_same : ((x : Address) → IsCovered list 15 x ↔ (IsCovered a 15 x × (¬ IsCovered b 15 x))) → compacted list ≡ difference a b
   unfolding difference
-  difference_list covers =
-      picked_list (λ x. not (is_covered b x)) (λ x. (
+  difference_same covers =
+      picked_same (λ x. not (is_covered b x)) (λ x. (
         (λ c.
             let w = (covers x).0 c in
             let out : is_covered b (cut x (finest_of_both a b)) ≡ false = elim (true_or_not (is_covered b (cut x (finest_of_both a b)))) [
@@ -168,3 +167,12 @@ module _ (tree : CellsFormTrees) (found : AncestorsAreFound) (reordered : ApartI
               cc),
         )),
       ))
+
+module _ (tree : CellsFormTrees) (found : AncestorsAreFound) (reordered : ApartInAnyOrder) (made : CompactedListsAreCompacted) (reduced : ReducedListsAreCompacted) (decide : CoveragesDecideLists) (a b list : List Address) (va : All IsCell a) (vb : All IsCell b) (region : IsRegion list) where
+  pub intersection_list : ((x : Address) → IsCovered list 15 x ↔ (IsCovered a 15 x × IsCovered b 15 x)) → IsPermutation (intersection a b) list
+  intersection_list covers =
+      subst (λ l. IsPermutation l list) (intersection_same tree found decide a b list va vb region.valid covers) (region_permutes tree reordered made reduced list region)
+
+  pub difference_list : ((x : Address) → IsCovered list 15 x ↔ (IsCovered a 15 x × (¬ IsCovered b 15 x))) → IsPermutation (difference a b) list
+  difference_list covers =
+      subst (λ l. IsPermutation l list) (difference_same tree found decide a b list va vb region.valid covers) (region_permutes tree reordered made reduced list region)

@@ -9,10 +9,12 @@ pub mod KeepingLaws
 pub mod LeavingLaws
 pub mod LeftLaws
 pub mod ListLaws
+pub mod NumberLaws
 pub mod PermutedLaws
 pub mod RegionLaws
 pub mod RoomLaws
 pub mod SearchLaws
 pub mod SharedLaws
+pub mod TableLaws
 pub mod TestLaws
 pub mod ZoneLaws

@@ -1,19 +1,33 @@
 -- The search for the cell of a region that stands above a cell.
-use Rattle.std.specs.List.Sorted.{IsNonDecreasingBy, IsPartitionPoint}
-use Rattle.std.proofs.Common.{ℕ, ◌≡◌, ◌+◌, ◌-◌, ◌^◌, ◌<◌, ◌≤◌, List, length, true, false, nat_lt, arith, ◌∙◌, sym, ap, subst, inl, inr, get_or}
+use Rattle.std.specs.Int.{from_bool}
+use Rattle.std.specs.List.Sorted.{IsNonDecreasingBy}
+use Rattle.std.proofs.Common.{ℕ, ◌≡◌, ◌+◌, ◌-◌, ◌^◌, ◌<◌, ◌≤◌, List, length, true, false, ◌*◌, nat_lt, nat_le, IsTrue, ◌↔◌, arith, ◌∙◌, sym, ap, subst, inl, inr, get_or}
 use Rattle.std.proofs.lemmas.Bool.{cases_lt}
 use Rattle.std.proofs.lemmas.Bool.Decides.{nat_tests}
 use Rattle.h3_index.specs.Cell.{Address, IsCell, resolution}
 use Rattle.h3_index.specs.Descendants.{IsAncestor}
 use Rattle.h3_tree.specs.PostOrder.{post_order_key as key, CellsFormIntervals}
-use Rattle.h3_regions.specs.Zones.{IsZones, StandsAbove}
+use Rattle.h3_regions.specs.Zones.{AreBelow, AreNotBelow, IsFirstPlace, IsZones, StandsAbove}
 use Rattle.h3_regions.proofs.IntervalLaws.{inside, within}
+use Rattle.h3_regions.proofs.ListLaws.{any_default}
 
 is_less : (m n : ℕ) → nat_lt m n ≡ true → m < n
 is_less m n h = grind (arith, nat_tests)
 
-is_not_less : (m n : ℕ) → nat_lt m n ≡ false → n ≤ m
-is_not_less m n h = grind (arith, nat_tests)
+less_is : (m n : ℕ) → m < n → nat_lt m n ≡ true
+less_is m n h = grind (arith, nat_tests)
+
+less_is_not : (m n : ℕ) → n ≤ m → nat_lt m n ≡ false
+less_is_not m n h = grind (arith, nat_tests)
+
+is_at_most : (m n : ℕ) → nat_le m n ≡ true → m ≤ n
+is_at_most m n h = grind (arith, nat_tests)
+
+at_most_is : (m n : ℕ) → m ≤ n → nat_le m n ≡ true
+at_most_is m n h = grind (arith, nat_tests)
+
+sub_one : (first h : ℕ) → first + h + 1 - 1 ≡ first + h
+sub_one first h = omega arith
 
 module _ (cells : List Address) (region : IsZones cells) where
   -- the keys rise
@@ -24,12 +38,64 @@ module _ (cells : List Address) (region : IsZones cells) where
         | inr not ↦ let e : i ≡ j = omega (arith, le, not) in rw e (omega arith)
       ]
 
-  module _ (intervals : CellsFormIntervals) (x : Address) (valid : IsCell x) (k : ℕ) (key_is : k ≡ key x) (i : ℕ) (split : IsPartitionPoint (λ y. nat_lt (key y) k ≡ true) (λ y. nat_lt (key y) k ≡ false) cells i) where
+  -- if the last cell before a place has a key below k, so have those before it, and likewise after it
+  pub below_from_last : (k i : ℕ) → (d : Address) → 0 < i → i ≤ length cells → key (get_or cells (i - 1) d) < k → AreBelow cells k i
+  below_from_last k i d some room less j e from lt =
+      let h = keys_rise j (i - 1) e (omega (arith, lt)) (omega (arith, some, room)) in
+      let same = ap key (any_default cells (i - 1) e d (omega (arith, some, room))) in
+      omega (arith, h, same, less)
+
+  pub not_below_from : (k i : ℕ) → (d : Address) → k ≤ key (get_or cells i d) → AreNotBelow cells k i
+  not_below_from k i d le j e from lt =
+      let h = keys_rise i j e from lt in
+      let same = ap key (any_default cells i e d (omega (arith, from, lt))) in
+      omega (arith, h, same, le)
+
+  -- the cell before a place decides whether those before it have keys below k, and the one there likewise
+  pub below_where : (k i r : ℕ) (a : Address) → 0 < i → i ≤ length cells → a ≡ get_or cells (i - 1) a → r ≡ key a → IsTrue (nat_lt r k) ↔ AreBelow cells k i
+  below_where k i r a some room is r_is = (
+    (λ t.
+        let less : r < k = is_less r k t in
+        below_from_last k i a some room (omega (arith, less, r_is, ap key is))),
+    (λ below.
+        let less = below (i - 1) a (omega arith) (omega (arith, some)) in
+        less_is r k (omega (arith, less, r_is, ap key is))),
+  )
+
+  pub not_below_where : (k i r : ℕ) (a : Address) → i < length cells → a ≡ get_or cells i a → r ≡ key a → IsTrue (nat_le k r) ↔ AreNotBelow cells k i
+  not_below_where k i r a lt is r_is = (
+    (λ t.
+        let le : k ≤ r = is_at_most k r t in
+        not_below_from k i a (omega (arith, le, r_is, ap key is))),
+    (λ after.
+        let le = after i a (omega arith) lt in
+        at_most_is k r (omega (arith, le, r_is, ap key is))),
+  )
+
+  -- one step of a search: h places on, where the cell there has a key below k
+  pub narrowed : (k first size h passed : ℕ) (a : Address) → h + h ≤ size → h < size → first + size ≤ length cells → a ≡ get_or cells (first + h) a → passed ≡ from_bool (nat_lt (key a) k) → AreBelow cells k first → AreNotBelow cells k (first + size) → (first + h * passed + (size - h) ≤ length cells) × AreBelow cells k (first + h * passed) × AreNotBelow cells k (first + h * passed + (size - h))
+  narrowed k first size h passed a half some room is p below after =
+      elim (cases_lt (key a) k) [
+        | inl less ↦
+            let one : passed ≡ 1 = p ∙ ap from_bool (less_is (key a) k less) in
+            let at : first + h * passed ≡ first + h = rw one (omega arith) in
+            let end : first + h * passed + (size - h) ≡ first + size = rw one (omega (arith, some)) in
+            let more = below_from_last k (first + h + 1) a (omega arith) (omega (arith, some, room)) (rw (sub_one first h) (omega (arith, less, ap key is))) in
+            (omega (arith, end, room), rw at (λ j d from lt. more j d from (omega (arith, lt))), rw end after)
+        | inr not ↦
+            let none : passed ≡ 0 = p ∙ ap from_bool (less_is_not (key a) k not) in
+            let at : first + h * passed ≡ first = rw none (omega arith) in
+            let end : first + h * passed + (size - h) ≡ first + (size - h) = rw none (omega arith) in
+            let more = not_below_from k (first + h) a (omega (arith, not, ap key is)) in
+            (omega (arith, end, room), rw at below, rw end (λ j d from lt. more j d (omega (arith, from, half)) lt))
+      ]
+
+  module _ (intervals : CellsFormIntervals) (x : Address) (valid : IsCell x) (i : ℕ) (split : IsFirstPlace cells (key x) i) where
     low : (j : ℕ) (d : Address) → j < i → key (get_or cells j d) < key x
-    low j d lt = rw (← key_is) (is_less _ _ (split.0 j d (omega arith) lt))
+    low j d lt = split.before j d (omega arith) lt
 
     pub high : (j : ℕ) (d : Address) → i ≤ j → j < length cells → key x ≤ key (get_or cells j d)
-    high j d le lt = rw (← key_is) (is_not_less _ _ (split.1 j d le lt))
+    high j d le lt = split.after j d le lt
 
     -- what stands above x is at that place
     pub only_place : (j : ℕ) → j < length cells → StandsAbove cells j x → j ≡ i

@@ -1,17 +1,17 @@
 -- The zone of a cell.
 use Rattle.std.specs.List.{find}
 use Rattle.std.specs.List.Sorted.{IsPermutation}
-use Rattle.std.proofs.Common.{◌≡◌, ◌⊎◌, List, [], ◌∷◌, Contains, Bool, true, false, Some, None, refl, arith, ◌∙◌, sym, ap, inl, inr}
-use Rattle.std.proofs.lemmas.List.Sorted.{IsPermutation-sym}
-use Rattle.h3_index.specs.Cell.{Address}
+use Rattle.std.proofs.Common.{◌≡◌, ◌⊎◌, List, [], ◌∷◌, All, Contains, Bool, true, false, Some, None, refl, arith, ◌∙◌, sym, ap, inl, inr}
+use Rattle.std.proofs.lemmas.List.Sorted.{Contains-permutation, IsPermutation-sym, list_any-IsPermutation}
+use Rattle.h3_index.specs.Cell.{Address, IsCell}
 use Rattle.h3_index.specs.Descendants.{IsAncestor}
 use Rattle.h3_index.specs.declared.error.H3Error.TheVariants.{DuplicateInput}
 use Rattle.h3_tree.specs.Laws.{CellsFormTrees}
 use Rattle.h3_set.specs.Coverage.{is_ancestor, is_covered, IsApart}
 use Rattle.h3_set.specs.Laws.{AncestorsAreFound, ApartInAnyOrder, OverlapsAreFound}
 use Rattle.h3_set.specs.Refusals.{compaction_refusal, has_overlap}
-use Rattle.h3_regions.specs.Laws.{ZonesAreOne}
-use Rattle.h3_regions.specs.Zones.{zone_of}
+use Rattle.h3_regions.specs.Laws.{ZonesAreOne, ZonesInAnyOrder}
+use Rattle.h3_regions.specs.Zones.{by_number, zone_of}
 use Rattle.h3_regions.proofs.ListLaws.{contains_cases, contains_head, contains_tail, one_of}
 use Rattle.h3_regions.proofs.SharedLaws.{ordered_or}
 use Rattle.h3_regions.proofs.TestLaws.{from_covered, none_covered}
@@ -98,6 +98,22 @@ module _ (tree : CellsFormTrees) (found : AncestorsAreFound) where
       (λ e. covered_zone zones x e),
     );
   }
+
+module _ (tree : CellsFormTrees) (found : AncestorsAreFound) (reordered : ApartInAnyOrder) where
+  zone_permuted : (zones others : List Address) (x : Address) → IsApart zones → IsPermutation zones others → zone_of zones x ≡ zone_of others x
+  zone_permuted zones others x apart same =
+      elim (true_or_not (is_covered zones x)) [
+        | inl pass ↦
+            let h = from_covered found zones x pass in
+            let f = find_first (λ y. is_ancestor y x) zones h.by h.member ((found h.by x).1 h.above) in
+            f.1.is ∙ sym (only_zone tree found others f.0 x (reordered zones others same apart) (Contains-permutation zones others f.0 same f.1.member) ((found f.0 x).0 f.1.passes))
+        | inr miss ↦
+            let out : is_covered others x ≡ false = sym (list_any-IsPermutation (λ c. is_ancestor c x) zones others same) ∙ miss in
+            no_zone tree found zones x (none_covered found zones x miss) ∙ sym (no_zone tree found others x (none_covered found others x out))
+      ]
+
+  pub zones_in_any_order : ((zones others : List Address) → IsApart zones → All IsCell zones → IsPermutation zones others → by_number zones ≡ by_number others) → ZonesInAnyOrder
+  zones_in_any_order number = record { covered = λ cells others x same. list_any-IsPermutation (λ c. is_ancestor c x) cells others same; zone = zone_permuted; number = number }
 
 -- ---- overlaps, in any order
 

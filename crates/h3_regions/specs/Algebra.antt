@@ -6,14 +6,15 @@ use Rattle.h3_set.specs.Compacted.{compacted}
 use Rattle.h3_set.specs.Coverage.{finest, is_covered}
 use Rattle.h3_set.specs.Uncompaction.{uncompacted}
 
--- the finest resolution of the cells of two lists
+-- finest_of_both a b: the finest resolution of the cells of two lists
 abbrev pub finest_of_both : List Address → List Address → ℕ
 finest_of_both a b = max (finest a) (finest b)
 
--- of the cells that the first covers at the finest resolution of both those that the second covers too, compacted
+-- intersection a b: of the cells that the first list covers at that resolution those that the second covers too,
+-- compacted
 unfoldable pub intersection : List Address → List Address → List Address
 intersection a b = compacted (filter (is_covered b) (uncompacted a (finest_of_both a b)))
 
--- of those cells the ones that the second does not cover, compacted
+-- difference a b: those of them that the second does not cover, compacted
 unfoldable pub difference : List Address → List Address → List Address
 difference a b = compacted (filter (λ x. not (is_covered b x)) (uncompacted a (finest_of_both a b)))

@@ -4,7 +4,7 @@ use Rattle.h3_index.specs.Cell.{Address}
 use Rattle.h3_index.specs.Descendants.{IsAncestor}
 use Rattle.h3_set.specs.Coverage.{IsApart}
 
--- a cell of the list is x, or stands above it
+-- HasAncestor cells x: a cell of the list is x or an ancestor of it
 pub record HasAncestor (cells : List Address) (x : Address) : Type 0 where
   pub by : Address
   pub member : Contains cells by

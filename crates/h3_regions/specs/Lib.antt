@@ -2,6 +2,7 @@ pub mod Algebra
 pub mod Coarsest
 pub mod Counts
 pub mod Examples
+pub mod FirstPlaces
 pub mod Laws
 pub mod Left
 pub mod Region

@@ -6,6 +6,8 @@ use Rattle.h3_tree.specs.PostOrder.{post_order_key}
 use Rattle.h3_set.specs.Compacted.{HasChildren}
 use Rattle.h3_set.specs.Coverage.{IsApart}
 
+-- IsRegion cells: cells in post order, of which no two overlap, with no complete set of siblings
+--
 -- the cells of a region, each right after where those below it would stand
 pub record IsRegion (cells : List Address) : Type 0 where
   pub valid : All IsCell cells

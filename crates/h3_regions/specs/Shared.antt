@@ -4,7 +4,7 @@ use Rattle.h3_index.specs.Cell.{Address}
 use Rattle.h3_tree.specs.PostOrder.{post_order_key}
 use Rattle.h3_regions.specs.Coarsest.{HasAncestor}
 
--- a cell of either list that the other covers
+-- IsShared a b x: x is in one of two lists, and the other covers it
 abbrev pub IsShared : List Address → List Address → Address → Type 0
 IsShared a b x = (Contains a x × HasAncestor b x) ⊎ (Contains b x × HasAncestor a x)
 

@@ -60,6 +60,7 @@ pub fn intersect<'s>(first: &Region, second: &Region, slots: &'s mut [Cell]) -> 
     ensures covers { (r : ℕ) (x : Address)
         → IsCovered result r x ↔ (IsCovered first.now r x × IsCovered second.now r x) }
     ensures region { IsRegion result }
+    ensures fewer { length result ≤ length slots.old }
 
     // A law, whatever the regions.
     ensures unique { RegionsAreUnique }

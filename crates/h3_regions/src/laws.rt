@@ -1,10 +1,11 @@
 //! Laws of regions and zones. Each function does nothing; what it ensures is a law that holds
 //! always.
 
-ghost use Rattle.h3_regions.specs.Laws.{CoverageAtOneResolution, RegionsAreUnique, RegionsCoverAlike, UnionsCoverBoth, UnionsInAnyOrder, UnionsInParts, UnionsOfOne};
+ghost use Rattle.h3_regions.specs.Laws.{CoverageAtOneResolution, CoveragesDecideDifferences, CoveragesDecideIntersections, NothingCounted, RegionsAreUnique, RegionsCoverAlike, UnionsCoverBoth, UnionsInAnyOrder, UnionsInParts, UnionsOfOne, ZonesAreOne, ZonesInAnyOrder};
 
+use h3_index::laws::cells_are_listed;
 use h3_set::laws::coverages_decide_lists;
-use h3_tree::laws::cells_form_trees;
+use h3_tree::laws::{cells_form_intervals, cells_form_trees};
 
 /// A union covers what either list does, and is the same in any order and in any parts; a region
 /// united with itself is itself.
@@ -27,4 +28,27 @@ pub fn coverages_decide_regions()
 {
     coverages_decide_lists();
     cells_form_trees();
+}
+
+/// What a list covers decides whether it compacts to what two others share, or to what one has
+/// beyond the other.
+pub fn coverages_decide_combinations()
+    ensures intersections { CoveragesDecideIntersections }
+    ensures differences { CoveragesDecideDifferences }
+{
+    coverages_decide_lists();
+    cells_form_trees();
+}
+
+/// Zones may be given in any order, and each is the zone of exactly the cells that are counted in it;
+/// the counts of no cells are all 0.
+pub fn zones_are_lawful()
+    ensures one { ZonesAreOne }
+    ensures in_any_order { ZonesInAnyOrder }
+    ensures nothing { NothingCounted }
+{
+    coverages_decide_lists();
+    cells_form_trees();
+    cells_form_intervals();
+    cells_are_listed();
 }

@@ -10,12 +10,14 @@ pub mod laws;
 mod order;
 mod region;
 mod unions;
+mod zone_index;
 mod zones;
 
-pub use counting::count;
+pub use counting::{count, count_indexed, count_next, count_of};
 pub use difference::subtract;
 pub use intersection::intersect;
-pub use joining::join;
+pub use joining::{join, join_indexed};
 pub use region::Region;
 pub use unions::unite;
-pub use zones::{Zones, order_zones};
+pub use zone_index::ZoneIndex;
+pub use zones::{Zones, order_by_number, order_zones};

@@ -1,11 +1,12 @@
 //! Regions: sets of cells, each given by its compacted list.
 
-ghost use Rattle.std.specs.Prelude.{◌≡◌, ◌≤◌, ◌↔◌, ℕ, length, IsPermutation, IsTrue};
-ghost use Rattle.h3_index.specs.Cell.{Address, resolution};
+ghost use Rattle.std.specs.Prelude.{◌≡◌, ◌≤◌, ◌↔◌, ℕ, length, All, IsPermutation, IsTrue};
+ghost use Rattle.h3_index.specs.Cell.{Address, IsCell, resolution};
 ghost use Rattle.h3_set.specs.Compacted.{compacted};
 ghost use Rattle.h3_set.specs.Coverage.{finest, IsCovered};
 ghost use Rattle.h3_regions.specs.Region.{IsRegion};
 
+use crate::order::are_cells;
 use crate::unions::unite;
 use crate::zones::Zones;
 use h3_index::Cell;
@@ -16,7 +17,7 @@ use std::marker::Model;
 
 /// A set of cells, given by the one list of cells that covers it with no overlap and no complete set
 /// of siblings. The cells of the list stand in memory that is borrowed, in such an order that one
-/// can look a cell up in as many steps as their number has bits. Contracts see the list.
+/// can look a cell up in as many steps as their number has bits, or one more. Contracts see the list.
 #[derive(Debug, Drop)]
 pub struct Region<'a> {
     cells: &'a [Cell],
@@ -42,9 +43,12 @@ impl<'a> Region<'a> {
         ensures fewer { length result ≤ length cells.old }
         ensures covers { (r : ℕ) → finest cells.old ≤ r → (x : Address)
             → IsCovered result r x ↔ IsCovered cells.old r x }
+        ensures valid { All IsCell cells.old }
+        ensures fine { finest cells.old ≤ 15 }
     {
         coverages_decide_lists();
         cells_form_intervals();
+        are_cells(cells);
         let count = unite(cells);
         put_in_order(&mut cells[..count]);
         Region {

@@ -7,7 +7,7 @@ use Rattle.h3_regions.proofs.counting.count_each.Goals.{in-Some, in-None}
 
 pub loop-cell-preserved : goal.loop-cell-preserved
 loop-cell-preserved c =
-    elim c.match-place_above.branch [
+    elim c.match-place_near.branch [
       | in-Some w ↦
           rw (w.counts-is, w.others-is) (counted c.coverages_decide_lists.ensures.ancestors c.args.zones.now c.args.cells.now c.loop-cell.counts c.loop-cell.others c.loop-cell.cell-index c.cell-item.result c.loop-cell-test.true c.cell-item.is c.loop-cell.invariant w.in-Some.i w.in-Some.ensures.found.0 w.in-Some.ensures.found.1 w.in-Some.ensures.one)
       | in-None w ↦
