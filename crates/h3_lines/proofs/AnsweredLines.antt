@@ -13,7 +13,7 @@ use Rattle.h3_lines.specs.EachLaws.{answered_then, refuses_then}
 use Rattle.h3_lines.specs.EachLine.{followed_by, line_answer, lines_answer}
 use Rattle.h3_lines.specs.Writing.{AppendsPart, SinkUse, Takes, TakesPart, Writes, sink_use}
 use Rattle.h3_lines.specs.declared.refusal.Refusal.{Refusal}
-use Rattle.h3_lines.specs.declared.refusal.Refusal.TheVariants.{At, Error, Memory, Read, Table, TableOpen, Write}
+use Rattle.h3_lines.specs.declared.refusal.Refusal.TheVariants.{At, Error, Memory, Read, Table, TableOpen, FileOpen, FileAt, File, Write}
 use Rattle.h3_lines.proofs.PlainLines.{nothing_left}
 
 -- a line that parses as an index is not blank
@@ -52,6 +52,9 @@ written_fails bytes out (Err (Table e)) some w = absurd (cc (w.0))
 written_fails bytes out (Err Memory) some never = absurd never
 written_fails bytes out (Err Read) some never = absurd never
 written_fails bytes out (Err TableOpen) some never = absurd never
+written_fails bytes out (Err (FileOpen f)) some never = absurd never
+written_fails bytes out (Err (FileAt f n e)) some w = absurd (cc (w.0))
+written_fails bytes out (Err (File f e)) some w = absurd (cc (w.0))
 written_fails bytes out (Err Write) some w = (refl, some, some_of_whole bytes out w.1)
 
 -- ---- the block

@@ -8,7 +8,7 @@ use Rattle.h3_lines.specs.EachLine.{AnswersBeforeFault, EndsEach, StopsInPage, T
 use Rattle.h3_lines.specs.Splitting.{StopsReading, StopsTaking, TakesAll}
 use Rattle.h3_lines.specs.Writing.{Writes, sink_use}
 use Rattle.h3_lines.specs.declared.refusal.Refusal.{Refusal}
-use Rattle.h3_lines.specs.declared.refusal.Refusal.TheVariants.{At, Error, Memory, Read, Table, TableOpen, Write}
+use Rattle.h3_lines.specs.declared.refusal.Refusal.TheVariants.{At, Error, Memory, Read, Table, TableOpen, FileOpen, FileAt, File, Write}
 use Rattle.h3_lines.proofs.Written.{writes_after, writes_whole}
 
 module _ {S : Type 0} (taken : S → Option (List ℕ)) (failed : S → Bool) (answer : Option ℕ → Answer) where
@@ -111,6 +111,9 @@ module _ {S V : Type 0} (taken : S → Option (List ℕ)) (failed : S → Bool) 
   stopped v w Read old new had has one none sound s = absurd (refuses_mid v w Read old new s)
   stopped v w (Table e) old new had has one none sound s = absurd (refuses_mid v w (Table e) old new s)
   stopped v w TableOpen old new had has one none sound s = absurd (refuses_mid v w TableOpen old new s)
+  stopped v w (FileOpen f) old new had has one none sound s = absurd (refuses_mid v w (FileOpen f) old new s)
+  stopped v w (FileAt f n d) old new had has one none sound s = absurd (refuses_mid v w (FileAt f n d) old new s)
+  stopped v w (File f d) old new had has one none sound s = absurd (refuses_mid v w (File f d) old new s)
 
   fault : (v w : V) (old new : Option (List ℕ)) (has : Bool) → number v ≡ 1 → held v ≡ [] → StopsReading takes settled v w old new (has ≡ true) (2 ^ 40) → AnswersBeforeFault (answer_of v) old new has (sink_use taken failed (out v) (out w))
   fault v w old new has one none s = record {
@@ -148,3 +151,6 @@ module _ {S V : Type 0} (taken : S → Option (List ℕ)) (failed : S → Bool) 
   ends_each v w old new had has (Err Memory) one none all settles sound (inl (is, s)) = absurd (cc is)
   ends_each v w old new had has (Err (Table e)) one none all settles sound (inl (is, s)) = absurd (cc is)
   ends_each v w old new had has (Err TableOpen) one none all settles sound (inl (is, s)) = absurd (cc is)
+  ends_each v w old new had has (Err (FileOpen f)) one none all settles sound (inl (is, s)) = absurd (cc is)
+  ends_each v w old new had has (Err (FileAt f n d)) one none all settles sound (inl (is, s)) = absurd (cc is)
+  ends_each v w old new had has (Err (File f d)) one none all settles sound (inl (is, s)) = absurd (cc is)

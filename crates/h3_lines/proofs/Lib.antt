@@ -1,6 +1,5 @@
 pub mod AnsweredLines
 pub mod Blocks
-pub mod CountedLines
 pub mod EndsEach
 pub mod Lengths
 pub mod Lines

@@ -1,46 +1,100 @@
--- A list of cells whose lines are taken one after another.
-use Rattle.std.proofs.Common.{◌≡◌, ℕ, ◌<◌, ◌≤◌, ◌⊎◌, Bool, true, List, [], ◌∷◌, ◌++◌, length, Option, Some, Result, Ok, Err, IsOk, nat_lt, sym, ap, ◌∙◌, refl, subst, inl, inr, append-nil, arith}
+-- A list of cells whose lines are taken one after another, and counted.
+use Rattle.std.proofs.Common.{◌≡◌, ℕ, ◌+◌, ◌<◌, ◌≤◌, ◌⊎◌, Bool, true, List, [], ◌∷◌, ◌++◌, length, Option, None, Some, Result, Ok, Err, IsOk, OnOk, nat_lt, sym, ap, ◌∙◌, refl, subst, inl, inr, append-nil, arith}
 use Rattle.std.specs.Prelude.{⊤}
 use Rattle.std.proofs.lemmas.Bool.Decides.{nat_tests}
 use Rattle.h3_index.specs.Cell.{Address}
+use Rattle.h3_index.specs.CellNumber.{cell_in}
 use Rattle.h3_index.specs.Stream.{HasLeft}
 use Rattle.h3_index.specs.declared.error.H3Error.{H3Error}
 use Rattle.h3_index.specs.declared.error.H3Error.TheVariants.{Failed}
 use Rattle.h3_lines.proofs.Pages.{left_of, none_left}
-use Rattle.h3_lines.specs.List.{RefusesList, cells_said, lines_of, listed_cells}
-use Rattle.h3_lines.specs.ListLaws.{cells_said-append}
-use Rattle.h3_lines.specs.Reading.{GivesCells, RefusesLines, cells_before, said_lines}
+use Rattle.h3_lines.proofs.PlainLines.{said_by_parsed}
+use Rattle.h3_lines.specs.List.{RefusesList, cells_said, lines_of, listed_cells, said_before, said_by, said_by_cell}
+use Rattle.h3_lines.specs.ListLaws.{cells_said-append, refuses_after}
+use Rattle.h3_lines.specs.Numbered.{RefusesAt, faulty_from, faulty_line, number_of_fault, without_number}
+use Rattle.h3_lines.specs.Reading.{CountsLines, RefusesLinesAt, SayCells, cells_before, cells_on}
 use Rattle.h3_lines.specs.Reads.{HasNoFaultYet, IsKnownFaulty, IsListWithinReads, IsWithinReads, StopsAtFault}
-use Rattle.h3_lines.specs.Splitting.{RefusesAfter, StopsReading, StopsTaking, TakesAll}
-use Rattle.h3_lines.specs.declared.list.ListedCells.{ListedCells}
+use Rattle.h3_lines.specs.Splitting.{ParsesAs, RefusesAfter, StopsReading, StopsTaking, TakesAll}
 use Rattle.h3_lines.specs.declared.refusal.Refusal.{Refusal}
-use Rattle.h3_lines.specs.declared.refusal.Refusal.TheVariants.{Error, At, Memory, Read, Write, Table, TableOpen}
+use Rattle.h3_lines.specs.declared.refusal.Refusal.TheVariants.{Error, At, Memory, Read, Write, Table, TableOpen, FileOpen, FileAt, File}
+
+-- ---- a line
+
+-- from two facts about what was returned without an error
+pub ok_both : {T E P Q R : Type 0} (result : Result T E) → (P → Q → R) → OnOk result P → OnOk result Q → OnOk result R
+ok_both (Ok v) f p q = f p q
+ok_both (Err e) f p q = p
+
+-- what a line says is its cell, if it says one, before those of the lines after it
+says_before : (said : Result (Option Address) H3Error) → IsOk said → (later : Result (List Address) H3Error) → said_before said later ≡ cells_before (cells_on said) later
+says_before (Ok None) good (Ok cells) = refl
+says_before (Ok None) good (Err e) = refl
+says_before (Ok (Some cell)) good (Ok cells) = refl
+says_before (Ok (Some cell)) good (Err e) = refl
+says_before (Err e) good later = absurd (cc)
+
+pub says_line : (line : List ℕ) (said : Result (Option Address) H3Error) → said ≡ said_by line → IsOk said → SayCells (line ∷ []) (cells_on said)
+says_line line said is good later = ap (λ s. said_before s later) (sym is) ∙ says_before said good later
+
+-- a line that is not faulty is counted
+pub counts_said : (n : ℕ) (line : List ℕ) (said : Result (Option Address) H3Error) → said ≡ said_by line → IsOk said → CountsLines n (line ∷ []) (n + 1)
+counts_said n line (Ok cell) is good more = ap (λ s. number_of_fault n s (faulty_from (n + 1) more)) (sym is)
+counts_said n line (Err e) is good more = absurd (cc)
+
+-- a line is refused by what it says
+pub refuses_said : (n : ℕ) (line : List ℕ) (later : List (List ℕ)) (said : Result (Option Address) H3Error) (e : Refusal) → said ≡ said_by line
+    → ((more : Result (List Address) H3Error) (after : ℕ) → RefusesAt ⊥ (said_before said more) (number_of_fault n said after) e) → RefusesLinesAt n (line ∷ later) e
+refuses_said n line later said e is refuses =
+    subst (λ s. RefusesAt ⊥ (said_before s (cells_said later)) (number_of_fault n s (faulty_from (n + 1) later)) e) is (refuses (cells_said later) (faulty_from (n + 1) later))
+
+-- what a line says that parses as an index
+pub said_parsed : (line : List ℕ) (index : ℕ) (said : Result (Option Address) H3Error) → ParsesAs line index → said ≡ said_by_cell (cell_in index) → said ≡ said_by line
+said_parsed line index said p is = is ∙ sym (said_by_parsed line index p.short p.parses)
+
+-- a line of too many bytes is refused, whatever lines come after it
+pub refuses_long : (n : ℕ) (line : List ℕ) (later : List (List ℕ)) → 64 < length line → RefusesLinesAt n (line ∷ later) (At n Failed)
+refuses_long n line later h = let test : nat_lt 64 (length line) ≡ true = grind (arith, nat_tests) in rw test (refl, refl)
 
 -- ---- refusals
 
--- a line of too many bytes is refused, whatever lines come after it
-pub refuses_long : (cells : List Address) (line : List ℕ) (later : List (List ℕ)) → 64 < length line → RefusesLines cells (line ∷ later) (Error Failed)
-refuses_long cells line later h = let test : nat_lt 64 (length line) ≡ true = grind (arith, nat_tests) in rw test refl
-
 -- a refusal fits the list, whatever may be said of reads
-fits_any : (reads : Type 0) (list : Result (List Address) H3Error) (e : Refusal) → RefusesList ⊥ list e → RefusesList reads list e
-fits_any reads list (Error e) h = h
-fits_any reads list (At line d) h = absurd h
-fits_any reads list Memory h = h
-fits_any reads list Read h = absurd h
-fits_any reads list Write h = absurd h
-fits_any reads list (Table d) h = absurd h
-fits_any reads list TableOpen h = absurd h
+fits_any : (reads : Type 0) (list : Result (List Address) H3Error) (n : ℕ) (e : Refusal) → RefusesAt ⊥ list n e → RefusesAt reads list n e
+fits_any reads list n (Error e) h = absurd h
+fits_any reads list n (At line d) h = h
+fits_any reads list n Memory h = h
+fits_any reads list n Read h = absurd h
+fits_any reads list n Write h = absurd h
+fits_any reads list n (Table d) h = absurd h
+fits_any reads list n TableOpen h = absurd h
+fits_any reads list n (FileOpen f) h = absurd h
+fits_any reads list n (FileAt f m d) h = absurd h
+fits_any reads list n (File f d) h = absurd h
 
 -- an error that is there whatever comes after the bytes
-known_faulty : (bytes : List ℕ) (e : Refusal) → ((after : List ℕ) → RefusesList ⊥ (listed_cells (bytes ++ after)) e) → (e ≡ Read → ⊥) → (e ≡ Memory → ⊥) → IsKnownFaulty bytes
-known_faulty bytes (Error d) refused other memory = (d, refused)
-known_faulty bytes (At n d) refused other memory = absurd (refused [])
+known_faulty : (bytes : List ℕ) (e : Refusal) → ((after : List ℕ) → RefusesAt ⊥ (listed_cells (bytes ++ after)) (faulty_line (bytes ++ after)) e) → (e ≡ Read → ⊥) → (e ≡ Memory → ⊥) → IsKnownFaulty bytes
+known_faulty bytes (Error d) refused other memory = absurd (refused [])
+known_faulty bytes (At n d) refused other memory = (d, λ after. (refused after).0)
 known_faulty bytes Memory refused other memory = absurd (memory refl)
 known_faulty bytes Read refused other memory = absurd (other refl)
 known_faulty bytes Write refused other memory = absurd (refused [])
 known_faulty bytes (Table d) refused other memory = absurd (refused [])
 known_faulty bytes TableOpen refused other memory = absurd (refused [])
+known_faulty bytes (FileOpen f) refused other memory = absurd (refused [])
+known_faulty bytes (FileAt f n d) refused other memory = absurd (refused [])
+known_faulty bytes (File f d) refused other memory = absurd (refused [])
+
+-- a refusal told without a number fits the list
+pub fits_list : (reads : Type 0) (list : Result (List Address) H3Error) (n : ℕ) (e : Refusal) → RefusesAt reads list n e → RefusesList reads list (without_number e)
+fits_list reads list n (Error e) h = absurd h
+fits_list reads list n (At line d) h = h.0
+fits_list reads list n Memory h = h
+fits_list reads list n Read h = h
+fits_list reads list n Write h = absurd h
+fits_list reads list n (Table d) h = absurd h
+fits_list reads list n TableOpen h = absurd h
+fits_list reads list n (FileOpen f) h = absurd h
+fits_list reads list n (FileAt f m d) h = absurd h
+fits_list reads list n (File f d) h = absurd h
 
 -- where nothing is read
 pub stops_at_start : (page : ℕ) (list : List ℕ) → StopsAtFault page list list
@@ -54,85 +108,80 @@ stops_at_start page list = record {
 
 -- ---- lines
 
-no_cells : (list : Result (List Address) H3Error) → cells_before [] list ≡ list
-no_cells (Ok cells) = refl
-no_cells (Err e) = refl
-
 is_good : (list : Result (List Address) H3Error) (cells : List Address) → list ≡ Ok cells → IsOk list
 is_good list cells is = rw is refl
 
-abbrev Gives : ListedCells → List (List ℕ) → ListedCells → Type 0
-Gives v lines w = GivesCells v.cells.items lines w.cells.items
-
-abbrev Refuses : ListedCells → List (List ℕ) → ListedCells → Refusal → Type 0
-Refuses v lines w e = RefusesLines v.cells.items lines e
-
-abbrev Settled : ListedCells → Type 0
-Settled v = ⊤
-
--- from the first line on
-pub from_start : (v w : ListedCells) (ls : List (List ℕ)) → v.cells.items ≡ [] → Gives v ls w → (later : List (List ℕ)) → cells_said (ls ++ later) ≡ cells_before w.cells.items (cells_said later)
-from_start v w ls none gives later =
-    cells_said-append ls later ∙ sym (no_cells (said_lines ls (cells_said later))) ∙ ap (λ found. cells_before found (said_lines ls (cells_said later))) (sym none) ∙ gives (cells_said later)
-
 -- the cells of these lines
-pub all_said : (v w : ListedCells) (ls : List (List ℕ)) → v.cells.items ≡ [] → Gives v ls w → cells_said ls ≡ Ok w.cells.items
-all_said v w ls none gives = ap cells_said (sym (append-nil ls)) ∙ from_start v w ls none gives [] ∙ ap Ok (append-nil w.cells.items)
+all_said : (lines : List (List ℕ)) (cells : List Address) → SayCells lines cells → cells_said lines ≡ Ok cells
+all_said lines cells says = ap cells_said (sym (append-nil lines)) ∙ cells_said-append lines [] ∙ says (Ok []) ∙ ap Ok (append-nil cells)
 
--- one of the lines after them is refused
-refused_list : (v w mid : ListedCells) (e : Refusal) (ended : List (List ℕ)) (bytes : List ℕ) → v.cells.items ≡ [] → Gives v ended mid → RefusesAfter Refuses mid w e ended bytes → RefusesList ⊥ (listed_cells bytes) e
-refused_list v w mid e ended bytes none gives r = subst (λ list. RefusesList ⊥ list e) (sym (ap cells_said r.lines ∙ from_start v mid ended none gives r.later)) r.refuses
-
-pub no_fault_yet : (v w : ListedCells) (part last : List ℕ) (ended : List (List ℕ)) → v.cells.items ≡ [] → Gives v ended w → lines_of part ≡ ended ++ last ∷ [] → length last ≤ 64 → HasNoFaultYet part
-no_fault_yet v w part last ended none gives lines short = record { ended = ended; last = last; lines = lines; good = is_good (cells_said ended) w.cells.items (all_said v w ended none gives); short = short }
+no_fault_yet : (part last : List ℕ) (ended : List (List ℕ)) (cells : List Address) → SayCells ended cells → lines_of part ≡ ended ++ last ∷ [] → length last ≤ 64 → HasNoFaultYet part
+no_fault_yet part last ended cells says lines short = record { ended = ended; last = last; lines = lines; good = is_good (cells_said ended) cells (all_said ended cells says); short = short }
 
 -- ---- how it ends
 
--- how the taking of the lines stops that is not whole
-abbrev Stops : ListedCells → ListedCells → Refusal → Option (List ℕ) → Option (List ℕ) → Bool → Bool → ℕ → ℕ → Type 0
-Stops v w e old new had has limit size =
-    ((e ≡ Read) × StopsReading Gives Settled v w old new (has ≡ true) limit) ⊎ (StopsTaking Gives Refuses Settled v w e old new limit size × (has ≡ had))
+-- over what takes the cells: the number of its next line, and which cells were taken from one moment to a later one
+module _ {V : Type 0} (number : V → ℕ) (taken : V → List Address → V → Type 0) where
+  abbrev Takes : V → List (List ℕ) → V → Type 0
+  Takes v lines w = (cells : List Address) × SayCells lines cells × taken v cells w × CountsLines (number v) lines (number w)
 
-pub whole_list : (v w : ListedCells) (old new : Option (List ℕ)) (limit size : ℕ) → v.cells.items ≡ [] → TakesAll Gives v w old new limit size
-    → (list : List ℕ) × HasLeft old list × IsWithinReads limit size list × (listed_cells list ≡ Ok w.cells.items)
-whole_list v w old new limit size none s = (s.bytes, s.held, s.within, all_said v w (lines_of s.bytes) none s.takes)
+  abbrev Refuses : V → List (List ℕ) → V → Refusal → Type 0
+  Refuses v lines w e = RefusesLinesAt (number v) lines e
 
-pub whole_read : (v w : ListedCells) (old new : Option (List ℕ)) (limit size : ℕ) → TakesAll Gives v w old new limit size → (list : List ℕ) → old ≡ Some list → new ≡ Some []
-whole_read v w old new limit size s list is = none_left old new s.bytes list s.held s.told is
+  abbrev Settled : V → Type 0
+  Settled v = ⊤
 
-pub list_refused : (v w : ListedCells) (e : Refusal) (old new : Option (List ℕ)) (had has : Bool) (limit size : ℕ) → v.cells.items ≡ [] → Stops v w e old new had has limit size
-    → (list : List ℕ) × HasLeft old list × RefusesList ((has ≡ true) ⊎ (limit ≤ length list)) (listed_cells list) e × ((e ≡ Read → ⊥) → (e ≡ Memory → ⊥) → IsListWithinReads limit size list)
-list_refused v w e old new had has limit size none (inl (is, s)) =
-    let list = s.part ++ s.rest in
-    (list, s.held, subst (λ r. RefusesList ((has ≡ true) ⊎ (limit ≤ length list)) (listed_cells list) r) (sym is) s.why, λ other memory. absurd (other is))
-list_refused v w e old new had has limit size none (inr (s, kept)) =
-    let list = s.part ++ s.last ++ s.rest in (
-      list,
-      s.held,
-      fits_any ((has ≡ true) ⊎ (limit ≤ length list)) (listed_cells list) e (refused_list v w s.mid e s.ended list none s.takes s.refuses),
-      λ other memory. elim s.known [
-        | inl within ↦ inl within
-        | inr known ↦ inr (record {
-          part = s.part ++ s.last;
-          rest = s.rest;
-          split = refl;
-          holds = (known_faulty (s.part ++ s.last) e (λ after. refused_list v w s.mid e s.ended (s.part ++ s.last ++ after) none s.takes (known after)) other memory, s.within);
-        })
-      ],
-    )
+  -- one of the lines after them is refused
+  refused_at : (v w mid : V) (e : Refusal) (ended : List (List ℕ)) (bytes : List ℕ) → number v ≡ 1 → Takes v ended mid → RefusesAfter Refuses mid w e ended bytes → RefusesAt ⊥ (listed_cells bytes) (faulty_line bytes) e
+  refused_at v w mid e ended bytes first takes r =
+      let counts = subst (λ n. CountsLines n ended (number mid)) first takes.3 in
+      subst (λ lines. RefusesAt ⊥ (cells_said lines) (faulty_from 1 lines) e) (sym r.lines) (refuses_after 1 (number mid) takes.0 ended r.later e takes.1 counts r.refuses)
 
-pub list_stops : (v w : ListedCells) (e : Refusal) (old new : Option (List ℕ)) (had has : Bool) (limit size : ℕ) → v.cells.items ≡ [] → Stops v w e old new had has limit size
-    → (list : List ℕ) → old ≡ Some list → (left : List ℕ) × (new ≡ Some left) × StopsAtFault size list left
-list_stops v w e old new had has limit size none (inl (is, s)) list known =
-    let (left, known', split) = left_of old new s.part list s.told known in (
-      left,
-      known',
-      record { before = s.part; last = []; split = split ∙ ap (λ l. l ++ left) (sym (append-nil s.part)); within = omega arith; good = no_fault_yet v w s.part s.last s.ended none s.takes s.lines s.short },
-    )
-list_stops v w e old new had has limit size none (inr (s, kept)) list known =
-    let (left, known', split) = left_of old new (s.part ++ s.last) list s.told known in
-    (left, known', record { before = s.part; last = s.last; split = split; within = s.short; good = no_fault_yet v s.mid s.part s.unended s.ended none s.takes s.lines s.begun })
+  -- how the taking of the lines stops that is not whole
+  abbrev Stops : V → V → Refusal → Option (List ℕ) → Option (List ℕ) → Bool → Bool → ℕ → ℕ → Type 0
+  Stops v w e old new had has limit size =
+      ((e ≡ Read) × StopsReading Takes Settled v w old new (has ≡ true) limit) ⊎ (StopsTaking Takes Refuses Settled v w e old new limit size × (has ≡ had))
 
-pub list_sound : (v w : ListedCells) (e : Refusal) (old new : Option (List ℕ)) (had has : Bool) (limit size : ℕ) → Stops v w e old new had has limit size → (e ≡ Read → ⊥) → has ≡ had
-list_sound v w e old new had has limit size (inl (is, s)) other = absurd (other is)
-list_sound v w e old new had has limit size (inr (s, kept)) other = kept
+  pub whole_list : (v w : V) (old new : Option (List ℕ)) (limit size : ℕ) → TakesAll Takes v w old new limit size
+      → (list : List ℕ) × HasLeft old list × IsWithinReads limit size list × (cells : List Address) × (listed_cells list ≡ Ok cells) × taken v cells w
+  whole_list v w old new limit size s = (s.bytes, s.held, s.within, s.takes.0, all_said (lines_of s.bytes) s.takes.0 s.takes.1, s.takes.2)
+
+  pub whole_read : (v w : V) (old new : Option (List ℕ)) (limit size : ℕ) → TakesAll Takes v w old new limit size → (list : List ℕ) → old ≡ Some list → new ≡ Some []
+  whole_read v w old new limit size s list is = none_left old new s.bytes list s.held s.told is
+
+  pub list_refused : (v w : V) (e : Refusal) (old new : Option (List ℕ)) (had has : Bool) (limit size : ℕ) → number v ≡ 1 → Stops v w e old new had has limit size
+      → (list : List ℕ) × HasLeft old list × RefusesAt ((has ≡ true) ⊎ (limit ≤ length list)) (listed_cells list) (faulty_line list) e × ((e ≡ Read → ⊥) → (e ≡ Memory → ⊥) → IsListWithinReads limit size list)
+  list_refused v w e old new had has limit size first (inl (is, s)) =
+      let list = s.part ++ s.rest in
+      (list, s.held, subst (λ r. RefusesAt ((has ≡ true) ⊎ (limit ≤ length list)) (listed_cells list) (faulty_line list) r) (sym is) s.why, λ other memory. absurd (other is))
+  list_refused v w e old new had has limit size first (inr (s, kept)) =
+      let list = s.part ++ s.last ++ s.rest in (
+        list,
+        s.held,
+        fits_any ((has ≡ true) ⊎ (limit ≤ length list)) (listed_cells list) (faulty_line list) e (refused_at v w s.mid e s.ended list first s.takes s.refuses),
+        λ other memory. elim s.known [
+          | inl within ↦ inl within
+          | inr known ↦ inr (record {
+            part = s.part ++ s.last;
+            rest = s.rest;
+            split = refl;
+            holds = (known_faulty (s.part ++ s.last) e (λ after. refused_at v w s.mid e s.ended (s.part ++ s.last ++ after) first s.takes (known after)) other memory, s.within);
+          })
+        ],
+      )
+
+  pub list_stops : (v w : V) (e : Refusal) (old new : Option (List ℕ)) (had has : Bool) (limit size : ℕ) → Stops v w e old new had has limit size
+      → (list : List ℕ) → old ≡ Some list → (left : List ℕ) × (new ≡ Some left) × StopsAtFault size list left
+  list_stops v w e old new had has limit size (inl (is, s)) list known =
+      let (left, known', split) = left_of old new s.part list s.told known in (
+        left,
+        known',
+        record { before = s.part; last = []; split = split ∙ ap (λ l. l ++ left) (sym (append-nil s.part)); within = omega arith; good = no_fault_yet s.part s.last s.ended s.takes.0 s.takes.1 s.lines s.short },
+      )
+  list_stops v w e old new had has limit size (inr (s, kept)) list known =
+      let (left, known', split) = left_of old new (s.part ++ s.last) list s.told known in
+      (left, known', record { before = s.part; last = s.last; split = split; within = s.short; good = no_fault_yet s.part s.unended s.ended s.takes.0 s.takes.1 s.lines s.begun })
+
+  pub list_sound : (v w : V) (e : Refusal) (old new : Option (List ℕ)) (had has : Bool) (limit size : ℕ) → Stops v w e old new had has limit size → (e ≡ Read → ⊥) → has ≡ had
+  list_sound v w e old new had has limit size (inl (is, s)) other = absurd (other is)
+  list_sound v w e old new had has limit size (inr (s, kept)) other = kept

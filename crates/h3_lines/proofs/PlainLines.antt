@@ -1,16 +1,12 @@
 -- Lines that parse as an index.
 use Rattle.std.specs.Char.{is_digit}
 use Rattle.std.specs.List.{list_all}
-use Rattle.std.proofs.Common.{◌≡◌, ℕ, ◌≤◌, ◌==◌, ◌&&◌, nat_lt, Bool, true, false, List, [], ◌∷◌, length, Option, Some, Result, sym, ap, ◌∙◌, refl, arith, subst, eqb-true}
+use Rattle.std.proofs.Common.{◌≡◌, ℕ, ◌≤◌, ◌==◌, ◌&&◌, nat_lt, Bool, true, false, List, [], ◌∷◌, length, Some, sym, ap, ◌∙◌, refl, arith, eqb-true}
 use Rattle.std.proofs.lemmas.Bool.Decides.{nat_tests}
 use Rattle.h3_index.specs.CellNumber.{cell_in}
 use Rattle.h3_index.specs.Text.{parsed_number, parsed_index, trimmed, without_prefix}
-use Rattle.h3_index.specs.Cell.{Address}
-use Rattle.h3_index.specs.declared.error.H3Error.{H3Error}
-use Rattle.h3_lines.specs.declared.refusal.Refusal.{Refusal}
-use Rattle.h3_lines.specs.List.{RefusesList, cells_said, said_before, said_by, said_by_cell, said_by_index}
-use Rattle.h3_lines.specs.Reading.{GivesCells, RefusesLines, cells_before, is_unended}
-use Rattle.h3_lines.specs.Splitting.{ParsesAs}
+use Rattle.h3_lines.specs.List.{said_by, said_by_cell, said_by_index}
+use Rattle.h3_lines.specs.Reading.{is_unended}
 
 pub nothing_left : (rest : List ℕ) (b : Bool) → (length rest == 0) ≡ b → (n : ℕ) → parsed_number (without_prefix rest) ≡ Some n → b ≡ false
 nothing_left [] b is n parses = absurd (cc)
@@ -23,16 +19,6 @@ said_by_parsed line n short parses =
     let few : nat_lt 64 (length line) ≡ false = grind (arith, nat_tests) in
     let left : (length (trimmed line) == 0) ≡ false = nothing_left (trimmed line) _ refl n parses in
     rw (few, left) (ap said_by_index parses)
-
--- it is taken by what its index says
-pub gives_parsed : (cells cells' : List Address) (line : List ℕ) (index : ℕ) (said : Result (Option Address) H3Error) → ParsesAs line index → said ≡ said_by_cell (cell_in index)
-    → ((later : Result (List Address) H3Error) → cells_before cells (said_before said later) ≡ cells_before cells' later) → GivesCells cells (line ∷ []) cells'
-gives_parsed cells cells' line index said p says gives later = ap (λ s. cells_before cells (said_before s later)) (said_by_parsed line index p.short p.parses ∙ sym says) ∙ gives later
-
-pub refuses_parsed : (cells : List Address) (line : List ℕ) (later : List (List ℕ)) (index : ℕ) (said : Result (Option Address) H3Error) (e : Refusal) → ParsesAs line index → said ≡ said_by_cell (cell_in index)
-    → ((more : Result (List Address) H3Error) → RefusesList ⊥ (cells_before cells (said_before said more)) e) → RefusesLines cells (line ∷ later) e
-refuses_parsed cells line later index said e p says refuses =
-    subst (λ s. RefusesList ⊥ (cells_before cells (said_before s (cells_said later))) e) (says ∙ sym (said_by_parsed line index p.short p.parses)) (refuses (cells_said later))
 
 -- ---- plain lines
 

@@ -1,5 +1,5 @@
 -- An answer, and the lines that it has.
-use Rattle.std.specs.Prelude.{ℕ, Bool, List, [], ◌∷◌, ◌++◌, codes, decimal, Result, Ok, Err, if◌then◌else◌}
+use Rattle.std.specs.Prelude.{ℕ, Bool, List, [], ◌∷◌, ◌++◌, codes, decimal, Option, None, Some, Result, Ok, Err, if◌then◌else◌}
 use Rattle.std.specs.List.{flat_map}
 use Rattle.h3_index.specs.Cell.{Address, number_of}
 use Rattle.h3_index.specs.Descendants.{children}
@@ -10,16 +10,18 @@ use Rattle.h3_directions.specs.declared.error.TableError.{TableError}
 use Rattle.h3_lines.specs.declared.refusal.Refusal.{Refusal}
 use Rattle.h3_lines.specs.declared.refusal.Refusal.TheVariants.{Error, Memory, Table}
 
+-- Answer: the bytes of the output, and how the command ends
+--
 -- the bytes of the output, and how the command ends, which fixes the line on standard error and the exit status
 pub record Answer : Type 0 where
   pub output : List ℕ
   pub ending : Result (Unit {0}) Refusal
 
--- these bytes, to their end
+-- written bytes: the answer that is these bytes
 abbrev pub written : List ℕ → Answer
 written bytes = record { output = bytes; ending = Ok tt }
 
--- an error, and no output
+-- refused e: the answer that is an error, with no output
 abbrev pub refused : H3Error → Answer
 refused e = record { output = []; ending = Err (Error e) }
 
@@ -33,31 +35,44 @@ out_of_memory = record { output = []; ending = Err Memory }
 
 -- ---- lines
 
--- `true` or `false`, and a line feed
+-- truth_line b: `true` or `false`, and a line feed
 abbrev pub truth_line : Bool → List ℕ
 truth_line b = (if b then codes "true" else codes "false") ++ 10 ∷ []
 
--- the number in decimal, and a line feed
+-- number_line n: a number in decimal, and a line feed
 abbrev pub number_line : ℕ → List ℕ
 number_line n = decimal n ++ 10 ∷ []
 
--- the text of the cell's number, and a line feed
+-- cell_line c: the text of a cell's number, and a line feed
 abbrev pub cell_line : Address → List ℕ
 cell_line c = text_of (number_of c) ++ 10 ∷ []
 
--- the text of the cell's number, a space, its ring in decimal, and a line feed
+-- ring_line item: the same with a space and the ring before the line feed
 abbrev pub ring_line : Address × ℕ → List ℕ
 ring_line item = text_of (number_of item.0) ++ 32 ∷ decimal item.1 ++ 10 ∷ []
+
+-- the text of the number of a zone, `0` where there is none
+abbrev pub zone_text : Option Address → List ℕ
+zone_text None = codes "0"
+zone_text (Some zone) = text_of (number_of zone)
+
+-- zone_line zone: the text of the number of a zone, `0` where there is none, and a line feed
+abbrev pub zone_line : Option Address → List ℕ
+zone_line zone = zone_text zone ++ 10 ∷ []
+
+-- count_line item: the text of the number of a zone, `0` where there is none, a space, a count in decimal, and a line feed
+abbrev pub count_line : Option Address × ℕ → List ℕ
+count_line item = zone_text item.0 ++ 32 ∷ decimal item.1 ++ 10 ∷ []
 
 -- a line for each cell
 abbrev pub cell_lines : List Address → List ℕ
 cell_lines cells = flat_map cell_line cells
 
--- a line for each child of a cell
+-- children_lines c: a line for each child of a cell
 abbrev pub children_lines : Address → List ℕ
 children_lines c = cell_lines (children c)
 
--- the text of the edge's number, and a line feed
+-- edge_line e: the text of an edge's number, and a line feed
 abbrev pub edge_line : DirectedEdge → List ℕ
 edge_line e = text_of (edge_number e) ++ 10 ∷ []
 
@@ -65,12 +80,12 @@ edge_line e = text_of (edge_number e) ++ 10 ∷ []
 abbrev pub edge_lines : List DirectedEdge → List ℕ
 edge_lines edges = flat_map edge_line edges
 
--- the answer about what a function returns, or its error
+-- answer_or_error about r: the answer about what a function returns, or its error
 abbrev pub answer_or_error : {A : Type 0} → (A → Answer) → Result A H3Error → Answer
 answer_or_error about (Ok value) = about value
 answer_or_error about (Err e) = refused e
 
--- the text of what a function returns, or its error
+-- printed text r: the text of what a function returns, or its error
 abbrev pub printed : {A : Type 0} → (A → List ℕ) → Result A H3Error → Answer
 printed text value = answer_or_error (λ v. written (text v)) value
 
@@ -78,7 +93,7 @@ printed text value = answer_or_error (λ v. written (text v)) value
 abbrev pub before : List ℕ → Answer → Answer
 before bytes a = record { output = bytes ++ a.output; ending = a.ending }
 
--- a line for each item of a walk; the first error ends it
+-- walked line items: a line for each item, up to the first error, with which the answer then ends
 abbrev pub walked : {A : Type 0} → (A → List ℕ) → List (Result A H3Error) → Answer
 walked line [] = written []
 walked line (Ok item ∷ items) = before (line item) (walked line items)

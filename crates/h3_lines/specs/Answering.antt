@@ -4,13 +4,13 @@ use Rattle.std.specs.Prelude.{◌≡◌, ℕ, ◌<◌, ◌⊎◌, Bool, true, Li
 use Rattle.std.specs.Io.KnownBytes.{Appends}
 use Rattle.h3_index.specs.declared.error.H3Error.{H3Error}
 use Rattle.h3_lines.specs.declared.refusal.Refusal.{Refusal}
-use Rattle.h3_lines.specs.declared.refusal.Refusal.TheVariants.{At, Error, Memory, Read, Table, TableOpen, Write}
+use Rattle.h3_lines.specs.declared.refusal.Refusal.TheVariants.{At, Error, Memory, Read, Table, TableOpen, FileOpen, FileAt, File, Write}
 use Rattle.h3_lines.specs.Answer.{Answer, before, refused, written}
 use Rattle.h3_lines.specs.Beginning.{SomeBeginning}
 use Rattle.h3_lines.specs.EachLine.{lines_answer}
 use Rattle.h3_lines.specs.Writing.{SinkUse, Takes}
 
--- an answer that is put into a block from the byte `at` on, and ends at `end`
+-- Puts a old new at end: an answer that is bytes alone is put into a block, from one byte on, up to another
 pub record Puts (a : Answer) (old new : List ℕ) (at end : ℕ) : Type 0 where
   pub text : List ℕ
   pub is : a ≡ written text
@@ -46,6 +46,9 @@ EndsBy a Memory out = ⊥
 EndsBy a Read out = ⊥
 EndsBy a (Table e) out = ⊥
 EndsBy a TableOpen out = ⊥
+EndsBy a (FileOpen f) out = ⊥
+EndsBy a (FileAt f n d) out = ⊥
+EndsBy a (File f d) out = ⊥
 
 -- these bytes and the answer to these lines, of which the first is the line n, end so
 abbrev pub RefusesEach : (Option ℕ → Answer) → ℕ → List ℕ → List (List ℕ) → Refusal → SinkUse → Type 0

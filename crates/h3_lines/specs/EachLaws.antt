@@ -7,7 +7,7 @@ use Rattle.h3_lines.specs.Answering.{Answered, EndsBy, RefusesEach, TakesSome}
 use Rattle.h3_lines.specs.EachLine.{lines_answer}
 use Rattle.h3_lines.specs.Writing.{sink_use}
 use Rattle.h3_lines.specs.declared.refusal.Refusal.{Refusal}
-use Rattle.h3_lines.specs.declared.refusal.Refusal.TheVariants.{At, Error, Memory, Read, Table, TableOpen, Write}
+use Rattle.h3_lines.specs.declared.refusal.Refusal.TheVariants.{At, Error, Memory, Read, Table, TableOpen, FileOpen, FileAt, File, Write}
 
 before_before : (xs ys : List ℕ) (a : Answer) → before xs (before ys a) ≡ before (xs ++ ys) a
 before_before xs ys a = ap (λ l. record { output = l; ending = a.ending }) (sym (append_assoc xs ys a.output))
@@ -52,6 +52,9 @@ module _ {S : Type 0} (taken : S → Option (List ℕ)) (failed : S → Bool) wh
   ends_after s t u a done Read grown same never = absurd never
   ends_after s t u a done (Table e) grown same never = absurd never
   ends_after s t u a done TableOpen grown same never = absurd never
+  ends_after s t u a done (FileOpen f) grown same never = absurd never
+  ends_after s t u a done (FileAt f n d) grown same never = absurd never
+  ends_after s t u a done (File f d) grown same never = absurd never
 
   pub refuses_then : {F : Type 0} (answer_of : F → Option ℕ → Answer) {f g : F} {n m : ℕ} {h1 h2 : List ℕ} {s t : S} (u : S) (xs ys : List (List ℕ)) (e : Refusal) → g ≡ f → Answered taken failed (answer_of f) n m h1 h2 s t xs
       → RefusesEach (answer_of g) m h2 ys e (sink_use taken failed t u) → RefusesEach (answer_of f) n h1 (xs ++ ys) e (sink_use taken failed s u)

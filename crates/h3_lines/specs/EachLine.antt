@@ -6,7 +6,7 @@ use Rattle.h3_index.specs.Stream.{HasLeft}
 use Rattle.h3_index.specs.Text.{parsed_index, trimmed}
 use Rattle.h3_index.specs.declared.error.H3Error.TheVariants.{Failed}
 use Rattle.h3_lines.specs.declared.refusal.Refusal.{Refusal}
-use Rattle.h3_lines.specs.declared.refusal.Refusal.TheVariants.{At, Error, Memory, Read, Table, TableOpen, Write}
+use Rattle.h3_lines.specs.declared.refusal.Refusal.TheVariants.{At, Error, Memory, Read, Table, TableOpen, FileOpen, FileAt, File, Write}
 use Rattle.h3_lines.specs.Answer.{Answer, before, refused, written}
 use Rattle.h3_lines.specs.Beginning.{SomeBeginning}
 use Rattle.h3_lines.specs.List.{lines_of}
@@ -24,8 +24,8 @@ abbrev pub then_answer : List ℕ → Result (Unit {0}) Refusal → Answer → A
 then_answer output (Ok u) next = before output next
 then_answer output (Err r) next = record { output = output; ending = Err r }
 
--- the answer to a line: an error where it has more than 64 bytes, nothing where it is blank, and else that to the index
--- that it parses as, if it parses as one
+-- line_answer answer line: the answer to a line: an error where it has more than 64 bytes, nothing where it is blank,
+-- and else the answer to the index that it parses as, or to none
 abbrev pub line_answer : (Option ℕ → Answer) → List ℕ → Answer
 line_answer answer line =
     if nat_lt 64 (length line) then refused Failed else if length (trimmed line) == 0 then written [] else answer (parsed_index line)
@@ -34,17 +34,21 @@ line_answer answer line =
 abbrev pub followed_by : ℕ → Answer → Answer → Answer
 followed_by number a next = then_answer a.output (ending_at number a.ending) next
 
--- the answer to lines, of which the first has this number
+-- lines_answer answer n lines: the answers to lines, of which the first has the number n, up to the first error, which
+-- stands at its line
 abbrev pub lines_answer : (Option ℕ → Answer) → ℕ → List (List ℕ) → Answer
 lines_answer answer number [] = written []
 lines_answer answer number (line ∷ lines) = followed_by number (line_answer answer line) (lines_answer answer (number + 1) lines)
 
--- the answer to the list in these bytes; the first line is 1, and blank lines count
+-- list_answer answer bytes: the answer to the list in these bytes, line by line; the first line is 1, and blank lines
+-- count
 abbrev pub list_answer : (Option ℕ → Answer) → List ℕ → Answer
 list_answer answer bytes = lines_answer answer 1 (lines_of bytes)
 
 -- ---- how it ends
 
+-- AnswersAll: all bytes of the list are read, in reads that may be made, and the answer to it is written
+--
 -- there are bytes of the list, those left in the source where they are known; all of them are read, in reads that may be
 -- made, and the answer is written
 pub record AnswersAll (answer : Option ℕ → Answer) (old new : Option (List ℕ)) (ending : Result (Unit {0}) Refusal) (out : SinkUse) : Type 0 where
@@ -54,6 +58,9 @@ pub record AnswersAll (answer : Option ℕ → Answer) (old new : Option (List �
   pub within : IsWithinReads (2 ^ 40) 65536 list
   pub writes : Writes (list_answer answer list) ending out
 
+-- AnswersBeforeFault: a read fails, or none is left; what was read before is a beginning of the list, and the rest is
+-- left in the source; the lines that end in it are answered, without an error, and no other
+--
 -- A read fails, or none is left. What was read before is a beginning of the list, and the rest is still left in the source:
 -- a read that fails takes none. The lines that end in what was read are answered, without an error, and no other: not the
 -- one that the fault cuts, of which at most 64 bytes were read.
@@ -69,6 +76,8 @@ pub record AnswersBeforeFault (answer : Option ℕ → Answer) (old new : Option
   pub short : length last ≤ 64
   pub writes : Writes (lines_answer answer 1 ended) (Ok tt) out
 
+-- StopsInPage: a part of the list is read, and then at most a page more; the lines that end in that part have no error
+--
 -- The bytes of the list, those left in the source where they are known. A part of them is read, and then at most a page
 -- more; the lines that end in that part have no error.
 pub record StopsInPage (answer : Option ℕ → Answer) (old new : Option (List ℕ)) : Type 0 where
@@ -88,6 +97,9 @@ pub record StopsInPage (answer : Option ℕ → Answer) (old new : Option (List 
 abbrev pub answer_at : {answer : Option ℕ → Answer} {old new : Option (List ℕ)} → StopsInPage answer old new → Answer
 answer_at {answer} s = list_answer answer (s.part ++ s.last ++ s.rest)
 
+-- TakesBeginning first whole sink: it failed, and took a beginning of the answer: that to the lines of earlier pages,
+-- and more
+--
 -- A write fails: the answers to the lines that end in the part are taken, and then a beginning of what the answer has
 -- after them, which is not empty; or it is taken, and then a flush fails.
 pub record TakesBeginning (first whole : List ℕ) (out : SinkUse) : Type 0 where
@@ -97,6 +109,8 @@ pub record TakesBeginning (first whole : List ℕ) (out : SinkUse) : Type 0 wher
   pub part : SomeBeginning (λ more. Appends out.before out.after (first ++ more) ⊎ out.may_have_taken (first ++ more)) after
   pub failed : out.has_failed ≡ true
 
+-- EndsEach answer ..: how the answering of a list, line by line, ends
+--
 -- How the answering of a list ends that is read from a source with the bytes old left, and new after it. Where a line has
 -- an error or a write fails, nothing is read beyond the page.
 abbrev pub EndsEach : (Option ℕ → Answer) → Option (List ℕ) → Option (List ℕ) → Bool → Bool → Result (Unit {0}) Refusal → SinkUse → Type 0
@@ -108,3 +122,6 @@ EndsEach answer old new had has (Err Memory) out = (has ≡ had) × Keeps old ne
 EndsEach answer old new had has (Err (Error e)) out = ⊥
 EndsEach answer old new had has (Err (Table e)) out = ⊥
 EndsEach answer old new had has (Err TableOpen) out = ⊥
+EndsEach answer old new had has (Err (FileOpen f)) out = ⊥
+EndsEach answer old new had has (Err (FileAt f n d)) out = ⊥
+EndsEach answer old new had has (Err (File f d)) out = ⊥

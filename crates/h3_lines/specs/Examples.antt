@@ -5,13 +5,14 @@ use Rattle.h3_index.specs.Cell.{number_of}
 use Rattle.h3_index.specs.CellNumber.{address_in, cell_in}
 use Rattle.h3_index.specs.Count.{base_cell}
 use Rattle.h3_index.specs.Text.{parsed_index, text_of}
-use Rattle.h3_index.specs.declared.error.H3Error.TheVariants.{CellInvalid, Failed, Pentagon}
+use Rattle.h3_index.specs.declared.error.H3Error.TheVariants.{CellInvalid, DuplicateInput, Failed, Pentagon}
 use Rattle.h3_directions.specs.declared.direction.Direction.TheVariants.{I, K}
 use Rattle.h3_directions.specs.declared.error.TableError.TheVariants as fault
 use Rattle.h3_lines.specs.Answer.{before, cell_line, refused, ring_line, walked}
 use Rattle.h3_lines.specs.List.{lines_of, listed_cells, said_by}
 use Rattle.h3_lines.specs.Refusal.{refusal_line, refusal_status}
-use Rattle.h3_lines.specs.declared.refusal.Refusal.TheVariants.{Table, TableOpen}
+use Rattle.h3_lines.specs.declared.refusal.CellFile.TheVariants.{Region, Zones}
+use Rattle.h3_lines.specs.declared.refusal.Refusal.TheVariants.{File, FileAt, FileOpen, Table, TableOpen}
 
 -- ---- lists
 
@@ -54,5 +55,11 @@ faults_of_tables : map refusal_line (map Table (fault.Form 5 ∷ fault.Missing �
 unfolding digits
 faults_of_tables = refl
 
-statuses : map refusal_status (Table fault.Missing ∷ Table fault.Read ∷ TableOpen ∷ []) ≡ 3 ∷ 4 ∷ 3 ∷ []
+errors_of_files : map refusal_line (FileOpen Region ∷ FileOpen Zones ∷ FileAt Region 12 CellInvalid ∷ FileAt Region 3 Failed ∷ File Zones DuplicateInput ∷ [])
+    ≡ map line (codes "region: open" ∷ codes "zones: open" ∷ codes "region: line 12: error 5: E_CELL_INVALID" ∷ codes "region: line 3: error 1: E_FAILED" ∷ codes "zones: error 10: E_DUPLICATE_INPUT" ∷ [])
+unfolding digits
+errors_of_files = refl
+
+statuses : map refusal_status (Table fault.Missing ∷ Table fault.Read ∷ TableOpen ∷ FileOpen Region ∷ FileAt Zones 3 Failed ∷ File Zones DuplicateInput ∷ [])
+    ≡ 3 ∷ 4 ∷ 3 ∷ 3 ∷ 1 ∷ 1 ∷ []
 statuses = refl

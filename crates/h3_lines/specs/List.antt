@@ -6,7 +6,7 @@ use Rattle.h3_index.specs.Text.{parsed_index, trimmed}
 use Rattle.h3_index.specs.declared.error.H3Error.{H3Error}
 use Rattle.h3_index.specs.declared.error.H3Error.TheVariants.{Failed, CellInvalid}
 use Rattle.h3_lines.specs.declared.refusal.Refusal.{Refusal}
-use Rattle.h3_lines.specs.declared.refusal.Refusal.TheVariants.{Error, At, Memory, Read, Write, Table, TableOpen}
+use Rattle.h3_lines.specs.declared.refusal.Refusal.TheVariants.{Error, At, Memory, Read, Write, Table, TableOpen, FileOpen, FileAt, File}
 
 -- ---- lines
 
@@ -49,12 +49,14 @@ abbrev pub cells_said : List (List ℕ) → Result (List Address) H3Error
 cells_said [] = Ok []
 cells_said (line ∷ lines) = said_before (said_by line) (cells_said lines)
 
--- the list in these bytes
+-- listed_cells bytes: the cells that the lines of an input parse as, or the error of the first faulty line
 abbrev pub listed_cells : List ℕ → Result (List Address) H3Error
 listed_cells bytes = cells_said (lines_of bytes)
 
 -- ---- why it is not read
 
+-- RefusesList: which refusals a list may end with: its own error, out of memory, or a read fault where reads fail
+--
 -- a refusal fits the list: an error is the list's own, out of memory says nothing of it, and a read fault comes only
 -- where reads fail
 abbrev pub RefusesList : Type 0 → Result (List Address) H3Error → Refusal → Type 0
@@ -65,3 +67,6 @@ RefusesList read_fails list Read = read_fails
 RefusesList read_fails list Write = ⊥
 RefusesList read_fails list (Table e) = ⊥
 RefusesList read_fails list TableOpen = ⊥
+RefusesList read_fails list (FileOpen f) = ⊥
+RefusesList read_fails list (FileAt f n d) = ⊥
+RefusesList read_fails list (File f d) = ⊥

@@ -1,11 +1,12 @@
 -- Laws of lists that are read line by line. The implementation that states them and proofs alone cite this file.
-use Rattle.std.proofs.Common.{◌≡◌, ℕ, List, [], ◌∷◌, ◌++◌, Result, sym, ap, ◌∙◌, refl, subst, append_assoc}
+use Rattle.std.proofs.Common.{◌≡◌, ℕ, List, [], ◌∷◌, ◌++◌, Result, Ok, Err, sym, ap, ◌∙◌, refl, subst, append_assoc}
 use Rattle.h3_index.specs.Cell.{Address}
 use Rattle.h3_index.specs.declared.error.H3Error.{H3Error}
-use Rattle.h3_lines.specs.List.{RefusesList, cells_said, said_before, said_by}
+use Rattle.h3_lines.specs.List.{cells_said, said_before, said_by}
 use Rattle.h3_lines.specs.Numbered.{RefusesAt, faulty_from}
-use Rattle.h3_lines.specs.Reading.{CountsLines, GivesCells, RefusesLines, RefusesLinesAt, cells_before, said_lines}
+use Rattle.h3_lines.specs.Reading.{CountsLines, RefusesLinesAt, SayCells, cells_before, said_lines}
 use Rattle.h3_lines.specs.declared.refusal.Refusal.{Refusal}
+use Rattle.h3_lines.specs.declared.refusal.Refusal.TheVariants.{Error, At, Memory, Read, Write, Table, TableOpen, FileOpen, FileAt, File}
 
 said_lines-append : (ls ms : List (List ℕ)) (later : Result (List Address) H3Error) → said_lines (ls ++ ms) later ≡ said_lines ls (said_lines ms later)
 said_lines-append [] ms later = refl
@@ -15,16 +16,33 @@ pub cells_said-append : (ls ms : List (List ℕ)) → cells_said (ls ++ ms) ≡ 
 cells_said-append [] ms = refl
 cells_said-append (l ∷ ls) ms = ap (said_before (said_by l)) (cells_said-append ls ms)
 
-pub gives_then : (cells1 cells2 cells3 : List Address) (xs ys : List (List ℕ)) → GivesCells cells1 xs cells2 → GivesCells cells2 ys cells3 → GivesCells cells1 (xs ++ ys) cells3
-gives_then cells1 cells2 cells3 xs ys p q later = ap (cells_before cells1) (said_lines-append xs ys later) ∙ p (said_lines ys later) ∙ q later
+pub says_nothing : (later : Result (List Address) H3Error) → later ≡ cells_before [] later
+says_nothing (Ok cells) = refl
+says_nothing (Err e) = refl
 
-pub refuses_after : (cells1 cells2 : List Address) (xs ys : List (List ℕ)) (e : Refusal) → GivesCells cells1 xs cells2 → RefusesLines cells2 ys e → RefusesLines cells1 (xs ++ ys) e
-refuses_after cells1 cells2 xs ys e p refuses = subst (λ list. RefusesList ⊥ list e) (sym (ap (cells_before cells1) (cells_said-append xs ys) ∙ p (cells_said ys))) refuses
+before_both : (xs ys : List Address) (later : Result (List Address) H3Error) → cells_before xs (cells_before ys later) ≡ cells_before (xs ++ ys) later
+before_both xs ys (Ok cells) = ap Ok (sym (append_assoc xs ys cells))
+before_both xs ys (Err e) = refl
+
+pub says_then : (cells1 cells2 : List Address) (xs ys : List (List ℕ)) → SayCells xs cells1 → SayCells ys cells2 → SayCells (xs ++ ys) (cells1 ++ cells2)
+says_then cells1 cells2 xs ys p q later = said_lines-append xs ys later ∙ p (said_lines ys later) ∙ ap (cells_before cells1) (q later) ∙ before_both cells1 cells2 later
 
 pub counts_then : (n1 n2 n3 : ℕ) (xs ys : List (List ℕ)) → CountsLines n1 xs n2 → CountsLines n2 ys n3 → CountsLines n1 (xs ++ ys) n3
 counts_then n1 n2 n3 xs ys p q more = ap (faulty_from n1) (append_assoc xs ys more) ∙ p (ys ++ more) ∙ q more
 
-pub refuses_at_after : (n1 n2 : ℕ) (cells1 cells2 : List Address) (xs ys : List (List ℕ)) (e : Refusal) → GivesCells cells1 xs cells2 → CountsLines n1 xs n2 → RefusesLinesAt n2 cells2 ys e → RefusesLinesAt n1 cells1 (xs ++ ys) e
-refuses_at_after n1 n2 cells1 cells2 xs ys e p counts refuses =
-    subst (λ list. RefusesAt ⊥ list (faulty_from n1 (xs ++ ys)) e) (sym (ap (cells_before cells1) (cells_said-append xs ys) ∙ p (cells_said ys)))
-    (subst (λ n. RefusesAt ⊥ (cells_before cells2 (cells_said ys)) n e) (sym (counts ys)) refuses)
+refuses_before : (cells : List Address) (list : Result (List Address) H3Error) (n : ℕ) (e : Refusal) → RefusesAt ⊥ list n e → RefusesAt ⊥ (cells_before cells list) n e
+refuses_before cells list n (Error e) h = absurd h
+refuses_before cells list n (At line e) h = (ap (cells_before cells) h.0, h.1)
+refuses_before cells list n Memory h = h
+refuses_before cells list n Read h = absurd h
+refuses_before cells list n Write h = absurd h
+refuses_before cells list n (Table e) h = absurd h
+refuses_before cells list n TableOpen h = absurd h
+refuses_before cells list n (FileOpen f) h = absurd h
+refuses_before cells list n (FileAt f m d) h = absurd h
+refuses_before cells list n (File f d) h = absurd h
+
+pub refuses_after : (n1 n2 : ℕ) (cells : List Address) (xs ys : List (List ℕ)) (e : Refusal) → SayCells xs cells → CountsLines n1 xs n2 → RefusesLinesAt n2 ys e → RefusesLinesAt n1 (xs ++ ys) e
+refuses_after n1 n2 cells xs ys e says counts refuses =
+    subst (λ list. RefusesAt ⊥ list (faulty_from n1 (xs ++ ys)) e) (sym (cells_said-append xs ys ∙ says (cells_said ys)))
+    (subst (λ n. RefusesAt ⊥ (cells_before cells (cells_said ys)) n e) (sym (counts ys)) (refuses_before cells (cells_said ys) (faulty_from n2 ys) e refuses))

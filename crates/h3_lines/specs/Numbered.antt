@@ -4,22 +4,24 @@ use Rattle.h3_index.specs.Cell.{Address}
 use Rattle.h3_index.specs.declared.error.H3Error.{H3Error}
 use Rattle.h3_lines.specs.List.{lines_of, said_by}
 use Rattle.h3_lines.specs.declared.refusal.Refusal.{Refusal}
-use Rattle.h3_lines.specs.declared.refusal.Refusal.TheVariants.{Error, At, Memory, Read, Write, Table, TableOpen}
+use Rattle.h3_lines.specs.declared.refusal.Refusal.TheVariants.{Error, At, Memory, Read, Write, Table, TableOpen, FileOpen, FileAt, File}
 
 -- this number, where a line says an error; else the later one
 abbrev pub number_of_fault : ℕ → Result (Option Address) H3Error → ℕ → ℕ
 number_of_fault number (Err e) later = number
 number_of_fault number (Ok said) later = later
 
--- the number of the first faulty one of lines, of which the first has this number
+-- faulty_from n lines: the number of the first faulty one of lines, of which the first has the number n
 abbrev pub faulty_from : ℕ → List (List ℕ) → ℕ
 faulty_from number [] = number
 faulty_from number (line ∷ lines) = number_of_fault number (said_by line) (faulty_from (number + 1) lines)
 
--- the number of the first faulty line in these bytes; the first line is 1, and blank lines count
+-- faulty_line bytes: the number of the first faulty line of a list; the first line is 1, and blank lines count
 abbrev pub faulty_line : List ℕ → ℕ
 faulty_line bytes = faulty_from 1 (lines_of bytes)
 
+-- RefusesAt: `RefusesList`, where the list's own error is told with this number of a line
+--
 -- a refusal fits the list: an error is the list's own, told with this number, out of memory says nothing of it, and a
 -- read fault comes only where reads fail
 abbrev pub RefusesAt : Type 0 → Result (List Address) H3Error → ℕ → Refusal → Type 0
@@ -30,3 +32,19 @@ RefusesAt read_fails list number Read = read_fails
 RefusesAt read_fails list number Write = ⊥
 RefusesAt read_fails list number (Table e) = ⊥
 RefusesAt read_fails list number TableOpen = ⊥
+RefusesAt read_fails list number (FileOpen f) = ⊥
+RefusesAt read_fails list number (FileAt f n d) = ⊥
+RefusesAt read_fails list number (File f d) = ⊥
+
+-- without_number: a refusal told without the number of its line
+abbrev pub without_number : Refusal → Refusal
+without_number (Error e) = Error e
+without_number (At line e) = Error e
+without_number Memory = Memory
+without_number Read = Read
+without_number Write = Write
+without_number (Table e) = Table e
+without_number TableOpen = TableOpen
+without_number (FileOpen f) = FileOpen f
+without_number (FileAt f n d) = FileAt f n d
+without_number (File f d) = File f d

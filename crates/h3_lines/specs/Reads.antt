@@ -4,19 +4,22 @@ use Rattle.h3_index.specs.declared.error.H3Error.{H3Error}
 use Rattle.h3_lines.specs.Beginning.{SomeBeginning}
 use Rattle.h3_lines.specs.List.{cells_said, lines_of, listed_cells}
 
--- this many reads of a page of this many bytes can find the end of the bytes; the last of them reads nothing
+-- IsWithinReads reads page bytes: this many reads of a page of this many bytes can find the end of the bytes
 abbrev pub IsWithinReads : ℕ → ℕ → List ℕ → Type 0
 IsWithinReads reads page bytes = length bytes + page ≤ reads * page
 
--- a list that begins with these bytes is an error, the same whatever bytes come after them
+-- IsKnownFaulty bytes: a list that begins with these bytes is an error, the same whatever bytes come after them
 abbrev pub IsKnownFaulty : List ℕ → Type 0
 IsKnownFaulty bytes = (e : H3Error) × ((after : List ℕ) → listed_cells (bytes ++ after) ≡ Err e)
 
--- this many reads of such a page can find the end of the list, or take a beginning of it that is known to be faulty
+-- IsListWithinReads reads page list: the reads can find the end of the list, or take a beginning of it that is known to
+-- be faulty
 abbrev pub IsListWithinReads : ℕ → ℕ → List ℕ → Type 0
 IsListWithinReads reads page list =
     IsWithinReads reads page list ⊎ SomeBeginning (λ part. IsKnownFaulty part × (length part ≤ reads * page)) list
 
+-- HasNoFaultYet bytes: no line that ends in the bytes is faulty, and the last one has at most 64 bytes
+--
 -- no line of the bytes is known to be faulty: those that end in them are not, and the last one, which may go on after them,
 -- has at most 64 bytes
 pub record HasNoFaultYet (bytes : List ℕ) : Type 0 where
@@ -26,7 +29,8 @@ pub record HasNoFaultYet (bytes : List ℕ) : Type 0 where
   pub good : IsOk (cells_said ended)
   pub short : length last ≤ 64
 
--- these bytes of a list are left, and at most a page was taken after bytes in which no line is known to be faulty
+-- StopsAtFault page list left: these bytes of a list are left, and at most a page was taken after bytes that have no
+-- fault yet
 pub record StopsAtFault (page : ℕ) (list left : List ℕ) : Type 0 where
   pub before : List ℕ
   pub last : List ℕ

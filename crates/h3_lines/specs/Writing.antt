@@ -6,16 +6,19 @@ use Rattle.h3_lines.specs.Answer.{Answer}
 use Rattle.h3_lines.specs.Beginning.{SomeBeginning}
 use Rattle.h3_lines.specs.Refusal.{ending_line, ending_status}
 use Rattle.h3_lines.specs.declared.refusal.Refusal.{Refusal}
-use Rattle.h3_lines.specs.declared.refusal.Refusal.TheVariants.{Error, At, Memory, Read, Write, Table, TableOpen}
+use Rattle.h3_lines.specs.declared.refusal.Refusal.TheVariants.{Error, At, Memory, Read, Write, Table, TableOpen, FileOpen, FileAt, File}
 
+-- MayHaveTaken: there is a state of the sink in which it has taken these bytes with no failed call, and in the new one
+-- they are kept or no longer known, as after a flush that failed
+--
 -- There is a state of the sink in which it has taken these bytes, with no failed call, and in the new one they are kept or
 -- no longer known, as by a flush that fails. A function over any sink knows of such a state only by pushing the bytes.
 abbrev pub MayHaveTaken : {S : Type 0} → (S → Option (List ℕ)) → (S → Bool) → S → S → List ℕ → Type 0
 MayHaveTaken {S = S} taken failed old new bytes =
     (whole : S) × Appends (taken old) (taken whole) bytes × (failed whole ≡ failed old) × KeepsOrHides (taken whole) (taken new)
 
--- a sink over a call: the bytes that it had taken and has taken, where they are known, whether it had failed and has, and
--- which bytes it may have taken before a flush that failed
+-- SinkUse: what a sink had taken before a call and has after it, where known, whether it had failed and has, and which
+-- bytes it may have taken before a flush that failed
 pub record SinkUse : Type 1 where
   pub before : Option (List ℕ)
   pub after : Option (List ℕ)
@@ -23,19 +26,20 @@ pub record SinkUse : Type 1 where
   pub has_failed : Bool
   pub may_have_taken : List ℕ → Type 0
 
+-- sink_use: that use of a sink, from its two states
 abbrev pub sink_use : {S : Type 0} → (S → Option (List ℕ)) → (S → Bool) → S → S → SinkUse
 sink_use taken failed old new =
     record { before = taken old; after = taken new; had_failed = failed old; has_failed = failed new; may_have_taken = MayHaveTaken taken failed old new }
 
--- the sink took nothing, and no call of it failed
+-- IsLeft sink: it took nothing, and did not fail
 abbrev pub IsLeft : SinkUse → Type 0
 IsLeft sink = Keeps sink.before sink.after × (sink.has_failed ≡ sink.had_failed)
 
--- the sink took these bytes, and no call of it failed
+-- Takes sink bytes: it took these bytes, and did not fail
 abbrev pub Takes : SinkUse → List ℕ → Type 0
 Takes sink bytes = Appends sink.before sink.after bytes × (sink.has_failed ≡ sink.had_failed)
 
--- a beginning of the bytes was appended, and the rest of them was not
+-- AppendsPart old new bytes: some beginning of the bytes was appended, and nothing more
 abbrev pub AppendsPart : Option (List ℕ) → Option (List ℕ) → List ℕ → Type 0
 AppendsPart old new bytes = SomeBeginning (Appends old new) bytes
 
@@ -45,17 +49,19 @@ pub record AppendsUpTo (old new : Option (List ℕ)) (bytes rest : List ℕ) : T
   pub split : bytes ≡ part ++ rest
   pub grown : Appends old new part
 
--- a call of the sink failed: it took a beginning of the bytes, or it took all of them, and then a flush failed
+-- TakesPart sink bytes: it failed, and took a beginning of the bytes, or may have taken all of them before a flush that
+-- failed
 abbrev pub TakesPart : SinkUse → List ℕ → Type 0
 TakesPart sink bytes = (AppendsPart sink.before sink.after bytes ⊎ sink.may_have_taken bytes) × (sink.has_failed ≡ true)
 
 -- ---- an answer
 
--- an answer that is an error and no output: no write fault comes in its place, so nothing is flushed for it that could
--- fail
+-- IsErrorAlone a: the answer is an error and no output: no write fault comes in its place
 abbrev pub IsErrorAlone : Answer → Type 0
 IsErrorAlone a = (a.output ≡ []) × IsErr a.ending
 
+-- Writes a ending sink: the answer is written, or a part of it and a write fault
+--
 -- the answer is written: all of its output, and then the run ends as the answer does, or a part of it and a write fault
 unfoldable pub Writes : Answer → Result (Unit {0}) Refusal → SinkUse → Type 0
 Writes a (Ok u) out = (a.ending ≡ Ok u) × Takes out a.output
@@ -65,11 +71,14 @@ Writes a (Err (Table e)) out = (a.ending ≡ Err (Table e)) × Takes out a.outpu
 Writes a (Err Memory) out = ⊥
 Writes a (Err Read) out = ⊥
 Writes a (Err TableOpen) out = ⊥
+Writes a (Err (FileOpen f)) out = ⊥
+Writes a (Err (FileAt f n e)) out = (a.ending ≡ Err (FileAt f n e)) × Takes out a.output
+Writes a (Err (File f e)) out = (a.ending ≡ Err (File f e)) × Takes out a.output
 Writes a (Err Write) out = (¬ IsErrorAlone a) × TakesPart out a.output
 
 -- ---- the line of an error
 
--- the status is that of this ending, and standard error has its line, or a beginning of it where it failed
+-- Reports ending status err: the status, and the line on standard error, or a beginning of it where that failed
 pub record Reports (ending : Result (Unit {0}) Refusal) (status : ℕ) (err : SinkUse) : Type 0 where
   pub status_is : status ≡ ending_status ending
   pub line : err.has_failed ≡ false → Appends err.before err.after (ending_line ending)

@@ -1,7 +1,7 @@
 //! The lines of answers.
 
 ghost use Rattle.std.specs.Prelude.{◌≡◌, ◌+◌, ◌<◌, ◌≤◌, ◌++◌, ◌∷◌, [], ℕ, List, length, take};
-ghost use Rattle.h3_lines.specs.Answer.{cell_line, children_lines, edge_line, number_line, ring_line, truth_line};
+ghost use Rattle.h3_lines.specs.Answer.{cell_line, children_lines, count_line, edge_line, number_line, ring_line, truth_line, zone_line, zone_text};
 
 use h3_index::{Cell, CellLines, Edge, Siblings, index_bytes};
 use itoa::Buffer;
@@ -107,5 +107,50 @@ impl Line for (Cell, u32) {
         let mut buffer = Buffer::new();
         let ring = buffer.format(self.1);
         put_ended(block, end + 1, ring.as_bytes(), ring.len(), b'\n')
+    }
+}
+
+/// Puts the text of a zone, `0` where there is none, into a block from the byte `at` on, and returns
+/// where it ends.
+#[inline(always)]
+fn put_zone(zone: Option<Cell>, lines: &mut CellLines, block: &mut [u8; BLOCK], at: usize) -> usize
+    requires room { at + 112 ≤ BLOCK }
+    ensures end { result ≤ at + 16 }
+    ensures from { at ≤ result }
+    ensures text { take result block.new ≡ take at block.old ++ zone_text zone }
+{
+    match zone {
+        // without its line feed
+        Some(cell) => lines.put(cell, block, at) - 1,
+        None => {
+            block[at] = b'0';
+            at + 1
+        }
+    }
+}
+
+/// A zone, `0` where there is none.
+impl Line for Option<Cell> {
+    ghost line_of = { zone_line };
+
+    #[inline(always)]
+    fn put(&self, lines: &mut CellLines, block: &mut [u8; BLOCK], at: usize) -> usize {
+        let end = put_zone(*self, lines, block, at);
+        block[end] = b'\n';
+        end + 1
+    }
+}
+
+/// A zone, or none, with its count.
+impl Line for (Option<Cell>, u64) {
+    ghost line_of = { count_line };
+
+    #[inline(always)]
+    fn put(&self, lines: &mut CellLines, block: &mut [u8; BLOCK], at: usize) -> usize {
+        let end = put_zone(self.0, lines, block, at);
+        block[end] = b' ';
+        let mut buffer = Buffer::new();
+        let count = buffer.format(self.1);
+        put_ended(block, end + 1, count.as_bytes(), count.len(), b'\n')
     }
 }

@@ -1,19 +1,19 @@
 //! Lists of cells, one a line.
 
-ghost use Rattle.std.proofs.Common.{refl};
-ghost use Rattle.std.specs.Prelude.{◌≡◌, ◌≢◌, ◌≤◌, ◌<◌, ◌*◌, ◌^◌, ◌⊎◌, ⊤, ℕ, true, List, [], length, Some, Result, Ok, IsOk, IfOk, IfErr, OnOk, OnErr, IsErrOf};
+ghost use Rattle.std.proofs.Common.{◌∙◌, ap, append-nil, append_assoc, sym};
+ghost use Rattle.std.specs.Prelude.{◌≡◌, ◌≢◌, ◌≤◌, ◌<◌, ◌*◌, ◌^◌, ◌⊎◌, ◌++◌, ℕ, true, List, [], length, Some, Result, Ok, IsOk, IfOk, IfErr, OnOk, OnErr, IsErrOf};
 ghost use Rattle.h3_index.specs.Cell.{Address};
 ghost use Rattle.h3_index.specs.CellNumber.{cell_in};
 ghost use Rattle.h3_index.specs.Stream.{HasLeft};
 ghost use Rattle.h3_index.specs.declared.error.H3Error.{H3Error};
-ghost use Rattle.h3_lines.specs.List.{RefusesList, listed_cells, said_before, said_by, said_by_cell};
-ghost use Rattle.h3_lines.specs.ListLaws.{gives_then, refuses_after};
-ghost use Rattle.h3_lines.specs.Reading.{GivesCells, RefusesLines, cells_before};
+ghost use Rattle.h3_lines.specs.List.{RefusesList, listed_cells, said_by, said_by_cell};
+ghost use Rattle.h3_lines.specs.Numbered.{RefusesAt, faulty_line, without_number};
 ghost use Rattle.h3_lines.specs.Reads.{IsListWithinReads, IsWithinReads, StopsAtFault};
 
 use crate::refusal::Refusal;
-use crate::splitting::{LONGEST_LINE, LineTaker, PAGE, READS, take_lines};
-use h3_index::{Cell, CountedReader, H3Error, Source, is_blank_text, read_index};
+use crate::splitting::{LONGEST_LINE, PAGE, READS};
+use crate::taking::{CellTaker, take_cells, take_list};
+use h3_index::{Cell, H3Error, Source, is_blank_text, read_index};
 use std::alloc::Global;
 
 /// The cell with an index, or the error where no cell has it.
@@ -39,60 +39,55 @@ pub(crate) fn read_line(line: &[u8]) -> Result<Option<Cell>, H3Error>
     }
 }
 
-/// Adds the cell that a line says, if it says one, to the cells.
-#[inline(always)]
-fn take_said(cells: &mut Vec<Cell>, said: Result<Option<Cell>, H3Error>) -> Result<(), Refusal>
-    ensures ok { OnOk result ((later : Result (List Address) H3Error) →
-        cells_before cells.old.items (said_before said later)
-        ≡ cells_before cells.new.items later) }
-    ensures err { IfErr result (λ e. (later : Result (List Address) H3Error) →
-        RefusesList ⊥ (cells_before cells.old.items (said_before said later)) e) }
-{
-    match said {
-        Ok(None) => Ok(()),
-        Ok(Some(cell)) => cells.push(cell).map_err(|_| Refusal::Memory),
-        Err(error) => Err(Refusal::Error(error)),
-    }
-}
-
-/// The cells of the lines so far.
-#[derive(Drop)]
-struct ListedCells {
-    cells: Vec<Cell>,
-}
-
-impl LineTaker for ListedCells {
+impl CellTaker for Vec<Cell> {
     ghost count = { λ v. 0 };
 
-    ghost settled = { λ v. ⊤ };
-
-    ghost taken = { λ v lines w. GivesCells v.cells.items lines w.cells.items };
-
-    ghost refused = { λ v lines w e. RefusesLines v.cells.items lines e };
-
-    fn take(&mut self, line: &[u8]) -> Result<(), Refusal> {
-        take_said(&mut self.cells, read_line(line))
-    }
+    ghost taken = { λ v cells w. w.items ≡ v.items ++ cells };
 
     #[inline(always)]
-    fn take_index(&mut self, index: u64) -> Result<(), Refusal> {
-        take_said(&mut self.cells, cell_with(index))
+    fn take(&mut self, cell: Cell) -> Result<(), Refusal> {
+        self.push(cell).map_err(|_| Refusal::Memory)
     }
 
-    fn refuse_long(&mut self) -> Refusal {
-        Refusal::Error(H3Error::Failed)
+    ghost none_taken = { λ v. sym (append-nil v.items) };
+
+    ghost taken_then = { λ u v w xs ys p q.
+        q ∙ ap (λ l. l ++ ys) p ∙ append_assoc u.items xs ys };
+}
+
+/// The refusal of a list whose lines are told without a number.
+fn told_without_number(refusal: Refusal) -> Refusal
+    ensures { result ≡ without_number refusal }
+{
+    match refusal {
+        Refusal::At(_, error) => Refusal::Error(error),
+        other => other,
     }
+}
 
-    #[inline(always)]
-    fn settle(&mut self) -> Result<(), Refusal> {
-        Ok(())
-    }
-
-    ghost none_taken = { λ v later. refl };
-
-    ghost taken_then = { λ u v w xs ys p q. gives_then _ _ _ xs ys p q };
-
-    ghost refused_then = { λ u v w xs ys e p q. refuses_after _ _ xs ys e p q };
+/// As `read_list`, but the error of a faulty line is told with its number.
+fn read_numbered_list<R: Source>(
+    alloc: Global,
+    input: &mut R,
+    limit: u64,
+    page: &mut [u8],
+) -> Result<Vec<Cell>, Refusal>
+    requires room { 0 < length page.old }
+    requires few { limit * length page.old < 2 ^ 62 }
+    ensures cells { IfOk result (λ cells. (list : List ℕ) × HasLeft (R.left input.old) list ×
+        IsWithinReads limit (length page.old) list × (listed_cells list ≡ Ok cells.items)) }
+    ensures refused { IfErr result (λ e. (list : List ℕ) × HasLeft (R.left input.old) list ×
+        RefusesAt ((R.has_failed input.new ≡ true) ⊎ (limit ≤ length list))
+        (listed_cells list) (faulty_line list) e ×
+        (e ≢ Refusal.Read → e ≢ Refusal.Memory → IsListWithinReads limit (length page.old) list)) }
+    ensures whole { IsOk result →
+        (list : List ℕ) → R.left input.old ≡ Some list → R.left input.new ≡ Some [] }
+    ensures stops { OnErr result ((list : List ℕ) → R.left input.old ≡ Some list →
+        (left : List ℕ) × (R.left input.new ≡ Some left) × StopsAtFault (length page.old) list left) }
+    ensures sound { ¬ (IsErrOf result Refusal.Read)
+        → R.has_failed input.new ≡ R.has_failed input.old }
+{
+    take_list(Vec::new(alloc), input, limit, page)
 }
 
 /// Reads a list in at most a given number of reads, each to a page.
@@ -117,16 +112,10 @@ pub fn read_list<R: Source>(
     ensures sound { ¬ (IsErrOf result Refusal.Read)
         → R.has_failed input.new ≡ R.has_failed input.old }
 {
-    let mut list = ListedCells {
-        cells: Vec::new(alloc),
-    };
-    let mut reader = CountedReader::new(&mut *input, limit);
-    let read = take_lines(&mut list, &mut reader, page);
-    // The proof reads what the source is after the reads from this use of it.
-    let _ = &*input;
-    read?;
-    let ListedCells { cells } = list;
-    Ok(cells)
+    match read_numbered_list(alloc, input, limit, page) {
+        Ok(cells) => Ok(cells),
+        Err(refusal) => Err(told_without_number(refusal)),
+    }
 }
 
 /// Reads a list of cells, one a line, to its end or its first faulty line.
@@ -157,6 +146,34 @@ pub fn read_cells<R: Source>(alloc: Global, input: &mut R) -> Result<Vec<Cell>, 
     ensures sound { ¬ (IsErrOf result Refusal.Read)
         → R.has_failed input.new ≡ R.has_failed input.old }
 {
-    let mut page = vec![in alloc; 0u8; PAGE].map_err(|_| Refusal::Memory)?;
-    read_list(alloc, input, READS, &mut page)
+    match read_numbered_cells(alloc, input) {
+        Ok(cells) => Ok(cells),
+        Err(refusal) => Err(told_without_number(refusal)),
+    }
+}
+
+/// As `read_cells`: reads a list of cells, one a line, to its end or its first faulty line. The
+/// error of that is told with the line's number.
+///
+/// `Refusal::At` with `Failed` for a line of more than 64 bytes or one that parses as no index, and
+/// with `CellInvalid` for the index of no cell, the first faulty line's. `Refusal::Read` where a
+/// read fails, or the end is not found in 2^40 reads. `Refusal::Memory` where there is none for the
+/// page or for a cell.
+pub fn read_numbered_cells<R: Source>(alloc: Global, input: &mut R) -> Result<Vec<Cell>, Refusal>
+    // That many reads of a page can find the end of the list, or its first faulty line.
+    ensures cells { IfOk result (λ cells. (list : List ℕ) × HasLeft (R.left input.old) list ×
+        IsWithinReads READS PAGE list × (listed_cells list ≡ Ok cells.items)) }
+    ensures refused { IfErr result (λ e. (list : List ℕ) × HasLeft (R.left input.old) list ×
+        RefusesAt ((R.has_failed input.new ≡ true) ⊎ (READS ≤ length list))
+        (listed_cells list) (faulty_line list) e ×
+        (e ≢ Refusal.Read → e ≢ Refusal.Memory → IsListWithinReads READS PAGE list)) }
+    // How much of the list is read, as by `read_cells`.
+    ensures whole { IsOk result →
+        (list : List ℕ) → R.left input.old ≡ Some list → R.left input.new ≡ Some [] }
+    ensures stops { OnErr result ((list : List ℕ) → R.left input.old ≡ Some list →
+        (left : List ℕ) × (R.left input.new ≡ Some left) × StopsAtFault PAGE list left) }
+    ensures sound { ¬ (IsErrOf result Refusal.Read)
+        → R.has_failed input.new ≡ R.has_failed input.old }
+{
+    take_cells(alloc, Vec::new(alloc), input)
 }

@@ -1,7 +1,8 @@
 //! The errors that end a run, with the line and the exit status of each.
 
 ghost use Rattle.std.specs.Prelude.{◌≡◌, ◌≤◌, length};
-ghost use Rattle.h3_lines.specs.Refusal.{error_line, error_line_at, link_line, numbered_line, read_fault_line, table_line};
+ghost use Rattle.h3_lines.specs.Refusal.{error_line, error_line_at, file_line, link_line, numbered_line, read_fault_line, refusal_line, table_line};
+ghost use Rattle.h3_lines.specs.declared.refusal.Refusal.TheVariants.{FileOpen};
 
 use arrayvec::ArrayString;
 use h3_directions::{Direction, TableError};
@@ -10,6 +11,31 @@ use itoa::Buffer;
 
 /// The room for a line on standard error.
 const LINE_ROOM: usize = 80;
+
+/// Which file of cells an error is about.
+#[derive(Clone, Copy, Debug, Eq, PartialEq)]
+pub enum CellFile {
+    /// The cells of a region, which may repeat and overlap.
+    Region,
+
+    /// Zones, of which no two overlap.
+    Zones,
+}
+
+impl CellFile {
+    ghost use Rattle.h3_lines.specs.Refusal.{file_word};
+
+    /// The word by which error lines name the file.
+    fn word(self) -> &'static str
+        ensures is { result.now ≡ file_word self }
+        ensures short { length result.now ≤ 6 }
+    {
+        match self {
+            CellFile::Region => "region",
+            CellFile::Zones => "zones",
+        }
+    }
+}
 
 /// Why a run ends with another status than 0.
 #[derive(Clone, Copy, Debug, PartialEq, Eq)]
@@ -35,6 +61,15 @@ pub enum Refusal {
 
     /// The file of the base cell table cannot be opened.
     TableOpen,
+
+    /// A file of cells cannot be opened.
+    FileOpen(CellFile),
+
+    /// A line of a file of cells is faulty. The first line is 1, and blank lines count.
+    FileAt(CellFile, u64, H3Error),
+
+    /// A file of cells gave an H3 error as a whole.
+    File(CellFile, H3Error),
 }
 
 impl Refusal {
@@ -52,6 +87,9 @@ impl Refusal {
             Refusal::Write => fixed_line("fault: write\n"),
             Refusal::Table(error) => table_line(*error),
             Refusal::TableOpen => fixed_line("table: open\n"),
+            Refusal::FileOpen(file) => file_open_line(*file),
+            Refusal::FileAt(file, line, error) => file_line(*file, error_line_at(*line, *error)),
+            Refusal::File(file, error) => file_line(*file, error_line(*error)),
         }
     }
 
@@ -61,9 +99,10 @@ impl Refusal {
     {
         match self {
             Refusal::Error(_) | Refusal::At(_, _) | Refusal::Memory => 1,
+            Refusal::FileAt(_, _, _) | Refusal::File(_, _) => 1,
             Refusal::Table(TableError::Memory) => 1,
             Refusal::Table(TableError::Read) => 4,
-            Refusal::Table(_) | Refusal::TableOpen => 3,
+            Refusal::Table(_) | Refusal::TableOpen | Refusal::FileOpen(_) => 3,
             Refusal::Read | Refusal::Write => 4,
         }
     }
@@ -123,7 +162,8 @@ fn error_line(error: H3Error) -> ArrayString<LINE_ROOM>
 
 /// The line of an H3 error at a line of a list.
 fn error_line_at(number: u64, error: H3Error) -> ArrayString<LINE_ROOM>
-    ensures { result.bytes ≡ error_line_at number error }
+    ensures line { result.bytes ≡ error_line_at number error }
+    ensures short { length result.bytes ≤ 64 }
 {
     let mut decimal = Buffer::new();
     let mut line = ArrayString::new();
@@ -131,6 +171,28 @@ fn error_line_at(number: u64, error: H3Error) -> ArrayString<LINE_ROOM>
     line.push_str(decimal.format(number));
     line.push_str(": ");
     line.push_str(error_line(error).as_str());
+    line
+}
+
+/// The line of a file of cells that cannot be opened.
+fn file_open_line(file: CellFile) -> ArrayString<LINE_ROOM>
+    ensures { result.bytes ≡ refusal_line (FileOpen file) }
+{
+    match file {
+        CellFile::Region => fixed_line("region: open\n"),
+        CellFile::Zones => fixed_line("zones: open\n"),
+    }
+}
+
+/// The line of an error of a file of cells: the file's word before the line of the error.
+fn file_line(file: CellFile, error: ArrayString<LINE_ROOM>) -> ArrayString<LINE_ROOM>
+    requires { length error.bytes ≤ 64 }
+    ensures { result.bytes ≡ file_line file error.bytes }
+{
+    let mut line = ArrayString::new();
+    line.push_str(file.word());
+    line.push_str(": ");
+    line.push_str(error.as_str());
     line
 }
 

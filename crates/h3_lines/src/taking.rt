@@ -1,0 +1,179 @@
+//! Lists of cells, one a line, of which each cell is taken as it is read.
+
+ghost use Rattle.std.proofs.Common.{refl};
+ghost use Rattle.std.specs.Prelude.{◌≡◌, ◌≢◌, ◌≤◌, ◌<◌, ◌*◌, ◌+◌, ◌^◌, ◌⊎◌, ◌++◌, ◌∷◌, ⊤, ℕ, true, List, [], length, Some, Result, Ok, IsOk, IfOk, IfErr, OnOk, OnErr, IsErrOf};
+ghost use Rattle.h3_index.specs.Cell.{Address};
+ghost use Rattle.h3_index.specs.Stream.{HasLeft};
+ghost use Rattle.h3_index.specs.declared.error.H3Error.{H3Error};
+ghost use Rattle.h3_lines.specs.List.{listed_cells, said_before};
+ghost use Rattle.h3_lines.specs.ListLaws.{counts_then, refuses_after, says_nothing, says_then};
+ghost use Rattle.h3_lines.specs.Numbered.{RefusesAt, faulty_line, number_of_fault};
+ghost use Rattle.h3_lines.specs.Reading.{CountsLines, RefusesLinesAt, SayCells, cells_on};
+ghost use Rattle.h3_lines.specs.Reads.{IsListWithinReads, IsWithinReads, StopsAtFault};
+ghost use Rattle.h3_lines.specs.declared.refusal.Refusal.TheVariants.{Memory};
+
+use crate::list::{cell_with, read_line};
+use crate::refusal::Refusal;
+use crate::splitting::{LineTaker, PAGE, READS, take_lines};
+use h3_index::{Cell, CountedReader, H3Error, Source};
+use std::alloc::Global;
+
+/// What takes the cells of a list, one after another.
+pub trait CellTaker {
+    /// At most how many cells it has taken.
+    ghost count: { Self → ℕ };
+
+    /// From the one to the other these cells were taken, in this order.
+    ghost taken: { Self → List Address → Self → Type 0 };
+
+    /// Takes a cell. `Refusal::Memory` where there is none for it.
+    fn take(&mut self, cell: Cell) -> Result<(), Refusal>
+        requires few { count self.old < 2 ^ 63 }
+        ensures ok { OnOk result (taken self.old (cell ∷ []) self.new) }
+        ensures counted { count self.new ≤ count self.old + 1 }
+        ensures err { IfErr result (λ e. e ≡ Memory) };
+
+    ghost none_taken: { (v : Self) → taken v [] v };
+
+    ghost taken_then: { (u v w : Self) (xs ys : List Address) → taken u xs v → taken v ys w →
+        taken u (xs ++ ys) w };
+}
+
+/// Has the cell that the line with this number says taken, if it says one.
+#[inline(always)]
+fn take_said<V: CellTaker>(
+    taker: &mut V,
+    number: u64,
+    said: Result<Option<Cell>, H3Error>,
+) -> Result<(), Refusal>
+    requires few { V.count taker.old < 2 ^ 63 }
+    ensures ok { OnOk result (V.taken taker.old (cells_on said) taker.new) }
+    ensures counted { V.count taker.new ≤ V.count taker.old + 1 }
+    ensures said { OnOk result (IsOk said) }
+    ensures err { IfErr result (λ e. (later : Result (List Address) H3Error) (after : ℕ) →
+        RefusesAt ⊥ (said_before said later) (number_of_fault number said after) e) }
+{
+    match said {
+        Ok(None) => Ok(()),
+        Ok(Some(cell)) => taker.take(cell),
+        Err(error) => Err(Refusal::At(number, error)),
+    }
+}
+
+/// What takes the cells of the lines, and the number of the next line.
+#[derive(Drop)]
+struct NumberedLines<V: CellTaker> {
+    taker: V,
+    number: u64,
+    ghost few: { V.count taker ≤ number },
+}
+
+impl<V: CellTaker> LineTaker for NumberedLines<V> {
+    ghost count = { λ v. v.number };
+
+    ghost settled = { λ v. ⊤ };
+
+    ghost taken = { λ v lines w. (cells : List Address) × SayCells lines cells ×
+        V.taken v.taker cells w.taker × CountsLines v.number lines w.number };
+
+    ghost refused = { λ v lines w e. RefusesLinesAt v.number lines e };
+
+    fn take(&mut self, line: &[u8]) -> Result<(), Refusal> {
+        let number = self.number;
+        self.number += 1;
+        take_said(&mut self.taker, number, read_line(line))
+    }
+
+    #[inline(always)]
+    fn take_index(&mut self, index: u64) -> Result<(), Refusal> {
+        let number = self.number;
+        self.number += 1;
+        take_said(&mut self.taker, number, cell_with(index))
+    }
+
+    fn refuse_long(&mut self) -> Refusal {
+        Refusal::At(self.number, H3Error::Failed)
+    }
+
+    #[inline(always)]
+    fn settle(&mut self) -> Result<(), Refusal> {
+        Ok(())
+    }
+
+    ghost none_taken = { λ v. ([], λ later. says_nothing later, V.none_taken v.taker, λ more. refl) };
+
+    ghost taken_then = { λ u v w xs ys p q. (
+      p.0 ++ q.0,
+      says_then _ _ xs ys p.1 q.1,
+      V.taken_then _ _ _ _ _ p.2 q.2,
+      counts_then _ _ _ xs ys p.3 q.3,
+    ) };
+
+    ghost refused_then = { λ u v w xs ys e p q.
+        refuses_after _ _ _ xs ys e p.1 p.3 q };
+}
+
+/// Has the cells of a list taken, in at most a given number of reads, each to a page.
+pub(crate) fn take_list<V: CellTaker + Drop, R: Source>(
+    taker: V,
+    input: &mut R,
+    limit: u64,
+    page: &mut [u8],
+) -> Result<V, Refusal>
+    requires first { V.count taker ≡ 0 }
+    requires room { 0 < length page.old }
+    requires few { limit * length page.old < 2 ^ 62 }
+    ensures taken { IfOk result (λ after. (list : List ℕ) × HasLeft (R.left input.old) list ×
+        IsWithinReads limit (length page.old) list ×
+        (cells : List Address) × (listed_cells list ≡ Ok cells) × V.taken taker cells after) }
+    ensures refused { IfErr result (λ e. (list : List ℕ) × HasLeft (R.left input.old) list ×
+        RefusesAt ((R.has_failed input.new ≡ true) ⊎ (limit ≤ length list))
+        (listed_cells list) (faulty_line list) e ×
+        (e ≢ Refusal.Read → e ≢ Refusal.Memory → IsListWithinReads limit (length page.old) list)) }
+    ensures whole { IsOk result →
+        (list : List ℕ) → R.left input.old ≡ Some list → R.left input.new ≡ Some [] }
+    ensures stops { OnErr result ((list : List ℕ) → R.left input.old ≡ Some list →
+        (left : List ℕ) × (R.left input.new ≡ Some left) × StopsAtFault (length page.old) list left) }
+    ensures sound { ¬ (IsErrOf result Refusal.Read)
+        → R.has_failed input.new ≡ R.has_failed input.old }
+{
+    let mut lines = NumberedLines { taker, number: 1 };
+    let mut reader = CountedReader::new(&mut *input, limit);
+    let read = take_lines(&mut lines, &mut reader, page);
+    // The proof reads what the source is after the reads from this use of it.
+    let _ = &*input;
+    read?;
+    let NumberedLines { taker, number: _ } = lines;
+    Ok(taker)
+}
+
+/// As `read_numbered_cells`, but each cell is taken as its line is read, so the list is not kept:
+/// what has taken the cells is returned, in the order of the lines.
+///
+/// Nothing may have been taken before. Refusals as of `read_numbered_cells`; `Refusal::Memory` also
+/// where there is none for what takes the cells.
+pub fn take_cells<V: CellTaker + Drop, R: Source>(
+    alloc: Global,
+    taker: V,
+    input: &mut R,
+) -> Result<V, Refusal>
+    requires { V.count taker ≡ 0 }
+    // That many reads of a page can find the end of the list, or its first faulty line.
+    ensures taken { IfOk result (λ after. (list : List ℕ) × HasLeft (R.left input.old) list ×
+        IsWithinReads READS PAGE list ×
+        (cells : List Address) × (listed_cells list ≡ Ok cells) × V.taken taker cells after) }
+    ensures refused { IfErr result (λ e. (list : List ℕ) × HasLeft (R.left input.old) list ×
+        RefusesAt ((R.has_failed input.new ≡ true) ⊎ (READS ≤ length list))
+        (listed_cells list) (faulty_line list) e ×
+        (e ≢ Refusal.Read → e ≢ Refusal.Memory → IsListWithinReads READS PAGE list)) }
+    // How much of the list is read, as by `read_cells`.
+    ensures whole { IsOk result →
+        (list : List ℕ) → R.left input.old ≡ Some list → R.left input.new ≡ Some [] }
+    ensures stops { OnErr result ((list : List ℕ) → R.left input.old ≡ Some list →
+        (left : List ℕ) × (R.left input.new ≡ Some left) × StopsAtFault PAGE list left) }
+    ensures sound { ¬ (IsErrOf result Refusal.Read)
+        → R.has_failed input.new ≡ R.has_failed input.old }
+{
+    let mut page = vec![in alloc; 0u8; PAGE].map_err(|_| Refusal::Memory)?;
+    take_list(taker, input, READS, &mut page)
+}
