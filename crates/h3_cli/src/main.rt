@@ -3,15 +3,15 @@
 
 use h3_index::{H3Error, Sink, Source, Streamed};
 use h3_lines::{Refusal, report, write_all};
-use h3_program::{PageWriter, Retried, TableFile, run_words};
+use h3_program::{NamedFile, PageWriter, Retried, run_words};
 use h3_requests::{CellFunction, Command};
 use h3_words::read_words;
 use std::alloc::Global;
-use std::env;
 use std::fs::File;
 use std::io::{ErrorKind, IsTerminal};
 use std::process::ExitCode;
 use std::rt::{Env, Files};
+use std::{env, fs};
 
 /// The words of the command line, where the system gives them.
 fn given_words<R: Env + AllocGlobal>(rt: &R) -> Result<Vec<String>, Refusal> {
@@ -33,12 +33,26 @@ fn awaited_list<'a>(alloc: Global, words: &Vec<String>) -> Option<&'a str> {
         Command::CompactCells
         | Command::UncompactCells { .. }
         | Command::UniteCells
+        | Command::IntersectCells
+        | Command::SubtractCells
+        | Command::AreCoveredCells
+        | Command::CellsToZones
+        | Command::CountCellsInZones
         | Command::ForEach(_) => Some("h3: reading cells from standard input, one a line\n"),
         _ => None,
     }
 }
 
-/// Takes the words from the system, and runs their command over the streams and the table that they
+/// A folder in the place of a standard input that is closed, where one is: the next file to be
+/// opened would take that place, and be read as the list. Each read of a folder fails.
+fn closed_input<S: Files<File = File>>(rt: &S) -> Option<File> {
+    match fs::exists(rt, "/dev/stdin") {
+        Ok(true) => None,
+        _ => fs::open(rt, "/").ok(),
+    }
+}
+
+/// Takes the words from the system, and runs their command over the streams and the file that they
 /// name. Where the user has to type a list, `said` gets a line that says so.
 fn start<S: Env + Files<File = File> + AllocGlobal, R: Source, W: Sink, E: Sink>(
     rt: &S,
@@ -55,8 +69,9 @@ fn start<S: Env + Files<File = File> + AllocGlobal, R: Source, W: Sink, E: Sink>
                     let _ = write_all(said, line.as_bytes());
                 }
             }
-            let mut table = TableFile::new(rt);
-            run_words(rt.alloc(), words, input, &mut table, out, err)
+            let _kept = closed_input(rt);
+            let mut file = NamedFile::new(rt);
+            run_words(rt.alloc(), words, input, &mut file, out, err)
         }
         Err(refusal) => report(err, Err(refusal)),
     }

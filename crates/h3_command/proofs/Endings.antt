@@ -1,5 +1,6 @@
 -- How a run ends that reads a list or a table, and what a run does whose ending is known.
-use Rattle.std.proofs.Common.{◌≡◌, ℕ, ◌^◌, ◌⊎◌, Bool, true, false, List, Option, None, Some, Result, Ok, Err, IsTrue, [], ◌++◌, sym, subst, refl, inl, inr}
+use Rattle.std.proofs.Common.{◌≡◌, ℕ, ◌^◌, ◌⊎◌, Bool, true, false, List, Option, None, Some, Result, Ok, Err, IsTrue, [], ◌++◌, sym, ap, subst, refl, inl, inr}
+use Rattle.std.specs.Result.{is_ok}
 use Rattle.h3_index.specs.Cell.{Address}
 use Rattle.h3_index.specs.Stream.{HasLeft}
 use Rattle.h3_index.specs.declared.error.H3Error.{H3Error}
@@ -14,12 +15,14 @@ use Rattle.h3_lines.specs.List.{RefusesList, listed_cells}
 use Rattle.h3_lines.specs.Numbered.{RefusesAt, faulty_line}
 use Rattle.h3_lines.specs.Reads.{IsListWithinReads, IsWithinReads}
 use Rattle.h3_lines.specs.Refusal.{table_refusal}
+use Rattle.h3_lines.specs.declared.refusal.CellFile.{CellFile}
 use Rattle.h3_lines.specs.declared.refusal.Refusal.{Refusal}
-use Rattle.h3_lines.specs.declared.refusal.Refusal.TheVariants.{Error, At, Memory, Read, Write, Table, TableOpen}
+use Rattle.h3_lines.specs.declared.refusal.Refusal.TheVariants.{Error, At, Memory, Read, Write, Table, TableOpen, FileOpen, FileAt, File}
 use Rattle.h3_lines.specs.Writing.{IsLeft, Reports, SinkUse, Writes}
 use Rattle.h3_command.specs.Answer.{Request, about_numbered_list, about_table, answer_or_error_at, with_table, unless_faulty}
-use Rattle.h3_command.specs.Answer.Request.{of_lines, of_list, of_numbered_list, of_table, plain}
-use Rattle.h3_command.specs.Run.{Answers, Ends, Gives, NoReadFails, ReadFails, Runs, SourceUse, Streams, WritesReading}
+use Rattle.h3_command.specs.Files.{file_cells, unless_refused}
+use Rattle.h3_command.specs.Answer.Request.{of_file_and_lines, of_file_and_list, of_lines, of_list, of_numbered_list, of_table, plain}
+use Rattle.h3_command.specs.Run.{Answers, Ends, Gives, NoReadFails, ReadFails, RefusesFile, Runs, SourceUse, Streams, WritesOfNumberedList, WritesReading}
 use Rattle.h3_command.proofs.Written.{nothing, writes_refused}
 
 -- an answer to what was read is written, and no read failed
@@ -31,6 +34,9 @@ reading_written a bytes was_read source (Err (Error e)) out all sound writes = (
 reading_written a bytes was_read source (Err (At n e)) out all sound writes = (all, sound, writes)
 reading_written a bytes was_read source (Err (Table e)) out all sound writes = (all, sound, writes)
 reading_written a bytes was_read source (Err TableOpen) out all sound never = absurd never
+reading_written a bytes was_read source (Err (FileOpen f)) out all sound never = absurd never
+reading_written a bytes was_read source (Err (FileAt f n e)) out all sound writes = (all, sound, writes)
+reading_written a bytes was_read source (Err (File f e)) out all sound writes = (all, sound, writes)
 reading_written a bytes was_read source (Err Memory) out all sound never = absurd never
 reading_written a bytes was_read source (Err Read) out all sound never = absurd never
 reading_written a bytes was_read source (Err Write) out all sound writes = (all, sound, writes)
@@ -49,6 +55,9 @@ list_refused about list input Read out fails within sound left = (fails, left)
 list_refused about list input Write out never within sound left = absurd never
 list_refused about list input (Table d) out never within sound left = absurd never
 list_refused about list input TableOpen out never within sound left = absurd never
+list_refused about list input (FileOpen f) out never within sound left = absurd never
+list_refused about list input (FileAt f n d) out never within sound left = absurd never
+list_refused about list input (File f d) out never within sound left = absurd never
 
 -- the list is read, and the answer about its cells is written
 pub list_written : (about : List Address → Answer) (list : List ℕ) (cells : List Address) (input : SourceUse) (ending : Result (Unit {0}) Refusal) (out : SinkUse) → listed_cells list ≡ Ok cells
@@ -80,6 +89,18 @@ numbered_refused about list input Read out fails within sound left = (fails, lef
 numbered_refused about list input Write out never within sound left = absurd never
 numbered_refused about list input (Table d) out never within sound left = absurd never
 numbered_refused about list input TableOpen out never within sound left = absurd never
+numbered_refused about list input (FileOpen f) out never within sound left = absurd never
+numbered_refused about list input (FileAt f n d) out never within sound left = absurd never
+numbered_refused about list input (File f d) out never within sound left = absurd never
+
+-- there are some bytes left
+some_left : (left : Option (List ℕ)) → (bytes : List ℕ) × HasLeft left bytes
+some_left None = ([], tt)
+some_left (Some bytes) = (bytes, refl)
+
+-- there is no memory before any of the list is read
+pub numbered_unread : (about : List Address → Answer) (input : SourceUse) (out : SinkUse) → NoReadFails input → IsLeft out → WritesOfNumberedList about input (Err Memory) out
+numbered_unread about input out sound left = let (bytes, held) = some_left input.left in (bytes, held, (sound, left))
 
 -- the list is read, and the answer about its cells is written
 pub numbered_written : (about : List Address → Answer) (list : List ℕ) (cells : List Address) (input : SourceUse) (ending : Result (Unit {0}) Refusal) (out : SinkUse) → listed_cells list ≡ Ok cells
@@ -134,11 +155,6 @@ table_answered about read value links ending input table out is file held short 
 
 -- ---- a run
 
--- a source has some bytes left
-some_left : (told : Option (List ℕ)) → (bytes : List ℕ) × HasLeft told bytes
-some_left None = ([], tt)
-some_left (Some xs) = (xs, refl)
-
 -- an answer that was written, where no write failed, is given
 gives_written : (a : Answer) (ending : Result (Unit {0}) Refusal) (status : ℕ) (s : Streams) → Writes a ending s.out → s.out.has_failed ≡ false → Reports ending status s.err → Gives a status s
 unfolding Writes
@@ -149,6 +165,9 @@ gives_written a (Err (Table e)) status s writes w reports = record { output = wr
 gives_written a (Err Memory) status s never w reports = absurd never
 gives_written a (Err Read) status s never w reports = absurd never
 gives_written a (Err TableOpen) status s never w reports = absurd never
+gives_written a (Err (FileOpen f)) status s never w reports = absurd never
+gives_written a (Err (FileAt f n e)) status s writes w reports = record { output = writes.1; report = subst (λ e. Reports e status s.err) (sym writes.0) reports }
+gives_written a (Err (File f e)) status s writes w reports = record { output = writes.1; report = subst (λ e. Reports e status s.err) (sym writes.0) reports }
 gives_written a (Err Write) status s writes w reports = let failed : s.out.has_failed ≡ true = writes.1.1 in cc
 
 -- the same of an answer to what was read
@@ -159,6 +178,9 @@ gives_reading a bytes was_read source (Err (Error e)) status s writes r w report
 gives_reading a bytes was_read source (Err (At n e)) status s writes r w reports = inl (gives_written a (Err (At n e)) status s writes.2 w reports)
 gives_reading a bytes was_read source (Err (Table e)) status s writes r w reports = inl (gives_written a (Err (Table e)) status s writes.2 w reports)
 gives_reading a bytes was_read source (Err TableOpen) status s writes r w reports = inl (gives_written a (Err TableOpen) status s writes.2 w reports)
+gives_reading a bytes was_read source (Err (FileOpen f)) status s writes r w reports = inl (gives_written a (Err (FileOpen f)) status s writes.2 w reports)
+gives_reading a bytes was_read source (Err (FileAt f n e)) status s writes r w reports = inl (gives_written a (Err (FileAt f n e)) status s writes.2 w reports)
+gives_reading a bytes was_read source (Err (File f e)) status s writes r w reports = inl (gives_written a (Err (File f e)) status s writes.2 w reports)
 gives_reading a bytes was_read source (Err Memory) status s writes r w reports =
     inr (record { output = (nothing _ _ writes.1.0, writes.1.1); report = reports })
 gives_reading a bytes was_read source (Err Read) status s writes r w reports = absurd (r writes.0)
@@ -178,10 +200,76 @@ gives_each about (Err Memory) status s (sound, kept, left) reports =
 gives_each about (Err (Error e)) status s never reports = absurd never
 gives_each about (Err (Table e)) status s never reports = absurd never
 gives_each about (Err TableOpen) status s never reports = absurd never
+gives_each about (Err (FileOpen f)) status s never reports = absurd never
+gives_each about (Err (FileAt f n d)) status s never reports = absurd never
+gives_each about (Err (File f d)) status s never reports = absurd never
 
 with_memory : {A B : Type 0} (memory : Bool) → IsTrue memory → A ⊎ B → A ⊎ (IsTrue memory × B)
 with_memory memory takes (inl a) = inl a
 with_memory memory takes (inr b) = inr (takes, b)
+
+-- a file that is refused, or not read to its end
+gives_refused : (f : CellFile) (about : List Address → Answer) (bytes : List ℕ) (ending : Result (Unit {0}) Refusal) (status : ℕ) (s : Streams) → RefusesFile f bytes s.table ending → IsLeft s.out → (ReadFails s.table bytes → ⊥) → Reports ending status s.err
+    → Gives (unless_refused about (file_cells f bytes)) status s ⊎ Gives out_of_memory status s
+gives_refused f about bytes (Ok u) status s never left r reports = absurd never
+gives_refused f about bytes (Err Memory) status s told left r reports = inr (record { output = (nothing _ _ left.0, left.1); report = reports })
+gives_refused f about bytes (Err Read) status s (fails, told) left r reports = absurd (r fails)
+gives_refused f about bytes (Err (Error e)) status s (is, within, sound, told) left r reports = inl (subst (λ c. Gives (unless_refused about c) status s) (sym is) (record { output = (nothing _ _ left.0, left.1); report = reports }))
+gives_refused f about bytes (Err (At n e)) status s (is, within, sound, told) left r reports = inl (subst (λ c. Gives (unless_refused about c) status s) (sym is) (record { output = (nothing _ _ left.0, left.1); report = reports }))
+gives_refused f about bytes (Err Write) status s (is, within, sound, told) left r reports = inl (subst (λ c. Gives (unless_refused about c) status s) (sym is) (record { output = (nothing _ _ left.0, left.1); report = reports }))
+gives_refused f about bytes (Err (Table e)) status s (is, within, sound, told) left r reports = inl (subst (λ c. Gives (unless_refused about c) status s) (sym is) (record { output = (nothing _ _ left.0, left.1); report = reports }))
+gives_refused f about bytes (Err TableOpen) status s (is, within, sound, told) left r reports = inl (subst (λ c. Gives (unless_refused about c) status s) (sym is) (record { output = (nothing _ _ left.0, left.1); report = reports }))
+gives_refused f about bytes (Err (FileOpen g)) status s (is, within, sound, told) left r reports = inl (subst (λ c. Gives (unless_refused about c) status s) (sym is) (record { output = (nothing _ _ left.0, left.1); report = reports }))
+gives_refused f about bytes (Err (FileAt g n e)) status s (is, within, sound, told) left r reports = inl (subst (λ c. Gives (unless_refused about c) status s) (sym is) (record { output = (nothing _ _ left.0, left.1); report = reports }))
+gives_refused f about bytes (Err (File g e)) status s (is, within, sound, told) left r reports = inl (subst (λ c. Gives (unless_refused about c) status s) (sym is) (record { output = (nothing _ _ left.0, left.1); report = reports }))
+
+-- the list is read after a file that has these cells
+read_after : (f : CellFile) (bytes : List ℕ) (cells : List Address) → file_cells f bytes ≡ Ok cells → IsTrue (is_ok (file_cells f bytes))
+read_after f bytes cells is = ap is_ok is
+
+list_answers : (f : CellFile) (about : List Address → List Address → Answer) (ending : Result (Unit {0}) Refusal) (status : ℕ) (s : Streams) → Ends (of_file_and_list f about) s.input s.table ending s.out → Reports ending status s.err
+    → Answers (of_file_and_list f about) status s
+list_answers f about ending status s (bytes, held, inr (refuses, alone, left)) reports =
+    let (list, known) = some_left s.input.left in
+    record {
+      list = list;
+      file = bytes;
+      list_is = known;
+      file_is = held;
+      given = λ none. with_memory true refl (gives_refused f (λ cells. about_numbered_list (about cells) list) bytes ending status s refuses left (none.table_read refl) reports);
+    }
+list_answers f about ending status s (bytes, held, inl (cells, gives, ends)) reports =
+    let (list, known, writes) = ends in
+    record {
+      list = list;
+      file = bytes;
+      list_is = known;
+      file_is = held;
+      given = λ none. subst (λ c. Gives (unless_refused (λ cells. about_numbered_list (about cells) list) c) status s ⊎ (IsTrue true × Gives out_of_memory status s)) (sym gives.is)
+          (with_memory true refl (gives_reading _ list _ s.input ending status s writes (none.list_read (read_after f bytes cells gives.is)) none.answer_written reports));
+    }
+
+lines_answers : (f : CellFile) (about : List Address → Option ℕ → Answer) (ending : Result (Unit {0}) Refusal) (status : ℕ) (s : Streams) → Ends (of_file_and_lines f about) s.input s.table ending s.out → Reports ending status s.err
+    → Answers (of_file_and_lines f about) status s
+lines_answers f about ending status s (bytes, held, inr (refuses, alone, left)) reports =
+    let (list, known) = some_left s.input.left in
+    record {
+      list = list;
+      file = bytes;
+      list_is = known;
+      file_is = held;
+      given = λ none. with_memory true refl (gives_refused f (λ cells. list_answer (about cells) list) bytes ending status s refuses left (none.table_read refl) reports);
+    }
+lines_answers f about ending status s (bytes, held, inl (cells, gives, ends)) reports =
+    let (list, known, given) = gives_each (about cells) ending status s ends reports in
+    record {
+      list = list;
+      file = bytes;
+      list_is = known;
+      file_is = held;
+      given = λ none. subst (λ c. Gives (unless_refused (λ cells. list_answer (about cells) list) c) status s ⊎ (IsTrue true × Gives out_of_memory status s)) (sym gives.is)
+          (with_memory true refl (given (none.list_read (read_after f bytes cells gives.is)) none.answer_written));
+    }
 
 answers : (r : Request) (ending : Result (Unit {0}) Refusal) (status : ℕ) (s : Streams) → Ends r s.input s.table ending s.out → Reports ending status s.err → Answers r status s
 answers (plain a) ending status s writes reports =
@@ -219,6 +307,8 @@ answers (of_table about) ending status s (file, held, writes) reports =
       file_is = held;
       given = λ none. with_memory true refl (gives_reading _ file _ s.table ending status s writes (none.table_read refl) none.answer_written reports);
     }
+answers (of_file_and_list f about) ending status s ends reports = list_answers f about ending status s ends reports
+answers (of_file_and_lines f about) ending status s ends reports = lines_answers f about ending status s ends reports
 
 -- a run ends so, and reports it
 pub runs_so : (r : Request) (ending : Result (Unit {0}) Refusal) (status : ℕ) (s : Streams) → Ends r s.input s.table ending s.out → Reports ending status s.err → Runs r status s

@@ -1,5 +1,6 @@
 -- The request of a command, and the answer to it.
 use Rattle.std.specs.Prelude.{ℕ, Bool, true, false, List, [], Option, None, Some, Result, Ok, Err}
+use Rattle.std.specs.Result.{is_ok}
 use Rattle.h3_index.specs.Cell.{Address}
 use Rattle.h3_index.specs.declared.error.H3Error.{H3Error}
 use Rattle.h3_lattice.specs.Fields.{records_of}
@@ -10,6 +11,8 @@ use Rattle.h3_lines.specs.Answer.{Answer, answer_or_error, cell_line, cell_lines
 use Rattle.h3_lines.specs.EachLine.{list_answer}
 use Rattle.h3_lines.specs.List.{listed_cells}
 use Rattle.h3_lines.specs.Numbered.{faulty_line}
+use Rattle.h3_lines.specs.declared.refusal.CellFile.{CellFile}
+use Rattle.h3_lines.specs.declared.refusal.CellFile.TheVariants.{Region, Zones}
 use Rattle.h3_lines.specs.declared.refusal.Refusal.TheVariants.{At}
 use Rattle.h3_functions.specs.Edges.{are_neighbor_cells, cell_pair_from, cells_to_directed_edge, edge_from, get_directed_edge_destination, get_directed_edge_origin, is_valid_directed_edge, origin_to_directed_edges}
 use Rattle.h3_functions.specs.Hierarchy.{cell_to_center_child, cell_to_child_pos, cell_to_children, cell_to_children_size, cell_to_parent, child_pos_to_cell}
@@ -18,26 +21,31 @@ use Rattle.h3_functions.specs.Resolutions.{get_num_cells, get_pentagons, get_res
 use Rattle.h3_functions.specs.Sets.{compact_cells, uncompact_cells}
 use Rattle.h3_functions.specs.Walks.{grid_disk_distances_unsafe, grid_disk_unsafe, grid_ring_unsafe}
 use Rattle.h3_set.specs.Compacted.{compacted}
+use Rattle.h3_command.specs.Files.{counts_answer, covered_answer, file_cells, left_answer, shared_answer, unless_refused, zone_answer}
 use Rattle.h3_requests.specs.declared.command.CellFunction.{CellFunction}
 use Rattle.h3_requests.specs.declared.command.CellFunction.TheVariants as each
 use Rattle.h3_requests.specs.declared.command.Command.{Command}
 use Rattle.h3_requests.specs.declared.command.Command.TheVariants as command
 
--- what a command reads and writes: an answer that its words alone fix, one about the cells listed on standard input, also
--- with the number of a faulty line, one for each line of it, or one about the links of a base cell table
+-- Request: what a command reads and writes: an answer that its words alone fix, one about the cells listed on standard input,
+-- also with the number of a faulty line, one for each line of it, or one about the links of a base cell table; or one about
+-- the cells of a file, and then the cells listed on standard input, or for each line of it
 pub data Request : Type 0 where
   plain : Answer → Request
   of_list : (List Address → Answer) → Request
   of_numbered_list : (List Address → Answer) → Request
   of_lines : (Option ℕ → Answer) → Request
   of_table : (Links → Answer) → Request
+  of_file_and_list : CellFile → (List Address → List Address → Answer) → Request
+  of_file_and_lines : CellFile → (List Address → Option ℕ → Answer) → Request
 
--- one about a value and a table; where there is an error in place of the value, the table is not read
+-- with_table about r: the request about a value and a table; where there is an error in place of the value, the answer
+-- is that error, and the table is not read
 abbrev pub with_table : {A : Type 0} → (A → Links → Answer) → Result A H3Error → Request
 with_table about (Ok value) = of_table (about value)
 with_table about (Err e) = plain (refused e)
 
--- what the command of a function of one index answers to an index
+-- answer_for function index: what the command of a function of one index answers
 abbrev pub answer_for : CellFunction → Option ℕ → Answer
 answer_for each.IsValidCell index = printed truth_line (is_valid_cell index)
 answer_for each.IsValidDirectedEdge index = printed truth_line (is_valid_directed_edge index)
@@ -52,7 +60,9 @@ answer_for (each.CellToChildPos res) index = printed number_line (cell_to_child_
 answer_for each.GetDirectedEdgeOrigin index = printed cell_line (get_directed_edge_origin index)
 answer_for each.OriginToDirectedEdges index = printed edge_lines (origin_to_directed_edges index)
 
--- what each command reads and writes
+-- request command: what a command reads and writes: an answer that its words alone fix, one about the cells listed on
+-- standard input, the same with the number of a faulty line, one line by line about the indexes listed there, one about
+-- the links of a table, or one about the cells of a file and then about the list, or about each of its lines
 abbrev pub request : Command → Request
 request (command.IsValidCell cell) = plain (answer_for each.IsValidCell cell)
 request (command.GetResolution cell) = plain (answer_for each.GetResolution cell)
@@ -71,6 +81,11 @@ request (command.ChildPosToCell position cell res) = plain (printed cell_line (c
 request command.CompactCells = of_list (λ cells. printed cell_lines (compact_cells cells))
 request (command.UncompactCells res) = of_list (λ cells. printed cell_lines (uncompact_cells res cells))
 request command.UniteCells = of_numbered_list (λ cells. written (cell_lines (compacted cells)))
+request command.IntersectCells = of_file_and_list Region shared_answer
+request command.SubtractCells = of_file_and_list Region left_answer
+request command.AreCoveredCells = of_file_and_lines Region covered_answer
+request command.CellsToZones = of_file_and_lines Zones zone_answer
+request command.CountCellsInZones = of_file_and_list Zones counts_answer
 request (command.GridDiskUnsafe cell k) = with_table (λ c link. answer_or_error (walked cell_line) (grid_disk_unsafe link c k)) (cell_from cell)
 request (command.GridDiskDistancesUnsafe cell k) = with_table (λ c link. answer_or_error (walked ring_line) (grid_disk_distances_unsafe link c k)) (cell_from cell)
 request (command.GridRingUnsafe cell k) = with_table (λ c link. answer_or_error (walked cell_line) (grid_ring_unsafe link c k)) (cell_from cell)
@@ -82,33 +97,45 @@ request (command.GetDirectedEdgeDestination edge) = with_table (λ e link. print
 request (command.OriginToDirectedEdges cell) = plain (answer_for each.OriginToDirectedEdges cell)
 request (command.ForEach function) = of_lines (answer_for function)
 
--- the list of cells is read from standard input
+-- reads_list r: the request reads the list
 abbrev pub reads_list : Request → Bool
 reads_list (plain a) = false
 reads_list (of_list about) = true
 reads_list (of_numbered_list about) = true
 reads_list (of_lines about) = true
 reads_list (of_table about) = false
+reads_list (of_file_and_list file about) = true
+reads_list (of_file_and_lines file about) = true
 
--- the table is read
+-- reads_table r: it reads the table, or a file of cells in its place
 abbrev pub reads_table : Request → Bool
 reads_table (plain a) = false
 reads_table (of_list about) = false
 reads_table (of_numbered_list about) = false
 reads_table (of_lines about) = false
 reads_table (of_table about) = true
+reads_table (of_file_and_list file about) = true
+reads_table (of_file_and_lines file about) = true
 
--- memory is taken for what is read
+-- the list is read where the bytes of the table, or of the file of cells, are these: not where such a file is refused
+abbrev pub reads_list_after : Request → List ℕ → Bool
+reads_list_after (of_file_and_list f about) file = is_ok (file_cells f file)
+reads_list_after (of_file_and_lines f about) file = is_ok (file_cells f file)
+reads_list_after r file = reads_list r
+
+-- takes_memory r: it takes memory
 abbrev pub takes_memory : Request → Bool
 takes_memory (plain a) = false
 takes_memory (of_list about) = true
 takes_memory (of_numbered_list about) = true
 takes_memory (of_lines about) = true
 takes_memory (of_table about) = true
+takes_memory (of_file_and_list file about) = true
+takes_memory (of_file_and_lines file about) = true
 
 -- ---- the answer
 
--- the answer about these cells, or an error that is told with this number of a line
+-- answer_or_error_at n about r: the answer about a list's cells, or its error, told with the number n of a line
 abbrev pub answer_or_error_at : ℕ → (List Address → Answer) → Result (List Address) H3Error → Answer
 answer_or_error_at line about (Ok cells) = about cells
 answer_or_error_at line about (Err e) = record { output = []; ending = Err (At line e) }
@@ -118,21 +145,25 @@ abbrev pub unless_faulty : Option TableError → Answer → Answer
 unless_faulty None a = a
 unless_faulty (Some e) a = table_refused e
 
--- the answer about the links of the table in this file, or the first error of the file
+-- about_table about file: the answer about the links of the table in a file, or the file's first error
 abbrev pub about_table : (Links → Answer) → List ℕ → Answer
 about_table about file = unless_faulty (table_fault (records_of file)) (about (links_of (records_of file)))
 
--- the answer about the cells in these bytes, or the error of the first faulty line, told with the line's number
+-- about_numbered_list about list: the answer about the cells in a list of bytes, or the error of the first faulty
+-- line, told with its number
 abbrev pub about_numbered_list : (List Address → Answer) → List ℕ → Answer
 about_numbered_list about list = answer_or_error_at (faulty_line list) about (listed_cells list)
 
--- the answer to a request, for the bytes of the list and of the table
+-- answer_to r list file: the answer to a request, for the bytes of its list and those of its table, or of a file of cells in its
+-- place: where that file is refused, the list has no part in the answer
 abbrev pub answer_to : Request → List ℕ → List ℕ → Answer
 answer_to (plain a) list file = a
 answer_to (of_list about) list file = answer_or_error about (listed_cells list)
 answer_to (of_numbered_list about) list file = about_numbered_list about list
 answer_to (of_lines about) list file = list_answer about list
 answer_to (of_table about) list file = about_table about file
+answer_to (of_file_and_list f about) list file = unless_refused (λ cells. about_numbered_list (about cells) list) (file_cells f file)
+answer_to (of_file_and_lines f about) list file = unless_refused (λ cells. list_answer (about cells) list) (file_cells f file)
 
 -- the answer to a command. Examples alone cite it.
 abbrev pub answer : Command → List ℕ → List ℕ → Answer

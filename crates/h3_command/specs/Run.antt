@@ -1,28 +1,30 @@
 -- What a run does with its streams.
-use Rattle.std.specs.Prelude.{◌≡◌, ℕ, ◌≤◌, ◌^◌, ◌⊎◌, Bool, true, false, List, length, Option, Result, Err, IsTrue}
+use Rattle.std.specs.Prelude.{◌≡◌, ℕ, ◌≤◌, ◌^◌, ◌⊎◌, Bool, true, false, List, [], length, Option, Some, Result, Ok, Err, IsTrue}
 use Rattle.h3_index.specs.Cell.{Address}
 use Rattle.h3_index.specs.Stream.{HasLeft}
 use Rattle.h3_lattice.specs.Links.{Links}
+use Rattle.h3_lines.specs.declared.refusal.CellFile.{CellFile}
 use Rattle.h3_lines.specs.declared.refusal.Refusal.{Refusal}
-use Rattle.h3_lines.specs.declared.refusal.Refusal.TheVariants.{Memory, Read}
+use Rattle.h3_lines.specs.declared.refusal.Refusal.TheVariants.{File, Memory, Read}
 use Rattle.h3_lines.specs.Answer.{Answer, answer_or_error, out_of_memory}
 use Rattle.h3_lines.specs.Writing.{IsLeft, Reports, SinkUse, Takes, Writes}
 use Rattle.h3_lines.specs.EachLine.{EndsEach}
 use Rattle.h3_lines.specs.List.{listed_cells}
-use Rattle.h3_lines.specs.Reads.{IsListWithinReads, IsWithinReads}
-use Rattle.h3_command.specs.Answer.{Request, about_numbered_list, about_table, answer_to, reads_list, reads_table, takes_memory}
-use Rattle.h3_command.specs.Answer.Request.{plain, of_lines, of_list, of_numbered_list, of_table}
+use Rattle.h3_lines.specs.Reads.{IsListWithinReads, IsWithinReads, StopsAtFault}
+use Rattle.h3_command.specs.Files.{file_cells}
+use Rattle.h3_command.specs.Answer.{Request, about_numbered_list, about_table, answer_to, reads_list_after, reads_table, takes_memory}
+use Rattle.h3_command.specs.Answer.Request.{plain, of_file_and_lines, of_file_and_list, of_lines, of_list, of_numbered_list, of_table}
 
 -- ---- streams
 
--- a source over a call: the bytes that it had left and has left, where they are known, and whether it had failed before
--- and has after
+-- SourceUse: what a source had left before a call and has after it, where known, and whether it had failed and has
 pub record SourceUse : Type 0 where
   pub left : Option (List ℕ)
   pub left_after : Option (List ℕ)
   pub had_failed : Bool
   pub has_failed : Bool
 
+-- source_use: that use of a source, from its two states
 abbrev pub source_use : {S : Type 0} → (S → Option (List ℕ)) → (S → Bool) → S → S → SourceUse
 source_use left failed old new = record { left = left old; left_after = left new; had_failed = failed old; has_failed = failed new }
 
@@ -33,16 +35,23 @@ pub record Streams : Type 1 where
   pub out : SinkUse
   pub err : SinkUse
 
--- no call of the source failed
+-- NoReadFails source: no read of it failed
 abbrev pub NoReadFails : SourceUse → Type 0
 NoReadFails source = source.has_failed ≡ source.had_failed
 
--- a call of the source failed, or there are at least 2^40 bytes
+-- IsLeftAlone source: the source is left alone: all of its bytes are still left, and no call of it failed
+abbrev pub IsLeftAlone : SourceUse → Type 0
+IsLeftAlone source = (source.left_after ≡ source.left) × NoReadFails source
+
+-- ReadFails source bytes: one did, or there are at least 2^40 bytes
 abbrev pub ReadFails : SourceUse → List ℕ → Type 0
 ReadFails source bytes = (source.has_failed ≡ true) ⊎ (2 ^ 40 ≤ length bytes)
 
 -- ---- how a run ends
 
+-- WritesReading: what is written for what is read: the answer, where 2^40 reads of a page can find the end of a table,
+-- or the end or a faulty line of a list; nothing where there is no memory, or a read fails
+--
 -- The answer to these bytes of a source is written, no read fails, and `was_read` holds. Or there is no memory, or a
 -- read fails, and then nothing is written.
 abbrev pub WritesReading : Answer → List ℕ → Type 0 → SourceUse → Result (Unit {0}) Refusal → SinkUse → Type 0
@@ -50,35 +59,76 @@ WritesReading a bytes was_read source (Err Memory) out = NoReadFails source × I
 WritesReading a bytes was_read source (Err Read) out = ReadFails source bytes × IsLeft out
 WritesReading a bytes was_read source ending out = was_read × NoReadFails source × Writes a ending out
 
+-- WritesOfList about input ending out: there are bytes of the list, those left where known, and what is written is the
+-- answer about them
+--
 -- there are bytes of the list, those left in the source where these are known, and the answer about the cells in them
 -- is written, and 2^40 reads can find the end of the list or a faulty line
 abbrev pub WritesOfList : (List Address → Answer) → SourceUse → Result (Unit {0}) Refusal → SinkUse → Type 0
 WritesOfList about input ending out =
     (list : List ℕ) × HasLeft input.left list × WritesReading (answer_or_error about (listed_cells list)) list (IsListWithinReads (2 ^ 40) 65536 list) input ending out
 
--- the same where the error of a faulty line is told with its number
+-- WritesOfNumberedList about input ending out: the same, where the error of a faulty line is told with its number
 abbrev pub WritesOfNumberedList : (List Address → Answer) → SourceUse → Result (Unit {0}) Refusal → SinkUse → Type 0
 WritesOfNumberedList about input ending out =
     (list : List ℕ) × HasLeft input.left list × WritesReading (about_numbered_list about list) list (IsListWithinReads (2 ^ 40) 65536 list) input ending out
 
+-- WritesOfTable about table ending out: the same of a table
+--
 -- the same of a table, of which 2^40 reads can find the end, and the answer about its links
 abbrev pub WritesOfTable : (Links → Answer) → SourceUse → Result (Unit {0}) Refusal → SinkUse → Type 0
 WritesOfTable about table ending out =
     (file : List ℕ) × HasLeft table.left file × WritesReading (about_table about file) file (IsWithinReads (2 ^ 40) 4096 file) table ending out
 
--- how a run ends, by its request
+-- StopsWhereFaulty file: where the bytes left in the source were known, at most a page was taken after bytes in which no
+-- line is known to be faulty
+abbrev pub StopsWhereFaulty : SourceUse → Type 0
+StopsWhereFaulty file = (list : List ℕ) → file.left ≡ Some list → (left : List ℕ) × (file.left_after ≡ Some left) × StopsAtFault 65536 list left
+
+-- IsReadToEnd file: where the bytes left in the source were known, all of them were taken
+abbrev pub IsReadToEnd : SourceUse → Type 0
+IsReadToEnd file = (list : List ℕ) → file.left ≡ Some list → file.left_after ≡ Some []
+
+-- RefusesFile f bytes file ending: the bytes of a file of cells are refused, for a faulty line, or as a whole and then read to
+-- their end; or there is no memory, or a read fails
+abbrev pub RefusesFile : CellFile → List ℕ → SourceUse → Result (Unit {0}) Refusal → Type 0
+RefusesFile f bytes file (Ok u) = ⊥
+RefusesFile f bytes file (Err Memory) = NoReadFails file × StopsWhereFaulty file
+RefusesFile f bytes file (Err Read) = ReadFails file bytes × StopsWhereFaulty file
+RefusesFile f bytes file (Err (File g e)) = (file_cells f bytes ≡ Err (File g e)) × IsWithinReads (2 ^ 40) 65536 bytes × NoReadFails file × IsReadToEnd file
+RefusesFile f bytes file (Err r) = (file_cells f bytes ≡ Err r) × IsListWithinReads (2 ^ 40) 65536 bytes × NoReadFails file × StopsWhereFaulty file
+
+-- GivesFile f bytes file cells: the bytes of a file of cells are read to their end, and have these cells
+pub record GivesFile (f : CellFile) (bytes : List ℕ) (file : SourceUse) (cells : List Address) : Type 0 where
+  pub is : file_cells f bytes ≡ Ok cells
+  pub within : IsWithinReads (2 ^ 40) 65536 bytes
+  pub sound : NoReadFails file
+  pub whole : IsReadToEnd file
+
+-- EndsOverFile f then_ends input file ending out: there are bytes of a file of cells, those left where known, which are read
+-- first: `then_ends` says of their cells what follows; or they are refused, and standard input is left alone and nothing is
+-- written
+abbrev pub EndsOverFile : CellFile → (List Address → Type 0) → SourceUse → SourceUse → Result (Unit {0}) Refusal → SinkUse → Type 0
+EndsOverFile f then_ends input file ending out =
+    (bytes : List ℕ) × HasLeft file.left bytes
+    × (((cells : List Address) × GivesFile f bytes file cells × then_ends cells) ⊎ (RefusesFile f bytes file ending × IsLeftAlone input × IsLeft out))
+
+-- Ends r input table ending out: how a run may end, by its request
 abbrev pub Ends : Request → SourceUse → SourceUse → Result (Unit {0}) Refusal → SinkUse → Type 0
 Ends (plain a) input table ending out = Writes a ending out
 Ends (of_list about) input table ending out = WritesOfList about input ending out
 Ends (of_numbered_list about) input table ending out = WritesOfNumberedList about input ending out
 Ends (of_lines about) input table ending out = EndsEach about input.left input.left_after input.had_failed input.has_failed ending out
 Ends (of_table about) input table ending out = WritesOfTable about table ending out
+Ends (of_file_and_list f about) input file ending out = EndsOverFile f (λ cells. WritesOfNumberedList (about cells) input ending out) input file ending out
+Ends (of_file_and_lines f about) input file ending out =
+    EndsOverFile f (λ cells. EndsEach (about cells) input.left input.left_after input.had_failed input.has_failed ending out) input file ending out
 
 -- ---- where nothing fails
 
 -- no source that the request reads fails, nor does standard output
 pub record NothingFails (r : Request) (list file : List ℕ) (s : Streams) : Type 0 where
-  pub list_read : IsTrue (reads_list r) → ¬ ReadFails s.input list
+  pub list_read : IsTrue (reads_list_after r file) → ¬ ReadFails s.input list
   pub table_read : IsTrue (reads_table r) → ¬ ReadFails s.table file
   pub answer_written : s.out.has_failed ≡ false
 
@@ -87,8 +137,8 @@ pub record Gives (a : Answer) (status : ℕ) (s : Streams) : Type 0 where
   pub output : Takes s.out a.output
   pub report : Reports a.ending status s.err
 
--- there are bytes of the list and of the table, those left in the sources where these are known, and where nothing
--- fails the answer to them is given, or out of memory where memory is taken
+-- Answers r status s: there are bytes of the list and of the table, or of a file of cells in its place, those left where known,
+-- and where nothing fails the answer to them is given, or out of memory where memory is taken
 pub record Answers (r : Request) (status : ℕ) (s : Streams) : Type 0 where
   pub list : List ℕ
   pub file : List ℕ
@@ -97,6 +147,8 @@ pub record Answers (r : Request) (status : ℕ) (s : Streams) : Type 0 where
   pub given : NothingFails r list file s
       → Gives (answer_to r list file) status s ⊎ (IsTrue (takes_memory r) × Gives out_of_memory status s)
 
+-- Runs r status s: what a run does with its streams: `Answers`, `Ends`, and the line and status of its ending
+--
 -- what a run of this request does that returns this status: what it writes where nothing fails, and how it may end
 pub record Runs (r : Request) (status : ℕ) (s : Streams) : Type 0 where
   pub answers : Answers r status s

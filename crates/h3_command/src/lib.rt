@@ -2,7 +2,9 @@
 #![tactic(auto)]
 
 mod children;
+mod counts;
 mod edges;
+mod files;
 mod for_each;
 pub mod run;
 mod sets;

@@ -6,7 +6,9 @@ ghost use Rattle.h3_command.specs.Answer.{reads_list, reads_table, request};
 ghost use Rattle.h3_command.specs.Run.{Ends, Runs, source_use};
 
 use crate::children::cell_to_children;
+use crate::counts::count_cells_in_zones;
 use crate::edges::{are_neighbor_cells, cells_to_directed_edge, get_directed_edge_destination};
+use crate::files::{Combination, are_covered_cells, cells_to_zones, combine_cells};
 use crate::for_each::AnswerOf;
 use crate::sets::{compact_cells, uncompact_cells, unite_cells};
 use crate::table_query::over_table;
@@ -59,6 +61,11 @@ fn perform<R: Source, T: Source, W: Sink>(
         CompactCells => compact_cells(alloc, input, out),
         UncompactCells { res } => uncompact_cells(alloc, res, input, out),
         UniteCells => unite_cells(alloc, input, out),
+        IntersectCells => combine_cells(alloc, Combination::Shared, input, table, out),
+        SubtractCells => combine_cells(alloc, Combination::Left, input, table, out),
+        AreCoveredCells => are_covered_cells(alloc, input, table, out),
+        CellsToZones => cells_to_zones(alloc, input, table, out),
+        CountCellsInZones => count_cells_in_zones(alloc, input, table, out),
         GridDiskUnsafe { cell, k } => over_table(alloc, grid_disk_unsafe(cell, k), table, out),
         GridDiskDistancesUnsafe { cell, k } => {
             over_table(alloc, grid_disk_distances_unsafe(cell, k), table, out)
@@ -85,13 +92,15 @@ fn perform<R: Source, T: Source, W: Sink>(
 /// of the base cell table, and 4 for a read or a write that failed.
 ///
 /// A command on a list of cells reads it from `input`, and one on a table reads that from `table`,
-/// once the indexes of its words are valid. The others read neither and take no memory. Where a
-/// walk over a table is refused on its way, the lines of the cells before that stand on `out`.
+/// once the indexes of its words are valid. A command on a file of cells, that of a region or of
+/// zones, reads it from `table`, and judges it as a whole, and then reads `input`, which is left
+/// alone where the file is refused. The others read neither and take no memory. Where a walk over
+/// a table is refused on its way, the lines of the cells before that stand on `out`.
 ///
 /// After a write that failed, a beginning of the answer stands on `out`. After a read that failed,
-/// or where memory is refused, nothing does, but of a command in the plural: where a read of its
-/// list fails, the answers to the lines that ended before. A source that is not at its end after
-/// 2^40 reads counts as one that failed. A standard error that fails changes no status.
+/// or where memory is refused, nothing does, but of a command that answers line by line: where a
+/// read of its list fails, the answers to the lines that ended before. A source that is not at its
+/// end after 2^40 reads counts as one that failed. A standard error that fails changes no status.
 pub fn run<R: Source, T: Source, W: Sink, E: Sink>(
     alloc: Global,
     command: &Command,

@@ -67,7 +67,7 @@ pub(crate) fn uncompact_cells<R: Source, W: Sink>(
 
 /// Writes the compacted list of what the cells of a list cover, which is made in the list's own
 /// memory.
-fn write_united<W: Sink>(cells: &mut [Cell], out: &mut W) -> Result<(), Refusal>
+pub(crate) fn write_united<W: Sink>(cells: &mut [Cell], out: &mut W) -> Result<(), Refusal>
     ensures { Writes (written (cell_lines (compacted cells.old))) result
         (sink_use W.taken W.has_failed out.old out.new) }
 {

@@ -6,5 +6,6 @@ use Rattle.h3_grid.specs.Disk.{disk_left}
 use Rattle.h3_functions.specs.Walks.{without_ring}
 use Rattle.h3_functions.specs.declared.disk_cells.DiskCells.{DiskCells}
 
+-- disk_cells_left s: the items that the iterator over a disk's cells has left
 abbrev pub disk_cells_left : DiskCells → List (Result Address H3Error)
 disk_cells_left s = map without_ring (disk_left s.disk)

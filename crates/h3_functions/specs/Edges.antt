@@ -14,39 +14,40 @@ use Rattle.h3_functions.specs.Inspection.{cell_from, for_value}
 
 -- ---- the values of words
 
--- the edge with this index: an error where there is no index, and then where no edge has it
+-- edge_from index: the edge with an index: `Failed` where there is none, `DirEdgeInvalid` where no edge has it
 abbrev pub edge_from : Option ℕ → Result DirectedEdge H3Error
 edge_from None = Err Failed
 edge_from (Some index) = ok_or (edge_in index) DirEdgeInvalid
 
--- the cells with these two indexes: the error of the first, and then that of the second
+-- cell_pair_from cell to: the cells with two indexes, or the error of the first, and then that of the second
 abbrev pub cell_pair_from : Option ℕ → Option ℕ → Result (Address × Address) H3Error
 cell_pair_from cell to = for_value (λ a. for_value (λ b. Ok (a, b)) (cell_from to)) (cell_from cell)
 
 -- ---- over the links of a table
 
--- whether a step leads from the one cell to the other; no cell is its own neighbor
+-- are_neighbor_cells link cells: whether two cells are neighbors, by `are_neighbors` of `h3_grid`
 abbrev pub are_neighbor_cells : Links → Address × Address → Result Bool H3Error
 are_neighbor_cells link cells = are_neighbors link cells.0 cells.1
 
--- the edge that leaves the first cell and leads to the second
+-- cells_to_directed_edge link cells: the edge between two cells, by `edge_between`
 abbrev pub cells_to_directed_edge : Links → Address × Address → Result DirectedEdge H3Error
 cells_to_directed_edge link cells = edge_between link cells.0 cells.1
 
--- the cell that the edge leads to
+-- get_directed_edge_destination link e: the cell to which an edge leads, by `edge_destination`
 abbrev pub get_directed_edge_destination : Links → DirectedEdge → Result Address H3Error
 get_directed_edge_destination link edge = edge_destination link edge
 
 -- ---- without a table
 
+-- is_valid_directed_edge index: whether an edge has the index; an error where there is no index
 abbrev pub is_valid_directed_edge : Option ℕ → Result Bool H3Error
 is_valid_directed_edge None = Err Failed
 is_valid_directed_edge (Some index) = Ok (is_some (edge_in index))
 
--- the cell that the edge leaves
+-- get_directed_edge_origin index: the cell that the edge leaves, or the error
 abbrev pub get_directed_edge_origin : Option ℕ → Result Address H3Error
 get_directed_edge_origin index = for_value (λ e. Ok e.origin) (edge_from index)
 
--- the edges that leave the cell, in ascending direction
+-- origin_to_directed_edges index: the edges that leave the cell, or the error
 abbrev pub origin_to_directed_edges : Option ℕ → Result (List DirectedEdge) H3Error
 origin_to_directed_edges index = for_value (λ c. Ok (edges_from c)) (cell_from index)

@@ -12,27 +12,32 @@ abbrev pub unless : {A : Type 0} → Option H3Error → A → Result A H3Error
 unless None value = Ok value
 unless (Some e) value = Err e
 
+-- cell_to_parent index r: the ancestor at a resolution, or the error
 abbrev pub cell_to_parent : Option ℕ → ℤ → Result Address H3Error
 cell_to_parent index res =
     for_value (λ c. unless (parent_refusal (resolution c) res) (cut c (unsigned_abs res))) (cell_from index)
 
+-- cell_to_center_child index r: the descendant whose further digits are 0, or the error
 abbrev pub cell_to_center_child : Option ℕ → ℤ → Result Address H3Error
 cell_to_center_child index res =
     for_value (λ c. unless (descent_refusal (resolution c) res) (center_at c (unsigned_abs res))) (cell_from index)
 
+-- cell_to_children index r: the descendants, or the error
 abbrev pub cell_to_children : Option ℕ → ℤ → Result (List Address) H3Error
 cell_to_children index res =
     for_value (λ c. unless (descent_refusal (resolution c) res) (descendants c (unsigned_abs res))) (cell_from index)
 
+-- cell_to_children_size index r: their number, or the error
 abbrev pub cell_to_children_size : Option ℕ → ℤ → Result ℕ H3Error
 cell_to_children_size index res =
     for_value (λ c. unless (descent_refusal (resolution c) res) (length (descendants c (unsigned_abs res)))) (cell_from index)
 
+-- cell_to_child_pos index r: the cell's position under its ancestor, or the error
 abbrev pub cell_to_child_pos : Option ℕ → ℤ → Result ℕ H3Error
 cell_to_child_pos index res =
     for_value (λ c. unless (parent_refusal (resolution c) res) (position_under (cut c (unsigned_abs res)) c)) (cell_from index)
 
--- where nothing is refused, there is a descendant at the position
+-- child_pos_to_cell n index r: the descendant at a position, or the error
 abbrev pub child_pos_to_cell : ℕ → Option ℕ → ℤ → Result Address H3Error
 child_pos_to_cell position index res =
     for_value (λ c. unless (position_refusal c res position) (unwrap_or (slice_get (descendants c (unsigned_abs res)) position) c)) (cell_from index)

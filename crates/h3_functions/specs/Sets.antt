@@ -7,8 +7,10 @@ use Rattle.h3_set.specs.Refusals.{compaction_refusal}
 use Rattle.h3_set.specs.Uncompaction.{uncompacted, uncompact_refusal}
 use Rattle.h3_functions.specs.Hierarchy.{unless}
 
+-- compact_cells cells: `compacted` of `h3_set`, or the error
 abbrev pub compact_cells : List Address → Result (List Address) H3Error
 compact_cells cells = unless (compaction_refusal cells) (compacted cells)
 
+-- uncompact_cells r cells: `uncompacted` of `h3_set`, or the error
 abbrev pub uncompact_cells : ℤ → List Address → Result (List Address) H3Error
 uncompact_cells res cells = unless (uncompact_refusal cells res) (uncompacted cells (unsigned_abs res))

@@ -13,7 +13,7 @@ use Rattle.h3_functions.specs.Hierarchy.{unless}
 abbrev pub Walk : Type 0 → Type 0
 Walk A = Result (List (Result A H3Error)) H3Error
 
--- the disk of radius k around c, each cell with its ring
+-- grid_disk_distances_unsafe link c k: the same, each cell with its ring
 abbrev pub grid_disk_distances_unsafe : Links → Address → ℤ → Walk (Address × ℕ)
 grid_disk_distances_unsafe link c k = unless (disk_refusal c k) (disk link c (unsigned_abs k))
 
@@ -22,10 +22,11 @@ abbrev pub without_ring : Result (Address × ℕ) H3Error → Result Address H3E
 without_ring (Ok item) = Ok item.0
 without_ring (Err e) = Err e
 
--- the same without the rings
+-- grid_disk_unsafe link c k: the cells of the disk, and the error where a step is refused; or the error of one that is
+-- refused before it begins
 abbrev pub grid_disk_unsafe : Links → Address → ℤ → Walk Address
 grid_disk_unsafe link c k = unless (disk_refusal c k) (map without_ring (disk link c (unsigned_abs k)))
 
--- the ring of radius k around c
+-- grid_ring_unsafe link c k: the same of a ring
 abbrev pub grid_ring_unsafe : Links → Address → ℤ → Walk Address
 grid_ring_unsafe link c k = unless (ring_refusal c k) (ring link c (unsigned_abs k))

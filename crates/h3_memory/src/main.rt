@@ -1,7 +1,8 @@
-//! Runs six commands over streams in fixed arrays, and prints the status of each and what it wrote:
-//! a list of 49 cells that compact to one, one of mixed resolutions, a disk over a table in format
-//! 1, an edge over one in format 2, the resolution of each cell of a list, and a list of cells that
-//! overlap, united. `.ci/memory` refuses each allocation of it in turn.
+//! Runs commands over streams in fixed arrays, and prints the status of each and what it wrote: a
+//! list of 49 cells that compact to one, one of mixed resolutions, a disk over a table in format 1,
+//! an edge over one in format 2, the resolution of each cell of a list, a list of cells that
+//! overlap, united, and the five commands over that list and a file of cells.
+//! `tests/command/memory` refuses each allocation of it in turn.
 #![tactic(auto)]
 
 use arrayvec::ArrayVec;
@@ -39,6 +40,9 @@ const MIXED: &str = "862834707ffffff\n86283470fffffff\n862834717ffffff\n86283471
 const OVERLAPPING: &str = "85283463fffffff\n85283467fffffff\n8528346bfffffff\n\
      8428347ffffffff\n85283463fffffff\n85283467fffffff\n";
 
+/// A child of 8428347ffffffff, and a cell apart from it: a region, and zones.
+const APART: &str = "85283463fffffff\n8009fffffffffff\n";
+
 /// Prints how many bytes these are, after a name, and then the bytes.
 fn print_bytes<W: Write>(name: &str, bytes: &[u8], to: &mut W) -> io::Result<()> {
     let mut number = Buffer::new();
@@ -48,7 +52,7 @@ fn print_bytes<W: Write>(name: &str, bytes: &[u8], to: &mut W) -> io::Result<()>
     to.write_all(bytes)
 }
 
-/// Runs a command over a list and a table, and prints its status, its output and its line on
+/// Runs a command over a list and a file, and prints its status, its output and its line on
 /// standard error.
 fn print_run<W: Write>(
     alloc: Global,
@@ -84,6 +88,11 @@ fn main(rt: HostRuntime) -> io::Result<()> {
         (edge, ("", bases.as_str())),
         (Command::ForEach(CellFunction::GetResolution), (MIXED, "")),
         (Command::UniteCells, (OVERLAPPING, "")),
+        (Command::IntersectCells, (OVERLAPPING, APART)),
+        (Command::SubtractCells, (OVERLAPPING, APART)),
+        (Command::AreCoveredCells, (OVERLAPPING, APART)),
+        (Command::CellsToZones, (OVERLAPPING, APART)),
+        (Command::CountCellsInZones, (OVERLAPPING, APART)),
     ];
     let mut stdout = rt.stdout();
     for (command, reads) in &runs {

@@ -1,4 +1,4 @@
+pub mod NamedFile
 pub mod PageWriter
 pub mod Program
 pub mod Retried
-pub mod TableFile

@@ -1,53 +1,64 @@
 //! The whole program but for what only the system can give: words, the standard streams, and files.
 
-ghost use Rattle.std.specs.Prelude.{◌≡◌, map, string_bytes, option_map, Result};
+ghost use Rattle.std.specs.Prelude.{◌≡◌, map, string_bytes, Result};
 ghost use Rattle.h3_lines.specs.Writing.{sink_use};
 ghost use Rattle.h3_command.specs.Answer.{request};
 ghost use Rattle.h3_command.specs.Run.{source_use};
 ghost use Rattle.h3_words.specs.Parse.{ParsesAs};
 ghost use Rattle.h3_words.specs.declared.words.Words.{Words};
 ghost use Rattle.h3_words.specs.declared.words.WordsFault.{WordsFault};
-ghost use Rattle.h3_program.specs.Program.{Follows, RunsCommand};
+ghost use Rattle.h3_program.specs.Program.{Follows, RunsCommand, open_refusal};
 
-use crate::table::OpenTable;
+use crate::file::OpenFile;
 use h3_command::run::run;
 use h3_index::{Sink, Source};
-use h3_lines::{Refusal, report, write_all, write_answer};
-use h3_words::{Words, WordsFault, read_words};
+use h3_lines::{CellFile, Refusal, report, write_all, write_answer};
+use h3_words::{CommandFile, Words, WordsFault, read_words};
 use std::alloc::Global;
 
 /// What `h3 --version` prints.
-const VERSION_LINE: &str = "h3 1.1.0\n";
+const VERSION_LINE: &str = "h3 1.2.0\n";
 
-/// Runs a command, and returns the exit status. Its table is opened first, if it has one; where
-/// that fails, nothing is run.
-fn run_command<R: Source, T: OpenTable, W: Sink, E: Sink>(
+/// The refusal of a file that cannot be opened, by its kind.
+fn open_refusal(file: &CommandFile) -> Refusal
+    ensures { result ≡ open_refusal file.now }
+{
+    match file {
+        CommandFile::Table(_) => Refusal::TableOpen,
+        CommandFile::Region(_) => Refusal::FileOpen(CellFile::Region),
+        CommandFile::Zones(_) => Refusal::FileOpen(CellFile::Zones),
+    }
+}
+
+/// Runs a command, and returns the exit status. Its file is opened first, if it has one; where that
+/// fails, nothing is run.
+fn run_command<R: Source, F: OpenFile, W: Sink, E: Sink>(
     alloc: Global,
     words: &Words,
     input: &mut R,
-    table: &mut T,
+    file: &mut F,
     out: &mut W,
     err: &mut E,
 ) -> u8
     ensures err_kept { result ≡ 0 → err.new ≡ err.old }
     ensures runs { RunsCommand (record {
-      opens = T.opens;
-      fails_to_open = T.fails_to_open;
-      as_source = source_use T.left T.has_failed;
-    }) (option_map string_bytes words.now.table) (request words.now.command) result
+      opens = F.opens;
+      fails_to_open = F.fails_to_open;
+      as_source = source_use F.left F.has_failed;
+    }) words.now.file (request words.now.command) result
         (record { old = input.old; new = input.new })
-        (record { old = table.old; new = table.new }) (record {
+        (record { old = file.old; new = file.new }) (record {
           input = source_use R.left R.has_failed input.old input.new;
-          table = source_use T.left T.has_failed table.old table.new;
+          table = source_use F.left F.has_failed file.old file.new;
           out = sink_use W.taken W.has_failed out.old out.new;
           err = sink_use E.taken E.has_failed err.old err.new;
         }) }
 {
-    match &words.table {
-        None => run(alloc, &words.command, input, table, out, err),
-        Some(path) => match table.open(path.as_str()) {
-            Ok(()) => run(alloc, &words.command, input, table, out, err),
-            Err(_) => report(err, Err(Refusal::TableOpen)),
+    match &words.file {
+        None => run(alloc, &words.command, input, file, out, err),
+        Some(named) => match file.open(named.path()) {
+            Ok(()) => run(alloc, &words.command, input, file, out, err),
+            Err(_) => report(err, Err(open_refusal(named))),
         },
     }
 }
@@ -55,14 +66,14 @@ fn run_command<R: Source, T: OpenTable, W: Sink, E: Sink>(
 /// Runs the command that the words of a command line parse as, and returns the exit status. Help
 /// and the version go to `out`; the text of an invalid command line goes to `err`, with status 2.
 ///
-/// The table of a command that has one is opened once the words are parsed, and before anything
-/// else is looked at; where it cannot be opened, the line `table: open` goes to `err`, with status
-/// 3.
-pub fn run_words<R: Source, T: OpenTable, W: Sink, E: Sink>(
+/// The file of a command that names one is opened once the words are parsed, and before anything
+/// else is looked at; where it cannot be opened, the line `table: open`, `region: open` or
+/// `zones: open`, by its kind, goes to `err`, with status 3.
+pub fn run_words<R: Source, F: OpenFile, W: Sink, E: Sink>(
     alloc: Global,
     words: Vec<String>,
     input: &mut R,
-    table: &mut T,
+    file: &mut F,
     out: &mut W,
     err: &mut E,
 ) -> u8
@@ -70,20 +81,20 @@ pub fn run_words<R: Source, T: OpenTable, W: Sink, E: Sink>(
     ensures follows { (parsed : Result Words WordsFault)
         × ParsesAs (map string_bytes words.items) parsed
         × Follows (record {
-          opens = T.opens;
-          fails_to_open = T.fails_to_open;
-          as_source = source_use T.left T.has_failed;
+          opens = F.opens;
+          fails_to_open = F.fails_to_open;
+          as_source = source_use F.left F.has_failed;
         }) parsed result
         (record { old = input.old; new = input.new })
-        (record { old = table.old; new = table.new }) (record {
+        (record { old = file.old; new = file.new }) (record {
           input = source_use R.left R.has_failed input.old input.new;
-          table = source_use T.left T.has_failed table.old table.new;
+          table = source_use F.left F.has_failed file.old file.new;
           out = sink_use W.taken W.has_failed out.old out.new;
           err = sink_use E.taken E.has_failed err.old err.new;
         }) }
 {
     match read_words(alloc, words) {
-        Ok(words) => run_command(alloc, &words, input, table, out, err),
+        Ok(words) => run_command(alloc, &words, input, file, out, err),
         Err(WordsFault::Help(text)) => report(err, write_answer(out, text.as_bytes())),
         Err(WordsFault::Version) => report(err, write_answer(out, VERSION_LINE.as_bytes())),
         Err(WordsFault::Usage(text)) => {

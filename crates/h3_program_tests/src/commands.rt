@@ -3,7 +3,7 @@
 use h3_requests::{CellFunction, Command};
 
 /// A command of each variant, of these words, with each function of one index.
-fn commands(cell: Option<u64>, to: Option<u64>, position: u64, res: i32) -> [Command; 38] {
+fn commands(cell: Option<u64>, to: Option<u64>, position: u64, res: i32) -> [Command; 43] {
     let edge = cell;
     let k = res;
     [
@@ -28,6 +28,11 @@ fn commands(cell: Option<u64>, to: Option<u64>, position: u64, res: i32) -> [Com
         Command::CompactCells,
         Command::UncompactCells { res },
         Command::UniteCells,
+        Command::IntersectCells,
+        Command::SubtractCells,
+        Command::AreCoveredCells,
+        Command::CellsToZones,
+        Command::CountCellsInZones,
         Command::GridDiskUnsafe { cell, k },
         Command::GridDiskDistancesUnsafe { cell, k },
         Command::GridRingUnsafe { cell, k },

@@ -9,6 +9,14 @@ mod commands;
 #[cfg(test)]
 mod edges;
 #[cfg(test)]
+mod file_faults;
+#[cfg(test)]
+mod file_words;
+#[cfg(test)]
+mod files;
+#[cfg(test)]
+mod help;
+#[cfg(test)]
 mod lists;
 #[cfg(test)]
 mod page;
@@ -28,6 +36,8 @@ mod readers;
 mod reading;
 #[cfg(test)]
 mod refusals;
+#[cfg(test)]
+mod refused_words;
 #[cfg(test)]
 mod retried;
 #[cfg(test)]

@@ -1,55 +1,55 @@
-//! Command lines that are run over streams and a table in memory.
+//! Command lines that are run over streams and a file in memory.
 
 use crate::words::words_of;
 use arrayvec::ArrayVec;
 use h3_fakes::table_file;
 use h3_index::{Sink, Source, StreamFault, Streamed};
 use h3_lattice::vectors::TestTable;
-use h3_program::{OpenFault, OpenTable, PageWriter, run_words};
+use h3_program::{OpenFault, OpenFile, PageWriter, run_words};
 use std::alloc::Global;
 use std::io;
 use std::io::Write;
 
-/// A table in memory, at one path.
+/// A file in memory, at one path.
 #[derive(Drop)]
-struct MemoryTable<'a> {
+struct MemoryFile<'a> {
     path: &'a str,
-    rows: &'a [u8],
+    bytes: &'a [u8],
     source: Streamed<&'a [u8]>,
     /// How often `open` was called.
     opened: u8,
 }
 
-impl<'a> MemoryTable<'a> {
-    fn new(path: &'a str, rows: &'a str) -> Self {
-        MemoryTable {
+impl<'a> MemoryFile<'a> {
+    fn new(path: &'a str, text: &'a str) -> Self {
+        MemoryFile {
             path,
-            rows: rows.as_bytes(),
+            bytes: text.as_bytes(),
             source: Streamed::new(b"".as_slice()),
             opened: 0,
         }
     }
 }
 
-impl<'a> Source for MemoryTable<'a> {
+impl<'a> Source for MemoryFile<'a> {
     ghost use Rattle.std.specs.Prelude.{Some};
     ghost use Rattle.h3_index.specs.Streamed.{streamed_failed, streamed_inner};
 
-    ghost left = { λ table. Some (streamed_inner table.source).now };
+    ghost left = { λ file. Some (streamed_inner file.source).now };
 
-    ghost has_failed = { λ table. streamed_failed table.source };
+    ghost has_failed = { λ file. streamed_failed file.source };
 
     fn pull(&mut self, buf: &mut [u8]) -> Result<usize, StreamFault> {
         self.source.pull(buf)
     }
 }
 
-impl<'a> OpenTable for MemoryTable<'a> {
+impl<'a> OpenFile for MemoryFile<'a> {
     ghost use Rattle.std.specs.Prelude.{◌≡◌, ◌≢◌, false};
     ghost use Rattle.h3_index.specs.Streamed.{streamed_failed, streamed_inner};
 
     ghost opens = { λ old path new. (old.path.now ≡ path)
-        × ((streamed_inner new.source).now ≡ old.rows.now) × (streamed_failed new.source ≡ false) };
+        × ((streamed_inner new.source).now ≡ old.bytes.now) × (streamed_failed new.source ≡ false) };
 
     ghost fails_to_open = { λ old path new. old.path.now ≢ path };
 
@@ -58,7 +58,7 @@ impl<'a> OpenTable for MemoryTable<'a> {
         if self.path != path {
             return Err(OpenFault);
         }
-        self.source = Streamed::new(self.rows);
+        self.source = Streamed::new(self.bytes);
         Ok(())
     }
 }
@@ -89,7 +89,7 @@ fn flush_counter() -> Streamed<Flushed> {
     })
 }
 
-/// What a run left behind: its status, its writers, and how often it opened its table.
+/// What a run left behind: its status, its writers, and how often it opened its file.
 #[derive(Drop)]
 struct Ended {
     status: u8,
@@ -108,32 +108,37 @@ impl Ended {
     }
 }
 
-/// The status of a command line, run over a list, a table and these streams, or nothing where
+/// The status of a command line, run over a list, a file and these streams, or nothing where
 /// memory runs out for its words.
 fn status_of<W: Sink, E: Sink>(
     alloc: Global,
     line: &str,
     list: &str,
-    table: &mut MemoryTable<'_>,
+    file: &mut MemoryFile<'_>,
     out: &mut W,
     err: &mut E,
 ) -> Option<u8> {
     let words = words_of(alloc, line).ok()?;
     let mut input = Streamed::new(list.as_bytes());
-    Some(run_words(alloc, words, &mut input, table, out, err))
+    Some(run_words(alloc, words, &mut input, file, out, err))
 }
 
-/// Runs a command line over a table at a path, and an empty list.
-fn run_over(alloc: Global, line: &str, path: &str, rows: &str) -> Option<Ended> {
-    let mut table = MemoryTable::new(path, rows);
+/// Runs a command line over a list, and a file at a path.
+fn run_of(alloc: Global, line: &str, list: &str, path: &str, text: &str) -> Option<Ended> {
+    let mut file = MemoryFile::new(path, text);
     let (mut out, mut err) = (flush_counter(), flush_counter());
-    let status = status_of(alloc, line, "", &mut table, &mut out, &mut err)?;
+    let status = status_of(alloc, line, list, &mut file, &mut out, &mut err)?;
     Some(Ended {
         status,
         out: out.into_inner(),
         err: err.into_inner(),
-        opened: table.opened,
+        opened: file.opened,
     })
+}
+
+/// Runs a command line over a file at a path, and an empty list.
+fn run_over(alloc: Global, line: &str, path: &str, text: &str) -> Option<Ended> {
+    run_of(alloc, line, "", path, text)
 }
 
 /// Whether a command line is reported as invalid on standard error alone.
@@ -203,7 +208,7 @@ fn an_output_is_flushed_once(rt: HostRuntime) {
 
 #[test]
 fn the_version_is_written_to_standard_output(rt: HostRuntime) {
-    let ending = (0, "h3 1.1.0\n", "", 0);
+    let ending = (0, "h3 1.2.0\n", "", 0);
     for line in &["h3 --version", "h3 -V", "h3 --version isValidCell"] {
         assert!(&rt; ends(rt.alloc(), line, "", "", ending), "{line}");
     }
@@ -211,21 +216,21 @@ fn the_version_is_written_to_standard_output(rt: HostRuntime) {
 
 #[test]
 fn a_version_that_cannot_be_written_is_a_write_fault(rt: HostRuntime) {
-    let mut table = MemoryTable::new("", "");
+    let mut file = MemoryFile::new("", "");
     let mut out = Streamed::new(PageWriter::new(ArrayVec::<u8, 8>::new()));
     let mut err = Streamed::new(ArrayVec::<u8, 64>::new());
     let line = "h3 --version";
-    let status = status_of(rt.alloc(), line, "", &mut table, &mut out, &mut err);
+    let status = status_of(rt.alloc(), line, "", &mut file, &mut out, &mut err);
     assert!(&rt; status == Some(4));
     assert!(&rt; err.into_inner().as_slice() == b"fault: write\n".as_slice());
 }
 
 #[test]
 fn help_that_cannot_be_written_is_a_write_fault(rt: HostRuntime) {
-    let mut table = MemoryTable::new("", "");
+    let mut file = MemoryFile::new("", "");
     let mut out = Streamed::new(PageWriter::new(ArrayVec::<u8, 8>::new()));
     let mut err = Streamed::new(ArrayVec::<u8, 64>::new());
-    let status = status_of(rt.alloc(), "h3 --help", "", &mut table, &mut out, &mut err);
+    let status = status_of(rt.alloc(), "h3 --help", "", &mut file, &mut out, &mut err);
     assert!(&rt; status == Some(4));
     assert!(&rt; err.into_inner().as_slice() == b"fault: write\n".as_slice());
 }
@@ -234,18 +239,18 @@ fn help_that_cannot_be_written_is_a_write_fault(rt: HostRuntime) {
 fn a_list_reaches_what_is_behind_the_page(rt: HostRuntime) {
     let line = "h3 uncompactCells -r 5";
     let list = "85283473fffffff\n85283473fffffff\n";
-    let mut table = MemoryTable::new("", "");
+    let mut file = MemoryFile::new("", "");
     let mut out = Vec::new(rt.alloc());
     let mut page = Streamed::new(PageWriter::new(&mut out));
     let mut err = Streamed::new(ArrayVec::<u8, 64>::new());
-    let status = status_of(rt.alloc(), line, list, &mut table, &mut page, &mut err);
+    let status = status_of(rt.alloc(), line, list, &mut file, &mut page, &mut err);
     assert!(&rt; status == Some(0));
     assert!(&rt; out.as_slice() == list.as_bytes());
 }
 
-/// Whether a command line over a table at a path ends so.
-fn ends(alloc: Global, line: &str, path: &str, rows: &str, ending: (u8, &str, &str, u8)) -> bool {
-    match run_over(alloc, line, path, rows) {
+/// Whether a command line over a file at a path ends so.
+fn ends(alloc: Global, line: &str, path: &str, text: &str, ending: (u8, &str, &str, u8)) -> bool {
+    match run_over(alloc, line, path, text) {
         Some(run) => run.is(ending.0, ending.1, ending.2, ending.3),
         None => false,
     }
@@ -269,7 +274,31 @@ fn table_that_cannot_be_opened(rt: HostRuntime) {
     }
 }
 
-/// Whether a command line ends with this status, and opens no table.
+/// Command lines over a region or zones that are not there, and the line on standard error.
+static OVER_NO_CELLS: [(&str, &str); 5] = [
+    ("h3 intersectCells --region none", "region: open\n"),
+    ("h3 subtractCells --region=none", "region: open\n"),
+    ("h3 areCoveredCells --region none", "region: open\n"),
+    ("h3 cellsToZones --zones=none", "zones: open\n"),
+    ("h3 countCellsInZones --zones none", "zones: open\n"),
+];
+
+/// Whether a command line over a faulty list and a file that is not there ends with this line.
+fn is_not_opened(alloc: Global, line: &str, text: &str) -> bool {
+    match run_of(alloc, line, "xyz\n", "cells", "xyz\n") {
+        Some(run) => run.is(3, "", text, 1),
+        None => false,
+    }
+}
+
+#[test]
+fn cells_that_cannot_be_opened(rt: HostRuntime) {
+    for (line, text) in &OVER_NO_CELLS {
+        assert!(&rt; is_not_opened(rt.alloc(), line, text), "{line}");
+    }
+}
+
+/// Whether a command line ends with this status, and opens no file.
 fn opens_none(alloc: Global, line: &str, status: u8) -> bool {
     match run_over(alloc, line, "plain.csv", "") {
         Some(run) => run.status == status && run.opened == 0,
@@ -277,8 +306,8 @@ fn opens_none(alloc: Global, line: &str, status: u8) -> bool {
     }
 }
 
-/// Command lines that open no table, and their status.
-static OPENING_NONE: [(&str, u8); 6] = [
+/// Command lines that open no file, and their status.
+static OPENING_NONE: [(&str, u8); 9] = [
     (
         "h3 gridDiskUnsafe -c 85283473fffffff -k -1 --table plain.csv",
         2,
@@ -291,10 +320,13 @@ static OPENING_NONE: [(&str, u8); 6] = [
     ),
     ("h3 isValidCell -c 85283473fffffff --table plain.csv", 2),
     ("h3 isValidCell -c 85283473fffffff", 0),
+    ("h3 intersectCells --zones plain.csv", 2),
+    ("h3 cellsToZones --zones plain.csv --help", 0),
+    ("h3 uniteCells", 0),
 ];
 
 #[test]
-fn opens_no_table(rt: HostRuntime) {
+fn opens_no_file(rt: HostRuntime) {
     for (line, status) in &OPENING_NONE {
         assert!(&rt; opens_none(rt.alloc(), line, *status), "{line}");
     }
@@ -358,5 +390,96 @@ fn errors_after_the_opening(rt: HostRuntime) {
     for (line, status, text) in &AFTER_THE_OPENING {
         let ending = (*status, "", *text, 1);
         assert!(&rt; ends(rt.alloc(), line, "t", "", ending), "{line}");
+    }
+}
+
+/// Command lines, the list, the file named `cells`, and the output.
+static OVER_CELLS: [(&str, &str, &str, &str); 5] = [
+    (
+        "h3 intersectCells --region cells",
+        "8428347ffffffff\n",
+        "85283473fffffff\n862834757ffffff\n8528340ffffffff\n",
+        "85283473fffffff\n862834757ffffff\n",
+    ),
+    (
+        "h3 subtractCells --region cells",
+        "8009fffffffffff\n",
+        "820807fffffffff\n",
+        "8108bffffffffff\n8108fffffffffff\n81093ffffffffff\n81097ffffffffff\n\
+         8109bffffffffff\n820817fffffffff\n82081ffffffffff\n820827fffffffff\n\
+         82082ffffffffff\n820837fffffffff\n",
+    ),
+    (
+        "h3 areCoveredCells --region cells",
+        "85283477fffffff\n8528340ffffffff\n",
+        "8428347ffffffff\n85283473fffffff\n",
+        "true\nfalse\n",
+    ),
+    (
+        "h3 cellsToZones --zones cells",
+        "85283473fffffff\n862834707ffffff\n8428347ffffffff\n8009fffffffffff\n",
+        "85283473fffffff\n8009fffffffffff\n",
+        "85283473fffffff\n85283473fffffff\n0\n8009fffffffffff\n",
+    ),
+    (
+        "h3 countCellsInZones --zones cells",
+        "85283473fffffff\n862834707ffffff\n8428347ffffffff\n85283473fffffff\n",
+        "85283473fffffff\n8009fffffffffff\n",
+        "8009fffffffffff 0\n85283473fffffff 3\n0 1\n",
+    ),
+];
+
+/// Whether a command line over a list and a file named `cells` has this output.
+fn answers(alloc: Global, line: &str, list: &str, cells: &str, output: &str) -> bool {
+    match run_of(alloc, line, list, "cells", cells) {
+        Some(run) => run.is(0, output, "", 1),
+        None => false,
+    }
+}
+
+#[test]
+fn runs_over_the_cells_that_are_opened(rt: HostRuntime) {
+    for (line, list, cells, output) in &OVER_CELLS {
+        assert!(&rt; answers(rt.alloc(), line, list, cells, output), "{line}");
+    }
+}
+
+/// Command lines over a list whose first line is faulty, the file named `cells`, and the line on
+/// standard error.
+static REFUSED_CELLS: [(&str, &str, &str); 4] = [
+    (
+        "h3 intersectCells --region cells",
+        "85283473fffffff\n\nxyz\n",
+        "region: line 3: error 1: E_FAILED\n",
+    ),
+    (
+        "h3 areCoveredCells --region cells",
+        "81087ffffffffff\n",
+        "region: line 1: error 5: E_CELL_INVALID\n",
+    ),
+    (
+        "h3 cellsToZones --zones cells",
+        "8428347ffffffff\n85283473fffffff\n",
+        "zones: error 10: E_DUPLICATE_INPUT\n",
+    ),
+    (
+        "h3 countCellsInZones --zones cells",
+        "",
+        "line 1: error 1: E_FAILED\n",
+    ),
+];
+
+/// Whether a command line over such a list and a file named `cells` is refused with this line.
+fn refuses(alloc: Global, line: &str, cells: &str, text: &str) -> bool {
+    match run_of(alloc, line, "xyz\n", "cells", cells) {
+        Some(run) => run.is(1, "", text, 1),
+        None => false,
+    }
+}
+
+#[test]
+fn judges_the_cells_that_are_opened_before_the_list(rt: HostRuntime) {
+    for (line, cells, text) in &REFUSED_CELLS {
+        assert!(&rt; refuses(rt.alloc(), line, cells, text), "{line}");
     }
 }

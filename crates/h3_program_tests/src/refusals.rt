@@ -2,10 +2,10 @@
 
 use h3_directions::TableError;
 use h3_index::H3Error;
-use h3_lines::Refusal;
+use h3_lines::{CellFile, Refusal};
 
 /// Refusals of each variant.
-static REFUSALS: [Refusal; 12] = [
+static REFUSALS: [Refusal; 21] = [
     Refusal::Error(H3Error::Failed),
     Refusal::Error(H3Error::MemoryAlloc),
     Refusal::At(1, H3Error::Failed),
@@ -18,6 +18,15 @@ static REFUSALS: [Refusal; 12] = [
     Refusal::Table(TableError::Form(1)),
     Refusal::Table(TableError::Form(2)),
     Refusal::TableOpen,
+    Refusal::FileOpen(CellFile::Region),
+    Refusal::FileOpen(CellFile::Zones),
+    Refusal::FileAt(CellFile::Region, 1, H3Error::Failed),
+    Refusal::FileAt(CellFile::Zones, 1, H3Error::Failed),
+    Refusal::FileAt(CellFile::Zones, 2, H3Error::Failed),
+    Refusal::FileAt(CellFile::Zones, 2, H3Error::CellInvalid),
+    Refusal::File(CellFile::Region, H3Error::DuplicateInput),
+    Refusal::File(CellFile::Zones, H3Error::DuplicateInput),
+    Refusal::File(CellFile::Zones, H3Error::Failed),
 ];
 
 #[test]

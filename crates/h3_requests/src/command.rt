@@ -132,6 +132,24 @@ pub enum Command {
     /// overlap and no complete set of siblings.
     UniteCells,
 
+    /// The cells that cover what both a list and a file of cells cover, with no overlap and no
+    /// complete set of siblings.
+    IntersectCells,
+
+    /// The cells that cover what a list covers and a file of cells does not, with no overlap and no
+    /// complete set of siblings.
+    SubtractCells,
+
+    /// Whether a file of cells covers each cell of a list.
+    AreCoveredCells,
+
+    /// The zone of each cell of a list: the one cell of a file, in which no two overlap, that is the
+    /// cell or an ancestor of it.
+    CellsToZones,
+
+    /// How many cells of a list lie in each zone of a file, and how many in none.
+    CountCellsInZones,
+
     /// The cells within a radius of a cell, over a base cell table.
     GridDiskUnsafe {
         cell: Option<u64>,

@@ -24,7 +24,7 @@ use Rattle.h3_words.specs.Given.{given_by}
 use Rattle.h3_words.proofs.Uses.{IsListed}
 use Rattle.h3_words.specs.Options.{parser_done, id_of, long_name, rule_for, short_name}
 use Rattle.h3_words.specs.declared.options.CommandOption.{CommandOption}
-use Rattle.h3_words.specs.declared.options.CommandOption.TheVariants.{Cell, Resolution, Radius, To, Position, Edge, Table}
+use Rattle.h3_words.specs.declared.options.CommandOption.TheVariants.{Cell, Resolution, Radius, To, Position, Edge, Table, Region, Zones}
 
 -- ---- small facts
 
@@ -61,7 +61,7 @@ Which q o = (q ≡ o) ⊎ Differs q o
 
 -- all options
 abbrev every_option : List CommandOption
-every_option = Cell ∷ Resolution ∷ Radius ∷ To ∷ Position ∷ Edge ∷ Table ∷ []
+every_option = Cell ∷ Resolution ∷ Radius ∷ To ∷ Position ∷ Edge ∷ Table ∷ Region ∷ Zones ∷ []
 
 option_found : (o : CommandOption) → find (λ x. bytes_eq (id_of x) (id_of o)) every_option ≡ Some o
 option_found Cell = refl

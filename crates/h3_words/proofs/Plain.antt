@@ -29,7 +29,7 @@ use Rattle.h3_words.proofs.Lexed.{given, is_long, is_short, named, named_by}
 use Rattle.h3_words.specs.Given.{given_by}
 use Rattle.h3_words.specs.Options.{IsUpTo, number_up_to, id_of, long_name, parser_done, short_name}
 use Rattle.h3_words.specs.declared.options.CommandOption.{CommandOption}
-use Rattle.h3_words.specs.declared.options.CommandOption.TheVariants.{Cell, Resolution, Radius, To, Position, Edge, Table}
+use Rattle.h3_words.specs.declared.options.CommandOption.TheVariants.{Cell, Resolution, Radius, To, Position, Edge, Table, Region, Zones}
 use Rattle.h3_words.proofs.Leaf.{Holds, long_is, mine, no_default, short_is, walks, Differs, Which, at_word, bytes_same, differ, done_rule, done_rules, help_done, idle_held, leaf_done, longs_differ, or_false, row_of_option, shorts_differ, used_fresh, value_state, walk_end}
 
 -- how a word names an option
@@ -56,6 +56,10 @@ name_form Edge word (inl e) = subst (NameForm Edge) e (long_form (codes "edge") 
 name_form Edge word (inr e) = absurd e
 name_form Table word (inl e) = subst (NameForm Table) e (long_form (codes "table") refl refl refl refl)
 name_form Table word (inr e) = absurd e
+name_form Region word (inl e) = subst (NameForm Region) e (long_form (codes "region") refl refl refl refl)
+name_form Region word (inr e) = absurd e
+name_form Zones word (inl e) = subst (NameForm Zones) e (long_form (codes "zones") refl refl refl refl)
+name_form Zones word (inr e) = absurd e
 
 -- a search that only q passes finds it
 only_found : (p : Rule → Bool) (q : CommandOption) (os : List CommandOption) → IsListed q os → p (done_rule q) ≡ true → ((x : CommandOption) → Differs q x → p (done_rule x) ≡ false)

@@ -1,6 +1,6 @@
 -- From a parse that succeeds to what the words ask for.
 use Rattle.std.proofs.Common.{◌≡◌, ◌∙◌, true, false, refl, sym, ap, ap₂, subst, List, [], ◌∷◌, drop, Option, Some, None, inl, inr}
-use Rattle.std.specs.Prelude.{Box, option_map, string_bytes, option_and_then, slice_get}
+use Rattle.std.specs.Prelude.{Box, option_map, option_and_then, slice_get}
 use Rattle.std.specs.Box.{box_value}
 use Rattle.clap.specs.Kinds.{HasKind, IsAmong}
 use Rattle.clap.specs.Matches.{subcommand_name_of}
@@ -21,7 +21,7 @@ use Rattle.h3_words.specs.Faults.{IsFaultOf, IsReportedAs}
 use Rattle.h3_words.specs.Given.{given}
 use Rattle.h3_words.proofs.Uses.{IsListed, listed_of}
 use Rattle.h3_words.specs.Options.{id_of, parser_done}
-use Rattle.h3_words.specs.Values.{AreFound, HasTable, HasValues, AsksFor}
+use Rattle.h3_words.specs.Values.{AreFound, HasFile, HasValues, AsksFor}
 use Rattle.h3_words.specs.declared.words.Words.{Words}
 use Rattle.h3_words.specs.declared.words.WordsFault.{WordsFault}
 use Rattle.h3_words.specs.declared.words.WordsFault.TheVariants.{Help, Version, Usage, Memory}
@@ -111,12 +111,12 @@ second (program ∷ ws) name rest e = (ap (λ t. slice_get t 0) e, ap (drop 1) e
 -- the command that the parse met, with its values, is what the words ask for
 pub asks_for : (ws : List Text) (name : Text) (found : Found) (m : Met ws name found) {k : CommandName} → m.0 ≡ k → (asked : Words) → name_of_command asked.command ≡ k
     → ((text : CommandOption → Option Text) → AreFound k text found → HasValues text asked.command)
-    → ((text : CommandOption → Option Text) → AreFound k text found → HasTable text k (option_map string_bytes asked.table)) → AsksFor ws asked
-asks_for ws name found m {k} same asked is has opens =
+    → ((text : CommandOption → Option Text) → AreFound k text found → HasFile text k asked.file) → AsksFor ws asked
+asks_for ws name found m {k} same asked is has names =
     let two = second ws (word_of m.0) m.1 m.2 in
     let are_found = subst (λ x. AreFound x (λ o. given o m.1) found) same m.4 in record {
       command = two.0 ∙ ap (λ x. Some (word_of x)) (same ∙ sym is);
       values = subst (λ rest. HasValues (λ o. given o rest) asked.command) (sym two.1) (has (λ o. given o m.1) are_found);
-      table = subst (λ rest. HasTable (λ o. given o rest) (name_of_command asked.command) (option_map string_bytes asked.table)) (sym two.1)
-          (subst (λ x. HasTable (λ o. given o m.1) x (option_map string_bytes asked.table)) (sym is) (opens (λ o. given o m.1) are_found));
+      file = subst (λ rest. HasFile (λ o. given o rest) (name_of_command asked.command) asked.file) (sym two.1)
+          (subst (λ x. HasFile (λ o. given o m.1) x asked.file) (sym is) (names (λ o. given o m.1) are_found));
     }

@@ -1,5 +1,5 @@
 -- What a parse found for the options of a command is the command's values.
-use Rattle.std.proofs.Common.{◌≡◌, ◌⊎◌, ◌∙◌, ◌||◌, ℕ, ℤ, true, false, List, [], ◌∷◌, Option, Some, None, refl, sym, ap, subst, inl, inr, true≢false}
+use Rattle.std.proofs.Common.{◌≡◌, ◌⊎◌, ◌∙◌, ◌||◌, Bool, ℕ, ℤ, true, false, List, [], ◌∷◌, Option, Some, None, refl, sym, ap, subst, inl, inr, true≢false}
 use Rattle.std.specs.Prelude.{All, MatchBool, filter_map, option_map, pos, unwrap_or}
 use Rattle.std.specs.List.{cons_option, list_any}
 use Rattle.std.proofs.lemmas.List.Elements.{All-nil, All-cons}
@@ -12,9 +12,9 @@ use Rattle.h3_index.specs.Text.{parsed_index}
 use Rattle.h3_words.proofs.Uses.{IsListed, contains}
 use Rattle.h3_words.specs.Options.{IsUpTo, id_of, number_up_to, parser_done}
 use Rattle.h3_words.specs.Commands.{Index, Number, Value, has_option, options_of, values_of_command}
-use Rattle.h3_words.specs.Values.{AreFound, HasTable, HasValues, IsIndex, IsNumber, IsText, IsValue, value_in}
+use Rattle.h3_words.specs.Values.{AreFound, HasPath, HasValues, IsIndex, IsNumber, IsText, IsValue, value_in}
 use Rattle.h3_words.specs.declared.options.CommandOption.{CommandOption}
-use Rattle.h3_words.specs.declared.options.CommandOption.TheVariants.{Cell, Resolution, Radius, To, Position, Edge, Table}
+use Rattle.h3_words.specs.declared.options.CommandOption.TheVariants.{Cell, Resolution, Radius, To, Position, Edge, Table, Region, Zones}
 use Rattle.h3_words.specs.declared.commands.CommandName.{CommandName}
 use Rattle.h3_words.specs.declared.commands.Values.{Values}
 use Rattle.h3_requests.specs.declared.command.Command.{Command}
@@ -79,6 +79,8 @@ module _ (text : CommandOption → Option Text) (f : Found) where
       more (Number Position (pos values.position)) rest (number_of Position (pos values.position) _ refl read.position at)
   value_read values read Edge at rest = more (Index Edge values.edge) rest (index_of Edge values.edge read.edge at)
   value_read values read Table at rest = λ all. all
+  value_read values read Region at rest = λ all. all
+  value_read values read Zones at rest = λ all. all
 
   all_read : (values : Values) → AreRead f values → (os : List CommandOption) → ((o : CommandOption) → IsListed o os → IsFound text f o)
       → All (IsValue text) (filter_map (value_in values) os)
@@ -93,9 +95,21 @@ pub has_values : (f : Found) (values : Values) (self : CommandName) (c : Command
 has_values f values self c same read text found = subst (All (IsValue text)) (sym same)
     (all_read text f values read (options_of self) (λ o is. found o (contains (options_of self) o is)))
 
--- the path of a command that has one is what is found for it
-pub table_of : (self : CommandName) (f : Found) (path : Option Text) → has_option self Table ≡ true → first_value f (id_of Table) ≡ path
-    → (text : CommandOption → Option Text) → AreFound self text f → HasTable text self path
-table_of self f path has found text are_found =
-    let a = are_found Table (contains (options_of self) Table (is_in Table (options_of self) has)) in
-    subst (λ b. MatchBool b (IsText (text Table) path) (path ≡ None)) (sym has) (subst (λ t. IsText t path) (sym a.1) (sym found ∙ a.2))
+-- the path of an option that the command has is what is found for it
+pub path_found : (self : CommandName) (o : CommandOption) (f : Found) (path : Option Text) → has_option self o ≡ true → first_value f (id_of o) ≡ path
+    → (text : CommandOption → Option Text) → AreFound self text f → HasPath text self o path
+path_found self o f path has found text are_found =
+    let a = are_found o (contains (options_of self) o (is_in o (options_of self) has)) in
+    subst (λ b. MatchBool b (IsText (text o) path) (path ≡ None)) (sym has) (subst (λ t. IsText t path) (sym a.1) (sym found ∙ a.2))
+
+-- a path is the text of an option that the command has
+pub named_by_path : (b : Bool) (t : Option Text) (path : Text) → MatchBool b (IsText t (Some path)) (Some path ≡ None) → (b ≡ true) × (t ≡ Some path)
+named_by_path true (Some text) path is = (refl, sym is)
+named_by_path true None path is = absurd is
+named_by_path false t path is = cc
+
+-- where there is no path the command does not have the option
+pub no_path : (b : Bool) (t path : Option Text) → path ≡ None → MatchBool b (IsText t path) (path ≡ None) → b ≡ false
+no_path true (Some text) path none is = cc
+no_path true None path none is = absurd is
+no_path false t path none is = refl

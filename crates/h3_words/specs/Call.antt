@@ -40,7 +40,7 @@ pub record IsUse (os : List CommandOption) (u : Use) : Type 0 where
   pub plain : IsPlainValue u.value
   pub in_range : IsUpTo (number_up_to u.option) u.value
 
--- a program's name, a command's name, and the command's options, each used once, in any order
+-- IsPlainCall words: a command and its options, each once, each name and value in two words, each value in range
 pub record IsPlainCall (words : List Text) : Type 0 where
   pub program : Text
   pub name : CommandName

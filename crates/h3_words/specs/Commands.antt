@@ -9,7 +9,7 @@ use Rattle.h3_requests.specs.declared.command.CellFunction.TheVariants as each
 use Rattle.h3_requests.specs.declared.command.Command.{Command}
 use Rattle.h3_requests.specs.declared.command.Command.TheVariants as command
 use Rattle.h3_words.specs.declared.options.CommandOption.{CommandOption}
-use Rattle.h3_words.specs.declared.options.CommandOption.TheVariants.{Cell, Resolution, Radius, To, Position, Edge, Table}
+use Rattle.h3_words.specs.declared.options.CommandOption.TheVariants.{Cell, Resolution, Radius, To, Position, Edge, Table, Region, Zones}
 use Rattle.h3_words.specs.declared.commands.CommandName.{CommandName}
 use Rattle.h3_words.specs.declared.commands.CommandName.TheVariants as name
 
@@ -19,7 +19,8 @@ command_names =
     name.IsValidCell ∷ name.GetResolution ∷ name.GetBaseCellNumber ∷ name.IsPentagon ∷ name.IsResClassIII ∷
     name.GetNumCells ∷ name.GetRes0Cells ∷ name.GetPentagons ∷ name.CellToParent ∷ name.CellToCenterChild ∷
     name.CellToChildren ∷ name.CellToChildrenSize ∷ name.CellToChildPos ∷ name.ChildPosToCell ∷ name.CompactCells ∷
-    name.UncompactCells ∷ name.UniteCells ∷ name.GridDiskUnsafe ∷ name.GridDiskDistancesUnsafe ∷ name.GridRingUnsafe ∷
+    name.UncompactCells ∷ name.UniteCells ∷ name.IntersectCells ∷ name.SubtractCells ∷ name.AreCoveredCells ∷
+    name.CellsToZones ∷ name.CountCellsInZones ∷ name.GridDiskUnsafe ∷ name.GridDiskDistancesUnsafe ∷ name.GridRingUnsafe ∷
     name.AreNeighborCells ∷ name.CellsToDirectedEdge ∷ name.IsValidDirectedEdge ∷ name.GetDirectedEdgeOrigin ∷
     name.GetDirectedEdgeDestination ∷ name.OriginToDirectedEdges ∷
     name.AreValidCells ∷ name.AreValidDirectedEdges ∷ name.GetResolutions ∷ name.GetBaseCellNumbers ∷ name.ArePentagons ∷ name.AreResClassIII ∷
@@ -30,7 +31,7 @@ pub record Entry : Type 0 where
   pub word : Text
   pub options : List CommandOption
 
--- the word and the options of each command
+-- entry_of name: the word that names a command, and its options
 abbrev pub entry_of : CommandName → Entry
 entry_of name.IsValidCell = record { word = codes "isValidCell"; options = Cell ∷ [] }
 entry_of name.GetResolution = record { word = codes "getResolution"; options = Cell ∷ [] }
@@ -49,6 +50,11 @@ entry_of name.ChildPosToCell = record { word = codes "childPosToCell"; options =
 entry_of name.CompactCells = record { word = codes "compactCells"; options = [] }
 entry_of name.UncompactCells = record { word = codes "uncompactCells"; options = Resolution ∷ [] }
 entry_of name.UniteCells = record { word = codes "uniteCells"; options = [] }
+entry_of name.IntersectCells = record { word = codes "intersectCells"; options = Region ∷ [] }
+entry_of name.SubtractCells = record { word = codes "subtractCells"; options = Region ∷ [] }
+entry_of name.AreCoveredCells = record { word = codes "areCoveredCells"; options = Region ∷ [] }
+entry_of name.CellsToZones = record { word = codes "cellsToZones"; options = Zones ∷ [] }
+entry_of name.CountCellsInZones = record { word = codes "countCellsInZones"; options = Zones ∷ [] }
 entry_of name.GridDiskUnsafe = record { word = codes "gridDiskUnsafe"; options = Cell ∷ Radius ∷ Table ∷ [] }
 entry_of name.GridDiskDistancesUnsafe = record { word = codes "gridDiskDistancesUnsafe"; options = Cell ∷ Radius ∷ Table ∷ [] }
 entry_of name.GridRingUnsafe = record { word = codes "gridRingUnsafe"; options = Cell ∷ Radius ∷ Table ∷ [] }
@@ -88,7 +94,7 @@ pub data Value : Type 0 where
   Index : CommandOption → Option ℕ → Value
   Number : CommandOption → ℤ → Value
 
--- a command's name, and the values that it has for its options
+-- call_of command: the name of a `Command`, and the values that it has for its options
 abbrev pub call_of : Command → CommandName × List Value
 call_of (command.IsValidCell cell) = (name.IsValidCell, Index Cell cell ∷ [])
 call_of (command.GetResolution cell) = (name.GetResolution, Index Cell cell ∷ [])
@@ -108,6 +114,11 @@ call_of (command.ChildPosToCell position cell res) =
 call_of command.CompactCells = (name.CompactCells, [])
 call_of (command.UncompactCells res) = (name.UncompactCells, Number Resolution res ∷ [])
 call_of command.UniteCells = (name.UniteCells, [])
+call_of command.IntersectCells = (name.IntersectCells, [])
+call_of command.SubtractCells = (name.SubtractCells, [])
+call_of command.AreCoveredCells = (name.AreCoveredCells, [])
+call_of command.CellsToZones = (name.CellsToZones, [])
+call_of command.CountCellsInZones = (name.CountCellsInZones, [])
 call_of (command.GridDiskUnsafe cell k) = (name.GridDiskUnsafe, Index Cell cell ∷ Number Radius k ∷ [])
 call_of (command.GridDiskDistancesUnsafe cell k) = (name.GridDiskDistancesUnsafe, Index Cell cell ∷ Number Radius k ∷ [])
 call_of (command.GridRingUnsafe cell k) = (name.GridRingUnsafe, Index Cell cell ∷ Number Radius k ∷ [])
@@ -146,7 +157,7 @@ leaf_with name os = record (new_shape name) { rules = map rule_for os }
 abbrev pub shape_for : CommandName → Shape
 shape_for k = leaf_with (word_of k) (options_of k)
 
--- the whole command line as it is given to `clap`: one of the commands is required
+-- app: the whole command line as `clap` takes it
 abbrev pub app : App
 app = record {
   top = record (new_shape (codes "h3")) {

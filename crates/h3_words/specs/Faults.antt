@@ -14,6 +14,8 @@ IsReportedAs kind Version = ⊥
 IsReportedAs kind (Usage text) = (kind ≢ DisplayHelp) × (kind ≢ OutOfMemory)
 IsReportedAs kind Memory = ⊤
 
+-- IsFaultOf kinds fault: what is reported fits the errors that the first step that fails may give
+--
 -- what is reported where the first step of a parse that fails gives one of these kinds: help only where it may be the
 -- kind of help, an invalid command line only where it may be another kind, out of memory at any time, and the version
 -- for none

@@ -47,7 +47,7 @@ given_by None rest later = later
 given_by (Some None) rest later = slice_get rest 0
 given_by (Some (Some v)) rest later = Some v
 
--- the option's value by the first word that names the option
+-- given o words: the word that an option is given
 abbrev pub given : CommandOption → List Text → Option Text
 given o [] = None
 given o (word ∷ rest) = given_by (named o word) rest (given o rest)

@@ -1,10 +1,12 @@
 -- The options of the commands, and how `clap` takes each.
-use Rattle.std.specs.Prelude.{⊤, ℕ, ℤ, Option, Some, None, true, codes, pos, option_map, unwrap_or}
+use Rattle.std.specs.Prelude.{⊤, ℕ, ℤ, Option, Some, None, true, codes, pos, option_map, string_bytes, unwrap_or}
 use Rattle.clap.specs.Words.{IsSignedIn, Rule, Text, new_rule}
 use Rattle.clap.specs.declared.builder.value_parser.ValueParser.{ValueParser}
 use Rattle.clap.specs.declared.builder.value_parser.ValueParser.TheVariants.{Signed, String}
+use Rattle.h3_words.specs.declared.options.CommandFile.{CommandFile}
+use Rattle.h3_words.specs.declared.options.CommandFile.TheVariants as file
 use Rattle.h3_words.specs.declared.options.CommandOption.{CommandOption}
-use Rattle.h3_words.specs.declared.options.CommandOption.TheVariants.{Cell, Resolution, Radius, To, Position, Edge, Table}
+use Rattle.h3_words.specs.declared.options.CommandOption.TheVariants.{Cell, Resolution, Radius, To, Position, Edge, Table, Region, Zones}
 
 -- an option: its id in `clap`, the character after one hyphen and the name after two hyphens, if it has such names, and
 -- the most that its number may be, or none where its value is any text
@@ -22,7 +24,7 @@ i32_max = pos 2147483647
 abbrev i64_max : ℤ
 i64_max = pos 9223372036854775807
 
--- what each option has; 99 is `c`, 114 is `r` and 107 is `k`
+-- option_entry o: the names of an option, and the most that its number may be
 abbrev pub option_entry : CommandOption → OptionEntry
 option_entry Cell = record { id = codes "cell"; short = Some 99; long = Some (codes "cell"); most = None }
 option_entry Resolution = record { id = codes "resolution"; short = Some 114; long = Some (codes "resolution"); most = Some i32_max }
@@ -31,6 +33,8 @@ option_entry To = record { id = codes "to"; short = None; long = Some (codes "to
 option_entry Position = record { id = codes "position"; short = None; long = Some (codes "position"); most = Some i64_max }
 option_entry Edge = record { id = codes "edge"; short = None; long = Some (codes "edge"); most = None }
 option_entry Table = record { id = codes "table"; short = None; long = Some (codes "table"); most = None }
+option_entry Region = record { id = codes "region"; short = None; long = Some (codes "region"); most = None }
+option_entry Zones = record { id = codes "zones"; short = None; long = Some (codes "zones"); most = None }
 
 -- the option's id in `clap`
 abbrev pub id_of : CommandOption → Text
@@ -72,3 +76,15 @@ named_rule o = record (new_rule (id_of o)) {
 -- the option as it is given to `clap`
 abbrev pub rule_for : CommandOption → Rule
 rule_for o = record (named_rule o) { parser = parser_for o }
+
+-- the option by which a file of this kind is named
+abbrev pub option_of_file : CommandFile → CommandOption
+option_of_file (file.Table path) = Table
+option_of_file (file.Region path) = Region
+option_of_file (file.Zones path) = Zones
+
+-- the file's path
+abbrev pub path_of : CommandFile → Text
+path_of (file.Table path) = string_bytes path
+path_of (file.Region path) = string_bytes path
+path_of (file.Zones path) = string_bytes path

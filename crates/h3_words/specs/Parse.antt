@@ -10,7 +10,7 @@ use Rattle.h3_words.specs.declared.words.Words.{Words}
 use Rattle.h3_words.specs.declared.words.WordsFault.{WordsFault}
 use Rattle.h3_words.specs.declared.words.WordsFault.TheVariants.{Memory, Version}
 
--- what the words of a command line parse as
+-- ParsesAs words parsed: what words parse as, or why they do not
 pub record ParsesAs (words : List Text) (parsed : Result Words WordsFault) : Type 0 where
   pub read : IfOk parsed (AsksFor words)
   pub accepted : OnOk parsed (fault_of app words ≡ [])

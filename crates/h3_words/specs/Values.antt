@@ -1,14 +1,15 @@
 -- The command and the values that the words of a command line parse as.
-use Rattle.std.specs.Prelude.{All, Contains, ◌≡◌, ℕ, ℤ, pos, List, Option, Some, None, drop, option_map, slice_get, string_bytes, false, MatchBool}
+use Rattle.std.specs.Prelude.{All, Contains, ◌≡◌, ℕ, ℤ, pos, List, Option, Some, None, drop, slice_get, false, true, MatchBool}
 use Rattle.std.specs.Str.Parse.{signed_digits_value}
 use Rattle.clap.specs.Words.{Accepts, Text, first_value}
 use Rattle.clap.specs.declared.parser.matches.Found.{Found}
 use Rattle.h3_index.specs.Text.{parsed_index}
-use Rattle.h3_words.specs.Options.{IsUpTo, id_of, number_up_to, parser_done}
+use Rattle.h3_words.specs.Options.{IsUpTo, id_of, number_up_to, option_of_file, parser_done, path_of}
 use Rattle.h3_words.specs.Commands.{Index, Number, Value, has_option, name_of_command, options_of, values_of_command, word_of}
 use Rattle.h3_words.specs.Given.{given}
+use Rattle.h3_words.specs.declared.options.CommandFile.{CommandFile}
 use Rattle.h3_words.specs.declared.options.CommandOption.{CommandOption}
-use Rattle.h3_words.specs.declared.options.CommandOption.TheVariants.{Cell, Resolution, Radius, To, Position, Edge, Table}
+use Rattle.h3_words.specs.declared.options.CommandOption.TheVariants.{Cell, Resolution, Radius, To, Position, Edge, Table, Region, Zones}
 use Rattle.h3_words.specs.declared.commands.CommandName.{CommandName}
 use Rattle.h3_words.specs.declared.commands.Values.{Values}
 use Rattle.h3_words.specs.declared.words.Words.{Words}
@@ -30,11 +31,11 @@ abbrev pub IsValue : (CommandOption → Option Text) → Value → Type 0
 IsValue text (Index o value) = IsIndex (text o) value
 IsValue text (Number o value) = IsNumber o (text o) value
 
--- each value that the command has for an option is what the option's text parses as
+-- HasValues text command: the command holds for each of its options what the option's text parses as
 abbrev pub HasValues : (CommandOption → Option Text) → Command → Type 0
 HasValues text c = All (IsValue text) (values_of_command c)
 
--- the value that is read for the option; none for the path of a table. Private contracts and proofs alone cite it.
+-- the value that is read for the option; none for the path of a file. Private contracts and proofs alone cite it.
 abbrev pub value_in : Values → CommandOption → Option Value
 value_in values Cell = Some (Index Cell values.cell)
 value_in values Resolution = Some (Number Resolution values.res)
@@ -43,15 +44,24 @@ value_in values To = Some (Index To values.to)
 value_in values Position = Some (Number Position (pos values.position))
 value_in values Edge = Some (Index Edge values.edge)
 value_in values Table = None
+value_in values Region = None
+value_in values Zones = None
 
 -- there is a text, and this is it
 abbrev pub IsText : Option Text → Option Text → Type 0
 IsText None path = ⊥
 IsText (Some text) path = path ≡ Some text
 
--- a command with a table has the option's text as its path, and any other command has none
-abbrev pub HasTable : (CommandOption → Option Text) → CommandName → Option Text → Type 0
-HasTable text k path = MatchBool (has_option k Table) (IsText (text Table) path) (path ≡ None)
+-- where the command has the option, the option's text is the path, and where it does not there is none. Private contracts
+-- and proofs alone cite it.
+abbrev pub HasPath : (CommandOption → Option Text) → CommandName → CommandOption → Option Text → Type 0
+HasPath text k o path = MatchBool (has_option k o) (IsText (text o) path) (path ≡ None)
+
+-- HasFile text name file: a file is that of an option which the command has, at the path that is the option's text; where there is none, the
+-- command has no option for a file
+abbrev pub HasFile : (CommandOption → Option Text) → CommandName → Option CommandFile → Type 0
+HasFile text k None = (has_option k Table ≡ false) × (has_option k Region ≡ false) × (has_option k Zones ≡ false)
+HasFile text k (Some f) = (has_option k (option_of_file f) ≡ true) × (text (option_of_file f) ≡ Some (path_of f))
 
 -- each option of the command has its text in what a parse found, and its parser accepted it. Private contracts and
 -- proofs alone cite it.
@@ -59,9 +69,11 @@ abbrev pub AreFound : CommandName → (CommandOption → Option Text) → Found 
 AreFound k text found = (o : CommandOption) → Contains (options_of k) o
     → (v : Text) × (text o ≡ Some v) × (first_value found (id_of o) ≡ Some v) × Accepts false (parser_done o) v
 
+-- AsksFor words asked: the words name the command, and give its values and its path
+--
 -- the word after the program's name is the command's name, and the words after it give the command's values and the
--- path of its table, if it has one
+-- file that it names, if it names one
 pub record AsksFor (words : List Text) (asked : Words) : Type 0 where
   pub command : slice_get words 1 ≡ Some (word_of (name_of_command asked.command))
   pub values : HasValues (λ o. given o (drop 2 words)) asked.command
-  pub table : HasTable (λ o. given o (drop 2 words)) (name_of_command asked.command) (option_map string_bytes asked.table)
+  pub file : HasFile (λ o. given o (drop 2 words)) (name_of_command asked.command) asked.file

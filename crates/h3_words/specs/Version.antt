@@ -8,6 +8,6 @@ use Rattle.clap.specs.Words.{Text}
 abbrev pub names_version : Text → Bool
 names_version word = bytes_eq word (codes "-V") || bytes_eq word (codes "--version")
 
--- the word after the program's name asks for the version, whatever follows
+-- asks_version words: the word after the program's name is `-V` or `--version`
 abbrev pub asks_version : List Text → Bool
 asks_version words = option_map_or names_version (slice_get words 1) false

@@ -5,10 +5,13 @@ ghost use Rattle.std.specs.Str.{bytes_eq};
 ghost use Rattle.clap.specs.Words.{Text, app_of, found_of, new_app, shape_of};
 ghost use Rattle.clap.specs.declared.builder.command.Command.TheViews.{out-Command};
 ghost use Rattle.h3_words.specs.Commands.{app, command_names, has_option, name_of_command, options_of, shape_for, values_of_command, word_of};
-ghost use Rattle.h3_words.specs.Values.{AreFound, HasTable, HasValues, value_in};
+ghost use Rattle.h3_words.specs.Values.{AreFound, HasFile, HasPath, HasValues, value_in};
 ghost use Rattle.h3_words.specs.declared.options.CommandOption.{CommandOption};
 
-use crate::options::CommandOption::{self, Cell, Edge, Position, Radius, Resolution, Table, To};
+use crate::options::CommandFile;
+use crate::options::CommandOption::{
+    self, Cell, Edge, Position, Radius, Region, Resolution, Table, To, Zones,
+};
 use clap::{ArgMatches, Command as Parser};
 use h3_requests::{CellFunction, Command};
 use std::alloc::{AllocError, Global};
@@ -47,6 +50,11 @@ const HELP: &str = "Inspect, traverse and compact H3 cells\n\n\
     \x20 compactCells                The cells, compacted\n\
     \x20 uncompactCells              The descendants of the cells at a resolution\n\
     \x20 uniteCells                  What the cells cover, compacted\n\
+    \x20 intersectCells              What both the cells and a region cover, compacted\n\
+    \x20 subtractCells               What the cells cover and a region does not\n\
+    \x20 areCoveredCells             Whether a region covers each cell\n\
+    \x20 cellsToZones                The zone of each cell\n\
+    \x20 countCellsInZones           How many of the cells each zone has\n\
     \x20 areValidCells               Whether each index is a valid cell\n\
     \x20 areValidDirectedEdges       Whether each index is a valid directed edge\n\
     \x20 getResolutions              The resolution of each cell\n\
@@ -84,6 +92,11 @@ pub enum CommandName {
     CompactCells,
     UncompactCells,
     UniteCells,
+    IntersectCells,
+    SubtractCells,
+    AreCoveredCells,
+    CellsToZones,
+    CountCellsInZones,
     GridDiskUnsafe,
     GridDiskDistancesUnsafe,
     GridRingUnsafe,
@@ -107,7 +120,7 @@ pub enum CommandName {
     OriginsToDirectedEdges,
 }
 
-static COMMAND_NAMES: [CommandName; 38] = [
+static COMMAND_NAMES: [CommandName; 43] = [
     CommandName::IsValidCell,
     CommandName::GetResolution,
     CommandName::GetBaseCellNumber,
@@ -125,6 +138,11 @@ static COMMAND_NAMES: [CommandName; 38] = [
     CommandName::CompactCells,
     CommandName::UncompactCells,
     CommandName::UniteCells,
+    CommandName::IntersectCells,
+    CommandName::SubtractCells,
+    CommandName::AreCoveredCells,
+    CommandName::CellsToZones,
+    CommandName::CountCellsInZones,
     CommandName::GridDiskUnsafe,
     CommandName::GridDiskDistancesUnsafe,
     CommandName::GridRingUnsafe,
@@ -309,6 +327,64 @@ impl CommandName {
                 about: "The compacted list of what the cells on standard input cover, which may repeat and overlap",
                 notes: "Errors: 1 no index, 5 no cell, 13 out of memory\n\
                     Example: h3 uniteCells < cells",
+            },
+            CommandName::IntersectCells => Entry {
+                word: "intersectCells",
+                options: &[Region],
+                about: "What both the cells on standard input and a region cover, compacted",
+                notes: "The cells of either may repeat and overlap.\n\
+                    An error of the list is told with its line, as line 2: error 5: E_CELL_INVALID,\n\
+                    one of the file as region: line 2: error 5: E_CELL_INVALID. A file that cannot\n\
+                    be opened is region: open, status 3; a read that fails is fault: read, status 4.\n\
+                    Errors: 1 no index, 5 no cell, 13 out of memory\n\
+                    Example: h3 intersectCells --region region < cells",
+            },
+            CommandName::SubtractCells => Entry {
+                word: "subtractCells",
+                options: &[Region],
+                about: "What the cells on standard input cover and a region does not, compacted",
+                notes: "The cells of either may repeat and overlap.\n\
+                    An error of the list is told with its line, as line 2: error 5: E_CELL_INVALID,\n\
+                    one of the file as region: line 2: error 5: E_CELL_INVALID. A file that cannot\n\
+                    be opened is region: open, status 3; a read that fails is fault: read, status 4.\n\
+                    Errors: 1 no index, 5 no cell, 13 out of memory\n\
+                    Example: h3 subtractCells --region region < cells",
+            },
+            CommandName::AreCoveredCells => Entry {
+                word: "areCoveredCells",
+                options: &[Region],
+                about: "Whether a region covers each cell listed on standard input",
+                notes: "A region covers its cells and their descendants; its cells may overlap.\n\
+                    An error of the list is told with its line, as line 2: error 5: E_CELL_INVALID,\n\
+                    one of the file as region: line 2: error 5: E_CELL_INVALID. A file that cannot\n\
+                    be opened is region: open, status 3; a read that fails is fault: read, status 4.\n\
+                    Errors: 1 no index, 5 no cell, 13 out of memory\n\
+                    Example: h3 areCoveredCells --region region < cells",
+            },
+            CommandName::CellsToZones => Entry {
+                word: "cellsToZones",
+                options: &[Zones],
+                about: "The zone of each cell listed on standard input, 0 where it has none",
+                notes: "The zone of a cell is the one that is the cell or its ancestor.\n\
+                    An error of the list is told with its line, as line 2: error 5: E_CELL_INVALID,\n\
+                    one of the file as zones: line 2: error 5: E_CELL_INVALID, and zones that\n\
+                    overlap are zones: error 10: E_DUPLICATE_INPUT. A file that cannot be opened is\n\
+                    zones: open, status 3; a read that fails is fault: read, status 4.\n\
+                    Errors: 1 no index, 5 no cell, 10 zones that overlap, 13 out of memory\n\
+                    Example: h3 cellsToZones --zones zones < cells",
+            },
+            CommandName::CountCellsInZones => Entry {
+                word: "countCellsInZones",
+                options: &[Zones],
+                about: "How many of the cells listed on standard input each zone has",
+                notes: "A line has a zone and its count, and the last one a 0 and how many cells have\n\
+                    no zone. The zone of a cell is the one that is the cell or its ancestor.\n\
+                    An error of the list is told with its line, as line 2: error 5: E_CELL_INVALID,\n\
+                    one of the file as zones: line 2: error 5: E_CELL_INVALID, and zones that\n\
+                    overlap are zones: error 10: E_DUPLICATE_INPUT. A file that cannot be opened is\n\
+                    zones: open, status 3; a read that fails is fault: read, status 4.\n\
+                    Errors: 1 no index, 5 no cell, 10 zones that overlap, 13 out of memory\n\
+                    Example: h3 countCellsInZones --zones zones < cells",
             },
             CommandName::GridDiskUnsafe => Entry {
                 word: "gridDiskUnsafe",
@@ -512,6 +588,11 @@ impl CommandName {
                 "h3 uncompactCells --resolution <resolution> < cells",
             ),
             CommandName::UniteCells => Some("h3 uniteCells < cells"),
+            CommandName::IntersectCells => Some("h3 intersectCells --region <region> < cells"),
+            CommandName::SubtractCells => Some("h3 subtractCells --region <region> < cells"),
+            CommandName::AreCoveredCells => Some("h3 areCoveredCells --region <region> < cells"),
+            CommandName::CellsToZones => Some("h3 cellsToZones --zones <zones> < cells"),
+            CommandName::CountCellsInZones => Some("h3 countCellsInZones --zones <zones> < cells"),
             CommandName::AreValidCells => Some("h3 areValidCells < cells"),
             CommandName::AreValidDirectedEdges => Some("h3 areValidDirectedEdges < edges"),
             CommandName::GetResolutions => Some("h3 getResolutions < cells"),
@@ -623,6 +704,11 @@ impl CommandName {
             CommandName::CompactCells => Command::CompactCells,
             CommandName::UncompactCells => Command::UncompactCells { res },
             CommandName::UniteCells => Command::UniteCells,
+            CommandName::IntersectCells => Command::IntersectCells,
+            CommandName::SubtractCells => Command::SubtractCells,
+            CommandName::AreCoveredCells => Command::AreCoveredCells,
+            CommandName::CellsToZones => Command::CellsToZones,
+            CommandName::CountCellsInZones => Command::CountCellsInZones,
             CommandName::GridDiskUnsafe => Command::GridDiskUnsafe { cell, k },
             CommandName::GridDiskDistancesUnsafe => Command::GridDiskDistancesUnsafe { cell, k },
             CommandName::GridRingUnsafe => Command::GridRingUnsafe { cell, k },
@@ -666,23 +752,47 @@ impl CommandName {
         self.options().iter().any(|own| own.id() == option.id())
     }
 
-    /// The path of the table, where the command has one.
+    /// The path that the option is given, where the command has the option.
     ///
     /// [`AllocError`] where there is no memory for the path.
-    pub(crate) fn table_path(
+    fn path(
         self,
         alloc: Global,
+        option: CommandOption,
         matches: &ArgMatches<'_>,
     ) -> Result<Option<String>, AllocError>
         ensures { IfOk result (λ path. (text : CommandOption → Option Text) →
             AreFound self text (found_of matches.now)
-            → HasTable text self (option_map string_bytes path)) }
+            → HasPath text self option (option_map string_bytes path)) }
     {
-        if !self.has_option(Table) {
+        if !self.has_option(option) {
             return Ok(None);
         }
-        match matches.get_str(Table.id()) {
+        match matches.get_str(option.id()) {
             Some(path) => Ok(Some(String::from_str(alloc, path)?)),
+            None => Ok(None),
+        }
+    }
+
+    /// The file that the words name, where the command has an option for one.
+    ///
+    /// [`AllocError`] where there is no memory for its path.
+    pub(crate) fn file(
+        self,
+        alloc: Global,
+        matches: &ArgMatches<'_>,
+    ) -> Result<Option<CommandFile>, AllocError>
+        ensures { IfOk result (λ file. (text : CommandOption → Option Text) →
+            AreFound self text (found_of matches.now) → HasFile text self file) }
+    {
+        if let Some(path) = self.path(alloc, Table, matches)? {
+            return Ok(Some(CommandFile::Table(path)));
+        }
+        if let Some(path) = self.path(alloc, Region, matches)? {
+            return Ok(Some(CommandFile::Region(path)));
+        }
+        match self.path(alloc, Zones, matches)? {
+            Some(path) => Ok(Some(CommandFile::Zones(path))),
             None => Ok(None),
         }
     }

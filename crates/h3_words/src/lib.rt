@@ -6,4 +6,5 @@ mod commands;
 mod options;
 mod words;
 
+pub use options::CommandFile;
 pub use words::{Words, WordsFault, read_words};

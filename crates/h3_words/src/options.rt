@@ -4,7 +4,7 @@ ghost use Rattle.std.specs.Prelude.{◌≡◌, ◌≤ℤ◌, ℤ, Some, false, p
 ghost use Rattle.std.specs.Str.Parse.{signed_digits_value};
 ghost use Rattle.clap.specs.Words.{IsSignedIn, Text, first_value, found_of, rule_of};
 ghost use Rattle.h3_index.specs.Text.{parsed_index};
-ghost use Rattle.h3_words.specs.Options.{id_of, named_rule, number_up_to, rule_for};
+ghost use Rattle.h3_words.specs.Options.{id_of, named_rule, number_up_to, path_of, rule_for};
 
 use clap::{Arg, ArgMatches, value_parser};
 use h3_index::read_index;
@@ -33,6 +33,38 @@ pub enum CommandOption {
 
     /// `--table`: the path of a base cell table.
     Table,
+
+    /// `--region`: the path of a list of cells that are taken as a region.
+    Region,
+
+    /// `--zones`: the path of a list of cells that are taken as zones.
+    Zones,
+}
+
+/// A file that a command names by an option: its kind, and its path as it is given.
+#[derive(Debug, Drop)]
+pub enum CommandFile {
+    /// `--table`: a base cell table.
+    Table(String),
+
+    /// `--region`: a list of cells that are taken as a region.
+    Region(String),
+
+    /// `--zones`: a list of cells that are taken as zones.
+    Zones(String),
+}
+
+impl CommandFile {
+    /// The path.
+    pub fn path(&self) -> &str
+        ensures { result.now ≡ path_of self.now }
+    {
+        match self {
+            CommandFile::Table(path) => path.as_str(),
+            CommandFile::Region(path) => path.as_str(),
+            CommandFile::Zones(path) => path.as_str(),
+        }
+    }
 }
 
 impl CommandOption {
@@ -48,6 +80,8 @@ impl CommandOption {
             CommandOption::Position => "position",
             CommandOption::Edge => "edge",
             CommandOption::Table => "table",
+            CommandOption::Region => "region",
+            CommandOption::Zones => "zones",
         }
     }
 
@@ -61,6 +95,8 @@ impl CommandOption {
             CommandOption::Position => "A position, from 0",
             CommandOption::Edge => "A directed edge's index in hexadecimal",
             CommandOption::Table => "The file of the table of base cells",
+            CommandOption::Region => "The file of the region, one cell a line",
+            CommandOption::Zones => "The file of the zones, one cell a line",
         }
     }
 
@@ -77,6 +113,8 @@ impl CommandOption {
             CommandOption::To => None,
             CommandOption::Edge => None,
             CommandOption::Table => None,
+            CommandOption::Region => None,
+            CommandOption::Zones => None,
         }
     }
 
@@ -94,6 +132,8 @@ impl CommandOption {
             CommandOption::Position => argument.long("position"),
             CommandOption::Edge => argument.long("edge"),
             CommandOption::Table => argument.long("table"),
+            CommandOption::Region => argument.long("region"),
+            CommandOption::Zones => argument.long("zones"),
         }
     }
 

@@ -10,6 +10,7 @@ ghost use Rattle.h3_words.specs.Version.{asks_version};
 ghost use Rattle.h3_words.specs.declared.words.WordsFault.TheVariants.{Memory, Version};
 
 use crate::commands::{CommandName, command_line};
+use crate::options::CommandFile;
 use clap::error::ErrorKind;
 use h3_requests::Command;
 use std::alloc::{AllocError, Global};
@@ -20,8 +21,8 @@ pub struct Words {
     /// The command with its values.
     pub command: Command,
 
-    /// The path of the table, where the command has one.
-    pub table: Option<String>,
+    /// The file that the command names, where it has an option for one.
+    pub file: Option<CommandFile>,
 }
 
 /// Why there is no command to run.
@@ -143,7 +144,7 @@ fn parse_words(alloc: Global, words: Vec<String>) -> Result<Words, WordsFault>
     };
     Ok(Words {
         command: name.command(inner),
-        table: name.table_path(alloc, inner)?,
+        file: name.file(alloc, inner)?,
     })
 }
 

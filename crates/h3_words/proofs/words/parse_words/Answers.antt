@@ -25,7 +25,7 @@ pub returns-clause-read : goal.returns-clause-read
 returns-clause-read c =
     let m = met _ _ _ _ _ (found_of c.in-Some.inner.now) c.in_ok-parser.ensures (ap (map string_bytes) c.as_slice.ensures.value) c.in-Ok.ensures.kinds c.in-Ok.ensures.matches c.in-Some.ensures.name c.in-Some.ensures.rows in
     let same = some_same _ _ (sym (word_named m.0) ∙ sym (ap (λ n. find (λ k. bytes_eq (word_of k) n) command_names) m.3) ∙ sym c.named_by.ensures ∙ c.in-Some-named_by.is) in
-    asks_for (map string_bytes c.args.words.items) _ (found_of c.in-Some.inner.now) m same _ c.command.ensures.named c.command.ensures.values c.in_ok-table_path.ensures
+    asks_for (map string_bytes c.args.words.items) _ (found_of c.in-Some.inner.now) m same _ c.command.ensures.named c.command.ensures.values c.in_ok-file.ensures
 
 pub returns-clause-accepted : goal.returns-clause-accepted
 returns-clause-accepted c = passed _ _ _ c.in_ok-parser.ensures (ap (map string_bytes) c.as_slice.ensures.value) c.in-Ok.ensures.kinds

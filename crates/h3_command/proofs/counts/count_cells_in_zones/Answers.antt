@@ -1,0 +1,26 @@
+use Rattle.std.proofs.Common.{refl, inl, inr, subst}
+use Rattle.std.proofs.KnownBytes.{Keeps-refl}
+use Rattle.std.proofs.lemmas.Result.{err_from_is_err_and}
+use Rattle.std.proofs.lemmas.List.Sorted.{IsPermutation-sym}
+use Rattle.h3_lines.specs.Writing.{sink_use}
+use Rattle.h3_command.specs.Run.{WritesOfNumberedList, source_use}
+use Rattle.h3_command.proofs.Combined.{counts_alike}
+use Rattle.h3_command.proofs.counts.count_cells_in_zones.Goals as goal
+
+pub returns-in_err-zones : goal.returns-in_err-zones
+returns-in_err-zones g c =
+    let p = err_from_is_err_and c.from_residual.result c.from_residual.ensures.1 in
+    let (bytes, held, refused) = c.in_err-zones.ensures.refused in
+    rw (p.1, p.2) (bytes, held, inr (refused, (refl, refl), (Keeps-refl _, refl)))
+
+pub returns : goal.returns
+returns g c =
+    let (bytes, held, listed, gives, same, zones) = c.in_ok-zones.ensures.zones in
+    let items = c.in_ok-zones.zones.items in
+    let back = IsPermutation-sym listed items same in
+    let any = c.zones_are_lawful.ensures.in_any_order in
+    let input = source_use g.R.Source.left g.R.Source.has_failed c.args.input.now c.answer_counts.new.input in
+    let out = sink_use g.W.Sink.taken g.W.Sink.has_failed c.args.out.now c.answer_counts.new.out in
+    let alike = counts_alike items listed (any.number items listed zones.apart zones.valid back) (λ x. any.covered items listed x back) in
+    let ends = rw c.deref.ensures.value at c.answer_counts.ensures in
+    (bytes, held, inl (listed, gives, subst (λ answer. WritesOfNumberedList answer input c.answer_counts.result out) alike ends))

@@ -1,0 +1,25 @@
+use Rattle.std.proofs.Common.{refl, inl, inr, subst}
+use Rattle.std.proofs.KnownBytes.{Keeps-refl}
+use Rattle.std.proofs.lemmas.Result.{err_from_is_err_and}
+use Rattle.std.proofs.lemmas.List.Sorted.{IsPermutation-sym}
+use Rattle.h3_lines.specs.EachLine.{EndsEach}
+use Rattle.h3_lines.specs.Writing.{sink_use}
+use Rattle.h3_command.proofs.Combined.{zones_alike}
+use Rattle.h3_command.proofs.files.cells_to_zones.Goals as goal
+
+pub returns-in_err-zones : goal.returns-in_err-zones
+returns-in_err-zones g c =
+    let p = err_from_is_err_and c.from_residual.result c.from_residual.ensures.1 in
+    let (bytes, held, refused) = c.in_err-zones.ensures.refused in
+    rw (p.1, p.2) (bytes, held, inr (refused, (refl, refl), (Keeps-refl _, refl)))
+
+pub returns : goal.returns
+returns g c =
+    let (bytes, held, listed, gives, same, zones) = c.in_ok-zones.ensures.zones in
+    let items = c.in_ok-zones.zones.items in
+    let old = c.args.input.now in
+    let new = c.answer_zones.new.input in
+    let out = sink_use g.W.Sink.taken g.W.Sink.has_failed c.args.out.now c.answer_zones.new.out in
+    let alike = zones_alike items listed (λ x. c.zones_are_lawful.ensures.in_any_order.zone items listed x zones.apart (IsPermutation-sym listed items same)) in
+    let ends = rw c.deref.ensures.value at c.answer_zones.ensures in
+    (bytes, held, inl (listed, gives, subst (λ answer. EndsEach answer (g.R.Source.left old) (g.R.Source.left new) (g.R.Source.has_failed old) (g.R.Source.has_failed new) c.answer_zones.result out) alike ends))

@@ -1,0 +1,29 @@
+-- What is made of the cells of a list and those of a file. Private contracts and proofs alone cite this file.
+use Rattle.std.specs.Prelude.{ℕ, List, Option}
+use Rattle.h3_index.specs.Cell.{Address}
+use Rattle.h3_lines.specs.declared.refusal.CellFile.{CellFile}
+use Rattle.h3_lines.specs.declared.refusal.Refusal.{Refusal}
+use Rattle.h3_lines.specs.declared.refusal.Refusal.TheVariants.{At, FileAt}
+use Rattle.h3_lines.specs.Answer.{Answer, cell_lines, printed, truth_line, written}
+use Rattle.h3_regions.specs.Algebra.{difference, intersection}
+use Rattle.h3_command.specs.Files.{is_covered_cell}
+use Rattle.h3_command.specs.declared.files.Combination.{Combination}
+use Rattle.h3_command.specs.declared.files.Combination.TheVariants.{Left, Shared}
+
+-- what both cover, or what the list covers and the file does not
+abbrev pub combined : Combination → List Address → List Address → List Address
+combined Shared file cells = intersection cells file
+combined Left file cells = difference cells file
+
+-- the lines of that
+abbrev pub combined_answer : Combination → List Address → List Address → Answer
+combined_answer kind file cells = written (cell_lines (combined kind file cells))
+
+-- the refusal of a list, told as that of a file
+abbrev pub told_of : CellFile → Refusal → Refusal
+told_of file (At line e) = FileAt file line e
+told_of file r = r
+
+-- whether a region covers the cell with an index
+abbrev pub region_answer : List Address → Option ℕ → Answer
+region_answer region index = printed truth_line (is_covered_cell region index)

@@ -1,0 +1,88 @@
+-- Files of cells that commands are answered over: how a file is judged, and the answers about the cells of one.
+use Rattle.std.specs.Prelude.{ℕ, Bool, List, [], ◌∷◌, ◌++◌, map, Option, None, Some, Result, Ok, Err}
+use Rattle.std.specs.List.{flat_map}
+use Rattle.h3_index.specs.Cell.{Address}
+use Rattle.h3_index.specs.declared.error.H3Error.{H3Error}
+use Rattle.h3_set.specs.Compacted.{compacted}
+use Rattle.h3_set.specs.Coverage.{is_covered}
+use Rattle.h3_set.specs.Refusals.{compaction_refusal}
+use Rattle.h3_regions.specs.Algebra.{difference, intersection}
+use Rattle.h3_regions.specs.Counts.{count_in, count_outside}
+use Rattle.h3_regions.specs.Zones.{by_number, zone_of}
+use Rattle.h3_functions.specs.Inspection.{cell_from, for_value}
+use Rattle.h3_lines.specs.Answer.{Answer, cell_lines, count_line, printed, truth_line, written, zone_line}
+use Rattle.h3_lines.specs.List.{listed_cells}
+use Rattle.h3_lines.specs.Numbered.{faulty_line}
+use Rattle.h3_lines.specs.declared.refusal.CellFile.{CellFile}
+use Rattle.h3_lines.specs.declared.refusal.CellFile.TheVariants.{Region, Zones}
+use Rattle.h3_lines.specs.declared.refusal.Refusal.{Refusal}
+use Rattle.h3_lines.specs.declared.refusal.Refusal.TheVariants.{File, FileAt}
+
+-- ---- how a file is judged
+
+-- the error of the cells of a file as a whole: the cells of a region may repeat and overlap, zones may not
+abbrev pub file_error : CellFile → List Address → Option H3Error
+file_error Region cells = None
+file_error Zones cells = compaction_refusal cells
+
+-- the cells, or their error as a whole
+abbrev pub unless_error : CellFile → Option H3Error → List Address → Result (List Address) Refusal
+unless_error file None cells = Ok cells
+unless_error file (Some e) cells = Err (File file e)
+
+-- the cells of a list, where they have no error as a whole; that of its first faulty line is told with this number
+abbrev pub judged_cells : CellFile → ℕ → Result (List Address) H3Error → Result (List Address) Refusal
+judged_cells file line (Ok cells) = unless_error file (file_error file cells) cells
+judged_cells file line (Err e) = Err (FileAt file line e)
+
+-- file_cells file bytes: the cells in the bytes of a file, or why it is refused: for its first faulty line, and else for its
+-- cells as a whole
+abbrev pub file_cells : CellFile → List ℕ → Result (List Address) Refusal
+file_cells file bytes = judged_cells file (faulty_line bytes) (listed_cells bytes)
+
+-- unless_refused about cells: the answer about the cells of a file; where it is refused, that refusal and no output
+abbrev pub unless_refused : (List Address → Answer) → Result (List Address) Refusal → Answer
+unless_refused about (Ok cells) = about cells
+unless_refused about (Err r) = record { output = []; ending = Err r }
+
+-- ---- the cells of a list and those of a file
+
+-- shared_answer file cells: the lines of what a list and a file of cells both cover
+abbrev pub shared_answer : List Address → List Address → Answer
+shared_answer file cells = written (cell_lines (intersection cells file))
+
+-- left_answer file cells: the lines of what a list covers and a file of cells does not
+abbrev pub left_answer : List Address → List Address → Answer
+left_answer file cells = written (cell_lines (difference cells file))
+
+-- ---- one cell and those of a file
+
+-- whether a region covers the cell with an index
+abbrev pub is_covered_cell : List Address → Option ℕ → Result Bool H3Error
+is_covered_cell region index = for_value (λ c. Ok (is_covered region c)) (cell_from index)
+
+-- covered_answer file index: the line that says whether the region of a file's cells covers the cell with an index, or the
+-- error where there is no such cell
+abbrev pub covered_answer : List Address → Option ℕ → Answer
+covered_answer file index = printed truth_line (is_covered_cell (compacted file) index)
+
+-- the zone of the cell with an index, if it has one
+abbrev pub cell_to_zone : List Address → Option ℕ → Result (Option Address) H3Error
+cell_to_zone zones index = for_value (λ c. Ok (zone_of zones c)) (cell_from index)
+
+-- zone_answer zones index: the line of the zone of the cell with an index, `0` where it has none, or the error where there is
+-- no such cell
+abbrev pub zone_answer : List Address → Option ℕ → Answer
+zone_answer zones index = printed zone_line (cell_to_zone zones index)
+
+-- ---- counts
+
+-- each zone with how many places of the list have it as their zone
+abbrev pub zone_counts : List Address → List Address → List (Option Address × ℕ)
+zone_counts zones cells = map (λ zone. (Some zone, count_in zone cells)) zones
+
+-- counts_answer zones cells: a line for each zone, in ascending order, with how many places of the list have it as their
+-- zone, and then one with how many have none: so each place of the list is counted once
+abbrev pub counts_answer : List Address → List Address → Answer
+counts_answer zones cells =
+    written (flat_map count_line (zone_counts (by_number zones) cells ++ (None, count_outside zones cells) ∷ []))

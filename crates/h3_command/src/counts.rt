@@ -1,0 +1,160 @@
+//! How many cells of a list lie in each zone of a file.
+
+ghost use Rattle.std.proofs.Common.{◌∙◌, refl};
+ghost use Rattle.std.specs.Prelude.{◌≡◌, ◌++◌, ◌+◌, ◌∷◌, [], ℕ, List, length, sum, Contains, None, IfOk, IfErr};
+ghost use Rattle.h3_index.specs.Cell.{Address};
+ghost use Rattle.h3_regions.specs.Counts.{AreCounts, count_outside};
+ghost use Rattle.h3_regions.specs.Zones.{IsZones, by_number};
+ghost use Rattle.std.specs.List.{flat_map};
+ghost use Rattle.h3_lines.specs.Answer.{count_line, written};
+ghost use Rattle.h3_lines.specs.Writing.{Writes, sink_use};
+ghost use Rattle.h3_lines.specs.declared.refusal.CellFile.TheVariants as kind_of_file;
+ghost use Rattle.h3_lines.specs.declared.refusal.Refusal.TheVariants.{Memory};
+ghost use Rattle.h3_command.specs.Files.{counts_answer, zone_counts};
+ghost use Rattle.h3_command.specs.Run.{EndsOverFile, WritesOfNumberedList, source_use};
+ghost use Rattle.h3_command.specs.Tallying.{CountsMore, counts_none, counts_then};
+
+use crate::files::{copied, read_zones};
+use h3_index::{Cell, Sink, Source};
+use h3_lines::{CellTaker, Refusal, take_cells, write_lines};
+use h3_regions::laws::zones_are_lawful;
+use h3_regions::{Zones, count_next, count_of, order_by_number};
+use std::alloc::Global;
+
+/// Zones with their counts, of those of all zones, in the order given. `Refusal::Memory` where there
+/// is none for them.
+fn with_counts(
+    alloc: Global,
+    zones: &Zones,
+    counts: &[u64],
+    ordered: &[Cell],
+) -> Result<Vec<(Option<Cell>, u64)>, Refusal>
+    requires size { length counts.now ≡ length zones.now }
+    requires members { (z : Address) → Contains ordered.now z → Contains zones.now z }
+    ensures ok { IfOk result (λ lines. (cells : List Address) (others : ℕ)
+        → AreCounts zones.now cells counts.now others
+        → lines.items ≡ zone_counts ordered.now cells) }
+    ensures err { IfErr result (λ e. e ≡ Memory) }
+{
+    let mut lines = Vec::with_capacity(alloc, ordered.len()).map_err(|_| Refusal::Memory)?;
+    for zone in ordered {
+        let count = count_of(zones, counts, *zone);
+        lines
+            .push((Some(*zone), count))
+            .map_err(|_| Refusal::Memory)?;
+    }
+    Ok(lines)
+}
+
+/// The zones in ascending order with their counts, and then no zone with the number of others.
+/// `Refusal::Memory` where there is none for them.
+fn count_lines(
+    alloc: Global,
+    zones: &[Cell],
+    counts: &[u64],
+    others: u64,
+) -> Result<Vec<(Option<Cell>, u64)>, Refusal>
+    requires zones { IsZones zones.now }
+    requires size { length counts.now ≡ length zones.now }
+    ensures ok { IfOk result (λ lines. (cells : List Address)
+        → AreCounts zones.now cells counts.now others
+        → lines.items ≡ zone_counts (by_number zones.now) cells
+        ++ (None, count_outside zones.now cells) ∷ []) }
+    ensures err { IfErr result (λ e. e ≡ Memory) }
+{
+    let mut ordered = copied(alloc, zones)?;
+    order_by_number(&mut ordered);
+    let mut lines = with_counts(alloc, &Zones::over(zones), counts, &ordered)?;
+    lines.push((None, others)).map_err(|_| Refusal::Memory)?;
+    Ok(lines)
+}
+
+/// How many of the cells taken so far lie in each zone, and how many in none.
+#[derive(Drop)]
+struct Tally<'z> {
+    zones: Zones<'z>,
+    counts: Vec<u64>,
+    others: u64,
+    place: usize,
+    ghost size: { length counts.items ≡ length zones },
+}
+
+impl<'z> CellTaker for Tally<'z> {
+    ghost count = { λ t. sum t.counts.items + t.others };
+
+    ghost taken = { λ t cells u. (u.zones ≡ t.zones) ×
+        CountsMore t.zones t.counts.items t.others cells u.counts.items u.others };
+
+    #[inline(always)]
+    fn take(&mut self, cell: Cell) -> Result<(), Refusal> {
+        self.others = count_next(
+            &self.zones,
+            cell,
+            &mut self.counts,
+            self.others,
+            &mut self.place,
+        );
+        Ok(())
+    }
+
+    ghost none_taken = { λ t. (refl, counts_none t.zones t.counts.items t.others) };
+
+    ghost taken_then = { λ t u v xs ys p q. (
+      q.0 ∙ p.0,
+      counts_then t.zones u.zones _ _ _ _ _ _ xs ys p.0 p.1 q.1,
+    ) };
+}
+
+/// Writes lines of counts.
+fn write_counts<W: Sink>(lines: &[(Option<Cell>, u64)], out: &mut W) -> Result<(), Refusal>
+    ensures { Writes (written (flat_map count_line lines.now)) result
+        (sink_use W.taken W.has_failed out.old out.new) }
+{
+    write_lines(out, lines.iter().copied())
+}
+
+/// Writes how many of the cells listed on the input lie in each of zones in order, and how many in
+/// none.
+fn answer_counts<R: Source, W: Sink>(
+    alloc: Global,
+    zones: &[Cell],
+    input: &mut R,
+    out: &mut W,
+) -> Result<(), Refusal>
+    requires { IsZones zones.now }
+    ensures { WritesOfNumberedList (counts_answer zones.now)
+        (source_use R.left R.has_failed input.old input.new) result
+        (sink_use W.taken W.has_failed out.old out.new) }
+{
+    zones_are_lawful();
+    let counts = vec![in alloc; 0u64; zones.len()].map_err(|_| Refusal::Memory)?;
+    let tally = Tally {
+        zones: Zones::over(zones),
+        counts,
+        others: 0,
+        place: 0,
+    };
+    let tally = take_cells(alloc, tally, input)?;
+    let lines = count_lines(alloc, zones, &tally.counts, tally.others)?;
+    write_counts(&lines, out)
+}
+
+/// Writes how many of the cells listed on the input lie in each zone of a file, and how many in none.
+pub(crate) fn count_cells_in_zones<R: Source, T: Source, W: Sink>(
+    alloc: Global,
+    input: &mut R,
+    file: &mut T,
+    out: &mut W,
+) -> Result<(), Refusal>
+    ensures { EndsOverFile kind_of_file.Zones
+        (λ zones. WritesOfNumberedList (counts_answer zones)
+        (source_use R.left R.has_failed input.old input.new) result
+        (sink_use W.taken W.has_failed out.old out.new))
+        (source_use R.left R.has_failed input.old input.new)
+        (source_use T.left T.has_failed file.old file.new) result
+        (sink_use W.taken W.has_failed out.old out.new) }
+{
+    zones_are_lawful();
+    let zones = read_zones(alloc, file)?;
+    answer_counts(alloc, &zones, input, out)
+}

@@ -1,0 +1,309 @@
+//! Lines that ask for help or the version, and what help says.
+
+use crate::refused_words::is_invalid;
+use crate::words::read;
+use h3_words::{Words, WordsFault};
+use std::alloc::Global;
+
+/// Whether a line asks for help.
+fn asks_for_help(alloc: Global, line: &str) -> bool {
+    matches!(read(alloc, line), Err(WordsFault::Help(_)))
+}
+
+/// Lines that ask for help.
+static HELP: [&str; 29] = [
+    "h3 --help",
+    "h3 -h",
+    "h3 isValidCell --help",
+    "h3 isValidCell -c 0 -h",
+    "h3 getNumCells --help",
+    "h3 getRes0Cells --help",
+    "h3 cellToParent --help",
+    "h3 childPosToCell --help",
+    "h3 compactCells --help",
+    "h3 uncompactCells -r 6 --help",
+    "h3 uniteCells --help",
+    "h3 intersectCells --help",
+    "h3 subtractCells --region r -h",
+    "h3 areCoveredCells -h",
+    "h3 cellsToZones --zones z --help",
+    "h3 countCellsInZones --help",
+    "h3 gridDiskUnsafe --help",
+    "h3 gridDiskDistancesUnsafe -k 1 --help",
+    "h3 gridRingUnsafe -h",
+    "h3 areNeighborCells --help",
+    "h3 cellsToDirectedEdge -c 0 --help",
+    "h3 isValidDirectedEdge --help",
+    "h3 getDirectedEdgeOrigin -h",
+    "h3 getDirectedEdgeDestination --edge 0 --help",
+    "h3 originToDirectedEdges --help",
+    "h3 areValidCells --help",
+    "h3 cellsToParents -h",
+    "h3 cellsToChildPositions -r 0 --help",
+    "h3 originsToDirectedEdges --help",
+];
+
+#[test]
+fn helps(rt: HostRuntime) {
+    for line in &HELP {
+        assert!(&rt; asks_for_help(rt.alloc(), line), "{line}");
+    }
+}
+
+/// Whether a line asks for the version.
+fn asks_for_version(alloc: Global, line: &str) -> bool {
+    matches!(read(alloc, line), Err(WordsFault::Version))
+}
+
+/// Lines that ask for the version.
+static VERSION: [&str; 6] = [
+    "h3 --version",
+    "h3 -V",
+    "h3 --version --help",
+    "h3 -V isValidCell",
+    "h3 --version isValidCell -c 85283473fffffff",
+    "another --version",
+];
+
+#[test]
+fn is_asked_for_the_version(rt: HostRuntime) {
+    for line in &VERSION {
+        assert!(&rt; asks_for_version(rt.alloc(), line), "{line}");
+    }
+}
+
+/// Lines that do not ask for the version, and are invalid.
+static NO_VERSION: [&str; 9] = [
+    "h3 -v",
+    "h3 --Version",
+    "h3 --versio",
+    "h3 --version=1",
+    "h3 -VV",
+    "h3 version",
+    "h3 isValidCell -V",
+    "h3 isValidCell --version -c 85283473fffffff",
+    "h3 getRes0Cells --version",
+];
+
+#[test]
+fn refuses_the_version_elsewhere(rt: HostRuntime) {
+    for line in &NO_VERSION {
+        assert!(&rt; is_invalid(rt.alloc(), line), "{line}");
+    }
+    assert!(&rt; asks_for_help(rt.alloc(), "h3 --help --version"));
+    assert!(&rt; is_invalid(rt.alloc(), "--version"));
+}
+
+/// The words that name the commands.
+static COMMAND_WORDS: [&str; 43] = [
+    "isValidCell",
+    "getResolution",
+    "getBaseCellNumber",
+    "isPentagon",
+    "isResClassIII",
+    "getNumCells",
+    "getRes0Cells",
+    "getPentagons",
+    "cellToParent",
+    "cellToCenterChild",
+    "cellToChildren",
+    "cellToChildrenSize",
+    "cellToChildPos",
+    "childPosToCell",
+    "compactCells",
+    "uncompactCells",
+    "uniteCells",
+    "intersectCells",
+    "subtractCells",
+    "areCoveredCells",
+    "cellsToZones",
+    "countCellsInZones",
+    "gridDiskUnsafe",
+    "gridDiskDistancesUnsafe",
+    "gridRingUnsafe",
+    "areNeighborCells",
+    "cellsToDirectedEdge",
+    "isValidDirectedEdge",
+    "getDirectedEdgeOrigin",
+    "getDirectedEdgeDestination",
+    "originToDirectedEdges",
+    "areValidCells",
+    "areValidDirectedEdges",
+    "getResolutions",
+    "getBaseCellNumbers",
+    "arePentagons",
+    "areResClassIII",
+    "cellsToParents",
+    "cellsToCenterChildren",
+    "cellsToChildrenSizes",
+    "cellsToChildPositions",
+    "getDirectedEdgeOrigins",
+    "originsToDirectedEdges",
+];
+
+/// Whether a line of a text begins with a word.
+fn lists(text: &str, word: &str) -> bool {
+    for line in text.lines() {
+        if line.split_whitespace().next() == Some(word) {
+            return true;
+        }
+    }
+    false
+}
+
+/// Whether words ask for help, and its text lists a command.
+fn help_lists(parsed: &Result<Words, WordsFault>, word: &str) -> bool {
+    match parsed {
+        Err(WordsFault::Help(text)) => lists(text.as_str(), word),
+        _ => false,
+    }
+}
+
+#[test]
+fn help_lists_the_commands(rt: HostRuntime) {
+    let parsed = read(rt.alloc(), "h3 --help");
+    for word in &COMMAND_WORDS {
+        assert!(&rt; help_lists(&parsed, word), "{word}");
+    }
+}
+
+/// The groups of commands in help.
+static GROUPS: [&str; 5] = [
+    "Cells:",
+    "Hierarchy:",
+    "Over a table of base cells:",
+    "Directed edges:",
+    "Lists on standard input, one index a line:",
+];
+
+/// Whether no line of a text is longer than 80 bytes.
+fn is_narrow(text: &str) -> bool {
+    text.lines().all(|line| line.len() <= 80)
+}
+
+/// Whether no line of a text is longer than 80 bytes, and each group begins with a line of its own.
+fn is_grouped(text: &str) -> bool {
+    is_narrow(text)
+        && GROUPS
+            .iter()
+            .all(|group| text.lines().any(|line| line == *group))
+}
+
+#[test]
+fn help_groups_the_commands(rt: HostRuntime) {
+    match read(rt.alloc(), "h3 --help") {
+        Err(WordsFault::Help(text)) => assert!(&rt; is_grouped(text.as_str())),
+        _ => assert!(&rt; false),
+    }
+}
+
+/// Lines that ask for help of a command over a region or zones, and what it says of the file.
+static FILE_HELP: [(&str, &str); 5] = [
+    (
+        "h3 intersectCells --help",
+        "region: line 2: error 5: E_CELL_INVALID",
+    ),
+    ("h3 subtractCells --help", "region: open, status 3"),
+    ("h3 areCoveredCells --help", "--region <region>"),
+    (
+        "h3 cellsToZones --help",
+        "zones: error 10: E_DUPLICATE_INPUT",
+    ),
+    ("h3 countCellsInZones --help", "zones: open, status 3"),
+];
+
+/// Whether a line asks for help that has a text, in lines of at most 80 bytes.
+fn narrow_help_says(alloc: Global, line: &str, said: &str) -> bool {
+    match read(alloc, line) {
+        Err(WordsFault::Help(text)) => is_narrow(text.as_str()) && text.contains(said),
+        _ => false,
+    }
+}
+
+#[test]
+fn help_says_what_a_file_may_be_refused_for(rt: HostRuntime) {
+    for (line, said) in &FILE_HELP {
+        assert!(&rt; narrow_help_says(rt.alloc(), line, said), "{line}");
+    }
+}
+
+/// How a list is given to each command that reads one.
+static LIST_USAGES: [(&str, &str); 20] = [
+    ("h3 compactCells -h", "Usage: h3 compactCells < cells\n"),
+    (
+        "h3 uncompactCells -h",
+        "Usage: h3 uncompactCells --resolution <resolution> < cells\n",
+    ),
+    ("h3 uniteCells -h", "Usage: h3 uniteCells < cells\n"),
+    (
+        "h3 intersectCells -h",
+        "Usage: h3 intersectCells --region <region> < cells\n",
+    ),
+    (
+        "h3 subtractCells -h",
+        "Usage: h3 subtractCells --region <region> < cells\n",
+    ),
+    (
+        "h3 areCoveredCells -h",
+        "Usage: h3 areCoveredCells --region <region> < cells\n",
+    ),
+    (
+        "h3 cellsToZones -h",
+        "Usage: h3 cellsToZones --zones <zones> < cells\n",
+    ),
+    (
+        "h3 countCellsInZones -h",
+        "Usage: h3 countCellsInZones --zones <zones> < cells\n",
+    ),
+    ("h3 areValidCells -h", "Usage: h3 areValidCells < cells\n"),
+    (
+        "h3 areValidDirectedEdges -h",
+        "Usage: h3 areValidDirectedEdges < edges\n",
+    ),
+    ("h3 getResolutions -h", "Usage: h3 getResolutions < cells\n"),
+    (
+        "h3 getBaseCellNumbers -h",
+        "Usage: h3 getBaseCellNumbers < cells\n",
+    ),
+    ("h3 arePentagons -h", "Usage: h3 arePentagons < cells\n"),
+    ("h3 areResClassIII -h", "Usage: h3 areResClassIII < cells\n"),
+    (
+        "h3 cellsToParents -h",
+        "Usage: h3 cellsToParents --resolution <resolution> < cells\n",
+    ),
+    (
+        "h3 cellsToCenterChildren -h",
+        "Usage: h3 cellsToCenterChildren --resolution <resolution> < cells\n",
+    ),
+    (
+        "h3 cellsToChildrenSizes -h",
+        "Usage: h3 cellsToChildrenSizes --resolution <resolution> < cells\n",
+    ),
+    (
+        "h3 cellsToChildPositions -h",
+        "Usage: h3 cellsToChildPositions --resolution <resolution> < cells\n",
+    ),
+    (
+        "h3 getDirectedEdgeOrigins -h",
+        "Usage: h3 getDirectedEdgeOrigins < edges\n",
+    ),
+    (
+        "h3 originsToDirectedEdges -h",
+        "Usage: h3 originsToDirectedEdges < cells\n",
+    ),
+];
+
+/// Whether a line asks for help that has a text.
+fn help_says(alloc: Global, line: &str, said: &str) -> bool {
+    match read(alloc, line) {
+        Err(WordsFault::Help(text)) => text.contains(said),
+        _ => false,
+    }
+}
+
+#[test]
+fn help_says_how_a_list_is_given(rt: HostRuntime) {
+    for (line, said) in &LIST_USAGES {
+        assert!(&rt; help_says(rt.alloc(), line, said), "{line}");
+    }
+}
