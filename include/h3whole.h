@@ -1,4 +1,5 @@
-/* The whole-number functions of H3 version 4: cells, their hierarchy, compaction and directed edges.
+/* The whole-number functions of H3 version 4: cells, their hierarchy, compaction, regions and zones, and directed
+ * edges.
  *
  * The library, libh3whole, is compiled from proved code: docs/PROVED.md says of each function what its
  * contract promises. Nothing checks a C caller against it, so what this page asks of the caller counts.
@@ -14,9 +15,9 @@
  * Memory. An array is passed as its first element and its length. Each pointer points to that many elements
  * (an `int64_t *out` or the like: to one), also where there are none: it is never null. What a function writes
  * to overlaps nothing else that it has been passed. Where an array is too short for what is to be written,
- * the error is E_MEMORY_BOUNDS. No function keeps what it has been passed. compactCells, uncompactCells and
- * readTable alone take memory, by malloc, and free it before they return: E_MEMORY_ALLOC, or H3W_TABLE_MEMORY, where
- * they get none.
+ * the error is E_MEMORY_BOUNDS. No function keeps what it has been passed. compactCells, uncompactCells,
+ * uniteCells, intersectCells, subtractCells, zones and readTable alone take memory, by malloc, and free it before they
+ * return: E_MEMORY_ALLOC, or H3W_TABLE_MEMORY, where they get none.
  *
  * Threads. Each function may be called from any number of threads at once: the library has no variable that
  * changes. Two calls at once may read the same memory, and may not write to the same.
@@ -30,7 +31,7 @@
 #include <string.h>
 
 /* The version of this page. h3w_version returns that of the library which runs. */
-#define H3WHOLE_VERSION "1.1.0"
+#define H3WHOLE_VERSION "1.2.0"
 
 /* H3's own page has the same types and numbers: a program that includes both includes that one first. */
 #ifndef H3API_H
@@ -61,9 +62,9 @@ typedef enum {
 
 /* A base cell table: how the base cells lie beside each other. It is the caller's, on its stack, in a variable or in
  * memory that it has taken; there is nothing in it to free, it may be copied, and read from many threads at once. The
- * bytes of a table are those that h3w_readTable returned, or a copy of them, or all 0, which is as a refused table. With
- * any others the behavior is undefined: memory outside of the table may be read. So a table is not to be kept in a file
- * or taken from one; the file that h3w_readTable reads is. */
+ * bytes of a table are those that h3w_readTable returned, or a copy of them, or all 0, which is as a refused table.
+ * With any others the behavior is undefined: memory outside of the table may be read. So a table is not to be kept in a
+ * file or taken from one; the file that h3w_readTable reads is. */
 typedef struct {
     uint8_t bytes[1465];
 } H3wTable;
@@ -137,7 +138,8 @@ H3Error h3w_cellToCenterChild(H3Index cell, int childRes, H3Index *out);
 H3Error h3w_cellToChildrenSize(H3Index cell, int childRes, int64_t *out);
 
 /* The descendants of a cell at a resolution, ascending: as many as h3w_cellToChildrenSize returns. E_RES_DOMAIN: no
- * resolution, or one coarser than the cell's. E_MEMORY_BOUNDS: room for fewer; then those that have room are written. */
+ * resolution, or one coarser than the cell's. E_MEMORY_BOUNDS: room for fewer; then those that have room are
+ * written. */
 H3Error h3w_cellToChildren(H3Index cell, int childRes, H3Index *out, size_t room);
 
 /* The position of a cell, from 0 on, among the descendants of its ancestor at a resolution. E_RES_DOMAIN: no
@@ -178,11 +180,11 @@ H3Error h3w_originToDirectedEdges(H3Index origin, H3Index *edges);
  * functions over the table that is returned return E_FAILED. */
 H3wTable h3w_readTable(const char *file, size_t n, H3wTableFault *fault);
 
-/* The cells within k steps of a cell, in the order in which they are walked: the cell first, and then ring by ring; they
- * are 3k(k + 1) + 1. E_CELL_INVALID: the index is no cell's. E_DOMAIN: k is below 0. E_PENTAGON: the cell is a pentagon,
- * or k is above 0 and its base cell is one; then nothing is written. While it is walked, whichever comes first:
- * E_MEMORY_BOUNDS: there is no room for the next cell; E_PENTAGON: the step to it meets a pentagon base cell. Then the
- * cells before are written. */
+/* The cells within k steps of a cell, in the order in which they are walked: the cell first, and then ring by ring;
+ * they are 3k(k + 1) + 1. E_CELL_INVALID: the index is no cell's. E_DOMAIN: k is below 0. E_PENTAGON: the cell is a
+ * pentagon, or k is above 0 and its base cell is one; then nothing is written. While it is walked, whichever comes
+ * first: E_MEMORY_BOUNDS: there is no room for the next cell; E_PENTAGON: the step to it meets a pentagon base cell.
+ * Then the cells before are written. */
 H3Error h3w_gridDiskUnsafe(const H3wTable *table, H3Index origin, int k, H3Index *out, size_t room);
 
 /* The same, and at the same place in `distances` the ring of each cell, 0 to k. What has room in both arrays is written
@@ -190,9 +192,9 @@ H3Error h3w_gridDiskUnsafe(const H3wTable *table, H3Index origin, int k, H3Index
 H3Error h3w_gridDiskDistancesUnsafe(const H3wTable *table, H3Index origin, int k, H3Index *out, size_t room,
                                     int *distances, size_t distancesRoom);
 
-/* The cells at k steps from a cell, in the order in which they are walked: 6k, or for k = 0 the cell itself. Errors as of
- * h3w_gridDiskUnsafe; a pentagon is refused for k above 0 alone, and where the ring does not close it is E_PENTAGON after
- * its cells. */
+/* The cells at k steps from a cell, in the order in which they are walked: 6k, or for k = 0 the cell itself. Errors as
+ * of h3w_gridDiskUnsafe; a pentagon is refused for k above 0 alone, and where the ring does not close it is E_PENTAGON
+ * after its cells. */
 H3Error h3w_gridRingUnsafe(const H3wTable *table, H3Index origin, int k, H3Index *out, size_t room);
 
 /* 1 where a step leads from the one cell to the other, else 0. E_CELL_INVALID: an index is no cell's. E_RES_MISMATCH:
@@ -200,8 +202,8 @@ H3Error h3w_gridRingUnsafe(const H3wTable *table, H3Index origin, int k, H3Index
 H3Error h3w_areNeighborCells(const H3wTable *table, H3Index origin, H3Index destination, int *out);
 
 /* The edge from a cell to a neighbor. E_CELL_INVALID: an index is no cell's. E_RES_MISMATCH: their resolutions differ.
- * E_NOT_NEIGHBORS: they are the same. E_PENTAGON: the base cell of one is a pentagon. E_NOT_NEIGHBORS: no step leads from
- * the one to the other. */
+ * E_NOT_NEIGHBORS: they are the same. E_PENTAGON: the base cell of one is a pentagon. E_NOT_NEIGHBORS: no step leads
+ * from the one to the other. */
 H3Error h3w_cellsToDirectedEdge(const H3wTable *table, H3Index origin, H3Index destination, H3Index *out);
 
 /* The cell that an edge leads to. E_DIR_EDGE_INVALID: the index is no edge's. E_PENTAGON: the base cell of the edge's
@@ -221,13 +223,65 @@ H3Error h3w_compactCells(const H3Index *cells, size_t n, H3Index *out, size_t ro
  * E_MEMORY_BOUNDS: room for fewer; then those that have room are written. */
 H3Error h3w_uncompactCells(const H3Index *cells, size_t n, H3Index *out, size_t room, int res);
 
+/* ---- Regions: sets of cells, each given by a list of cells, which may repeat and overlap one another. What is
+ * returned is the least list of cells that covers the same, ascending: the compacted list. */
+
+/* The region of n cells: what they cover. `*count` is how many cells it has, at most n. E_MEMORY_ALLOC: no memory;
+ * it takes 8 bytes for each of the n cells. E_CELL_INVALID: an index is no cell's. E_MEMORY_BOUNDS: room for fewer;
+ * then those that have room are written, and `*count` is how many there are. */
+H3Error h3w_uniteCells(const H3Index *cells, size_t n, H3Index *out, size_t room, size_t *count);
+
+/* The region of what both lists of cells cover. `*count` is how many cells it has, at most n + m. E_MEMORY_ALLOC: no
+ * memory; it takes up to 16 bytes for each cell of both, and 8 for each that is returned. E_CELL_INVALID: an index
+ * is no cell's, of the first list and then of the second. E_MEMORY_BOUNDS as of h3w_uniteCells. */
+H3Error h3w_intersectCells(const H3Index *first, size_t n, const H3Index *second, size_t m, H3Index *out, size_t room,
+                           size_t *count);
+
+/* The region of what the first list of cells covers and the second does not. `*count` is how many cells it has, at
+ * most n + 90 m. Errors as of h3w_intersectCells; it takes up to 16 bytes for each cell of both, and 24 for each
+ * that is returned. */
+H3Error h3w_subtractCells(const H3Index *first, size_t n, const H3Index *second, size_t m, H3Index *out, size_t room,
+                          size_t *count);
+
+/* ---- Zones: cells of which no two overlap, in which other cells are looked up. They are prepared once, by
+ * h3w_zones. The zone of a cell is the one that is the cell or an ancestor of it: a cell whose children are zones
+ * has none. So to look up what a list of cells covers as a whole, prepare the region that h3w_uniteCells returns for
+ * it. */
+
+/* Puts n cells as zones into the first n places of `zones`: the same cells, in an order in which others are looked
+ * up. E_MEMORY_BOUNDS: room for fewer than n. E_MEMORY_ALLOC: no memory; it takes 8 bytes for each of the n cells.
+ * E_CELL_INVALID: an index is no cell's. E_DUPLICATE_INPUT: a cell is there twice, or together with an ancestor of
+ * it. */
+H3Error h3w_zones(const H3Index *cells, size_t n, H3Index *zones, size_t room);
+
+/* Of each function below, the `zoneCount` zones are all that h3w_zones has written for as many cells, or a copy of
+ * it. With any others the behavior is undefined: memory outside of the arrays may be read or written. As of other
+ * arrays, the pointer is not null where there are no zones. None of the functions takes memory. */
+
+/* The zone of each of n cells, and H3_NULL where it has none, also where there is an error. E_CELL_INVALID: an index
+ * is no cell's. `room`, `*at` and E_MEMORY_BOUNDS as of the columns below. */
+H3Error h3w_cellsToZones(const H3Index *zones, size_t zoneCount, const H3Index *cells, size_t n, H3Index *out,
+                         size_t room, size_t *at);
+
+/* 1 where a cell has a zone, else 0, and -1 where there is an error, of each of n cells. Errors, `room` and `*at` as
+ * of h3w_cellsToZones. */
+H3Error h3w_areCoveredCells(const H3Index *zones, size_t zoneCount, const H3Index *cells, size_t n, int *out,
+                            size_t room, size_t *at);
+
+/* Counts n cells by zones: at the place of each zone in counts[0..zoneCount) how many have it, and in `*others` how
+ * many have none. These add up to n, and what is counted of the parts of a list to what is counted of the whole.
+ * E_MEMORY_BOUNDS: `room` is below zoneCount; then nothing is written, `*at` neither. E_CELL_INVALID: an index is no
+ * cell's; then `*at` is the place of the first such, and nothing else is written. On E_SUCCESS `*at` is n. */
+H3Error h3w_countCellsInZones(const H3Index *zones, size_t zoneCount, const H3Index *cells, size_t n, int64_t *counts,
+                              size_t room, int64_t *others, size_t *at);
+
 /* ---- Columns: one call for n indexes. They are named as the plural commands of h3.
  *
  * Of each index the result is written at its place in `out`, and H3_NULL, or -1 where the results are no indexes, where
  * the function of one index returns an error. h3w_arePentagons and h3w_areResClassIII have E_CELL_INVALID and -1 for an
- * index that is no cell's, where the functions of one index return 0. What is returned is the first of these errors, and
- * `*at` is its place; or E_SUCCESS, and `*at` is n. So a column with a few refused indexes is done in one call, and a
- * caller who wants none looks at what is returned. Where `room` is below n it is E_MEMORY_BOUNDS, and nothing is
+ * index that is no cell's, where the functions of one index return 0. What is returned is the first of these errors,
+ * and `*at` is its place; or E_SUCCESS, and `*at` is n. So a column with a few refused indexes is done in one call, and
+ * a caller who wants none looks at what is returned. Where `room` is below n it is E_MEMORY_BOUNDS, and nothing is
  * written. What stands in `out` from n on stays. The functions of one index say what is written, and when there is an
  * error.
  *
@@ -379,8 +433,8 @@ static inline H3Error uncompactCells(const H3Index *cells, const int64_t n, H3In
     return error;
 }
 /* The number of cells that uncompactCells writes. H3_NULL is passed over. E_DOMAIN: n is below 0. Then the first of
- * these: E_CELL_INVALID, E_RES_DOMAIN, E_RES_MISMATCH, as of h3w_uncompactCells; E_MEMORY_BOUNDS: a number of cells that
- * no int64_t holds. */
+ * these: E_CELL_INVALID, E_RES_DOMAIN, E_RES_MISMATCH, as of h3w_uncompactCells; E_MEMORY_BOUNDS: a number of cells
+ * that no int64_t holds. */
 static inline H3Error uncompactCellsSize(const H3Index *cells, const int64_t n, const int res, int64_t *out) {
     int64_t all = 0, size = 0, i;
     H3Error error, first = E_SUCCESS;

@@ -9,7 +9,7 @@
  *     compares what `h3 uncompactCells -r RES` has written for LIST with what each function
  *     returns for the cells and for their descendants
  * answers FUNCTION [RES]
- *     compactCells, uncompactCells, and the functions for columns, an answer a line; an error as
+ *     compactCells, uniteCells, uncompactCells, and the functions for columns, an answer a line; an error as
  *     `error 5: E_CELL_INVALID` */
 #include "h3whole.h"
 #include "check.h"
@@ -112,8 +112,7 @@ static void put_below(List *list, H3Index cell, int levels) {
         if (random_below(60)) put(list, cell);
         return;
     }
-    if (h3w_cellToChildrenSize(cell, res, &size) || h3w_cellToChildren(cell, res, children, 7))
-        exit(7);
+    if (h3w_cellToChildrenSize(cell, res, &size) || h3w_cellToChildren(cell, res, children, 7)) exit(7);
     for (i = 0; i < size; i++) put_below(list, children[i], levels - 1);
 }
 
@@ -152,20 +151,18 @@ static int is_child(H3Index cell, int64_t position, H3Index child, int res) {
            h3w_cellToParent(child, above, &index) == E_SUCCESS && index == cell &&
            h3w_cellToChildPos(child, above, &found) == E_SUCCESS && found == position &&
            h3w_childPosToCell(position, cell, res, &index) == E_SUCCESS && index == child &&
-           h3w_h3ToString(child, text, 17) == E_SUCCESS &&
-           h3w_stringToH3(text, strlen(text), &index) == E_SUCCESS && index == child;
+           h3w_h3ToString(child, text, 17) == E_SUCCESS && h3w_stringToH3(text, strlen(text), &index) == E_SUCCESS &&
+           index == child;
 }
 
 /* Whether a list begins with the descendants of a cell; how many they are. */
-static int begins_with_children(H3Index cell, int res, const H3Index *list, size_t n,
-                                int64_t *size) {
+static int begins_with_children(H3Index cell, int res, const H3Index *list, size_t n, int64_t *size) {
     H3Index center = 0;
     int64_t position = 0;
     *size = 0;
     if (h3w_cellToChildrenSize(cell, res, size) || (uint64_t)*size > n) return 0;
     while (position < *size && is_child(cell, position, list[position], res)) position++;
-    return position == *size && h3w_cellToCenterChild(cell, res, &center) == E_SUCCESS &&
-           center == list[0];
+    return position == *size && h3w_cellToCenterChild(cell, res, &center) == E_SUCCESS && center == list[0];
 }
 
 static int compare(int res, const char *path) {
@@ -176,8 +173,7 @@ static int compare(int res, const char *path) {
     if (!file) return 2;
     cells = read_list(file);
     for (i = 0; i < cells.n; i++) {
-        CHECK(begins_with_children(cells.cells[i], res, descendants.cells + at, descendants.n - at,
-                                   &size));
+        CHECK(begins_with_children(cells.cells[i], res, descendants.cells + at, descendants.n - at, &size));
         at += (size_t)size;
     }
     CHECK(at == descendants.n);
@@ -187,10 +183,12 @@ static int compare(int res, const char *path) {
     return counts();
 }
 
-static int compacted(const List *list) {
+typedef H3Error Region(const H3Index *, size_t, H3Index *, size_t, size_t *);
+
+static int compacted(Region *region, const List *list) {
     H3Index *out = (H3Index *)granted(malloc(list->n * sizeof *out + 1));
     size_t count = 0;
-    H3Error error = h3w_compactCells(list->cells, list->n, out, list->n, &count);
+    H3Error error = region(list->cells, list->n, out, list->n, &count);
     if (!error) print_list(out, count);
     free(out);
     return print_error(error);
@@ -215,8 +213,7 @@ typedef H3Error Numbers(const H3Index *, size_t, int *, size_t, size_t *);
 typedef H3Error Cells(const H3Index *, size_t, int, H3Index *, size_t, size_t *);
 typedef H3Error Counts(const H3Index *, size_t, int, int64_t *, size_t, size_t *);
 
-static H3Error origins(const H3Index *edges, size_t n, int res, H3Index *out, size_t room,
-                       size_t *at) {
+static H3Error origins(const H3Index *edges, size_t n, int res, H3Index *out, size_t room, size_t *at) {
     (void)res;
     return h3w_getDirectedEdgeOrigins(edges, n, out, room, at);
 }
@@ -253,14 +250,10 @@ static size_t column_from(size_t from, size_t which, const List *list, int res) 
                     : columns[which].cells ? columns[which].cells(cells, n, res, out, n, &at)
                                            : columns[which].counts(cells, n, res, sizes, n, &at);
     for (i = 0; i < at; i++) {
-        if (columns[which].cells)
-            print_index(out[i]);
-        else if (columns[which].counts)
-            printf("%" PRId64 "\n", sizes[i]);
-        else if (columns[which].is_truth)
-            puts(numbers[i] ? "true" : "false");
-        else
-            printf("%d\n", numbers[i]);
+        if (columns[which].cells) print_index(out[i]);
+        else if (columns[which].counts) printf("%" PRId64 "\n", sizes[i]);
+        else if (columns[which].is_truth) puts(numbers[i] ? "true" : "false");
+        else printf("%d\n", numbers[i]);
     }
     print_error(error);
     free(out);
@@ -272,10 +265,10 @@ static size_t column_from(size_t from, size_t which, const List *list, int res) 
 static H3Error error_of(const char *name, H3Index index, int res) {
     H3Index cell;
     int64_t count;
-    return !strcmp(name, "cellToParent")          ? h3w_cellToParent(index, res, &cell)
-           : !strcmp(name, "cellToCenterChild")   ? h3w_cellToCenterChild(index, res, &cell)
-           : !strcmp(name, "cellToChildrenSize")  ? h3w_cellToChildrenSize(index, res, &count)
-                                                  : h3w_cellToChildPos(index, res, &count);
+    return !strcmp(name, "cellToParent")         ? h3w_cellToParent(index, res, &cell)
+           : !strcmp(name, "cellToCenterChild")  ? h3w_cellToCenterChild(index, res, &cell)
+           : !strcmp(name, "cellToChildrenSize") ? h3w_cellToChildrenSize(index, res, &count)
+                                                 : h3w_cellToChildPos(index, res, &count);
 }
 
 static int column(const char *name, const List *list, int res) {
@@ -293,12 +286,10 @@ static int column(const char *name, const List *list, int res) {
 static int of_list(int count, char **words) {
     int res = count > 2 ? atoi(words[2]) : 0, status;
     List list = read_list(stdin);
-    if (!strcmp(words[1], "compactCells"))
-        status = compacted(&list);
-    else if (!strcmp(words[1], "uncompactCells"))
-        status = uncompacted(&list, res);
-    else
-        status = column(words[1], &list, res);
+    if (!strcmp(words[1], "compactCells")) status = compacted(h3w_compactCells, &list);
+    else if (!strcmp(words[1], "uniteCells")) status = compacted(h3w_uniteCells, &list);
+    else if (!strcmp(words[1], "uncompactCells")) status = uncompacted(&list, res);
+    else status = column(words[1], &list, res);
     free(list.cells);
     return status;
 }

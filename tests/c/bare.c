@@ -10,17 +10,14 @@ static void of_one_index(void) {
     int64_t number = 0;
     char text[17];
     CHECK(isValidCell(HEXAGON) == 1 && isValidCell(5) == 0 && getResolution(HEXAGON) == 5);
-    CHECK(getBaseCellNumber(HEXAGON) == 20 && isPentagon(HEXAGON) == 0 &&
-          isResClassIII(HEXAGON) == 1);
+    CHECK(getBaseCellNumber(HEXAGON) == 20 && isPentagon(HEXAGON) == 0 && isResClassIII(HEXAGON) == 1);
     CHECK(getNumCells(0, &number) == E_SUCCESS && number == 122);
     CHECK(cellToParent(HEXAGON, 4, &cell) == E_SUCCESS && cell == 0x8428347ffffffffU);
     CHECK(cellToCenterChild(HEXAGON, 15, &cell) == E_SUCCESS && cell == 0x8f2834700000000U);
     CHECK(cellToChildPos(HEXAGON, 0, &number) == E_SUCCESS && number == 2279);
     CHECK(childPosToCell(2279, 0x8029fffffffffffU, 5, &cell) == E_SUCCESS && cell == HEXAGON);
-    CHECK(h3ToString(HEXAGON, text, sizeof text) == E_SUCCESS &&
-          strcmp(text, "85283473fffffff") == 0);
-    CHECK(stringToH3(text, &cell) == E_SUCCESS && cell == HEXAGON &&
-          stringToH3("", &cell) == E_FAILED);
+    CHECK(h3ToString(HEXAGON, text, sizeof text) == E_SUCCESS && strcmp(text, "85283473fffffff") == 0);
+    CHECK(stringToH3(text, &cell) == E_SUCCESS && cell == HEXAGON && stringToH3("", &cell) == E_FAILED);
     CHECK(stringToH3("8009fffffffffff\r\n", &cell) == E_SUCCESS && cell == 0x8009fffffffffffU);
     CHECK(stringToH3("\n", &cell) == E_FAILED && stringToH3("8009\nfff", &cell) == E_FAILED);
     CHECK(isValidDirectedEdge(0x115283473fffffffU) == 1);
@@ -30,15 +27,12 @@ static void of_one_index(void) {
 static void of_several(void) {
     H3Index cells[122], edges[6];
     int64_t number = 0;
-    CHECK(res0CellCount() == 122 && getRes0Cells(cells) == E_SUCCESS &&
-          cells[121] == 0x80f3fffffffffffU);
-    CHECK(pentagonCount() == 12 && getPentagons(0, cells) == E_SUCCESS &&
-          cells[11] == 0x80ebfffffffffffU);
+    CHECK(res0CellCount() == 122 && getRes0Cells(cells) == E_SUCCESS && cells[121] == 0x80f3fffffffffffU);
+    CHECK(pentagonCount() == 12 && getPentagons(0, cells) == E_SUCCESS && cells[11] == 0x80ebfffffffffffU);
     CHECK(getPentagons(16, cells) == E_RES_DOMAIN);
     CHECK(cellToChildrenSize(HEXAGON, 6, &number) == E_SUCCESS && number == 7);
     CHECK(cellToChildren(HEXAGON, 6, cells) == E_SUCCESS && cells[6] == 0x862834737ffffffU);
-    CHECK(cellToChildren(HEXAGON, 4, cells) == E_RES_DOMAIN &&
-          cellToChildren(5, 6, cells) == E_CELL_INVALID);
+    CHECK(cellToChildren(HEXAGON, 4, cells) == E_RES_DOMAIN && cellToChildren(5, 6, cells) == E_CELL_INVALID);
     CHECK(originToDirectedEdges(HEXAGON, edges) == E_SUCCESS && edges[5] == 0x165283473fffffffU);
 }
 
@@ -49,16 +43,12 @@ static void of_lists(void) {
     for (i = 0; i < 7; i++) out[i] = 1;
     CHECK(compactCells(cells, out, 7) == E_SUCCESS && out[0] == HEXAGON);
     for (i = 1; i < 7; i++) CHECK(out[i] == H3_NULL);
-    CHECK(uncompactCells(out, 1, back, 7, 6) == E_SUCCESS &&
-          memcmp(cells, back, sizeof cells) == 0);
+    CHECK(uncompactCells(out, 1, back, 7, 6) == E_SUCCESS && memcmp(cells, back, sizeof cells) == 0);
     CHECK(uncompactCells(out, 1, back, 6, 6) == E_MEMORY_BOUNDS &&
           uncompactCells(out, 1, back, 7, 4) == E_RES_MISMATCH);
-    CHECK(compactCells(NULL, NULL, 0) == E_SUCCESS &&
-          uncompactCells(NULL, 0, NULL, 0, 6) == E_SUCCESS);
-    CHECK(compactCells(cells, out, -1) == E_DOMAIN &&
-          compactCells(cells, out, INT64_MIN) == E_DOMAIN);
-    CHECK(uncompactCells(out, -1, back, 7, 6) == E_DOMAIN &&
-          uncompactCells(out, 1, back, -1, 6) == E_DOMAIN);
+    CHECK(compactCells(NULL, NULL, 0) == E_SUCCESS && uncompactCells(NULL, 0, NULL, 0, 6) == E_SUCCESS);
+    CHECK(compactCells(cells, out, -1) == E_DOMAIN && compactCells(cells, out, INT64_MIN) == E_DOMAIN);
+    CHECK(uncompactCells(out, -1, back, 7, 6) == E_DOMAIN && uncompactCells(out, 1, back, -1, 6) == E_DOMAIN);
     CHECK(uncompactCells(out, 1, NULL, 0, 6) == E_MEMORY_BOUNDS);
     cells[1] = cells[0];
     CHECK(compactCells(cells, out, 7) == E_DUPLICATE_INPUT);
@@ -83,8 +73,7 @@ static void of_padded_lists(void) {
     cells[1] = cells[2];
     CHECK(compactCells(cells, out, 10) == E_DUPLICATE_INPUT);
     cells[1] = 5;
-    CHECK(compactCells(cells, out, 10) == E_CELL_INVALID &&
-          uncompactCells(cells, 10, out, 10, 6) == E_CELL_INVALID);
+    CHECK(compactCells(cells, out, 10) == E_CELL_INVALID && uncompactCells(cells, 10, out, 10, 6) == E_CELL_INVALID);
 }
 
 static void of_sizes(void) {
@@ -119,8 +108,7 @@ static void of_too_many(void) {
     int i;
     if (!cells) exit(2);
     for (i = 0; i <= MOST; i++) cells[i] = 0x8029fffffffffffU;
-    CHECK(uncompactCellsSize(cells, MOST, 15, &size) == E_SUCCESS &&
-          size == (int64_t)MOST * 4747561509943);
+    CHECK(uncompactCellsSize(cells, MOST, 15, &size) == E_SUCCESS && size == (int64_t)MOST * 4747561509943);
     CHECK(uncompactCellsSize(cells, MOST + 1, 15, &size) == E_MEMORY_BOUNDS);
     CHECK(size == (int64_t)MOST * 4747561509943);
     free(cells);

@@ -16,8 +16,7 @@ static H3Index column[N];
 
 /* Cells of all resolutions, pentagons, edges, and numbers of nothing. */
 static void fill(void) {
-    static const H3Index others[] = {
-        0, 5, UINT64_MAX, 0x81087ffffffffffU, 0x115283473fffffffU, 0x11009fffffffffffU};
+    static const H3Index others[] = {0, 5, UINT64_MAX, 0x81087ffffffffffU, 0x115283473fffffffU, 0x11009fffffffffffU};
     uint64_t state = 1;
     int64_t size = 0;
     size_t i;
@@ -29,8 +28,7 @@ static void fill(void) {
             column[i] = others[i / 9 % ROOM(others)];
         } else {
             CHECK(h3w_cellToChildrenSize(base, res, &size) == E_SUCCESS);
-            CHECK(h3w_childPosToCell((int64_t)((state >> 2) % (uint64_t)size), base, res,
-                                     &column[i]) == E_SUCCESS);
+            CHECK(h3w_childPosToCell((int64_t)((state >> 2) % (uint64_t)size), base, res, &column[i]) == E_SUCCESS);
         }
         if (i % 9 == 7) CHECK(h3w_getPentagons(res, column + i, 1) == E_MEMORY_BOUNDS);
         if (i % 9 == 3) column[i] ^= (H3Index)0x3 << 59 | (H3Index)(1 + i % 6) << 56;
@@ -44,9 +42,7 @@ static H3Error first(const H3Error *errors, size_t n, size_t *at) {
     return E_SUCCESS;
 }
 
-static H3Error of_cell(H3Index index) {
-    return h3w_isValidCell(index) ? E_SUCCESS : E_CELL_INVALID;
-}
+static H3Error of_cell(H3Index index) { return h3w_isValidCell(index) ? E_SUCCESS : E_CELL_INVALID; }
 static H3Error of_any(H3Index index) {
     (void)index;
     return E_SUCCESS;
@@ -83,8 +79,7 @@ static void cells(Cells *all, H3Error (*one)(H3Index, int, H3Index *), int res, 
     CHECK(same == n && out[n] == KEPT);
     if (n) {
         at = out[0] = KEPT;
-        CHECK(all(column, n, res, out, n - 1, &at) == E_MEMORY_BOUNDS && at == KEPT &&
-              out[0] == KEPT);
+        CHECK(all(column, n, res, out, n - 1, &at) == E_MEMORY_BOUNDS && at == KEPT && out[0] == KEPT);
     }
     free(out);
 }
@@ -102,8 +97,7 @@ static void sizes(Counts *all, H3Error (*one)(H3Index, int, int64_t *), int res,
     CHECK(same == n && out[n] == KEPT);
     if (n) {
         at = KEPT, out[0] = KEPT;
-        CHECK(all(column, n, res, out, n - 1, &at) == E_MEMORY_BOUNDS && at == KEPT &&
-              out[0] == KEPT);
+        CHECK(all(column, n, res, out, n - 1, &at) == E_MEMORY_BOUNDS && at == KEPT && out[0] == KEPT);
     }
     free(out);
 }
@@ -113,10 +107,66 @@ static H3Error origin(H3Index edge, int res, H3Index *out) {
     (void)res;
     return h3w_getDirectedEdgeOrigin(edge, out);
 }
-static H3Error origins(const H3Index *edges, size_t n, int res, H3Index *out, size_t room,
-                       size_t *at) {
+static H3Error origins(const H3Index *edges, size_t n, int res, H3Index *out, size_t room, size_t *at) {
     (void)res;
     return h3w_getDirectedEdgeOrigins(edges, n, out, room, at);
+}
+
+/* Zones: two base cells, one a pentagon, and six of the children of a third. */
+static H3Index zones[8];
+static size_t zone_count;
+
+static void make_zones(void) {
+    H3Index given[8] = {0x8009fffffffffffU, 0x8029fffffffffffU};
+    CHECK(h3w_cellToChildren(0x802bfffffffffffU, 1, given + 2, 6) == E_MEMORY_BOUNDS);
+    zone_count = ROOM(given);
+    CHECK(h3w_zones(given, zone_count, zones, zone_count) == E_SUCCESS);
+}
+
+/* The zone of a cell, by its parents. */
+static H3Error zone_of(H3Index cell, int res, H3Index *out) {
+    size_t i;
+    H3Index parent = H3_NULL;
+    (void)res;
+    *out = H3_NULL;
+    if (!h3w_isValidCell(cell)) return E_CELL_INVALID;
+    for (i = 0; i < zone_count; i++)
+        if (!h3w_cellToParent(cell, h3w_getResolution(zones[i]), &parent) && parent == zones[i]) *out = zones[i];
+    return E_SUCCESS;
+}
+static H3Error zones_of(const H3Index *indexes, size_t n, int res, H3Index *out, size_t room, size_t *at) {
+    (void)res;
+    return h3w_cellsToZones(zones, zone_count, indexes, n, out, room, at);
+}
+static int is_covered(H3Index cell) {
+    H3Index zone = H3_NULL;
+    return zone_of(cell, 0, &zone) == E_SUCCESS && zone != H3_NULL;
+}
+static H3Error are_covered(const H3Index *indexes, size_t n, int *out, size_t room, size_t *at) {
+    return h3w_areCoveredCells(zones, zone_count, indexes, n, out, room, at);
+}
+
+/* The cells of the column. */
+static H3Index valid[N];
+static size_t valid_count;
+
+/* Counts are written where there is room for one of each zone and no error, and only then. */
+static void counted(const H3Index *indexes, size_t n, size_t room) {
+    int64_t counts[10], others = KEPT, wanted[10], none = 0;
+    size_t at = KEPT, place = 0, i, j;
+    H3Error error;
+    for (i = 0; i < 10; i++) counts[i] = KEPT, wanted[i] = i < zone_count ? 0 : KEPT;
+    for (i = 0; i < n; i++) {
+        H3Index zone = H3_NULL;
+        zone_of(indexes[i], 0, &zone);
+        for (j = 0; j < zone_count; j++) wanted[j] += zones[j] == zone;
+        none += zone == H3_NULL;
+    }
+    while (place < n && h3w_isValidCell(indexes[place])) place++;
+    error = room < zone_count ? E_MEMORY_BOUNDS : place < n ? E_CELL_INVALID : E_SUCCESS;
+    CHECK(h3w_countCellsInZones(zones, zone_count, indexes, n, counts, room, &others, &at) == error);
+    CHECK(at == (error == E_MEMORY_BOUNDS ? KEPT : place) && others == (error ? KEPT : none));
+    for (i = 0; i < 10; i++) CHECK(counts[i] == (error ? KEPT : wanted[i]));
 }
 
 /* A number that is no resolution is judged before any index and the room, and where there are no indexes: nothing is
@@ -142,6 +192,10 @@ int main(void) {
     static const size_t lengths[] = {0, 1, 5, 6, N};
     size_t i, j;
     fill();
+    make_zones();
+    for (i = 0; i < N; i++)
+        if (h3w_isValidCell(column[i])) valid[valid_count++] = column[i];
+    CHECK(valid_count > N / 2 && valid_count < N);
     for (i = 0; i < ROOM(lengths); i++) {
         numbers(h3w_areValidCells, h3w_isValidCell, of_any, lengths[i]);
         numbers(h3w_areValidDirectedEdges, h3w_isValidDirectedEdge, of_any, lengths[i]);
@@ -150,6 +204,12 @@ int main(void) {
         numbers(h3w_arePentagons, h3w_isPentagon, of_cell, lengths[i]);
         numbers(h3w_areResClassIII, h3w_isResClassIII, of_cell, lengths[i]);
         cells(origins, origin, 0, lengths[i]);
+        cells(zones_of, zone_of, 0, lengths[i]);
+        numbers(are_covered, is_covered, of_cell, lengths[i]);
+        for (j = zone_count - 1; j < zone_count + 2; j++) {
+            counted(column, lengths[i], j);
+            counted(valid, lengths[i] < valid_count ? lengths[i] : valid_count, j);
+        }
         for (j = 0; j < ROOM(no_resolutions); j++) no_resolution(no_resolutions[j], lengths[i]);
         for (j = 0; j < ROOM(resolutions); j++) {
             cells(h3w_cellsToParents, h3w_cellToParent, resolutions[j], lengths[i]);

@@ -49,6 +49,19 @@ static H3Error uncompacted(size_t *count) {
     return error;
 }
 
+static H3Error united(size_t *count) { return h3w_uniteCells(cells, 343, out, 343, count); }
+static H3Error intersected(size_t *count) { return h3w_intersectCells(cells, 343, cells + 49, 294, out, 343, count); }
+/* six cells at each of ten resolutions, for which the slots grow */
+static H3Error subtracted(size_t *count) {
+    static const H3Index finest[] = {0x8f2834700000000U};
+    return h3w_subtractCells(&(H3Index){0x85283473fffffffU}, 1, finest, 1, out, 343, count);
+}
+static H3Error prepared(size_t *count) {
+    H3Error error = h3w_zones(cells, 343, out, 343);
+    if (!error) *count = 343;
+    return error;
+}
+
 /* Where all is granted, and with each allocation refused. */
 static void expect(H3Error (*call)(size_t *), size_t wanted) {
     unsigned long allocations;
@@ -74,14 +87,12 @@ static void expect_none(void) {
     char text[17];
     made = 0;
     CHECK(h3w_cellToChildren(0x85283473fffffffU, 8, cells, 343) == E_SUCCESS);
-    CHECK(h3w_cellToParent(cells[5], 0, &index) == E_SUCCESS &&
-          h3w_cellToChildPos(cells[5], 0, &number) == E_SUCCESS);
-    CHECK(h3w_childPosToCell(5, cells[5], 15, &index) == E_SUCCESS &&
-          h3w_h3ToString(index, text, 17) == E_SUCCESS);
-    CHECK(h3w_stringToH3(text, 15, &index) == E_SUCCESS &&
-          h3w_originToDirectedEdges(index, out) == E_SUCCESS);
-    CHECK(h3w_cellsToParents(cells, 343, 5, out, 343, &at) == E_SUCCESS &&
-          h3w_getRes0Cells(out, 122) == E_SUCCESS);
+    CHECK(h3w_cellToParent(cells[5], 0, &index) == E_SUCCESS && h3w_cellToChildPos(cells[5], 0, &number) == E_SUCCESS);
+    CHECK(h3w_childPosToCell(5, cells[5], 15, &index) == E_SUCCESS && h3w_h3ToString(index, text, 17) == E_SUCCESS);
+    CHECK(h3w_stringToH3(text, 15, &index) == E_SUCCESS && h3w_originToDirectedEdges(index, out) == E_SUCCESS);
+    CHECK(h3w_cellsToParents(cells, 343, 5, out, 343, &at) == E_SUCCESS && h3w_getRes0Cells(out, 122) == E_SUCCESS);
+    CHECK(h3w_cellsToZones(&index, 0, cells, 343, out, 343, &at) == E_SUCCESS);
+    CHECK(h3w_countCellsInZones(&index, 0, cells, 343, &number, 0, &number, &at) == E_SUCCESS);
     CHECK(made == 0);
 }
 
@@ -110,11 +121,45 @@ static void expect_table(void) {
     printf("%lu allocations\n", allocations);
 }
 
+/* Zones are prepared with memory, and looked up without. */
+static void expect_lookups(void) {
+    static int truths[343];
+    static int64_t counts[343];
+    int64_t others = KEPT;
+    size_t at = 0;
+    CHECK(h3w_zones(cells, 343, out, 343) == E_SUCCESS && held == 0);
+    made = 0;
+    CHECK(h3w_areCoveredCells(out, 343, cells, 343, truths, 343, &at) == E_SUCCESS && truths[0] == 1);
+    CHECK(h3w_countCellsInZones(out, 343, cells, 343, counts, 343, &others, &at) == E_SUCCESS && others == 0 &&
+          counts[0] == 1 && counts[342] == 1);
+    CHECK(made == 0);
+}
+
+/* What is judged before memory is taken, and what the first list's memory is taken for. */
+static void expect_order(void) {
+    H3Index no_cell = 5;
+    size_t count = KEPT;
+    made = 0, refused = 1;
+    CHECK(h3w_zones(cells, 343, out, 342) == E_MEMORY_BOUNDS && made == 0);
+    made = 0, refused = 2;
+    CHECK(h3w_intersectCells(&no_cell, 1, cells, 343, out, 343, &count) == E_CELL_INVALID);
+    made = 0, refused = 2;
+    CHECK(h3w_subtractCells(&no_cell, 1, cells, 343, out, 343, &count) == E_CELL_INVALID);
+    CHECK(made == 1 && held == 0 && count == KEPT);
+    refused = 0;
+}
+
 int main(void) {
     expect_none();
     expect_table();
     expect(compacted, 1);
     expect(uncompacted, 343);
+    expect(united, 1);
+    expect(intersected, 6);
+    expect(subtracted, 60);
+    expect(prepared, 343);
+    expect_lookups();
+    expect_order();
     /* a list that is refused */
     cells[342] = cells[0];
     CHECK(h3w_compactCells(cells, 343, out, 343, &(size_t){0}) == E_DUPLICATE_INPUT && held == 0);

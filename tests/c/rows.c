@@ -7,16 +7,13 @@
 #define PENTAGON    0x8009fffffffffffU
 #define ROOM(array) (sizeof(array) / sizeof *(array))
 
-static const H3Index children[] = {0x862834707ffffffU, 0x86283470fffffffU, 0x862834717ffffffU,
-                                   0x86283471fffffffU, 0x862834727ffffffU, 0x86283472fffffffU,
-                                   0x862834737ffffffU};
-static const H3Index pentagon_children[] = {0x81083ffffffffffU, 0x8108bffffffffffU,
-                                            0x8108fffffffffffU, 0x81093ffffffffffU,
-                                            0x81097ffffffffffU, 0x8109bffffffffffU};
-static const H3Index pentagons[] = {0x8009fffffffffffU, 0x801dfffffffffffU, 0x8031fffffffffffU,
-                                    0x804dfffffffffffU, 0x8063fffffffffffU, 0x8075fffffffffffU,
-                                    0x807ffffffffffffU, 0x8091fffffffffffU, 0x80a7fffffffffffU,
-                                    0x80c3fffffffffffU, 0x80d7fffffffffffU, 0x80ebfffffffffffU};
+static const H3Index children[] = {0x862834707ffffffU, 0x86283470fffffffU, 0x862834717ffffffU, 0x86283471fffffffU,
+                                   0x862834727ffffffU, 0x86283472fffffffU, 0x862834737ffffffU};
+static const H3Index pentagon_children[] = {0x81083ffffffffffU, 0x8108bffffffffffU, 0x8108fffffffffffU,
+                                            0x81093ffffffffffU, 0x81097ffffffffffU, 0x8109bffffffffffU};
+static const H3Index pentagons[] = {0x8009fffffffffffU, 0x801dfffffffffffU, 0x8031fffffffffffU, 0x804dfffffffffffU,
+                                    0x8063fffffffffffU, 0x8075fffffffffffU, 0x807ffffffffffffU, 0x8091fffffffffffU,
+                                    0x80a7fffffffffffU, 0x80c3fffffffffffU, 0x80d7fffffffffffU, 0x80ebfffffffffffU};
 
 static int are_same(const H3Index *some, const H3Index *others, size_t n) {
     return memcmp(some, others, n * sizeof *some) == 0;
@@ -53,10 +50,8 @@ static void hierarchy(void) {
     CHECK(h3w_cellToParent(HEXAGON, 5, cells) == E_SUCCESS && cells[0] == HEXAGON);
     CHECK(h3w_cellToCenterChild(HEXAGON, 15, cells) == E_SUCCESS && cells[0] == 0x8f2834700000000U);
     CHECK(h3w_cellToChildren(HEXAGON, 6, cells, 7) == E_SUCCESS && are_same(cells, children, 7));
-    CHECK(h3w_cellToChildren(PENTAGON, 1, cells, 6) == E_SUCCESS &&
-          are_same(cells, pentagon_children, 6));
-    CHECK(h3w_cellToChildrenSize(0x8029fffffffffffU, 15, &size) == E_SUCCESS &&
-          size == 4747561509943);
+    CHECK(h3w_cellToChildren(PENTAGON, 1, cells, 6) == E_SUCCESS && are_same(cells, pentagon_children, 6));
+    CHECK(h3w_cellToChildrenSize(0x8029fffffffffffU, 15, &size) == E_SUCCESS && size == 4747561509943);
     CHECK(h3w_cellToChildrenSize(PENTAGON, 15, &size) == E_SUCCESS && size == 3956301258286);
 }
 
@@ -74,8 +69,7 @@ static void texts(void) {
     H3Index index = 7;
     CHECK(h3w_h3ToString(HEXAGON, text, 17) == E_SUCCESS && strcmp(text, "85283473fffffff") == 0);
     CHECK(h3w_h3ToString(0, text, 17) == E_SUCCESS && strcmp(text, "0") == 0);
-    CHECK(h3w_h3ToString(UINT64_MAX, text, 17) == E_SUCCESS &&
-          strcmp(text, "ffffffffffffffff") == 0);
+    CHECK(h3w_h3ToString(UINT64_MAX, text, 17) == E_SUCCESS && strcmp(text, "ffffffffffffffff") == 0);
     CHECK(h3w_stringToH3("0X85283473FFFFFFF", 17, &index) == E_SUCCESS && index == HEXAGON);
     CHECK(h3w_stringToH3("0", 1, &index) == E_SUCCESS && index == 0);
 }
@@ -83,11 +77,9 @@ static void texts(void) {
 static void edges(void) {
     H3Index edges[6] = {1, 1, 1, 1, 1, 1}, origin = 0;
     int i;
-    CHECK(h3w_isValidDirectedEdge(0x115283473fffffffU) == 1 &&
-          h3w_isValidDirectedEdge(HEXAGON) == 0);
+    CHECK(h3w_isValidDirectedEdge(0x115283473fffffffU) == 1 && h3w_isValidDirectedEdge(HEXAGON) == 0);
     CHECK(h3w_isValidDirectedEdge(0x11009fffffffffffU) == 0); /* direction 1 at a pentagon */
-    CHECK(h3w_getDirectedEdgeOrigin(0x115283473fffffffU, &origin) == E_SUCCESS &&
-          origin == HEXAGON);
+    CHECK(h3w_getDirectedEdgeOrigin(0x115283473fffffffU, &origin) == E_SUCCESS && origin == HEXAGON);
     CHECK(h3w_originToDirectedEdges(PENTAGON, edges) == E_SUCCESS && edges[0] == H3_NULL);
     for (i = 1; i < 6; i++) CHECK(edges[i] == 0x11009fffffffffffU + ((H3Index)i << 56));
     CHECK(h3w_originToDirectedEdges(HEXAGON, edges) == E_SUCCESS);
@@ -96,16 +88,13 @@ static void edges(void) {
 
 /* The children at resolution 2 of 8029fffffffffff but the last one. */
 static void compaction_of_all_but_one(void) {
-    static const H3Index wanted[] = {0x81283ffffffffffU, 0x81287ffffffffffU, 0x8128bffffffffffU,
-                                     0x8128fffffffffffU, 0x81293ffffffffffU, 0x81297ffffffffffU,
-                                     0x822987fffffffffU, 0x82298ffffffffffU, 0x822997fffffffffU,
-                                     0x82299ffffffffffU, 0x8229a7fffffffffU, 0x8229affffffffffU};
+    static const H3Index wanted[] = {0x81283ffffffffffU, 0x81287ffffffffffU, 0x8128bffffffffffU, 0x8128fffffffffffU,
+                                     0x81293ffffffffffU, 0x81297ffffffffffU, 0x822987fffffffffU, 0x82298ffffffffffU,
+                                     0x822997fffffffffU, 0x82299ffffffffffU, 0x8229a7fffffffffU, 0x8229affffffffffU};
     H3Index cells[49], out[49];
     size_t count = 0;
-    CHECK(h3w_cellToChildren(0x8029fffffffffffU, 2, cells, 49) == E_SUCCESS &&
-          cells[48] == 0x8229b7fffffffffU);
-    CHECK(h3w_compactCells(cells, 49, out, 49, &count) == E_SUCCESS && count == 1 &&
-          out[0] == 0x8029fffffffffffU);
+    CHECK(h3w_cellToChildren(0x8029fffffffffffU, 2, cells, 49) == E_SUCCESS && cells[48] == 0x8229b7fffffffffU);
+    CHECK(h3w_compactCells(cells, 49, out, 49, &count) == E_SUCCESS && count == 1 && out[0] == 0x8029fffffffffffU);
     CHECK(h3w_compactCells(cells, 48, out, 49, &count) == E_SUCCESS && count == ROOM(wanted));
     CHECK(are_same(out, wanted, ROOM(wanted)));
 }
@@ -114,14 +103,12 @@ static void lists(void) {
     H3Index reversed[7], out[7], two[2] = {PENTAGON, 0x81283ffffffffffU};
     size_t count = 0, i;
     for (i = 0; i < 7; i++) reversed[i] = children[6 - i];
-    CHECK(h3w_compactCells(reversed, 7, out, 7, &count) == E_SUCCESS && count == 1 &&
-          out[0] == HEXAGON);
-    CHECK(h3w_compactCells(pentagon_children, 6, out, 6, &count) == E_SUCCESS && count == 1 &&
-          out[0] == PENTAGON);
+    CHECK(h3w_compactCells(reversed, 7, out, 7, &count) == E_SUCCESS && count == 1 && out[0] == HEXAGON);
+    CHECK(h3w_compactCells(pentagon_children, 6, out, 6, &count) == E_SUCCESS && count == 1 && out[0] == PENTAGON);
     CHECK(h3w_compactCells(pentagon_children, 5, out, 6, &count) == E_SUCCESS && count == 5);
     CHECK(are_same(out, pentagon_children, 5));
-    CHECK(h3w_uncompactCells(two, 2, out, 7, 1) == E_SUCCESS &&
-          are_same(out, pentagon_children, 6) && out[6] == two[1]);
+    CHECK(h3w_uncompactCells(two, 2, out, 7, 1) == E_SUCCESS && are_same(out, pentagon_children, 6) &&
+          out[6] == two[1]);
     compaction_of_all_but_one();
 }
 
@@ -140,6 +127,96 @@ static void columns(void) {
     CHECK(counts[0] == 282475249 && counts[1] == -1 && counts[2] == 3956301258286);
 }
 
+#define PARENT 0x8428347ffffffffU
+
+static const H3Index siblings[] = {
+    0x85283463fffffffU, 0x85283467fffffffU, 0x8528346bfffffffU, 0x8528346ffffffffU, HEXAGON,
+    0x85283477fffffffU, 0x8528347bfffffffU};
+
+static void unions(void) {
+    static const H3Index parts[] = {0x85283463fffffffU, 0x85283467fffffffU, 0x8528346bfffffffU, PARENT,
+                                    0x85283463fffffffU, 0x85283467fffffffU};
+    H3Index twice[14], out[14] = {0};
+    size_t count = 0, i;
+    for (i = 0; i < 14; i++) twice[i] = siblings[i / 2];
+    CHECK(h3w_uniteCells(parts, 6, out, 6, &count) == E_SUCCESS && count == 1 && out[0] == PARENT);
+    CHECK(h3w_uniteCells(twice, 14, out, 14, &count) == E_SUCCESS && count == 1 && out[0] == PARENT);
+    CHECK(h3w_uniteCells(twice, 12, out, 14, &count) == E_SUCCESS && count == 6 && are_same(out, siblings, 6));
+    CHECK(h3w_uniteCells(twice, 0, out, 0, &count) == E_SUCCESS && count == 0);
+}
+
+/* What is left of one cell where another is taken away. */
+static void expect_left(H3Index first, H3Index second, const H3Index *wanted, size_t n) {
+    H3Index out[12] = {0};
+    size_t count = 77;
+    CHECK(h3w_subtractCells(&first, 1, &second, 1, out, 12, &count) == E_SUCCESS && count == n);
+    CHECK(are_same(out, wanted, n) && out[n < 12 ? n : 0] == (n < 12 ? 0 : wanted[0]));
+}
+
+static void differences(void) {
+    static const H3Index others[] = {0x85283463fffffffU, 0x85283467fffffffU, 0x8528346bfffffffU, 0x8528346ffffffffU,
+                                     0x85283477fffffffU, 0x8528347bfffffffU, 0x86283470fffffffU, 0x862834717ffffffU,
+                                     0x86283471fffffffU, 0x862834727ffffffU, 0x86283472fffffffU, 0x862834737ffffffU};
+    static const H3Index of_pentagon[] = {
+        0x8108bffffffffffU, 0x8108fffffffffffU, 0x81093ffffffffffU, 0x81097ffffffffffU, 0x8109bffffffffffU,
+        0x820817fffffffffU, 0x82081ffffffffffU, 0x820827fffffffffU, 0x82082ffffffffffU, 0x820837fffffffffU};
+    static const H3Index two[] = {0x8029fffffffffffU, 0x8f2800000000000U};
+    H3Index out[92] = {0};
+    size_t count = 0;
+    expect_left(PARENT, HEXAGON, others, 6);
+    expect_left(PARENT, 0x862834707ffffffU, others, 12);
+    expect_left(PARENT, PARENT, others, 0);
+    expect_left(HEXAGON, PARENT, others, 0);
+    expect_left(PENTAGON, 0x820807fffffffffU, of_pentagon, 10);
+    /* the most that is left of two cells: six at each resolution from 1 to 15 */
+    CHECK(h3w_subtractCells(two, 1, two + 1, 1, out, 92, &count) == E_SUCCESS && count == 90);
+    CHECK(h3w_getResolution(out[0]) == 1 && h3w_getResolution(out[89]) == 15 && out[90] == 0);
+    out[89] = 0;
+    CHECK(h3w_subtractCells(two, 1, two + 1, 1, out, 89, &count) == E_MEMORY_BOUNDS && count == 90);
+    CHECK(h3w_getResolution(out[88]) == 15 && out[89] == 0);
+}
+
+static void intersections(void) {
+    static const H3Index parent[] = {PARENT}, region[] = {HEXAGON, 0x862834757ffffffU, 0x8528340ffffffffU};
+    H3Index out[10] = {0};
+    size_t count = 0;
+    CHECK(h3w_intersectCells(parent, 1, region, 3, out, 10, &count) == E_SUCCESS && count == 2);
+    CHECK(are_same(out, region, 2) && out[2] == 0);
+    CHECK(h3w_intersectCells(siblings, 7, parent, 1, out, 10, &count) == E_SUCCESS && count == 1);
+    CHECK(out[0] == PARENT);
+    CHECK(h3w_intersectCells(siblings, 7, parent, 0, out, 10, &count) == E_SUCCESS && count == 0);
+}
+
+static void zones(void) {
+    static const H3Index given[] = {HEXAGON, PENTAGON}, column[] = {HEXAGON, 0x862834707ffffffU, PARENT, PENTAGON},
+                         counted[] = {HEXAGON, 0x862834707ffffffU, PARENT, HEXAGON};
+    static const H3Index overlap[] = {PARENT, HEXAGON}, asked[] = {0x85283477fffffffU, 0x8528340ffffffffU};
+    H3Index ready[2] = {0}, out[4], region[7];
+    int covered[4];
+    int64_t counts[2], others = 77;
+    size_t at = 0, count = 0, hexagon;
+    CHECK(h3w_zones(given, 2, ready, 2) == E_SUCCESS);
+    hexagon = ready[0] == HEXAGON ? 0 : 1;
+    CHECK(ready[hexagon] == HEXAGON && ready[1 - hexagon] == PENTAGON);
+    CHECK(h3w_cellsToZones(ready, 2, column, 4, out, 4, &at) == E_SUCCESS && at == 4);
+    CHECK(out[0] == HEXAGON && out[1] == HEXAGON && out[2] == H3_NULL && out[3] == PENTAGON);
+    CHECK(h3w_countCellsInZones(ready, 2, counted, 4, counts, 2, &others, &at) == E_SUCCESS && at == 4);
+    CHECK(counts[hexagon] == 3 && counts[1 - hexagon] == 0 && others == 1);
+    /* zones that overlap; as a region they are looked up */
+    CHECK(h3w_zones(overlap, 2, ready, 2) == E_DUPLICATE_INPUT);
+    CHECK(h3w_uniteCells(overlap, 2, region, 7, &count) == E_SUCCESS &&
+          h3w_zones(region, count, ready, 2) == E_SUCCESS);
+    CHECK(h3w_areCoveredCells(ready, count, asked, 2, covered, 2, &at) == E_SUCCESS && covered[0] == 1 &&
+          covered[1] == 0);
+    /* the parent of seven zones has none; in their region it is one */
+    CHECK(h3w_zones(siblings, 7, region, 7) == E_SUCCESS);
+    CHECK(h3w_areCoveredCells(region, 7, column, 4, covered, 4, &at) == E_SUCCESS && covered[0] == 1 &&
+          covered[1] == 1 && covered[2] == 0 && covered[3] == 0);
+    CHECK(h3w_uniteCells(siblings, 7, region, 7, &count) == E_SUCCESS && count == 1 &&
+          h3w_zones(region, 1, ready, 2) == E_SUCCESS);
+    CHECK(h3w_areCoveredCells(ready, 1, column, 4, covered, 4, &at) == E_SUCCESS && covered[2] == 1);
+}
+
 int main(void) {
     fields();
     resolutions();
@@ -149,5 +226,9 @@ int main(void) {
     edges();
     lists();
     columns();
+    unions();
+    differences();
+    intersections();
+    zones();
     return counts();
 }

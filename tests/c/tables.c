@@ -1,5 +1,5 @@
-/* Base cell tables, and the functions over them: worked examples, refused files, wrong input, too little room, H3's bare
- * names, and a table that many threads share. */
+/* Base cell tables, and the functions over them: worked examples, refused files, wrong input, too little room, H3's
+ * bare names, and a table that many threads share. */
 #define H3WHOLE_BARE_NAMES
 #define H3WHOLE_TABLE base_table
 #include "h3whole.h"
@@ -81,8 +81,7 @@ static H3Error distances(const H3wTable *table, H3Index origin, int k, H3Index *
     h3w_gridDiskDistancesUnsafe(table, origin, k, few, less, rings, room);
     CHECK(rings[room] == -7 && (room == 0 || rings[room - 1] == -7));
     error = h3w_gridDiskDistancesUnsafe(table, origin, k, out, room, rings, room + 1);
-    for (i = 0; i < room && out[i] != KEPT; i++)
-        CHECK(rings[i] == (i == 0 ? 0 : i < 7 ? 1 : 2));
+    for (i = 0; i < room && out[i] != KEPT; i++) CHECK(rings[i] == (i == 0 ? 0 : i < 7 ? 1 : 2));
     CHECK(rings[i] == -7);
     free(few);
     free(rings);
@@ -156,7 +155,8 @@ static void edges(void) {
     CHECK(h3w_cellsToDirectedEdge(&plain, HEXAGON, 0x8428347ffffffffU, &out) == E_RES_MISMATCH);
     CHECK(h3w_cellsToDirectedEdge(&plain, 0x8528340ffffffffU, 0x8528347bfffffffU, &out) == E_NOT_NEIGHBORS);
     CHECK(h3w_getDirectedEdgeDestination(&plain, 0x11021fffffffffffU, &out) == E_PENTAGON && out == KEPT);
-    CHECK(h3w_cellsToDirectedEdge(&plain, HEXAGON, 0x85283477fffffffU, &out) == E_SUCCESS && out == 0x115283473fffffffU);
+    CHECK(h3w_cellsToDirectedEdge(&plain, HEXAGON, 0x85283477fffffffU, &out) == E_SUCCESS &&
+          out == 0x115283473fffffffU);
     CHECK(h3w_getDirectedEdgeDestination(&plain, 0x115283473fffffffU, &out) == E_SUCCESS && out == 0x85283477fffffffU);
 }
 
@@ -230,12 +230,13 @@ static void bare_names(void) {
     int rings[19], is = 0;
     base_table = &plain;
     CHECK(gridDiskUnsafe(NEAR, 2, out) == E_SUCCESS && are_same(out, disk_of_near, 19));
-    CHECK(gridDiskDistancesUnsafe(NEAR, 2, out, rings) == E_SUCCESS && rings[0] == 0 && rings[6] == 1 && rings[7] == 2 &&
-          rings[18] == 2);
+    CHECK(gridDiskDistancesUnsafe(NEAR, 2, out, rings) == E_SUCCESS && rings[0] == 0 && rings[6] == 1 &&
+          rings[7] == 2 && rings[18] == 2);
     CHECK(gridRingUnsafe(HEXAGON, 1, out) == E_SUCCESS && are_same(out, ring_of_hexagon, 6));
     CHECK(gridRingUnsafe(HEXAGON, 0, out) == E_SUCCESS && out[0] == HEXAGON && out[1] == ring_of_hexagon[1]);
     CHECK(gridDiskUnsafe(HEXAGON, -1, out) == E_DOMAIN && gridRingUnsafe(HEXAGON, INT_MIN, out) == E_DOMAIN);
-    CHECK(gridDiskUnsafe(HEXAGON, -1, NULL) == E_DOMAIN && gridDiskDistancesUnsafe(HEXAGON, -1, NULL, NULL) == E_DOMAIN);
+    CHECK(gridDiskUnsafe(HEXAGON, -1, NULL) == E_DOMAIN &&
+          gridDiskDistancesUnsafe(HEXAGON, -1, NULL, NULL) == E_DOMAIN);
     out[18] = 0;
     CHECK(gridDiskDistancesUnsafe(NEAR, 2, out, NULL) == E_SUCCESS && are_same(out, disk_of_near, 19));
     CHECK(areNeighborCells(HEXAGON, 0x85283477fffffffU, &is) == E_SUCCESS && is == 1);

@@ -1,5 +1,5 @@
-/* What the library returns over a base cell table for cells, one on a line of standard input, in the form of the command
- * h3:
+/* What the library returns over a base cell table for cells, one on a line of standard input, in the form of the
+ * command h3:
  *
  * walks table plain|twisted 1|2
  *     writes the file of a table, in format 1 or 2

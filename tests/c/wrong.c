@@ -55,10 +55,8 @@ static int are_kept(const H3Index *places, size_t n) {
 static void expect_of_cell(H3Index cell, int res, H3Error parent, H3Error child) {
     H3Index *out = places(1);
     int64_t number = 77;
-    CHECK(h3w_cellToParent(cell, res, out) == parent &&
-          h3w_cellToChildPos(cell, res, &number) == parent);
-    CHECK(h3w_cellToCenterChild(cell, res, out) == child &&
-          h3w_cellToChildren(cell, res, out, 1) == child);
+    CHECK(h3w_cellToParent(cell, res, out) == parent && h3w_cellToChildPos(cell, res, &number) == parent);
+    CHECK(h3w_cellToCenterChild(cell, res, out) == child && h3w_cellToChildren(cell, res, out, 1) == child);
     CHECK(h3w_cellToChildrenSize(cell, res, &number) == child);
     CHECK(are_kept(out, 1) && number == 77);
     free(out);
@@ -107,8 +105,7 @@ static void resolutions(void) {
     CHECK(h3w_cellToChildrenSize(HEXAGON, 4, &number) == E_RES_DOMAIN);
     CHECK(h3w_childPosToCell(-1, HEXAGON, 4, out) == E_RES_MISMATCH);
     CHECK(h3w_uncompactCells(&cell, 1, out, 12, 4) == E_RES_MISMATCH);
-    CHECK(h3w_childPosToCell(-1, HEXAGON, 5, out) == E_DOMAIN &&
-          h3w_childPosToCell(1, HEXAGON, 5, out) == E_DOMAIN);
+    CHECK(h3w_childPosToCell(-1, HEXAGON, 5, out) == E_DOMAIN && h3w_childPosToCell(1, HEXAGON, 5, out) == E_DOMAIN);
     CHECK(h3w_childPosToCell(41, PENTAGON, 2, out) == E_DOMAIN);
     CHECK(h3w_childPosToCell(INT64_MIN, PENTAGON, 2, out) == E_DOMAIN);
     CHECK(h3w_childPosToCell(INT64_MAX, PENTAGON, 15, out) == E_DOMAIN);
@@ -123,12 +120,8 @@ static const H3Index two[] = {HEXAGON, PENTAGON};
 
 static H3Error bases(H3Index *out, size_t room) { return h3w_getRes0Cells(out, room); }
 static H3Error pentagons(H3Index *out, size_t room) { return h3w_getPentagons(9, out, room); }
-static H3Error children(H3Index *out, size_t room) {
-    return h3w_cellToChildren(PENTAGON, 2, out, room);
-}
-static H3Error uncompacted(H3Index *out, size_t room) {
-    return h3w_uncompactCells(two, 1, out, room, 7);
-}
+static H3Error children(H3Index *out, size_t room) { return h3w_cellToChildren(PENTAGON, 2, out, room); }
+static H3Error uncompacted(H3Index *out, size_t room) { return h3w_uncompactCells(two, 1, out, room, 7); }
 static H3Error compacted(H3Index *out, size_t room) {
     size_t count = 9;
     H3Error error = h3w_compactCells(two, 2, out, room, &count);
@@ -151,17 +144,39 @@ static void expect_written(Written *write, size_t n) {
     free(whole);
 }
 
+static H3Error united(H3Index *out, size_t room) {
+    size_t count = 9;
+    H3Error error = h3w_uniteCells(two, 2, out, room, &count);
+    CHECK(count == 2);
+    return error;
+}
+static H3Error intersected(H3Index *out, size_t room) {
+    size_t count = 9;
+    H3Error error = h3w_intersectCells(two, 2, two, 2, out, room, &count);
+    CHECK(count == 2);
+    return error;
+}
+static H3Error subtracted(H3Index *out, size_t room) {
+    static const H3Index second[] = {0x8f2834700000000U};
+    size_t count = 9;
+    H3Error error = h3w_subtractCells(two, 2, second, 1, out, room, &count);
+    CHECK(count == 61);
+    return error;
+}
+
 static void rooms(void) {
     expect_written(bases, 122);
     expect_written(pentagons, 12);
     expect_written(children, 41);
     expect_written(uncompacted, 49);
     expect_written(compacted, 2);
+    expect_written(united, 2);
+    expect_written(intersected, 2);
+    expect_written(subtracted, 61);
 }
 
 static void lists(void) {
-    static const H3Index twice[] = {HEXAGON, PENTAGON, HEXAGON},
-                         ancestor[] = {HEXAGON, 0x8428347ffffffffU};
+    static const H3Index twice[] = {HEXAGON, PENTAGON, HEXAGON}, ancestor[] = {HEXAGON, 0x8428347ffffffffU};
     H3Index *none = places(0), *out = places(3), last[3] = {HEXAGON, PENTAGON, 5};
     size_t count = 9;
     CHECK(h3w_compactCells(none, 0, none, 0, &count) == E_SUCCESS && count == 0);
@@ -175,6 +190,68 @@ static void lists(void) {
     last[2] = 0x8f2834700000000U;
     CHECK(h3w_uncompactCells(last, 3, out, 3, 14) == E_RES_MISMATCH);
     CHECK(are_kept(out, 3) && count == 9);
+    free(out);
+    free(none);
+}
+
+/* Regions: cells may repeat and overlap, and each index has to be a cell's. */
+static void regions(void) {
+    static const H3Index overlap[] = {HEXAGON, 0x8428347ffffffffU, HEXAGON};
+    H3Index *none = places(0), *out = places(3), one;
+    size_t count = 9, i;
+    for (i = 0; i < ROOM(no_cells); i++) {
+        one = no_cells[i];
+        CHECK(h3w_uniteCells(&one, 1, out, 3, &count) == E_CELL_INVALID);
+        CHECK(h3w_intersectCells(&one, 1, overlap, 3, out, 3, &count) == E_CELL_INVALID);
+        CHECK(h3w_intersectCells(overlap, 3, &one, 1, out, 3, &count) == E_CELL_INVALID);
+        CHECK(h3w_subtractCells(&one, 1, overlap, 3, out, 3, &count) == E_CELL_INVALID);
+        CHECK(h3w_subtractCells(overlap, 3, &one, 1, out, 3, &count) == E_CELL_INVALID);
+        CHECK(h3w_subtractCells(none, 0, &one, 1, none, 0, &count) == E_CELL_INVALID);
+    }
+    CHECK(are_kept(out, 3) && count == 9);
+    CHECK(h3w_uniteCells(none, 0, none, 0, &count) == E_SUCCESS && count == 0);
+    CHECK(h3w_intersectCells(none, 0, none, 0, none, 0, &count) == E_SUCCESS && count == 0);
+    CHECK(h3w_subtractCells(none, 0, none, 0, none, 0, &count) == E_SUCCESS && count == 0);
+    CHECK(h3w_subtractCells(none, 0, overlap, 3, none, 0, &count) == E_SUCCESS && count == 0);
+    CHECK(h3w_uniteCells(overlap, 3, none, 0, &count) == E_MEMORY_BOUNDS && count == 1);
+    CHECK(h3w_uniteCells(overlap, 3, out, 3, &count) == E_SUCCESS && count == 1);
+    CHECK(out[0] == overlap[1] && are_kept(out + 1, 2));
+    free(out);
+    free(none);
+}
+
+/* Zones may not overlap; the room is judged first, and an index before an overlap. */
+static void zones(void) {
+    static const H3Index overlap[] = {HEXAGON, 0x8428347ffffffffU}, last[] = {HEXAGON, HEXAGON, 5};
+    H3Index *none = places(0), *out = places(3), *ready = places(2), cells[2] = {HEXAGON, 5};
+    int64_t counts[3] = {77, 77, 77}, others = 77;
+    int truths[2] = {77, 77};
+    size_t at = 9, i;
+    CHECK(h3w_zones(overlap, 2, out, 3) == E_DUPLICATE_INPUT && h3w_zones(last, 2, out, 3) == E_DUPLICATE_INPUT);
+    CHECK(h3w_zones(last, 3, out, 3) == E_CELL_INVALID && h3w_zones(last, 3, out, 2) == E_MEMORY_BOUNDS);
+    CHECK(h3w_zones(two, 2, out, 1) == E_MEMORY_BOUNDS && h3w_zones(two, 1, none, 0) == E_MEMORY_BOUNDS);
+    for (i = 0; i < ROOM(no_cells); i++) CHECK(h3w_zones(no_cells + i, 1, out, 3) == E_CELL_INVALID);
+    CHECK(are_kept(out, 3));
+    CHECK(h3w_zones(none, 0, none, 0) == E_SUCCESS && h3w_zones(two, 2, ready, 2) == E_SUCCESS);
+    CHECK(h3w_cellsToZones(ready, 2, cells, 2, out, 1, &at) == E_MEMORY_BOUNDS);
+    CHECK(h3w_areCoveredCells(ready, 2, cells, 2, truths, 1, &at) == E_MEMORY_BOUNDS);
+    CHECK(h3w_countCellsInZones(ready, 2, cells, 2, counts, 1, &others, &at) == E_MEMORY_BOUNDS);
+    CHECK(are_kept(out, 3) && truths[0] == 77 && counts[0] == 77 && others == 77 && at == 9);
+    CHECK(h3w_countCellsInZones(ready, 2, cells, 2, counts, 3, &others, &at) == E_CELL_INVALID && at == 1);
+    CHECK(counts[0] == 77 && counts[1] == 77 && counts[2] == 77 && others == 77);
+    for (i = 0; i < ROOM(no_cells); i++) {
+        cells[1] = no_cells[i];
+        CHECK(h3w_cellsToZones(ready, 2, cells, 2, out, 3, &at) == E_CELL_INVALID && at == 1);
+        CHECK(out[0] == HEXAGON && out[1] == H3_NULL && out[2] == KEPT);
+        CHECK(h3w_areCoveredCells(ready, 2, cells, 2, truths, 2, &at) == E_CELL_INVALID && at == 1);
+        CHECK(truths[0] == 1 && truths[1] == -1);
+    }
+    /* no zones, and no cells */
+    CHECK(h3w_cellsToZones(none, 0, cells, 1, out, 1, &at) == E_SUCCESS && at == 1 && out[0] == H3_NULL);
+    CHECK(h3w_countCellsInZones(none, 0, cells, 1, counts, 0, &others, &at) == E_SUCCESS && others == 1);
+    CHECK(h3w_countCellsInZones(ready, 2, none, 0, counts, 2, &others, &at) == E_SUCCESS && at == 0);
+    CHECK(counts[0] == 0 && counts[1] == 0 && counts[2] == 77 && others == 0);
+    free(ready);
     free(out);
     free(none);
 }
@@ -229,16 +306,14 @@ static void texts(void) {
                                            : -1;
         char one[3] = {'1', 0, '1'};
         one[1] = (char)c;
-        expect_text(one, 3, digit < 0 ? E_FAILED : E_SUCCESS,
-                    0x101 + 16 * (H3Index)(digit < 0 ? 0 : digit));
+        expect_text(one, 3, digit < 0 ? E_FAILED : E_SUCCESS, 0x101 + 16 * (H3Index)(digit < 0 ? 0 : digit));
     }
     for (i = 0; i < 17; i++) {
         memset(bounded, 'k', sizeof bounded);
-        CHECK(h3w_h3ToString(HEXAGON, bounded, i < 16 ? i : 16) == E_MEMORY_BOUNDS &&
-              bounded[0] == 'k' && bounded[15] == 'k');
+        CHECK(h3w_h3ToString(HEXAGON, bounded, i < 16 ? i : 16) == E_MEMORY_BOUNDS && bounded[0] == 'k' &&
+              bounded[15] == 'k');
     }
-    CHECK(h3w_h3ToString(HEXAGON, text, SIZE_MAX) == E_SUCCESS &&
-          strcmp(text, "85283473fffffff") == 0);
+    CHECK(h3w_h3ToString(HEXAGON, text, SIZE_MAX) == E_SUCCESS && strcmp(text, "85283473fffffff") == 0);
 }
 
 int main(void) {
@@ -246,6 +321,8 @@ int main(void) {
     resolutions();
     rooms();
     lists();
+    regions();
+    zones();
     texts();
     return counts();
 }

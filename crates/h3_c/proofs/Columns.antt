@@ -1,6 +1,7 @@
 -- A column, one outcome more at a time.
-use Rattle.std.proofs.Common.{◌≡◌, ◌≢◌, ℕ, zero, suc, ◌+◌, ◌<◌, ◌≤◌, List, [], ◌∷◌, ◌++◌, length, map, take, slice_set, slice_index_or, nat_le, true, false, Result, Ok, Err, refl, ap, sym, ◌∙◌, arith}
-use Rattle.std.proofs.lemmas.Bool.{le-leb, lt-leb}
+use Rattle.std.proofs.Common.{◌≡◌, ℕ, zero, suc, ◌+◌, ◌<◌, ◌≤◌, List, [], ◌∷◌, ◌++◌, length, map, take, slice_set, slice_index_or, nat_le, ◌==◌, ◌&&◌, ◌↔◌, IsTrue, is_ok, Bool, true, false, Result, Ok, Err, refl, ap, sym, ◌∙◌, arith}
+use Rattle.std.proofs.lemmas.Bool.{false≢true, le-leb, lt-leb}
+use Rattle.std.proofs.lemmas.Bool.Decides.{nat_tests}
 use Rattle.std.proofs.lemmas.List.{length-map, map-append}
 use Rattle.h3_index.specs.Error.{error_number}
 use Rattle.h3_index.specs.declared.error.H3Error.{H3Error}
@@ -45,44 +46,47 @@ error_number-some NotNeighbors is = omega (arith, is)
 error_number-some ResMismatch is = omega (arith, is)
 error_number-some MemoryAlloc is = omega (arith, is)
 
-pub code-ok : {A : Type 0} (rs : List (Result A H3Error)) (v : A) → first_code (rs ++ Ok v ∷ []) ≡ first_code rs
-unfolding first_code
-code-ok [] v = refl
-code-ok (Ok w ∷ rs) v = code-ok rs v
-code-ok (Err e ∷ rs) v = refl
+is_error : (e : H3Error) → (error_number e == 0) ≡ false
+is_error e = let some = error_number-some e in grind (arith, nat_tests, some)
 
-pub code-first : {A : Type 0} (rs : List (Result A H3Error)) (e : H3Error) → first_code rs ≡ 0 → first_code (rs ++ Err e ∷ []) ≡ error_number e
+pub code-ok : {A : Type 0} (rs : List (Result A H3Error)) (v : A) → first_code rs ≡ 0 → first_code (rs ++ Ok v ∷ []) ≡ 0
 unfolding first_code
-code-first [] e none = refl
-code-first (Ok w ∷ rs) e none = code-first rs e none
-code-first (Err d ∷ rs) e none = absurd (error_number-some d none)
+code-ok [] v none = refl
+code-ok (Ok w ∷ rs) v none = code-ok rs v none
+code-ok (Err d ∷ rs) v none = absurd (error_number-some d none)
 
-pub code-later : {A : Type 0} (rs : List (Result A H3Error)) (r : Result A H3Error) → first_code rs ≢ 0 → first_code (rs ++ r ∷ []) ≡ first_code rs
+-- whether there is no error, one outcome more at a time
+pub whole-next : {A : Type 0} (rs : List (Result A H3Error)) (r : Result A H3Error) → (first_code (rs ++ r ∷ []) == 0) ≡ (first_code rs == 0) && is_ok r
 unfolding first_code
-code-later [] r some = absurd (some refl)
-code-later (Ok w ∷ rs) r some = code-later rs r some
-code-later (Err d ∷ rs) r some = refl
+whole-next [] (Ok v) = refl
+whole-next [] (Err e) = is_error e
+whole-next (Ok w ∷ rs) r = whole-next rs r
+whole-next (Err d ∷ rs) r = rw (is_error d) refl
 
-pub place-later : {A : Type 0} (rs : List (Result A H3Error)) (r : Result A H3Error) → first_code rs ≢ 0 → first_place (rs ++ r ∷ []) ≡ first_place rs
+pub tells : (b : Bool) (n : ℕ) → b ≡ (n == 0) → IsTrue b ↔ (n ≡ 0)
+tells b zero e = rw e (λ _. refl, λ _. refl)
+tells b (suc n) e =
+    let other : (suc n == 0) ≡ false = grind (arith, nat_tests) in
+    rw (e, other) (λ t. absurd (false≢true t), λ z. absurd (omega (arith, z)))
+
+-- the first error is found
+pub found : {A : Type 0} (f : ℕ → Result A H3Error) (hs : List ℕ) (i : ℕ) (e : H3Error) → i < length hs → first_code (map f (take i hs)) ≡ 0 → Err e ≡ f (slice_index_or hs i 0)
+    → (first_code (map f hs) ≡ error_number e) × (first_place (map f hs) ≡ i)
 unfolding first_code first_place
-place-later [] r some = absurd (some refl)
-place-later (Ok w ∷ rs) r some = ap suc (place-later rs r some)
-place-later (Err d ∷ rs) r some = refl
+found f [] i e room none is = absurd (omega (arith, room))
+found f (h ∷ hs) zero e room none is = rw (← is) (refl, refl)
+found {A = A} f (h ∷ hs) (suc i) e room none is = by_first (f h) none (λ none-2. found f hs i e (omega (arith, room)) none-2 is)
+  where
+    by_first : (r : Result A H3Error) → first_code (r ∷ map f (take i hs)) ≡ 0 → (first_code (map f (take i hs)) ≡ 0 → (first_code (map f hs) ≡ error_number e) × (first_place (map f hs) ≡ i))
+        → (first_code (r ∷ map f hs) ≡ error_number e) × (first_place (r ∷ map f hs) ≡ suc i)
+    by_first (Ok w) none-2 deeper = let rest = deeper none-2 in (rest.0, ap suc rest.1)
+    by_first (Err d) none-2 deeper = absurd (error_number-some d none-2)
 
 pub place-none : {A : Type 0} (rs : List (Result A H3Error)) → first_code rs ≡ 0 → first_place rs ≡ length rs
 unfolding first_code first_place
 place-none [] none = refl
 place-none (Ok w ∷ rs) none = ap suc (place-none rs none)
 place-none (Err d ∷ rs) none = absurd (error_number-some d none)
-
-pub place-first : {A : Type 0} (rs : List (Result A H3Error)) (e : H3Error) → first_code rs ≡ 0 → first_place (rs ++ Err e ∷ []) ≡ length rs
-unfolding first_code first_place
-place-first [] e none = refl
-place-first (Ok w ∷ rs) e none = ap suc (place-first rs e none)
-place-first (Err d ∷ rs) e none = absurd (error_number-some d none)
-
-pub error_some : (e : H3Error) → error_number e ≢ 0
-error_some e = error_number-some e
 
 -- ---- the values
 

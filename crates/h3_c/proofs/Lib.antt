@@ -4,3 +4,5 @@ pub mod Items
 pub mod Laid
 pub mod SixPlaces
 pub mod WalkLaws
+pub mod RegionLaws
+pub mod ZoneLaws

@@ -2,6 +2,8 @@ pub mod Columns
 pub mod Edges
 pub mod Lists
 pub mod Outcome
+pub mod Regions
 pub mod Sets
 pub mod Tables
 pub mod Walks
+pub mod Zones

@@ -5,33 +5,34 @@ use Rattle.h3_index.specs.Error.{error_number}
 use Rattle.h3_index.specs.declared.error.H3Error.{H3Error}
 use Rattle.h3_functions.specs.Inspection.{for_value}
 
--- 0, or the number of the error in H3's table
+-- code_of outcome: 0, or the error's number
 abbrev pub code_of : {A : Type 0} → Result A H3Error → ℕ
 code_of (Ok value) = 0
 code_of (Err e) = error_number e
 
--- the value, or what was there before
+-- put_over old outcome: the value, or what was there before
 abbrev pub put_over : {A : Type 0} → A → Result A H3Error → A
 put_over old (Ok value) = value
 put_over old (Err e) = old
 
--- the value, or another in the place of an error
+-- value_or missing outcome: the value, or another in the place of an error
 abbrev pub value_or : {A : Type 0} → A → Result A H3Error → A
 value_or missing (Ok value) = value
 value_or missing (Err e) = missing
 
--- the index of the cell
+-- index_of outcome: the cell's index, or the error
 abbrev pub index_of : Result Address H3Error → Result ℕ H3Error
 index_of cell = for_value (λ c. Ok (number_of c)) cell
 
--- the number as one of C's int
+-- int_of outcome: the number as C's `int`, or the error
 abbrev pub int_of : Result ℕ H3Error → Result ℤ H3Error
 int_of number = for_value (λ n. Ok (pos n)) number
 
--- C's truth values
+-- truth b: 1 or 0
 abbrev pub truth : Bool → ℤ
 truth true = pos 1
 truth false = pos 0
 
+-- truth_of outcome: the truth value as 1 or 0, or the error
 abbrev pub truth_of : Result Bool H3Error → Result ℤ H3Error
 truth_of answer = for_value (λ is. Ok (truth is)) answer

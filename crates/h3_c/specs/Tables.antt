@@ -17,7 +17,7 @@ use Rattle.h3_c.specs.declared.tables.TableFault.{TableFault}
 
 -- ---- why a table file is refused
 
--- an error by its number, its record or base cell, and its direction; 0 where it has none
+-- told_error error: a table's error in numbers: which it is, its record or base cell, and its direction
 abbrev pub told_error : TableError → TableFault
 told_error fault.Read = record { code = 1; direction = 0; at = 0 }
 told_error fault.Memory = record { code = 2; direction = 0; at = 0 }
@@ -29,41 +29,49 @@ told_error (fault.Neighbours b) = record { code = 7; direction = 0; at = b }
 told_error (fault.Reversal b d) = record { code = 8; direction = digit_of d; at = b }
 told_error (fault.Corner b d) = record { code = 9; direction = digit_of d; at = b }
 
--- 0 where there is no error
+-- told error: the same, or 0 where there is none
 abbrev pub told : Option TableError → TableFault
 told None = record { code = 0; direction = 0; at = 0 }
 told (Some e) = told_error e
 
 -- ---- what is returned over a table
 
--- the links of a table, or an error where its file was refused
+-- links_from table: the links of a table, or `Failed` where its file was refused
 abbrev pub links_from : Table → Result Links H3Error
 links_from table = if table.accepted == 0 then Err Failed else Ok (link_of table.links)
 
--- what is returned over the links of a table for a value, or the first error of these two in its place
+-- over_table f table value: what is returned over the links of a table for a value, or the error of the table, and then
+-- that of the value
 abbrev pub over_table : {A B : Type 0} → (Links → A → Result B H3Error) → Table → Result A H3Error → Result B H3Error
 over_table f table value = for_value (λ link. for_value (λ x. f link x) value) (links_from table)
 
+-- are_neighbor_cells table a b: `are_neighbor_cells` of `h3_functions`, over a table and for indexes
 abbrev pub are_neighbor_cells : Table → ℕ → ℕ → Result Bool H3Error
 are_neighbor_cells table a b = over_table are_neighbors table (cell_pair_from (Some a) (Some b))
 
+-- cells_to_directed_edge table a b: `cells_to_directed_edge` of `h3_functions`, over a table and for indexes
 abbrev pub cells_to_directed_edge : Table → ℕ → ℕ → Result DirectedEdge H3Error
 cells_to_directed_edge table a b = over_table edge_between table (cell_pair_from (Some a) (Some b))
 
+-- get_directed_edge_destination table index: `get_directed_edge_destination` of `h3_functions`, over a table and for an
+-- index
 abbrev pub get_directed_edge_destination : Table → ℕ → Result Address H3Error
 get_directed_edge_destination table index = over_table edge_destination table (edge_from (Some index))
 
--- the index of the edge
+-- edge_index_of outcome: the edge's index, or the error
 abbrev pub edge_index_of : Result DirectedEdge H3Error → Result ℕ H3Error
 edge_index_of edge = for_value (λ e. Ok (edge_number e)) edge
 
 -- ---- walks over a table
 
+-- grid_disk_unsafe table index k: the walk of `h3_functions`, over a table and for an index
 abbrev pub grid_disk_unsafe : Table → ℕ → ℤ → Walk Address
 grid_disk_unsafe table index k = over_table (λ link c. disk link c k) table (cell_from (Some index))
 
+-- grid_disk_distances_unsafe table index k: the walk of `h3_functions`, over a table and for an index
 abbrev pub grid_disk_distances_unsafe : Table → ℕ → ℤ → Walk (Address × ℕ)
 grid_disk_distances_unsafe table index k = over_table (λ link c. disk_distances link c k) table (cell_from (Some index))
 
+-- grid_ring_unsafe table index k: the walk of `h3_functions`, over a table and for an index
 abbrev pub grid_ring_unsafe : Table → ℕ → ℤ → Walk Address
 grid_ring_unsafe table index k = over_table (λ link c. ring link c k) table (cell_from (Some index))

@@ -1,8 +1,10 @@
 //! One call for each index of a column.
 
-ghost use Rattle.std.specs.Prelude.{◌≡◌, ℕ, Result, map, length};
+ghost use Rattle.std.specs.Prelude.{◌≡◌, ◌≤◌, ◌↔◌, ℕ, IsTrue, Result, map, length};
 ghost use Rattle.h3_index.specs.declared.error.H3Error.{H3Error};
-ghost use Rattle.h3_c.specs.Columns.{column_code, column_code_at, column_over, column_over_at, place_over, place_over_at};
+ghost use Rattle.h3_c.specs.Columns.{column_code, column_code_at, column_over, column_over_at, first_code, first_place, place_over, place_over_at};
+ghost use Rattle.h3_c.specs.Lists.{laid_over};
+ghost use Rattle.h3_c.specs.Outcome.{value_or};
 
 use h3_index::{H3Error, resolution_from};
 
@@ -29,6 +31,48 @@ pub(crate) trait Question<T> {
 }
 
 /// Puts what is asked of each index at its place in a column, and `missing` where there is an
+/// error. Returns whether there is none.
+///
+/// It goes on after an error without a branch, so that the compiler can ask of several at once.
+#[inline(always)]
+fn fill_values<T: Copy, Q: Question<T>>(
+    question: &Q,
+    indexes: &[u64],
+    missing: T,
+    out: &mut [T],
+) -> bool
+    requires room { length indexes.now ≤ length out.old }
+    ensures values { out.new ≡ laid_over
+        (map (λ r. value_or missing r) (map (λ h. Q.outcome question.now h) indexes.now)) out.old }
+    ensures none { IsTrue result ↔ (first_code (map (λ h. Q.outcome question.now h) indexes.now) ≡ 0) }
+{
+    let mut is_whole = true;
+    for i in 0..indexes.len() {
+        let answer = question.ask(indexes[i]);
+        is_whole &= answer.is_ok();
+        out[i] = match answer {
+            Ok(value) => value,
+            Err(_) => missing,
+        };
+    }
+    is_whole
+}
+
+/// The number of the first error among what is asked of each index, and its place; 0 and how many
+/// indexes there are where there is none.
+fn first_error<T: Copy, Q: Question<T>>(question: &Q, indexes: &[u64]) -> (u32, usize)
+    ensures code { result.0 ≡ first_code (map (λ h. Q.outcome question.now h) indexes.now) }
+    ensures place { result.1 ≡ first_place (map (λ h. Q.outcome question.now h) indexes.now) }
+{
+    for place in 0..indexes.len() {
+        if let Err(error) = question.ask(indexes[place]) {
+            return (u32::from(error.number()), place);
+        }
+    }
+    (0, indexes.len())
+}
+
+/// Puts what is asked of each index at its place in a column, and `missing` where there is an
 /// error. Returns the number of the first error, and puts its place at `at`; where there is none,
 /// 0 and how many indexes there are. Where there is too little room, `MEMORY_BOUNDS`: then nothing
 /// is written.
@@ -50,21 +94,12 @@ pub(crate) fn fill<T: Copy, Q: Question<T>>(
     if out.len() < indexes.len() {
         return MEMORY_BOUNDS;
     }
-    let mut code = 0;
-    let mut first = 0;
-    for i in 0..indexes.len() {
-        out[i] = match question.ask(indexes[i]) {
-            Ok(value) => value,
-            Err(error) => {
-                if code == 0 {
-                    code = u32::from(error.number());
-                    first = i;
-                }
-                missing
-            }
-        };
+    if fill_values(question, indexes, missing, out) {
+        *at = indexes.len();
+        return 0;
     }
-    *at = if code == 0 { indexes.len() } else { first };
+    let (code, place) = first_error(question, indexes);
+    *at = place;
     code
 }
 

@@ -15,8 +15,9 @@ use std::alloc::Global;
 
 /// The cells with these indexes. `CellInvalid` where one is no cell's, `MemoryAlloc` where there is
 /// no memory.
-fn cells_in(alloc: Global, indexes: &[u64]) -> Result<Vec<Cell>, H3Error>
+pub(crate) fn cells_in(alloc: Global, indexes: &[u64]) -> Result<Vec<Cell>, H3Error>
     ensures read { IfOk result (λ cells. cells_in indexes.now ≡ Some cells.items) }
+    ensures long { IfOk result (λ cells. length cells.items ≡ length indexes.now) }
     ensures refused { IfErr result (λ e. (e ≡ MemoryAlloc)
         ⊎ ((e ≡ CellInvalid) × (cells_in indexes.now ≡ None))) }
 {
@@ -34,7 +35,7 @@ fn cells_in(alloc: Global, indexes: &[u64]) -> Result<Vec<Cell>, H3Error>
 }
 
 /// Puts the indexes of cells into the first slots.
-fn put_slice(out: &mut [u64], cells: &[Cell]) -> u32
+pub(crate) fn put_slice(out: &mut [u64], cells: &[Cell]) -> u32
     ensures code { result ≡ list_code (Ok cells.now) (length out.old) }
     ensures list { out.new ≡ list_over (Ok cells.now) out.old }
 {

@@ -1,0 +1,5 @@
+use Rattle.h3_c.proofs.ZoneLaws.{IsCounting}
+use Rattle.h3_c.proofs.zones.count_all.Given as goal
+
+abbrev pub invariant-loop-index : goal.invariant-loop-index
+invariant-loop-index l = IsCounting l.zones l.indexes l.counts l.others l.index-index

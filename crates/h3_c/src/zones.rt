@@ -1,0 +1,224 @@
+//! Zones: cells of which no two overlap, prepared once in C's memory, the zones of columns of cells
+//! and their counts.
+
+ghost use Rattle.std.specs.Prelude.{◌≡◌, ◌≢◌, ◌≤◌, ◌⊎◌, ◌+◌, List, length, map, sum, take, replicate, negsuc, IsPermutation, Some, None};
+ghost use Rattle.h3_index.specs.Cell.{Address};
+ghost use Rattle.h3_functions.specs.Hierarchy.{unless};
+ghost use Rattle.h3_set.specs.Coverage.{is_covered};
+ghost use Rattle.h3_set.specs.Refusals.{compaction_refusal};
+ghost use Rattle.h3_regions.specs.Counts.{AreCounts};
+ghost use Rattle.h3_regions.specs.Zones.{IsZones};
+ghost use Rattle.h3_c.specs.Columns.{column_code, column_over, first_code, first_place, place_over};
+ghost use Rattle.h3_c.specs.Lists.{indexes, laid_over};
+ghost use Rattle.h3_c.specs.Outcome.{code_of, truth_of};
+ghost use Rattle.h3_c.specs.Sets.{cells_in};
+ghost use Rattle.h3_c.specs.Zones.{AreZonesOver, cell_to_zone, counts_code, counts_over, counts_place, is_covered_cell, judged, others_over, zones_code};
+
+use crate::column::{MEMORY_BOUNDS, NO_NUMBER, NULL, Question, fill};
+use crate::outcome::truth;
+use crate::sets::{cells_in, put_slice};
+use h3_functions::cell_from;
+use h3_index::laws::numbers_are_read;
+use h3_index::{Cell, H3Error};
+use h3_regions::laws::zones_are_lawful;
+use h3_regions::{Zones, count_next, order_zones};
+use std::alloc::Global;
+
+/// Puts the indexes of cells, in the order of zones, into the first slots. Returns 0, or the number
+/// of the error.
+fn put_zones(zones: &mut [u64], cells: &mut [Cell]) -> u32
+    requires { length cells.old ≤ length zones.old }
+    ensures code { result ≡ code_of (unless (compaction_refusal cells.old) cells.old) }
+    ensures kept { result ≢ 0 → zones.new ≡ zones.old }
+    ensures same { IsPermutation cells.old cells.new }
+    ensures in_order { result ≡ 0 → IsZones cells.new }
+    ensures written { result ≡ 0 → zones.new ≡ laid_over (indexes cells.new) zones.old }
+{
+    match order_zones(cells) {
+        Ok(()) => put_slice(zones, cells),
+        Err(error) => u32::from(error.number()),
+    }
+}
+
+/// Prepares cells as zones: puts them into the first slots, in an order in which they are looked up.
+#[unsafe(no_mangle)]
+pub extern "C" fn h3w_zones(alloc: Global, cells: &[u64], zones: &mut [u64]) -> u32
+    ensures code { ((result ≡ 13) × (length cells.now ≤ length zones.old))
+        ⊎ (result ≡ zones_code cells.now (length zones.old)) }
+    ensures kept { result ≢ 0 → zones.new ≡ zones.old }
+    ensures zones { result ≡ 0 → AreZonesOver cells.now zones.old zones.new }
+{
+    numbers_are_read();
+    if zones.len() < cells.len() {
+        return MEMORY_BOUNDS;
+    }
+    let mut cells = match cells_in(alloc, cells) {
+        Ok(cells) => cells,
+        Err(error) => return u32::from(error.number()),
+    };
+    put_zones(zones, &mut cells)
+}
+
+/// The zone of a cell, for each index of a column.
+#[derive(Drop)]
+struct ZonesOf<'a> {
+    zones: Zones<'a>,
+}
+
+impl<'a> Question<u64> for ZonesOf<'a> {
+    ghost outcome = { λ q h. cell_to_zone q.zones h };
+
+    #[inline(always)]
+    fn ask(&self, index: u64) -> Result<u64, H3Error> {
+        let cell = cell_from(Some(index))?;
+        match self.zones.zone_of(cell) {
+            Some(zone) => Ok(zone.raw()),
+            None => Ok(NULL),
+        }
+    }
+}
+
+/// The zone of each index, with its errors.
+#[unsafe(no_mangle)]
+pub extern "C" fn h3w_cellsToZones(
+    zones: &[Cell],
+    cells: &[u64],
+    out: &mut [u64],
+    at: &mut usize,
+) -> u32
+    requires { IsZones zones.now }
+    ensures code { result
+        ≡ column_code (map (λ h. cell_to_zone zones.now h) cells.now) (length out.old) }
+    ensures values { out.new
+        ≡ column_over 0 (map (λ h. cell_to_zone zones.now h) cells.now) out.old }
+    ensures place { at.new
+        ≡ place_over (map (λ h. cell_to_zone zones.now h) cells.now) (length out.old) at.old }
+{
+    let question = ZonesOf {
+        zones: Zones::over(zones),
+    };
+    fill(&question, cells, NULL, out, at)
+}
+
+/// Whether the zones cover a cell: whether it has a zone.
+#[inline(always)]
+fn covers(zones: &Zones, cell: Cell) -> bool
+    ensures { result ≡ is_covered zones.now cell }
+{
+    zones.zone_of(cell).is_some()
+}
+
+/// Whether the zones cover a cell, for each index of a column.
+#[derive(Drop)]
+struct CoveredBy<'a> {
+    zones: Zones<'a>,
+}
+
+impl<'a> Question<i32> for CoveredBy<'a> {
+    ghost outcome = { λ q h. truth_of (is_covered_cell q.zones h) };
+
+    #[inline(always)]
+    fn ask(&self, index: u64) -> Result<i32, H3Error> {
+        let cell = cell_from(Some(index))?;
+        let is = covers(&self.zones, cell);
+        Ok(truth(is))
+    }
+}
+
+/// Whether the zones cover each index, with its errors.
+#[unsafe(no_mangle)]
+pub extern "C" fn h3w_areCoveredCells(
+    zones: &[Cell],
+    cells: &[u64],
+    out: &mut [i32],
+    at: &mut usize,
+) -> u32
+    requires { IsZones zones.now }
+    ensures code { result ≡ column_code
+        (map (λ h. truth_of (is_covered_cell zones.now h)) cells.now) (length out.old) }
+    ensures values { out.new ≡ column_over (negsuc 0)
+        (map (λ h. truth_of (is_covered_cell zones.now h)) cells.now) out.old }
+    ensures place { at.new ≡ place_over
+        (map (λ h. truth_of (is_covered_cell zones.now h)) cells.now) (length out.old) at.old }
+{
+    let question = CoveredBy {
+        zones: Zones::over(zones),
+    };
+    fill(&question, cells, NO_NUMBER, out, at)
+}
+
+/// Looks for the first index that is no cell's. Returns the number of its error, and puts its place
+/// at `at`; where there is none, 0 and how many indexes there are.
+fn judge(indexes: &[u64], at: &mut usize) -> u32
+    ensures code { result ≡ first_code (judged indexes.now) }
+    ensures place { at.new ≡ first_place (judged indexes.now) }
+    ensures cells { result ≡ 0 → cells_in indexes.now ≢ None }
+{
+    for i in 0..indexes.len() {
+        if let Err(error) = Cell::new(indexes[i]) {
+            *at = i;
+            return u32::from(error.number());
+        }
+    }
+    *at = indexes.len();
+    0
+}
+
+/// Sets all counts to 0.
+fn clear(counts: &mut [u64])
+    ensures { counts.new ≡ replicate (length counts.old) 0 }
+{
+    for count in counts.iter_mut() {
+        *count = 0;
+    }
+}
+
+/// Counts the cells with these indexes by zones, and returns how many have none.
+fn count_all(zones: &Zones, indexes: &[u64], counts: &mut [u64]) -> u64
+    requires cells { cells_in indexes.now ≢ None }
+    requires size { length counts.old ≡ length zones.now }
+    ensures { (cells : List Address) → cells_in indexes.now ≡ Some cells
+        → AreCounts zones.now cells counts.new result }
+{
+    zones_are_lawful();
+    clear(counts);
+    let mut others: u64 = 0;
+    let mut place: usize = 0;
+    for index in indexes {
+        match Cell::new(*index) {
+            Ok(cell) => others = count_next(zones, cell, counts, others, &mut place),
+            Err(_) => unreachable!(),
+        }
+    }
+    others
+}
+
+/// How many of the cells have each zone, in the order of the zones, and how many have none, once all
+/// indexes are judged.
+#[unsafe(no_mangle)]
+pub extern "C" fn h3w_countCellsInZones(
+    zones: &[Cell],
+    cells: &[u64],
+    counts: &mut [u64],
+    others: &mut u64,
+    at: &mut usize,
+) -> u32
+    requires { IsZones zones.now }
+    ensures code { result ≡ counts_code zones.now cells.now (length counts.old) }
+    ensures counts { counts.new ≡ counts_over zones.now cells.now counts.old }
+    ensures others { others.new
+        ≡ others_over zones.now cells.now (length counts.old) others.old }
+    ensures place { at.new ≡ counts_place zones.now cells.now (length counts.old) at.old }
+    ensures cells { result ≡ 0 → cells_in cells.now ≢ None }
+    ensures all { result ≡ 0 →
+        sum (take (length zones.now) counts.new) + others.new ≡ length cells.now }
+{
+    if counts.len() < zones.len() {
+        return MEMORY_BOUNDS;
+    }
+    let code = judge(cells, at);
+    if code == 0 {
+        *others = count_all(&Zones::over(zones), cells, &mut counts[..zones.len()]);
+    }
+    code
+}

@@ -1,0 +1,270 @@
+/* Regions and zones of random lists, against sets of cells that are worked out here from the bits of
+ * their numbers: of the cells of two base cells, a hexagon and a pentagon, down to one resolution, which
+ * of that resolution a list covers. */
+#include "h3whole.h"
+#include "check.h"
+#include <stdlib.h>
+
+#define FINEST   3
+#define HEXAGON  20
+#define PENTAGON 4
+/* those of the two base cells at each resolution: 2, 13, 90, 629 */
+#define CELLS 734
+#define LIST  40
+/* what a difference can have: 90 cells more for each of the second list */
+#define ROOM (91 * LIST)
+#define KEPT 0x1234567890abcdefU
+
+/* ---- cells, by their bits */
+
+static int resolution(H3Index cell) { return (int)(cell >> 52 & 15); }
+
+/* The cell without its digits above a resolution. */
+static H3Index cut(H3Index cell, int res) {
+    int r;
+    for (r = res + 1; r <= 15; r++) cell |= (H3Index)7 << (45 - 3 * r);
+    return (cell & ~((H3Index)15 << 52)) | (H3Index)res << 52;
+}
+
+static H3Index child(H3Index cell, int digit) {
+    int res = resolution(cell) + 1;
+    cell = (cell & ~((H3Index)15 << 52)) | (H3Index)res << 52;
+    return (cell & ~((H3Index)7 << (45 - 3 * res))) | (H3Index)digit << (45 - 3 * res);
+}
+
+/* A cell is the other, or an ancestor of it. */
+static int is_above(H3Index above, H3Index cell) {
+    return resolution(above) <= resolution(cell) && cut(cell, resolution(above)) == above;
+}
+
+/* All of them, ascending; where those of the finest resolution begin; and which cells are above which. */
+static H3Index cells[CELLS];
+static size_t finest;
+static char above[CELLS][CELLS];
+
+static int by_number(const void *a, const void *b) {
+    H3Index x = *(const H3Index *)a, y = *(const H3Index *)b;
+    return x < y ? -1 : x > y;
+}
+
+static void make_cells(void) {
+    size_t n = 0, i, j;
+    int digit;
+    cells[n++] = 0x8001fffffffffffU | (H3Index)PENTAGON << 45;
+    cells[n++] = 0x8001fffffffffffU | (H3Index)HEXAGON << 45;
+    for (i = 0; i < n; i++) {
+        /* a cell in the center of a pentagon is one, and has no child of digit 1 */
+        int pentagon = (cells[i] >> 45 & 127) == PENTAGON;
+        for (digit = 1; digit <= resolution(cells[i]) && pentagon; digit++)
+            pentagon = (cells[i] >> (45 - 3 * digit) & 7) == 0;
+        for (digit = 0; digit < 7 && resolution(cells[i]) < FINEST; digit++)
+            if (!pentagon || digit != 1) cells[n++] = child(cells[i], digit);
+    }
+    CHECK(n == CELLS);
+    qsort(cells, CELLS, sizeof *cells, by_number);
+    for (i = 0; i < CELLS; i++) {
+        CHECK(h3w_isValidCell(cells[i]));
+        if (resolution(cells[i]) < FINEST) finest = i + 1;
+        for (j = 0; j < CELLS; j++) above[i][j] = (char)is_above(cells[i], cells[j]);
+    }
+    CHECK(CELLS - finest == 629);
+}
+
+/* ---- what lists cover, and regions */
+
+typedef struct {
+    H3Index cells[ROOM];
+    size_t n;
+} List;
+
+typedef char Set[CELLS];
+
+/* The cells of the finest resolution that a list covers. */
+static void cover(const List *list, Set set) {
+    size_t i, j;
+    for (j = finest; j < CELLS; j++)
+        for (set[j] = 0, i = 0; i < list->n && !set[j]; i++) set[j] = (char)is_above(list->cells[i], cells[j]);
+}
+
+static int is_full(size_t i, const Set set) {
+    size_t j = finest;
+    while (j < CELLS && (!above[i][j] || set[j])) j++;
+    return j == CELLS;
+}
+
+/* The cells of which a set has all descendants, and not all of the parent. */
+static void region(const Set set, List *list) {
+    static char full[CELLS];
+    size_t i, j;
+    for (i = 0; i < CELLS; i++) full[i] = (char)is_full(i, set);
+    for (list->n = 0, i = 0; i < CELLS; i++) {
+        int in_full = 0;
+        for (j = 0; j < CELLS; j++) in_full |= j != i && above[j][i] && full[j];
+        if (full[i] && !in_full) list->cells[list->n++] = cells[i];
+    }
+}
+
+static uint64_t state = 88172645463325252U;
+
+static size_t below(size_t bound) {
+    state ^= state << 13;
+    state ^= state >> 7;
+    state ^= state << 17;
+    return (size_t)(state % bound);
+}
+
+/* Random cells, some twice, some with their siblings, and some above others. */
+static void make_list(List *list, size_t n) {
+    list->n = 0;
+    while (list->n < n) {
+        size_t i = below(3) ? finest + below(CELLS - finest) : below(finest);
+        H3Index cell = cells[i];
+        list->cells[list->n++] = cell;
+        if (below(8) == 0 && list->n < n) list->cells[list->n++] = cell;
+        if (below(4) || resolution(cell) == 0) continue;
+        for (i = 0; i < CELLS && list->n < n; i++)
+            if (resolution(cells[i]) == resolution(cell) && below(30) &&
+                cut(cells[i], resolution(cell) - 1) == cut(cell, resolution(cell) - 1))
+                list->cells[list->n++] = cells[i];
+    }
+}
+
+/* ---- regions */
+
+typedef H3Error Combine(const H3Index *, size_t, const H3Index *, size_t, H3Index *, size_t, size_t *);
+
+static int holds(const H3Index *out, size_t room, const List *wanted) {
+    size_t n = wanted->n < room ? wanted->n : room, i;
+    if (memcmp(out, wanted->cells, n * sizeof *out)) return 0;
+    for (i = n; i < room; i++)
+        if (out[i] != KEPT) return 0;
+    return 1;
+}
+
+/* With room for more than the cells, for just them, and for fewer. */
+static void expect_region(Combine *combine, const List *first, const List *second, const List *wanted) {
+    static H3Index out[ROOM];
+    size_t rooms[3], count, i, j;
+    rooms[0] = ROOM, rooms[1] = wanted->n, rooms[2] = below(wanted->n + 1);
+    for (i = 0; i < 3; i++) {
+        for (j = 0; j < ROOM; j++) out[j] = KEPT;
+        count = 77;
+        CHECK(combine(first->cells, first->n, second->cells, second->n, out, rooms[i], &count) ==
+              (rooms[i] < wanted->n ? E_MEMORY_BOUNDS : E_SUCCESS));
+        CHECK(count == wanted->n && holds(out, rooms[i], wanted) && out[ROOM - 1] == KEPT);
+    }
+}
+
+static H3Error unite(const H3Index *first, size_t n, const H3Index *second, size_t m, H3Index *out, size_t room,
+                     size_t *count) {
+    static H3Index both[2 * LIST];
+    memcpy(both, first, n * sizeof *both);
+    memcpy(both + n, second, m * sizeof *both);
+    return h3w_uniteCells(both, n + m, out, room, count);
+}
+
+static void regions(const List *first, const List *second) {
+    static Set a, b, set;
+    static List wanted;
+    size_t i;
+    cover(first, a);
+    cover(second, b);
+    for (i = finest; i < CELLS; i++) set[i] = a[i] || b[i];
+    region(set, &wanted);
+    expect_region(unite, first, second, &wanted);
+    for (i = finest; i < CELLS; i++) set[i] = a[i] && b[i];
+    region(set, &wanted);
+    expect_region(h3w_intersectCells, first, second, &wanted);
+    for (i = finest; i < CELLS; i++) set[i] = a[i] && !b[i];
+    region(set, &wanted);
+    expect_region(h3w_subtractCells, first, second, &wanted);
+}
+
+/* ---- zones */
+
+static int overlaps(const List *list) {
+    size_t i, j;
+    for (i = 0; i < list->n; i++)
+        for (j = 0; j < list->n; j++)
+            if (i != j && is_above(list->cells[i], list->cells[j])) return 1;
+    return 0;
+}
+
+/* The cells of a list that stand below no other, each once. */
+static void coarsest(const List *list, List *zones) {
+    size_t i, j;
+    for (zones->n = 0, i = 0; i < list->n; i++) {
+        for (j = 0; j < list->n; j++)
+            if (is_above(list->cells[j], list->cells[i]) && (list->cells[j] != list->cells[i] || j < i)) break;
+        if (j == list->n) zones->cells[zones->n++] = list->cells[i];
+    }
+}
+
+/* The place of the zone of a cell, or n. */
+static size_t zone_of(const H3Index *zones, size_t n, H3Index cell) {
+    size_t i = 0;
+    while (i < n && !is_above(zones[i], cell)) i++;
+    return i;
+}
+
+/* All cells are looked up, and counted in two parts and in one, in random order. */
+static void look_up(const H3Index *zones, size_t n) {
+    static H3Index column[CELLS], out[CELLS];
+    static int covered[CELLS];
+    static int64_t counts[LIST + 1], parts[2][LIST + 1], wanted[LIST + 1];
+    int64_t others = 0, rest[2] = {0, 0};
+    size_t at = 77, same = 0, i, half = below(CELLS);
+    for (i = 0; i < CELLS; i++) column[i] = cells[below(CELLS)];
+    for (i = 0; i <= n; i++) wanted[i] = 0, counts[i] = parts[0][i] = parts[1][i] = 77;
+    CHECK(h3w_cellsToZones(zones, n, column, CELLS, out, CELLS, &at) == E_SUCCESS && at == CELLS);
+    CHECK(h3w_areCoveredCells(zones, n, column, CELLS, covered, CELLS, &at) == E_SUCCESS);
+    for (i = 0; i < CELLS; i++) {
+        size_t zone = zone_of(zones, n, column[i]);
+        same += out[i] == (zone < n ? zones[zone] : H3_NULL) && covered[i] == (zone < n);
+        wanted[zone]++;
+    }
+    CHECK(same == CELLS);
+    at = 77;
+    CHECK(h3w_countCellsInZones(zones, n, column, CELLS, counts, n, &others, &at) == E_SUCCESS && at == CELLS);
+    CHECK(memcmp(counts, wanted, n * sizeof *counts) == 0 && others == wanted[n] && counts[n] == 77);
+    CHECK(!h3w_countCellsInZones(zones, n, column, half, parts[0], LIST + 1, &rest[0], &at) &&
+          !h3w_countCellsInZones(zones, n, column + half, CELLS - half, parts[1], n, &rest[1], &at));
+    for (same = 0, i = 0; i < n; i++) same += parts[0][i] + parts[1][i] == counts[i];
+    CHECK(same == n && rest[0] + rest[1] == others && parts[0][n] == 77);
+}
+
+/* The cells as zones, and these again; looked up where they stand, and in a copy. */
+static void prepare(const List *list) {
+    static H3Index zones[LIST + 2], copy[LIST + 2];
+    size_t i;
+    for (i = 0; i < LIST + 2; i++) zones[i] = KEPT;
+    if (overlaps(list)) {
+        CHECK(h3w_zones(list->cells, list->n, zones, LIST) == E_DUPLICATE_INPUT && zones[0] == KEPT);
+        return;
+    }
+    CHECK(h3w_zones(list->cells, list->n, zones + 1, list->n) == E_SUCCESS);
+    CHECK(zones[0] == KEPT && zones[list->n + 1] == KEPT);
+    look_up(zones + 1, list->n);
+    CHECK(h3w_zones(zones + 1, list->n, copy, LIST + 2) == E_SUCCESS);
+    CHECK(memcmp(copy, zones + 1, list->n * sizeof *copy) == 0);
+    look_up(copy, list->n);
+    qsort(copy, list->n, sizeof *copy, by_number);
+    memcpy(zones, list->cells, list->n * sizeof *zones);
+    qsort(zones, list->n, sizeof *zones, by_number);
+    CHECK(memcmp(copy, zones, list->n * sizeof *copy) == 0);
+}
+
+int main(void) {
+    static List first, second, zones;
+    int i;
+    make_cells();
+    for (i = 0; i < 150; i++) {
+        make_list(&first, i < 3 ? (size_t)i : below(LIST) + 1);
+        make_list(&second, i % 10 ? below(i % 3 ? LIST : 4) : 0);
+        regions(&first, &second);
+        prepare(&first);
+        coarsest(&first, &zones);
+        prepare(&zones);
+    }
+    return counts();
+}
