@@ -157,6 +157,58 @@ extern "C" {
     ) -> u32;
 }
 
+/// What a function over two lists of cells is declared as.
+type OverLists =
+    unsafe extern "C" fn(*const u64, usize, *const u64, usize, *mut u64, usize, &mut usize) -> u32;
+
+extern "C" {
+    fn h3w_uniteCells(
+        cells: *const u64,
+        n: usize,
+        out: *mut u64,
+        room: usize,
+        count: &mut usize,
+    ) -> u32;
+    fn h3w_intersectCells(
+        first: *const u64,
+        n: usize,
+        second: *const u64,
+        m: usize,
+        out: *mut u64,
+        room: usize,
+        count: &mut usize,
+    ) -> u32;
+    fn h3w_subtractCells(
+        first: *const u64,
+        n: usize,
+        second: *const u64,
+        m: usize,
+        out: *mut u64,
+        room: usize,
+        count: &mut usize,
+    ) -> u32;
+    fn h3w_zones(cells: *const u64, n: usize, zones: *mut u64, room: usize) -> u32;
+    fn h3w_cellsToZones(
+        zones: *const u64,
+        zone_count: usize,
+        cells: *const u64,
+        n: usize,
+        out: *mut u64,
+        room: usize,
+        at: &mut usize,
+    ) -> u32;
+    fn h3w_countCellsInZones(
+        zones: *const u64,
+        zone_count: usize,
+        cells: *const u64,
+        n: usize,
+        counts: *mut i64,
+        room: usize,
+        others: &mut i64,
+        at: &mut usize,
+    ) -> u32;
+}
+
 /// Declares safe functions of an index that return a number.
 macro_rules! of_index {
     ($($name:ident = $export:ident;)*) => {
@@ -281,6 +333,115 @@ pub(crate) fn uncompact(cells: &[Cell], count: usize, res: i32) -> Result<Vec<Ce
             unsafe { h3w_uncompactCells(cells.as_ptr().cast(), cells.len(), out, count, res) };
         (code, count)
     })
+}
+
+/// The region of cells, which are no more.
+pub(crate) fn unite(cells: &[Cell]) -> Result<Vec<Cell>, Error> {
+    let n = cells.len();
+    written(n, |out| {
+        let mut count = 0;
+        // SAFETY: a `Cell` is a number. The slice is passed with its length, `out` points to room
+        // for `n` numbers, and `count` is one place.
+        let code = unsafe { h3w_uniteCells(cells.as_ptr().cast(), n, out, n, &mut count) };
+        (code, count)
+    })
+}
+
+pub(crate) fn intersect(first: &[Cell], second: &[Cell]) -> Result<Vec<Cell>, Error> {
+    over_lists(h3w_intersectCells, first, second)
+}
+
+pub(crate) fn subtract(first: &[Cell], second: &[Cell]) -> Result<Vec<Cell>, Error> {
+    over_lists(h3w_subtractCells, first, second)
+}
+
+/// What a function over two lists writes: with room for as many cells as they have, and where that
+/// does not suffice, for as many as it says that there are.
+fn over_lists(function: OverLists, first: &[Cell], second: &[Cell]) -> Result<Vec<Cell>, Error> {
+    let mut count = 0;
+    let mut write = |room: usize| {
+        written(room, |out| {
+            // SAFETY: a `Cell` is a number. Each slice is passed with its length, `out` points to
+            // room for `room` numbers, and `count` is one place.
+            let code = unsafe {
+                function(
+                    first.as_ptr().cast(),
+                    first.len(),
+                    second.as_ptr().cast(),
+                    second.len(),
+                    out,
+                    room,
+                    &mut count,
+                )
+            };
+            (code, count)
+        })
+        .map_err(|error| (error, count))
+    };
+    match write(first.len() + second.len()) {
+        Err((Error::MemoryBounds, count)) => write(count).map_err(|(error, _)| error),
+        done => done.map_err(|(error, _)| error),
+    }
+}
+
+/// Cells as `h3w_zones` has written them, which the functions over zones take. None is made but
+/// here.
+#[derive(Clone, Default)]
+pub(crate) struct Order(Vec<Cell>);
+
+impl Order {
+    pub(crate) fn of(cells: &[Cell]) -> Result<Self, Error> {
+        let n = cells.len();
+        let order = written(n, |out| {
+            // SAFETY: a `Cell` is a number. The slice is passed with its length, and `out` points to
+            // room for `n` numbers, all of which are written where there is no error.
+            (unsafe { h3w_zones(cells.as_ptr().cast(), n, out, n) }, n)
+        })?;
+        Ok(Self(order))
+    }
+
+    pub(crate) fn cells(&self) -> &[Cell] {
+        &self.0
+    }
+
+    /// Writes the zone of each cell at its place. `MemoryBounds` where `out` is shorter.
+    pub(crate) fn zones_of(&self, cells: &[Cell], out: &mut [Option<Cell>]) -> Result<(), Error> {
+        let mut at = 0;
+        // SAFETY: the zones are those of `h3w_zones`, all of them. A `Cell` is a number, each slice
+        // is passed with its length, and `at` is one place. What is written is the index of a cell,
+        // or 0, which is `None`: a `Cell` is a `NonZeroU64`.
+        checked(unsafe {
+            h3w_cellsToZones(
+                self.0.as_ptr().cast(),
+                self.0.len(),
+                cells.as_ptr().cast(),
+                cells.len(),
+                out.as_mut_ptr().cast(),
+                out.len(),
+                &mut at,
+            )
+        })
+    }
+
+    /// Writes the count of each zone at its place, and returns how many cells have none.
+    /// `MemoryBounds` where `counts` is shorter than the zones are many.
+    pub(crate) fn count(&self, cells: &[Cell], counts: &mut [i64]) -> Result<i64, Error> {
+        let (mut others, mut at) = (0, 0);
+        // SAFETY: as of `zones_of`; `others` is one place.
+        checked(unsafe {
+            h3w_countCellsInZones(
+                self.0.as_ptr().cast(),
+                self.0.len(),
+                cells.as_ptr().cast(),
+                cells.len(),
+                counts.as_mut_ptr(),
+                counts.len(),
+                &mut others,
+                &mut at,
+            )
+        })?;
+        Ok(others)
+    }
 }
 
 /// The table in the bytes of a file, or why they are refused.

@@ -1,5 +1,5 @@
-//! The whole-number functions of H3 version 4: cells, their hierarchy, compaction and directed
-//! edges.
+//! The whole-number functions of H3 version 4: cells, their hierarchy, compaction, regions and
+//! directed edges.
 //!
 //! Every result comes from the library libh3whole, which is compiled from proved code. This crate
 //! makes its functions safe to call, and has no logic of H3's; it is tested, not proved.
@@ -24,6 +24,7 @@ mod error;
 mod ffi;
 mod index;
 mod refused;
+mod regions;
 mod resolution;
 mod sets;
 mod table;
@@ -32,6 +33,7 @@ pub use cell::{Cell, Children};
 pub use edge::Edge;
 pub use error::Error;
 pub use refused::Refused;
+pub use regions::{Counts, Region, Zones};
 pub use resolution::Resolution;
 pub use sets::{compact, uncompact};
 pub use table::{Table, TableError};
