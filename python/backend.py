@@ -1,5 +1,6 @@
-"""Builds the package, with the shared object of libh3whole in it, so that what pip installs works alone. It takes nothing
-but Python, so pip builds it where it reaches no network, with its isolation and without: see PEP 517 and PEP 660.
+"""Builds the package, with the shared object of libh3whole in it, so that what pip installs works alone. It takes
+nothing but Python, so pip builds it where it reaches no network, with its isolation and without: see PEP 517 and PEP
+660.
 
 The shared object is the file that H3WHOLE_LIBRARY names, or else the one that tools/library made in this repository."""
 
@@ -42,8 +43,8 @@ def metadata():
     own = project()
     return (
         f"Metadata-Version: 2.1\nName: {own['name']}\nVersion: {own['version']}\nSummary: {own['description']}\n"
-        f"License: {own['license']}\nRequires-Python: {own['requires-python']}\nDescription-Content-Type: text/markdown\n\n"
-        + read(os.path.join(HERE, "README.md")).decode()
+        f"License: {own['license']}\nRequires-Python: {own['requires-python']}\n"
+        f"Description-Content-Type: text/markdown\n\n" + read(os.path.join(HERE, "README.md")).decode()
     ).encode()
 
 

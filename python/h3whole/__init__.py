@@ -11,13 +11,17 @@ from . import int as _integers
 from .errors import *  # noqa: F401,F403 (the exceptions are part of this module)
 from .errors import H3FailedError
 from .int import int_to_str, str_to_int
+from .regions import CellRegion, CellSet, CellZones, Counts
 from .table import Table, TableError, over_table, use_table
 
-__version__ = "1.1.0"
+__version__ = "1.2.0"
 __all__ = [
     *_errors.__all__,
+    "Counts",
+    "Region",
     "Table",
     "TableError",
+    "Zones",
     "use_table",
     "are_neighbor_cells",
     "cell_to_center_child",
@@ -164,9 +168,15 @@ def origin_to_directed_edges(origin: str) -> List[str]:
 
 
 @overload
-def grid_disk_unsafe(table: Table, origin: str, k: SupportsIndex) -> List[str]: ...
+def grid_disk_unsafe(table: Table, origin: str, k: SupportsIndex) -> List[str]:
+    ...
+
+
 @overload
-def grid_disk_unsafe(origin: str, k: SupportsIndex) -> List[str]: ...
+def grid_disk_unsafe(origin: str, k: SupportsIndex) -> List[str]:
+    ...
+
+
 @over_table
 def grid_disk_unsafe(table, origin, k):  # type: ignore[no-untyped-def]
     """The texts of the cells within k steps of a cell, in the order in which they are walked: ring by ring.
@@ -175,9 +185,15 @@ def grid_disk_unsafe(table, origin, k):  # type: ignore[no-untyped-def]
 
 
 @overload
-def grid_disk_distances_unsafe(table: Table, origin: str, k: SupportsIndex) -> List[List[str]]: ...
+def grid_disk_distances_unsafe(table: Table, origin: str, k: SupportsIndex) -> List[List[str]]:
+    ...
+
+
 @overload
-def grid_disk_distances_unsafe(origin: str, k: SupportsIndex) -> List[List[str]]: ...
+def grid_disk_distances_unsafe(origin: str, k: SupportsIndex) -> List[List[str]]:
+    ...
+
+
 @over_table
 def grid_disk_distances_unsafe(table, origin, k):  # type: ignore[no-untyped-def]
     """The same as `grid_disk_unsafe`, ring by ring: a list of texts for each of 0 to k steps."""
@@ -185,9 +201,15 @@ def grid_disk_distances_unsafe(table, origin, k):  # type: ignore[no-untyped-def
 
 
 @overload
-def grid_ring_unsafe(table: Table, origin: str, k: SupportsIndex) -> List[str]: ...
+def grid_ring_unsafe(table: Table, origin: str, k: SupportsIndex) -> List[str]:
+    ...
+
+
 @overload
-def grid_ring_unsafe(origin: str, k: SupportsIndex) -> List[str]: ...
+def grid_ring_unsafe(origin: str, k: SupportsIndex) -> List[str]:
+    ...
+
+
 @over_table
 def grid_ring_unsafe(table, origin, k):  # type: ignore[no-untyped-def]
     """The texts of the cells at k steps from a cell. Errors as of `grid_disk_unsafe`."""
@@ -195,9 +217,15 @@ def grid_ring_unsafe(table, origin, k):  # type: ignore[no-untyped-def]
 
 
 @overload
-def are_neighbor_cells(table: Table, origin: str, destination: str) -> bool: ...
+def are_neighbor_cells(table: Table, origin: str, destination: str) -> bool:
+    ...
+
+
 @overload
-def are_neighbor_cells(origin: str, destination: str) -> bool: ...
+def are_neighbor_cells(origin: str, destination: str) -> bool:
+    ...
+
+
 @over_table
 def are_neighbor_cells(table, origin, destination):  # type: ignore[no-untyped-def]
     """Whether a step leads from the one cell to the other."""
@@ -205,9 +233,15 @@ def are_neighbor_cells(table, origin, destination):  # type: ignore[no-untyped-d
 
 
 @overload
-def cells_to_directed_edge(table: Table, origin: str, destination: str) -> str: ...
+def cells_to_directed_edge(table: Table, origin: str, destination: str) -> str:
+    ...
+
+
 @overload
-def cells_to_directed_edge(origin: str, destination: str) -> str: ...
+def cells_to_directed_edge(origin: str, destination: str) -> str:
+    ...
+
+
 @over_table
 def cells_to_directed_edge(table, origin, destination):  # type: ignore[no-untyped-def]
     """The text of the edge from a cell to a neighbor. H3NotNeighborsError where it is none."""
@@ -215,9 +249,15 @@ def cells_to_directed_edge(table, origin, destination):  # type: ignore[no-untyp
 
 
 @overload
-def get_directed_edge_destination(table: Table, edge: str) -> str: ...
+def get_directed_edge_destination(table: Table, edge: str) -> str:
+    ...
+
+
 @overload
-def get_directed_edge_destination(edge: str) -> str: ...
+def get_directed_edge_destination(edge: str) -> str:
+    ...
+
+
 @over_table
 def get_directed_edge_destination(table, edge):  # type: ignore[no-untyped-def]
     """The text of the cell that an edge leads to."""
@@ -237,3 +277,37 @@ def uncompact_cells(cells: Iterable[str], res: SupportsIndex) -> List[str]:
     """The texts of the descendants at a resolution of the first cell, ascending, then those of the second, and so on.
     H3ResMismatchError where a cell is finer."""
     return _texts(_integers.uncompact_cells(map(str_to_int, cells), res))
+
+
+class _Texts(CellSet[str]):
+    """Cells as texts."""
+
+    __slots__ = ()
+
+    @staticmethod
+    def _index_of(cell: str) -> int:
+        return str_to_int(cell)
+
+    @staticmethod
+    def _form_of(index: int) -> str:
+        return int_to_str(index)
+
+
+class Region(_Texts, CellRegion[str]):
+    """What cells cover: of texts, or of a column, cells that may repeat and overlap. It is a set that never changes:
+    `|`, `&`, `-`, `<=`, `==`, `in` (whether it covers a cell), `len`, a hash, and the texts of its cells, ascending.
+    It has as few as can be: the least list that covers the same.
+
+    H3CellInvalidError where an index is no cell's; H3FailedError where a text parses as no index."""
+
+    __slots__ = ()
+
+
+class Zones(_Texts, CellZones[str]):
+    """Zones, by which other cells are joined and counted: of texts, or of a column, cells of which no two overlap, of
+    any resolutions, or a region.
+
+    H3CellInvalidError where an index is no cell's; H3FailedError where a text parses as no index;
+    H3DuplicateInputError where two overlap."""
+
+    __slots__ = ()

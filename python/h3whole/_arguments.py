@@ -1,4 +1,5 @@
-"""Arguments of the library's functions, made of what programs have for them: integers of any kind, those of numpy too."""
+"""Arguments of the library's functions, made of what programs have for them: integers of any kind, those of numpy
+too."""
 
 from operator import index as whole_number
 from typing import SupportsIndex

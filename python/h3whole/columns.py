@@ -3,8 +3,9 @@
 A column is anything whose memory holds 64-bit integers one after another: an array of the module `array`, a
 memoryview, a numpy array, a column of pandas. None is copied. The result is a column of the same kind: an array for
 an array, a memoryview for a memoryview, a numpy array of the same shape for a numpy array, and a Series with the same
-index for one of pandas. Where the results are indexes, their type is that of the given ones, signed or not. Else they
-are integers of 32 or 64 bits, and of the tests True or False, which in an array and a memoryview are 1 or 0 in a byte.
+index for one of pandas. Where the results are indexes, their type is that of the given ones, signed or not; of a
+column of categories, that of the categories. Else they are integers of 32 or 64 bits, and of the tests True or False,
+which in an array and a memoryview are 1 or 0 in a byte.
 
 Where an index is refused, an exception says which error it is, which index, and at which place, the first one's; with
 `missing=True` there is none, and what is refused has 0 in place of an index, -1 in place of a number, and False in
@@ -14,12 +15,12 @@ resolution is an error always, before any index. An array of numpy with a mask i
 import ctypes
 import sys
 from array import array
-from typing import Any, Callable, Iterable, List, Optional, SupportsIndex, Tuple, TypeVar, Union
+from typing import Any, Callable, Iterable, List, Optional, SupportsIndex, Tuple, TypeVar
 
 from . import _library
-from ._arguments import as_int
+from ._arguments import as_cell, as_int
 from ._library import _array, _index, _resolution, _size
-from .errors import error_of
+from .errors import H3CellInvalidError, error_of
 
 __all__ = [
     "are_pentagons",
@@ -127,9 +128,7 @@ class _Memory:
         self._view = _View()
 
     def __enter__(self) -> "_Memory":
-        ctypes.pythonapi.PyObject_GetBuffer(
-            ctypes.py_object(self._seen), ctypes.byref(self._view), _CONTIGUOUS
-        )
+        ctypes.pythonapi.PyObject_GetBuffer(ctypes.py_object(self._seen), ctypes.byref(self._view), _CONTIGUOUS)
         # (the library wants an address for no indexes too)
         self.address = self._view.buf or ctypes.addressof(self._view)
         return self
@@ -154,10 +153,16 @@ def _room_for(column: Any, given: _Memory, typecode: str, count: int) -> Tuple[A
     return numbers, numbers.buffer_info()[0]
 
 
+def _dtype_for(column: Any) -> Any:
+    """The type of a column of pandas in which indexes have the place of its own; None where that is theirs: of
+    categories, since theirs need be none of the column's."""
+    return None if _is_of(column.dtype, "pandas", "CategoricalDtype") else column.dtype
+
+
 def _as_kind_of(column: Any, given: _Memory, items: Any, typecode: str, is_truth: bool) -> Any:
     """Results as a column of the same kind and shape as another."""
     if _is_series(column):
-        dtype = column.dtype if typecode == _INDEXES else None
+        dtype = _dtype_for(column) if typecode == _INDEXES else None
         return type(column)(items > 0 if is_truth else items, index=column.index, name=column.name, dtype=dtype)
     if _is_numpy(column):
         return (items > 0 if is_truth else items).reshape(given.shape)
@@ -276,7 +281,7 @@ def get_directed_edge_origins(column: _Column, *, missing: bool = False) -> _Col
 def _alone(column: Any, items: Any) -> Any:
     """Cells as a column of the same kind, in one dimension."""
     if _is_series(column):
-        return type(column)(items, name=column.name, dtype=column.dtype)
+        return type(column)(items, name=column.name, dtype=_dtype_for(column))
     return memoryview(items) if isinstance(column, memoryview) else items
 
 
@@ -332,8 +337,8 @@ def _sum(sizes: Any) -> int:
 # ---- texts
 
 
-def _parse(texts: Iterable[Any], missing: bool) -> "array[int]":
-    """The indexes of texts."""
+def _parse(texts: Iterable[Any], missing: bool, integers: "Optional[array[int]]" = None) -> "array[int]":
+    """The indexes of texts; with room for the places of integers, those of integers too."""
     found = array("Q")
     out = _index()
     at = ctypes.byref(out)
@@ -342,6 +347,9 @@ def _parse(texts: Iterable[Any], missing: bool) -> "array[int]":
             given = text if isinstance(text, bytes) else text.encode("ascii")
         except (AttributeError, UnicodeEncodeError):
             number = 1
+            if integers is not None and hasattr(text, "__index__"):
+                number, out.value = _whole(text)
+                integers.append(len(found))
         else:
             number = _string_to_h3(given, len(given), at)
         if number and not missing:
@@ -350,21 +358,47 @@ def _parse(texts: Iterable[Any], missing: bool) -> "array[int]":
     return found
 
 
-def str_to_int(column: Any, *, missing: bool = False) -> Any:
-    """The indexes of a column of texts, each as `h3whole.str_to_int` parses it: an array for a list, a numpy array of the
-    same shape for one of texts, bytes or objects, and a Series for a Series. With `missing=True` what parses as no index,
-    or is no text, is 0."""
+def _whole(number: Any) -> Tuple[int, int]:
+    """The error of an item that is no text, and the index that it is."""
+    try:
+        return 0, as_cell(number)
+    except H3CellInvalidError:
+        return 5, 0
+    except TypeError:
+        return 1, 0
+
+
+def _items_of(column: Any) -> Any:
+    """The items of a column of pandas."""
+    if not _is_of(column.dtype, "pandas", "CategoricalDtype"):
+        return column
+    # (where one is missing, pandas makes floats of categories that are integers)
+    categories = column.cat.categories.to_numpy(dtype=object)
+    return sys.modules["numpy"].append(categories, [float("nan")])[column.cat.codes]
+
+
+def _to_int(column: Any, missing: bool, integers: "Optional[array[int]]" = None) -> Any:
+    """The indexes of a column of texts; with room for the places of integers, those of a column of objects, texts and
+    integers."""
     if _is_series(column):
-        found = sys.modules["numpy"].frombuffer(_parse(column, missing) or b"", dtype="uint64")
+        numbers = _parse(_items_of(column), missing, integers)
+        found = sys.modules["numpy"].frombuffer(numbers or b"", dtype="uint64")
         return type(column)(found.copy(), index=column.index, name=column.name)
     if _is_numpy(column):
         if column.dtype.kind not in "OSU":
             raise TypeError(f"a column of texts is wanted, and not one of {column.dtype}")
-        found = sys.modules["numpy"].frombuffer(_parse(column.ravel().tolist(), missing) or b"", dtype="uint64")
-        return found.copy().reshape(column.shape)
+        numbers = _parse(column.ravel().tolist(), missing, integers)
+        return sys.modules["numpy"].frombuffer(numbers or b"", dtype="uint64").copy().reshape(column.shape)
     if isinstance(column, (str, bytes)):
         raise TypeError(f"a column of texts is wanted, and not {column!r}")
-    return _parse(column, missing)
+    return _parse(column, missing, integers)
+
+
+def str_to_int(column: Any, *, missing: bool = False) -> Any:
+    """The indexes of a column of texts, each as `h3whole.str_to_int` parses it: an array for a list, a numpy array of
+    the same shape for one of texts, bytes or objects, and a Series for a Series. With `missing=True` what parses as no
+    index, or is no text, is 0."""
+    return _to_int(column, missing)
 
 
 def _write(given: _Memory) -> List[str]:

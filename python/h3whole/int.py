@@ -11,9 +11,12 @@ from . import _library
 from ._arguments import MOST, as_cell, as_edge, as_int, as_int64, as_text, whole_number
 from ._library import _array, _index, _number, _resolution, _size, _table, _truth
 from .errors import H3BaseException, H3MemoryAllocError, error_at, error_of
+from .regions import CellRegion, CellSet, CellZones
 from .table import Table, over_table
 
 __all__ = [
+    "Region",
+    "Zones",
     "are_neighbor_cells",
     "cell_to_center_child",
     "cell_to_child_pos",
@@ -224,7 +227,8 @@ def _error_at(number: int, cell: int, res: object) -> H3BaseException:
 
 
 def _text_at_resolution(function: Callable[..., int], cell: str, res: SupportsIndex) -> str:
-    """The text of the cell that a function of a cell and a resolution writes. One that is refused stays in its place."""
+    """The text of the cell that a function of a cell and a resolution writes. One that is refused stays in its
+    place."""
     index = _parse(cell)
     number = function(index, as_int(res), _byref(index))
     if number:
@@ -322,7 +326,9 @@ def _check_walk(number: int, cell: int, k: SupportsIndex) -> None:
         raise error_of(number, f"{k} steps from {cell:x}")
 
 
-def _walk_room(walk: Callable[..., int], over: Any, cell: int, k: SupportsIndex, count: int) -> Tuple["array[int]", int]:
+def _walk_room(
+    walk: Callable[..., int], over: Any, cell: int, k: SupportsIndex, count: int
+) -> Tuple["array[int]", int]:
     """Room for the cells of a walk. The walk is taken with room for one first, since its errors come before want of
     memory."""
     room, at = _indexes(1)
@@ -340,9 +346,15 @@ def _disk_len(k: int) -> int:
 
 
 @overload
-def grid_disk_unsafe(table: Table, origin: SupportsIndex, k: SupportsIndex) -> List[int]: ...
+def grid_disk_unsafe(table: Table, origin: SupportsIndex, k: SupportsIndex) -> List[int]:
+    ...
+
+
 @overload
-def grid_disk_unsafe(origin: SupportsIndex, k: SupportsIndex) -> List[int]: ...
+def grid_disk_unsafe(origin: SupportsIndex, k: SupportsIndex) -> List[int]:
+    ...
+
+
 @over_table
 def grid_disk_unsafe(table, origin, k):  # type: ignore[no-untyped-def]
     """The cells within k steps of a cell, in the order in which they are walked: ring by ring. H3PentagonError where a
@@ -354,9 +366,15 @@ def grid_disk_unsafe(table, origin, k):  # type: ignore[no-untyped-def]
 
 
 @overload
-def grid_disk_distances_unsafe(table: Table, origin: SupportsIndex, k: SupportsIndex) -> List[List[int]]: ...
+def grid_disk_distances_unsafe(table: Table, origin: SupportsIndex, k: SupportsIndex) -> List[List[int]]:
+    ...
+
+
 @overload
-def grid_disk_distances_unsafe(origin: SupportsIndex, k: SupportsIndex) -> List[List[int]]: ...
+def grid_disk_distances_unsafe(origin: SupportsIndex, k: SupportsIndex) -> List[List[int]]:
+    ...
+
+
 @over_table
 def grid_disk_distances_unsafe(table, origin, k):  # type: ignore[no-untyped-def]
     """The same as `grid_disk_unsafe`, ring by ring: a list for each of 0 to k steps."""
@@ -375,9 +393,15 @@ def grid_disk_distances_unsafe(table, origin, k):  # type: ignore[no-untyped-def
 
 
 @overload
-def grid_ring_unsafe(table: Table, origin: SupportsIndex, k: SupportsIndex) -> List[int]: ...
+def grid_ring_unsafe(table: Table, origin: SupportsIndex, k: SupportsIndex) -> List[int]:
+    ...
+
+
 @overload
-def grid_ring_unsafe(origin: SupportsIndex, k: SupportsIndex) -> List[int]: ...
+def grid_ring_unsafe(origin: SupportsIndex, k: SupportsIndex) -> List[int]:
+    ...
+
+
 @over_table
 def grid_ring_unsafe(table, origin, k):  # type: ignore[no-untyped-def]
     """The cells at k steps from a cell. Errors as of `grid_disk_unsafe`."""
@@ -395,9 +419,15 @@ def _check_pair(number: int, origin: int, destination: int) -> None:
 
 
 @overload
-def are_neighbor_cells(table: Table, origin: SupportsIndex, destination: SupportsIndex) -> bool: ...
+def are_neighbor_cells(table: Table, origin: SupportsIndex, destination: SupportsIndex) -> bool:
+    ...
+
+
 @overload
-def are_neighbor_cells(origin: SupportsIndex, destination: SupportsIndex) -> bool: ...
+def are_neighbor_cells(origin: SupportsIndex, destination: SupportsIndex) -> bool:
+    ...
+
+
 @over_table
 def are_neighbor_cells(table, origin, destination):  # type: ignore[no-untyped-def]
     """Whether a step leads from the one cell to the other."""
@@ -408,9 +438,15 @@ def are_neighbor_cells(table, origin, destination):  # type: ignore[no-untyped-d
 
 
 @overload
-def cells_to_directed_edge(table: Table, origin: SupportsIndex, destination: SupportsIndex) -> int: ...
+def cells_to_directed_edge(table: Table, origin: SupportsIndex, destination: SupportsIndex) -> int:
+    ...
+
+
 @overload
-def cells_to_directed_edge(origin: SupportsIndex, destination: SupportsIndex) -> int: ...
+def cells_to_directed_edge(origin: SupportsIndex, destination: SupportsIndex) -> int:
+    ...
+
+
 @over_table
 def cells_to_directed_edge(table, origin, destination):  # type: ignore[no-untyped-def]
     """The edge from a cell to a neighbor. H3NotNeighborsError where it is none."""
@@ -421,9 +457,15 @@ def cells_to_directed_edge(table, origin, destination):  # type: ignore[no-untyp
 
 
 @overload
-def get_directed_edge_destination(table: Table, edge: SupportsIndex) -> int: ...
+def get_directed_edge_destination(table: Table, edge: SupportsIndex) -> int:
+    ...
+
+
 @overload
-def get_directed_edge_destination(edge: SupportsIndex) -> int: ...
+def get_directed_edge_destination(edge: SupportsIndex) -> int:
+    ...
+
+
 @over_table
 def get_directed_edge_destination(table, edge):  # type: ignore[no-untyped-def]
     """The cell that an edge leads to."""
@@ -478,3 +520,36 @@ def _size_at(cell: int, res: int) -> int:
     """How many cells a cell has at a resolution; none where the library refuses it, as it will."""
     found = _number()
     return 0 if _cell_to_children_size(cell, res, ctypes.byref(found)) else found.value
+
+
+class _Numbers(CellSet[int]):
+    """Cells as integers."""
+
+    __slots__ = ()
+
+    @staticmethod
+    def _index_of(cell: SupportsIndex) -> int:
+        return as_cell(cell)
+
+    @staticmethod
+    def _form_of(index: int) -> int:
+        return index
+
+
+class Region(_Numbers, CellRegion[int]):
+    """What cells cover: of integers, or of a column, cells that may repeat and overlap. It is a set that never
+    changes: `|`, `&`, `-`, `<=`, `==`, `in` (whether it covers a cell), `len`, a hash, and its cells, ascending. It
+    has as few as can be: the least list that covers the same.
+
+    H3CellInvalidError where an index is no cell's."""
+
+    __slots__ = ()
+
+
+class Zones(_Numbers, CellZones[int]):
+    """Zones, by which other cells are joined and counted: of integers, or of a column, cells of which no two overlap,
+    of any resolutions, or a region.
+
+    H3CellInvalidError where an index is no cell's; H3DuplicateInputError where two overlap."""
+
+    __slots__ = ()

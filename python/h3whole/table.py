@@ -25,8 +25,8 @@ _FAULTS = {
 
 
 class TableError(ValueError):
-    """A table file is refused. `code` says why, by the numbers of h3whole.h; `at` is a record (1 is the header) or a base
-    cell, and `direction` 1 to 6; both are 0 where the error has none."""
+    """A table file is refused. `code` says why, by the numbers of h3whole.h; `at` is a record (1 is the header) or a
+    base cell, and `direction` 1 to 6; both are 0 where the error has none."""
 
     def __init__(self, code: int, at: int, direction: int) -> None:
         super().__init__(code, at, direction)
@@ -76,7 +76,8 @@ def use_table(table: Table) -> None:
 
 
 def over_table(walk: Callable[..., Any]) -> Callable[..., Any]:
-    """The same function, over the table of `use_table` where none is passed. A table is passed first, or by its name."""
+    """The same function, over the table of `use_table` where none is passed. A table is passed first, or by its
+    name."""
     most = walk.__code__.co_argcount
 
     @functools.wraps(walk)

@@ -129,6 +129,23 @@ class Kinds(unittest.TestCase):
         self.assertRaises(TypeError, columns.get_resolutions, given.astype(">u8"))
         self.assertRaises(TypeError, columns.get_resolutions, given[::2])
 
+    @unittest.skipIf(numpy is None, "numpy is not installed")
+    def test_objects(self):
+        """Integers in a column of objects are refused, whatever stands beside them."""
+        others = [columns.are_valid_cells, columns.are_pentagons, columns.are_res_class_III, columns.int_to_str]
+        others += [columns.are_valid_directed_edges, columns.get_directed_edge_origins, columns.compact_cells]
+        kinds = [lambda items: numpy.array(items, dtype=object)]
+        if pandas is not None:
+            kinds.append(lambda items: pandas.Series(items, dtype=object))
+        for items in ([0x85283473FFFFFFF], [0x85283473FFFFFFF, None], [None], ["85283473fffffff"]):
+            for column in (kind(items) for kind in kinds):
+                for function, _, more, _ in FUNCTIONS:
+                    self.assertRaises(TypeError, function, column, *more)
+                    self.assertRaises(TypeError, function, column, *more, missing=True)
+                for function in others:
+                    self.assertRaises(TypeError, function, column)
+                self.assertRaises(TypeError, columns.uncompact_cells, column, 15)
+
     @unittest.skipIf(pandas is None, "pandas is not installed")
     def test_pandas(self):
         frame = pandas.DataFrame({"cell": numpy.array(cells(100), dtype="uint64")}, index=range(100, 200))

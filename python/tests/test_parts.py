@@ -1,4 +1,5 @@
-"""Compaction in parts: in this process, in others, and in a cluster of dask.distributed one of whose workers is killed."""
+"""Compaction in parts: in this process, in others, and in a cluster of dask.distributed one of whose workers is
+killed."""
 
 import concurrent.futures
 import os

@@ -65,7 +65,7 @@ class Walks(unittest.TestCase):
             with self.assertRaises(h3whole.H3CellInvalidError):
                 walk(TABLE, 0, 2**31)
             with self.assertRaises(h3whole.H3PentagonError):
-                walk(TABLE, 0x8009fffffffffff, 2**31 - 1)
+                walk(TABLE, 0x8009FFFFFFFFFFF, 2**31 - 1)
         for walk in (h3whole.grid_disk_unsafe, h3whole.grid_disk_distances_unsafe):
             with self.assertRaises(h3whole.H3MemoryAllocError):
                 walk(TABLE, HEXAGON, 2**31 - 1)

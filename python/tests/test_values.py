@@ -14,7 +14,7 @@ import h3whole
 import h3whole.columns as columns
 import h3whole.int as integers
 import h3whole.parts
-from h3whole import H3CellInvalidError, H3FailedError, H3ResDomainError, H3ResMismatchError
+from h3whole import H3ResDomainError
 from test_tables import DISK, HEXAGON, table_file
 
 try:
@@ -124,6 +124,17 @@ class OwnType(unittest.TestCase):
             for function in self.OVER_INDEXES:
                 self.assertEqual((str(function(series).dtype), function(series).name), (dtype, "cell"))
 
+    @unittest.skipIf(pandas is None, "pandas is not installed")
+    def test_categories(self):
+        """What is found need be none of the column's categories, so it has their type."""
+        for dtype in ("int64", "uint64"):
+            plain = pandas.Series(CHILDREN, dtype=dtype, name="cell")
+            series = plain.astype("category")
+            for function in (*self.OVER_INDEXES, columns.get_resolutions, columns.are_valid_cells, columns.int_to_str):
+                pandas.testing.assert_series_equal(function(series), function(plain))
+            with_missing = pandas.Series([CELL, None], dtype=object).astype("category")
+            self.assertRaises(TypeError, columns.cells_to_parents, with_missing, 4, missing=True)
+
     @unittest.skipIf(numpy is None, "numpy is not installed")
     def test_shapes(self):
         column = numpy.array(CHILDREN[:6], dtype="int64").reshape(2, 3)
@@ -204,7 +215,9 @@ class Texts(unittest.TestCase):
             found = columns.str_to_int(series)
             self.assertEqual((found.tolist(), list(found.index), found.name), (self.NUMBERS, [7, 8, 9], "cell"))
         texts = columns.int_to_str(found)
-        self.assertEqual((texts.tolist(), list(texts.index), texts.name), ([HEXAGON, "8009fffffffffff", "5"], [7, 8, 9], "cell"))
+        self.assertEqual(
+            (texts.tolist(), list(texts.index), texts.name), ([HEXAGON, "8009fffffffffff", "5"], [7, 8, 9], "cell")
+        )
         series[8] = None
         self.assertEqual(columns.str_to_int(series, missing=True).tolist(), [CELL, 0, 5])
 
@@ -223,14 +236,18 @@ class Errors(unittest.TestCase):
             (("cell_to_children", HEXAGON, 4), "error 4: E_RES_DOMAIN: 85283473fffffff at resolution 4"),
             (("get_num_cells", 2**70), f"error 4: E_RES_DOMAIN: resolution {2**70}"),
             (("get_pentagons", 16), "error 4: E_RES_DOMAIN: resolution 16"),
-            (("child_pos_to_cell", "8009fffffffffff", 2, 41),
-             "error 2: E_DOMAIN: position 41 in 8009fffffffffff at resolution 2"),
+            (
+                ("child_pos_to_cell", "8009fffffffffff", 2, 41),
+                "error 2: E_DOMAIN: position 41 in 8009fffffffffff at resolution 2",
+            ),
             (("get_directed_edge_origin", HEXAGON), "error 6: E_DIR_EDGE_INVALID: 85283473fffffff"),
             (("origin_to_directed_edges", "5"), "error 5: E_CELL_INVALID: 5"),
             (("compact_cells", [HEXAGON, "5"]), "error 5: E_CELL_INVALID: 5 at place 1"),
             (("compact_cells", [HEXAGON, HEXAGON]), "error 10: E_DUPLICATE_INPUT: among 2 cells"),
-            (("uncompact_cells", ["8009fffffffffff", HEXAGON], 4),
-             "error 12: E_RES_MISMATCH: 85283473fffffff at place 1, at resolution 4"),
+            (
+                ("uncompact_cells", ["8009fffffffffff", HEXAGON], 4),
+                "error 12: E_RES_MISMATCH: 85283473fffffff at place 1, at resolution 4",
+            ),
             (("uncompact_cells", [HEXAGON, "5"], 9), "error 5: E_CELL_INVALID: 5 at place 1"),
         ]:
             self.assertEqual(message(getattr(h3whole, call[0]), *call[1:]).split(": ", 1)[1], wanted)
@@ -238,12 +255,16 @@ class Errors(unittest.TestCase):
     def test_of_columns(self):
         for call, wanted in [
             ((columns.get_resolutions, [CELL, 5]), "error 5: E_CELL_INVALID: 5 at place 1"),
-            ((columns.cells_to_parents, [CELL], 6),
-             "error 12: E_RES_MISMATCH: 85283473fffffff at place 0, at resolution 6"),
+            (
+                (columns.cells_to_parents, [CELL], 6),
+                "error 12: E_RES_MISMATCH: 85283473fffffff at place 0, at resolution 6",
+            ),
             ((columns.compact_cells, [CELL, 5]), "error 5: E_CELL_INVALID: 5 at place 1"),
             ((columns.compact_cells, [CELL, CELL]), "error 10: E_DUPLICATE_INPUT: among 2 cells"),
-            ((columns.uncompact_cells, [0x8009FFFFFFFFFFF, CELL], 4),
-             "error 12: E_RES_MISMATCH: 85283473fffffff at place 1, at resolution 4"),
+            (
+                (columns.uncompact_cells, [0x8009FFFFFFFFFFF, CELL], 4),
+                "error 12: E_RES_MISMATCH: 85283473fffffff at place 1, at resolution 4",
+            ),
         ]:
             self.assertEqual(message(call[0], array("Q", call[1]), *call[2:]).split(": ", 1)[1], wanted)
 
@@ -275,7 +296,9 @@ class Tables(unittest.TestCase):
             "try: h3whole.grid_disk_unsafe('no table', '85283473fffffff', 1)\n"
             "except TypeError as error: assert 'a table is wanted' in str(error), error\n"
         )
-        ran = subprocess.run([sys.executable, "-c", program, *DISK], input=table_file(), capture_output=True, check=False)
+        ran = subprocess.run(
+            [sys.executable, "-c", program, *DISK], input=table_file(), capture_output=True, check=False
+        )
         self.assertEqual((ran.returncode, ran.stderr), (0, b""))
 
     def test_values_of_errors(self):
@@ -285,8 +308,11 @@ class Tables(unittest.TestCase):
             ("grid_ring_unsafe", HEXAGON, -1): "error 2: E_DOMAIN: -1 steps from 85283473fffffff",
             ("grid_disk_distances_unsafe", "5", 1): "error 5: E_CELL_INVALID: 5",
             ("are_neighbor_cells", HEXAGON, "5"): "error 5: E_CELL_INVALID: 5",
-            ("cells_to_directed_edge", HEXAGON, HEXAGON):
-                "error 11: E_NOT_NEIGHBORS: 85283473fffffff and 85283473fffffff",
+            (
+                "cells_to_directed_edge",
+                HEXAGON,
+                HEXAGON,
+            ): "error 11: E_NOT_NEIGHBORS: 85283473fffffff and 85283473fffffff",
             ("get_directed_edge_destination", HEXAGON): "error 6: E_DIR_EDGE_INVALID: 85283473fffffff",
         }.items():
             self.assertEqual(message(getattr(h3whole, call[0]), table, *call[1:]).split(": ", 1)[1], wanted)
@@ -319,7 +345,9 @@ class Names(unittest.TestCase):
         names = {}
         exec("from h3whole import *", names)
         self.assertIs(names.get("int", int), int)
-        self.assertFalse([name for name in names if name in ("array", "ctypes", "annotations", "Any", "functools", "typing")])
+        self.assertFalse(
+            [name for name in names if name in ("array", "ctypes", "annotations", "Any", "functools", "typing")]
+        )
         for module in (h3whole, integers, columns, h3whole.parts, h3whole.errors, h3whole.table):
             names = {}
             exec(f"from {module.__name__} import *", names)

@@ -1,0 +1,407 @@
+"""Regions and zones: sets of cells by which other cells are joined and counted.
+
+A region is what cells cover, held as the least list of cells that covers it. Zones are cells of which no two overlap:
+each cell lies in one of them at most. `h3whole.Region` and `h3whole.Zones` are over texts, `h3whole.int.Region` and
+`h3whole.int.Zones` over integers; here is what they share. All of them also take and answer columns, as those of
+`h3whole.columns`. None ever changes, and threads may share it."""
+
+import ctypes
+import sys
+from array import array
+from itertools import compress
+from typing import Any, Callable, Dict, Generic, Iterator, List, Mapping, Optional, Tuple, TypeVar
+
+from . import _library, columns
+from ._library import _array, _number, _size
+from .errors import H3BaseException, error_of
+
+__all__ = ["CellRegion", "CellSet", "CellZones", "Counts"]
+
+_Cell = TypeVar("_Cell", str, int)
+_Region = TypeVar("_Region", bound="CellRegion[Any]")
+
+_of_two_lists = (_array, _size, _array, _size, _array, _size, ctypes.POINTER(_size))
+_over_zones = (_array, _size, _array, _size, _array, _size, ctypes.POINTER(_size))
+_unite_cells = _library.number("uniteCells", _array, _size, _array, _size, ctypes.POINTER(_size))
+_intersect_cells = _library.number("intersectCells", *_of_two_lists)
+_subtract_cells = _library.number("subtractCells", *_of_two_lists)
+_zones = _library.number("zones", _array, _size, _array, _size)
+_cells_to_zones = _library.number("cellsToZones", *_over_zones)
+_are_covered_cells = _library.number("areCoveredCells", *_over_zones)
+_count_cells_in_zones = _library.number(
+    "countCellsInZones", _array, _size, _array, _size, _array, _size, ctypes.POINTER(_number), ctypes.POINTER(_size)
+)
+
+# (the library wants an address for no cells too)
+_NOWHERE = array("Q", [0])
+
+
+def _room(typecode: str, count: int) -> "array[int]":
+    return array(typecode, bytes(8)) * count
+
+
+def _at(items: "array[int]") -> Tuple[int, int]:
+    """The address of items, and how many they are."""
+    return items.buffer_info()[0] if items else _NOWHERE.buffer_info()[0], len(items)
+
+
+def _is_column(cells: Any) -> bool:
+    return isinstance(cells, (array, memoryview)) or columns._is_series(cells) or columns._is_numpy(cells)
+
+
+def _is_of_objects(column: Any) -> bool:
+    """Whether a column is of texts, or of objects, which may be texts and integers."""
+    return getattr(getattr(column, "dtype", None), "kind", "") in ("O", "S", "U")
+
+
+def _fitted(function: Callable[..., int], given: Tuple[Any, ...], count: int) -> Tuple[int, "array[int]"]:
+    """The error of a function that writes a list of cells, and the list. There is room for so many of them at first,
+    and then for as many as there are."""
+    found = _size()
+    number = 14
+    while number == 14:
+        out = _room("Q", count)
+        number = function(*given, *_at(out), ctypes.byref(found))
+        if number == 14 and found.value <= count:
+            break
+        count = found.value
+    return number, out[: found.value]
+
+
+def _united(cells: Any) -> "array[int]":
+    """The region of a column of cells."""
+    with columns._Memory(cells) as given:
+        number, found = _fitted(_unite_cells, (given.address, given.count), given.count)
+        if number:
+            raise error_of(number, columns._first_of_no_cell(given) if number == 5 else f"among {given.count} cells")
+    return found
+
+
+def _prepared(cells: Any) -> "array[int]":
+    """A column of cells of which no two overlap, in the order in which the library looks cells up."""
+    with columns._Memory(cells) as given:
+        out = _room("Q", given.count)
+        number = _zones(given.address, given.count, *_at(out))
+        if number:
+            raise error_of(number, columns._first_of_no_cell(given) if number == 5 else f"among {given.count} cells")
+    return out
+
+
+class CellSet(Generic[_Cell]):
+    """What regions and zones share: cells, which have the form that `_index_of` takes and `_form_of` gives."""
+
+    __slots__ = ("_order",)
+
+    # the cells in the order in which the library looks cells up
+    _order: "Optional[array[int]]"
+
+    @staticmethod
+    def _index_of(cell: _Cell) -> int:
+        raise NotImplementedError
+
+    @staticmethod
+    def _form_of(index: int) -> _Cell:
+        raise NotImplementedError
+
+    def _ascending(self) -> "array[int]":
+        raise NotImplementedError
+
+    def __len__(self) -> int:
+        return len(self._ascending())
+
+    def __iter__(self) -> Iterator[_Cell]:
+        return map(self._form_of, self._ascending())
+
+    def __eq__(self, other: object) -> bool:
+        if not isinstance(other, CellSet) or isinstance(self, CellZones) != isinstance(other, CellZones):
+            return NotImplemented
+        return self._ascending() == other._ascending()
+
+    def __hash__(self) -> int:
+        return hash(self._ascending().tobytes())
+
+    def __repr__(self) -> str:
+        cells = self._ascending()
+        shown = ", ".join(repr(self._form_of(cell)) for cell in cells[:4])
+        return f"{type(self).__name__}([{shown}{', ...' if len(cells) > 4 else ''}])" + (
+            f" of {len(cells)} cells" if len(cells) > 4 else ""
+        )
+
+    def __reduce__(self) -> Tuple[Any, ...]:
+        # (what is unpickled is judged and put in order anew)
+        return type(self), (self._ascending(),)
+
+    @classmethod
+    def _column_of(cls, cells: Any) -> Any:
+        """Cells of any kind as a column of integers; one that is such a column stays."""
+        if isinstance(cells, CellSet):
+            return cells._ascending()
+        if isinstance(cells, (str, bytes)):
+            raise TypeError(f"cells are wanted, and not one text: {cells!r}")
+        if not _is_column(cells):
+            return array("Q", map(cls._index_of, cells))
+        return columns._to_int(cells, False, array("q")) if _is_of_objects(cells) else cells
+
+    @classmethod
+    def _numbers_of(cls, cells: Any, missing: bool, integers: "Optional[array[int]]" = None) -> Any:
+        """The same of cells that are asked about; with `missing`, 0 in place of what is no index. Of a column of
+        objects, the places of integers are added to those in `integers`."""
+        if _is_column(cells) and _is_of_objects(cells):
+            return columns._to_int(cells, missing, array("q") if integers is None else integers)
+        if not missing or _is_column(cells) or isinstance(cells, (CellSet, str, bytes)):
+            return cls._column_of(cells)
+        return array("Q", map(cls._index_or_null, cells))
+
+    @classmethod
+    def _index_or_null(cls, cell: Any) -> int:
+        try:
+            return cls._index_of(cell)
+        except (H3BaseException, TypeError):
+            return 0
+
+    def _looked_up(self) -> "array[int]":
+        """The cells in the library's order. Who takes their address keeps the array as long: another thread that asks
+        for the first time at once may put its own in the place of this one."""
+        order = self._order
+        if order is None:
+            self._order = order = _prepared(self._ascending())
+        return order
+
+    def _fill(self, function: Callable[..., int], numbers: Any, typecode: str, missing: bool, is_truth: bool) -> Any:
+        """What a function over zones writes for a column."""
+        zones = self._looked_up()
+
+        def over_zones(*given: Any) -> int:
+            return function(*_at(zones), *given)
+
+        return columns._fill(over_zones, numbers, typecode, missing, is_truth=is_truth)
+
+
+class CellRegion(CellSet[_Cell]):
+    """What cells cover: the least list of cells that covers the same. The cells may repeat and overlap.
+
+    `a | b`, `a & b` and `a - b` are the regions of what either covers, both do, and the first does and the second does
+    not; `a <= b` says whether b covers all that a does. Its cells come ascending, and `len` counts them. Two regions
+    are equal where they cover the same."""
+
+    __slots__ = ("_cells",)
+
+    _cells: "array[int]"
+
+    def __init__(self, cells: Any = ()) -> None:
+        self._order = None
+        self._cells = cells._cells if isinstance(cells, CellRegion) else _united(self._column_of(cells))
+
+    @classmethod
+    def _known(cls, cells: "array[int]") -> Any:
+        """A region whose list the library has made."""
+        region: CellRegion[_Cell] = cls.__new__(cls)
+        region._order, region._cells = None, cells
+        return region
+
+    def _ascending(self) -> "array[int]":
+        return self._cells
+
+    def _with(self, other: Any, function: Callable[..., int]) -> Any:
+        if not isinstance(other, CellRegion):
+            return NotImplemented
+        lists = (*_at(self._cells), *_at(other._cells))
+        number, found = _fitted(function, lists, len(self._cells) + len(other._cells))
+        if number:
+            raise error_of(number, f"among {len(self._cells) + len(other._cells)} cells")
+        return self._known(found)
+
+    def __or__(self: _Region, other: "CellRegion[Any]") -> _Region:
+        if not isinstance(other, CellRegion):
+            return NotImplemented
+        return self._known(_united(self._cells + other._cells))  # type: ignore[no-any-return]
+
+    def __and__(self: _Region, other: "CellRegion[Any]") -> _Region:
+        return self._with(other, _intersect_cells)  # type: ignore[no-any-return]
+
+    def __sub__(self: _Region, other: "CellRegion[Any]") -> _Region:
+        return self._with(other, _subtract_cells)  # type: ignore[no-any-return]
+
+    def __le__(self, other: "CellRegion[Any]") -> bool:
+        if not isinstance(other, CellRegion):
+            return NotImplemented
+        # (what a region covers of a cell of another, all of it or not, is one of its cells or more)
+        return all(other.covers(self._cells))
+
+    def __lt__(self, other: "CellRegion[Any]") -> bool:
+        return NotImplemented if not isinstance(other, CellRegion) else self <= other and self != other
+
+    def __ge__(self, other: "CellRegion[Any]") -> bool:
+        return NotImplemented if not isinstance(other, CellRegion) else other <= self
+
+    def __gt__(self, other: "CellRegion[Any]") -> bool:
+        return NotImplemented if not isinstance(other, CellRegion) else other < self
+
+    def __contains__(self, cell: _Cell) -> bool:
+        """Whether the region covers a cell. H3CellInvalidError where it is none, H3FailedError where it is a text that
+        parses as no index."""
+        return bool(self.covers(array("Q", [self._index_of(cell)]))[0])
+
+    def covers(self, cells: Any, *, missing: bool = False) -> Any:
+        """Whether the region covers each cell of a column: a column of the same kind, or a list of truth values for any
+        other cells. With `missing=True` what is no cell is False."""
+        found = self._fill(_are_covered_cells, self._numbers_of(cells, missing), "i", missing, True)
+        return found if _is_column(cells) else [item == 1 for item in found]
+
+
+class CellZones(CellSet[_Cell]):
+    """Cells of which no two overlap, compacted or not. H3DuplicateInputError where two do.
+
+    Each cell lies in one zone at most: the one that is the cell or an ancestor of it. The zones come ascending; `in`
+    says whether a cell is one of them."""
+
+    __slots__ = ("_sorted",)
+
+    _sorted: "Optional[array[int]]"
+
+    def __init__(self, cells: Any = ()) -> None:
+        self._order = _prepared(self._column_of(cells))
+        self._sorted = None
+
+    def _ascending(self) -> "array[int]":
+        if self._sorted is None:
+            self._sorted = array("Q", sorted(self._order or ()))
+        return self._sorted
+
+    def __len__(self) -> int:
+        return len(self._order or ())
+
+    def __contains__(self, cell: _Cell) -> bool:
+        """Whether a cell is one of the zones. H3CellInvalidError where it is none, H3FailedError where it is a text
+        that parses as no index."""
+        index = self._index_of(cell)
+        return self._number_of(index) == index
+
+    def zone_of(self, cell: _Cell) -> Optional[_Cell]:
+        """The zone in which a cell lies; None where it lies in none. H3CellInvalidError where it is no cell,
+        H3FailedError where it is a text that parses as no index."""
+        return self._form_or_none(self._number_of(self._index_of(cell)))
+
+    def _number_of(self, index: int) -> int:
+        """The zone of one index, or 0."""
+        return int(self._fill(_cells_to_zones, array("Q", [index]), columns._INDEXES, False, False)[0])
+
+    def _form_or_none(self, zone: int) -> Optional[_Cell]:
+        return self._form_of(zone) if zone else None
+
+    def of(self, cells: Any, *, missing: bool = False) -> Any:
+        """The zone in which each cell of a column lies: a column of the same kind, with 0 where it lies in none. Of a
+        column of texts, of numpy or pandas, it is one of texts and None, of one of objects it has a text for a text,
+        an integer for an integer, and None, and of any other cells it is a list of zones and None. With `missing=True`
+        what is no cell is as one without a zone."""
+        integers = array("q")
+        numbers = self._numbers_of(cells, missing, integers)
+        found = self._fill(_cells_to_zones, numbers, columns._INDEXES, missing, False)
+        if not _is_column(cells):
+            return [self._form_or_none(zone) for zone in found]
+        return _objects_of(cells, found, integers) if _is_of_objects(cells) else found
+
+    def count(self, cells: Any, *, missing: bool = False) -> "Counts[_Cell]":
+        """How many cells of a column, or of any other cells, lie in each zone, and in none. With `missing=True` what
+        is no cell is counted by itself."""
+        return self._count(self._numbers_of(cells, missing), missing)
+
+    def _count(self, numbers: Any, missing: bool) -> "Counts[_Cell]":
+        zones, counts, others, place = self._looked_up(), _room("q", len(self)), _number(), _size()
+        with columns._Memory(numbers) as given:
+            number = _count_cells_in_zones(
+                *_at(zones), given.address, given.count, *_at(counts), ctypes.byref(others), ctypes.byref(place)
+            )
+            if number and not missing:
+                raise error_of(number, given.named(place.value))
+            kept = _cells_among(given) if number else None
+        if kept is None:
+            return Counts(self, counts, others.value, 0)
+        found = self._count(kept, False)
+        return Counts(self, found._counts, found.others, given.count - len(kept))
+
+
+def _cells_among(given: Any) -> Any:
+    """The indexes of a column that are cells'."""
+    whole = (ctypes.c_char * (8 * given.count)).from_address(given.address)
+    numbers = memoryview(whole).cast("B").cast("Q")
+    are_cells = columns.are_valid_cells(numbers)
+    numpy = sys.modules.get("numpy")
+    if numpy is not None:
+        return numpy.frombuffer(numbers, dtype="uint64")[numpy.frombuffer(are_cells, dtype="int8") > 0]
+    return array("Q", compress(numbers, are_cells))
+
+
+def _objects_of(column: Any, zones: Any, integers: "array[int]") -> Any:
+    """Zones as a column of objects of the same kind: integers at the places of integers, else texts, and None in place
+    of 0."""
+    numpy = sys.modules["numpy"]
+    numbers = zones.to_numpy() if columns._is_series(zones) else zones.ravel()
+    are_texts = numbers > 0
+    are_texts[numpy.array(integers, dtype="int64")] = False
+    found = numbers.astype(object)
+    found[are_texts] = columns.int_to_str(numbers[are_texts])
+    found[numbers == 0] = None
+    if columns._is_series(column):
+        return type(column)(found, index=column.index, name=column.name, dtype=object)
+    return found.reshape(zones.shape)
+
+
+class Counts(Mapping[_Cell, int]):
+    """How many cells lie in each zone, by the zone, ascending. `others` lie in none, and `refused` were no cells,
+    where that is no error: all of these add up to the number of what was counted. Counts of parts of a column, which
+    `+` adds up, are those of the whole.
+
+    Two of them are equal where they have the same zones with the same counts, and the same `others` and `refused`. A
+    dict, or another mapping, has nothing beside its items, so it is equal to counts where both have the same items and
+    the counts have no `others` and no `refused`; `dict(counts)` has the items alone. Counts have no hash."""
+
+    __slots__ = ("_zones", "_counts", "_by_zone", "others", "refused")
+
+    others: int
+    refused: int
+
+    def __init__(self, zones: CellZones[_Cell], counts: "array[int]", others: int, refused: int) -> None:
+        self._zones: CellZones[_Cell] = zones
+        self._counts, self.others, self.refused = counts, others, refused
+        self._by_zone: Optional[Dict[int, int]] = None
+
+    def _counted(self) -> Dict[int, int]:
+        if self._by_zone is None:
+            self._by_zone = dict(zip(self._zones._order or (), self._counts))
+        return self._by_zone
+
+    def __getitem__(self, zone: _Cell) -> int:
+        try:
+            return self._counted()[self._zones._index_of(zone)]
+        except (KeyError, H3BaseException):
+            raise KeyError(zone) from None
+
+    def __iter__(self) -> Iterator[_Cell]:
+        return iter(self._zones)
+
+    def __len__(self) -> int:
+        return len(self._counts)
+
+    def __eq__(self, other: object) -> bool:
+        if not isinstance(other, Mapping):
+            return NotImplemented
+        beside = (other.others, other.refused) if isinstance(other, Counts) else (0, 0)
+        return (self.others, self.refused) == beside and super().__eq__(other)
+
+    def __add__(self, other: "Counts[_Cell]") -> "Counts[_Cell]":
+        if not isinstance(other, Counts):
+            return NotImplemented
+        if self._zones != other._zones:
+            raise ValueError("counts of other zones do not add up")
+        added = array("q", map(int.__add__, self._counts, other._counts))
+        return Counts(self._zones, added, self.others + other.others, self.refused + other.refused)
+
+    def __repr__(self) -> str:
+        return f"Counts of {len(self)} zones: {sum(self._counts)} cells, {self.others} others, {self.refused} refused"
+
+    def column(self) -> Tuple[List[_Cell], List[int]]:
+        """The zones, ascending, and the count of each: two lists, of which a DataFrame can be made."""
+        counted = self._counted()
+        cells = self._zones._ascending()
+        return [self._zones._form_of(cell) for cell in cells], [counted[cell] for cell in cells]
