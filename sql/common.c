@@ -2,6 +2,7 @@
 
 #include <inttypes.h>
 #include <stdio.h>
+#include <string.h>
 
 static const char *const error_names[] = {
     "E_SUCCESS",        "E_FAILED",       "E_DOMAIN",           "E_LATLNG_DOMAIN",
@@ -20,14 +21,12 @@ void h3sql_error_text(H3Error error, char text[H3SQL_ERROR_ROOM]) {
  * resolution; the length of the list where there is none. */
 static size_t first_refused(H3Error error, const H3Index *cells, size_t count, int res) {
     size_t at = 0;
-    while (at < count && (error == E_CELL_INVALID ? h3w_isValidCell(cells[at])
-                                                  : h3w_getResolution(cells[at]) <= res))
+    while (at < count && (error == E_CELL_INVALID ? h3w_isValidCell(cells[at]) : h3w_getResolution(cells[at]) <= res))
         at++;
     return at;
 }
 
-void h3sql_about_list(char text[H3SQL_ABOUT_ROOM], H3Error error, const H3Index *cells,
-                      size_t count, int res) {
+void h3sql_about_list(char text[H3SQL_ABOUT_ROOM], H3Error error, const H3Index *cells, size_t count, int res) {
     bool is_finer = error == E_RES_MISMATCH;
     size_t at = is_finer || error == E_CELL_INVALID ? first_refused(error, cells, count, res) : count;
     int n;
@@ -39,8 +38,7 @@ void h3sql_about_list(char text[H3SQL_ABOUT_ROOM], H3Error error, const H3Index 
     if (is_finer) snprintf(text + n, H3SQL_ABOUT_ROOM - (size_t)n, ", at resolution %d", res);
 }
 
-H3Error h3sql_read_table(H3wTable *table, const char *bytes, size_t count,
-                         char text[H3SQL_FAULT_ROOM]) {
+H3Error h3sql_read_table(H3wTable *table, const char *bytes, size_t count, char text[H3SQL_FAULT_ROOM]) {
     static const char *const formats[] = {
         "table: refused",
         "table: read",
@@ -91,10 +89,81 @@ H3Index h3sql_first_invalid(const h3sql_List *list) {
     return at < list->count ? list->cells[at] : H3_NULL;
 }
 
+bool h3sql_has_cells_only(const h3sql_List *list) {
+    return first_refused(E_CELL_INVALID, list->cells, list->count, 0) == list->count;
+}
+
+static const H3Index none = H3_NULL;
+
+/* The cells of a list, by an address that is never null. */
+static const H3Index *cells_of(const h3sql_List *list) { return list->count ? list->cells : &none; }
+
 H3Error h3sql_compact(const h3sql_List *list, H3Index *out, size_t *count) {
-    static const H3Index none = H3_NULL;
-    return h3w_compactCells(list->count ? list->cells : &none, list->count, out, list->count,
-                            count);
+    return h3w_compactCells(cells_of(list), list->count, out, list->count, count);
+}
+
+H3Error h3sql_unite(const h3sql_List *list, H3Index *out, size_t *count) {
+    return h3w_uniteCells(cells_of(list), list->count, out, list->count, count);
+}
+
+/* A list with room for so many cells, and one more. */
+static H3Error take_room(h3sql_List *list, size_t room, h3sql_Resize resize, void *engine) {
+    memset(list, 0, sizeof *list);
+    if (room == SIZE_MAX) return E_MEMORY_ALLOC;
+    return h3sql_reserve(list, room + 1, resize, engine);
+}
+
+H3Error h3sql_operate(h3sql_List *out, h3sql_Operation *operation, const h3sql_List *first, const h3sql_List *second,
+                      h3sql_Resize resize, void *engine) {
+    /* what is left of a cell may be more cells than both lists have */
+    size_t count = first->count + second->count;
+    H3Error error = take_room(out, count, resize, engine);
+    if (error) return error;
+    error = operation(cells_of(first), first->count, cells_of(second), second->count, out->cells, out->room, &count);
+    if (error == E_MEMORY_BOUNDS) {
+        error = h3sql_reserve(out, count, resize, engine);
+        if (!error)
+            error = operation(cells_of(first), first->count, cells_of(second), second->count, out->cells, out->room,
+                              &count);
+    }
+    if (!error) out->count = count;
+    return error;
+}
+
+H3Error h3sql_prepare(h3sql_List *prepared, const h3sql_List *list, bool is_region, h3sql_Resize resize, void *engine) {
+    const H3Index *cells = cells_of(list);
+    size_t count = list->count;
+    /* the region stands behind the room of the zones that are made of it */
+    H3Error error = take_room(prepared, is_region ? 2 * count : count, resize, engine);
+    if (!error && is_region) {
+        H3Index *region = prepared->cells + list->count;
+        error = h3w_uniteCells(cells, list->count, region, list->count, &count);
+        cells = region;
+    }
+    if (!error) error = h3w_zones(cells, count, prepared->cells, count);
+    if (!error) {
+        void *less = resize(engine, prepared->cells, (count + 1) * sizeof *cells);
+        prepared->count = count;
+        if (less) prepared->cells = less;
+    }
+    return error;
+}
+
+H3Error h3sql_zone_of(const h3sql_List *prepared, H3Index cell, H3Index *zone) {
+    size_t at;
+    return h3w_cellsToZones(cells_of(prepared), prepared->count, &cell, 1, zone, 1, &at);
+}
+
+H3Error h3sql_ancestors(H3Index cell, H3Index out[H3SQL_ANCESTORS], size_t *count) {
+    int res, finest = h3w_getResolution(cell);
+    *count = 0;
+    if (finest < 0) return E_CELL_INVALID;
+    for (res = 0; res <= finest; res++) {
+        H3Error error = h3w_cellToParent(cell, res, &out[res]);
+        if (error) return error;
+    }
+    *count = (size_t)finest + 1;
+    return E_SUCCESS;
 }
 
 void h3sql_listed(h3sql_Rows *rows, const H3Index *cells, size_t count) {
@@ -142,8 +211,8 @@ H3Error h3sql_uncompacted(h3sql_Rows *rows, const H3Index *cells, size_t count, 
     return error == E_MEMORY_BOUNDS ? E_SUCCESS : error;
 }
 
-static H3Error walk_into(H3Index *out, int *distances, size_t room, h3sql_Walk walk,
-                         const H3wTable *table, H3Index origin, int k) {
+static H3Error walk_into(H3Index *out, int *distances, size_t room, h3sql_Walk walk, const H3wTable *table,
+                         H3Index origin, int k) {
     switch (walk) {
         case H3SQL_DISK:
             return h3w_gridDiskUnsafe(table, origin, k, out, room);
@@ -161,8 +230,8 @@ static uint64_t walk_count(h3sql_Walk walk, int k) {
     return 3 * steps * (steps + 1) + 1;
 }
 
-H3Error h3sql_walk(h3sql_Rows *rows, h3sql_Walk walk, const H3wTable *table, H3Index origin, int k,
-                   h3sql_Resize resize, void *engine, void **memory) {
+H3Error h3sql_walk(h3sql_Rows *rows, h3sql_Walk walk, const H3wTable *table, H3Index origin, int k, h3sql_Resize resize,
+                   void *engine, void **memory) {
     const size_t item = sizeof(H3Index) + sizeof(int);
     H3Index *cells, first;
     int *distances, distance;
@@ -197,8 +266,7 @@ H3Error h3sql_next(h3sql_Rows *rows, H3Index *row, bool *found) {
     }
     *found = rows->at < rows->count;
     if (!*found) return E_SUCCESS;
-    if (rows->position == 0)
-        error = h3w_cellToChildrenSize(rows->cells[rows->at], rows->res, &rows->size);
+    if (rows->position == 0) error = h3w_cellToChildrenSize(rows->cells[rows->at], rows->res, &rows->size);
     if (!error) error = h3w_childPosToCell(rows->position, rows->cells[rows->at], rows->res, row);
     if (error) return error;
     if (++rows->position == rows->size) {

@@ -19,8 +19,7 @@ void h3sql_error_text(H3Error error, char text[H3SQL_ERROR_ROOM]);
 /* Writes what an error of a list of cells is about: the first cell that is refused and which one it
  * is, from 1 on, as "5, cell 2 of 3"; else how many there are. `res` is the resolution at which the
  * cells were asked for, or any where they were not. */
-void h3sql_about_list(char text[H3SQL_ABOUT_ROOM], H3Error error, const H3Index *cells,
-                      size_t count, int res);
+void h3sql_about_list(char text[H3SQL_ABOUT_ROOM], H3Error error, const H3Index *cells, size_t count, int res);
 
 /* The room of a text that says why a table is refused, and the most bytes that its file may have. */
 #define H3SQL_FAULT_ROOM 40
@@ -28,8 +27,7 @@ void h3sql_about_list(char text[H3SQL_ABOUT_ROOM], H3Error error, const H3Index 
 
 /* Reads a base cell table from the bytes of its file. E_MEMORY_ALLOC: there is no memory. E_FAILED:
  * it is refused, and `text` says why, as the command h3 does: "table: reversal 30 4". */
-H3Error h3sql_read_table(H3wTable *table, const char *bytes, size_t count,
-                         char text[H3SQL_FAULT_ROOM]);
+H3Error h3sql_read_table(H3wTable *table, const char *bytes, size_t count, char text[H3SQL_FAULT_ROOM]);
 
 /* The engine's function that takes more memory for what it has given before (NULL: nothing). It
  * returns NULL where there is none, or it does not return. */
@@ -50,8 +48,37 @@ H3Error h3sql_push(h3sql_List *list, H3Index cell, h3sql_Resize resize, void *en
 /* The first index of a list that is no cell's; H3_NULL where all are. */
 H3Index h3sql_first_invalid(const h3sql_List *list);
 
+/* Whether each index of a list is a cell's. */
+bool h3sql_has_cells_only(const h3sql_List *list);
+
 /* Compacts a list as h3w_compactCells does, into room for as many cells as it has, and one more. */
 H3Error h3sql_compact(const h3sql_List *list, H3Index *out, size_t *count);
+
+/* The region of a list, whose cells may repeat and overlap, as h3w_uniteCells: into the same room. */
+H3Error h3sql_unite(const h3sql_List *list, H3Index *out, size_t *count);
+
+/* What a region has in common with another, or beyond it: h3w_intersectCells or h3w_subtractCells. */
+typedef H3Error h3sql_Operation(const H3Index *, size_t, const H3Index *, size_t, H3Index *, size_t, size_t *);
+
+/* What an operation gives for two lists, whose cells may repeat and overlap. In every case `out` has
+ * the memory that was taken, which is the engine's. */
+H3Error h3sql_operate(h3sql_List *out, h3sql_Operation *operation, const h3sql_List *first, const h3sql_List *second,
+                      h3sql_Resize resize, void *engine);
+
+/* Prepares a list for h3w_cellsToZones and h3w_areCoveredCells: as zones, of which no two may
+ * overlap, or as a region. In every case `prepared` has the memory that was taken, which is the
+ * engine's. */
+H3Error h3sql_prepare(h3sql_List *prepared, const h3sql_List *list, bool is_region, h3sql_Resize resize, void *engine);
+
+/* Whether prepared cells cover a cell, and which of them does; H3_NULL where none does.
+ * E_CELL_INVALID: the index is no cell's. */
+H3Error h3sql_zone_of(const h3sql_List *prepared, H3Index cell, H3Index *zone);
+
+/* The most cells that are a cell or its ancestors. */
+#define H3SQL_ANCESTORS 16
+
+/* A cell's ancestors and the cell itself, ascending. E_CELL_INVALID: the index is no cell's. */
+H3Error h3sql_ancestors(H3Index cell, H3Index out[H3SQL_ANCESTORS], size_t *count);
 
 /* The rows of a set, one after another. They take no memory but that of the cells which they come
  * from. */
@@ -72,12 +99,11 @@ typedef struct {
 /* Begin the rows of a set. The errors are those of the functions of libh3whole that are named. What
  * `cells` points to must stay while rows are taken, and is never null. */
 void h3sql_listed(h3sql_Rows *rows, const H3Index *cells, size_t count);
-H3Error h3sql_res0_cells(h3sql_Rows *rows);            /* h3w_getRes0Cells */
-H3Error h3sql_pentagons(h3sql_Rows *rows, int res);    /* h3w_getPentagons */
-H3Error h3sql_edges(h3sql_Rows *rows, H3Index origin); /* h3w_originToDirectedEdges, no H3_NULL */
+H3Error h3sql_res0_cells(h3sql_Rows *rows);                      /* h3w_getRes0Cells */
+H3Error h3sql_pentagons(h3sql_Rows *rows, int res);              /* h3w_getPentagons */
+H3Error h3sql_edges(h3sql_Rows *rows, H3Index origin);           /* h3w_originToDirectedEdges, no H3_NULL */
 H3Error h3sql_children(h3sql_Rows *rows, H3Index cell, int res); /* h3w_cellToChildren */
-H3Error h3sql_uncompacted(h3sql_Rows *rows, const H3Index *cells, size_t count,
-                          int res); /* h3w_uncompactCells */
+H3Error h3sql_uncompacted(h3sql_Rows *rows, const H3Index *cells, size_t count, int res); /* h3w_uncompactCells */
 
 /* The walks over a base cell table: a disk, a disk with the distance of each cell, and a ring. */
 typedef enum { H3SQL_DISK, H3SQL_DISTANCES, H3SQL_RING } h3sql_Walk;
@@ -85,8 +111,8 @@ typedef enum { H3SQL_DISK, H3SQL_DISTANCES, H3SQL_RING } h3sql_Walk;
 /* Begins the rows of a walk: h3w_gridDiskUnsafe, h3w_gridDiskDistancesUnsafe or h3w_gridRingUnsafe.
  * `*memory`, which is written in every case, is the engine's that has its cells, or null; it must
  * stay while rows are taken. */
-H3Error h3sql_walk(h3sql_Rows *rows, h3sql_Walk walk, const H3wTable *table, H3Index origin, int k,
-                   h3sql_Resize resize, void *engine, void **memory);
+H3Error h3sql_walk(h3sql_Rows *rows, h3sql_Walk walk, const H3wTable *table, H3Index origin, int k, h3sql_Resize resize,
+                   void *engine, void **memory);
 
 /* Takes the next row; `*found` is false where there is none. */
 H3Error h3sql_next(h3sql_Rows *rows, H3Index *row, bool *found);

@@ -1,4 +1,5 @@
-/* H3's functions in PostgreSQL. h3whole--1.0.sql and h3whole--1.0--1.1.sql declare them; docs/LIBRARY.md lists them. */
+/* H3's functions in PostgreSQL. h3whole--1.0.sql and the scripts of later versions declare them; docs/LIBRARY.md
+ * lists them. */
 #include "postgres.h"
 
 #include "fmgr.h"
@@ -6,6 +7,7 @@
 #include "miscadmin.h"
 #include "nodes/nodeFuncs.h"
 #include "nodes/supportnodes.h"
+#include "optimizer/cost.h"
 #include "optimizer/optimizer.h"
 #include "storage/fd.h"
 #include "utils/array.h"
@@ -25,8 +27,8 @@ PG_MODULE_MAGIC;
 /* an h3cell is its index, as the Datum and as the items of an array */
 StaticAssertDecl(sizeof(Datum) == sizeof(H3Index), "h3cell takes a server of 64 bits");
 
-#define GET_INDEX(n) ((H3Index)PG_GETARG_INT64(n))
-#define INDEX_DATUM(index) Int64GetDatum((int64)(index))
+#define GET_INDEX(n) ((H3Index) PG_GETARG_INT64(n))
+#define INDEX_DATUM(index) Int64GetDatum((int64) (index))
 
 static int sqlstate_of(H3Error error)
 {
@@ -44,9 +46,9 @@ static int sqlstate_of(H3Error error)
 /* Reports an error of H3, and what was refused. */
 static void pg_attribute_printf(2, 3) refuse(H3Error error, const char *format, ...)
 {
-	char		text[H3SQL_ERROR_ROOM];
-	char		about[H3SQL_ABOUT_ROOM];
-	va_list		given;
+	char text[H3SQL_ERROR_ROOM];
+	char about[H3SQL_ABOUT_ROOM];
+	va_list given;
 
 	h3sql_error_text(error, text);
 	if (error == E_MEMORY_ALLOC)
@@ -84,7 +86,7 @@ static void check_resolution(H3Error error, int64 res)
 /* Reports an error of a function of a list of cells, which may be asked for at a resolution. */
 static void check_list(H3Error error, const H3Index *cells, size_t count, int64 res)
 {
-	char		about[H3SQL_ABOUT_ROOM];
+	char about[H3SQL_ABOUT_ROOM];
 
 	if (likely(!error))
 		return;
@@ -107,15 +109,14 @@ PG_FUNCTION_INFO_V1(h3whole_in);
 Datum h3whole_in(PG_FUNCTION_ARGS)
 {
 	const char *text = PG_GETARG_CSTRING(0);
-	H3Index		index = H3_NULL;
-	char		said[H3SQL_ERROR_ROOM];
-	H3Error		error = h3w_stringToH3(text, strlen(text), &index);
+	H3Index index = H3_NULL;
+	char said[H3SQL_ERROR_ROOM];
+	H3Error error = h3w_stringToH3(text, strlen(text), &index);
 
 	if (unlikely(error))
 	{
 		h3sql_error_text(error, said);
-		REFUSE_INPUT(errcode(sqlstate_of(error)),
-					 errmsg("invalid input syntax for type %s: \"%s\"", "h3cell", text),
+		REFUSE_INPUT(errcode(sqlstate_of(error)), errmsg("invalid input syntax for type %s: \"%s\"", "h3cell", text),
 					 errdetail("%s", said));
 	}
 	PG_RETURN_DATUM(INDEX_DATUM(index));
@@ -125,7 +126,7 @@ PG_FUNCTION_INFO_V1(h3whole_out);
 Datum h3whole_out(PG_FUNCTION_ARGS)
 {
 	const size_t room = 17;
-	char	   *text = palloc(room);
+	char *text = palloc(room);
 
 	check(h3w_h3ToString(GET_INDEX(0), text, room), GET_INDEX(0));
 	PG_RETURN_CSTRING(text);
@@ -135,15 +136,18 @@ Datum h3whole_out(PG_FUNCTION_ARGS)
 PG_FUNCTION_INFO_V1(h3whole_cmp);
 Datum h3whole_cmp(PG_FUNCTION_ARGS)
 {
-	H3Index		a = GET_INDEX(0);
-	H3Index		b = GET_INDEX(1);
+	H3Index a = GET_INDEX(0);
+	H3Index b = GET_INDEX(1);
 
 	PG_RETURN_INT32((a > b) - (a < b));
 }
 
 #define COMPARISON(name, operator) \
 	PG_FUNCTION_INFO_V1(name); \
-	Datum name(PG_FUNCTION_ARGS) { PG_RETURN_BOOL(GET_INDEX(0) operator GET_INDEX(1)); }
+	Datum name(PG_FUNCTION_ARGS) \
+	{ \
+		PG_RETURN_BOOL(GET_INDEX(0) operator GET_INDEX(1)); \
+	}
 
 COMPARISON(h3whole_lt, <)
 COMPARISON(h3whole_le, <=)
@@ -182,8 +186,8 @@ typedef H3Error Column(const H3Index *, size_t, int *, size_t, size_t *);
 /* A number or a truth value, by the function for columns, which refuses what is no cell. */
 static int number_of(H3Index index, Column *function)
 {
-	int			out = 0;
-	size_t		at;
+	int out = 0;
+	size_t at;
 
 	check(function(&index, 1, &out, 1, &at), index);
 	return out;
@@ -221,23 +225,31 @@ static int as_int(int64 number)
 	return number < INT_MIN || number > INT_MAX ? -1 : (int) number;
 }
 
-/* A function for SQL whose argument of this place is a resolution, as a bigint; and the same of version 1.0, where it is
- * an integer. What they do is the function `name_of`. */
+/* A function for SQL whose argument of this place is a resolution, as a bigint; and the same of version 1.0, where it
+ * is an integer. What they do is the function `name_of`. */
 #define AT_RESOLUTION(name, place) \
 	PG_FUNCTION_INFO_V1(name##_at); \
-	Datum name##_at(PG_FUNCTION_ARGS) { return name##_of(fcinfo, PG_GETARG_INT64(place)); } \
+	Datum name##_at(PG_FUNCTION_ARGS) \
+	{ \
+		return name##_of(fcinfo, PG_GETARG_INT64(place)); \
+	} \
 	PG_FUNCTION_INFO_V1(name); \
-	Datum name(PG_FUNCTION_ARGS) { return name##_of(fcinfo, PG_GETARG_INT32(place)); }
+	Datum name(PG_FUNCTION_ARGS) \
+	{ \
+		return name##_of(fcinfo, PG_GETARG_INT32(place)); \
+	}
 
 /* The same at a resolution that is so many steps finer than that of the cell. */
 #define AT_NEXT(name, steps) \
 	PG_FUNCTION_INFO_V1(name##_next); \
 	Datum name##_next(PG_FUNCTION_ARGS) \
-	{ return name##_of(fcinfo, number_of(GET_INDEX(0), h3w_getResolutions) + (steps)); }
+	{ \
+		return name##_of(fcinfo, number_of(GET_INDEX(0), h3w_getResolutions) + (steps)); \
+	}
 
 static Datum h3whole_cell_to_parent_of(FunctionCallInfo fcinfo, int64 res)
 {
-	H3Index		out = H3_NULL;
+	H3Index out = H3_NULL;
 
 	check_at(h3w_cellToParent(GET_INDEX(0), as_int(res), &out), GET_INDEX(0), res);
 	PG_RETURN_DATUM(INDEX_DATUM(out));
@@ -248,7 +260,7 @@ AT_NEXT(h3whole_cell_to_parent, -1)
 
 static Datum h3whole_cell_to_center_child_of(FunctionCallInfo fcinfo, int64 res)
 {
-	H3Index		out = H3_NULL;
+	H3Index out = H3_NULL;
 
 	check_at(h3w_cellToCenterChild(GET_INDEX(0), as_int(res), &out), GET_INDEX(0), res);
 	PG_RETURN_DATUM(INDEX_DATUM(out));
@@ -259,7 +271,7 @@ AT_NEXT(h3whole_cell_to_center_child, 1)
 
 static Datum h3whole_cell_to_children_size_of(FunctionCallInfo fcinfo, int64 res)
 {
-	int64_t		out = 0;
+	int64_t out = 0;
 
 	check_at(h3w_cellToChildrenSize(GET_INDEX(0), as_int(res), &out), GET_INDEX(0), res);
 	PG_RETURN_INT64(out);
@@ -269,7 +281,7 @@ AT_RESOLUTION(h3whole_cell_to_children_size, 1)
 
 static Datum h3whole_cell_to_child_pos_of(FunctionCallInfo fcinfo, int64 res)
 {
-	int64_t		out = 0;
+	int64_t out = 0;
 
 	check_at(h3w_cellToChildPos(GET_INDEX(0), as_int(res), &out), GET_INDEX(0), res);
 	PG_RETURN_INT64(out);
@@ -279,16 +291,15 @@ AT_RESOLUTION(h3whole_cell_to_child_pos, 1)
 
 static Datum h3whole_child_pos_to_cell_of(FunctionCallInfo fcinfo, int64 res)
 {
-	int64		position = PG_GETARG_INT64(0);
-	H3Index		parent = GET_INDEX(1);
-	H3Index		out = H3_NULL;
-	H3Error		error = h3w_childPosToCell(position, parent, as_int(res), &out);
+	int64 position = PG_GETARG_INT64(0);
+	H3Index parent = GET_INDEX(1);
+	H3Index out = H3_NULL;
+	H3Error error = h3w_childPosToCell(position, parent, as_int(res), &out);
 
 	if (error == E_CELL_INVALID)
 		check(error, parent);
 	if (unlikely(error))
-		refuse(error, "position " INT64_FORMAT " in %" PRIx64 " at resolution " INT64_FORMAT,
-			   position, parent, res);
+		refuse(error, "position " INT64_FORMAT " in %" PRIx64 " at resolution " INT64_FORMAT, position, parent, res);
 	PG_RETURN_DATUM(INDEX_DATUM(out));
 }
 
@@ -296,7 +307,7 @@ AT_RESOLUTION(h3whole_child_pos_to_cell, 2)
 
 static Datum h3whole_get_num_cells_of(FunctionCallInfo fcinfo, int64 res)
 {
-	int64_t		out = 0;
+	int64_t out = 0;
 
 	check_resolution(h3w_getNumCells(as_int(res), &out), res);
 	PG_RETURN_INT64(out);
@@ -307,7 +318,7 @@ AT_RESOLUTION(h3whole_get_num_cells, 0)
 PG_FUNCTION_INFO_V1(h3whole_get_directed_edge_origin);
 Datum h3whole_get_directed_edge_origin(PG_FUNCTION_ARGS)
 {
-	H3Index		out = H3_NULL;
+	H3Index out = H3_NULL;
 
 	check(h3w_getDirectedEdgeOrigin(GET_INDEX(0), &out), GET_INDEX(0));
 	PG_RETURN_DATUM(INDEX_DATUM(out));
@@ -319,16 +330,15 @@ Datum h3whole_get_directed_edge_origin(PG_FUNCTION_ARGS)
 static h3sql_Rows *new_rows(FunctionCallInfo fcinfo, FuncCallContext **context)
 {
 	*context = SRF_FIRSTCALL_INIT();
-	(*context)->user_fctx =
-		MemoryContextAllocZero((*context)->multi_call_memory_ctx, sizeof(h3sql_Rows));
+	(*context)->user_fctx = MemoryContextAllocZero((*context)->multi_call_memory_ctx, sizeof(h3sql_Rows));
 	return (*context)->user_fctx;
 }
 
 static Datum next_row(FunctionCallInfo fcinfo)
 {
 	FuncCallContext *context = SRF_PERCALL_SETUP();
-	H3Index		row = H3_NULL;
-	bool		found;
+	H3Index row = H3_NULL;
+	bool found;
 
 	CHECK_FOR_INTERRUPTS();
 	check_resolution(h3sql_next(context->user_fctx, &row, &found), ((h3sql_Rows *) context->user_fctx)->res);
@@ -388,13 +398,13 @@ static const H3wTable *table;
 /* Reads the file of a table; false where it is refused, and then the detail says why. */
 static bool read_table(const char *name, H3wTable *found)
 {
-	char		folder[MAXPGPATH];
-	char		path[MAXPGPATH];
-	char		text[H3SQL_FAULT_ROOM] = "table: more than a megabyte";
-	char	   *bytes;
-	size_t		count;
-	FILE	   *file;
-	bool		is_read;
+	char folder[MAXPGPATH];
+	char path[MAXPGPATH];
+	char text[H3SQL_FAULT_ROOM] = "table: more than a megabyte";
+	char *bytes;
+	size_t count;
+	FILE *file;
+	bool is_read;
 
 	get_share_path(my_exec_path, folder);
 	snprintf(path, sizeof path, "%s/extension/h3whole/%s.csv", folder, name);
@@ -437,7 +447,7 @@ static bool is_plain_name(const char *name)
 
 static bool check_table(char **name, void **extra, GucSource source)
 {
-	H3wTable	found;
+	H3wTable found;
 
 	if (**name == 0)
 		return true;
@@ -459,11 +469,12 @@ static void assign_table(const char *name, void *extra)
 	table = extra;
 }
 
-void		_PG_init(void);
+void _PG_init(void);
 
 void _PG_init(void)
 {
-	DefineCustomStringVariable("h3whole.base_cells", "The base cell table of the functions that walk from cell to cell.",
+	DefineCustomStringVariable("h3whole.base_cells",
+							   "The base cell table of the functions that walk from cell to cell.",
 							   "NAME stands for extension/h3whole/NAME.csv in the server's folder of shared files.",
 							   &table_name, "", PGC_USERSET, 0, check_table, assign_table, NULL);
 #if PG_VERSION_NUM >= 150000
@@ -475,10 +486,10 @@ void _PG_init(void)
 static const H3wTable *the_table(void)
 {
 	if (!table)
-		ereport(ERROR, (errcode(ERRCODE_OBJECT_NOT_IN_PREREQUISITE_STATE),
-						errmsg("there is no base cell table"),
-						errhint("SET h3whole.base_cells = 'NAME' reads extension/h3whole/NAME.csv in the server's folder "
-								"of shared files.")));
+		ereport(ERROR,
+				(errcode(ERRCODE_OBJECT_NOT_IN_PREREQUISITE_STATE), errmsg("there is no base cell table"),
+				 errhint("SET h3whole.base_cells = 'NAME' reads extension/h3whole/NAME.csv in the server's folder "
+						 "of shared files.")));
 	return table;
 }
 
@@ -504,10 +515,10 @@ static FuncCallContext *begin_walk(FunctionCallInfo fcinfo, h3sql_Walk walk)
 {
 	FuncCallContext *context;
 	h3sql_Rows *rows = new_rows(fcinfo, &context);
-	int64		k = PG_GETARG_INT64(1);
-	void	   *memory;
-	H3Error		error = h3sql_walk(rows, walk, the_table(), GET_INDEX(0), as_int(k), resize_rows,
-								   context->multi_call_memory_ctx, &memory);
+	int64 k = PG_GETARG_INT64(1);
+	void *memory;
+	H3Error error = h3sql_walk(rows, walk, the_table(), GET_INDEX(0), as_int(k), resize_rows,
+							   context->multi_call_memory_ctx, &memory);
 
 	check_walk(error, GET_INDEX(0), k);
 	return context;
@@ -533,7 +544,7 @@ Datum h3whole_grid_ring_unsafe(PG_FUNCTION_ARGS)
 static TupleDesc row_kind(FunctionCallInfo fcinfo, FuncCallContext *context)
 {
 	MemoryContext before = MemoryContextSwitchTo(context->multi_call_memory_ctx);
-	TupleDesc	kind;
+	TupleDesc kind;
 
 	if (get_call_result_type(fcinfo, NULL, &kind) != TYPEFUNC_COMPOSITE)
 		ereport(ERROR, (errcode(ERRCODE_FEATURE_NOT_SUPPORTED), errmsg("rows of two columns are not expected")));
@@ -547,10 +558,10 @@ Datum h3whole_grid_disk_distances_unsafe(PG_FUNCTION_ARGS)
 {
 	FuncCallContext *context;
 	h3sql_Rows *rows;
-	H3Index		row = H3_NULL;
-	Datum		values[2];
-	bool		nulls[2] = {false, false};
-	bool		found;
+	H3Index row = H3_NULL;
+	Datum values[2];
+	bool nulls[2] = {false, false};
+	bool found;
 
 	if (SRF_IS_FIRSTCALL())
 	{
@@ -581,7 +592,7 @@ static void check_pair(H3Error error, H3Index a, H3Index b)
 PG_FUNCTION_INFO_V1(h3whole_are_neighbor_cells);
 Datum h3whole_are_neighbor_cells(PG_FUNCTION_ARGS)
 {
-	int			out = 0;
+	int out = 0;
 
 	check_pair(h3w_areNeighborCells(the_table(), GET_INDEX(0), GET_INDEX(1), &out), GET_INDEX(0), GET_INDEX(1));
 	PG_RETURN_BOOL(out == 1);
@@ -590,7 +601,7 @@ Datum h3whole_are_neighbor_cells(PG_FUNCTION_ARGS)
 PG_FUNCTION_INFO_V1(h3whole_cells_to_directed_edge);
 Datum h3whole_cells_to_directed_edge(PG_FUNCTION_ARGS)
 {
-	H3Index		out = H3_NULL;
+	H3Index out = H3_NULL;
 
 	check_pair(h3w_cellsToDirectedEdge(the_table(), GET_INDEX(0), GET_INDEX(1), &out), GET_INDEX(0), GET_INDEX(1));
 	PG_RETURN_DATUM(INDEX_DATUM(out));
@@ -599,7 +610,7 @@ Datum h3whole_cells_to_directed_edge(PG_FUNCTION_ARGS)
 PG_FUNCTION_INFO_V1(h3whole_get_directed_edge_destination);
 Datum h3whole_get_directed_edge_destination(PG_FUNCTION_ARGS)
 {
-	H3Index		out = H3_NULL;
+	H3Index out = H3_NULL;
 
 	check(h3w_getDirectedEdgeDestination(the_table(), GET_INDEX(0), &out), GET_INDEX(0));
 	PG_RETURN_DATUM(INDEX_DATUM(out));
@@ -610,27 +621,29 @@ Datum h3whole_get_directed_edge_destination(PG_FUNCTION_ARGS)
 /* The cells of an array that stays. */
 static h3sql_List cells_of(ArrayType *array)
 {
-	h3sql_List	list;
+	h3sql_List list;
 
 	if (array_contains_nulls(array))
-		ereport(ERROR, (errcode(ERRCODE_NULL_VALUE_NOT_ALLOWED),
-						errmsg("array must not contain nulls")));
+		ereport(ERROR, (errcode(ERRCODE_NULL_VALUE_NOT_ALLOWED), errmsg("array must not contain nulls")));
 	list.cells = (H3Index *) ARR_DATA_PTR(array);
 	list.count = (size_t) ArrayGetNItems(ARR_NDIM(array), ARR_DIMS(array));
 	list.room = list.count;
 	return list;
 }
 
-/* The compacted cells of a list, in the current memory. Where the list is not the whole of what was given, an error
+/* What makes a list of cells of another: h3sql_compact or h3sql_unite. */
+typedef H3Error Made(const h3sql_List *, H3Index *, size_t *);
+
+/* The list that is made of a list, in the current memory. Where the list is not the whole of what was given, an error
  * names a cell without its place. */
-static h3sql_List compacted(const h3sql_List *list, bool is_whole)
+static h3sql_List made_of(Made *made, const h3sql_List *list, bool is_whole)
 {
-	h3sql_List	out = {NULL, 0, list->count + 1};
-	H3Error		error;
+	h3sql_List out = {NULL, 0, list->count + 1};
+	H3Error error;
 
 	CHECK_FOR_INTERRUPTS();
 	out.cells = MemoryContextAllocHuge(CurrentMemoryContext, out.room * sizeof(H3Index));
-	error = h3sql_compact(list, out.cells, &out.count);
+	error = made(list, out.cells, &out.count);
 	if (error == E_CELL_INVALID && !is_whole)
 		check(error, h3sql_first_invalid(list));
 	check_list(error, list->cells, list->count, 0);
@@ -644,9 +657,9 @@ Datum h3whole_compact_cells(PG_FUNCTION_ARGS)
 	{
 		FuncCallContext *context;
 		h3sql_Rows *rows = new_rows(fcinfo, &context);
-		h3sql_List	given = cells_of(PG_GETARG_ARRAYTYPE_P(0));
+		h3sql_List given = cells_of(PG_GETARG_ARRAYTYPE_P(0));
 		MemoryContext before = MemoryContextSwitchTo(context->multi_call_memory_ctx);
-		h3sql_List	out = compacted(&given, true);
+		h3sql_List out = made_of(h3sql_compact, &given, true);
 
 		MemoryContextSwitchTo(before);
 		h3sql_listed(rows, out.cells, out.count);
@@ -657,15 +670,15 @@ Datum h3whole_compact_cells(PG_FUNCTION_ARGS)
 /* The rows of cells of an array that stays, at a resolution. */
 static void uncompact(FunctionCallInfo fcinfo, FuncCallContext *context, const h3sql_List *given, int64 res)
 {
-	check_list(h3sql_uncompacted(context->user_fctx, given->cells, given->count, as_int(res)),
-			   given->cells, given->count, res);
+	check_list(h3sql_uncompacted(context->user_fctx, given->cells, given->count, as_int(res)), given->cells,
+			   given->count, res);
 }
 
 /* The cells of the first argument, in memory that stays while rows are returned. */
 static h3sql_List kept_cells(FunctionCallInfo fcinfo, FuncCallContext *context)
 {
 	MemoryContext before = MemoryContextSwitchTo(context->multi_call_memory_ctx);
-	h3sql_List	given = cells_of(PG_GETARG_ARRAYTYPE_P_COPY(0));
+	h3sql_List given = cells_of(PG_GETARG_ARRAYTYPE_P_COPY(0));
 
 	MemoryContextSwitchTo(before);
 	return given;
@@ -676,7 +689,7 @@ static Datum h3whole_uncompact_cells_of(FunctionCallInfo fcinfo, int64 res)
 	if (SRF_IS_FIRSTCALL())
 	{
 		FuncCallContext *context;
-		h3sql_List	given;
+		h3sql_List given;
 
 		new_rows(fcinfo, &context);
 		given = kept_cells(fcinfo, context);
@@ -694,8 +707,8 @@ Datum h3whole_uncompact_cells_next(PG_FUNCTION_ARGS)
 	if (SRF_IS_FIRSTCALL())
 	{
 		FuncCallContext *context;
-		h3sql_List	given;
-		int			finest = -1;
+		h3sql_List given;
+		int finest = -1;
 
 		new_rows(fcinfo, &context);
 		given = kept_cells(fcinfo, context);
@@ -711,8 +724,8 @@ Datum h3whole_uncompact_cells_next(PG_FUNCTION_ARGS)
 /* The argument of this place, where it is known while a query is planned; else NULL. */
 static Const *known(SupportRequestRows *request, int place)
 {
-	List	   *arguments = ((FuncExpr *) request->node)->args;
-	Node	   *value;
+	List *arguments = ((FuncExpr *) request->node)->args;
+	Node *value;
 
 	if (place >= list_length(arguments))
 		return NULL;
@@ -725,8 +738,8 @@ typedef double Estimate(SupportRequestRows *request);
 
 static Datum estimated(FunctionCallInfo fcinfo, Estimate *estimate)
 {
-	Node	   *request = (Node *) PG_GETARG_POINTER(0);
-	double		rows = -1;
+	Node *request = (Node *) PG_GETARG_POINTER(0);
+	double rows = -1;
 
 	if (IsA(request, SupportRequestRows) && is_funcclause(((SupportRequestRows *) request)->node))
 		rows = estimate((SupportRequestRows *) request);
@@ -739,15 +752,16 @@ static Datum estimated(FunctionCallInfo fcinfo, Estimate *estimate)
 /* The cell's children at a resolution, where both are known; by default a cell has seven. */
 static double children_estimate(SupportRequestRows *request)
 {
-	Const	   *cell = known(request, 0);
-	Const	   *res = known(request, 1);
-	int64_t		size = 0;
+	Const *cell = known(request, 0);
+	Const *res = known(request, 1);
+	int64_t size = 0;
 
 	if (list_length(((FuncExpr *) request->node)->args) == 1)
 		return 7;
 	if (!cell || !res)
 		return -1;
-	if (h3w_cellToChildrenSize((H3Index) DatumGetInt64(cell->constvalue), as_int(DatumGetInt64(res->constvalue)), &size))
+	if (h3w_cellToChildrenSize((H3Index) DatumGetInt64(cell->constvalue), as_int(DatumGetInt64(res->constvalue)),
+							   &size))
 		return -1;
 	return size;
 }
@@ -755,16 +769,16 @@ static double children_estimate(SupportRequestRows *request)
 /* The cells of a disk or a ring of so many steps, of which there are none below 0. */
 static double disk_estimate(SupportRequestRows *request)
 {
-	Const	   *k = known(request, 1);
-	double		steps = k ? DatumGetInt64(k->constvalue) : -1;
+	Const *k = known(request, 1);
+	double steps = k ? DatumGetInt64(k->constvalue) : -1;
 
 	return steps < 0 ? -1 : 3 * steps * (steps + 1) + 1;
 }
 
 static double ring_estimate(SupportRequestRows *request)
 {
-	Const	   *k = known(request, 1);
-	double		steps = k ? DatumGetInt64(k->constvalue) : -1;
+	Const *k = known(request, 1);
+	double steps = k ? DatumGetInt64(k->constvalue) : -1;
 
 	return steps == 0 ? 1 : 6 * steps;
 }
@@ -790,11 +804,11 @@ Datum h3whole_children_rows(PG_FUNCTION_ARGS)
 /* The cells of a known array; at a known resolution, their descendants. */
 static double list_estimate(SupportRequestRows *request)
 {
-	Const	   *array = known(request, 0);
-	Const	   *res = known(request, 1);
-	ArrayType  *items = array ? DatumGetArrayTypeP(array->constvalue) : NULL;
-	double		rows = 0;
-	h3sql_List	cells;
+	Const *array = known(request, 0);
+	Const *res = known(request, 1);
+	ArrayType *items = array ? DatumGetArrayTypeP(array->constvalue) : NULL;
+	double rows = 0;
+	h3sql_List cells;
 
 	if (!items || array_contains_nulls(items))
 		return -1;
@@ -803,7 +817,7 @@ static double list_estimate(SupportRequestRows *request)
 		return cells.count;
 	for (size_t i = 0; i < cells.count; i++)
 	{
-		int64_t		size = 0;
+		int64_t size = 0;
 
 		if (h3w_cellToChildrenSize(cells.cells[i], as_int(DatumGetInt64(res->constvalue)), &size))
 			return -1;
@@ -818,14 +832,39 @@ Datum h3whole_list_rows(PG_FUNCTION_ARGS)
 	return estimated(fcinfo, list_estimate);
 }
 
-/* ---- The aggregate h3_compact_cells. A worker hands on its part compacted: the compacted list of all parts'
- * compacted lists is that of the whole. */
+/* ---- What the planner asks: what a lookup costs. In an array that is a constant, which is prepared once, it is a
+ * search; of any other the planner takes what the function is declared with. */
+
+PG_FUNCTION_INFO_V1(h3whole_lookup_cost);
+Datum h3whole_lookup_cost(PG_FUNCTION_ARGS)
+{
+	SupportRequestCost *request = (SupportRequestCost *) PG_GETARG_POINTER(0);
+	Const *array;
+	ArrayType *items;
+	double count;
+
+	if (!IsA(request, SupportRequestCost) || !request->node || !IsA(request->node, FuncExpr))
+		PG_RETURN_POINTER(NULL);
+	array = lsecond(((FuncExpr *) request->node)->args);
+	if (!IsA(array, Const) || array->constisnull)
+		PG_RETURN_POINTER(NULL);
+	items = DatumGetArrayTypeP(array->constvalue);
+	count = ArrayGetNItems(ARR_NDIM(items), ARR_DIMS(items));
+	request->startup = 2 * count * cpu_operator_cost;
+	request->per_tuple = cpu_operator_cost;
+	for (; count >= 1; count /= 2)
+		request->per_tuple += cpu_operator_cost;
+	PG_RETURN_POINTER(request);
+}
+
+/* ---- The aggregates h3_compact_cells and h3_unite_cells. A worker hands on its part compacted, or its region: the
+ * compacted list of all parts' compacted lists is that of the whole, and so is the region of all parts' regions. */
 
 /* The state: a list of cells, and whether it is joined of several parts. */
 typedef struct
 {
-	h3sql_List	list;
-	bool		is_joined;
+	h3sql_List list;
+	bool is_joined;
 } Gathered;
 
 static void *resize(void *engine, void *memory, size_t size)
@@ -839,8 +878,7 @@ static MemoryContext aggregate_memory(FunctionCallInfo fcinfo)
 	MemoryContext memory;
 
 	if (!AggCheckCallContext(fcinfo, &memory))
-		ereport(ERROR, (errcode(ERRCODE_FEATURE_NOT_SUPPORTED),
-						errmsg("called outside of an aggregate")));
+		ereport(ERROR, (errcode(ERRCODE_FEATURE_NOT_SUPPORTED), errmsg("called outside of an aggregate")));
 	return memory;
 }
 
@@ -864,7 +902,7 @@ PG_FUNCTION_INFO_V1(h3whole_compact_step);
 Datum h3whole_compact_step(PG_FUNCTION_ARGS)
 {
 	MemoryContext memory = aggregate_memory(fcinfo);
-	Gathered	   *group = state(fcinfo, memory);
+	Gathered *group = state(fcinfo, memory);
 
 	if (!PG_ARGISNULL(1))
 		check(h3sql_push(&group->list, GET_INDEX(1), resize, memory), GET_INDEX(1));
@@ -875,7 +913,7 @@ PG_FUNCTION_INFO_V1(h3whole_compact_combine);
 Datum h3whole_compact_combine(PG_FUNCTION_ARGS)
 {
 	MemoryContext memory = aggregate_memory(fcinfo);
-	Gathered	   *group = state(fcinfo, memory);
+	Gathered *group = state(fcinfo, memory);
 
 	group->is_joined = true;
 	if (!PG_ARGISNULL(1))
@@ -887,14 +925,14 @@ Datum h3whole_compact_combine(PG_FUNCTION_ARGS)
 	PG_RETURN_POINTER(group);
 }
 
-PG_FUNCTION_INFO_V1(h3whole_compact_serial);
-Datum h3whole_compact_serial(PG_FUNCTION_ARGS)
+/* What a worker hands on of its part. */
+static Datum handed_on(FunctionCallInfo fcinfo, Made *made)
 {
-	h3sql_List	part;
-	bytea	   *out;
+	h3sql_List part;
+	bytea *out;
 
 	aggregate_memory(fcinfo);
-	part = compacted(&((const Gathered *) PG_GETARG_POINTER(0))->list, false);
+	part = made_of(made, &((const Gathered *) PG_GETARG_POINTER(0))->list, false);
 	if (part.count > (MaxAllocSize - VARHDRSZ) / sizeof(H3Index))
 		ereport(ERROR, (errcode(ERRCODE_PROGRAM_LIMIT_EXCEEDED),
 						errmsg("the compacted cells of a worker take more than a gigabyte")));
@@ -905,11 +943,23 @@ Datum h3whole_compact_serial(PG_FUNCTION_ARGS)
 	PG_RETURN_BYTEA_P(out);
 }
 
+PG_FUNCTION_INFO_V1(h3whole_compact_serial);
+Datum h3whole_compact_serial(PG_FUNCTION_ARGS)
+{
+	return handed_on(fcinfo, h3sql_compact);
+}
+
+PG_FUNCTION_INFO_V1(h3whole_unite_serial);
+Datum h3whole_unite_serial(PG_FUNCTION_ARGS)
+{
+	return handed_on(fcinfo, h3sql_unite);
+}
+
 PG_FUNCTION_INFO_V1(h3whole_compact_deserial);
 Datum h3whole_compact_deserial(PG_FUNCTION_ARGS)
 {
-	bytea	   *given = PG_GETARG_BYTEA_PP(0);
-	Gathered	   *group;
+	bytea *given = PG_GETARG_BYTEA_PP(0);
+	Gathered *group;
 
 	aggregate_memory(fcinfo);
 	group = palloc0(sizeof *group);
@@ -917,23 +967,245 @@ Datum h3whole_compact_deserial(PG_FUNCTION_ARGS)
 	PG_RETURN_POINTER(group);
 }
 
-PG_FUNCTION_INFO_V1(h3whole_compact_final);
-Datum h3whole_compact_final(PG_FUNCTION_ARGS)
+/* The type of the items of the array that a function returns. */
+static Oid item_type(FunctionCallInfo fcinfo)
 {
-	Oid			element = get_element_type(get_fn_expr_rettype(fcinfo->flinfo));
-	Gathered		none = {{NULL, 0, 0}, false};
+	return get_element_type(get_func_rettype(fcinfo->flinfo->fn_oid));
+}
+
+/* Cells as an array. */
+static ArrayType *array_of(const H3Index *cells, size_t count, Oid type)
+{
+	if (count > MaxAllocSize / sizeof(H3Index))
+		ereport(ERROR,
+				(errcode(ERRCODE_PROGRAM_LIMIT_EXCEEDED), errmsg("the compacted cells take more than a gigabyte")));
+	return construct_array((Datum *) cells, (int) count, type, sizeof(H3Index), FLOAT8PASSBYVAL, TYPALIGN_DOUBLE);
+}
+
+/* The result of an aggregate. */
+static Datum final(FunctionCallInfo fcinfo, Made *made)
+{
+	Oid type = get_element_type(get_fn_expr_rettype(fcinfo->flinfo));
+	Gathered none = {{NULL, 0, 0}, false};
 	const Gathered *group;
-	h3sql_List	out;
-	ArrayType  *array;
+	h3sql_List out;
+	ArrayType *array;
 
 	aggregate_memory(fcinfo);
 	group = PG_ARGISNULL(0) ? &none : (const Gathered *) PG_GETARG_POINTER(0);
-	out = compacted(&group->list, !group->is_joined);
-	if (out.count > MaxAllocSize / sizeof(H3Index))
-		ereport(ERROR, (errcode(ERRCODE_PROGRAM_LIMIT_EXCEEDED),
-						errmsg("the compacted cells take more than a gigabyte")));
-	array = construct_array((Datum *) out.cells, (int) out.count, element, sizeof(H3Index),
-							FLOAT8PASSBYVAL, TYPALIGN_DOUBLE);
+	out = made_of(made, &group->list, !group->is_joined);
+	array = array_of(out.cells, out.count, type);
 	pfree(out.cells);
 	PG_RETURN_ARRAYTYPE_P(array);
+}
+
+PG_FUNCTION_INFO_V1(h3whole_compact_final);
+Datum h3whole_compact_final(PG_FUNCTION_ARGS)
+{
+	return final(fcinfo, h3sql_compact);
+}
+
+PG_FUNCTION_INFO_V1(h3whole_unite_final);
+Datum h3whole_unite_final(PG_FUNCTION_ARGS)
+{
+	return final(fcinfo, h3sql_unite);
+}
+
+/* ---- Regions and zones, which are arrays */
+
+/* What two regions share, or one has beyond the other. */
+static Datum operate(FunctionCallInfo fcinfo, h3sql_Operation *operation)
+{
+	h3sql_List first = cells_of(PG_GETARG_ARRAYTYPE_P(0));
+	h3sql_List second = cells_of(PG_GETARG_ARRAYTYPE_P(1));
+	h3sql_List out;
+	H3Error error;
+	ArrayType *array;
+
+	CHECK_FOR_INTERRUPTS();
+	error = h3sql_operate(&out, operation, &first, &second, resize, CurrentMemoryContext);
+	if (error == E_CELL_INVALID && h3sql_has_cells_only(&first))
+		check_list(error, second.cells, second.count, 0);
+	check_list(error, first.cells, first.count, 0);
+	array = array_of(out.cells, out.count, item_type(fcinfo));
+	pfree(out.cells);
+	PG_RETURN_ARRAYTYPE_P(array);
+}
+
+PG_FUNCTION_INFO_V1(h3whole_intersect_cells);
+Datum h3whole_intersect_cells(PG_FUNCTION_ARGS)
+{
+	return operate(fcinfo, h3w_intersectCells);
+}
+
+PG_FUNCTION_INFO_V1(h3whole_subtract_cells);
+Datum h3whole_subtract_cells(PG_FUNCTION_ARGS)
+{
+	return operate(fcinfo, h3w_subtractCells);
+}
+
+/* An array that is prepared, so that cells are looked up in it. */
+typedef struct Prepared
+{
+	struct Prepared *next;
+	/* what was passed: the array, or the place at which it is stored */
+	struct varlena *given;
+	h3sql_List zones;
+} Prepared;
+
+/* What a call in a query has prepared, for itself and those after it: the last one first. */
+typedef struct
+{
+	/* whether each call has the same array, which is a constant of the query */
+	bool is_constant;
+	Prepared *first;
+} Lookup;
+
+/* How many arrays are kept, and how many cells they have, but for the last one. */
+#define KEPT_ARRAYS 64
+#define KEPT_CELLS (4 * 1024 * 1024)
+
+/* Whether the argument of this place is a constant of the query. (A parameter is none: what PL/pgSQL evaluates again
+ * and again has the same call for other values.) */
+static bool is_constant(FunctionCallInfo fcinfo, int place)
+{
+	Node *call = fcinfo->flinfo->fn_expr;
+
+	return call && IsA(call, FuncExpr) && place < list_length(((FuncExpr *) call)->args) &&
+		   IsA(list_nth(((FuncExpr *) call)->args, place), Const);
+}
+
+/* An array as it was passed; but one in memory that may change in its place, as a variable of PL/pgSQL, as a copy. */
+static struct varlena *value_of(struct varlena *given)
+{
+	if (VARATT_IS_EXTERNAL(given) && !VARATT_IS_EXTERNAL_ONDISK(given))
+		return (struct varlena *) DatumGetArrayTypeP(PointerGetDatum(given));
+	return given;
+}
+
+/* Whether two values are the same array: they have the same bytes, or are stored at the same place. */
+static bool is_same(const struct varlena *a, const struct varlena *b)
+{
+	return VARSIZE_ANY(a) == VARSIZE_ANY(b) && memcmp(a, b, VARSIZE_ANY(a)) == 0;
+}
+
+/* Finds what was prepared of an array, and puts it first; NULL where it was not. */
+static Prepared *find(Lookup *lookup, const struct varlena *given)
+{
+	for (Prepared **at = &lookup->first; *at; at = &(*at)->next)
+	{
+		Prepared *found = *at;
+
+		if (!is_same(found->given, given))
+			continue;
+		*at = found->next;
+		found->next = lookup->first;
+		return lookup->first = found;
+	}
+	return NULL;
+}
+
+/* Gives back what has not been asked for in the longest time. */
+static void forget(Lookup *lookup)
+{
+	size_t count = 1;
+	size_t cells = lookup->first->zones.count;
+	Prepared *last = lookup->first;
+
+	while (last->next && ++count <= KEPT_ARRAYS && (cells += last->next->zones.count) <= KEPT_CELLS)
+		last = last->next;
+	while (last->next)
+	{
+		Prepared *old = last->next;
+
+		last->next = old->next;
+		pfree(old->zones.cells);
+		pfree(old->given);
+		pfree(old);
+	}
+}
+
+/* Prepares an array. What it takes on the way is of the row's memory, and only the result stays, so that an error
+ * leaves nothing behind. */
+static Prepared *prepare(Lookup *lookup, struct varlena *given, bool is_region, MemoryContext memory)
+{
+	ArrayType *array = DatumGetArrayTypeP(PointerGetDatum(given));
+	h3sql_List cells = cells_of(array);
+	h3sql_List zones;
+	Prepared *made;
+
+	CHECK_FOR_INTERRUPTS();
+	check_list(h3sql_prepare(&zones, &cells, is_region, resize, CurrentMemoryContext), cells.cells, cells.count, 0);
+	made = MemoryContextAllocZero(memory, sizeof *made);
+	made->given = MemoryContextAllocHuge(memory, VARSIZE_ANY(given));
+	memcpy(made->given, given, VARSIZE_ANY(given));
+	made->zones.count = zones.count;
+	made->zones.cells = MemoryContextAllocHuge(memory, (zones.count + 1) * sizeof(H3Index));
+	memcpy(made->zones.cells, zones.cells, zones.count * sizeof(H3Index));
+	pfree(zones.cells);
+	if ((struct varlena *) array != given)
+		pfree(array);
+	made->next = lookup->first;
+	lookup->first = made;
+	forget(lookup);
+	return made;
+}
+
+/* The lookup of a call, which stays for those after it. */
+static Lookup *lookup_of(FunctionCallInfo fcinfo)
+{
+	Lookup *lookup = fcinfo->flinfo->fn_extra;
+
+	if (!lookup)
+	{
+		lookup = MemoryContextAllocZero(fcinfo->flinfo->fn_mcxt, sizeof *lookup);
+		lookup->is_constant = is_constant(fcinfo, 1);
+		fcinfo->flinfo->fn_extra = lookup;
+	}
+	return lookup;
+}
+
+/* The zone of the cell of the first argument in the array of the second; H3_NULL where it has none. */
+static H3Index looked_up(FunctionCallInfo fcinfo, bool is_region)
+{
+	Lookup *lookup = lookup_of(fcinfo);
+	Prepared *prepared = lookup->first;
+	H3Index zone = H3_NULL;
+
+	if (!prepared || !lookup->is_constant)
+	{
+		struct varlena *given = value_of((struct varlena *) PG_GETARG_POINTER(1));
+
+		prepared = find(lookup, given);
+		if (!prepared)
+			prepared = prepare(lookup, given, is_region, fcinfo->flinfo->fn_mcxt);
+	}
+	check(h3sql_zone_of(&prepared->zones, GET_INDEX(0), &zone), GET_INDEX(0));
+	return zone;
+}
+
+PG_FUNCTION_INFO_V1(h3whole_is_covered);
+Datum h3whole_is_covered(PG_FUNCTION_ARGS)
+{
+	PG_RETURN_BOOL(looked_up(fcinfo, true) != H3_NULL);
+}
+
+PG_FUNCTION_INFO_V1(h3whole_zone_of);
+Datum h3whole_zone_of(PG_FUNCTION_ARGS)
+{
+	H3Index zone = looked_up(fcinfo, false);
+
+	if (zone == H3_NULL)
+		PG_RETURN_NULL();
+	PG_RETURN_DATUM(INDEX_DATUM(zone));
+}
+
+PG_FUNCTION_INFO_V1(h3whole_cell_to_ancestors);
+Datum h3whole_cell_to_ancestors(PG_FUNCTION_ARGS)
+{
+	H3Index ancestors[H3SQL_ANCESTORS];
+	size_t count;
+
+	check(h3sql_ancestors(GET_INDEX(0), ancestors, &count), GET_INDEX(0));
+	PG_RETURN_ARRAYTYPE_P(array_of(ancestors, count, item_type(fcinfo)));
 }

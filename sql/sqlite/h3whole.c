@@ -90,9 +90,7 @@ static char *at_resolution(H3Error error, sqlite3_value *index, sqlite3_value *r
     return joined("%s at resolution %s", named(index), shown(res));
 }
 
-static char *resolution(sqlite3_value *res) {
-    return joined("%s %s", sqlite3_mprintf("resolution"), shown(res));
-}
+static char *resolution(sqlite3_value *res) { return joined("%s %s", sqlite3_mprintf("resolution"), shown(res)); }
 
 /* What an error of the item of a list is about, whose items are counted from 1 on. */
 static char *item(sqlite3_value *value, size_t number) {
@@ -147,6 +145,7 @@ typedef struct {
         H3Error (*origin)(H3Index, H3Index *);
         H3Error (*cell)(H3Index, int, H3Index *);
         H3Error (*count)(H3Index, int, int64_t *);
+        h3sql_Operation *operation;
     } of;
 } Function;
 
@@ -219,8 +218,7 @@ static void cell_at_position(sqlite3_context *context, int count, sqlite3_value 
     H3Error error;
     if (has_null(count, values)) return;
     error = index_of(values[1], &index);
-    if (!error)
-        error = h3w_childPosToCell(position_of(values[0]), index, resolution_of(values[2]), &out);
+    if (!error) error = h3w_childPosToCell(position_of(values[0]), index, resolution_of(values[2]), &out);
     if (error) put_error(context, error, at_position(error, values));
     else put_index(context, out, is_text(values[1]));
 }
@@ -300,8 +298,7 @@ static void release(Cells *cells) {
  * each, and two more. */
 #define JSON_ITEM 21
 
-static H3Error write_json(char *out, size_t *length, const H3Index *cells, size_t count,
-                          bool as_texts) {
+static H3Error write_json(char *out, size_t *length, const H3Index *cells, size_t count, bool as_texts) {
     size_t i, n = 0;
     out[n++] = '[';
     for (i = 0; i < count; i++) {
@@ -309,8 +306,7 @@ static H3Error write_json(char *out, size_t *length, const H3Index *cells, size_
         H3Error error = h3w_h3ToString(cells[i], text, sizeof text);
         if (error) return error;
         if (i > 0) out[n++] = ',';
-        n += (size_t)(as_texts ? sprintf(out + n, "\"%s\"", text)
-                               : sprintf(out + n, "%lld", (long long)cells[i]));
+        n += (size_t)(as_texts ? sprintf(out + n, "\"%s\"", text) : sprintf(out + n, "%lld", (long long)cells[i]));
     }
     out[n++] = ']';
     *length = n;
@@ -329,8 +325,8 @@ static void put_json(sqlite3_context *context, const H3Index *cells, size_t coun
     sqlite3_result_text64(context, text, length, sqlite3_free, SQLITE_UTF8);
 }
 
-/* The aggregate h3_compact_cells: NULLs are left out. */
-static void compact_step(sqlite3_context *context, int count, sqlite3_value **values) {
+/* Takes a row of the aggregates h3_compact_cells and h3_unite_cells: NULLs are left out. */
+static void list_step(sqlite3_context *context, int count, sqlite3_value **values) {
     Cells *cells = sqlite3_aggregate_context(context, sizeof *cells);
     H3Error error;
     if (has_null(count, values)) return;
@@ -342,22 +338,121 @@ static void compact_step(sqlite3_context *context, int count, sqlite3_value **va
     if (error) put_error(context, error, item(values[0], cells->list.count + 1));
 }
 
-/* (it is called to give the memory back after an error of a step, too) */
-static void compact_final(sqlite3_context *context) {
+/* Ends an aggregate. (It is called to give the memory back after an error of a step, too.) */
+static void final(sqlite3_context *context, H3Error (*made)(const h3sql_List *, H3Index *, size_t *)) {
     Cells none = {{NULL, 0, 0}, false}, *cells = sqlite3_aggregate_context(context, 0);
     H3Index *out;
     H3Error error = E_MEMORY_ALLOC;
     size_t count = 0;
     if (!cells) cells = &none;
     out = sqlite3_malloc64((cells->list.count + 1) * sizeof *out);
-    if (out) error = h3sql_compact(&cells->list, out, &count);
+    if (out) error = made(&cells->list, out, &count);
     if (error) put_error(context, error, listed(error, &cells->list, 0));
     else put_json(context, out, count, cells->any_text);
     sqlite3_free(out);
     release(cells);
 }
 
-/* ---- The base cell table of a connection */
+static void compact_final(sqlite3_context *context) { final(context, h3sql_compact); }
+
+/* Whether a value is a JSON array, as h3_compact_cells returns one. */
+static bool is_array(sqlite3_value *value) {
+    const char *text = is_text(value) ? (const char *)sqlite3_value_text(value) : NULL;
+    return text && text[strspn(text, " \t\r\n")] == '[';
+}
+
+/* Takes a cell; where it is no index, `*refused` is what the error is about, in SQLite's memory. */
+static H3Error take_item(Cells *cells, char **refused, sqlite3_value *value, bool is_alone) {
+    H3Error error = take(cells, value);
+    if (error == E_FAILED) *refused = is_alone ? named(value) : item(value, cells->list.count + 1);
+    return error;
+}
+
+/* Takes the items of a JSON array, which SQLite reads. */
+static H3Error take_items(Cells *cells, char **refused, sqlite3 *engine, sqlite3_value *array, int *code) {
+    sqlite3_stmt *items = NULL;
+    H3Error error = E_SUCCESS;
+    *code = sqlite3_prepare_v2(engine, "SELECT value FROM json_each(?)", -1, &items, NULL);
+    if (*code == SQLITE_OK) *code = sqlite3_bind_value(items, 1, array);
+    while (*code == SQLITE_OK && !error && (*code = sqlite3_step(items)) == SQLITE_ROW) {
+        /* (a column's value may be looked at only as a copy) */
+        sqlite3_value *value = sqlite3_value_dup(sqlite3_column_value(items, 0));
+        error = value ? take_item(cells, refused, value, false) : E_MEMORY_ALLOC;
+        sqlite3_value_free(value);
+        *code = SQLITE_OK;
+    }
+    if (*code == SQLITE_DONE) *code = SQLITE_OK;
+    sqlite3_finalize(items);
+    return error;
+}
+
+/* Takes the cells of a JSON array, or one cell. Where `*code` is not SQLITE_OK, that is the error. */
+static H3Error take_array(Cells *cells, char **refused, sqlite3 *engine, sqlite3_value *value, int *code) {
+    *code = SQLITE_OK;
+    return is_array(value) ? take_items(cells, refused, engine, value, code) : take_item(cells, refused, value, true);
+}
+
+/* Ends a call with an error of SQLite, or of H3 for a list of cells; `refused` is freed. */
+static void put_list_error(sqlite3_context *context, int code, H3Error error, const Cells *cells, char *refused) {
+    sqlite3 *engine = sqlite3_context_db_handle(context);
+    if (code == SQLITE_ERROR) sqlite3_result_error(context, sqlite3_errmsg(engine), -1);
+    else if (code == SQLITE_NOMEM || error == E_MEMORY_ALLOC) sqlite3_result_error_nomem(context);
+    else if (code != SQLITE_OK) sqlite3_result_error_code(context, code);
+    else if (refused || error == E_FAILED) put_error(context, error, refused);
+    else put_error(context, error, listed(error, &cells->list, 0));
+    if (code != SQLITE_OK || error == E_MEMORY_ALLOC) sqlite3_free(refused);
+}
+
+/* ---- Regions */
+
+/* The aggregate h3_unite_cells: as h3_compact_cells, of cells that may repeat and overlap. */
+static void unite_final(sqlite3_context *context) { final(context, h3sql_unite); }
+
+/* What two lists share, or one has beyond the other. */
+static void operate(sqlite3_context *context, int count, sqlite3_value **values) {
+    sqlite3 *engine = sqlite3_context_db_handle(context);
+    Cells given[2] = {{{NULL, 0, 0}, false}, {{NULL, 0, 0}, false}};
+    h3sql_List out = {NULL, 0, 0};
+    char *refused = NULL;
+    int code = SQLITE_OK, at = 0;
+    H3Error error;
+    if (has_null(count, values)) return;
+    error = take_array(&given[0], &refused, engine, values[0], &code);
+    if (!error && code == SQLITE_OK) error = take_array(&given[1], &refused, engine, values[1], &code);
+    if (!error && code == SQLITE_OK)
+        error = h3sql_operate(&out, called(context)->of.operation, &given[0].list, &given[1].list, resize, NULL);
+    if (error == E_CELL_INVALID) at = h3sql_has_cells_only(&given[0].list);
+    if (error || code != SQLITE_OK) put_list_error(context, code, error, &given[at], refused);
+    else put_json(context, out.cells, out.count, given[0].any_text || given[1].any_text);
+    sqlite3_free(out.cells);
+    release(&given[0]);
+    release(&given[1]);
+}
+
+static const Function operations[] = {
+    {"h3_intersect_cells", 2, operate, {.operation = h3w_intersectCells}},
+    {"h3_subtract_cells", 2, operate, {.operation = h3w_subtractCells}},
+};
+
+/* ---- What a connection has: a base cell table, and cells that are prepared */
+
+/* Cells of a text, prepared, so that others are looked up in them. Who has them holds them. */
+typedef struct Prepared {
+    int holders;
+    bool is_region;
+    char *text;
+    size_t length;
+    h3sql_List zones;
+    struct Prepared *next;
+} Prepared;
+
+static void drop(void *held) {
+    Prepared *prepared = held;
+    if (--prepared->holders > 0) return;
+    sqlite3_free(prepared->zones.cells);
+    sqlite3_free(prepared->text);
+    sqlite3_free(prepared);
+}
 
 typedef struct Set Set;
 
@@ -367,19 +462,32 @@ typedef struct {
     struct Connection *connection;
 } Module;
 
-#define SETS 8
+#define SETS 9
 
 /* What the functions of one connection share. Each that has it holds it. */
 typedef struct Connection {
     int holders;
     bool has_table;
     H3wTable table;
+    /* the one that was asked for last comes first */
+    Prepared *prepared;
     Module modules[SETS];
 } Connection;
 
+/* Drops what comes after some of the prepared cells. */
+static void drop_after(Prepared **at) {
+    while (*at) {
+        Prepared *old = *at;
+        *at = old->next;
+        drop(old);
+    }
+}
+
 static void let_go(void *held) {
     Connection *connection = held;
-    if (--connection->holders == 0) sqlite3_free(connection);
+    if (--connection->holders > 0) return;
+    drop_after(&connection->prepared);
+    sqlite3_free(connection);
 }
 
 static void let_go_of_module(void *module) { let_go(((Module *)module)->connection); }
@@ -416,8 +524,7 @@ static void take_table(sqlite3_context *context, const char *bytes, size_t count
     Connection *connection = sqlite3_user_data(context);
     char text[H3SQL_FAULT_ROOM] = "table: more than a megabyte";
     H3Error error = E_FAILED;
-    if (count <= H3SQL_TABLE_MOST)
-        error = h3sql_read_table(&connection->table, bytes, count, text);
+    if (count <= H3SQL_TABLE_MOST) error = h3sql_read_table(&connection->table, bytes, count, text);
     if (error) {
         put_message(context, error == E_MEMORY_ALLOC ? NULL : sqlite3_mprintf("%s", text));
         return;
@@ -511,16 +618,128 @@ static void destination(sqlite3_context *context, int count, sqlite3_value **val
     else put_index(context, out, is_text(values[0]));
 }
 
-/* The functions over the table, which another one may replace. */
+/* How many texts of cells are kept prepared, and how many cells they have, but for the last one. */
+#define KEPT_TEXTS 64
+#define KEPT_CELLS (4 * 1024 * 1024)
+
+/* Finds what was prepared of a text, and puts it first; NULL where it was not. */
+static Prepared *find(Connection *connection, const char *text, size_t length, bool is_region) {
+    Prepared **at;
+    for (at = &connection->prepared; *at; at = &(*at)->next) {
+        Prepared *found = *at;
+        if (found->is_region != is_region || found->length != length || memcmp(found->text, text, length)) continue;
+        *at = found->next;
+        found->next = connection->prepared;
+        return connection->prepared = found;
+    }
+    return NULL;
+}
+
+/* Puts what was prepared of a text first, and drops what has not been asked for in the longest
+ * time. E_MEMORY_ALLOC: there is no memory for the text. */
+static H3Error keep(Connection *connection, Prepared *prepared, const char *text, size_t length) {
+    Prepared *last = prepared;
+    size_t count = 1, cells = prepared->zones.count;
+    prepared->text = text ? sqlite3_malloc64(length + 1) : NULL;
+    if (!prepared->text) return E_MEMORY_ALLOC;
+    memcpy(prepared->text, text, length);
+    prepared->length = length;
+    prepared->next = connection->prepared;
+    prepared->holders++;
+    connection->prepared = prepared;
+    while (last->next && ++count <= KEPT_TEXTS && (cells += last->next->zones.count) <= KEPT_CELLS) last = last->next;
+    drop_after(&last->next);
+    return E_SUCCESS;
+}
+
+/* Prepares the cells of a value, and keeps those of a text; NULL where they are refused, and the
+ * call has ended. The caller holds what is returned. */
+static Prepared *prepare(sqlite3_context *context, sqlite3_value *value, bool is_region) {
+    Connection *connection = sqlite3_user_data(context);
+    Cells cells = {{NULL, 0, 0}, false};
+    char *refused = NULL;
+    int code = SQLITE_OK;
+    H3Error error = E_MEMORY_ALLOC;
+    Prepared *made = sqlite3_malloc64(sizeof *made);
+    if (made) {
+        memset(made, 0, sizeof *made);
+        made->holders = 1;
+        made->is_region = is_region;
+        error = take_array(&cells, &refused, sqlite3_context_db_handle(context), value, &code);
+    }
+    if (!error && code == SQLITE_OK) error = h3sql_prepare(&made->zones, &cells.list, is_region, resize, NULL);
+    if (!error && code == SQLITE_OK && is_text(value))
+        error = keep(connection, made, (const char *)sqlite3_value_text(value), (size_t)sqlite3_value_bytes(value));
+    if (error || code != SQLITE_OK) {
+        put_list_error(context, code, error, &cells, refused);
+        if (made) drop(made);
+        made = NULL;
+    }
+    release(&cells);
+    return made;
+}
+
+/* The prepared cells of the second argument, which the caller holds; NULL where they are refused,
+ * and the call has ended. SQLite keeps them where the argument is a constant. Any other text is
+ * looked for by its bytes. */
+static Prepared *prepared_of(sqlite3_context *context, sqlite3_value *value, bool is_region) {
+    Connection *connection = sqlite3_user_data(context);
+    Prepared *found = sqlite3_get_auxdata(context, 1);
+    const char *text;
+    if (found) {
+        found->holders++;
+        return found;
+    }
+    text = is_text(value) ? (const char *)sqlite3_value_text(value) : NULL;
+    if (text) found = find(connection, text, (size_t)sqlite3_value_bytes(value), is_region);
+    if (found) found->holders++;
+    else found = prepare(context, value, is_region);
+    if (!found) return NULL;
+    found->holders++;
+    sqlite3_set_auxdata(context, 1, found, drop);
+    return found;
+}
+
+/* The zone of the cell of the first argument among the cells of the second; whether there is no
+ * error, with which the call ends. */
+static bool look_up(sqlite3_context *context, sqlite3_value **values, bool is_region, H3Index *zone) {
+    Prepared *prepared = prepared_of(context, values[1], is_region);
+    H3Index index;
+    H3Error error;
+    if (!prepared) return false;
+    error = index_of(values[0], &index);
+    if (!error) error = h3sql_zone_of(&prepared->zones, index, zone);
+    drop(prepared);
+    if (error) put_error(context, error, named(values[0]));
+    return !error;
+}
+
+static void is_covered(sqlite3_context *context, int count, sqlite3_value **values) {
+    H3Index zone = H3_NULL;
+    if (has_null(count, values) || !look_up(context, values, true, &zone)) return;
+    sqlite3_result_int(context, zone != H3_NULL);
+}
+
+/* NULL where the cell has no zone */
+static void zone_of(sqlite3_context *context, int count, sqlite3_value **values) {
+    H3Index zone = H3_NULL;
+    if (has_null(count, values) || !look_up(context, values, false, &zone)) return;
+    if (zone != H3_NULL) put_index(context, zone, is_text(values[0]));
+}
+
+/* The functions of a connection: over its table, which another one may replace, and over what it
+ * has prepared. */
 static const struct {
     const char *name;
     int arity, flags;
     Call *call;
-} walks[] = {
+} of_connection[] = {
     {"h3_use_table", 1, SQLITE_DIRECTONLY, use_table},
     {"h3_are_neighbor_cells", 2, SQLITE_INNOCUOUS, are_neighbors},
     {"h3_cells_to_directed_edge", 2, SQLITE_INNOCUOUS, edge_between},
     {"h3_get_directed_edge_destination", 1, SQLITE_INNOCUOUS, destination},
+    {"h3_is_covered", 2, SQLITE_INNOCUOUS | SQLITE_DETERMINISTIC, is_covered},
+    {"h3_zone_of", 2, SQLITE_INNOCUOUS | SQLITE_DETERMINISTIC, zone_of},
 };
 
 /* ---- Functions that return sets: tables of one column or two, whose hidden columns are the arguments. A
@@ -562,8 +781,7 @@ typedef struct {
     const Connection *connection;
 } Table;
 
-static H3Error begin_res0_cells(Cursor *cursor, sqlite3 *engine, sqlite3_value **values,
-                                int *code) {
+static H3Error begin_res0_cells(Cursor *cursor, sqlite3 *engine, sqlite3_value **values, int *code) {
     (void)engine, (void)values, (void)code;
     return h3sql_res0_cells(&cursor->rows);
 }
@@ -607,6 +825,17 @@ static H3Error begin_edges(Cursor *cursor, sqlite3 *engine, sqlite3_value **valu
     return error ? error : h3sql_edges(&cursor->rows, index);
 }
 
+static H3Error begin_ancestors(Cursor *cursor, sqlite3 *engine, sqlite3_value **values, int *code) {
+    H3Index index;
+    size_t count = 0;
+    H3Error error = index_of(values[0], &index);
+    (void)engine, (void)code;
+    cursor->as_texts = is_text(values[0]);
+    if (!error) error = h3sql_ancestors(index, cursor->rows.own, &count);
+    h3sql_listed(&cursor->rows, cursor->rows.own, count);
+    return error;
+}
+
 static H3Error begin_children(Cursor *cursor, sqlite3 *engine, sqlite3_value **values, int *code) {
     H3Index index;
     H3Error error = index_of(values[0], &index);
@@ -615,48 +844,14 @@ static H3Error begin_children(Cursor *cursor, sqlite3 *engine, sqlite3_value **v
     return error ? error : h3sql_children(&cursor->rows, index, resolution_of(values[1]));
 }
 
-/* Whether a value is a JSON array, as h3_compact_cells returns one. */
-static bool is_array(sqlite3_value *value) {
-    const char *text = is_text(value) ? (const char *)sqlite3_value_text(value) : NULL;
-    return text && text[strspn(text, " \t\r\n")] == '[';
-}
-
-/* Takes a cell, and keeps what an error of it is about. */
-static H3Error take_item(Cursor *cursor, sqlite3_value *value, bool is_alone) {
-    h3sql_List *list = &cursor->cells.list;
-    H3Error error = take(&cursor->cells, value);
-    if (error == E_FAILED) cursor->refused = is_alone ? named(value) : item(value, list->count + 1);
-    return error;
-}
-
-/* Takes the items of a JSON array, which SQLite reads. */
-static H3Error take_items(Cursor *cursor, sqlite3 *engine, sqlite3_value *array, int *code) {
-    sqlite3_stmt *items = NULL;
-    H3Error error = E_SUCCESS;
-    *code = sqlite3_prepare_v2(engine, "SELECT value FROM json_each(?)", -1, &items, NULL);
-    if (*code == SQLITE_OK) *code = sqlite3_bind_value(items, 1, array);
-    while (*code == SQLITE_OK && !error && (*code = sqlite3_step(items)) == SQLITE_ROW) {
-        /* (a column's value may be looked at only as a copy) */
-        sqlite3_value *value = sqlite3_value_dup(sqlite3_column_value(items, 0));
-        error = value ? take_item(cursor, value, false) : E_MEMORY_ALLOC;
-        sqlite3_value_free(value);
-        *code = SQLITE_OK;
-    }
-    if (*code == SQLITE_DONE) *code = SQLITE_OK;
-    sqlite3_finalize(items);
-    return error;
-}
-
-static H3Error begin_uncompacted(Cursor *cursor, sqlite3 *engine, sqlite3_value **values,
-                                 int *code) {
+static H3Error begin_uncompacted(Cursor *cursor, sqlite3 *engine, sqlite3_value **values, int *code) {
     static const H3Index none = H3_NULL;
     Cells *cells = &cursor->cells;
-    H3Error error = is_array(values[0]) ? take_items(cursor, engine, values[0], code)
-                                        : take_item(cursor, values[0], true);
+    H3Error error = take_array(cells, &cursor->refused, engine, values[0], code);
     cursor->as_texts = cells->any_text;
     if (error || *code != SQLITE_OK) return error;
-    return h3sql_uncompacted(&cursor->rows, cells->list.count ? cells->list.cells : &none,
-                             cells->list.count, resolution_of(values[1]));
+    return h3sql_uncompacted(&cursor->rows, cells->list.count ? cells->list.cells : &none, cells->list.count,
+                             resolution_of(values[1]));
 }
 
 static char *about_walk(H3Error error, Cursor *cursor, sqlite3_value **values) {
@@ -671,8 +866,8 @@ static H3Error begin_walk(Cursor *cursor, h3sql_Walk walk, sqlite3_value **value
     H3Error error = index_of(values[0], &origin);
     cursor->as_texts = is_text(values[0]);
     if (error) return error;
-    return h3sql_walk(&cursor->rows, walk, &connection->table, origin, resolution_of(values[1]),
-                      resize, NULL, &cursor->walked);
+    return h3sql_walk(&cursor->rows, walk, &connection->table, origin, resolution_of(values[1]), resize, NULL,
+                      &cursor->walked);
 }
 
 static H3Error begin_disk(Cursor *cursor, sqlite3 *engine, sqlite3_value **values, int *code) {
@@ -696,24 +891,21 @@ static const Set sets[SETS] = {
     {"h3_get_res_0_cells", "CREATE TABLE x(value)", 1, 0, begin_res0_cells, about_nothing, false},
     {"h3_get_pentagons", "CREATE TABLE x(value, \"h3whole.resolution\" HIDDEN)", 1, 1, begin_pentagons,
      about_resolution, false},
-    {"h3_origin_to_directed_edges", "CREATE TABLE x(value, \"h3whole.origin\" HIDDEN)", 1, 1, begin_edges,
-     about_index, false},
-    {"h3_cell_to_children",
-     "CREATE TABLE x(value, \"h3whole.cell\" HIDDEN, \"h3whole.resolution\" HIDDEN)", 1, 2,
+    {"h3_origin_to_directed_edges", "CREATE TABLE x(value, \"h3whole.origin\" HIDDEN)", 1, 1, begin_edges, about_index,
+     false},
+    {"h3_cell_to_ancestors", "CREATE TABLE x(value, \"h3whole.cell\" HIDDEN)", 1, 1, begin_ancestors, about_index,
+     false},
+    {"h3_cell_to_children", "CREATE TABLE x(value, \"h3whole.cell\" HIDDEN, \"h3whole.resolution\" HIDDEN)", 1, 2,
      begin_children, about_children, false},
-    {"h3_uncompact_cells",
-     "CREATE TABLE x(value, \"h3whole.cells\" HIDDEN, \"h3whole.resolution\" HIDDEN)", 1, 2,
+    {"h3_uncompact_cells", "CREATE TABLE x(value, \"h3whole.cells\" HIDDEN, \"h3whole.resolution\" HIDDEN)", 1, 2,
      begin_uncompacted, about_uncompacted, false},
-    {"h3_grid_disk_unsafe", "CREATE TABLE x(value, " ARGUMENTS_OF_WALK, 1, 2, begin_disk,
+    {"h3_grid_disk_unsafe", "CREATE TABLE x(value, " ARGUMENTS_OF_WALK, 1, 2, begin_disk, about_walk, true},
+    {"h3_grid_disk_distances_unsafe", "CREATE TABLE x(value, distance, " ARGUMENTS_OF_WALK, 2, 2, begin_distances,
      about_walk, true},
-    {"h3_grid_disk_distances_unsafe", "CREATE TABLE x(value, distance, " ARGUMENTS_OF_WALK, 2, 2,
-     begin_distances, about_walk, true},
-    {"h3_grid_ring_unsafe", "CREATE TABLE x(value, " ARGUMENTS_OF_WALK, 1, 2, begin_ring,
-     about_walk, true},
+    {"h3_grid_ring_unsafe", "CREATE TABLE x(value, " ARGUMENTS_OF_WALK, 1, 2, begin_ring, about_walk, true},
 };
 
-static int connect(sqlite3 *engine, void *data, int argc, const char *const *argv,
-                   sqlite3_vtab **out, char **message) {
+static int connect(sqlite3 *engine, void *data, int argc, const char *const *argv, sqlite3_vtab **out, char **message) {
     const Module *module = data;
     Table *table;
     int code = sqlite3_declare_vtab(engine, module->set->schema);
@@ -748,9 +940,7 @@ static int best_index(sqlite3_vtab *base, sqlite3_index_info *info) {
     int i, asked = 0, count = 0;
     for (i = 0; i < info->nConstraint; i++) {
         int column = info->aConstraint[i].iColumn - set->columns + 1;
-        if (column < 1 || info->aConstraint[i].op != SQLITE_INDEX_CONSTRAINT_EQ ||
-            asked & 1 << column)
-            continue;
+        if (column < 1 || info->aConstraint[i].op != SQLITE_INDEX_CONSTRAINT_EQ || asked & 1 << column) continue;
         if (!info->aConstraint[i].usable) return SQLITE_CONSTRAINT;
         info->aConstraintUsage[i].argvIndex = column;
         info->aConstraintUsage[i].omit = 1;
@@ -759,8 +949,7 @@ static int best_index(sqlite3_vtab *base, sqlite3_index_info *info) {
     }
     if (count < set->arity)
         return say(base, SQLITE_ERROR,
-                   sqlite3_mprintf("%s takes %d argument%s", set->name, set->arity,
-                                   set->arity == 1 ? "" : "s"));
+                   sqlite3_mprintf("%s takes %d argument%s", set->name, set->arity, set->arity == 1 ? "" : "s"));
     info->estimatedCost = 1000;
     info->estimatedRows = 1000;
     return SQLITE_OK;
@@ -822,8 +1011,7 @@ static int keep_arguments(Cursor *cursor, int count, sqlite3_value **values) {
     return SQLITE_OK;
 }
 
-static int filter(sqlite3_vtab_cursor *base, int plan, const char *words, int count,
-                  sqlite3_value **values) {
+static int filter(sqlite3_vtab_cursor *base, int plan, const char *words, int count, sqlite3_value **values) {
     Cursor *cursor = (Cursor *)base;
     Table *table = (Table *)base->pVtab;
     H3Error error;
@@ -836,8 +1024,7 @@ static int filter(sqlite3_vtab_cursor *base, int plan, const char *words, int co
     code = keep_arguments(cursor, count, values);
     if (code != SQLITE_OK) return code;
     error = table->set->begin(cursor, table->engine, values, &code);
-    if (code == SQLITE_ERROR)
-        return say(base->pVtab, code, sqlite3_mprintf("%s", sqlite3_errmsg(table->engine)));
+    if (code == SQLITE_ERROR) return say(base->pVtab, code, sqlite3_mprintf("%s", sqlite3_errmsg(table->engine)));
     if (code != SQLITE_OK) return code;
     if (error == E_MEMORY_ALLOC || !error) return error ? SQLITE_NOMEM : next(base);
     return refuse(base->pVtab, error, table->set->about(error, cursor, values));
@@ -849,8 +1036,7 @@ static int column(sqlite3_vtab_cursor *base, sqlite3_context *context, int numbe
     Cursor *cursor = (Cursor *)base;
     int columns = ((Table *)base->pVtab)->set->columns;
     if (number == 0) put_index(context, cursor->row, cursor->as_texts);
-    else if (number < columns)
-        sqlite3_result_int(context, cursor->rows.distances[cursor->rows.at - 1]);
+    else if (number < columns) sqlite3_result_int(context, cursor->rows.distances[cursor->rows.at - 1]);
     else sqlite3_result_value(context, cursor->arguments[number - columns]);
     return SQLITE_OK;
 }
@@ -875,29 +1061,40 @@ static const sqlite3_module module = {
 
 /* ---- The extension */
 
-static int add_functions(sqlite3 *engine) {
-    const int flags = SQLITE_UTF8 | SQLITE_DETERMINISTIC | SQLITE_INNOCUOUS;
+#define OWN_ANSWERS (SQLITE_UTF8 | SQLITE_DETERMINISTIC | SQLITE_INNOCUOUS)
+
+static int add_listed(sqlite3 *engine, const Function *listed_functions, size_t count) {
     int code = SQLITE_OK;
     size_t i;
-    for (i = 0; code == SQLITE_OK && i < sizeof functions / sizeof *functions; i++)
-        code =
-            sqlite3_create_function_v2(engine, functions[i].name, functions[i].arity, flags,
-                                       (void *)&functions[i], functions[i].call, NULL, NULL, NULL);
+    for (i = 0; code == SQLITE_OK && i < count; i++) {
+        const Function *one = &listed_functions[i];
+        code = sqlite3_create_function_v2(engine, one->name, one->arity, OWN_ANSWERS, (void *)one, one->call, NULL,
+                                          NULL, NULL);
+    }
+    return code;
+}
+
+static int add_functions(sqlite3 *engine) {
+    int code = add_listed(engine, functions, sizeof functions / sizeof *functions);
+    if (code == SQLITE_OK) code = add_listed(engine, operations, sizeof operations / sizeof *operations);
     if (code == SQLITE_OK)
-        code = sqlite3_create_function_v2(engine, "h3_compact_cells", 1, flags, NULL, NULL,
-                                          compact_step, compact_final, NULL);
+        code = sqlite3_create_function_v2(engine, "h3_compact_cells", 1, OWN_ANSWERS, NULL, NULL, list_step,
+                                          compact_final, NULL);
+    if (code == SQLITE_OK)
+        code = sqlite3_create_function_v2(engine, "h3_unite_cells", 1, OWN_ANSWERS, NULL, NULL, list_step, unite_final,
+                                          NULL);
     return code;
 }
 
 /* (SQLite calls what lets go also where it refuses the function) */
-static int add_walks(sqlite3 *engine, Connection *connection) {
+static int add_of_connection(sqlite3 *engine, Connection *connection) {
     int code = SQLITE_OK;
     size_t i;
-    for (i = 0; code == SQLITE_OK && i < sizeof walks / sizeof *walks; i++) {
+    for (i = 0; code == SQLITE_OK && i < sizeof of_connection / sizeof *of_connection; i++) {
         connection->holders++;
-        code = sqlite3_create_function_v2(engine, walks[i].name, walks[i].arity,
-                                          SQLITE_UTF8 | walks[i].flags, connection, walks[i].call,
-                                          NULL, NULL, let_go);
+        code = sqlite3_create_function_v2(engine, of_connection[i].name, of_connection[i].arity,
+                                          SQLITE_UTF8 | of_connection[i].flags, connection, of_connection[i].call, NULL,
+                                          NULL, let_go);
     }
     return code;
 }
@@ -926,7 +1123,7 @@ __attribute__((visibility("default"))) int sqlite3_hwhole_init(sqlite3 *engine, 
     memset(connection, 0, sizeof *connection);
     connection->holders = 1;
     code = add_functions(engine);
-    if (code == SQLITE_OK) code = add_walks(engine, connection);
+    if (code == SQLITE_OK) code = add_of_connection(engine, connection);
     if (code == SQLITE_OK) code = add_sets(engine, connection);
     let_go(connection);
     return code;
