@@ -19,6 +19,12 @@ H3Error plain_cellsToParents(const H3Index *cells, size_t n, int res, H3Index *o
 H3Error plain_cellsToChildPositions(const H3Index *cells, size_t n, int res, int64_t *out);
 size_t plain_compactCells(const H3Index *cells, size_t n, H3Index *out);
 size_t plain_uncompactCells(const H3Index *cells, size_t n, H3Index *out, size_t room, int res);
+void plain_zones(H3Index *zones, size_t n);
+H3Error plain_cellsToZones(const H3Index *zones, size_t zoneCount, const H3Index *cells, size_t n, H3Index *out);
+H3Error plain_countCellsInZones(const H3Index *zones, size_t zoneCount, const H3Index *cells, size_t n, int64_t *counts,
+                                int64_t *others);
+size_t plain_intersectCells(const H3Index *first, size_t n, const H3Index *second, size_t m, H3Index *out, size_t room);
+size_t plain_subtractCells(const H3Index *first, size_t n, const H3Index *second, size_t m, H3Index *out, size_t room);
 
 #define N     10000000
 #define WORLD 0x8001fffffffffffU
@@ -26,25 +32,30 @@ size_t plain_uncompactCells(const H3Index *cells, size_t n, H3Index *out, size_t
  * has room for */
 #define LIST   5764801
 #define ROUNDS 5
-static H3Index *cells, *ordered, *shuffled, *out;
+/* cells of resolutions 5 to 7, of which no two overlap */
+#define ZONES 100000
+/* so many cells of resolutions 7 to 9 has each of two regions, less those that lie in others */
+#define AREAS 1100000
+static H3Index *cells, *sorted, *ordered, *shuffled, *out, *zones, *plain_ones, *areas[2];
+static size_t area[2];
 static size_t at;
 
 /* A function of one index, called for each of N: the sum of what it returns. */
-#define LOOP(name, call)                                                                           \
-    static uint64_t name(void) {                                                                   \
-        uint64_t sum = 0;                                                                          \
-        size_t i;                                                                                  \
-        for (i = 0; i < N; i++) {                                                                  \
-            H3Index index = 0;                                                                     \
-            int64_t number = 0;                                                                    \
-            int found = 0;                                                                         \
-            call;                                                                                  \
-            sum += index + (uint64_t)(number + found);                                             \
-        }                                                                                          \
-        return sum;                                                                                \
+#define LOOP(name, call)                                                                                               \
+    static uint64_t name(void) {                                                                                       \
+        uint64_t sum = 0;                                                                                              \
+        size_t i;                                                                                                      \
+        for (i = 0; i < N; i++) {                                                                                      \
+            H3Index index = 0;                                                                                         \
+            int64_t number = 0;                                                                                        \
+            int found = 0;                                                                                             \
+            call;                                                                                                      \
+            sum += index + (uint64_t)(number + found);                                                                 \
+        }                                                                                                              \
+        return sum;                                                                                                    \
     }
 /* A call that writes to `out`. */
-#define CALL(name, call)                                                                           \
+#define CALL(name, call)                                                                                               \
     static uint64_t name(void) { return (uint64_t)(call); }
 
 LOOP(valid, found = h3w_isValidCell(cells[i]))
@@ -81,6 +92,42 @@ CALL(plain_compact_part, plain_compactCells(shuffled, LIST - LIST / 160, out))
 CALL(uncompact, h3w_uncompactCells(ordered, N / 7, out, N / 7 * 7, 9) ? 0 : N / 7 * 7)
 CALL(plain_uncompact, plain_uncompactCells(ordered, N / 7, out, N / 7 * 7, 9))
 
+static uint64_t united(const H3Index *list, size_t n) {
+    size_t count = 0;
+    if (h3w_uniteCells(list, n, out, n, &count)) exit(2);
+    return count;
+}
+CALL(unite_shuffled, united(shuffled, LIST))
+CALL(zones_of, h3w_cellsToZones(zones, ZONES, cells, N, out, N, &at))
+CALL(plain_zones_of, plain_cellsToZones(plain_ones, ZONES, cells, N, out))
+CALL(zones_of_sorted, h3w_cellsToZones(zones, ZONES, sorted, N, out, N, &at))
+CALL(plain_zones_of_sorted, plain_cellsToZones(plain_ones, ZONES, sorted, N, out))
+
+/* The counts of both sides are in the orders of their zones: the number of those without a zone is compared. */
+static uint64_t counted(const H3Index *list, int plain) {
+    static int64_t counts[ZONES];
+    int64_t others = 0;
+    if (plain ? plain_countCellsInZones(plain_ones, ZONES, list, N, counts, &others)
+              : h3w_countCellsInZones(zones, ZONES, list, N, counts, ZONES, &others, &at))
+        exit(2);
+    return (uint64_t)others;
+}
+CALL(count, counted(cells, 0))
+CALL(plain_count, counted(cells, 1))
+CALL(count_sorted, counted(sorted, 0))
+CALL(plain_count_sorted, counted(sorted, 1))
+
+typedef H3Error (*Combine)(const H3Index *, size_t, const H3Index *, size_t, H3Index *, size_t, size_t *);
+static uint64_t combined(Combine combine) {
+    size_t count = 0;
+    if (combine(areas[0], area[0], areas[1], area[1], out, N, &count)) exit(2);
+    return count;
+}
+CALL(intersect, combined(h3w_intersectCells))
+CALL(plain_intersect, plain_intersectCells(areas[0], area[0], areas[1], area[1], out, N))
+CALL(subtract, combined(h3w_subtractCells))
+CALL(plain_subtract, plain_subtractCells(areas[0], area[0], areas[1], area[1], out, N))
+
 static const struct {
     const char *name;
     uint64_t (*library)(void), (*plain)(void);
@@ -98,6 +145,13 @@ static const struct {
     {"compactCells of 5764801 cells, shuffled, from C", compact_shuffled, plain_compact_shuffled},
     {"compactCells of 159 of 160 cells, shuffled, from C", compact_part, plain_compact_part},
     {"uncompactCells of 1428571 cells, from C", uncompact, plain_uncompact},
+    {"uniteCells of 5764801 cells, shuffled, against compactCells, from C", unite_shuffled, compact_shuffled},
+    {"intersectCells of two regions of a million cells, from C", intersect, plain_intersect},
+    {"subtractCells of two regions of a million cells, from C", subtract, plain_subtract},
+    {"cellsToZones of 10000000 cells in 100000 zones, from C", zones_of, plain_zones_of},
+    {"cellsToZones of 10000000 cells in 100000 zones, ascending, from C", zones_of_sorted, plain_zones_of_sorted},
+    {"countCellsInZones of 10000000 cells in 100000 zones, from C", count, plain_count},
+    {"countCellsInZones of 10000000 cells in 100000 zones, ascending, from C", count_sorted, plain_count_sorted},
 };
 
 static double now(void) {
@@ -137,8 +191,7 @@ static void measure(size_t row) {
         fprintf(stderr, "%s: the results differ\n", rows[row].name);
         exit(1);
     }
-    printf("%s: %.1f ms / %.1f ms = %.2f\n", rows[row].name, library * 1e3, plain * 1e3,
-           library / plain);
+    printf("%s: %.1f ms / %.1f ms = %.2f\n", rows[row].name, library * 1e3, plain * 1e3, library / plain);
     fflush(stdout);
 }
 
@@ -158,8 +211,7 @@ static void fill(void) {
     memcpy(shuffled, ordered, LIST * sizeof *ordered);
     for (i = 0; i < N; i++) {
         state ^= state << 13, state ^= state >> 7, state ^= state << 17;
-        if (h3w_childPosToCell((int64_t)(state >> 8) % 33000000, bases[state % 122], 9, &cells[i]))
-            exit(5);
+        if (h3w_childPosToCell((int64_t)(state >> 8) % 33000000, bases[state % 122], 9, &cells[i])) exit(5);
     }
     for (i = LIST; i > 1; i--) {
         state ^= state << 13, state ^= state >> 7, state ^= state << 17;
@@ -167,10 +219,43 @@ static void fill(void) {
     }
 }
 
+static int by_number(const void *a, const void *b) {
+    H3Index x = *(const H3Index *)a, y = *(const H3Index *)b;
+    return x < y ? -1 : x > y;
+}
+
+/* The cells in order, and zones: the coarsest of ancestors of the first ones. */
+static void fill_zones(void) {
+    static H3Index parents[2 * ZONES], region[2 * ZONES];
+    size_t count = 0, i;
+    sorted = array(), zones = array(), plain_ones = array();
+    memcpy(sorted, cells, N * sizeof *sorted);
+    qsort(sorted, N, sizeof *sorted, by_number);
+    for (i = 0; i < 2 * ZONES; i++)
+        if (h3w_cellToParent(cells[i], 5 + (int)(i % 3), &parents[i])) exit(6);
+    if (h3w_uniteCells(parents, 2 * ZONES, region, 2 * ZONES, &count) || count < ZONES) exit(7);
+    memcpy(plain_ones, region + count - ZONES, ZONES * sizeof *region);
+    if (h3w_zones(plain_ones, ZONES, zones, ZONES)) exit(8);
+    plain_zones(plain_ones, ZONES);
+}
+
+/* Two regions of about a million cells, each of ancestors of other cells. */
+static void fill_areas(void) {
+    size_t side, i;
+    for (side = 0; side < 2; side++) {
+        areas[side] = array();
+        for (i = 0; i < AREAS; i++)
+            if (h3w_cellToParent(cells[side * AREAS + i], 7 + (int)(i % 3), &out[i])) exit(9);
+        if (h3w_uniteCells(out, AREAS, areas[side], N, &area[side]) || area[side] < 1000000) exit(10);
+    }
+}
+
 int main(int count, char **words) {
     size_t row;
     int i;
     fill();
+    fill_zones();
+    fill_areas();
     for (row = 0; row < sizeof rows / sizeof *rows; row++) {
         for (i = 1; i < count && !strstr(rows[row].name, words[i]); i++) {
         }

@@ -4,7 +4,9 @@
 //! and `table bases` are others, the last of format 2), `plain tables COUNT` (that many readings of the table file on
 //! standard input), `plain steps COUNT` (that many times round the ring of radius 1000, over the table on standard
 //! input), `plain disk CELL K TABLE` and `plain ring CELL K TABLE`. Of each index on standard input: `plain valid`,
-//! `plain resolutions`, `plain parents RES` and `plain places RES` (its position below its ancestor).
+//! `plain resolutions`, `plain parents RES` and `plain places RES` (its position below its ancestor). `plain zones COUNT
+//! PERCENT ORDER` looks a million cells, `sorted` or `random`, up COUNT times in so many in a hundred of the cells of
+//! resolution 5.
 //!
 //! Lists to be compacted: `plain first COUNT CELL RES` (the first children), `plain shuffled CELL RES` (all children in a
 //! random order, always the same), `plain lone CELL RES` (one child of each parent) and `plain mixed CELL RES` (the
@@ -250,6 +252,54 @@ fn shuffle(cells: &mut [u64]) {
     }
 }
 
+/// A random number of 31 bits, the same from the same state.
+fn congruence(state: &mut u64) -> u64 {
+    *state = state.wrapping_mul(6_364_136_223_846_793_005).wrapping_add(1_442_695_040_888_963_407);
+    *state >> 33
+}
+
+fn key(cell: u64) -> u64 {
+    cell & (1 << 52) - 1
+}
+
+fn base_cell(base: u64) -> u64 {
+    0x0800_1fff_ffff_ffff + (base << 45)
+}
+
+/// The sum of the zones of a million random cells of resolution 9, each looked up `rounds` times by `partition_point`
+/// in zones that are so many in a hundred of the cells of resolution 5.
+fn look_up(rounds: u64, percent: u64, sorted: bool) -> u64 {
+    let mut state = 1;
+    let mut zones: Vec<u64> = (0..122)
+        .flat_map(|base| Children::of(base_cell(base), 5))
+        .filter(|_| congruence(&mut state) % 100 < percent)
+        .collect();
+    zones.sort_unstable_by_key(|zone| key(*zone));
+    let mut state = 2;
+    let mut cells: Vec<u64> = (0..1_000_000)
+        .map(|_| {
+            let base = base_cell(congruence(&mut state) % 122);
+            child_at(congruence(&mut state) % 30_000_000, base, 9)
+        })
+        .collect();
+    if sorted {
+        cells.sort_unstable();
+    }
+    let mut sum = 0u64;
+    for _ in 0..rounds {
+        for cell in std::hint::black_box(&cells) {
+            let key_of_cell = key(*cell);
+            let place = zones.partition_point(|zone| key(*zone) < key_of_cell);
+            if let Some(zone) = zones.get(place)
+                && key(*zone) - key_of_cell < 1 << (3 * (15 - resolution(*zone)))
+            {
+                sum = sum.wrapping_add(*zone);
+            }
+        }
+    }
+    sum
+}
+
 fn write_cells(out: &mut Page<impl Write>, cells: impl Iterator<Item = u64>) -> io::Result<()> {
     for cell in cells {
         out.put(cell)?;
@@ -480,6 +530,11 @@ fn main() -> io::Result<()> {
                 sum = sum.wrapping_add(child ^ position(child, 0));
             }
             writeln!(out, "{sum}")?;
+        }
+        ["zones", rounds, percent, order] => {
+            let rounds = rounds.parse().expect("a number");
+            let percent = percent.parse().expect("a number");
+            writeln!(out, "{}", look_up(rounds, percent, order == "sorted"))?;
         }
         ["table"] => write_table(&mut out, |base, d| (plain_neighbor(base, d), 0))?,
         ["table", "bases"] => write_bases(&mut out, |base, d| (plain_neighbor(base, d), 0))?,

@@ -4,8 +4,10 @@
 
 #[path = "plain.rs"]
 mod plain;
+mod regions;
 
 use plain::{Children, base, child_at, compact, is_valid, position, resolution};
+use regions::{begin, end, left, region, shared};
 use std::slice::{from_raw_parts, from_raw_parts_mut};
 
 /// The error of a cell or a resolution, or 0.
@@ -173,4 +175,109 @@ unsafe extern "C" fn plain_uncompactCells(
         written += 1;
     }
     written
+}
+
+/// The place of the zone of a cell, or how many there are.
+fn zone_of(zones: &[u64], cell: u64) -> usize {
+    let i = zones.partition_point(|zone| end(*zone) < end(cell));
+    if i < zones.len() && begin(zones[i]) <= begin(cell) {
+        i
+    } else {
+        zones.len()
+    }
+}
+
+/// Puts cells of which no two overlap in the order in which they are looked up.
+///
+/// # Safety
+/// The pointer points to n elements.
+#[unsafe(no_mangle)]
+unsafe extern "C" fn plain_zones(zones: *mut u64, n: usize) {
+    unsafe { from_raw_parts_mut(zones, n) }.sort_unstable_by_key(|zone| end(*zone));
+}
+
+/// # Safety
+/// The pointers point to as many elements as there are zones, n and n.
+#[unsafe(no_mangle)]
+unsafe extern "C" fn plain_cellsToZones(
+    zones: *const u64,
+    count: usize,
+    cells: *const u64,
+    n: usize,
+    out: *mut u64,
+) -> u32 {
+    let zones = unsafe { from_raw_parts(zones, count) };
+    let (cells, out) = unsafe { (from_raw_parts(cells, n), from_raw_parts_mut(out, n)) };
+    fill(cells, out, 0, |cell| {
+        if is_valid(cell) {
+            Ok(zones.get(zone_of(zones, cell)).copied().unwrap_or(0))
+        } else {
+            Err(5)
+        }
+    })
+}
+
+/// # Safety
+/// The pointers point to as many elements as there are zones, n, and as there are zones.
+#[unsafe(no_mangle)]
+unsafe extern "C" fn plain_countCellsInZones(
+    zones: *const u64,
+    count: usize,
+    cells: *const u64,
+    n: usize,
+    counts: *mut i64,
+    others: &mut i64,
+) -> u32 {
+    let zones = unsafe { from_raw_parts(zones, count) };
+    let (cells, counts) = unsafe { (from_raw_parts(cells, n), from_raw_parts_mut(counts, count)) };
+    if !cells.iter().all(|cell| is_valid(*cell)) {
+        return 5;
+    }
+    counts.fill(0);
+    *others = 0;
+    for cell in cells {
+        *counts.get_mut(zone_of(zones, *cell)).unwrap_or(others) += 1;
+    }
+    0
+}
+
+/// Writes a region in ascending order, and returns how many cells it has.
+fn put_region(mut found: Vec<u64>, out: &mut [u64]) -> usize {
+    found.sort_unstable();
+    out[..found.len()].copy_from_slice(&found);
+    found.len()
+}
+
+/// # Safety
+/// The pointers point to n, m and room elements.
+#[unsafe(no_mangle)]
+unsafe extern "C" fn plain_intersectCells(
+    first: *const u64,
+    n: usize,
+    second: *const u64,
+    m: usize,
+    out: *mut u64,
+    room: usize,
+) -> usize {
+    let (first, second) = unsafe { (from_raw_parts(first, n), from_raw_parts(second, m)) };
+    assert!(first.iter().chain(second).all(|cell| is_valid(*cell)));
+    let found = shared(&region(first), &region(second));
+    put_region(found, unsafe { from_raw_parts_mut(out, room) })
+}
+
+/// # Safety
+/// The pointers point to n, m and room elements.
+#[unsafe(no_mangle)]
+unsafe extern "C" fn plain_subtractCells(
+    first: *const u64,
+    n: usize,
+    second: *const u64,
+    m: usize,
+    out: *mut u64,
+    room: usize,
+) -> usize {
+    let (first, second) = unsafe { (from_raw_parts(first, n), from_raw_parts(second, m)) };
+    assert!(first.iter().chain(second).all(|cell| is_valid(*cell)));
+    let found = left(&region(first), &region(second));
+    put_region(found, unsafe { from_raw_parts_mut(out, room) })
 }

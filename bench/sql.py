@@ -1,6 +1,6 @@
 #!/usr/bin/python3
-"""Measures the extensions for SQLite and PostgreSQL, and columns of numpy: ratios of the best times of several runs, each
-pair in turn.
+"""Measures the extensions for SQLite and PostgreSQL, and columns of numpy: ratios of the best times of several runs,
+each pair in turn.
 
 bench/sql.py [sqlite | postgresql | numpy ..]    these alone; all, if none is given"""
 import os
@@ -11,7 +11,7 @@ import tempfile
 import time
 
 ROOT = os.path.dirname(os.path.dirname(os.path.realpath(__file__)))
-sys.path[:0] = [os.path.join(ROOT, ".ci"), os.path.join(ROOT, "python")]
+sys.path[:0] = [os.path.join(ROOT, "tests", "sql"), os.path.join(ROOT, "python")]
 RUNS = 5
 MILLION = "SELECT count(*) FROM (SELECT {}, count(*) FROM big GROUP BY 1) x"
 PARENT = MILLION.format("h3_cell_to_parent(cell, 4)")
@@ -72,12 +72,15 @@ def measure_postgresql(cells):
         engine.psql("CREATE EXTENSION h3whole")
         for table, count in (("big", 1_000_000), ("long", LONG)):
             engine.psql(
-                f"CREATE UNLOGGED TABLE {table} AS SELECT h3_cell_to_children('8001fffffffffff', 8) AS cell LIMIT {count};"
+                f"CREATE UNLOGGED TABLE {table} AS"
+                f" SELECT h3_cell_to_children('8001fffffffffff', 8) AS cell LIMIT {count};"
                 f"ALTER TABLE {table} SET (parallel_workers = 4); VACUUM ANALYZE {table}"
             )
 
         def ask(query, workers):
-            return lambda: engine.psql(f"SET work_mem = '64MB'; SET max_parallel_workers_per_gather = {workers}; {query}")
+            return lambda: engine.psql(
+                f"SET work_mem = '64MB'; SET max_parallel_workers_per_gather = {workers}; {query}"
+            )
 
         plain = PLAIN.format("cell::bigint", "::bigint")
         compare("PostgreSQL: a million rows by parents / by an integer expression", ask(PARENT, 0), ask(plain, 0))
@@ -88,6 +91,26 @@ def measure_postgresql(cells):
                 ask(query, workers),
                 lambda: compact_by_command(cells),
             )
+        measure_points(engine, ask)
+
+
+def measure_points(engine, ask):
+    """Two million points by the zones in which they lie, against the join of zones and of the points' ancestors."""
+    engine.psql(
+        "CREATE UNLOGGED TABLE zones AS SELECT cell FROM h3_get_res0_cells() base, h3_cell_to_children(base, 4) cell"
+        " WHERE cell::bigint % 10 < 7;"
+        "CREATE UNIQUE INDEX ON zones (cell); VACUUM ANALYZE zones;"
+        "CREATE UNLOGGED TABLE points AS SELECT h3_child_pos_to_cell((n * 7919 % 33000000)::bigint,"
+        " h3_cell_to_parent(cell, 0), 9) AS cell"
+        " FROM (SELECT cell, row_number() OVER () AS n FROM long LIMIT 2000000) numbered; VACUUM ANALYZE points"
+    )
+    listed = "(SELECT array_agg(cell) FROM zones)"
+    joined = "SELECT count(*) FROM points JOIN zones ON zones.cell = ANY (h3_cell_to_ancestors(points.cell))"
+    for name, query in (
+        ("h3_zone_of", f"SELECT count(h3_zone_of(cell, {listed})) FROM points"),
+        ("h3_is_covered", f"SELECT count(*) FROM points WHERE h3_is_covered(cell, {listed})"),
+    ):
+        compare(f"PostgreSQL: {name} of 2000000 points / a join of ancestors", ask(query, 0), ask(joined, 0))
 
 
 C_PROGRAM = r"""
@@ -150,6 +173,35 @@ def measure_numpy(_):
         print(f"numpy: cells_to_parents of {LONG} / h3w_cellsToParents into {kind} memory: {ratio}", flush=True)
 
 
+def measure_columns(_):
+    """Five million cells looked up in a region of 1,440,000 and in as many zones, against numpy's search in the same
+    order."""
+    import numpy
+
+    import h3whole.int as integers
+
+    random = numpy.random.default_rng(1)
+    fives = numpy.concatenate([integers.cell_to_children(base, 5) for base in integers.get_res0_cells()])
+    # no cell whose last digit is 0, so that no siblings are complete
+    given = random.permutation(fives[fives >> numpy.uint64(30) & numpy.uint64(7) != 0])[:1_440_000]
+    points = random.choice(fives, 5_000_000) + numpy.uint64(4 << 52)
+    for res in range(6, 10):
+        # from 2 to 6: with 1 a cell below a pentagon may be none
+        points -= random.integers(1, 6, len(points), dtype=numpy.uint64) << numpy.uint64(3 * (15 - res))
+    region, zones = integers.Region(given), integers.Zones(given)
+    ordered = numpy.sort(given >> numpy.uint64(30) & numpy.uint64((1 << 22) - 1))
+
+    def searched():
+        above = points >> numpy.uint64(30) & numpy.uint64((1 << 22) - 1)
+        places = numpy.minimum(numpy.searchsorted(ordered, above), len(ordered) - 1)
+        return int((ordered[places] == above).sum())
+
+    name = "numpy: {} of 5000000 cells in 1440000 / numpy.searchsorted"
+    compare(name.format("Region.covers"), lambda: int(numpy.asarray(region.covers(points)).sum()), searched)
+    compare(name.format("Zones.of"), lambda: int(numpy.count_nonzero(zones.of(points))), searched)
+    compare(name.format("Zones.count"), lambda: len(points) - zones.count(points).others, searched)
+
+
 def main():
     subprocess.run([os.path.join(ROOT, "h3"), "--help"], stdout=subprocess.DEVNULL, check=True)
     subprocess.run([os.path.join(ROOT, "tools", "library")], capture_output=True, check=True)
@@ -158,7 +210,13 @@ def main():
         cells = os.path.join(folder, "cells")
         with open(cells, "wb") as out:
             subprocess.run([COMMAND, "cellToChildren", "-c", "8001fffffffffff", "-r", "8"], stdout=out, check=True)
-        for name, measure in (("numpy", measure_numpy), ("sqlite", measure_sqlite), ("postgresql", measure_postgresql)):
+        kinds = (
+            ("numpy", measure_numpy),
+            ("numpy", measure_columns),
+            ("sqlite", measure_sqlite),
+            ("postgresql", measure_postgresql),
+        )
+        for name, measure in kinds:
             if not asked or name in asked:
                 measure(cells)
 
