@@ -1,6 +1,6 @@
 # Completions of the command h3 for bash.
 # made from h3 --help (tools/pages)
-_h3_commands='isValidCell getResolution getBaseCellNumber isPentagon isResClassIII getNumCells getRes0Cells getPentagons cellToParent cellToCenterChild cellToChildren cellToChildrenSize cellToChildPos childPosToCell gridDiskUnsafe gridDiskDistancesUnsafe gridRingUnsafe areNeighborCells cellsToDirectedEdge getDirectedEdgeDestination isValidDirectedEdge getDirectedEdgeOrigin originToDirectedEdges compactCells uncompactCells uniteCells areValidCells areValidDirectedEdges getResolutions getBaseCellNumbers arePentagons areResClassIII cellsToParents cellsToCenterChildren cellsToChildrenSizes cellsToChildPositions getDirectedEdgeOrigins originsToDirectedEdges'
+_h3_commands='isValidCell getResolution getBaseCellNumber isPentagon isResClassIII getNumCells getRes0Cells getPentagons cellToParent cellToCenterChild cellToChildren cellToChildrenSize cellToChildPos childPosToCell gridDiskUnsafe gridDiskDistancesUnsafe gridRingUnsafe areNeighborCells cellsToDirectedEdge getDirectedEdgeDestination isValidDirectedEdge getDirectedEdgeOrigin originToDirectedEdges compactCells uncompactCells uniteCells intersectCells subtractCells areCoveredCells cellsToZones countCellsInZones areValidCells areValidDirectedEdges getResolutions getBaseCellNumbers arePentagons areResClassIII cellsToParents cellsToCenterChildren cellsToChildrenSizes cellsToChildPositions getDirectedEdgeOrigins originsToDirectedEdges'
 _h3_options() {
     case $1 in
         isValidCell | getResolution | getBaseCellNumber | isPentagon | isResClassIII | originToDirectedEdges) echo --cell ;;
@@ -11,6 +11,8 @@ _h3_options() {
         areNeighborCells | cellsToDirectedEdge) echo --cell --to --table ;;
         getDirectedEdgeDestination) echo --edge --table ;;
         isValidDirectedEdge | getDirectedEdgeOrigin) echo --edge ;;
+        intersectCells | subtractCells | areCoveredCells) echo --region ;;
+        cellsToZones | countCellsInZones) echo --zones ;;
     esac
 }
 # end of what is made (tools/pages)
@@ -34,7 +36,7 @@ _h3() {
         before=${COMP_WORDS[COMP_CWORD - 2]}
     fi
     case $before in
-        --table)
+        --table | --region | --zones)
             # the names of files are bash's own to complete
             compopt -o default
             return
