@@ -3,6 +3,7 @@
 #![tactic(auto)]
 
 mod commands;
+mod help;
 mod options;
 mod words;
 

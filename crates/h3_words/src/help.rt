@@ -1,0 +1,405 @@
+//! What help says of the commands.
+
+ghost use Rattle.std.specs.Prelude.{◌≡◌, false};
+ghost use Rattle.clap.specs.Words.{app_of, new_app};
+ghost use Rattle.clap.specs.declared.builder.command.Command.TheViews.{out-Command};
+ghost use Rattle.h3_words.specs.Commands.{word_of};
+
+use crate::commands::CommandName;
+use clap::Command as Parser;
+use std::alloc::Global;
+
+/// What `h3 --help` prints: the commands by what they are for, in lines of at most 80 characters.
+pub(crate) const HELP: &str = "Inspect, traverse and compact H3 cells\n\n\
+    Usage: h3 <COMMAND>\n\n\
+    Cells:\n\
+    \x20 isValidCell                 Whether an index is a valid cell\n\
+    \x20 getResolution               The resolution of a cell\n\
+    \x20 getBaseCellNumber           The base cell of a cell\n\
+    \x20 isPentagon                  Whether a cell is a pentagon\n\
+    \x20 isResClassIII               Whether the resolution of a cell is Class III\n\
+    \x20 getNumCells                 How many cells a resolution has\n\
+    \x20 getRes0Cells                The 122 cells of resolution 0\n\
+    \x20 getPentagons                The twelve pentagons of a resolution\n\n\
+    Hierarchy:\n\
+    \x20 cellToParent                The ancestor of a cell at a resolution\n\
+    \x20 cellToCenterChild           The center descendant of a cell at a resolution\n\
+    \x20 cellToChildren              The descendants of a cell at a resolution\n\
+    \x20 cellToChildrenSize          How many descendants a cell has at a resolution\n\
+    \x20 cellToChildPos              The position of a cell below an ancestor\n\
+    \x20 childPosToCell              The descendant of a cell at a position\n\n\
+    Over a table of base cells:\n\
+    \x20 gridDiskUnsafe              The cells within a radius of a cell, ring by ring\n\
+    \x20 gridDiskDistancesUnsafe     The same, each with the number of its ring\n\
+    \x20 gridRingUnsafe              The cells of the ring of a radius around a cell\n\
+    \x20 areNeighborCells            Whether two cells are neighbors\n\
+    \x20 cellsToDirectedEdge         The directed edge from a cell to its neighbor\n\
+    \x20 getDirectedEdgeDestination  The cell that a directed edge leads to\n\n\
+    Directed edges:\n\
+    \x20 isValidDirectedEdge         Whether an index is a valid directed edge\n\
+    \x20 getDirectedEdgeOrigin       The cell that a directed edge leaves\n\
+    \x20 originToDirectedEdges       The directed edges that leave a cell\n\n\
+    Lists on standard input, one index a line:\n\
+    \x20 compactCells                The cells, compacted\n\
+    \x20 uncompactCells              The descendants of the cells at a resolution\n\
+    \x20 uniteCells                  What the cells cover, compacted\n\
+    \x20 intersectCells              What both the cells and a region cover, compacted\n\
+    \x20 subtractCells               What the cells cover and a region does not\n\
+    \x20 areCoveredCells             Whether a region covers each cell\n\
+    \x20 cellsToZones                The zone of each cell\n\
+    \x20 countCellsInZones           How many of the cells each zone has\n\
+    \x20 areValidCells               Whether each index is a valid cell\n\
+    \x20 areValidDirectedEdges       Whether each index is a valid directed edge\n\
+    \x20 getResolutions              The resolution of each cell\n\
+    \x20 getBaseCellNumbers          The base cell of each cell\n\
+    \x20 arePentagons                Whether each cell is a pentagon\n\
+    \x20 areResClassIII              Whether the resolution of each cell is Class III\n\
+    \x20 cellsToParents              The ancestor of each cell at a resolution\n\
+    \x20 cellsToCenterChildren       The center descendant of each cell\n\
+    \x20 cellsToChildrenSizes        How many descendants each cell has\n\
+    \x20 cellsToChildPositions       The position of each cell below an ancestor\n\
+    \x20 getDirectedEdgeOrigins      The cell that each directed edge leaves\n\
+    \x20 originsToDirectedEdges      The directed edges that leave each cell\n\n\
+    Options:\n\
+    \x20 -h, --help     Print help\n\
+    \x20 -V, --version  Print the version\n\n\
+    The options, the errors and an example of a command: h3 COMMAND --help";
+
+// What the notes of several commands share, with the example of each: a macro, since `concat!`
+// takes literals alone.
+macro_rules! notes {
+    (index, $example:literal) => {
+        concat!("Errors: 1 no index, 13 out of memory\nExample: ", $example)
+    };
+    (cell, $example:literal) => {
+        concat!("Errors: 1 no index, 5 no cell, 13 out of memory\nExample: ", $example)
+    };
+    (edge, $example:literal) => {
+        concat!("Errors: 1 no index, 6 no edge, 13 out of memory\nExample: ", $example)
+    };
+    (resolution, $example:literal) => {
+        concat!("Errors: 4 no resolution, 13 out of memory\nExample: ", $example)
+    };
+    (ancestor, $example:literal) => {
+        concat!(
+            "Errors: 1 no index, 5 no cell, 4 no resolution,\n\
+            12 a resolution finer than the cell's, 13 out of memory\n\
+            Example: ",
+            $example
+        )
+    };
+    (descendants, $example:literal) => {
+        concat!(
+            "Errors: 1 no index, 5 no cell, 4 no resolution from the cell's to 15,\n\
+            13 out of memory\n\
+            Example: ",
+            $example
+        )
+    };
+    (overlaps, $example:literal) => {
+        notes!(region "The cells of either may repeat and overlap.\n", $example)
+    };
+    (region $lists:literal, $example:literal) => {
+        concat!(
+            $lists,
+            "An error of the list is told with its line, as line 2: error 5: E_CELL_INVALID,\n\
+            one of the file as region: line 2: error 5: E_CELL_INVALID. A file that cannot\n\
+            be opened is region: open, status 3; a read that fails is fault: read, status 4.\n\
+            Errors: 1 no index, 5 no cell, 13 out of memory\n\
+            Example: ",
+            $example
+        )
+    };
+    (zones $($lines:literal)?, $example:literal) => {
+        concat!(
+            $($lines,)?
+            "The zone of a cell is the one that is the cell or its ancestor.\n\
+            An error of the list is told with its line, as line 2: error 5: E_CELL_INVALID,\n\
+            one of the file as zones: line 2: error 5: E_CELL_INVALID, and zones that\n\
+            overlap are zones: error 10: E_DUPLICATE_INPUT. A file that cannot be opened is\n\
+            zones: open, status 3; a read that fails is fault: read, status 4.\n\
+            Errors: 1 no index, 5 no cell, 10 zones that overlap, 13 out of memory\n\
+            Example: ",
+            $example
+        )
+    };
+    (radius, $example:literal) => {
+        notes!(
+            table "Errors: 1 no index, 5 no cell,\n\
+            9 a step that starts or ends in a pentagon base cell, 13 out of memory\n",
+            $example
+        )
+    };
+    (neighbors $errors:literal, $example:literal) => {
+        notes!(
+            table "Error 1 or 5 is that of -c, if it has one, else that of --to.\n\
+            Errors: 1 no index, 5 no cell, 12 cells of two resolutions,\n" $errors,
+            $example
+        )
+    };
+    (table $($errors:literal)+, $example:literal) => {
+        concat!(
+            $($errors,)+
+            "Example: ",
+            $example,
+            "\nA table: h3-table baseCells.c -o h3.csv, of the file in H3's source"
+        )
+    };
+}
+
+impl CommandName {
+    /// What help says of the command.
+    fn about<'a>(self) -> &'a str {
+        match self {
+            CommandName::IsValidCell => "Whether an index is a valid cell",
+            CommandName::GetResolution => "The resolution of a cell",
+            CommandName::GetBaseCellNumber => "The base cell of a cell",
+            CommandName::IsPentagon => "Whether a cell is a pentagon",
+            CommandName::IsResClassIII => "Whether the resolution of a cell is Class III",
+            CommandName::GetNumCells => "How many cells a resolution has",
+            CommandName::GetRes0Cells => "The 122 cells of resolution 0",
+            CommandName::GetPentagons => "The twelve pentagons of a resolution",
+            CommandName::CellToParent => "The ancestor of a cell at a resolution",
+            CommandName::CellToCenterChild => "The center descendant of a cell at a resolution",
+            CommandName::CellToChildren => "The descendants of a cell at a resolution, ascending",
+            CommandName::CellToChildrenSize => "How many descendants a cell has at a resolution",
+            CommandName::CellToChildPos =>
+                "The position of a cell among the descendants of its ancestor at a resolution",
+            CommandName::ChildPosToCell =>
+                "The descendant of a cell that stands at a position among those of a resolution",
+            CommandName::CompactCells =>
+                "The compacted list of the cells, of any resolutions, on standard input; error 10 where two overlap",
+            CommandName::UncompactCells =>
+                "The descendants at a resolution of each cell listed on standard input",
+            CommandName::UniteCells =>
+                "The compacted list of what the cells on standard input cover, which may repeat and overlap",
+            CommandName::IntersectCells =>
+                "What both the cells on standard input and a region cover, compacted",
+            CommandName::SubtractCells =>
+                "What the cells on standard input cover and a region does not, compacted",
+            CommandName::AreCoveredCells =>
+                "Whether a region covers each cell listed on standard input",
+            CommandName::CellsToZones =>
+                "The zone of each cell listed on standard input, 0 where it has none",
+            CommandName::CountCellsInZones =>
+                "How many of the cells listed on standard input each zone has",
+            CommandName::GridDiskUnsafe => "The cells within a radius of a cell, ring by ring",
+            CommandName::GridDiskDistancesUnsafe =>
+                "The cells within a radius of a cell, each with the number of its ring",
+            CommandName::GridRingUnsafe => "The cells of the ring of a radius around a cell",
+            CommandName::AreNeighborCells => "Whether two cells are neighbors",
+            CommandName::CellsToDirectedEdge => "The directed edge from a cell to its neighbor",
+            CommandName::IsValidDirectedEdge => "Whether an index is a valid directed edge",
+            CommandName::GetDirectedEdgeOrigin => "The cell that a directed edge leaves",
+            CommandName::GetDirectedEdgeDestination => "The cell that a directed edge leads to",
+            CommandName::OriginToDirectedEdges => "The directed edges that leave a cell",
+            CommandName::AreValidCells =>
+                "Whether each index listed on standard input is a valid cell",
+            CommandName::AreValidDirectedEdges =>
+                "Whether each index listed on standard input is a valid directed edge",
+            CommandName::GetResolutions => "The resolution of each cell listed on standard input",
+            CommandName::GetBaseCellNumbers =>
+                "The base cell of each cell listed on standard input",
+            CommandName::ArePentagons => "Whether each cell listed on standard input is a pentagon",
+            CommandName::AreResClassIII =>
+                "Whether the resolution of each cell listed on standard input is Class III",
+            CommandName::CellsToParents =>
+                "The ancestor at a resolution of each cell listed on standard input",
+            CommandName::CellsToCenterChildren =>
+                "The center descendant at a resolution of each cell listed on standard input",
+            CommandName::CellsToChildrenSizes =>
+                "How many descendants at a resolution each cell listed on standard input has",
+            CommandName::CellsToChildPositions =>
+                "The position of each cell listed on standard input among the descendants of its ancestor at a resolution",
+            CommandName::GetDirectedEdgeOrigins =>
+                "The cell that each directed edge listed on standard input leaves",
+            CommandName::OriginsToDirectedEdges =>
+                "The directed edges that leave each cell listed on standard input",
+        }
+    }
+
+    /// What help of the command ends with: the errors beside an invalid command line, in the order
+    /// in which they are looked for, and an example.
+    fn notes<'a>(self) -> &'a str {
+        match self {
+            CommandName::IsValidCell => notes!(index, "h3 isValidCell -c 85283473fffffff"),
+            CommandName::GetResolution => notes!(cell, "h3 getResolution -c 85283473fffffff"),
+            CommandName::GetBaseCellNumber => notes!(
+                cell,
+                "h3 getBaseCellNumber -c 85283473fffffff"
+            ),
+            CommandName::IsPentagon => notes!(cell, "h3 isPentagon -c 85283473fffffff"),
+            CommandName::IsResClassIII => notes!(cell, "h3 isResClassIII -c 85283473fffffff"),
+            CommandName::GetNumCells => notes!(resolution, "h3 getNumCells -r 5"),
+            CommandName::GetRes0Cells => "Errors: 13 out of memory\n\
+                Example: h3 getRes0Cells",
+            CommandName::GetPentagons => notes!(resolution, "h3 getPentagons -r 5"),
+            CommandName::CellToParent => notes!(
+                ancestor,
+                "h3 cellToParent -c 85283473fffffff -r 4"
+            ),
+            CommandName::CellToCenterChild => notes!(
+                descendants,
+                "h3 cellToCenterChild -c 85283473fffffff -r 6"
+            ),
+            CommandName::CellToChildren => notes!(
+                descendants,
+                "h3 cellToChildren -c 85283473fffffff -r 6"
+            ),
+            CommandName::CellToChildrenSize => notes!(
+                descendants,
+                "h3 cellToChildrenSize -c 85283473fffffff -r 6"
+            ),
+            CommandName::CellToChildPos => notes!(
+                ancestor,
+                "h3 cellToChildPos -c 85283473fffffff -r 4"
+            ),
+            CommandName::ChildPosToCell => "Errors: 1 no index, 5 no cell, 4 no resolution,\n\
+                12 a resolution coarser than the cell's, 2 no such position,\n\
+                13 out of memory\n\
+                Example: h3 childPosToCell --position 3 -c 85283473fffffff -r 6",
+            CommandName::CompactCells =>
+                "Errors: 1 no index, 5 no cell, 10 cells that overlap, 13 out of memory\n\
+                Example: h3 compactCells < cells",
+            CommandName::UncompactCells => "Errors: 1 no index, 5 no cell, 4 no resolution,\n\
+                12 a resolution coarser than a cell's, 13 out of memory\n\
+                Example: h3 uncompactCells -r 6 < cells",
+            CommandName::UniteCells => notes!(cell, "h3 uniteCells < cells"),
+            CommandName::IntersectCells => notes!(
+                overlaps,
+                "h3 intersectCells --region region < cells"
+            ),
+            CommandName::SubtractCells => notes!(
+                overlaps,
+                "h3 subtractCells --region region < cells"
+            ),
+            CommandName::AreCoveredCells => notes!(
+                region "A region covers its cells and their descendants; its cells may overlap.\n",
+                "h3 areCoveredCells --region region < cells"
+            ),
+            CommandName::CellsToZones => notes!(zones, "h3 cellsToZones --zones zones < cells"),
+            CommandName::CountCellsInZones => notes!(
+                zones "A line has a zone and its count, and the last one a 0 and how many cells have\n\
+                no zone. ",
+                "h3 countCellsInZones --zones zones < cells"
+            ),
+            CommandName::GridDiskUnsafe => notes!(
+                radius,
+                "h3 gridDiskUnsafe -c 85283473fffffff -k 1 --table h3.csv"
+            ),
+            CommandName::GridDiskDistancesUnsafe => notes!(
+                radius,
+                "h3 gridDiskDistancesUnsafe -c 85283473fffffff -k 1 --table h3.csv"
+            ),
+            CommandName::GridRingUnsafe => notes!(
+                radius,
+                "h3 gridRingUnsafe -c 85283473fffffff -k 1 --table h3.csv"
+            ),
+            CommandName::AreNeighborCells => notes!(
+                neighbors "9 a step that starts or ends in a pentagon base cell, 13 out of memory\n",
+                "h3 areNeighborCells -c 85283473fffffff --to 85283477fffffff --table h3.csv"
+            ),
+            CommandName::CellsToDirectedEdge => notes!(
+                neighbors "11 no neighbors, 9 a step that starts or ends in a pentagon base cell,\n\
+                13 out of memory\n",
+                "h3 cellsToDirectedEdge -c 85283473fffffff --to 85283477fffffff --table h3.csv"
+            ),
+            CommandName::IsValidDirectedEdge => notes!(
+                index,
+                "h3 isValidDirectedEdge --edge 115283473fffffff"
+            ),
+            CommandName::GetDirectedEdgeOrigin => notes!(
+                edge,
+                "h3 getDirectedEdgeOrigin --edge 115283473fffffff"
+            ),
+            CommandName::GetDirectedEdgeDestination => notes!(
+                table "Errors: 1 no index, 6 no edge,\n\
+                9 a step that starts or ends in a pentagon base cell, 13 out of memory\n",
+                "h3 getDirectedEdgeDestination --edge 115283473fffffff --table h3.csv"
+            ),
+            CommandName::OriginToDirectedEdges => notes!(
+                cell,
+                "h3 originToDirectedEdges -c 85283473fffffff"
+            ),
+            CommandName::AreValidCells => notes!(index, "h3 areValidCells < cells"),
+            CommandName::AreValidDirectedEdges => notes!(index, "h3 areValidDirectedEdges < edges"),
+            CommandName::GetResolutions => notes!(cell, "h3 getResolutions < cells"),
+            CommandName::GetBaseCellNumbers => notes!(cell, "h3 getBaseCellNumbers < cells"),
+            CommandName::ArePentagons => notes!(cell, "h3 arePentagons < cells"),
+            CommandName::AreResClassIII => notes!(cell, "h3 areResClassIII < cells"),
+            CommandName::CellsToParents => notes!(ancestor, "h3 cellsToParents -r 4 < cells"),
+            CommandName::CellsToCenterChildren => notes!(
+                descendants,
+                "h3 cellsToCenterChildren -r 6 < cells"
+            ),
+            CommandName::CellsToChildrenSizes => notes!(
+                descendants,
+                "h3 cellsToChildrenSizes -r 6 < cells"
+            ),
+            CommandName::CellsToChildPositions => notes!(
+                ancestor,
+                "h3 cellsToChildPositions -r 4 < cells"
+            ),
+            CommandName::GetDirectedEdgeOrigins => notes!(
+                edge,
+                "h3 getDirectedEdgeOrigins < edges"
+            ),
+            CommandName::OriginsToDirectedEdges => notes!(
+                cell,
+                "h3 originsToDirectedEdges < cells"
+            ),
+        }
+    }
+
+    /// The usage of a command that reads a list, which shows how one is given; `clap` makes that of
+    /// any other.
+    fn usage<'a>(self) -> Option<&'a str> {
+        match self {
+            CommandName::CompactCells => Some("h3 compactCells < cells"),
+            CommandName::UncompactCells => Some(
+                "h3 uncompactCells --resolution <resolution> < cells",
+            ),
+            CommandName::UniteCells => Some("h3 uniteCells < cells"),
+            CommandName::IntersectCells => Some("h3 intersectCells --region <region> < cells"),
+            CommandName::SubtractCells => Some("h3 subtractCells --region <region> < cells"),
+            CommandName::AreCoveredCells => Some("h3 areCoveredCells --region <region> < cells"),
+            CommandName::CellsToZones => Some("h3 cellsToZones --zones <zones> < cells"),
+            CommandName::CountCellsInZones => Some("h3 countCellsInZones --zones <zones> < cells"),
+            CommandName::AreValidCells => Some("h3 areValidCells < cells"),
+            CommandName::AreValidDirectedEdges => Some("h3 areValidDirectedEdges < edges"),
+            CommandName::GetResolutions => Some("h3 getResolutions < cells"),
+            CommandName::GetBaseCellNumbers => Some("h3 getBaseCellNumbers < cells"),
+            CommandName::ArePentagons => Some("h3 arePentagons < cells"),
+            CommandName::AreResClassIII => Some("h3 areResClassIII < cells"),
+            CommandName::CellsToParents => Some(
+                "h3 cellsToParents --resolution <resolution> < cells",
+            ),
+            CommandName::CellsToCenterChildren => Some(
+                "h3 cellsToCenterChildren --resolution <resolution> < cells",
+            ),
+            CommandName::CellsToChildrenSizes => Some(
+                "h3 cellsToChildrenSizes --resolution <resolution> < cells",
+            ),
+            CommandName::CellsToChildPositions => Some(
+                "h3 cellsToChildPositions --resolution <resolution> < cells",
+            ),
+            CommandName::GetDirectedEdgeOrigins => Some("h3 getDirectedEdgeOrigins < edges"),
+            CommandName::OriginsToDirectedEdges => Some("h3 originsToDirectedEdges < cells"),
+            _ => None,
+        }
+    }
+
+    /// The command with its texts of help, and without its options.
+    pub(crate) fn described<'a>(self, alloc: Global) -> Parser<'a>
+        ensures app { app_of result ≡ new_app (word_of self) }
+        ensures local { (out-Command result).has_globals ≡ false }
+    {
+        let parser = Parser::new(alloc, self.word())
+            .about(self.about())
+            .after_help(self.notes());
+        match self.usage() {
+            Some(usage) => parser.override_usage(usage),
+            None => parser,
+        }
+    }
+}
