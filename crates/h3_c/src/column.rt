@@ -25,8 +25,9 @@ pub(crate) trait Question<T> {
     /// The outcome for an index.
     ghost outcome: { Self → ℕ → Result T H3Error };
 
-    /// The outcome for an index.
-    fn ask(&self, index: u64) -> Result<T, H3Error>
+    /// The outcome for an index. What looks for something begins at a place, and leaves there where it
+    /// was found, for the next index; the place may be any. All else passes it over.
+    fn ask(&self, index: u64, place: &mut usize) -> Result<T, H3Error>
         ensures { result ≡ Self.outcome self.now index };
 }
 
@@ -47,8 +48,9 @@ fn fill_values<T: Copy, Q: Question<T>>(
     ensures none { IsTrue result ↔ (first_code (map (λ h. Q.outcome question.now h) indexes.now) ≡ 0) }
 {
     let mut is_whole = true;
+    let mut place: usize = 0;
     for i in 0..indexes.len() {
-        let answer = question.ask(indexes[i]);
+        let answer = question.ask(indexes[i], &mut place);
         is_whole &= answer.is_ok();
         out[i] = match answer {
             Ok(value) => value,
@@ -64,8 +66,9 @@ fn first_error<T: Copy, Q: Question<T>>(question: &Q, indexes: &[u64]) -> (u32, 
     ensures code { result.0 ≡ first_code (map (λ h. Q.outcome question.now h) indexes.now) }
     ensures place { result.1 ≡ first_place (map (λ h. Q.outcome question.now h) indexes.now) }
 {
+    let mut near: usize = 0;
     for place in 0..indexes.len() {
-        if let Err(error) = question.ask(indexes[place]) {
+        if let Err(error) = question.ask(indexes[place], &mut near) {
             return (u32::from(error.number()), place);
         }
     }

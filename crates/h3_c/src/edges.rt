@@ -35,7 +35,7 @@ impl Question<i32> for Validities {
     ghost outcome = { λ q h. truth_of (is_valid_directed_edge (Some h)) };
 
     #[inline(always)]
-    fn ask(&self, index: u64) -> Result<i32, H3Error> {
+    fn ask(&self, index: u64, _place: &mut usize) -> Result<i32, H3Error> {
         valid(index)
     }
 }
@@ -72,7 +72,7 @@ impl Question<u64> for Origins {
     ghost outcome = { λ q h. index_of (get_directed_edge_origin (Some h)) };
 
     #[inline(always)]
-    fn ask(&self, index: u64) -> Result<u64, H3Error> {
+    fn ask(&self, index: u64, _place: &mut usize) -> Result<u64, H3Error> {
         index_of(get_directed_edge_origin(Some(index)))
     }
 }

@@ -34,7 +34,7 @@ impl Question<u64> for Parents {
     ghost outcome = { λ q h. index_of (cell_to_parent (Some h) q.res) };
 
     #[inline(always)]
-    fn ask(&self, index: u64) -> Result<u64, H3Error> {
+    fn ask(&self, index: u64, _place: &mut usize) -> Result<u64, H3Error> {
         index_of(cell_to_parent(Some(index), self.res))
     }
 }
@@ -78,7 +78,7 @@ impl Question<u64> for CenterChildren {
     ghost outcome = { λ q h. index_of (cell_to_center_child (Some h) q.res) };
 
     #[inline(always)]
-    fn ask(&self, index: u64) -> Result<u64, H3Error> {
+    fn ask(&self, index: u64, _place: &mut usize) -> Result<u64, H3Error> {
         index_of(cell_to_center_child(Some(index), self.res))
     }
 }
@@ -123,7 +123,7 @@ impl Question<u64> for ChildrenSizes {
     ghost outcome = { λ q h. cell_to_children_size (Some h) q.res };
 
     #[inline(always)]
-    fn ask(&self, index: u64) -> Result<u64, H3Error> {
+    fn ask(&self, index: u64, _place: &mut usize) -> Result<u64, H3Error> {
         cell_to_children_size(Some(index), self.res)
     }
 }
@@ -167,7 +167,7 @@ impl Question<u64> for ChildPositions {
     ghost outcome = { λ q h. cell_to_child_pos (Some h) q.res };
 
     #[inline(always)]
-    fn ask(&self, index: u64) -> Result<u64, H3Error> {
+    fn ask(&self, index: u64, _place: &mut usize) -> Result<u64, H3Error> {
         cell_to_child_pos(Some(index), self.res)
     }
 }

@@ -26,7 +26,7 @@ impl Question<i32> for Validities {
     ghost outcome = { λ q h. truth_of (is_valid_cell (Some h)) };
 
     #[inline(always)]
-    fn ask(&self, index: u64) -> Result<i32, H3Error> {
+    fn ask(&self, index: u64, _place: &mut usize) -> Result<i32, H3Error> {
         valid(index)
     }
 }
@@ -69,7 +69,7 @@ impl Question<i32> for Resolutions {
     ghost outcome = { λ q h. int_of (get_resolution (Some h)) };
 
     #[inline(always)]
-    fn ask(&self, index: u64) -> Result<i32, H3Error> {
+    fn ask(&self, index: u64, _place: &mut usize) -> Result<i32, H3Error> {
         resolution(index)
     }
 }
@@ -112,7 +112,7 @@ impl Question<i32> for BaseCellNumbers {
     ghost outcome = { λ q h. int_of (get_base_cell_number (Some h)) };
 
     #[inline(always)]
-    fn ask(&self, index: u64) -> Result<i32, H3Error> {
+    fn ask(&self, index: u64, _place: &mut usize) -> Result<i32, H3Error> {
         base_cell(index)
     }
 }
@@ -157,7 +157,7 @@ impl Question<i32> for Pentagons {
     ghost outcome = { λ q h. truth_of (is_pentagon (Some h)) };
 
     #[inline(always)]
-    fn ask(&self, index: u64) -> Result<i32, H3Error> {
+    fn ask(&self, index: u64, _place: &mut usize) -> Result<i32, H3Error> {
         pentagon(index)
     }
 }
@@ -200,7 +200,7 @@ impl Question<i32> for ClassesIii {
     ghost outcome = { λ q h. truth_of (is_res_class_iii (Some h)) };
 
     #[inline(always)]
-    fn ask(&self, index: u64) -> Result<i32, H3Error> {
+    fn ask(&self, index: u64, _place: &mut usize) -> Result<i32, H3Error> {
         class_iii(index)
     }
 }

@@ -69,9 +69,9 @@ impl<'a> Question<u64> for ZonesOf<'a> {
     ghost outcome = { λ q h. cell_to_zone q.zones h };
 
     #[inline(always)]
-    fn ask(&self, index: u64) -> Result<u64, H3Error> {
+    fn ask(&self, index: u64, place: &mut usize) -> Result<u64, H3Error> {
         let cell = cell_from(Some(index))?;
-        match self.zones.zone_of(cell) {
+        match self.zones.zone_near(cell, place) {
             Some(zone) => Ok(zone.raw()),
             None => Ok(NULL),
         }
@@ -100,12 +100,12 @@ pub extern "C" fn h3w_cellsToZones(
     fill(&question, cells, NULL, out, at)
 }
 
-/// Whether the zones cover a cell: whether it has a zone.
+/// Whether the zones cover a cell: whether it has a zone, which is looked for from a place on.
 #[inline(always)]
-fn covers(zones: &Zones, cell: Cell) -> bool
+fn covers(zones: &Zones, cell: Cell, place: &mut usize) -> bool
     ensures { result ≡ is_covered zones.now cell }
 {
-    zones.zone_of(cell).is_some()
+    zones.zone_near(cell, place).is_some()
 }
 
 /// Whether the zones cover a cell, for each index of a column.
@@ -118,9 +118,9 @@ impl<'a> Question<i32> for CoveredBy<'a> {
     ghost outcome = { λ q h. truth_of (is_covered_cell q.zones h) };
 
     #[inline(always)]
-    fn ask(&self, index: u64) -> Result<i32, H3Error> {
+    fn ask(&self, index: u64, place: &mut usize) -> Result<i32, H3Error> {
         let cell = cell_from(Some(index))?;
-        let is = covers(&self.zones, cell);
+        let is = covers(&self.zones, cell, place);
         Ok(truth(is))
     }
 }

@@ -216,22 +216,27 @@ pub(crate) fn combine_cells<R: Source, T: Source, W: Sink>(
     combine_listed(alloc, kind, &mut others, input, out)
 }
 
-/// Whether a region covers the cell with an index. `Failed` where there is no index, and
-/// `CellInvalid` where no cell has it.
-fn is_covered_cell(region: &Region, index: Option<u64>) -> Result<bool, H3Error>
+/// Whether a region covers the cell with an index, looked for from where the last cell's member of
+/// it was found. `Failed` where there is no index, and `CellInvalid` where no cell has it.
+fn is_covered_cell(region: &Region, index: Option<u64>, place: &mut usize) -> Result<bool, H3Error>
     ensures { result ≡ is_covered_cell region.now index }
 {
     zones_are_lawful();
     let cell = cell_from(index)?;
-    Ok(region.zones().zone_of(cell).is_some())
+    Ok(region.zones().zone_near(cell, place).is_some())
 }
 
-/// The zone of the cell with an index. Errors as of `is_covered_cell`.
-fn cell_to_zone(zones: &Zones, index: Option<u64>) -> Result<Option<Cell>, H3Error>
+/// The zone of the cell with an index, looked for from where the last cell's was found. Errors as of
+/// `is_covered_cell`.
+fn cell_to_zone(
+    zones: &Zones,
+    index: Option<u64>,
+    place: &mut usize,
+) -> Result<Option<Cell>, H3Error>
     ensures { result ≡ cell_to_zone zones.now index }
 {
     let cell = cell_from(index)?;
-    Ok(zones.zone_of(cell))
+    Ok(zones.zone_near(cell, place))
 }
 
 /// Whether a region covers a cell, of which `answer_each` writes the answers.
@@ -247,11 +252,17 @@ impl<'r> IndexFunction for CoveredBy<'r> {
     fn put(
         &self,
         index: Option<u64>,
+        place: &mut usize,
         lines: &mut CellLines,
         block: &mut [u8; BLOCK],
         at: usize,
     ) -> Result<usize, H3Error> {
-        put_result(is_covered_cell(&self.region, index), lines, block, at)
+        put_result(
+            is_covered_cell(&self.region, index, place),
+            lines,
+            block,
+            at,
+        )
     }
 }
 
@@ -268,11 +279,12 @@ impl<'z> IndexFunction for ZoneOf<'z> {
     fn put(
         &self,
         index: Option<u64>,
+        place: &mut usize,
         lines: &mut CellLines,
         block: &mut [u8; BLOCK],
         at: usize,
     ) -> Result<usize, H3Error> {
-        put_result(cell_to_zone(&self.zones, index), lines, block, at)
+        put_result(cell_to_zone(&self.zones, index, place), lines, block, at)
     }
 }
 

@@ -50,6 +50,7 @@ impl IndexFunction for AnswerOf {
     fn put(
         &self,
         index: Option<u64>,
+        _place: &mut usize,
         lines: &mut CellLines,
         block: &mut [u8; BLOCK],
         at: usize,

@@ -28,10 +28,12 @@ pub trait IndexFunction {
 
     /// Puts the answer into a block from the byte `at` on, and returns where it ends; or returns
     /// its error. The bytes after it may change too. The lines of cells are put by `lines`, as
-    /// `Line::put` puts them.
+    /// `Line::put` puts them. What looks for something begins at a place, and leaves there where it
+    /// was found, for the next line; the place may be any. All else passes it over.
     fn put(
         &self,
         index: Option<u64>,
+        place: &mut usize,
         lines: &mut CellLines,
         block: &mut [u8; BLOCK],
         at: usize,
@@ -138,6 +140,7 @@ fn answer_index<W: Sink, F: IndexFunction>(
     number: u64,
     function: &F,
     index: Option<u64>,
+    place: &mut usize,
 ) -> Result<usize, Refusal>
     requires { end ≤ BLOCK }
     ensures within { IfOk result (λ last. last ≤ BLOCK) }
@@ -152,7 +155,7 @@ fn answer_index<W: Sink, F: IndexFunction>(
         (sink_use W.taken W.has_failed out.old out.new)) }
 {
     let at = make_room(out, block, end)?;
-    match function.put(index, lines, block, at) {
+    match function.put(index, place, lines, block, at) {
         Ok(last) => Ok(last),
         Err(error) => Err(refuse(out, &block[..at], number, error)),
     }
@@ -164,6 +167,7 @@ struct Answers<'a, 'f, W, F> {
     out: &'a mut W,
     function: &'f F,
     number: u64,
+    place: usize,
     lines: CellLines,
     block: [u8; BLOCK],
     end: usize,
@@ -197,6 +201,7 @@ impl<'a, 'f, W: Sink, F: IndexFunction> LineTaker for Answers<'a, 'f, W, F> {
                     self.number,
                     self.function,
                     index,
+                    &mut self.place,
                 )?;
                 self.number += 1;
                 Ok(())
@@ -219,6 +224,7 @@ impl<'a, 'f, W: Sink, F: IndexFunction> LineTaker for Answers<'a, 'f, W, F> {
             self.number,
             self.function,
             Some(index),
+            &mut self.place,
         )?;
         self.number += 1;
         Ok(())
@@ -283,6 +289,7 @@ fn answer_pages<R: Source, W: Sink, F: IndexFunction>(
         out: &mut *out,
         function,
         number: 1,
+        place: 0,
         lines: CellLines::new(),
         block: [0; BLOCK],
         end: 0,
