@@ -1,5 +1,5 @@
 -- How a run ends that reads a list or a table, and what a run does whose ending is known.
-use Rattle.std.proofs.Common.{◌≡◌, ℕ, ◌^◌, ◌⊎◌, Bool, true, false, List, Option, None, Some, Result, Ok, Err, IsTrue, [], ◌++◌, sym, ap, subst, refl, inl, inr}
+use Rattle.std.proofs.Common.{◌≡◌, ℕ, ◌^◌, ◌⊎◌, Bool, true, false, List, Option, None, Some, Result, Ok, Err, IsTrue, [], ◌++◌, sym, ap, ◌∙◌, subst, refl, inl, inr, arith}
 use Rattle.std.specs.Result.{is_ok}
 use Rattle.h3_index.specs.Cell.{Address}
 use Rattle.h3_index.specs.Stream.{HasLeft}
@@ -13,7 +13,7 @@ use Rattle.h3_lines.specs.Answer.{Answer, answer_or_error, out_of_memory}
 use Rattle.h3_lines.specs.EachLine.{EndsEach, answer_at, list_answer}
 use Rattle.h3_lines.specs.List.{RefusesList, listed_cells}
 use Rattle.h3_lines.specs.Numbered.{RefusesAt, faulty_line}
-use Rattle.h3_lines.specs.Reads.{IsListWithinReads, IsWithinReads}
+use Rattle.h3_lines.specs.Reads.{IsListWithinReads, IsWithinReads, StopsAtFault}
 use Rattle.h3_lines.specs.Refusal.{table_refusal}
 use Rattle.h3_lines.specs.declared.refusal.CellFile.{CellFile}
 use Rattle.h3_lines.specs.declared.refusal.Refusal.{Refusal}
@@ -22,7 +22,7 @@ use Rattle.h3_lines.specs.Writing.{IsLeft, Reports, SinkUse, Writes}
 use Rattle.h3_command.specs.Answer.{Request, about_numbered_list, about_table, answer_or_error_at, with_table, unless_faulty}
 use Rattle.h3_command.specs.Files.{file_cells, unless_refused}
 use Rattle.h3_command.specs.Answer.Request.{of_file_and_lines, of_file_and_list, of_lines, of_list, of_numbered_list, of_table, plain}
-use Rattle.h3_command.specs.Run.{Answers, Ends, Gives, NoReadFails, ReadFails, RefusesFile, Runs, SourceUse, Streams, WritesOfNumberedList, WritesReading}
+use Rattle.h3_command.specs.Run.{Answers, Ends, Gives, IsReadSoFar, IsReadToEnd, IsReadWhole, NoReadFails, ReadFails, RefusesFile, Runs, SourceUse, StopsWithin, Streams, WritesOfNumberedList, WritesReading}
 use Rattle.h3_command.proofs.Written.{nothing, writes_refused}
 
 -- an answer to what was read is written, and no read failed
@@ -43,28 +43,53 @@ reading_written a bytes was_read source (Err Write) out all sound writes = (all,
 
 -- ---- a list
 
+-- a list whose cells are answered is read to its end
+read_whole : (a : Answer) (list : List ℕ) (cells : List Address) (input : SourceUse) (ending : Result (Unit {0}) Refusal) (out : SinkUse) → listed_cells list ≡ Ok cells → Writes a ending out → IsReadToEnd input
+    → IsReadSoFar (listed_cells list) input ending
+unfolding Writes
+read_whole a list cells input (Ok u) out is writes whole = subst (λ l. IsReadSoFar l input (Ok u)) (sym is) whole
+read_whole a list cells input (Err (Error e)) out is writes whole = subst (λ l. IsReadSoFar l input (Err (Error e))) (sym is) whole
+read_whole a list cells input (Err (At n e)) out is writes whole = subst (λ l. IsReadSoFar l input (Err (At n e))) (sym is) whole
+read_whole a list cells input (Err (Table e)) out is writes whole = subst (λ l. IsReadSoFar l input (Err (Table e))) (sym is) whole
+read_whole a list cells input (Err TableOpen) out is never whole = absurd never
+read_whole a list cells input (Err (FileOpen f)) out is never whole = absurd never
+read_whole a list cells input (Err (FileAt f n e)) out is writes whole = subst (λ l. IsReadSoFar l input (Err (FileAt f n e))) (sym is) whole
+read_whole a list cells input (Err (File f e)) out is writes whole = subst (λ l. IsReadSoFar l input (Err (File f e))) (sym is) whole
+read_whole a list cells input (Err Memory) out is never whole = absurd never
+read_whole a list cells input (Err Read) out is never whole = absurd never
+read_whole a list cells input (Err Write) out is writes whole = subst (λ l. IsReadSoFar l input (Err Write)) (sym is) whole
+
+-- where there is no memory, a list may not be read to its end
+read_in_part : (cells : Result (List Address) H3Error) (input : SourceUse) → StopsWithin 65536 input → IsReadSoFar cells input (Err Memory)
+read_in_part (Ok cells) input stops = inr stops
+read_in_part (Err e) input stops = stops
+
 -- the list is refused
 pub list_refused : (about : List Address → Answer) (list : List ℕ) (input : SourceUse) (e : Refusal) (out : SinkUse) → RefusesList (ReadFails input list) (listed_cells list) e
-    → ((e ≡ Read → ⊥) → (e ≡ Memory → ⊥) → IsListWithinReads (2 ^ 40) 65536 list) → ((e ≡ Read → ⊥) → NoReadFails input) → IsLeft out
-    → WritesReading (answer_or_error about (listed_cells list)) list (IsListWithinReads (2 ^ 40) 65536 list) input (Err e) out
-list_refused about list input (Error d) out is within sound left =
-    (within (λ never. cc never) (λ never. cc never), sound (λ never. cc never), subst (λ cells. Writes (answer_or_error about cells) (Err (Error d)) out) (sym is) (writes_refused d out left))
-list_refused about list input (At n d) out never within sound left = absurd never
-list_refused about list input Memory out is within sound left = (sound (λ never. cc never), left)
-list_refused about list input Read out fails within sound left = (fails, left)
-list_refused about list input Write out never within sound left = absurd never
-list_refused about list input (Table d) out never within sound left = absurd never
-list_refused about list input TableOpen out never within sound left = absurd never
-list_refused about list input (FileOpen f) out never within sound left = absurd never
-list_refused about list input (FileAt f n d) out never within sound left = absurd never
-list_refused about list input (File f d) out never within sound left = absurd never
+    → ((e ≡ Read → ⊥) → (e ≡ Memory → ⊥) → IsListWithinReads (2 ^ 40) 65536 list) → ((e ≡ Read → ⊥) → NoReadFails input) → StopsWithin 65536 input → (e ≡ Read → StopsWithin 0 input) → IsLeft out
+    → WritesReading (answer_or_error about (listed_cells list)) list (IsListWithinReads (2 ^ 40) 65536 list) input (Err e) out × IsReadSoFar (listed_cells list) input (Err e)
+list_refused about list input (Error d) out is within sound stops faults left = (
+  (within (λ never. cc never) (λ never. cc never), sound (λ never. cc never), subst (λ cells. Writes (answer_or_error about cells) (Err (Error d)) out) (sym is) (writes_refused d out left)),
+  subst (λ l. IsReadSoFar l input (Err (Error d))) (sym is) stops,
+)
+list_refused about list input (At n d) out never within sound stops faults left = absurd never
+list_refused about list input Memory out is within sound stops faults left = ((sound (λ never. cc never), left), read_in_part (listed_cells list) input stops)
+list_refused about list input Read out fails within sound stops faults left = ((fails, left), faults refl)
+list_refused about list input Write out never within sound stops faults left = absurd never
+list_refused about list input (Table d) out never within sound stops faults left = absurd never
+list_refused about list input TableOpen out never within sound stops faults left = absurd never
+list_refused about list input (FileOpen f) out never within sound stops faults left = absurd never
+list_refused about list input (FileAt f n d) out never within sound stops faults left = absurd never
+list_refused about list input (File f d) out never within sound stops faults left = absurd never
 
 -- the list is read, and the answer about its cells is written
 pub list_written : (about : List Address → Answer) (list : List ℕ) (cells : List Address) (input : SourceUse) (ending : Result (Unit {0}) Refusal) (out : SinkUse) → listed_cells list ≡ Ok cells
-    → IsWithinReads (2 ^ 40) 65536 list → NoReadFails input → Writes (about cells) ending out
-    → WritesReading (answer_or_error about (listed_cells list)) list (IsListWithinReads (2 ^ 40) 65536 list) input ending out
-list_written about list cells input ending out is short sound writes =
-    reading_written _ list _ input ending out (inl short) sound (subst (λ read. Writes (answer_or_error about read) ending out) (sym is) writes)
+    → IsWithinReads (2 ^ 40) 65536 list → NoReadFails input → IsReadToEnd input → Writes (about cells) ending out
+    → WritesReading (answer_or_error about (listed_cells list)) list (IsListWithinReads (2 ^ 40) 65536 list) input ending out × IsReadSoFar (listed_cells list) input ending
+list_written about list cells input ending out is short sound whole writes = (
+  reading_written _ list _ input ending out (inl short) sound (subst (λ read. Writes (answer_or_error about read) ending out) (sym is) writes),
+  read_whole _ list cells input ending out is writes whole,
+)
 
 -- ---- a list whose faulty line is told with its number
 
@@ -75,39 +100,51 @@ writes_refused_at line e out left = (refl, (nothing _ _ left.0, left.1))
 
 -- the list is refused
 pub numbered_refused : (about : List Address → Answer) (list : List ℕ) (input : SourceUse) (e : Refusal) (out : SinkUse) → RefusesAt (ReadFails input list) (listed_cells list) (faulty_line list) e
-    → ((e ≡ Read → ⊥) → (e ≡ Memory → ⊥) → IsListWithinReads (2 ^ 40) 65536 list) → ((e ≡ Read → ⊥) → NoReadFails input) → IsLeft out
-    → WritesReading (about_numbered_list about list) list (IsListWithinReads (2 ^ 40) 65536 list) input (Err e) out
-numbered_refused about list input (Error d) out never within sound left = absurd never
-numbered_refused about list input (At n d) out (is, number) within sound left = (
-  within (λ never. cc never) (λ never. cc never),
-  sound (λ never. cc never),
-  subst (λ cells. Writes (answer_or_error_at (faulty_line list) about cells) (Err (At n d)) out) (sym is)
-      (subst (λ line. Writes (record { output = []; ending = Err (At line d) }) (Err (At n d)) out) number (writes_refused_at n d out left)),
+    → ((e ≡ Read → ⊥) → (e ≡ Memory → ⊥) → IsListWithinReads (2 ^ 40) 65536 list) → ((e ≡ Read → ⊥) → NoReadFails input) → StopsWithin 65536 input → (e ≡ Read → StopsWithin 0 input) → IsLeft out
+    → WritesReading (about_numbered_list about list) list (IsListWithinReads (2 ^ 40) 65536 list) input (Err e) out × IsReadSoFar (listed_cells list) input (Err e)
+numbered_refused about list input (Error d) out never within sound stops faults left = absurd never
+numbered_refused about list input (At n d) out (is, number) within sound stops faults left = (
+  (
+    within (λ never. cc never) (λ never. cc never),
+    sound (λ never. cc never),
+    subst (λ cells. Writes (answer_or_error_at (faulty_line list) about cells) (Err (At n d)) out) (sym is)
+        (subst (λ line. Writes (record { output = []; ending = Err (At line d) }) (Err (At n d)) out) number (writes_refused_at n d out left)),
+  ),
+  subst (λ l. IsReadSoFar l input (Err (At n d))) (sym is) stops,
 )
-numbered_refused about list input Memory out is within sound left = (sound (λ never. cc never), left)
-numbered_refused about list input Read out fails within sound left = (fails, left)
-numbered_refused about list input Write out never within sound left = absurd never
-numbered_refused about list input (Table d) out never within sound left = absurd never
-numbered_refused about list input TableOpen out never within sound left = absurd never
-numbered_refused about list input (FileOpen f) out never within sound left = absurd never
-numbered_refused about list input (FileAt f n d) out never within sound left = absurd never
-numbered_refused about list input (File f d) out never within sound left = absurd never
+numbered_refused about list input Memory out is within sound stops faults left = ((sound (λ never. cc never), left), read_in_part (listed_cells list) input stops)
+numbered_refused about list input Read out fails within sound stops faults left = ((fails, left), faults refl)
+numbered_refused about list input Write out never within sound stops faults left = absurd never
+numbered_refused about list input (Table d) out never within sound stops faults left = absurd never
+numbered_refused about list input TableOpen out never within sound stops faults left = absurd never
+numbered_refused about list input (FileOpen f) out never within sound stops faults left = absurd never
+numbered_refused about list input (FileAt f n d) out never within sound stops faults left = absurd never
+numbered_refused about list input (File f d) out never within sound stops faults left = absurd never
 
 -- there are some bytes left
 some_left : (left : Option (List ℕ)) → (bytes : List ℕ) × HasLeft left bytes
 some_left None = ([], tt)
 some_left (Some bytes) = (bytes, refl)
 
+-- where nothing is read, no line is known to be faulty
+unread : (list : List ℕ) → StopsAtFault 65536 list list
+unread list =
+    record { before = []; last = []; split = refl; within = omega arith; good = record { ended = []; last = []; lines = refl; good = refl; short = omega arith } }
+
 -- there is no memory before any of the list is read
-pub numbered_unread : (about : List Address → Answer) (input : SourceUse) (out : SinkUse) → NoReadFails input → IsLeft out → WritesOfNumberedList about input (Err Memory) out
-numbered_unread about input out sound left = let (bytes, held) = some_left input.left in (bytes, held, (sound, left))
+pub numbered_unread : (about : List Address → Answer) (input : SourceUse) (out : SinkUse) → NoReadFails input → input.left_after ≡ input.left → IsLeft out → WritesOfNumberedList about input (Err Memory) out
+numbered_unread about input out sound alone left =
+    let (bytes, held) = some_left input.left in
+    (bytes, held, (sound, left), read_in_part (listed_cells bytes) input (λ list known. (list, alone ∙ known, unread list)))
 
 -- the list is read, and the answer about its cells is written
 pub numbered_written : (about : List Address → Answer) (list : List ℕ) (cells : List Address) (input : SourceUse) (ending : Result (Unit {0}) Refusal) (out : SinkUse) → listed_cells list ≡ Ok cells
-    → IsWithinReads (2 ^ 40) 65536 list → NoReadFails input → Writes (about cells) ending out
-    → WritesReading (about_numbered_list about list) list (IsListWithinReads (2 ^ 40) 65536 list) input ending out
-numbered_written about list cells input ending out is short sound writes =
-    reading_written _ list _ input ending out (inl short) sound (subst (λ read. Writes (answer_or_error_at (faulty_line list) about read) ending out) (sym is) writes)
+    → IsWithinReads (2 ^ 40) 65536 list → NoReadFails input → IsReadToEnd input → Writes (about cells) ending out
+    → WritesReading (about_numbered_list about list) list (IsListWithinReads (2 ^ 40) 65536 list) input ending out × IsReadSoFar (listed_cells list) input ending
+numbered_written about list cells input ending out is short sound whole writes = (
+  reading_written _ list _ input ending out (inl short) sound (subst (λ read. Writes (answer_or_error_at (faulty_line list) about read) ending out) (sym is) writes),
+  read_whole _ list cells input ending out is writes whole,
+)
 
 -- ---- a table
 
@@ -136,22 +173,48 @@ table_refuses a first (fault.Neighbours b) file table out is was_read all sound 
 table_refuses a first (fault.Reversal b d) file table out is was_read all sound left = table_error a first _ file table out is was_read all sound left (λ never. cc never) (λ never. cc never)
 table_refuses a first (fault.Corner b d) file table out is was_read all sound left = table_error a first _ file table out is was_read all sound left (λ never. cc never) (λ never. cc never)
 
+-- a table that is refused for what is in it was read to its end
+table_read : (e : TableError) (table : SourceUse) → ((e ≡ fault.Read → ⊥) → (e ≡ fault.Memory → ⊥) → IsReadToEnd table) → IsReadWhole table (Err (table_refusal e))
+table_read fault.Read table whole = tt
+table_read fault.Memory table whole = tt
+table_read (fault.Form row) table whole = whole (λ never. cc never) (λ never. cc never)
+table_read (fault.Range row) table whole = whole (λ never. cc never) (λ never. cc never)
+table_read (fault.Repeated row) table whole = whole (λ never. cc never) (λ never. cc never)
+table_read fault.Missing table whole = whole (λ never. cc never) (λ never. cc never)
+table_read (fault.Neighbours b) table whole = whole (λ never. cc never) (λ never. cc never)
+table_read (fault.Reversal b d) table whole = whole (λ never. cc never) (λ never. cc never)
+table_read (fault.Corner b d) table whole = whole (λ never. cc never) (λ never. cc never)
+
+-- whatever comes after it was read
+whole_anyway : (table : SourceUse) (ending : Result (Unit {0}) Refusal) → IsReadToEnd table → IsReadWhole table ending
+whole_anyway table (Ok u) whole = whole
+whole_anyway table (Err (Error e)) whole = whole
+whole_anyway table (Err (At n e)) whole = whole
+whole_anyway table (Err (Table e)) whole = whole
+whole_anyway table (Err TableOpen) whole = whole
+whole_anyway table (Err (FileOpen f)) whole = whole
+whole_anyway table (Err (FileAt f n e)) whole = whole
+whole_anyway table (Err (File f e)) whole = whole
+whole_anyway table (Err Write) whole = whole
+whole_anyway table (Err Memory) whole = tt
+whole_anyway table (Err Read) whole = tt
+
 -- the table is refused
 pub table_refused_so : {A : Type 0} (about : A → Links → Answer) (read : Result A H3Error) (value : A) (e : TableError) (input table : SourceUse) (out : SinkUse) → Ok value ≡ read
     → (file : List ℕ) × HasLeft table.left file × RefusesTable (ReadFails table file) (table_fault (records_of file)) e × ((e ≡ fault.Read → ⊥) → (e ≡ fault.Memory → ⊥) → IsWithinReads (2 ^ 40) 4096 file)
-    → ((e ≡ fault.Read → ⊥) → NoReadFails table) → IsLeft out
+    → ((e ≡ fault.Read → ⊥) → NoReadFails table) → ((e ≡ fault.Read → ⊥) → (e ≡ fault.Memory → ⊥) → IsReadToEnd table) → IsLeft out
     → Ends (with_table about read) input table (Err (table_refusal e)) out
-table_refused_so about read value e input table out is (file, held, refuses, all) sound left =
-    subst (λ c. Ends (with_table about c) input table (Err (table_refusal e)) out) is (file, held, table_refuses _ _ e file table out refuses _ all sound left)
+table_refused_so about read value e input table out is (file, held, refuses, all) sound whole left =
+    subst (λ c. Ends (with_table about c) input table (Err (table_refusal e)) out) is (file, held, table_refuses _ _ e file table out refuses _ all sound left, table_read e table whole)
 
 -- the table is read, and the answer about its links is written
 pub table_answered : {A : Type 0} (about : A → Links → Answer) (read : Result A H3Error) (value : A) (links : Links) (ending : Result (Unit {0}) Refusal) (input table : SourceUse) (out : SinkUse) → Ok value ≡ read
-    → (file : List ℕ) → HasLeft table.left file → IsWithinReads (2 ^ 40) 4096 file → table_fault (records_of file) ≡ None → links ≡ links_of (records_of file) → NoReadFails table → Writes (about value links) ending out
+    → (file : List ℕ) → HasLeft table.left file → IsWithinReads (2 ^ 40) 4096 file → table_fault (records_of file) ≡ None → links ≡ links_of (records_of file) → NoReadFails table → IsReadToEnd table → Writes (about value links) ending out
     → Ends (with_table about read) input table ending out
-table_answered about read value links ending input table out is file held short none same sound writes =
+table_answered about read value links ending input table out is file held short none same sound whole writes =
     let about_file : Writes (about_table (about value) file) ending out =
     subst (λ f. Writes (unless_faulty f (about value (links_of (records_of file)))) ending out) (sym none) (subst (λ l. Writes (about value l) ending out) same writes) in
-    subst (λ c. Ends (with_table about c) input table ending out) is (file, held, reading_written _ file _ table ending out short sound about_file)
+    subst (λ c. Ends (with_table about c) input table ending out) is (file, held, reading_written _ file _ table ending out short sound about_file, whole_anyway table ending whole)
 
 -- ---- a run
 
@@ -239,7 +302,7 @@ list_answers f about ending status s (bytes, held, inr (refuses, alone, left)) r
       given = λ none. with_memory true refl (gives_refused f (λ cells. about_numbered_list (about cells) list) bytes ending status s refuses left (none.table_read refl) reports);
     }
 list_answers f about ending status s (bytes, held, inl (cells, gives, ends)) reports =
-    let (list, known, writes) = ends in
+    let (list, known, writes, so_far) = ends in
     record {
       list = list;
       file = bytes;
@@ -276,7 +339,7 @@ answers (plain a) ending status s writes reports =
     let (list, held) = some_left s.input.left in
     let (file, kept) = some_left s.table.left in
     record { list = list; file = file; list_is = held; file_is = kept; given = λ none. inl (gives_written a ending status s writes none.answer_written reports) }
-answers (of_list about) ending status s (list, held, writes) reports =
+answers (of_list about) ending status s (list, held, writes, so_far) reports =
     let (file, kept) = some_left s.table.left in
     record {
       list = list;
@@ -285,7 +348,7 @@ answers (of_list about) ending status s (list, held, writes) reports =
       file_is = kept;
       given = λ none. with_memory true refl (gives_reading _ list _ s.input ending status s writes (none.list_read refl) none.answer_written reports);
     }
-answers (of_numbered_list about) ending status s (list, held, writes) reports =
+answers (of_numbered_list about) ending status s (list, held, writes, so_far) reports =
     let (file, kept) = some_left s.table.left in
     record {
       list = list;
@@ -298,7 +361,7 @@ answers (of_lines about) ending status s ends reports =
     let (list, held, given) = gives_each about ending status s ends reports in
     let (file, kept) = some_left s.table.left in
     record { list = list; file = file; list_is = held; file_is = kept; given = λ none. with_memory true refl (given (none.list_read refl) none.answer_written) }
-answers (of_table about) ending status s (file, held, writes) reports =
+answers (of_table about) ending status s (file, held, writes, whole) reports =
     let (list, kept) = some_left s.input.left in
     record {
       list = list;

@@ -1,5 +1,5 @@
 -- How a file of cells is read.
-use Rattle.std.proofs.Common.{◌≡◌, ℕ, ◌^◌, List, None, Some, Ok, Err, ap, sym, ◌∙◌}
+use Rattle.std.proofs.Common.{◌≡◌, ℕ, ◌^◌, List, None, Some, Ok, Err, ap, sym, ◌∙◌, refl}
 use Rattle.h3_index.specs.Cell.{Address}
 use Rattle.h3_index.specs.declared.error.H3Error.{H3Error}
 use Rattle.h3_set.specs.Refusals.{compaction_refusal}
@@ -12,7 +12,7 @@ use Rattle.h3_lines.specs.declared.refusal.Refusal.{Refusal}
 use Rattle.h3_lines.specs.declared.refusal.Refusal.TheVariants.{Error, At, Memory, Read, Write, Table, TableOpen, FileOpen, FileAt, File}
 use Rattle.h3_command.specs.Combination.{told_of}
 use Rattle.h3_command.specs.Files.{judged_cells, unless_error}
-use Rattle.h3_command.specs.Run.{GivesFile, IsReadToEnd, NoReadFails, ReadFails, RefusesFile, SourceUse, StopsWhereFaulty}
+use Rattle.h3_command.specs.Run.{GivesFile, IsReadToEnd, NoReadFails, ReadFails, RefusesFile, SourceUse, StopsWithin}
 
 pub region_given : (bytes : List ℕ) (cells : List Address) (file : SourceUse) → listed_cells bytes ≡ Ok cells → IsWithinReads (2 ^ 40) 65536 bytes → NoReadFails file → IsReadToEnd file → GivesFile Region bytes file cells
 region_given bytes cells file is within sound whole = record { is = ap (judged_cells Region (faulty_line bytes)) is; within = within; sound = sound; whole = whole }
@@ -27,19 +27,19 @@ zones_refused bytes cells e file is within sound whole overlap =
     (ap (judged_cells Zones (faulty_line bytes)) is ∙ ap (λ e. unless_error Zones e cells) (sym overlap), within, sound, whole)
 
 pub file_refused : (kind : CellFile) (bytes : List ℕ) (file : SourceUse) (e : Refusal) → RefusesAt (ReadFails file bytes) (listed_cells bytes) (faulty_line bytes) e
-    → ((e ≡ Read → ⊥) → (e ≡ Memory → ⊥) → IsListWithinReads (2 ^ 40) 65536 bytes) → ((e ≡ Read → ⊥) → NoReadFails file) → StopsWhereFaulty file → RefusesFile kind bytes file (Err (told_of kind e))
-file_refused kind bytes file (At n d) (is, number) within sound stops = (
+    → ((e ≡ Read → ⊥) → (e ≡ Memory → ⊥) → IsListWithinReads (2 ^ 40) 65536 bytes) → ((e ≡ Read → ⊥) → NoReadFails file) → StopsWithin 65536 file → (e ≡ Read → StopsWithin 0 file) → RefusesFile kind bytes file (Err (told_of kind e))
+file_refused kind bytes file (At n d) (is, number) within sound stops faults = (
   ap (judged_cells kind (faulty_line bytes)) is ∙ ap (λ l. Err (FileAt kind l d)) (sym number),
   within (λ never. cc never) (λ never. cc never),
   sound (λ never. cc never),
   stops,
 )
-file_refused kind bytes file Memory any within sound stops = (sound (λ never. cc never), stops)
-file_refused kind bytes file Read fails within sound stops = (fails, stops)
-file_refused kind bytes file (Error d) never within sound stops = absurd never
-file_refused kind bytes file Write never within sound stops = absurd never
-file_refused kind bytes file (Table d) never within sound stops = absurd never
-file_refused kind bytes file TableOpen never within sound stops = absurd never
-file_refused kind bytes file (FileOpen f) never within sound stops = absurd never
-file_refused kind bytes file (FileAt f n d) never within sound stops = absurd never
-file_refused kind bytes file (File f d) never within sound stops = absurd never
+file_refused kind bytes file Memory any within sound stops faults = (sound (λ never. cc never), stops)
+file_refused kind bytes file Read fails within sound stops faults = (fails, faults refl)
+file_refused kind bytes file (Error d) never within sound stops faults = absurd never
+file_refused kind bytes file Write never within sound stops faults = absurd never
+file_refused kind bytes file (Table d) never within sound stops faults = absurd never
+file_refused kind bytes file TableOpen never within sound stops faults = absurd never
+file_refused kind bytes file (FileOpen f) never within sound stops faults = absurd never
+file_refused kind bytes file (FileAt f n d) never within sound stops faults = absurd never
+file_refused kind bytes file (File f d) never within sound stops faults = absurd never

@@ -1,7 +1,8 @@
 -- What a run does with its streams.
-use Rattle.std.specs.Prelude.{◌≡◌, ℕ, ◌≤◌, ◌^◌, ◌⊎◌, Bool, true, false, List, [], length, Option, Some, Result, Ok, Err, IsTrue}
+use Rattle.std.specs.Prelude.{◌≡◌, ⊤, ℕ, ◌≤◌, ◌^◌, ◌⊎◌, Bool, true, false, List, [], length, Option, Some, Result, Ok, Err, IsTrue}
 use Rattle.h3_index.specs.Cell.{Address}
 use Rattle.h3_index.specs.Stream.{HasLeft}
+use Rattle.h3_index.specs.declared.error.H3Error.{H3Error}
 use Rattle.h3_lattice.specs.Links.{Links}
 use Rattle.h3_lines.specs.declared.refusal.CellFile.{CellFile}
 use Rattle.h3_lines.specs.declared.refusal.Refusal.{Refusal}
@@ -59,6 +60,24 @@ WritesReading a bytes was_read source (Err Memory) out = NoReadFails source × I
 WritesReading a bytes was_read source (Err Read) out = ReadFails source bytes × IsLeft out
 WritesReading a bytes was_read source ending out = was_read × NoReadFails source × Writes a ending out
 
+-- IsReadToEnd source: where the bytes left in the source were known, all of them were taken
+abbrev pub IsReadToEnd : SourceUse → Type 0
+IsReadToEnd source = (list : List ℕ) → source.left ≡ Some list → source.left_after ≡ Some []
+
+-- StopsWithin n source: where the bytes left in the source were known, at most n were taken after bytes in which no line
+-- is known to be faulty
+abbrev pub StopsWithin : ℕ → SourceUse → Type 0
+StopsWithin n source = (list : List ℕ) → source.left ≡ Some list → (left : List ℕ) × (source.left_after ≡ Some left) × StopsAtFault n list left
+
+-- IsReadSoFar cells source ending: how far a list is read: one that has cells to its end, but where there is no memory;
+-- one with a first error at most a page further than bytes in which no line is known to be faulty; where a read fails,
+-- no further than these
+abbrev pub IsReadSoFar : Result (List Address) H3Error → SourceUse → Result (Unit {0}) Refusal → Type 0
+IsReadSoFar cells source (Err Read) = StopsWithin 0 source
+IsReadSoFar (Err e) source ending = StopsWithin 65536 source
+IsReadSoFar (Ok cells) source (Err Memory) = IsReadToEnd source ⊎ StopsWithin 65536 source
+IsReadSoFar (Ok cells) source ending = IsReadToEnd source
+
 -- WritesOfList about input ending out: there are bytes of the list, those left where known, and what is written is the
 -- answer about them
 --
@@ -67,36 +86,37 @@ WritesReading a bytes was_read source ending out = was_read × NoReadFails sourc
 abbrev pub WritesOfList : (List Address → Answer) → SourceUse → Result (Unit {0}) Refusal → SinkUse → Type 0
 WritesOfList about input ending out =
     (list : List ℕ) × HasLeft input.left list × WritesReading (answer_or_error about (listed_cells list)) list (IsListWithinReads (2 ^ 40) 65536 list) input ending out
+    × IsReadSoFar (listed_cells list) input ending
 
 -- WritesOfNumberedList about input ending out: the same, where the error of a faulty line is told with its number
 abbrev pub WritesOfNumberedList : (List Address → Answer) → SourceUse → Result (Unit {0}) Refusal → SinkUse → Type 0
 WritesOfNumberedList about input ending out =
     (list : List ℕ) × HasLeft input.left list × WritesReading (about_numbered_list about list) list (IsListWithinReads (2 ^ 40) 65536 list) input ending out
+    × IsReadSoFar (listed_cells list) input ending
+
+-- IsReadWhole source ending: the source is read to its end, but where there is no memory or a read fails
+abbrev pub IsReadWhole : SourceUse → Result (Unit {0}) Refusal → Type 0
+IsReadWhole source (Err Read) = ⊤
+IsReadWhole source (Err Memory) = ⊤
+IsReadWhole source ending = IsReadToEnd source
 
 -- WritesOfTable about table ending out: the same of a table
 --
--- the same of a table, of which 2^40 reads can find the end, and the answer about its links
+-- the same of a table, of which 2^40 reads can find the end, and the answer about its links; a table is read to its end
 abbrev pub WritesOfTable : (Links → Answer) → SourceUse → Result (Unit {0}) Refusal → SinkUse → Type 0
 WritesOfTable about table ending out =
     (file : List ℕ) × HasLeft table.left file × WritesReading (about_table about file) file (IsWithinReads (2 ^ 40) 4096 file) table ending out
+    × IsReadWhole table ending
 
--- StopsWhereFaulty file: where the bytes left in the source were known, at most a page was taken after bytes in which no
--- line is known to be faulty
-abbrev pub StopsWhereFaulty : SourceUse → Type 0
-StopsWhereFaulty file = (list : List ℕ) → file.left ≡ Some list → (left : List ℕ) × (file.left_after ≡ Some left) × StopsAtFault 65536 list left
-
--- IsReadToEnd file: where the bytes left in the source were known, all of them were taken
-abbrev pub IsReadToEnd : SourceUse → Type 0
-IsReadToEnd file = (list : List ℕ) → file.left ≡ Some list → file.left_after ≡ Some []
-
--- RefusesFile f bytes file ending: the bytes of a file of cells are refused, for a faulty line, or as a whole and then read to
--- their end; or there is no memory, or a read fails
+-- RefusesFile f bytes file ending: the bytes of a file of cells are refused, as a whole and then read to their end, or for
+-- a faulty line, or there is no memory, and then read at most a page further than bytes in which no line is known to be
+-- faulty; or a read fails, and they are read no further than these
 abbrev pub RefusesFile : CellFile → List ℕ → SourceUse → Result (Unit {0}) Refusal → Type 0
 RefusesFile f bytes file (Ok u) = ⊥
-RefusesFile f bytes file (Err Memory) = NoReadFails file × StopsWhereFaulty file
-RefusesFile f bytes file (Err Read) = ReadFails file bytes × StopsWhereFaulty file
+RefusesFile f bytes file (Err Memory) = NoReadFails file × StopsWithin 65536 file
+RefusesFile f bytes file (Err Read) = ReadFails file bytes × StopsWithin 0 file
 RefusesFile f bytes file (Err (File g e)) = (file_cells f bytes ≡ Err (File g e)) × IsWithinReads (2 ^ 40) 65536 bytes × NoReadFails file × IsReadToEnd file
-RefusesFile f bytes file (Err r) = (file_cells f bytes ≡ Err r) × IsListWithinReads (2 ^ 40) 65536 bytes × NoReadFails file × StopsWhereFaulty file
+RefusesFile f bytes file (Err r) = (file_cells f bytes ≡ Err r) × IsListWithinReads (2 ^ 40) 65536 bytes × NoReadFails file × StopsWithin 65536 file
 
 -- GivesFile f bytes file cells: the bytes of a file of cells are read to their end, and have these cells
 pub record GivesFile (f : CellFile) (bytes : List ℕ) (file : SourceUse) (cells : List Address) : Type 0 where

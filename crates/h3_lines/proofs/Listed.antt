@@ -182,6 +182,18 @@ module _ {V : Type 0} (number : V → ℕ) (taken : V → List Address → V →
       let (left, known', split) = left_of old new (s.part ++ s.last) list s.told known in
       (left, known', record { before = s.part; last = s.last; split = split; within = s.short; good = no_fault_yet s.part s.unended s.ended s.takes.0 s.takes.1 s.lines s.begun })
 
+  -- a read fails only after bytes in which no line is known to be faulty
+  pub list_faults : (v w : V) (e : Refusal) (old new : Option (List ℕ)) (had has : Bool) (limit size : ℕ) → Stops v w e old new had has limit size → e ≡ Read
+      → (list : List ℕ) → old ≡ Some list → (left : List ℕ) × (new ≡ Some left) × StopsAtFault 0 list left
+  list_faults v w e old new had has limit size (inl (is, s)) read list known =
+      let (left, known', split) = left_of old new s.part list s.told known in (
+        left,
+        known',
+        record { before = s.part; last = []; split = split ∙ ap (λ l. l ++ left) (sym (append-nil s.part)); within = omega arith; good = no_fault_yet s.part s.last s.ended s.takes.0 s.takes.1 s.lines s.short },
+      )
+  list_faults v w e old new had has limit size (inr (s, kept)) read list known =
+      absurd (subst (λ r. RefusesLinesAt (number s.mid) s.refuses.later r) read s.refuses.refuses)
+
   pub list_sound : (v w : V) (e : Refusal) (old new : Option (List ℕ)) (had has : Bool) (limit size : ℕ) → Stops v w e old new had has limit size → (e ≡ Read → ⊥) → has ≡ had
   list_sound v w e old new had has limit size (inl (is, s)) other = absurd (other is)
   list_sound v w e old new had has limit size (inr (s, kept)) other = kept

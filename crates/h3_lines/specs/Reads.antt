@@ -29,11 +29,11 @@ pub record HasNoFaultYet (bytes : List ℕ) : Type 0 where
   pub good : IsOk (cells_said ended)
   pub short : length last ≤ 64
 
--- StopsAtFault page list left: these bytes of a list are left, and at most a page was taken after bytes that have no
+-- StopsAtFault most list left: these bytes of a list are left, and at most so many were taken after bytes that have no
 -- fault yet
-pub record StopsAtFault (page : ℕ) (list left : List ℕ) : Type 0 where
+pub record StopsAtFault (most : ℕ) (list left : List ℕ) : Type 0 where
   pub before : List ℕ
   pub last : List ℕ
   pub split : list ≡ before ++ last ++ left
-  pub within : length last ≤ page
+  pub within : length last ≤ most
   pub good : HasNoFaultYet before

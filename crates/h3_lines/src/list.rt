@@ -84,6 +84,8 @@ fn read_numbered_list<R: Source>(
         (list : List ℕ) → R.left input.old ≡ Some list → R.left input.new ≡ Some [] }
     ensures stops { OnErr result ((list : List ℕ) → R.left input.old ≡ Some list →
         (left : List ℕ) × (R.left input.new ≡ Some left) × StopsAtFault (length page.old) list left) }
+    ensures faults { IsErrOf result Refusal.Read → (list : List ℕ) → R.left input.old ≡ Some list →
+        (left : List ℕ) × (R.left input.new ≡ Some left) × StopsAtFault 0 list left }
     ensures sound { ¬ (IsErrOf result Refusal.Read)
         → R.has_failed input.new ≡ R.has_failed input.old }
 {
@@ -109,6 +111,8 @@ pub fn read_list<R: Source>(
         (list : List ℕ) → R.left input.old ≡ Some list → R.left input.new ≡ Some [] }
     ensures stops { OnErr result ((list : List ℕ) → R.left input.old ≡ Some list →
         (left : List ℕ) × (R.left input.new ≡ Some left) × StopsAtFault (length page.old) list left) }
+    ensures faults { IsErrOf result Refusal.Read → (list : List ℕ) → R.left input.old ≡ Some list →
+        (left : List ℕ) × (R.left input.new ≡ Some left) × StopsAtFault 0 list left }
     ensures sound { ¬ (IsErrOf result Refusal.Read)
         → R.has_failed input.new ≡ R.has_failed input.old }
 {
@@ -137,12 +141,14 @@ pub fn read_cells<R: Source>(alloc: Global, input: &mut R) -> Result<Vec<Cell>, 
         (listed_cells list) e ×
         (e ≢ Refusal.Read → e ≢ Refusal.Memory → IsListWithinReads READS PAGE list)) }
     // All of a list without a faulty line is read, and of any other at most a page more than bytes
-    // in which no line is known to be faulty; so too where memory is refused, a read fails
-    // or none is left.
+    // in which no line is known to be faulty; so too where memory is refused. Where a read fails, or
+    // no read is left, no line is known to be faulty in what was read.
     ensures whole { IsOk result →
         (list : List ℕ) → R.left input.old ≡ Some list → R.left input.new ≡ Some [] }
     ensures stops { OnErr result ((list : List ℕ) → R.left input.old ≡ Some list →
         (left : List ℕ) × (R.left input.new ≡ Some left) × StopsAtFault PAGE list left) }
+    ensures faults { IsErrOf result Refusal.Read → (list : List ℕ) → R.left input.old ≡ Some list →
+        (left : List ℕ) × (R.left input.new ≡ Some left) × StopsAtFault 0 list left }
     ensures sound { ¬ (IsErrOf result Refusal.Read)
         → R.has_failed input.new ≡ R.has_failed input.old }
 {
@@ -172,6 +178,8 @@ pub fn read_numbered_cells<R: Source>(alloc: Global, input: &mut R) -> Result<Ve
         (list : List ℕ) → R.left input.old ≡ Some list → R.left input.new ≡ Some [] }
     ensures stops { OnErr result ((list : List ℕ) → R.left input.old ≡ Some list →
         (left : List ℕ) × (R.left input.new ≡ Some left) × StopsAtFault PAGE list left) }
+    ensures faults { IsErrOf result Refusal.Read → (list : List ℕ) → R.left input.old ≡ Some list →
+        (left : List ℕ) × (R.left input.new ≡ Some left) × StopsAtFault 0 list left }
     ensures sound { ¬ (IsErrOf result Refusal.Read)
         → R.has_failed input.new ≡ R.has_failed input.old }
 {

@@ -134,6 +134,8 @@ pub(crate) fn take_list<V: CellTaker + Drop, R: Source>(
         (list : List ℕ) → R.left input.old ≡ Some list → R.left input.new ≡ Some [] }
     ensures stops { OnErr result ((list : List ℕ) → R.left input.old ≡ Some list →
         (left : List ℕ) × (R.left input.new ≡ Some left) × StopsAtFault (length page.old) list left) }
+    ensures faults { IsErrOf result Refusal.Read → (list : List ℕ) → R.left input.old ≡ Some list →
+        (left : List ℕ) × (R.left input.new ≡ Some left) × StopsAtFault 0 list left }
     ensures sound { ¬ (IsErrOf result Refusal.Read)
         → R.has_failed input.new ≡ R.has_failed input.old }
 {
@@ -171,6 +173,8 @@ pub fn take_cells<V: CellTaker + Drop, R: Source>(
         (list : List ℕ) → R.left input.old ≡ Some list → R.left input.new ≡ Some [] }
     ensures stops { OnErr result ((list : List ℕ) → R.left input.old ≡ Some list →
         (left : List ℕ) × (R.left input.new ≡ Some left) × StopsAtFault PAGE list left) }
+    ensures faults { IsErrOf result Refusal.Read → (list : List ℕ) → R.left input.old ≡ Some list →
+        (left : List ℕ) × (R.left input.new ≡ Some left) × StopsAtFault 0 list left }
     ensures sound { ¬ (IsErrOf result Refusal.Read)
         → R.has_failed input.new ≡ R.has_failed input.old }
 {

@@ -16,7 +16,8 @@ returns-in_err-tally g c =
     let (list, held, refused, within) = c.in_err-tally.ensures.refused in
     let input = source_use g.R.Source.left g.R.Source.has_failed c.args.input.now c.take_cells.new.input in
     let out = sink_use g.W.Sink.taken g.W.Sink.has_failed c.args.out.now c.args.out.now in
-    rw (p.1, p.2) (list, held, numbered_refused _ list input _ out refused within (λ other. c.in_err-tally.ensures.sound (λ is. other (cc is))) (Keeps-refl _, refl))
+    let (writes, so_far) = numbered_refused _ list input _ out refused within (λ other. c.in_err-tally.ensures.sound (λ is. other (cc is))) c.in_err-tally.ensures.stops (λ is. c.in_err-tally.ensures.faults (cc is)) (Keeps-refl _, refl) in
+    rw (p.1, p.2) (list, held, writes, so_far)
 
 pub returns-in_err-counts : goal.returns-in_err-counts
 returns-in_err-counts g c =
@@ -24,7 +25,7 @@ returns-in_err-counts g c =
     let out_of_memory : c.in_err-counts.field-0.0 ≡ Memory = search rules in
     let input = source_use g.R.Source.left g.R.Source.has_failed c.args.input.now c.args.input.now in
     let out = sink_use g.W.Sink.taken g.W.Sink.has_failed c.args.out.now c.args.out.now in
-    rw (p.1, p.2, out_of_memory) (numbered_unread (counts_answer c.args.zones.now) input out refl (Keeps-refl _, refl))
+    rw (p.1, p.2, out_of_memory) (numbered_unread (counts_answer c.args.zones.now) input out refl refl (Keeps-refl _, refl))
 
 pub returns : goal.returns
 returns g c =
@@ -38,5 +39,6 @@ returns g c =
     let start = subst (λ l. AreCounts zones [] l 0) (sym zeros) (c.zones_are_lawful.ensures.nothing zones) in
     let told : AreCounts zones cells c.in_ok-tally.tally.counts.items others = rw c.over.ensures at taken.1 [] start in
     let lines = c.in_ok-lines.ensures.ok cells (subst (λ l. AreCounts zones cells l others) (sym c.deref.ensures.value) told) in
-    let writes = rw (c.deref-2.ensures.value, lines) at c.write_counts.ensures in
-    (list, held, numbered_written (counts_answer zones) list _ input _ out is short sound writes)
+    let lines_written = rw (c.deref-2.ensures.value, lines) at c.write_counts.ensures in
+    let (writes, so_far) = numbered_written (counts_answer zones) list _ input _ out is short sound (c.in_ok-tally.ensures.whole refl) lines_written in
+    (list, held, writes, so_far)

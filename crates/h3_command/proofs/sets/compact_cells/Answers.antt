@@ -12,7 +12,8 @@ returns-in_err-cells g c =
     let (list, held, refused, within) = c.in_err-cells.ensures.refused in
     let input = source_use g.R.Source.left g.R.Source.has_failed c.args.input.now c.read_cells.new.input in
     let out = sink_use g.W.Sink.taken g.W.Sink.has_failed c.args.out.now c.args.out.now in
-    rw (p.1, p.2) (list, held, list_refused _ list input _ out refused within (λ other. c.in_err-cells.ensures.sound (λ is. other (cc is))) (Keeps-refl _, refl))
+    let (writes, so_far) = list_refused _ list input _ out refused within (λ other. c.in_err-cells.ensures.sound (λ is. other (cc is))) c.in_err-cells.ensures.stops (λ is. c.in_err-cells.ensures.faults (cc is)) (Keeps-refl _, refl) in
+    rw (p.1, p.2) (list, held, writes, so_far)
 
 pub returns : goal.returns
 returns g c =
@@ -20,4 +21,5 @@ returns g c =
     let input = source_use g.R.Source.left g.R.Source.has_failed c.args.input.now c.read_cells.new.input in
     let out = sink_use g.W.Sink.taken g.W.Sink.has_failed c.args.out.now c.write_compacted.new.out in
     let sound = c.in_ok-cells.ensures.sound (λ is. cc is) in
-    (list, held, list_written _ list _ input _ out is short sound (rw (← c.deref_mut.ensures.value) c.write_compacted.ensures))
+    let (writes, so_far) = list_written _ list _ input _ out is short sound (c.in_ok-cells.ensures.whole refl) (rw (← c.deref_mut.ensures.value) c.write_compacted.ensures) in
+    (list, held, writes, so_far)

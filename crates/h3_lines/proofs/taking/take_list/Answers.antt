@@ -1,6 +1,6 @@
 use Rattle.std.proofs.Common.{rules, Err, ap, refl}
 use Rattle.std.proofs.lemmas.Result.{err_from_is_err_and}
-use Rattle.h3_lines.proofs.Listed.{list_refused, list_sound, list_stops, whole_list, whole_read}
+use Rattle.h3_lines.proofs.Listed.{list_faults, list_refused, list_sound, list_stops, whole_list, whole_read}
 use Rattle.h3_lines.proofs.taking.take_list.Goals as goal
 
 pub returns-clause-taken : goal.returns-clause-taken
@@ -25,6 +25,14 @@ returns-in_err-read-clause-stops g c =
     let stops = rw (c.new-reader.ensures.source, c.new-reader.ensures.limit) at c.in_err-read.ensures.err in
     rw p.1 (λ list known. (
     let (left, is, stopped) = list_stops (λ v. v.number) (λ v cells w. g.V.CellTaker.taken v.taker cells w.taker) _ _ _ _ _ _ _ _ _ stops list known in
+    (left, search (rules, is, c.take_lines-read.ensures.same), stopped)))
+
+pub returns-in_err-read-clause-faults : goal.returns-in_err-read-clause-faults
+returns-in_err-read-clause-faults g c =
+    let p = err_from_is_err_and c.from_residual.result c.from_residual.ensures.1 in
+    let stops = rw (c.new-reader.ensures.source, c.new-reader.ensures.limit) at c.in_err-read.ensures.err in
+    rw p.1 (λ read list known. (
+    let (left, is, stopped) = list_faults (λ v. v.number) (λ v cells w. g.V.CellTaker.taken v.taker cells w.taker) _ _ _ _ _ _ _ _ _ stops (cc read) list known in
     (left, search (rules, is, c.take_lines-read.ensures.same), stopped)))
 
 pub returns-in_err-read-clause-sound : goal.returns-in_err-read-clause-sound
