@@ -1,5 +1,6 @@
-/* Measures the functions of libh3whole against the plain ones of plain_library.rs: both in turn,
- * several times, and the ratios of the best times. What they write is compared.
+/* Measures the functions of libh3whole against the plain ones of plain_library.rs, and those over
+ * columns against the best forms known too: all in turn, several times, and the ratios of the best
+ * times. What they write is compared.
  *
  * library [ROW ..]    the rows whose names contain a given word; all, if none is given */
 #define _POSIX_C_SOURCE 200809L
@@ -17,6 +18,10 @@ H3Error plain_areValidCells(const H3Index *cells, size_t n, int *out);
 H3Error plain_getResolutions(const H3Index *cells, size_t n, int *out);
 H3Error plain_cellsToParents(const H3Index *cells, size_t n, int res, H3Index *out);
 H3Error plain_cellsToChildPositions(const H3Index *cells, size_t n, int res, int64_t *out);
+H3Error best_areValidCells(const H3Index *cells, size_t n, int *out);
+H3Error best_getResolutions(const H3Index *cells, size_t n, int *out);
+H3Error best_cellsToParents(const H3Index *cells, size_t n, int res, H3Index *out);
+H3Error best_cellsToChildPositions(const H3Index *cells, size_t n, int res, int64_t *out);
 size_t plain_compactCells(const H3Index *cells, size_t n, H3Index *out);
 size_t plain_uncompactCells(const H3Index *cells, size_t n, H3Index *out, size_t room, int res);
 void plain_zones(H3Index *zones, size_t n);
@@ -71,12 +76,16 @@ LOOP(plain_child, found = (int)plain_childPosToCell((int64_t)i, WORLD, 9, &index
 
 CALL(valids, h3w_areValidCells(cells, N, (int *)(void *)out, N, &at))
 CALL(plain_valids, plain_areValidCells(cells, N, (int *)(void *)out))
+CALL(best_valids, best_areValidCells(cells, N, (int *)(void *)out))
 CALL(resolutions, h3w_getResolutions(cells, N, (int *)(void *)out, N, &at))
 CALL(plain_resolutions, plain_getResolutions(cells, N, (int *)(void *)out))
+CALL(best_resolutions, best_getResolutions(cells, N, (int *)(void *)out))
 CALL(parents, h3w_cellsToParents(cells, N, 4, out, N, &at))
 CALL(plain_parents, plain_cellsToParents(cells, N, 4, out))
+CALL(best_parents, best_cellsToParents(cells, N, 4, out))
 CALL(positions, h3w_cellsToChildPositions(cells, N, 0, (int64_t *)(void *)out, N, &at))
 CALL(plain_positions, plain_cellsToChildPositions(cells, N, 0, (int64_t *)(void *)out))
+CALL(best_positions, best_cellsToChildPositions(cells, N, 0, (int64_t *)(void *)out))
 
 static uint64_t compacted(const H3Index *list, size_t n) {
     size_t count = 0;
@@ -130,28 +139,28 @@ CALL(plain_subtract, plain_subtractCells(areas[0], area[0], areas[1], area[1], o
 
 static const struct {
     const char *name;
-    uint64_t (*library)(void), (*plain)(void);
+    uint64_t (*library)(void), (*plain)(void), (*best)(void);
 } rows[] = {
-    {"isValidCell of 10000000 cells, from C", valid, plain_valid},
-    {"getBaseCellNumber of 10000000 cells, from C", base, plain_base},
-    {"cellToParent of 10000000 cells, from C", parent, plain_parent},
-    {"cellToChildPos of 10000000 cells, from C", position, plain_position},
-    {"childPosToCell of 10000000 positions, from C", child, plain_child},
-    {"areValidCells of 10000000 cells, from C", valids, plain_valids},
-    {"getResolutions of 10000000 cells, from C", resolutions, plain_resolutions},
-    {"cellsToParents of 10000000 cells, from C", parents, plain_parents},
-    {"cellsToChildPositions of 10000000 cells, from C", positions, plain_positions},
-    {"compactCells of 5764801 cells, ascending, from C", compact_ordered, plain_compact_ordered},
-    {"compactCells of 5764801 cells, shuffled, from C", compact_shuffled, plain_compact_shuffled},
-    {"compactCells of 159 of 160 cells, shuffled, from C", compact_part, plain_compact_part},
-    {"uncompactCells of 1428571 cells, from C", uncompact, plain_uncompact},
-    {"uniteCells of 5764801 cells, shuffled, against compactCells, from C", unite_shuffled, compact_shuffled},
-    {"intersectCells of two regions of a million cells, from C", intersect, plain_intersect},
-    {"subtractCells of two regions of a million cells, from C", subtract, plain_subtract},
-    {"cellsToZones of 10000000 cells in 100000 zones, from C", zones_of, plain_zones_of},
-    {"cellsToZones of 10000000 cells in 100000 zones, ascending, from C", zones_of_sorted, plain_zones_of_sorted},
-    {"countCellsInZones of 10000000 cells in 100000 zones, from C", count, plain_count},
-    {"countCellsInZones of 10000000 cells in 100000 zones, ascending, from C", count_sorted, plain_count_sorted},
+    {"isValidCell of 10000000 cells, from C", valid, plain_valid, NULL},
+    {"getBaseCellNumber of 10000000 cells, from C", base, plain_base, NULL},
+    {"cellToParent of 10000000 cells, from C", parent, plain_parent, NULL},
+    {"cellToChildPos of 10000000 cells, from C", position, plain_position, NULL},
+    {"childPosToCell of 10000000 positions, from C", child, plain_child, NULL},
+    {"areValidCells of 10000000 cells, from C", valids, plain_valids, best_valids},
+    {"getResolutions of 10000000 cells, from C", resolutions, plain_resolutions, best_resolutions},
+    {"cellsToParents of 10000000 cells, from C", parents, plain_parents, best_parents},
+    {"cellsToChildPositions of 10000000 cells, from C", positions, plain_positions, best_positions},
+    {"compactCells of 5764801 cells, ascending, from C", compact_ordered, plain_compact_ordered, NULL},
+    {"compactCells of 5764801 cells, shuffled, from C", compact_shuffled, plain_compact_shuffled, NULL},
+    {"compactCells of 159 of 160 cells, shuffled, from C", compact_part, plain_compact_part, NULL},
+    {"uncompactCells of 1428571 cells, from C", uncompact, plain_uncompact, NULL},
+    {"uniteCells of 5764801 cells, shuffled, against compactCells, from C", unite_shuffled, compact_shuffled, NULL},
+    {"intersectCells of two regions of a million cells, from C", intersect, plain_intersect, NULL},
+    {"subtractCells of two regions of a million cells, from C", subtract, plain_subtract, NULL},
+    {"cellsToZones of 10000000 cells in 100000 zones, from C", zones_of, plain_zones_of, NULL},
+    {"cellsToZones of 10000000 cells in 100000 zones, ascending, from C", zones_of_sorted, plain_zones_of_sorted, NULL},
+    {"countCellsInZones of 10000000 cells in 100000 zones, from C", count, plain_count, NULL},
+    {"countCellsInZones of 10000000 cells in 100000 zones, ascending, from C", count_sorted, plain_count_sorted, NULL},
 };
 
 static double now(void) {
@@ -180,18 +189,22 @@ static double run(uint64_t (*call)(void), double best, uint64_t *found) {
 }
 
 static void measure(size_t row) {
-    double library = 1e9, plain = 1e9;
-    uint64_t found = 0, wanted = 0;
+    double library = 1e9, plain = 1e9, best = 1e9;
+    uint64_t found = 0, wanted = 0, best_found;
     int round;
     for (round = 0; round < ROUNDS; round++) {
         library = run(rows[row].library, library, &found);
         plain = run(rows[row].plain, plain, &wanted);
+        best_found = wanted;
+        if (rows[row].best) best = run(rows[row].best, best, &best_found);
+        if (found != wanted || best_found != wanted) {
+            fprintf(stderr, "%s: the results differ\n", rows[row].name);
+            exit(1);
+        }
     }
-    if (found != wanted) {
-        fprintf(stderr, "%s: the results differ\n", rows[row].name);
-        exit(1);
-    }
-    printf("%s: %.1f ms / %.1f ms = %.2f\n", rows[row].name, library * 1e3, plain * 1e3, library / plain);
+    printf("%s: %.1f ms / %.1f ms = %.2f", rows[row].name, library * 1e3, plain * 1e3, library / plain);
+    if (rows[row].best) printf("; best form %.1f ms = %.2f", best * 1e3, library / best);
+    printf("\n");
     fflush(stdout);
 }
 

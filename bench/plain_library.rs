@@ -1,7 +1,9 @@
 //! The plain Rust functions that the library for C is measured against by bench/library.c: the same
-//! work behind `extern "C"`, with no proof.
+//! work behind `extern "C"`, with no proof; and, of columns, the best forms known.
 #![allow(dead_code, non_snake_case)]
 
+#[path = "best/columns.rs"]
+mod columns;
 #[path = "plain.rs"]
 mod plain;
 mod regions;
@@ -96,6 +98,18 @@ unsafe extern "C" fn plain_areValidCells(cells: *const u64, n: usize, out: *mut 
 /// # Safety
 /// Both pointers point to n elements.
 #[unsafe(no_mangle)]
+unsafe extern "C" fn best_areValidCells(
+    cells: *const u64,
+    n: usize,
+    out: *mut i32,
+) -> u32 {
+    let (cells, out) = unsafe { (from_raw_parts(cells, n), from_raw_parts_mut(out, n)) };
+    columns::are_valid(cells, out)
+}
+
+/// # Safety
+/// Both pointers point to n elements.
+#[unsafe(no_mangle)]
 unsafe extern "C" fn plain_getResolutions(cells: *const u64, n: usize, out: *mut i32) -> u32 {
     let (cells, out) = unsafe { (from_raw_parts(cells, n), from_raw_parts_mut(out, n)) };
     fill(cells, out, -1, |cell| {
@@ -105,6 +119,18 @@ unsafe extern "C" fn plain_getResolutions(cells: *const u64, n: usize, out: *mut
             Err(5)
         }
     })
+}
+
+/// # Safety
+/// Both pointers point to n elements.
+#[unsafe(no_mangle)]
+unsafe extern "C" fn best_getResolutions(
+    cells: *const u64,
+    n: usize,
+    out: *mut i32,
+) -> u32 {
+    let (cells, out) = unsafe { (from_raw_parts(cells, n), from_raw_parts_mut(out, n)) };
+    columns::resolutions(cells, out)
 }
 
 /// # Safety
@@ -126,6 +152,19 @@ unsafe extern "C" fn plain_cellsToParents(
 /// # Safety
 /// Both pointers point to n elements.
 #[unsafe(no_mangle)]
+unsafe extern "C" fn best_cellsToParents(
+    cells: *const u64,
+    n: usize,
+    res: i32,
+    out: *mut u64,
+) -> u32 {
+    let (cells, out) = unsafe { (from_raw_parts(cells, n), from_raw_parts_mut(out, n)) };
+    columns::parents(cells, res as u64, out)
+}
+
+/// # Safety
+/// Both pointers point to n elements.
+#[unsafe(no_mangle)]
 unsafe extern "C" fn plain_cellsToChildPositions(
     cells: *const u64,
     n: usize,
@@ -137,6 +176,19 @@ unsafe extern "C" fn plain_cellsToChildPositions(
         0 => Ok(position(cell, res as u64) as i64),
         code => Err(code),
     })
+}
+
+/// # Safety
+/// Both pointers point to n elements.
+#[unsafe(no_mangle)]
+unsafe extern "C" fn best_cellsToChildPositions(
+    cells: *const u64,
+    n: usize,
+    res: i32,
+    out: *mut i64,
+) -> u32 {
+    let (cells, out) = unsafe { (from_raw_parts(cells, n), from_raw_parts_mut(out, n)) };
+    columns::positions(cells, res as u64, out)
 }
 
 /// Returns how many cells there are.
