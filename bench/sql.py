@@ -97,14 +97,15 @@ def measure_postgresql(cells):
 def measure_points(engine, ask):
     """Two million points by the zones in which they lie, against the join of zones and of the points' ancestors."""
     engine.psql(
-        "CREATE UNLOGGED TABLE zones AS SELECT cell FROM h3_get_res0_cells() base, h3_cell_to_children(base, 4) cell"
+        "CREATE UNLOGGED TABLE zones AS SELECT cell FROM h3_cell_to_children('8001fffffffffff', 5) cell"
         " WHERE cell::bigint % 10 < 7;"
         "CREATE UNIQUE INDEX ON zones (cell); VACUUM ANALYZE zones;"
         "CREATE UNLOGGED TABLE points AS SELECT h3_child_pos_to_cell((n * 7919 % 33000000)::bigint,"
         " h3_cell_to_parent(cell, 0), 9) AS cell"
         " FROM (SELECT cell, row_number() OVER () AS n FROM long LIMIT 2000000) numbered; VACUUM ANALYZE points"
     )
-    listed = "(SELECT array_agg(cell) FROM zones)"
+    # (a constant: an array of a sub-select is compared in each row)
+    listed = "'" + engine.psql("SELECT array_agg(cell) FROM zones") + "'"
     joined = "SELECT count(*) FROM points JOIN zones ON zones.cell = ANY (h3_cell_to_ancestors(points.cell))"
     for name, query in (
         ("h3_zone_of", f"SELECT count(h3_zone_of(cell, {listed})) FROM points"),
@@ -181,7 +182,8 @@ def measure_columns(_):
     import h3whole.int as integers
 
     random = numpy.random.default_rng(1)
-    fives = numpy.concatenate([integers.cell_to_children(base, 5) for base in integers.get_res0_cells()])
+    below = [integers.cell_to_children(base, 5) for base in integers.get_res0_cells()]
+    fives = numpy.concatenate(below).astype(numpy.uint64)
     # no cell whose last digit is 0, so that no siblings are complete
     given = random.permutation(fives[fives >> numpy.uint64(30) & numpy.uint64(7) != 0])[:1_440_000]
     points = random.choice(fives, 5_000_000) + numpy.uint64(4 << 52)
