@@ -1,46 +1,60 @@
 -- The test of all digits at once.
 use Rattle.std.specs.Int.Bits.{bit_and, and_zero_r}
 use Rattle.std.specs.List.{list_all}
-use Rattle.std.proofs.Common.{ℕ, zero, suc, ◌≡◌, ◌+◌, ◌-◌, ◌*◌, ◌/◌, ◌%◌, ◌^◌, ◌<◌, ◌≤◌, ◌==◌, nat_lt, List, [], ◌∷◌, ◌++◌, length, take, drop, replicate, Bool, true, false, not, ◌&&◌, refl, arith, sym, ap, ◌∙◌, lit<}
+use Rattle.std.proofs.Common.{ℕ, zero, suc, ◌≡◌, ◌+◌, ◌-◌, ◌*◌, ◌/◌, ◌%◌, ◌^◌, ◌<◌, ◌≤◌, ◌==◌, nat_lt, List, [], ◌∷◌, ◌++◌, length, take, drop, Bool, true, false, ◌&&◌, refl, arith, sym, ap, ◌∙◌, lit<}
 use Rattle.std.proofs.Math.Bool.{and-true}
-use Rattle.std.proofs.Math.Nat.{div-eq_of_lt, pow-suc, pow-zero, one-le-pow}
+use Rattle.std.proofs.Math.Nat.{pow-zero}
 use Rattle.std.proofs.Math.Seq.{take-append_seam, drop-append_seam}
 use Rattle.std.proofs.lemmas.Bool.{agree_below_at}
 use Rattle.std.proofs.lemmas.Bool.Decides.{nat_tests}
 use Rattle.std.proofs.lemmas.List.Folds.{list_all-append}
-use Rattle.std.proofs.lemmas.Nat.{and_block, and_mask, field_of, mod_below, and_le_l, and_le_r}
+use Rattle.std.proofs.lemmas.Nat.{and_block, mod_below, div-mul-add, and_le_l, and_le_r}
 use Rattle.h3_index.specs.Cell.{leading}
 use Rattle.h3_index.specs.CellNumber.{digits_in}
 use Rattle.h3_index.specs.Digits.{last_digits}
-use Rattle.h3_index.proofs.AncestorLaws.{leading_zeros}
 use Rattle.h3_index.proofs.DescendantLaws.{leading_after, leading_before}
-use Rattle.h3_index.proofs.DigitsLaws.{eights, last_digits-cut, last_digits-zero, length-last_digits, low-last_digits, mod-split}
+use Rattle.h3_index.proofs.DigitsLaws.{eights, last_digits-cut, length-last_digits, shifted}
 
--- ---- no digit is 7
+-- ---- the digits that are 7
 
 -- a bit for each of the last n digits
 abbrev pub ones : ℕ → ℕ
 ones zero = 0
 ones (suc n) = ones n * 8 + 1
 
+-- those before the first r digits
+ones-after : (r n : ℕ) → ones (r + n) / 8 ^ r ≡ ones n
+ones-after zero n =
+    let same : 0 + n ≡ n = omega arith in
+    let one : ones n / 1 ≡ ones n = omega arith in
+    rw (same, pow-zero 8) one
+ones-after (suc r) n =
+    let next : suc r + n ≡ suc (r + n) = omega arith in
+    ap (λ k. ones k / 8 ^ suc r) next ∙ sym (shifted 8 (ones (r + n) * 8 + 1) r) ∙ ap (λ k. k / 8 ^ r) (div-mul-add (ones (r + n)) 8 1 (lit< tt)) ∙ ones-after r n
+
 -- the digit d below others that end in the bits of e: 1 where its three bits are set
 abbrev pub all_set : ℕ → ℕ → ℕ
 all_set d e = bit_and (bit_and (bit_and d (e % 2 * 4 + d / 2)) (e % 4 * 2 + d / 4)) 1
 
-set_bits : (d e : ℕ) → d < 8 → e < 4 → (all_set d e == 0) ≡ nat_lt d 7
-set_bits d e less few =
-    let at : (e * 8 + d) % 8 ≡ d = omega (arith, less) in
-    let at-2 : (e * 8 + d) / 8 ≡ e = omega (arith, less) in
-    rw (at, at-2) at (agree_below_at (λ k. all_set (k % 8) (k / 8) == 0) (λ k. nat_lt (k % 8) 7) 32 (e * 8 + d) refl (omega (arith, less, few)))
+module _ (d e : ℕ) (less : d < 8) (few : e < 4) where
+  at_low : (e * 8 + d) % 8 ≡ d
+  at_low = omega (arith, less)
 
-both_zero : (x y : ℕ) → y < 8 → (x * 8 + y == 0) ≡ (x == 0) && (y == 0)
-both_zero zero zero h = refl
-both_zero zero (suc y) h = grind (arith, nat_tests)
-both_zero (suc x) y h = grind (arith, nat_tests)
+  at_high : (e * 8 + d) / 8 ≡ e
+  at_high = omega (arith, less)
 
-pub no_seven_is : (n v : ℕ) → (bit_and (bit_and (bit_and v (v / 2)) (v / 4)) (ones n) == 0) ≡ list_all (λ d. nat_lt d 7) (last_digits 8 n v)
-no_seven_is zero v = rw (and_zero_r (bit_and (bit_and v (v / 2)) (v / 4))) refl
-no_seven_is (suc n) v =
+  none_set : (all_set d e == 0) ≡ nat_lt d 7
+  none_set = rw (at_low, at_high) at (agree_below_at (λ k. all_set (k % 8) (k / 8) == 0) (λ k. nat_lt (k % 8) 7) 32 (e * 8 + d) refl (omega (arith, less, few)))
+
+  one_set : (all_set d e == 1) ≡ (d == 7)
+  one_set = rw (at_low, at_high) at (agree_below_at (λ k. all_set (k % 8) (k / 8) == 1) (λ k. k % 8 == 7) 32 (e * 8 + d) refl (omega (arith, less, few)))
+
+-- a bit for each of the last n digits of v that is 7
+abbrev pub sevens_in : ℕ → ℕ → ℕ
+sevens_in n v = bit_and (bit_and (bit_and v (v / 2)) (v / 4)) (ones n)
+
+sevens_next : (n v : ℕ) → sevens_in (suc n) v ≡ sevens_in n (v / 8) * 8 + all_set (v % 8) (v / 8 % 4)
+sevens_next n v =
     let a = v / 8 in
     let d = v % 8 in
     let less : d < 8 = mod_below v 8 (lit< tt) in
@@ -57,40 +71,56 @@ no_seven_is (suc n) v =
     ap (λ n. bit_and n (v / 4)) first ∙ ap (bit_and (bit_and a (a / 2) * 8 + bit_and d (e % 2 * 4 + d / 2))) quarter
     ∙ and_block 3 (bit_and a (a / 2)) (a / 4) (bit_and d (e % 2 * 4 + d / 2)) (e % 4 * 2 + d / 4) small (omega (arith, less)) in
     let small-2 : bit_and (bit_and d (e % 2 * 4 + d / 2)) (e % 4 * 2 + d / 4) < 8 = omega (arith, small, and_le_l (bit_and d (e % 2 * 4 + d / 2)) (e % 4 * 2 + d / 4)) in
-    let third : bit_and (bit_and (bit_and v (v / 2)) (v / 4)) (ones n * 8 + 1) ≡ bit_and (bit_and (bit_and a (a / 2)) (a / 4)) (ones n) * 8 + all_set d e =
     ap (λ n-2. bit_and n-2 (ones n * 8 + 1)) second
-    ∙ and_block 3 (bit_and (bit_and a (a / 2)) (a / 4)) (ones n) (bit_and (bit_and d (e % 2 * 4 + d / 2)) (e % 4 * 2 + d / 4)) 1 small-2 (lit< tt) in
-    let last : all_set d e < 8 = omega (arith, small-2, and_le_l (bit_and (bit_and d (e % 2 * 4 + d / 2)) (e % 4 * 2 + d / 4)) 1) in
-    let tests : (bit_and (bit_and (bit_and v (v / 2)) (v / 4)) (ones n * 8 + 1) == 0) ≡ (bit_and (bit_and (bit_and a (a / 2)) (a / 4)) (ones n) == 0) && (all_set d e == 0) =
-    ap (λ n. n == 0) third ∙ both_zero (bit_and (bit_and (bit_and a (a / 2)) (a / 4)) (ones n)) (all_set d e) last in
-    let digits : list_all (λ d. nat_lt d 7) (last_digits 8 n a ++ d ∷ []) ≡ list_all (λ d. nat_lt d 7) (last_digits 8 n a) && nat_lt d 7 =
-    list_all-append (λ d. nat_lt d 7) (last_digits 8 n a) (d ∷ []) ∙ ap (λ b. list_all (λ d. nat_lt d 7) (last_digits 8 n a) && b) (and-true (nat_lt d 7)) in
-    tests ∙ ap (λ b. b && (all_set d e == 0)) (no_seven_is n a) ∙ ap (λ b. list_all (λ d. nat_lt d 7) (last_digits 8 n a) && b) (set_bits d e less (omega arith)) ∙ sym digits
+    ∙ and_block 3 (bit_and (bit_and a (a / 2)) (a / 4)) (ones n) (bit_and (bit_and d (e % 2 * 4 + d / 2)) (e % 4 * 2 + d / 4)) 1 small-2 (lit< tt)
 
--- ---- the digits that are all 7
-
-sevens_push : (x d p : ℕ) → d < 8 → 0 < p → (x * 8 + d == p * 8 - 1) ≡ (x == p - 1) && (d == 7)
-sevens_push x d p less some = by_high (x == p - 1) refl
+-- numbers are equal where their last bits are and those above
+same_last : (x y s l : ℕ) → s < 8 → l < 8 → (x * 8 + s == y * 8 + l) ≡ (x == y) && (s == l)
+same_last x y s l less less-2 = by_high (x == y) refl
   where
-    by_low : (b : Bool) → (d == 7) ≡ b → x ≡ p - 1 → (x * 8 + d == p * 8 - 1) ≡ b
+    by_low : (b : Bool) → (s == l) ≡ b → x ≡ y → (x * 8 + s == y * 8 + l) ≡ b
     by_low true e h = grind (arith, nat_tests)
     by_low false e h = grind (arith, nat_tests)
 
-    by_high : (b : Bool) → (x == p - 1) ≡ b → (x * 8 + d == p * 8 - 1) ≡ b && (d == 7)
-    by_high true e = by_low (d == 7) refl (grind (arith, nat_tests))
+    by_high : (b : Bool) → (x == y) ≡ b → (x * 8 + s == y * 8 + l) ≡ b && (s == l)
+    by_high true e = by_low (s == l) refl (grind (arith, nat_tests))
     by_high false e = grind (arith, nat_tests)
 
-sevens_are : (n m : ℕ) → (m % 8 ^ n == 8 ^ n - 1) ≡ list_all (λ d. d == 7) (last_digits 8 n m)
-sevens_are zero m = let one : m % 1 ≡ 0 = omega arith in rw (pow-zero 8, one) refl
-sevens_are (suc n) m =
-    let some : 0 < 8 ^ n = one-le-pow n 8 (lit< tt) in
-    let less : m % 8 < 8 = mod_below m 8 (lit< tt) in
-    let power : 8 ^ suc n ≡ 8 ^ n * 8 = pow-suc 8 n in
-    let split : m % (8 ^ n * 8) ≡ m / 8 % 8 ^ n * 8 + m % 8 = mod-split m (8 ^ n) 8 (lit< tt) some in
-    let digits : list_all (λ d. d == 7) (last_digits 8 n (m / 8) ++ m % 8 ∷ []) ≡ list_all (λ d. d == 7) (last_digits 8 n (m / 8)) && (m % 8 == 7) =
-    list_all-append (λ d. d == 7) (last_digits 8 n (m / 8)) (m % 8 ∷ []) ∙ ap (λ b. list_all (λ d. d == 7) (last_digits 8 n (m / 8)) && b) (and-true (m % 8 == 7)) in
-    ap (λ p. m % p == p - 1) power ∙ ap (λ x. x == 8 ^ n * 8 - 1) split ∙ sevens_push (m / 8 % 8 ^ n) (m % 8) (8 ^ n) less some
-    ∙ ap (λ b. b && (m % 8 == 7)) (sevens_are n (m / 8)) ∙ sym digits
+-- what of the last digits a test tells digit by digit, the last one and those before it
+all_next : (p : ℕ → Bool) (n v : ℕ) → list_all p (last_digits 8 (suc n) v) ≡ list_all p (last_digits 8 n (v / 8)) && p (v % 8)
+all_next p n v =
+    list_all-append p (last_digits 8 n (v / 8)) (v % 8 ∷ []) ∙ ap (λ b. list_all p (last_digits 8 n (v / 8)) && b) (and-true (p (v % 8)))
+
+few_set : (v : ℕ) → all_set (v % 8) (v / 8 % 4) < 8
+few_set v = omega (arith, and_le_r (bit_and (bit_and (v % 8) (v / 8 % 4 % 2 * 4 + v % 8 / 2)) (v / 8 % 4 % 4 * 2 + v % 8 / 4)) 1)
+
+no_seven : (n v : ℕ) → (sevens_in n v == 0) ≡ list_all (λ d. nat_lt d 7) (last_digits 8 n v)
+no_seven zero v = rw (and_zero_r (bit_and (bit_and v (v / 2)) (v / 4))) refl
+no_seven (suc n) v =
+    ap (λ k. k == 0) (sevens_next n v) ∙ same_last (sevens_in n (v / 8)) 0 (all_set (v % 8) (v / 8 % 4)) 0 (few_set v) (lit< tt)
+    ∙ ap (λ b. b && (all_set (v % 8) (v / 8 % 4) == 0)) (no_seven n (v / 8))
+    ∙ ap (λ b. list_all (λ d. nat_lt d 7) (last_digits 8 n (v / 8)) && b) (none_set (v % 8) (v / 8 % 4) (mod_below v 8 (lit< tt)) (mod_below (v / 8) 4 (lit< tt)))
+    ∙ sym (all_next (λ d. nat_lt d 7) n v)
+
+grouped : (a b d : Bool) → (a && b) && d ≡ a && (b && d)
+grouped true b d = refl
+grouped false b d = refl
+
+-- the last n digits are 7 and the r before them are not where just the last bits are left
+sevens_after : (r n v : ℕ) → (sevens_in (r + n) v == ones n) ≡ list_all (λ d. nat_lt d 7) (last_digits 8 r (v / 8 ^ n)) && list_all (λ d. d == 7) (last_digits 8 n v)
+sevens_after r zero v =
+    let same : r + 0 ≡ r = omega arith in
+    let one : v / 1 ≡ v = omega arith in
+    rw (same, pow-zero 8, one) (no_seven r v ∙ sym (and-true (list_all (λ d. nat_lt d 7) (last_digits 8 r v))))
+sevens_after r (suc n) v =
+    let next : r + suc n ≡ suc (r + n) = omega arith in
+    let front = list_all (λ d. nat_lt d 7) (last_digits 8 r (v / 8 ^ suc n)) in
+    let above : (sevens_in (r + n) (v / 8) == ones n) ≡ front && list_all (λ d. d == 7) (last_digits 8 n (v / 8)) = rw (shifted 8 v n) at (sevens_after r n (v / 8)) in
+    ap (λ k. sevens_in k v == ones n * 8 + 1) next ∙ ap (λ k. k == ones n * 8 + 1) (sevens_next (r + n) v)
+    ∙ same_last (sevens_in (r + n) (v / 8)) (ones n) (all_set (v % 8) (v / 8 % 4)) 1 (few_set v) (lit< tt)
+    ∙ ap (λ b. b && (all_set (v % 8) (v / 8 % 4) == 1)) above
+    ∙ ap (λ b. (front && list_all (λ d. d == 7) (last_digits 8 n (v / 8))) && b) (one_set (v % 8) (v / 8 % 4) (mod_below v 8 (lit< tt)) (mod_below (v / 8) 4 (lit< tt)))
+    ∙ grouped front (list_all (λ d. d == 7) (last_digits 8 n (v / 8))) (v % 8 == 7) ∙ ap (λ b. front && b) (sym (all_next (λ d. d == 7) n v))
 
 -- ---- the first digit that is not 0
 
@@ -182,48 +212,32 @@ drop_digits r m less =
     let len : length front ≡ r = length-last_digits 8 r (m / 8 ^ (15 - r)) in
     ap (drop r) (cut_digits r m less) ∙ (rw len at (drop-append_seam front (last_digits 8 (15 - r) m)))
 
--- the digits up to a resolution alone, after zeros
-shifted_digits : (r m : ℕ) → r < 16 → last_digits 8 15 (m % 2 ^ 45 / 2 ^ (3 * (15 - r))) ≡ replicate (15 - r) 0 ++ take r (digits_in m)
-shifted_digits r m less =
-    let n = 15 - r in
-    let all : n + r ≡ 15 = omega (arith, less) in
-    let bits : 3 * r + 3 * n ≡ 45 = omega (arith, less) in
-    let x = m / 2 ^ (3 * n) in
-    let field : m % 2 ^ 45 / 2 ^ (3 * n) ≡ x % 2 ^ (3 * r) = rw bits at (field_of m (3 * r) (3 * n)) in
-    let field_8 : m % 2 ^ 45 / 2 ^ (3 * n) ≡ x % 8 ^ r = field ∙ ap (λ k. x % k) (eights r) in
-    let some : 0 < 8 ^ r = one-le-pow r 8 (lit< tt) in
-    let none : x % 8 ^ r / 8 ^ r ≡ 0 = div-eq_of_lt (mod_below x (8 ^ r) some) in
-    let cut : last_digits 8 15 (x % 8 ^ r) ≡ last_digits 8 n (x % 8 ^ r / 8 ^ r) ++ last_digits 8 r (x % 8 ^ r) = rw all at (last_digits-cut 8 n r (x % 8 ^ r)) in
-    let zeros : last_digits 8 n (x % 8 ^ r / 8 ^ r) ≡ replicate n 0 = ap (last_digits 8 n) none ∙ last_digits-zero 8 n (lit< tt) in
-    let digits : last_digits 8 r (x % 8 ^ r) ≡ take r (digits_in m) = low-last_digits 8 r x (lit< tt) ∙ ap (λ k. last_digits 8 r (m / k)) (eights n) ∙ sym (take_digits r m less) in
-    ap (last_digits 8 15) field_8 ∙ cut ∙ ap (λ ds. ds ++ last_digits 8 r (x % 8 ^ r)) zeros ∙ ap (λ ds. replicate n 0 ++ ds) digits
+-- what the comparison says
+pub sevens_are : (r m : ℕ) → r < 16 → (sevens_in 15 m == ones 15 / 2 ^ (3 * r)) ≡ list_all (λ d. nat_lt d 7) (take r (digits_in m)) && list_all (λ d. d == 7) (drop r (digits_in m))
+sevens_are r m less =
+    let all : r + (15 - r) ≡ 15 = omega (arith, less) in
+    let rest : ones 15 / 2 ^ (3 * r) ≡ ones (15 - r) = ap (λ k. ones 15 / k) (eights r) ∙ (rw all at (ones-after r (15 - r))) in
+    let shown : (sevens_in 15 m == ones (15 - r)) ≡ list_all (λ d. nat_lt d 7) (last_digits 8 r (m / 8 ^ (15 - r))) && list_all (λ d. d == 7) (last_digits 8 (15 - r) m) = rw all at (sevens_after r (15 - r) m) in
+    ap (λ k. sevens_in 15 m == k) rest ∙ shown ∙ (rw (take_digits r m less, drop_digits r m less) refl)
 
-zeros_small : (n : ℕ) (ds : List ℕ) → list_all (λ d. nat_lt d 7) (replicate n 0 ++ ds) ≡ list_all (λ d. nat_lt d 7) ds
-zeros_small zero ds = refl
-zeros_small (suc n) ds = zeros_small n ds
+-- ---- the digit that leads, where the others are 7
 
--- what the masks and the shift read
-pub digits_small : (r m : ℕ) → r < 16 → list_all (λ d. nat_lt d 7) (last_digits 8 15 (bit_and m 0x1fff_ffff_ffff / 2 ^ (3 * (15 - r)))) ≡ list_all (λ d. nat_lt d 7) (take r (digits_in m))
-digits_small r m less =
-    ap (λ n. list_all (λ d. nat_lt d 7) (last_digits 8 15 (n / 2 ^ (3 * (15 - r))))) (and_mask m 45) ∙ ap (list_all (λ d. nat_lt d 7)) (shifted_digits r m less)
-    ∙ zeros_small (15 - r) (take r (digits_in m))
+leading_sevens : (es : List ℕ) → list_all (λ d. d == 7) es ≡ true → (leading es == 1) ≡ false
+leading_sevens [] h = refl
+leading_sevens (e ∷ es) h = by_first (e == 7) refl h
+  where
+    by_first : (b : Bool) → (e == 7) ≡ b → b && list_all (λ d. d == 7) es ≡ true → (leading (e ∷ es) == 1) ≡ false
+    by_first true f g = let is : e ≡ 7 = grind (arith, nat_tests) in rw is refl
+    by_first false f g = cc
 
-pub digits_lead : (r m : ℕ) → r < 16 → leading (last_digits 8 15 (bit_and m 0x1fff_ffff_ffff / 2 ^ (3 * (15 - r)))) ≡ leading (take r (digits_in m))
-digits_lead r m less =
-    ap (λ n. leading (last_digits 8 15 (n / 2 ^ (3 * (15 - r))))) (and_mask m 45) ∙ ap leading (shifted_digits r m less)
-    ∙ leading_after (replicate (15 - r) 0) (take r (digits_in m)) (leading_zeros (15 - r))
+lead_before : (ds es : List ℕ) → list_all (λ d. d == 7) es ≡ true → (leading (ds ++ es) == 1) ≡ (leading ds == 1)
+lead_before ds es h = by_first (leading ds) refl
+  where
+    by_first : (first : ℕ) → leading ds ≡ first → (leading (ds ++ es) == 1) ≡ (leading ds == 1)
+    by_first zero e = ap (λ n. n == 1) (leading_after ds es e) ∙ leading_sevens es h ∙ sym (rw e refl)
+    by_first (suc first) e = ap (λ n. n == 1) (leading_before ds es (omega (arith, e)))
 
-pub digits_sevens : (r m : ℕ) → r < 16 → (bit_and m (2 ^ (3 * (15 - r)) - 1) == 2 ^ (3 * (15 - r)) - 1) ≡ list_all (λ d. d == 7) (drop r (digits_in m))
-digits_sevens r m less =
-    ap (λ n. n == 2 ^ (3 * (15 - r)) - 1) (and_mask m (3 * (15 - r))) ∙ ap (λ p. m % p == p - 1) (eights (15 - r)) ∙ sevens_are (15 - r) m
-    ∙ sym (ap (list_all (λ d. d == 7)) (drop_digits r m less))
-
--- ---- the whole test
-
-pub test_passes : (a b d value : Bool) → a ≡ true → b ≡ true → value ≡ d → not value ≡ (b && a) && not d
-test_passes true true d value h h-2 e = ap not e
-test_passes true false d value h h-2 e = absurd cc
-test_passes false b d value h h-2 e = absurd cc
-
-pub test_fails : (a b d : Bool) → b && a ≡ false → false ≡ (b && a) && not d
-test_fails a b d h = rw h refl
+pub digits_lead : (r m : ℕ) → r < 16 → list_all (λ d. d == 7) (drop r (digits_in m)) ≡ true → (leading (digits_in m) == 1) ≡ (leading (take r (digits_in m)) == 1)
+digits_lead r m less h =
+    ap (λ ds. leading ds == 1) (cut_digits r m less ∙ sym (ap (λ ds. ds ++ last_digits 8 (15 - r) m) (take_digits r m less)) ∙ sym (ap (λ es. take r (digits_in m) ++ es) (drop_digits r m less)))
+    ∙ lead_before (take r (digits_in m)) (drop r (digits_in m)) h

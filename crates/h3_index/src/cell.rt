@@ -1,6 +1,6 @@
 //! Cells, each a base cell and a digit for each resolution up to its own.
 
-ghost use Rattle.std.specs.Prelude.{◌≡◌, ◌≢◌, ◌-◌, ◌^◌, ◌<◌, ◌≤◌, ◌==◌, nat_lt, IfOk, IfErr, slice_index_or};
+ghost use Rattle.std.specs.Prelude.{◌≡◌, ◌≢◌, ◌-◌, ◌^◌, ◌<◌, ◌≤◌, ◌==◌, ◌&&◌, nat_lt, IfOk, IfErr, take, drop, slice_index_or};
 ghost use Rattle.std.specs.List.{list_all};
 ghost use Rattle.std.specs.Result.{result_ok};
 ghost use Rattle.h3_index.specs.Cell.{Address, IsCell, is_class_iii, is_pentagon, is_pentagon_base, leading, number_of, resolution};
@@ -35,13 +35,15 @@ pub fn is_pentagon_base(b: u8) -> bool
     (b < 128) & (bases >> (b & 63) & 1 == 1)
 }
 
-/// Whether none of the last fifteen octal digits of a number is 7.
+/// Whether of the last fifteen octal digits of a number those after a place are 7, and no others.
 #[inline(always)]
-fn has_no_seven(digits: u64) -> bool
-    ensures { result ≡ list_all (λ d. nat_lt d 7) (last_digits 8 15 digits) }
+fn is_seven_after(raw: u64, place: u64) -> bool
+    requires { place < 16 }
+    ensures { result ≡ list_all (λ d. nat_lt d 7) (take place (digits_in raw))
+        && list_all (λ d. d == 7) (drop place (digits_in raw)) }
 {
-    // A digit is 7 where its three bits are all set.
-    digits & digits >> 1 & digits >> 2 & 0o111_111_111_111_111 == 0
+    // A digit is 7 where its three bits are all set. A bit is left for each such digit, its lowest.
+    raw & raw >> 1 & raw >> 2 & 0o111_111_111_111_111 == 0o111_111_111_111_111 >> (3 * place)
 }
 
 /// Whether the first octal digit that is not 0 of the last fifteen of a number is 1.
@@ -61,13 +63,8 @@ fn has_valid_digits(raw: u64, resolution: u64, base: u8) -> bool
     requires { resolution < 16 }
     ensures { result ≡ are_digits (is_pentagon_base base) resolution (digits_in raw) }
 {
-    let places = 3 * (15 - resolution);
-    let sevens: u64 = (1 << places) - 1;
-    let digits = (raw & 0x1fff_ffff_ffff) >> places;
-    // (no operand is skipped, so that there is no branch)
-    (raw & sevens == sevens)
-        & has_no_seven(digits)
-        & !(leads_with_one(digits) & is_pentagon_base(base))
+    // (no operand is skipped, so that there is no branch; a digit that is 7 leads with no 1)
+    is_seven_after(raw, resolution) & !(leads_with_one(raw) & is_pentagon_base(base))
 }
 
 /// A valid H3 cell. Cells are ordered by their numbers: by resolution, then base cell, then digits.
