@@ -1,4 +1,5 @@
 -- The numbers of the cells above and below a cell, as the moves make them.
+use Rattle.std.specs.Int.Bits.{bit_or, or_add_and, or_zero_l, or_zero_r}
 use Rattle.std.specs.Int.Digits.{number_from_digits, AllBelowBase}
 use Rattle.std.proofs.Common.{ℕ, zero, suc, ◌≡◌, ◌≢◌, ◌+◌, ◌-◌, ◌*◌, ◌/◌, ◌%◌, ◌^◌, ◌<◌, ◌≤◌, ◌==◌, List, [], ◌∷◌, ◌++◌, length, take, drop, replicate, true, false, refl, arith, length-append, ◌∙◌, sym, ap, lit<, bit_and}
 use Rattle.std.proofs.Math.ListN.{length-replicate}
@@ -6,7 +7,7 @@ use Rattle.std.proofs.Math.Nat.{pow-suc, one-le-pow, pow-le-pow_right}
 use Rattle.std.proofs.lemmas.Bool.Decides.{nat_tests}
 use Rattle.std.proofs.lemmas.Int.Digits.{number_push, number_lt}
 use Rattle.std.proofs.lemmas.List.{length-drop, take-append-drop, append_assoc}
-use Rattle.std.proofs.lemmas.Nat.{pow-add, mul-le, div-mul-add, mod-mul-add, and_mask}
+use Rattle.std.proofs.lemmas.Nat.{pow-add, mul-le, div-mul-add, div-add-mod', mod-mul-add, and_mask, or_block}
 use Rattle.h3_index.specs.Cell.{Address, IsCell, leading, is_pentagon, number_of, padded}
 use Rattle.h3_index.specs.CellNumber.{address_in, IsCellNumber}
 use Rattle.h3_index.specs.Descendants.{along, center_at, child, cut}
@@ -79,9 +80,14 @@ next_spread h r v p t e = rw e (grind arith)
 shift_in : (h r v p t l : ℕ) → t ≡ r * p → h * t + (v * p + l) ≡ (h * r + v) * p + l
 shift_in h r v p t l e = rw e (grind arith)
 
--- what the shift leaves of a cell's number
-pub number_cut : (c : Address) (q : ℕ) → IsCell c → q ≤ length c.digits → (number_of c / 8 ^ (15 - q) + 1) * 8 ^ (15 - q) ≡ number_of (cut c q) + 1 + (length c.digits - q) * 2 ^ 52
-number_cut c q h le =
+-- a cell's number, divided after a digit
+record IsDivided (c : Address) (q : ℕ) : Type 0 where
+  low : number_from_digits 8 (drop q c.digits ++ replicate (15 - length c.digits) 7) < 8 ^ (15 - q)
+  total : 2 ^ 45 ≡ 8 ^ q * 8 ^ (15 - q)
+  is : number_of c ≡ (head_of c * 8 ^ q + number_from_digits 8 (take q c.digits)) * 8 ^ (15 - q) + number_from_digits 8 (drop q c.digits ++ replicate (15 - length c.digits) 7)
+
+divided : (c : Address) (q : ℕ) → IsCell c → q ≤ length c.digits → IsDivided c q
+divided c q h le =
     let rest = drop q c.digits ++ replicate (15 - length c.digits) 7 in
     let small : AllBelowBase 8 (drop q c.digits ++ replicate (15 - length c.digits) 7) = below-padded (drop q c.digits) (15 - length c.digits) (below_drop q c.digits h.digits_small) in
     let size : length (drop q c.digits ++ replicate (15 - length c.digits) 7) ≡ 15 - q = omega (arith, h.coarse, length-append (drop q c.digits) (replicate (15 - length c.digits) 7), length-replicate {A = ℕ} (15 - length c.digits) 7, length-drop q c.digits) in
@@ -92,14 +98,38 @@ number_cut c q h le =
     ap (λ ds. number_from_digits 8 ds) whole ∙ (rw size at (number_append (take q c.digits) (drop q c.digits ++ replicate (15 - length c.digits) 7))) in
     let full : q + (15 - q) ≡ 15 = omega (arith, h.coarse, le) in
     let total : 2 ^ 45 ≡ 8 ^ q * 8 ^ (15 - q) = rw full at (pow-add 8 q (15 - q)) in
-    let number : number_of c ≡ (head_of c * 8 ^ q + number_from_digits 8 (take q c.digits)) * 8 ^ (15 - q) + number_from_digits 8 (drop q c.digits ++ replicate (15 - length c.digits) 7) =
-    number_of_is c h ∙ ap (λ n. head_of c * 2 ^ 45 + n) digits ∙ shift_in (head_of c) (8 ^ q) (number_from_digits 8 (take q c.digits)) (8 ^ (15 - q)) (2 ^ 45) (number_from_digits 8 (drop q c.digits ++ replicate (15 - length c.digits) 7)) total in
+    record {
+      low = low;
+      total = total;
+      is = number_of_is c h ∙ ap (λ n. head_of c * 2 ^ 45 + n) digits ∙ shift_in (head_of c) (8 ^ q) (number_from_digits 8 (take q c.digits)) (8 ^ (15 - q)) (2 ^ 45) (number_from_digits 8 (drop q c.digits ++ replicate (15 - length c.digits) 7)) total;
+    }
+
+-- what a shift leaves of a cell's number
+pub number_cut : (c : Address) (q : ℕ) → IsCell c → q ≤ length c.digits → (number_of c / 8 ^ (15 - q) + 1) * 8 ^ (15 - q) ≡ number_of (cut c q) + 1 + (length c.digits - q) * 2 ^ 52
+number_cut c q h le =
+    let d = divided c q h le in
     let shifted : number_of c / 8 ^ (15 - q) ≡ head_of c * 8 ^ q + number_from_digits 8 (take q c.digits) =
-    ap (λ n. n / 8 ^ (15 - q)) number ∙ div-mul-add (head_of c * 8 ^ q + number_from_digits 8 (take q c.digits)) (8 ^ (15 - q)) (number_from_digits 8 (drop q c.digits ++ replicate (15 - length c.digits) 7)) low in
+    ap (λ n. n / 8 ^ (15 - q)) d.is ∙ div-mul-add (head_of c * 8 ^ q + number_from_digits 8 (take q c.digits)) (8 ^ (15 - q)) (number_from_digits 8 (drop q c.digits ++ replicate (15 - length c.digits) 7)) d.low in
     let len = length-cut c q le in
     let there : number_of (cut c q) + 1 ≡ head_of (cut c q) * 2 ^ 45 + (number_from_digits 8 (take q c.digits) + 1) * 8 ^ (15 - q) =
     next_number (cut c q) (cut_cell c q h le) ∙ ap (λ l. head_of (cut c q) * 2 ^ 45 + (number_from_digits 8 (take q c.digits) + 1) * 8 ^ (15 - l)) len in
-    rw shifted (omega (arith, next_spread (head_of c) (8 ^ q) (number_from_digits 8 (take q c.digits)) (8 ^ (15 - q)) (2 ^ 45) total, there, len))
+    rw shifted (omega (arith, next_spread (head_of c) (8 ^ q) (number_from_digits 8 (take q c.digits)) (8 ^ (15 - q)) (2 ^ 45) d.total, there, len))
+
+-- the digits, and the 7 after them, without these
+value_alone : (ds : List ℕ) (k : ℕ) → number_from_digits 8 (ds ++ replicate k 7) / 8 ^ k ≡ number_from_digits 8 ds
+value_alone ds k =
+    let p = one-le-pow k 8 (lit< tt) in
+    let sevens : number_from_digits 8 (replicate k 7) ≡ 8 ^ k - 1 = omega (arith, number_sevens k) in
+    let both : number_from_digits 8 (ds ++ replicate k 7) ≡ number_from_digits 8 ds * 8 ^ k + number_from_digits 8 (replicate k 7) = rw (length-replicate {A = ℕ} k 7) at (number_append ds (replicate k 7)) in
+    ap (λ n. n / 8 ^ k) (both ∙ ap (λ n. number_from_digits 8 ds * 8 ^ k + n) sevens) ∙ div-mul-add (number_from_digits 8 ds) (8 ^ k) (8 ^ k - 1) (omega (arith, p))
+
+-- the digits below a resolution
+number_below : (c : Address) (q : ℕ) → IsCell c → q ≤ length c.digits → number_of c % 8 ^ (15 - q) / 8 ^ (15 - length c.digits) ≡ number_from_digits 8 (drop q c.digits)
+number_below c q h le =
+    let d = divided c q h le in
+    ap (λ n. n % 8 ^ (15 - q) / 8 ^ (15 - length c.digits)) d.is
+    ∙ ap (λ n. n / 8 ^ (15 - length c.digits)) (mod-mul-add (head_of c * 8 ^ q + number_from_digits 8 (take q c.digits)) (8 ^ (15 - q)) (number_from_digits 8 (drop q c.digits ++ replicate (15 - length c.digits) 7)) d.low)
+    ∙ value_alone (drop q c.digits) (15 - length c.digits)
 
 -- ---- a pentagon
 
@@ -158,35 +188,68 @@ inside_is m n h e = sym h.is ∙ ap number_of e
 
 -- ---- the forms in the code
 
-abbrev pub shifted_back : ℕ → ℕ → ℕ
-shifted_back m q = (m / 2 ^ (3 * (15 - q)) + 1) * 2 ^ (3 * (15 - q)) % 2 ^ 64
+-- the unused digits below resolution q
+abbrev pub unused : ℕ → ℕ
+unused q = 1 * 2 ^ (3 * (15 - q)) % 2 ^ 64 - 1
 
-pub record IsCutForm (n : Address) (m q f : ℕ) : Type 0 where
-  pub fits : m / 2 ^ (3 * (15 - q)) + 1 < 2 ^ 64
-  pub some : 1 ≤ shifted_back m q
-  pub enough : f * 2 ^ 52 % 2 ^ 64 ≤ shifted_back m q - 1
-  pub is : shifted_back m q - 1 - f * 2 ^ 52 % 2 ^ 64 ≡ number_of (cut n q)
+unused_is : (q : ℕ) → q ≤ 15 → unused q ≡ 2 ^ (3 * (15 - q)) - 1
+unused_is q le =
+    let one : 1 * 8 ^ (15 - q) ≡ 8 ^ (15 - q) = omega arith in
+    ap (λ n. n - 1) (shifted 1 (15 - q) (lit< tt) (omega arith) ∙ one ∙ sym (eights (15 - q)))
+
+pub unused_some : (q : ℕ) → 1 ≤ 1 * 2 ^ (3 * (15 - q)) % 2 ^ 64
+unused_some q =
+    let one : 1 * 8 ^ (15 - q) ≡ 8 ^ (15 - q) = omega arith in
+    let some = one-le-pow (15 - q) 8 (lit< tt) in
+    let is = shifted 1 (15 - q) (lit< tt) (omega arith) in
+    omega (arith, one, some, is)
+
+-- the last digits of a number, all set
+or_low : (m k : ℕ) → bit_or m (2 ^ k - 1) + 1 ≡ (m / 2 ^ k + 1) * 2 ^ k
+or_low m k =
+    let some = one-le-pow k 2 (lit< tt) in
+    omega (arith, or_add_and m (2 ^ k - 1), and_mask m k, div-add-mod' m (2 ^ k), spread_one (m / 2 ^ k) (2 ^ k), some)
+
+or_first : (q : ℕ) → q < 16 → bit_or 128 q ≡ 128 + q
+or_first q less =
+    let low : 0 * 16 + q ≡ q = omega arith in
+    let none : bit_or 0 q ≡ q = or_zero_l q in
+    ap (bit_or 128) (sym low) ∙ or_block 4 8 0 0 q (lit< tt) less ∙ (rw none refl)
+
+pub resolution_within : (n : Address) (m r : ℕ) → IsCell n → m ≡ number_of n → r ≡ length n.digits → r * 2 ^ 52 % 2 ^ 64 ≤ m
+resolution_within n m r h e er =
+    let own : r * 2 ^ 52 % 2 ^ 64 ≡ length n.digits * 2 ^ 52 = rw er (omega (arith, h.coarse)) in
+    rw (own, e) (omega (arith, number_of_is n h))
+
+pub record IsCutForm (n : Address) (m q f r : ℕ) : Type 0 where
+  pub fits : f * 2 ^ 52 % 2 ^ 64 + unused q < 2 ^ 64
+  pub is : bit_or (m - r * 2 ^ 52 % 2 ^ 64) (f * 2 ^ 52 % 2 ^ 64 + unused q) ≡ number_of (cut n q)
   pub valid : IsCell (cut n q)
 
-div_le : (m d : ℕ) → m / d ≤ m
-div_le m zero = omega arith
-div_le m (suc d) = omega arith
-
-pub cut_form : (n : Address) (m q f r : ℕ) → IsCell n → m ≡ number_of n → r ≡ length n.digits → f ≡ r - q → q ≤ length n.digits → IsCutForm n m q f
+pub cut_form : (n : Address) (m q f r : ℕ) → IsCell n → m ≡ number_of n → r ≡ length n.digits → f ≡ q → q ≤ length n.digits → IsCutForm n m q f r
 cut_form n m q f r h e er ef le =
     let v = cut_cell n q h le in
-    let small = number_small n h in
-    let small-2 = number_small (cut n q) v in
-    let a = number_cut n q h le in
-    let less : number_of n / 8 ^ (15 - q) ≤ number_of n = div_le (number_of n) (8 ^ (15 - q)) in
-    let back : shifted_back m q ≡ number_of (cut n q) + 1 + (length n.digits - q) * 2 ^ 52 =
-    rw (eights (15 - q), e, a) (omega (arith, small-2, h.coarse)) in
-    let high : f * 2 ^ 52 % 2 ^ 64 ≡ (length n.digits - q) * 2 ^ 52 = rw (ef, er) (omega (arith, h.coarse)) in
+    let low = n.base * 2 ^ 45 + number_from_digits 8 (padded n.digits) in
+    let whole : number_of n ≡ (128 + length n.digits) * 2 ^ 52 + low = omega (arith, number_of_is n h) in
+    let less : low < 2 ^ 52 = omega (arith, low_small n h, h.base_small) in
+    let k = 3 * (15 - q) in
+    let power : 2 ^ k ≤ 2 ^ 45 = rw (eights (15 - q)) (power_small (15 - q) (omega arith)) in
+    let few : 2 ^ k - 1 < 2 ^ 52 = omega (arith, power) in
+    let few_is : unused q ≡ 2 ^ k - 1 = unused_is q (omega (arith, h.coarse, le)) in
+    let own : r * 2 ^ 52 % 2 ^ 64 ≡ length n.digits * 2 ^ 52 = rw er (omega (arith, h.coarse)) in
+    let above : f * 2 ^ 52 % 2 ^ 64 ≡ q * 2 ^ 52 = rw ef (omega (arith, h.coarse, le)) in
+    let cleared : m - r * 2 ^ 52 % 2 ^ 64 ≡ 128 * 2 ^ 52 + low = rw (own, e) (omega (arith, whole)) in
+    let other : f * 2 ^ 52 % 2 ^ 64 + unused q ≡ q * 2 ^ 52 + (2 ^ k - 1) = rw (above, few_is) refl in
+    let made : bit_or (128 * 2 ^ 52 + low) (q * 2 ^ 52 + (2 ^ k - 1)) ≡ (128 + q) * 2 ^ 52 + bit_or low (2 ^ k - 1) =
+    or_block 52 128 q low (2 ^ k - 1) less few ∙ ap (λ n. n * 2 ^ 52 + bit_or low (2 ^ k - 1)) (or_first q (omega (arith, h.coarse, le))) in
+    let none : 2 ^ k - 1 ≡ 0 * 2 ^ 52 + (2 ^ k - 1) = omega arith in
+    let same : bit_or (number_of n) (2 ^ k - 1) ≡ (128 + length n.digits) * 2 ^ 52 + bit_or low (2 ^ k - 1) =
+    ap (λ n. bit_or n (2 ^ k - 1)) whole ∙ ap (bit_or ((128 + length n.digits) * 2 ^ 52 + low)) none ∙ or_block 52 (128 + length n.digits) 0 low (2 ^ k - 1) less few ∙ ap (λ a. a * 2 ^ 52 + bit_or low (2 ^ k - 1)) (or_zero_r (128 + length n.digits)) in
+    let all : bit_or (number_of n) (2 ^ k - 1) + 1 ≡ number_of (cut n q) + 1 + (length n.digits - q) * 2 ^ 52 =
+    or_low (number_of n) k ∙ (rw (eights (15 - q)) (number_cut n q h le)) in
     record {
-      fits = rw (eights (15 - q), e) (omega (arith, less, small));
-      some = rw back (omega arith);
-      enough = rw (back, high) (omega arith);
-      is = rw (back, high) (omega arith);
+      fits = rw other (omega (arith, few, h.coarse, le));
+      is = rw (cleared, other, made) (omega (arith, same, all, le));
       valid = v;
     }
 
@@ -241,3 +304,7 @@ pub pentagon_form : (n : Address) (m r : ℕ) → IsCell n → m ≡ number_of n
 pentagon_form n m r h e er =
     let mask : bit_and m 35184372088831 ≡ m % 2 ^ 45 = and_mask m 45 in
     rw (mask, e, er, eights (15 - length n.digits), number_digits n h) (value_zero n.digits)
+
+pub below_form : (n : Address) (m q r : ℕ) → IsCell n → m ≡ number_of n → r ≡ length n.digits → q ≤ length n.digits → bit_and m (unused q) / 2 ^ (3 * (15 - r)) ≡ number_from_digits 8 (drop q n.digits)
+below_form n m q r h e er le =
+    rw (unused_is q (omega (arith, h.coarse, le)), and_mask m (3 * (15 - q)), e, er, eights (15 - q), eights (15 - length n.digits)) (number_below n q h le)

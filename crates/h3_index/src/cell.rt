@@ -1,6 +1,7 @@
 //! Cells, each a base cell and a digit for each resolution up to its own.
 
 ghost use Rattle.std.specs.Prelude.{◌≡◌, ◌≢◌, ◌-◌, ◌^◌, ◌<◌, ◌≤◌, ◌==◌, ◌&&◌, nat_lt, IfOk, IfErr, take, drop, slice_index_or};
+ghost use Rattle.std.specs.Int.Digits.{number_from_digits};
 ghost use Rattle.std.specs.List.{list_all};
 ghost use Rattle.std.specs.Result.{result_ok};
 ghost use Rattle.h3_index.specs.Cell.{Address, IsCell, is_class_iii, is_pentagon, is_pentagon_base, leading, number_of, resolution};
@@ -151,6 +152,16 @@ impl Cell {
         ensures { result ≡ slice_index_or self.digits (r - 1) 7 }
     {
         (self.raw >> (45 - 3 * r) & 7) as u8
+    }
+
+    /// The digits below a resolution that is not finer than the cell's own, as an octal number.
+    pub fn digits_below(self, r: u8) -> u64
+        requires { r ≤ resolution self }
+        ensures { result ≡ number_from_digits 8 (drop r self.digits) }
+    {
+        let places = 3 * (15 - self.resolution());
+        let finer: u64 = (1 << (3 * (15 - r))) - 1;
+        (self.raw & finer) >> places
     }
 
     /// Whether the cell is one of the twelve pentagons of its resolution, as H3's `isPentagon`

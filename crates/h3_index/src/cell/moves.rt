@@ -27,10 +27,11 @@ impl Cell {
         ensures is { result ≡ cut self r }
         ensures valid { IsCell result }
     {
-        let places = 3 * (15 - r);
-        let fewer = u64::from(self.resolution() - r) << 52;
+        let own = u64::from(self.resolution()) << 52;
+        // (what does not hang on the cell is one number, which a loop over cells makes once)
+        let unused: u64 = (1 << (3 * (15 - r))) - 1;
         Cell {
-            raw: ((self.raw >> places) + 1 << places) - 1 - fewer,
+            raw: self.raw - own | (u64::from(r) << 52) + unused,
         }
     }
 
