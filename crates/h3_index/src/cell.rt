@@ -157,7 +157,8 @@ impl Cell {
     /// The digits below a resolution that is not finer than the cell's own, as an octal number.
     pub fn digits_below(self, r: u8) -> u64
         requires { r ≤ resolution self }
-        ensures { result ≡ number_from_digits 8 (drop r self.digits) }
+        ensures number { result ≡ number_from_digits 8 (drop r self.digits) }
+        ensures valid { IsCell self }
     {
         let places = 3 * (15 - self.resolution());
         let finer: u64 = (1 << (3 * (15 - r))) - 1;

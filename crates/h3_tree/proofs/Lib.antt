@@ -1,3 +1,4 @@
+pub mod BaseSevenLaws
 pub mod BlockLaws
 pub mod AncestorLaws
 pub mod SiblingGroupLaws

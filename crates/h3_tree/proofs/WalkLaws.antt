@@ -1,12 +1,14 @@
 -- Positions level by level: under a cell and under its child, on the way up and on the way down.
-use Rattle.std.proofs.Common.{ℕ, ◌≡◌, ◌≢◌, ◌+◌, ◌-◌, ◌*◌, ◌/◌, ◌%◌, ◌^◌, ◌<◌, ◌≤◌, ◌==◌, zero, suc, List, [], ◌∷◌, ◌++◌, length, take, Bool, true, false, refl, slice_get, Some, get_or, length-append, arith, ◌∙◌, sym, ap, subst, inl, inr}
-use Rattle.std.proofs.Math.Nat.{pow-suc}
+use Rattle.std.specs.Int.Digits.{AllBelowBase, number_from_digits}
+use Rattle.std.proofs.Common.{ℕ, ◌≡◌, ◌≢◌, ◌+◌, ◌-◌, ◌*◌, ◌/◌, ◌%◌, ◌^◌, ◌<◌, ◌≤◌, ◌==◌, zero, suc, List, [], ◌∷◌, ◌++◌, length, take, drop, Bool, true, false, refl, slice_get, Some, get_or, length-append, arith, ◌∙◌, sym, ap, subst, inl, inr}
+use Rattle.std.proofs.Math.Nat.{pow-suc, pow-le-pow_right}
 use Rattle.std.proofs.Math.Seq.{take-length}
 use Rattle.std.proofs.lemmas.Bool.{cases_Bool}
 use Rattle.std.proofs.lemmas.Bool.Decides.{nat_tests}
-use Rattle.std.proofs.lemmas.List.{get_or-take, length-take-le, take-take, take_all}
+use Rattle.std.proofs.lemmas.Int.Digits.{number_lt, number_more}
+use Rattle.std.proofs.lemmas.List.{get_or-drop, get_or-take, length-drop, length-take-le, take-take, take_all}
 use Rattle.std.proofs.lemmas.List.Elements.{Contains-get_or}
-use Rattle.std.proofs.lemmas.Nat.{div-add-mod', div_below, mod_below, mul-le}
+use Rattle.std.proofs.lemmas.Nat.{div-add-mod', div_below, mod_below}
 use Rattle.std.proofs.lemmas.Option.{get_or_from_slice_get, slice_get-get_or, slice_get_within}
 use Rattle.h3_index.specs.Cell.{Address, IsCell, is_pentagon}
 use Rattle.h3_index.specs.Descendants.{child, cut, descendants, IsDescendant}
@@ -318,7 +320,7 @@ sevens_more so_far d outer under rest whole n o u h =
     let spread : (7 * so_far + d) * outer + rest ≡ so_far * (outer * 7) + (d * outer + rest) = grind arith in
     spread ∙ before
 
-pub sevens_step : DescendantsAreKnown → CutsAreCells → (c : Address) (q l so_far d : ℕ) → IsCell c → l < length c.digits → d ≡ get_or c.digits l 7 → IsInSevens c q l so_far → IsInSevens c q (l + 1) (7 * so_far + d)
+sevens_step : DescendantsAreKnown → CutsAreCells → (c : Address) (q l so_far d : ℕ) → IsCell c → l < length c.digits → d ≡ get_or c.digits l 7 → IsInSevens c q l so_far → IsInSevens c q (l + 1) (7 * so_far + d)
 sevens_step laws cuts c q l so_far d v lt e h =
     let last = last_of_cut cuts c l d v lt e in
     let size : length (take (l + 1) c.digits) ≡ l + 1 = length-take-le (l + 1) c.digits (omega arith) in
@@ -335,15 +337,60 @@ sevens_step laws cuts c q l so_far d v lt e h =
       is = sevens_more so_far d (7 ^ (length c.digits - (l + 1))) (position_under (cut c l) c) (position_under (cut c (l + 1)) c) (position_under (cut c q) c) (length c.digits - (l + 1)) refl ahead whole;
     }
 
-pub sevens_small : DescendantsAreKnown → CutsAreCells → (c : Address) (q l so_far : ℕ) → IsCell c → q ≤ length c.digits → IsInSevens c q l so_far → so_far < 4747561509943
-sevens_small laws cuts c q l so_far v le h =
-    let some : 0 < 7 ^ (length c.digits - l) = sevens_some (length c.digits - l) in
-    let most = counted_small laws c q v (cuts c q v le) le in
-    let more : so_far * 1 ≤ so_far * 7 ^ (length c.digits - l) = mul-le so_far 1 so_far (7 ^ (length c.digits - l)) (omega arith) some in
-    omega (arith, h.is, most, more)
-
-pub sevens_end : DescendantsAreKnown → (c : Address) (q l so_far : ℕ) → IsCell c → length c.digits ≤ l → IsInSevens c q l so_far → so_far ≡ position_under (cut c q) c
+sevens_end : DescendantsAreKnown → (c : Address) (q l so_far : ℕ) → IsCell c → length c.digits ≤ l → IsInSevens c q l so_far → so_far ≡ position_under (cut c q) c
 sevens_end laws c q l so_far v le h =
     let none : length c.digits - l ≡ 0 = omega arith in
     let one : so_far * 7 ^ (length c.digits - l) ≡ so_far = rw none (omega arith) in
     counted_end laws c q l so_far v le (record { is = ap (λ n. n + position_under (cut c l) c) (sym one) ∙ h.is })
+
+any_default : (ds : List ℕ) (i a b : ℕ) → i < length ds → get_or ds i a ≡ get_or ds i b
+any_default [] i a b lt = absurd (omega (arith, lt))
+any_default (d ∷ ds) zero a b lt = refl
+any_default (d ∷ ds) (suc i) a b lt = any_default ds i a b (omega (arith, lt))
+
+-- the first n digits below a hexagon
+in_sevens : DescendantsAreKnown → CutsAreCells → (c : Address) (q n : ℕ) → IsCell c → q + n ≤ length c.digits → is_pentagon (cut c q) ≡ false → IsInSevens c q (q + n) (number_from_digits 7 (take n (drop q c.digits)))
+in_sevens laws cuts c q zero v le h =
+    let none : q + 0 ≡ q = omega arith in
+    rw none (record { hexagon = h; is = omega arith })
+in_sevens laws cuts c q (suc n) v le h =
+    let next : q + suc n ≡ q + n + 1 = omega arith in
+    let one : suc n ≡ n + 1 = omega arith in
+    let within : n < length (drop q c.digits) = omega (arith, le, length-drop q c.digits) in
+    let digit : get_or (drop q c.digits) n 0 ≡ get_or c.digits (q + n) 7 = get_or-drop q c.digits n 0 ∙ any_default c.digits (q + n) 0 7 (omega (arith, le)) in
+    let more : number_from_digits 7 (take (suc n) (drop q c.digits)) ≡ 7 * number_from_digits 7 (take n (drop q c.digits)) + get_or c.digits (q + n) 7 =
+    ap (λ m. number_from_digits 7 (take m (drop q c.digits))) one ∙ number_more 7 (drop q c.digits) n within ∙ (rw digit (grind arith)) in
+    rw (next, more) (sevens_step laws cuts c q (q + n) (number_from_digits 7 (take n (drop q c.digits))) (get_or c.digits (q + n) 7) v (omega (arith, le)) refl (in_sevens laws cuts c q n v (omega (arith, le)) h))
+
+-- all of them
+pub position_in_sevens : DescendantsAreKnown → CutsAreCells → (c : Address) (q : ℕ) → IsCell c → q ≤ length c.digits → is_pentagon (cut c q) ≡ false → number_from_digits 7 (drop q c.digits) ≡ position_under (cut c q) c
+position_in_sevens laws cuts c q v le h =
+    let n = length c.digits - q in
+    let end : q + (length c.digits - q) ≡ length c.digits = omega (arith, le) in
+    let all : take (length c.digits - q) (drop q c.digits) ≡ drop q c.digits = take_all (length c.digits - q) (drop q c.digits) (omega (arith, length-drop q c.digits)) in
+    ap (λ ds. number_from_digits 7 ds) (sym all) ∙ sevens_end laws c q (q + (length c.digits - q)) (number_from_digits 7 (take (length c.digits - q) (drop q c.digits))) v (omega (arith, end)) (in_sevens laws cuts c q (length c.digits - q) v (omega (arith, end)) h)
+
+-- ---- the digits below a resolution
+
+below_eight : (q : ℕ) (ds : List ℕ) → AllBelowBase 7 ds → AllBelowBase 8 (drop q ds)
+below_eight zero [] h = tt
+below_eight zero (d ∷ ds) h = (omega (arith, h.0), below_eight zero ds h.1)
+below_eight (suc q) [] h = tt
+below_eight (suc q) (d ∷ ds) h = below_eight q ds h.1
+
+-- the digits of a cell below a resolution, as an octal number
+pub record AreDigitsBelow (c : Address) (q : ℕ) : Type 0 where
+  pub small : AllBelowBase 8 (drop q c.digits)
+  pub few : length (drop q c.digits) ≤ 16
+  pub number_small : number_from_digits 8 (drop q c.digits) < 2 ^ 48
+
+pub digits_below : (c : Address) (q : ℕ) → IsCell c → AreDigitsBelow c q
+digits_below c q v =
+    let small = below_eight q c.digits v.digits_small in
+    let few : length (drop q c.digits) ≤ 15 = omega (arith, length-drop q c.digits, v.coarse) in
+    let power : 8 ^ length (drop q c.digits) ≤ 8 ^ 15 = pow-le-pow_right (omega arith) few in
+    record {
+      small = small;
+      few = omega (arith, few);
+      number_small = omega (arith, number_lt 8 (drop q c.digits) small, power);
+    }

@@ -2,6 +2,7 @@
 #![tactic(auto)]
 
 mod ancestors;
+mod base_seven;
 mod descendants;
 mod iter;
 pub mod laws;

@@ -10,6 +10,7 @@ ghost use Rattle.h3_tree.specs.Positions.{position_under, HasPosition, MembersHa
 ghost use Rattle.h3_tree.specs.Refusals.{parent_refusal, position_refusal};
 
 use crate::ancestors::parent;
+use crate::base_seven::in_base_seven;
 use crate::descendants::size_at;
 use crate::powers::power_of_seven;
 use h3_index::laws::{cuts_are_cells, descendants_are_listed};
@@ -108,11 +109,7 @@ fn position_below_hexagon(cell: Cell, ancestor_res: u8) -> u64
 {
     descendants_are_known();
     cuts_are_cells();
-    let mut position: u64 = 0;
-    for level in ancestor_res..cell.resolution() {
-        position = 7 * position + u64::from(cell.digit(level + 1));
-    }
-    position
+    in_base_seven(cell.digits_below(ancestor_res))
 }
 
 /// The position of a cell among the descendants of its ancestor at a resolution.
