@@ -1,5 +1,9 @@
 -- A column, one outcome more at a time.
-use Rattle.std.proofs.Common.{◌≡◌, ℕ, zero, suc, ◌+◌, ◌<◌, ◌≤◌, List, [], ◌∷◌, ◌++◌, length, map, take, slice_set, slice_index_or, nat_le, ◌==◌, ◌&&◌, ◌↔◌, IsTrue, is_ok, Bool, true, false, Result, Ok, Err, refl, ap, sym, ◌∙◌, arith}
+use Rattle.std.proofs.Common.{◌≡◌, ℕ, zero, suc, ◌+◌, ◌<◌, ◌≤◌, List, [], ◌∷◌, ◌++◌, length, map, take, slice_set, slice_index_or, nat_le, ◌==◌, ◌&&◌, ◌↔◌, IsTrue, is_ok, is_err, Bool, true, false, Result, Ok, Err, refl, ap, sym, ◌∙◌, arith}
+use Rattle.std.specs.Int.{from_bool}
+use Rattle.std.specs.Int.Bits.{bit_or, or_zero_r}
+use Rattle.std.proofs.Math.Bool.{and-false, and-true}
+use Rattle.std.proofs.lemmas.Nat.{le_or_r}
 use Rattle.std.proofs.lemmas.Bool.{false≢true, le-leb, lt-leb}
 use Rattle.std.proofs.lemmas.Bool.Decides.{nat_tests}
 use Rattle.std.proofs.lemmas.List.{length-map, map-append}
@@ -56,12 +60,20 @@ code-ok (Ok w ∷ rs) v none = code-ok rs v none
 code-ok (Err d ∷ rs) v none = absurd (error_number-some d none)
 
 -- whether there is no error, one outcome more at a time
-pub whole-next : {A : Type 0} (rs : List (Result A H3Error)) (r : Result A H3Error) → (first_code (rs ++ r ∷ []) == 0) ≡ (first_code rs == 0) && is_ok r
+whole-next : {A : Type 0} (rs : List (Result A H3Error)) (r : Result A H3Error) → (first_code (rs ++ r ∷ []) == 0) ≡ (first_code rs == 0) && is_ok r
 unfolding first_code
 whole-next [] (Ok v) = refl
 whole-next [] (Err e) = is_error e
 whole-next (Ok w ∷ rs) r = whole-next rs r
 whole-next (Err d ∷ rs) r = rw (is_error d) refl
+
+some_bit : (m : ℕ) → (bit_or m 1 == 0) ≡ false
+some_bit m = let some = le_or_r m 1 in grind (arith, nat_tests, some)
+
+-- whether no bit is set, one outcome more at a time
+pub missed-next : {A : Type 0} (m : ℕ) (rs : List (Result A H3Error)) (r : Result A H3Error) → (m == 0) ≡ (first_code rs == 0) → (bit_or m (from_bool (is_err r)) == 0) ≡ (first_code (rs ++ r ∷ []) == 0)
+missed-next m rs (Ok v) e = ap (λ n. n == 0) (or_zero_r m) ∙ e ∙ sym (whole-next rs (Ok v) ∙ and-true (first_code rs == 0))
+missed-next m rs (Err d) e = some_bit m ∙ sym (whole-next rs (Err d) ∙ and-false (first_code rs == 0))
 
 pub tells : (b : Bool) (n : ℕ) → b ≡ (n == 0) → IsTrue b ↔ (n ≡ 0)
 tells b zero e = rw e (λ _. refl, λ _. refl)

@@ -35,6 +35,8 @@ pub(crate) trait Question<T> {
 /// error. Returns whether there is none.
 ///
 /// It goes on after an error without a branch, so that the compiler can ask of several at once.
+/// Errors are counted in bits: once a `bool` is false, it stays so, and a loop that knows that is
+/// divided in two.
 #[inline(always)]
 fn fill_values<T: Copy, Q: Question<T>>(
     question: &Q,
@@ -47,17 +49,17 @@ fn fill_values<T: Copy, Q: Question<T>>(
         (map (λ r. value_or missing r) (map (λ h. Q.outcome question.now h) indexes.now)) out.old }
     ensures none { IsTrue result ↔ (first_code (map (λ h. Q.outcome question.now h) indexes.now) ≡ 0) }
 {
-    let mut is_whole = true;
+    let mut missed: u64 = 0;
     let mut place: usize = 0;
     for i in 0..indexes.len() {
         let answer = question.ask(indexes[i], &mut place);
-        is_whole &= answer.is_ok();
+        missed |= u64::from(answer.is_err());
         out[i] = match answer {
             Ok(value) => value,
             Err(_) => missing,
         };
     }
-    is_whole
+    missed == 0
 }
 
 /// The number of the first error among what is asked of each index, and its place; 0 and how many

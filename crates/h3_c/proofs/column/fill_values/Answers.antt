@@ -2,7 +2,7 @@ use Rattle.std.proofs.Common.{◌≡◌, ◌∙◌, ◌++◌, ◌∷◌, [], ◌
 use Rattle.h3_c.specs.Columns.{first_code}
 use Rattle.h3_c.specs.Outcome.{value_or}
 use Rattle.h3_c.specs.Lists.{laid_over}
-use Rattle.h3_c.proofs.Columns.{length-up_to, tells, up_to-next, values-next, whole, whole-next}
+use Rattle.h3_c.proofs.Columns.{length-up_to, missed-next, tells, up_to-next, values-next, whole}
 use Rattle.h3_c.proofs.column.fill_values.Goals as goal
 use Rattle.h3_c.proofs.column.fill_values.Goals.{in-Ok, in-Err}
 
@@ -25,7 +25,7 @@ loop-i-preserved g c =
       | in-Err w ↦ w.out-is ∙ sym (ap (λ r. value_or c.args.missing r) w.in-Err.is)
     ] in
     record {
-      whole = rw (more, c.loop-i.invariant.whole, c.is_ok.ensures.value) (sym (whole-next rs r));
+      whole = rw (more, c.from.ensures, c.is_err.ensures.value) (missed-next c.loop-i.missed rs r c.loop-i.invariant.whole);
       values = values-next c.args.missing rs r c.args.out.now c.loop-i.out i c.match-answer.out long room c.loop-i.invariant.values put
           ∙ ap (λ rs. laid_over (map (λ r. value_or c.args.missing r) rs) c.args.out.now) (sym more);
     }
@@ -44,4 +44,4 @@ returns-clause-none g c =
     let end : c.loop-i.i ≡ length hs = omega (arith, c.loop-i.auto.i-end, c.loop-i-test.false) in
     let all : map (λ h. g.Q.Question.outcome c.args.question.now h) (take c.loop-i.i hs) ≡ map (λ h. g.Q.Question.outcome c.args.question.now h) hs =
     ap (λ n. map (λ h. g.Q.Question.outcome c.args.question.now h) (take n hs)) end ∙ whole (λ h. g.Q.Question.outcome c.args.question.now h) hs in
-    tells c.loop-i.is_whole _ (c.loop-i.invariant.whole ∙ ap (λ rs. first_code rs == 0) all)
+    tells (c.loop-i.missed == 0) _ (c.loop-i.invariant.whole ∙ ap (λ rs. first_code rs == 0) all)

@@ -6,6 +6,6 @@ use Rattle.h3_c.proofs.column.fill_values.Given as goal
 
 abbrev pub invariant-loop-i : goal.invariant-loop-i
 invariant-loop-i g l = record {
-  whole : l.is_whole ≡ (first_code (map (λ h. g.Q.Question.outcome l.question h) (take l.i l.indexes)) == 0);
+  whole : (l.missed == 0) ≡ (first_code (map (λ h. g.Q.Question.outcome l.question h) (take l.i l.indexes)) == 0);
   values : l.out ≡ laid_over (map (λ r. value_or l.missing r) (map (λ h. g.Q.Question.outcome l.question h) (take l.i l.indexes))) l.initial.out;
 }
