@@ -1,9 +1,7 @@
 -- A column, one outcome more at a time.
 use Rattle.std.proofs.Common.{◌≡◌, ℕ, zero, suc, ◌+◌, ◌<◌, ◌≤◌, List, [], ◌∷◌, ◌++◌, length, map, take, slice_set, slice_index_or, nat_le, ◌==◌, ◌&&◌, ◌↔◌, IsTrue, is_ok, is_err, Bool, true, false, Result, Ok, Err, refl, ap, sym, ◌∙◌, arith}
 use Rattle.std.specs.Int.{from_bool}
-use Rattle.std.specs.Int.Bits.{bit_or, or_zero_r}
 use Rattle.std.proofs.Math.Bool.{and-false, and-true}
-use Rattle.std.proofs.lemmas.Nat.{le_or_r}
 use Rattle.std.proofs.lemmas.Bool.{false≢true, le-leb, lt-leb}
 use Rattle.std.proofs.lemmas.Bool.Decides.{nat_tests}
 use Rattle.std.proofs.lemmas.List.{length-map, map-append}
@@ -67,13 +65,18 @@ whole-next [] (Err e) = is_error e
 whole-next (Ok w ∷ rs) r = whole-next rs r
 whole-next (Err d ∷ rs) r = rw (is_error d) refl
 
-some_bit : (m : ℕ) → (bit_or m 1 == 0) ≡ false
-some_bit m = let some = le_or_r m 1 in grind (arith, nat_tests, some)
+-- whether none is missed, one outcome more at a time
+pub missed-next : {A : Type 0} (m : ℕ) (rs : List (Result A H3Error)) (r : Result A H3Error) → (m == 0) ≡ (first_code rs == 0) → (m + from_bool (is_err r) == 0) ≡ (first_code (rs ++ r ∷ []) == 0)
+missed-next m rs (Ok v) e =
+    let same : m + 0 ≡ m = omega arith in
+    ap (λ n. n == 0) same ∙ e ∙ sym (whole-next rs (Ok v) ∙ and-true (first_code rs == 0))
+missed-next m rs (Err d) e =
+    let some : (m + 1 == 0) ≡ false = grind (arith, nat_tests) in
+    some ∙ sym (whole-next rs (Err d) ∙ and-false (first_code rs == 0))
 
--- whether no bit is set, one outcome more at a time
-pub missed-next : {A : Type 0} (m : ℕ) (rs : List (Result A H3Error)) (r : Result A H3Error) → (m == 0) ≡ (first_code rs == 0) → (bit_or m (from_bool (is_err r)) == 0) ≡ (first_code (rs ++ r ∷ []) == 0)
-missed-next m rs (Ok v) e = ap (λ n. n == 0) (or_zero_r m) ∙ e ∙ sym (whole-next rs (Ok v) ∙ and-true (first_code rs == 0))
-missed-next m rs (Err d) e = some_bit m ∙ sym (whole-next rs (Err d) ∙ and-false (first_code rs == 0))
+pub few-next : (m i : ℕ) (b : Bool) → m ≤ i → m + from_bool b ≤ i + 1
+few-next m i true h = omega (arith, h)
+few-next m i false h = omega (arith, h)
 
 pub tells : (b : Bool) (n : ℕ) → b ≡ (n == 0) → IsTrue b ↔ (n ≡ 0)
 tells b zero e = rw e (λ _. refl, λ _. refl)

@@ -35,8 +35,7 @@ pub(crate) trait Question<T> {
 /// error. Returns whether there is none.
 ///
 /// It goes on after an error without a branch, so that the compiler can ask of several at once.
-/// Errors are counted in bits: once a `bool` is false, it stays so, and a loop that knows that is
-/// divided in two.
+/// Errors are counted: a `bool` that is false stays so, and a loop that knows that is divided.
 #[inline(always)]
 fn fill_values<T: Copy, Q: Question<T>>(
     question: &Q,
@@ -49,11 +48,11 @@ fn fill_values<T: Copy, Q: Question<T>>(
         (map (λ r. value_or missing r) (map (λ h. Q.outcome question.now h) indexes.now)) out.old }
     ensures none { IsTrue result ↔ (first_code (map (λ h. Q.outcome question.now h) indexes.now) ≡ 0) }
 {
-    let mut missed: u64 = 0;
+    let mut missed: usize = 0;
     let mut place: usize = 0;
     for i in 0..indexes.len() {
         let answer = question.ask(indexes[i], &mut place);
-        missed |= u64::from(answer.is_err());
+        missed += usize::from(answer.is_err());
         out[i] = match answer {
             Ok(value) => value,
             Err(_) => missing,

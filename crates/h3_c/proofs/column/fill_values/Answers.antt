@@ -2,13 +2,13 @@ use Rattle.std.proofs.Common.{◌≡◌, ◌∙◌, ◌++◌, ◌∷◌, [], ◌
 use Rattle.h3_c.specs.Columns.{first_code}
 use Rattle.h3_c.specs.Outcome.{value_or}
 use Rattle.h3_c.specs.Lists.{laid_over}
-use Rattle.h3_c.proofs.Columns.{length-up_to, missed-next, tells, up_to-next, values-next, whole}
+use Rattle.h3_c.proofs.Columns.{few-next, length-up_to, missed-next, tells, up_to-next, values-next, whole}
 use Rattle.h3_c.proofs.column.fill_values.Goals as goal
 use Rattle.h3_c.proofs.column.fill_values.Goals.{in-Ok, in-Err}
 
 pub loop-i-init : goal.loop-i-init
 unfolding first_code laid_over
-loop-i-init g c = record { whole = refl; values = refl }
+loop-i-init g c = record { few = omega arith; whole = refl; values = refl }
 
 pub loop-i-preserved : goal.loop-i-preserved
 loop-i-preserved g c =
@@ -25,6 +25,7 @@ loop-i-preserved g c =
       | in-Err w ↦ w.out-is ∙ sym (ap (λ r. value_or c.args.missing r) w.in-Err.is)
     ] in
     record {
+      few = rw c.from.ensures (few-next c.loop-i.missed i _ c.loop-i.invariant.few);
       whole = rw (more, c.from.ensures, c.is_err.ensures.value) (missed-next c.loop-i.missed rs r c.loop-i.invariant.whole);
       values = values-next c.args.missing rs r c.args.out.now c.loop-i.out i c.match-answer.out long room c.loop-i.invariant.values put
           ∙ ap (λ rs. laid_over (map (λ r. value_or c.args.missing r) rs) c.args.out.now) (sym more);
