@@ -81,19 +81,6 @@ pub record IsLastDigit (c : Address) (s d : ℕ) : Type 0 where
   pub is : get_or c.digits (length c.digits - 1) 7 ≡ d
   pub small : d < 7
 
-pub last_digit : (c parent : Address) (s d own : ℕ) → IsCell c → own ≡ length c.digits → 0 < length c.digits → length c.digits ≤ s → s ≤ 15 → d ≡ get_or c.digits (own - 1) 7 → parent ≡ cut c (own - 1) → IsCell parent → IsLastDigit c s d
-last_digit c parent s d own v own_is some low high d_is parent_is w =
-    let is : get_or c.digits (length c.digits - 1) 7 ≡ d = sym (d_is ∙ ap (λ n. get_or c.digits (n - 1) 7) own_is) in
-    record {
-      valid = v;
-      parent_valid = subst IsCell (parent_is ∙ ap (λ n. cut c (n - 1)) own_is) w;
-      some = some;
-      low = low;
-      high = high;
-      is = is;
-      small = rw (← is) (digit_small c.digits (length c.digits - 1) v.digits_small (omega arith));
-    }
-
 module _ (laws : DescendantsAreKnown) (c : Address) (s d : ℕ) (h : IsLastDigit c s d) where
   parent_level : length (take (length c.digits - 1) c.digits) ≡ length c.digits - 1
   parent_level = length-take-le (length c.digits - 1) c.digits (omega (arith, h.some))
@@ -101,7 +88,7 @@ module _ (laws : DescendantsAreKnown) (c : Address) (s d : ℕ) (h : IsLastDigit
   parent_power : s - length c.digits ≡ s - length (take (length c.digits - 1) c.digits) - 1
   parent_power = omega (arith, parent_level, h.some)
 
-  whole_cell : child (cut c (length c.digits - 1)) d ≡ c
+  pub whole_cell : child (cut c (length c.digits - 1)) d ≡ c
   whole_cell = child-cut c d h.some h.is
 
   before_at : (center outer : ℕ) → center ≡ length (descendants (child (cut c (length c.digits - 1)) 0) s) → outer ≡ 7 ^ (s - length c.digits) → HasBefore c s (offset (is_pentagon (cut c (length c.digits - 1))) center outer d)
@@ -256,24 +243,13 @@ cut_twice l ds lt =
     let size : length (take (l + 1) ds) - 1 ≡ l = omega (arith, length-take-le (l + 1) ds (omega arith)) in
     rw size (take-take l (l + 1) ds (omega arith))
 
-cut_address : (c : Address) (l : ℕ) → l < length c.digits → cut (cut c (l + 1)) (length (cut c (l + 1)).digits - 1) ≡ cut c l
+pub cut_address : (c : Address) (l : ℕ) → l < length c.digits → cut (cut c (l + 1)) (length (cut c (l + 1)).digits - 1) ≡ cut c l
 cut_address c l lt =
     address_same (cut (cut c (l + 1)) (length (cut c (l + 1)).digits - 1)) (cut c l) refl (cut_twice l c.digits lt)
 
-cut_above : (c : Address) (q : ℕ) → IsCell c → q ≤ length c.digits → IsDescendant (cut c q) (length c.digits) c
+pub cut_above : (c : Address) (q : ℕ) → IsCell c → q ≤ length c.digits → IsDescendant (cut c q) (length c.digits) c
 cut_above c q v le =
     record { valid = v; resolution_is = refl; under = ap (λ n. cut c n) (length-take-le q c.digits le) }
-
-pub counted_small : DescendantsAreKnown → (c : Address) (q : ℕ) → IsCell c → IsCell (cut c q) → q ≤ length c.digits → position_under (cut c q) c < 4747561509943
-counted_small laws c q v w le =
-    let fine : length c.digits ≤ 15 = omega (arith, v.coarse) in
-    let at = get-position_under laws (cut c q) c (length c.digits) w (omega (arith, length-take-le q c.digits le, le)) fine (cut_above c q v le) in
-    omega (arith, at.within, size_small laws (cut c q) (length c.digits) fine)
-
-pub counted_more : (c : Address) (q l so_far more : ℕ) → IsCell c → l < length c.digits → ((x : Address) → IsDescendant (cut c (l + 1)) (length c.digits) x → position_under (cut (cut c (l + 1)) (length (cut c (l + 1)).digits - 1)) x ≡ more + position_under (cut c (l + 1)) x) → IsCounted c q l so_far → IsCounted c q (l + 1) (so_far + more)
-counted_more c q l so_far more v lt ahead h =
-    let here = rw (cut_address c l lt) at (ahead c (cut_above c (l + 1) v (omega arith))) in
-    record { is = omega (arith, here, h.is) }
 
 alone : DescendantsAreKnown → (c : Address) → length (descendants c (length c.digits)) ≡ 1
 alone laws c =
@@ -298,7 +274,7 @@ pub record IsInSevens (c : Address) (q level so_far : ℕ) : Type 0 where
   pub hexagon : is_pentagon (cut c level) ≡ false
   pub is : so_far * 7 ^ (length c.digits - level) + position_under (cut c level) c ≡ position_under (cut c q) c
 
-last_of_cut : CutsAreCells → (c : Address) (l d : ℕ) → IsCell c → l < length c.digits → d ≡ get_or c.digits l 7 → IsLastDigit (cut c (l + 1)) (length c.digits) d
+pub last_of_cut : CutsAreCells → (c : Address) (l d : ℕ) → IsCell c → l < length c.digits → d ≡ get_or c.digits l 7 → IsLastDigit (cut c (l + 1)) (length c.digits) d
 last_of_cut cuts c l d v lt e =
     let size : length (take (l + 1) c.digits) ≡ l + 1 = length-take-le (l + 1) c.digits (omega arith) in
     let last : length (take (l + 1) c.digits) - 1 ≡ l = omega (arith, size) in
@@ -372,7 +348,7 @@ position_in_sevens laws cuts c q v le h =
 
 -- ---- the digits below a resolution
 
-below_eight : (q : ℕ) (ds : List ℕ) → AllBelowBase 7 ds → AllBelowBase 8 (drop q ds)
+pub below_eight : (q : ℕ) (ds : List ℕ) → AllBelowBase 7 ds → AllBelowBase 8 (drop q ds)
 below_eight zero [] h = tt
 below_eight zero (d ∷ ds) h = (omega (arith, h.0), below_eight zero ds h.1)
 below_eight (suc q) [] h = tt
@@ -382,6 +358,7 @@ below_eight (suc q) (d ∷ ds) h = below_eight q ds h.1
 pub record AreDigitsBelow (c : Address) (q : ℕ) : Type 0 where
   pub small : AllBelowBase 8 (drop q c.digits)
   pub few : length (drop q c.digits) ≤ 16
+  pub fifteen : number_from_digits 8 (drop q c.digits) < 2 ^ 45
   pub number_small : number_from_digits 8 (drop q c.digits) < 2 ^ 48
 
 pub digits_below : (c : Address) (q : ℕ) → IsCell c → AreDigitsBelow c q
@@ -392,5 +369,6 @@ digits_below c q v =
     record {
       small = small;
       few = omega (arith, few);
+      fifteen = omega (arith, number_lt 8 (drop q c.digits) small, power);
       number_small = omega (arith, number_lt 8 (drop q c.digits) small, power);
     }

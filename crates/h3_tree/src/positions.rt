@@ -1,7 +1,7 @@
 //! Positions: where a cell stands among the descendants of a cell above it, in ascending order,
 //! from 0 on.
 
-ghost use Rattle.std.specs.Prelude.{◌≡◌, ◌+◌, ◌-◌, ◌<◌, ◌≤◌, false, length, IfOk, Some, slice_get, unsigned_abs};
+ghost use Rattle.std.specs.Prelude.{◌≡◌, ◌+◌, ◌-◌, ◌/◌, ◌^◌, ◌<◌, ◌≤◌, ℕ, true, false, length, IfOk, Some, slice_get, unsigned_abs};
 ghost use Rattle.std.specs.Result.{result_err};
 ghost use Rattle.h3_index.specs.Cell.{Address, IsCell, is_pentagon, resolution};
 ghost use Rattle.h3_index.specs.Descendants.{cut, descendants, IsDescendant};
@@ -21,31 +21,6 @@ fn descendants_are_known()
     ensures { DescendantsAreKnown }
 {
     descendants_are_listed();
-}
-
-/// How many descendants of the parent of a cell stand before the cell's own, at a resolution.
-fn before_own(cell: Cell, r: u8) -> u64
-    requires has_parent { 0 < resolution cell }
-    requires not_coarser { resolution cell ≤ r }
-    requires at_most_fifteen { r ≤ 15 }
-    ensures small { result ≤ 4747561509943 }
-    ensures before { (x : Address) → IsDescendant cell r x
-        → position_under (cut cell (resolution cell - 1)) x ≡ result + position_under cell x }
-{
-    descendants_are_known();
-    let own = cell.resolution();
-    let digit = cell.digit(own);
-    let parent = cell.cut(own - 1);
-    let outer = power_of_seven(r - own);
-    if !parent.is_pentagon() {
-        return u64::from(digit) * outer;
-    }
-    if digit == 0 {
-        return 0;
-    }
-    // A pentagon's center child has fewer descendants, and its child of digit 1 is deleted.
-    let center = size_at(parent.child(0), r);
-    center + u64::from(digit - 2) * outer
 }
 
 /// The child of a cell, whose resolution is given, that has the descendant at a position, and the
@@ -112,22 +87,29 @@ fn position_below_hexagon(cell: Cell, ancestor_res: u8) -> u64
     in_base_seven(cell.digits_below(ancestor_res))
 }
 
-/// The position of a cell among the descendants of its ancestor at a resolution.
-fn position_below(cell: Cell, ancestor_res: u8) -> u64
+/// How many cells are deleted below a pentagon, as many levels down as a number has octal digits
+/// without zeros in front.
+fn deleted_below(digits: u64) -> u64
+    requires { digits < 2 ^ 45 }
+    ensures { (n : ℕ) → digits < 8 ^ n → (0 < n → 8 ^ (n - 1) ≤ digits)
+        → result ≡ (7 ^ n - 1) / 6 }
+{
+    let places = (66 - digits.leading_zeros()) / 3;
+    (power_of_seven(places as u8) - 1) / 6
+}
+
+/// The position of a cell among the descendants of its ancestor at a resolution, which is a
+/// pentagon: the digits below it, as a number in base 7, less the deleted cells that come before.
+/// These are all below the last pentagon on the way down, since the digit there is above 1.
+fn position_below_pentagon(cell: Cell, ancestor_res: u8) -> u64
     requires not_finer { ancestor_res ≤ resolution cell }
+    requires pentagon { is_pentagon (cut cell ancestor_res) ≡ true }
     ensures { result ≡ position_under (cut cell ancestor_res) cell }
 {
     descendants_are_known();
     cuts_are_cells();
-    let own = cell.resolution();
-    let mut position: u64 = 0;
-    for level in ancestor_res..own {
-        if !cell.cut(level).is_pentagon() {
-            return position + position_below_hexagon(cell, level);
-        }
-        position += before_own(cell.cut(level + 1), own);
-    }
-    position
+    let digits = cell.digits_below(ancestor_res);
+    in_base_seven(digits) - deleted_below(digits)
 }
 
 /// The position of a cell among the descendants of its ancestor at a resolution, as H3's
@@ -143,7 +125,7 @@ pub fn child_pos(cell: Cell, parent_res: i32) -> Result<u64, H3Error>
 {
     let ancestor = parent(cell, parent_res)?;
     if ancestor.is_pentagon() {
-        Ok(position_below(cell, ancestor.resolution()))
+        Ok(position_below_pentagon(cell, ancestor.resolution()))
     } else {
         Ok(position_below_hexagon(cell, ancestor.resolution()))
     }
