@@ -51,6 +51,7 @@ pub fn cell_to_children_size(index: Option<u64>, res: i32) -> Result<u64, H3Erro
 
 /// The position of a cell among the descendants of its ancestor at a resolution, as H3's
 /// `cellToChildPos` returns it.
+#[inline(always)]
 pub fn cell_to_child_pos(index: Option<u64>, res: i32) -> Result<u64, H3Error>
     ensures { result ≡ cell_to_child_pos index res }
 {

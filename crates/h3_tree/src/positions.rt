@@ -77,6 +77,7 @@ fn member_at(position: u64, cell: Cell, r: u8) -> Cell
 
 /// The position of a cell among the descendants of its ancestor at a resolution, which is a
 /// hexagon: the digits below it, as a number in base 7.
+#[inline(always)]
 fn position_below_hexagon(cell: Cell, ancestor_res: u8) -> u64
     requires not_finer { ancestor_res ≤ resolution cell }
     requires hexagon { is_pentagon (cut cell ancestor_res) ≡ false }
@@ -89,6 +90,7 @@ fn position_below_hexagon(cell: Cell, ancestor_res: u8) -> u64
 
 /// How many cells are deleted below a pentagon, as many levels down as a number has octal digits
 /// without zeros in front.
+#[inline(always)]
 fn deleted_below(digits: u64) -> u64
     requires { digits < 2 ^ 45 }
     ensures { (n : ℕ) → digits < 8 ^ n → (0 < n → 8 ^ (n - 1) ≤ digits)
@@ -101,6 +103,7 @@ fn deleted_below(digits: u64) -> u64
 /// The position of a cell among the descendants of its ancestor at a resolution, which is a
 /// pentagon: the digits below it, as a number in base 7, less the deleted cells that come before.
 /// These are all below the last pentagon on the way down, since the digit there is above 1.
+#[inline(always)]
 fn position_below_pentagon(cell: Cell, ancestor_res: u8) -> u64
     requires not_finer { ancestor_res ≤ resolution cell }
     requires pentagon { is_pentagon (cut cell ancestor_res) ≡ true }
@@ -118,6 +121,7 @@ fn position_below_pentagon(cell: Cell, ancestor_res: u8) -> u64
 ///
 /// `ResDomain` where the resolution is outside 0 to 15, and then `ResMismatch` where it is finer
 /// than the cell's.
+#[inline(always)]
 pub fn child_pos(cell: Cell, parent_res: i32) -> Result<u64, H3Error>
     ensures refused { result_err result ≡ parent_refusal (resolution cell) parent_res }
     ensures is { IfOk result (λ position.
