@@ -26,7 +26,8 @@ pub fn parent(cell: Cell, res: i32) -> Result<Cell, H3Error>
 {
     let own = cell.resolution();
     let r = resolution_from(res)?;
-    if r > own {
+    // (numbers as wide as a cell's, since a loop over cells compares several at once)
+    if u64::from(r) > u64::from(own) {
         return Err(H3Error::ResMismatch);
     }
     Ok(cell.cut(r))
