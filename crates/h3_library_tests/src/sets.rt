@@ -2,7 +2,7 @@
 
 use crate::rows::{cell, clone_of, copy_of, holds, is_cell};
 use h3_index::{Cell, H3Error};
-use h3_set::{Compaction, Uncompact, compact_cells, compact_in_place, uncompact};
+use h3_set::{Compaction, Uncompact, compact_cells, compact_in_order, compact_in_place, uncompact};
 use h3_tree::{Children, children};
 use std::alloc::{AllocError, Global};
 use std::mem::size_of;
@@ -353,6 +353,22 @@ fn cells_are_compacted_in_place(rt: HostRuntime) -> Result<(), AllocError> {
     cells.truncate(2);
     assert!(rt; is_list(&rt, &cells, &[PENTAGON, PARENT]));
     Ok(())
+}
+
+/// In post order a cell comes before the coarser ones of later base cells, which have the smaller
+/// numbers.
+#[test]
+fn cells_are_compacted_in_order(rt: HostRuntime) {
+    let mut cells = [Cell::in_base(121); 8];
+    for (place, child) in CHILDREN.iter().enumerate() {
+        cells[place + 1] = cell(&rt, *child);
+    }
+    assert!(rt; matches!(compact_in_order(&mut cells), Ok(2)));
+    assert!(rt; is_list(&rt, &cells[..2], &[HEXAGON, 0x80f3fffffffffff]));
+    assert!(rt; matches!(compact_in_place(&mut cells[..2]), Ok(2)));
+    assert!(rt; is_list(&rt, &cells[..2], &[0x80f3fffffffffff, HEXAGON]));
+    let mut twice = [Cell::in_base(121); 2];
+    assert!(rt; is_overlap(compact_in_order(&mut twice)));
 }
 
 /// Whether the compacted list of the cells has this many cells, and these are its first and its

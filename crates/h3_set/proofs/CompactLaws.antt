@@ -6,16 +6,19 @@ use Rattle.std.proofs.lemmas.List.Sorted.{Contains-permutation, IsPermutation-sy
 use Rattle.std.proofs.lemmas.Map.Keys.{IsDistinct-IsPermutation}
 use Rattle.std.specs.List.{AllByRecursion, IsDistinct}
 use Rattle.h3_index.specs.Cell.{Address, IsCell, number_of, resolution}
+use Rattle.h3_index.specs.Count.{CellsUpToAreListed}
 use Rattle.h3_index.specs.Descendants.{IsAncestor}
 use Rattle.h3_index.specs.Laws.{NumbersAreUnique}
 use Rattle.h3_tree.specs.Laws.{CellsFormTrees}
-use Rattle.h3_set.specs.Compacted.{IsCompacted, IsTop}
+use Rattle.h3_set.specs.Compacted.{compacted, IsCompacted, IsTop}
 use Rattle.h3_set.specs.Compaction.{level_of, slots_in_use}
 use Rattle.h3_set.specs.Coverage.{finest, IsApart, IsCompactable, IsCovered}
 use Rattle.h3_set.specs.Order.{IsInOrder}
 use Rattle.h3_set.specs.Rounds.{InPart}
 use Rattle.h3_set.specs.declared.rounds.Compaction.{Compaction}
-use Rattle.h3_set.proofs.TestLaws.{dec_covered}
+use Rattle.h3_set.proofs.PermutedLaws.{permuted}
+use Rattle.h3_set.proofs.SetLaws.{member_top, top_member}
+use Rattle.h3_set.proofs.TestLaws.{computes, dec_covered}
 use Rattle.h3_set.proofs.TopLaws.{compacted_from_tops}
 use Rattle.h3_set.proofs.PartLaws.{reached}
 use Rattle.h3_set.proofs.TreeLaws.{contains_cases, contains_head, contains_tail, other_number, same_number}
@@ -110,3 +113,12 @@ module _ (tree : CellsFormTrees) where
         (λ x s. (s.below.valid, s.below.resolution_is))
         (λ c m. tops c (Contains-permutation sorted slots c (IsPermutation-sym slots sorted same) m))
         (λ c t. Contains-permutation slots sorted c same ((part c).1 ((reached tree cells r c).1 t)))
+
+  -- and before that they are the compacted list in another order
+  pub in_other_order : CellsUpToAreListed → (cells : List Address) → finest cells ≤ 15 → (slots : List Address) → IsApart slots → ((x : Address) → Contains slots x ↔ InPart cells (finest cells) 0 x) → IsPermutation (compacted cells) slots
+  in_other_order listed cells fine slots apart part =
+      let low : finest cells < 16 = omega (arith, fine) in
+      let k = computes tree listed cells fine in
+      permuted tree (compacted cells) slots k.apart apart
+      (λ z m. (part z).1 ((reached tree cells (finest cells) z).1 (member_top tree (IsCovered cells (finest cells)) (finest cells) (compacted cells) low k z m)))
+      (λ z m. top_member tree (IsCovered cells (finest cells)) (finest cells) (compacted cells) low k z ((reached tree cells (finest cells) z).0 ((part z).0 m)))

@@ -10,8 +10,8 @@ use Rattle.h3_index.specs.Descendants.{center_at, cut, IsAncestor, IsDescendant}
 use Rattle.h3_tree.specs.Laws.{CellsFormTrees}
 use Rattle.h3_set.specs.Compacted.{compacted, IsCompacted}
 use Rattle.h3_set.specs.Coverage.{finest, IsApart, IsCovered, Overlap}
-use Rattle.h3_set.specs.Laws.{CompactedListsAreCompacted, CompactedListsCoverAlike, CoveragesDecideLists, ListsCompactInParts, ReducedListsAreCompacted}
-use Rattle.h3_set.proofs.PermutedLaws.{apart_permuted, members_permuted}
+use Rattle.h3_set.specs.Laws.{CompactedListsAreCompacted, CompactedListsCoverAlike, CoveragesDecideLists, ListsCompactInParts, ReducedListsAreCompacted, ReducedListsAreReordered}
+use Rattle.h3_set.proofs.PermutedLaws.{apart_permuted, members_permuted, permuted}
 use Rattle.h3_set.proofs.ResolutionLaws.{none_finer}
 use Rattle.h3_set.proofs.SetLaws.{member_top, one_compacted, reduced_top, top_member, top_reduced, IsReduced}
 use Rattle.h3_set.proofs.TestLaws.{computes}
@@ -195,6 +195,11 @@ module _ (tree : CellsFormTrees) (all_cells : CellsUpToAreListed) where
         (λ m. top_member tree (IsCovered cells (finest cells)) (finest cells) (compacted cells) (omega (arith, fine)) k x (reduced_top tree (IsCovered cells (finest cells)) (finest cells) cells (omega (arith, fine)) h x m)),
         (λ m. top_reduced tree (IsCovered cells (finest cells)) (finest cells) cells (omega (arith, fine)) h x (member_top tree (IsCovered cells (finest cells)) (finest cells) (compacted cells) (omega (arith, fine)) k x m)),
       )
+
+  pub reduced_reordered : ReducedListsAreReordered
+  reduced_reordered cells valid apart none =
+      let same = reduced_made cells valid apart none in
+      permuted tree (compacted cells) cells (compacted_made cells valid).apart apart (λ x m. (same x).1 m) (λ x m. (same x).0 m)
 
   -- ---- parts that are joined
 

@@ -5,8 +5,10 @@ ghost use Rattle.std.specs.Prelude.{◌≡◌, ◌≤◌, ◌↔◌, length, tak
 ghost use Rattle.std.specs.Result.{result_err};
 ghost use Rattle.h3_index.specs.Cell.{Address, resolution};
 ghost use Rattle.h3_set.specs.Compacted.{compacted, HoldsOnce, IsCompacted, IsTop};
+ghost use Rattle.h3_set.specs.Compaction.{IsDone};
 ghost use Rattle.h3_set.specs.Coverage.{finest, IsCovered};
 ghost use Rattle.h3_set.specs.Laws.{CompactedListsAreUnique, ListsCompactInParts, OneResolutionIsApart, OverlapsAreFound};
+ghost use Rattle.h3_set.specs.Order.{IsInOrder};
 ghost use Rattle.h3_set.specs.Refusals.{compaction_refusal};
 ghost use Rattle.h3_set.specs.Uncompaction.{uncompacted};
 
@@ -64,6 +66,41 @@ pub fn compact_cells(cells: &[Cell], slots: &mut [Cell]) -> Result<usize, H3Erro
     compact_in_place(&mut slots[..count])
 }
 
+/// All rounds of a compaction, one after another, over cells in the memory of the cells themselves,
+/// where the list then stands in post order.
+fn in_rounds(cells: &mut [Cell]) -> Result<Compaction, H3Error>
+    ensures done { IfOk result (IsDone cells.old cells.new) }
+    ensures refused { result_err result ≡ compaction_refusal cells.old }
+    ensures overlapping { result ≡ Err H3Error.DuplicateInput
+        → IsPermutation cells.old cells.new }
+{
+    cells_form_trees();
+    let mut compaction = Compaction::start_in_place(cells)?;
+    while compaction.level() > 0 {
+        compaction = compaction.round_in_order(cells).skip(cells);
+    }
+    Ok(compaction)
+}
+
+/// As `compact_in_place`, without its last sort: the cells of the compacted list stand in post order,
+/// as `put_in_order` leaves them, and not in ascending order. Where the cells are in post order
+/// already, nothing is sorted.
+///
+/// `DuplicateInput` where cells at two places overlap. The cells are then the same, in some order.
+pub fn compact_in_order(cells: &mut [Cell]) -> Result<usize, H3Error>
+    ensures list { IfOk result (λ m. IsPermutation (compacted cells.old) (take m cells.new)) }
+    ensures in_order { IfOk result (λ m. IsInOrder (take m cells.new)) }
+    ensures fewer { IfOk result (λ m. m ≤ length cells.old) }
+    ensures refused { result_err result ≡ compaction_refusal cells.old }
+    ensures overlapping { result ≡ Err H3Error.DuplicateInput
+        → IsPermutation cells.old cells.new }
+{
+    cells_form_trees();
+    cells_are_listed();
+    let compaction = in_rounds(cells)?;
+    Ok(compaction.len())
+}
+
 /// As `compact_cells`, in the memory of the cells themselves: puts the compacted list of the cells
 /// into the first of them and returns how many cells it has. Those after the list may be any cells.
 /// It allocates nothing.
@@ -99,9 +136,6 @@ pub fn compact_in_place(cells: &mut [Cell]) -> Result<usize, H3Error>
     cells_form_trees();
     numbers_are_unique();
     cells_are_listed();
-    let mut compaction = Compaction::start_in_place(cells)?;
-    while compaction.level() > 0 {
-        compaction = compaction.round_in_order(cells).skip(cells);
-    }
+    let compaction = in_rounds(cells)?;
     Ok(compaction.finish(cells))
 }

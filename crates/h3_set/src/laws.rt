@@ -2,7 +2,7 @@
 //! holds always.
 
 ghost use Rattle.std.specs.Prelude.{◌≡◌};
-ghost use Rattle.h3_set.specs.Laws.{AncestorsAreFound, ApartInAnyOrder, CompactedListsAreCompacted, CompactedListsCoverAlike, CoveragesDecideLists, ListsCompactInParts, OverlapsAreFound, ReducedListsAreCompacted};
+ghost use Rattle.h3_set.specs.Laws.{AncestorsAreFound, ApartInAnyOrder, CompactedListsAreCompacted, CompactedListsCoverAlike, CoveragesDecideLists, ListsCompactInParts, OverlapsAreFound, ReducedListsAreCompacted, ReducedListsAreReordered};
 ghost use Rattle.h3_set.specs.Uncompact.{cells_left};
 ghost use Rattle.h3_set.specs.declared.iter.Uncompact.{Uncompact};
 ghost use Rattle.h3_set.specs.declared.rounds.Compaction.{Compaction};
@@ -32,6 +32,7 @@ pub fn coverages_decide_lists()
     ensures reordered { ApartInAnyOrder }
     ensures ancestors { AncestorsAreFound }
     ensures reduced { ReducedListsAreCompacted }
+    ensures another_order { ReducedListsAreReordered }
     ensures parts { ListsCompactInParts }
 {
     cells_form_trees();

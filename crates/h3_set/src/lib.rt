@@ -10,7 +10,7 @@ mod rounds;
 mod survey;
 mod uncompaction;
 
-pub use compact::{compact_cells, compact_in_place};
+pub use compact::{compact_cells, compact_in_order, compact_in_place};
 pub use iter::Uncompact;
 pub use order::{has_overlap, put_in_order};
 pub use rounds::Compaction;

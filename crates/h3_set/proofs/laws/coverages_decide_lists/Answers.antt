@@ -1,5 +1,5 @@
 use Rattle.h3_set.proofs.OverlapLaws.{overlaps_found}
-use Rattle.h3_set.proofs.PartitionLaws.{compacted_alike, compacted_made, coverages_decide, in_parts, reduced_made}
+use Rattle.h3_set.proofs.PartitionLaws.{compacted_alike, compacted_made, coverages_decide, in_parts, reduced_made, reduced_reordered}
 use Rattle.h3_set.proofs.PermutedLaws.{apart_permuted}
 use Rattle.h3_set.proofs.TestLaws.{ancestor_decides}
 use Rattle.h3_set.proofs.laws.coverages_decide_lists.Goals as goal
@@ -24,6 +24,9 @@ returns-clause-ancestors c = λ a x. ((λ t. (ancestor_decides a x).0 t), (λ h.
 
 pub returns-clause-reduced : goal.returns-clause-reduced
 returns-clause-reduced c = reduced_made c.cells_form_trees.ensures c.cells_are_listed.ensures
+
+pub returns-clause-another_order : goal.returns-clause-another_order
+returns-clause-another_order c = reduced_reordered c.cells_form_trees.ensures c.cells_are_listed.ensures
 
 pub returns-clause-parts : goal.returns-clause-parts
 returns-clause-parts c = in_parts c.cells_form_trees.ensures c.cells_are_listed.ensures
