@@ -10,11 +10,10 @@ use Rattle.h3_tree.specs.Laws.{CellsFormTrees}
 use Rattle.h3_tree.specs.PostOrder.{post_order_key as key}
 use Rattle.h3_set.specs.Compacted.{compacted}
 use Rattle.h3_set.specs.Coverage.{finest, IsCovered}
-use Rattle.h3_set.specs.Laws.{ApartInAnyOrder, CompactedListsAreCompacted, CompactedListsCoverAlike, CoveragesDecideLists, ListsCompactInParts, ReducedListsAreCompacted}
+use Rattle.h3_set.specs.Laws.{CompactedListsAreCompacted, CompactedListsCoverAlike, CoveragesDecideLists, ListsCompactInParts, ReducedListsAreCompacted, ReducedListsAreReordered}
 use Rattle.h3_regions.specs.Laws.{CoverageAtOneResolution, RegionsAreUnique, UnionsCoverBoth, UnionsInAnyOrder, UnionsInParts, UnionsOfOne}
 use Rattle.h3_regions.proofs.CoverageLaws.{fine_within}
 use Rattle.h3_regions.proofs.ListLaws.{contains_cases}
-use Rattle.h3_regions.proofs.PermutedLaws.{region_permutes}
 use Rattle.h3_regions.proofs.LeftLaws.{finest_at}
 
 -- ---- unions
@@ -60,10 +59,10 @@ again decide made alike a va =
     (λ x. (alike a 15 va (fine_within a va) x).1)
     (λ x. (alike a 15 va (fine_within a va) x).0)
 
-pub of_one : CellsFormTrees → ApartInAnyOrder → CoveragesDecideLists → CompactedListsAreCompacted → CompactedListsCoverAlike → ReducedListsAreCompacted → UnionsOfOne
-of_one tree reordered decide made alike reduced = record {
+pub of_one : CoveragesDecideLists → CompactedListsAreCompacted → CompactedListsCoverAlike → ReducedListsAreReordered → UnionsOfOne
+of_one decide made alike reordered = record {
   list = λ a va. twice decide (compacted a) (made a va).cells_valid ∙ again decide made alike a va;
-  region = λ a region. subst (λ l. IsPermutation l a) (sym (twice decide a region.valid)) (region_permutes tree reordered made reduced a region);
+  region = λ a region. subst (λ l. IsPermutation l a) (sym (twice decide a region.valid)) (reordered a region.valid region.apart region.no_siblings);
 }
 
 -- ---- coverage at one resolution

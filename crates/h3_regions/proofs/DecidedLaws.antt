@@ -8,13 +8,12 @@ use Rattle.h3_index.specs.Descendants.{cut, descendants, IsAncestor, IsDescendan
 use Rattle.h3_tree.specs.Laws.{CellsFormTrees}
 use Rattle.h3_set.specs.Compacted.{compacted}
 use Rattle.h3_set.specs.Coverage.{finest, is_covered, IsCovered}
-use Rattle.h3_set.specs.Laws.{AncestorsAreFound, ApartInAnyOrder, CompactedListsAreCompacted, CoveragesDecideLists, ReducedListsAreCompacted}
+use Rattle.h3_set.specs.Laws.{AncestorsAreFound, CoveragesDecideLists, ReducedListsAreReordered}
 use Rattle.h3_set.specs.Uncompaction.{uncompacted}
 use Rattle.h3_regions.specs.Algebra.{difference, finest_of_both, intersection}
 use Rattle.h3_regions.specs.Region.{IsRegion}
 use Rattle.h3_regions.proofs.CoverageLaws.{fine_within}
 use Rattle.h3_regions.proofs.ListLaws.{all_of, contains_cases, contains_head, contains_tail}
-use Rattle.h3_regions.proofs.PermutedLaws.{region_permutes}
 use Rattle.h3_regions.proofs.LeftLaws.{finest_at}
 use Rattle.h3_regions.proofs.TestLaws.{covered_true, from_covered}
 
@@ -168,11 +167,11 @@ module _ (tree : CellsFormTrees) (found : AncestorsAreFound) (decide : Coverages
         )),
       ))
 
-module _ (tree : CellsFormTrees) (found : AncestorsAreFound) (reordered : ApartInAnyOrder) (made : CompactedListsAreCompacted) (reduced : ReducedListsAreCompacted) (decide : CoveragesDecideLists) (a b list : List Address) (va : All IsCell a) (vb : All IsCell b) (region : IsRegion list) where
+module _ (tree : CellsFormTrees) (found : AncestorsAreFound) (reordered : ReducedListsAreReordered) (decide : CoveragesDecideLists) (a b list : List Address) (va : All IsCell a) (vb : All IsCell b) (region : IsRegion list) where
   pub intersection_list : ((x : Address) → IsCovered list 15 x ↔ (IsCovered a 15 x × IsCovered b 15 x)) → IsPermutation (intersection a b) list
   intersection_list covers =
-      subst (λ l. IsPermutation l list) (intersection_same tree found decide a b list va vb region.valid covers) (region_permutes tree reordered made reduced list region)
+      subst (λ l. IsPermutation l list) (intersection_same tree found decide a b list va vb region.valid covers) (reordered list region.valid region.apart region.no_siblings)
 
   pub difference_list : ((x : Address) → IsCovered list 15 x ↔ (IsCovered a 15 x × (¬ IsCovered b 15 x))) → IsPermutation (difference a b) list
   difference_list covers =
-      subst (λ l. IsPermutation l list) (difference_same tree found decide a b list va vb region.valid covers) (region_permutes tree reordered made reduced list region)
+      subst (λ l. IsPermutation l list) (difference_same tree found decide a b list va vb region.valid covers) (reordered list region.valid region.apart region.no_siblings)

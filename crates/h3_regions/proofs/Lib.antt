@@ -10,7 +10,6 @@ pub mod LeavingLaws
 pub mod LeftLaws
 pub mod ListLaws
 pub mod NumberLaws
-pub mod PermutedLaws
 pub mod RegionLaws
 pub mod RoomLaws
 pub mod SearchLaws

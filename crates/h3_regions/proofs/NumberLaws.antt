@@ -13,8 +13,9 @@ use Rattle.h3_index.specs.Count.{cells_up_to, CellsUpToAreListed}
 use Rattle.h3_index.specs.Descendants.{IsAncestor}
 use Rattle.h3_tree.specs.Laws.{CellsFormTrees}
 use Rattle.h3_tree.specs.PostOrder.{post_order_key, CellsFormIntervals}
+use Rattle.h3_set.specs.Compacted.{compacted}
 use Rattle.h3_set.specs.Coverage.{finest, is_ancestor, IsApart}
-use Rattle.h3_set.specs.Laws.{AncestorsAreFound, ApartInAnyOrder}
+use Rattle.h3_set.specs.Laws.{AncestorsAreFound, ApartInAnyOrder, CompactedListsAreCompacted}
 use Rattle.h3_regions.specs.Zones.{by_number, is_member}
 use Rattle.h3_regions.proofs.AlgebraLaws.{same_rising}
 use Rattle.h3_regions.proofs.CoverageLaws.{fine_within}
@@ -105,3 +106,13 @@ module _ (tree : CellsFormTrees) (intervals : CellsFormIntervals) (found : Ances
       let w = kept_from (is_member new) (cells_up_to (finest new)) z m in
       let n = Contains-permutation new old z back (from_member new z w.1) in
       kept (is_member old) (cells_up_to (finest old)) z ((all.each z).1 (All-contains IsCell old z valid n, finest_at old z n)) (member old z n))
+
+  -- a compacted list in another order is, in ascending order, that list
+  pub number_is : ApartInAnyOrder → CompactedListsAreCompacted → (cells list : List Address) → All IsCell cells → IsPermutation (compacted cells) list → by_number list ≡ compacted cells
+  number_is reordered made cells list valid same =
+      let k = made cells valid in
+      sym (in_number_order reordered list (compacted cells) (All-permutation IsCell (compacted cells) list same k.cells_valid) (reordered (compacted cells) list same k.apart) (IsPermutation-sym (compacted cells) list same)
+      (λ i j d le lj. elim (cases_lt i j) [
+        | inl less ↦ let up = k.ascending i j d less lj in omega (arith, up)
+        | inr not ↦ let e : i ≡ j = omega (arith, le, not) in rw e (omega arith)
+      ]))

@@ -50,11 +50,6 @@ pub ordered_zones : (intervals : CellsFormIntervals) (cells : List Address) → 
 ordered_zones intervals cells valid order apart =
     record { valid = valid; in_order = strictly intervals cells valid order apart; apart = apart }
 
--- the first slots, when they were put in order
-pub first_slots : (first sorted rest : List Address) (m : ℕ) → length first ≡ m → IsPermutation first sorted → take m (sorted ++ rest) ≡ sorted
-first_slots first sorted rest m size same =
-    take_at sorted rest m (length_permutation first sorted same ∙ size)
-
 -- ---- looking up
 
 pub place_of : (cells : List Address) (x a : Address) (m : Contains cells a) → IsAncestor a x → StandsAbove cells m.0 x

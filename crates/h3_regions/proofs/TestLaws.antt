@@ -1,20 +1,22 @@
 -- What the tests of cells above and below a cell decide.
 use Rattle.std.specs.List.{list_any}
-use Rattle.std.specs.List.Sorted.{IsPartitionPoint}
-use Rattle.std.proofs.Common.{ℕ, ◌≡◌, ◌≢◌, ◌-◌, ◌<◌, ◌≤◌, ◌↔◌, List, length, Contains, Bool, true, false, nat_le, refl, arith, ◌∙◌, sym, ap, subst, inl, inr, get_or}
+use Rattle.std.proofs.Common.{ℕ, ◌≡◌, ◌≢◌, ◌+◌, ◌-◌, ◌^◌, ◌<◌, ◌≤◌, ◌↔◌, List, length, Contains, Bool, true, false, nat_le, refl, arith, ◌∙◌, sym, ap, subst, inl, inr, get_or}
+use Rattle.std.proofs.Math.Nat.{one-le-pow}
 use Rattle.std.proofs.lemmas.Bool.{both_ways, cases_lt}
 use Rattle.std.proofs.lemmas.Bool.Decides.{nat_tests}
 use Rattle.std.proofs.lemmas.List.Elements.{Contains-get_or}
 use Rattle.std.proofs.lemmas.List.Folds.{Any-from_list_any, list_any_at, list_any_none}
-use Rattle.h3_index.specs.Cell.{Address, IsCell}
+use Rattle.h3_index.specs.Cell.{Address, IsCell, resolution}
 use Rattle.h3_index.specs.Descendants.{IsAncestor}
+use Rattle.h3_tree.specs.Laws.{CellsFormTrees}
 use Rattle.h3_tree.specs.PostOrder.{post_order_key as key, CellsFormIntervals}
-use Rattle.h3_set.specs.Coverage.{is_ancestor, is_covered}
+use Rattle.h3_set.specs.Coverage.{is_ancestor, is_covered, Overlap}
 use Rattle.h3_set.specs.Laws.{AncestorsAreFound}
 use Rattle.h3_regions.specs.Coarsest.{HasAncestor}
 use Rattle.h3_regions.specs.Region.{IsRegion}
-use Rattle.h3_regions.specs.Left.{has_below}
-use Rattle.h3_regions.proofs.IntervalLaws.{inside, within}
+use Rattle.h3_regions.specs.Left.{has_below, lowest_key}
+use Rattle.h3_regions.specs.Zones.{IsFirstPlace}
+use Rattle.h3_regions.proofs.IntervalLaws.{before, inside, within}
 use Rattle.h3_regions.proofs.ListLaws.{member_at}
 
 not_true : (b : Bool) → (b ≢ true) → b ≡ false
@@ -62,59 +64,111 @@ module _ (found : AncestorsAreFound) (cells : List Address) (x : Address) where
   pub none_below : has_below cells x ≡ false → (a : Address) → Contains cells a → ¬ IsAncestor x a
   none_below f = none_from (λ c. is_ancestor x c) (λ c. IsAncestor x c) (λ c. found x c) cells f
 
--- ---- the search for a cell below
+-- ---- the search for a cell above or below
 
 is_at_most : (m n : ℕ) → nat_le m n ≡ true → m ≤ n
 is_at_most m n h = grind (arith, nat_tests)
 
-is_more : (m n : ℕ) → nat_le m n ≡ false → n < m
-is_more m n h = grind (arith, nat_tests)
+at_most_is : (m n : ℕ) → m ≤ n → nat_le m n ≡ true
+at_most_is m n h = grind (arith, nat_tests)
 
-module _ (found : AncestorsAreFound) (intervals : CellsFormIntervals) (cells : List Address) (region : IsRegion cells) (x : Address) (valid : IsCell x) (k : ℕ) (key_is : k ≡ key x) (i : ℕ) (split : IsPartitionPoint (λ y. nat_le (key y) k ≡ true) (λ y. nat_le (key y) k ≡ false) cells i) where
-  low : (j : ℕ) (d : Address) → j < i → key (get_or cells j d) ≤ key x
-  low j d lt = rw (← key_is) (is_at_most _ _ (split.0 j d (omega arith) lt))
+pub at_most_decides : (m n : ℕ) → (nat_le m n ≡ true) ↔ (m ≤ n)
+at_most_decides m n = (is_at_most m n, at_most_is m n)
 
-  -- what stands below x is among the first i, and then the last of these does
-  pub early : (a : Address) (m : Contains cells a) → IsAncestor x a → m.0 < i
-  early a m above =
+module _ (found : AncestorsAreFound) (tree : CellsFormTrees) (intervals : CellsFormIntervals) (cells : List Address) (region : IsRegion cells) (x : Address) (valid : IsCell x) (i : ℕ) (split : IsFirstPlace cells (lowest_key x) i) where
+  member_valid : (a : Address) → Contains cells a → IsCell a
+  member_valid a m = subst IsCell m.2 (region.valid m.0 a m.1)
+
+  -- what ends after the lowest key stands at the place or after it
+  not_before : (a : Address) (m : Contains cells a) → key x < key a + 8 ^ (15 - resolution x) → i ≤ m.0
+  not_before a m near =
       elim (cases_lt m.0 i) [
-        | inl lt ↦ lt
-        | inr not ↦
-            let v : IsCell a = subst IsCell (member_at cells a a m) (region.valid m.0 a m.1) in
-            let w = within intervals x a valid v above in
-            let up : k < key a = rw m.2 at (is_more _ _ (split.1 m.0 a not m.1)) in
-            absurd (omega (arith, up, w.0, key_is))
+        | inl lt ↦
+            let low : key a < lowest_key x = rw m.2 at (split.before m.0 a (omega arith) lt) in
+            absurd (omega (arith, low, near))
+        | inr not ↦ not
       ]
 
-  pub none_where : i ≡ 0 → has_below cells x ≡ false
-  none_where e = below_false found cells x (λ a m above. (let l = early a m above in omega (arith, l, e)))
+  above_there : (a : Address) (m : Contains cells a) → IsAncestor a x → i ≤ m.0
+  above_there a m above =
+      let w = within intervals a x (member_valid a m) valid above in
+      let some : 1 ≤ 8 ^ (15 - resolution x) = one-le-pow (15 - resolution x) 8 (omega arith) in
+      not_before a m (omega (arith, w.0, some))
 
-  module _ (pos : 0 < i) (room : i ≤ length cells) (b : Address) (is : b ≡ get_or cells (i - 1) b) where
-    back : i - 1 < length cells
-    back = omega (arith, pos, room)
+  below_there : (a : Address) (m : Contains cells a) → IsAncestor x a → i ≤ m.0
+  below_there a m above =
+      let w = within intervals x a valid (member_valid a m) above in
+      not_before a m (omega (arith, w.1))
 
-    pub last_low : key b ≤ key x
-    last_low = rw (← is) at (low (i - 1) b (omega (arith, pos)))
+  pub end_covers_none : i ≡ length cells → is_covered cells x ≡ false
+  end_covers_none e =
+      covered_false found cells x (λ a m above. (let le = above_there a m above in omega (arith, le, e, m.1)))
+
+  pub end_has_none : i ≡ length cells → has_below cells x ≡ false
+  end_has_none e =
+      below_false found cells x (λ a m above. (let le = below_there a m above in omega (arith, le, e, m.1)))
+
+  module _ (lt : i < length cells) (b : Address) (is : b ≡ get_or cells i b) where
+    here : Contains cells b
+    here = (i, lt, sym is)
 
     b_valid : IsCell b
-    b_valid = subst IsCell (sym is) (region.valid (i - 1) b back)
+    b_valid = member_valid b here
 
-    near : (a : Address) (m : Contains cells a) → IsAncestor x a → IsAncestor x b
-    near a m above =
-        let l = early a m above in
-        let v : IsCell a = subst IsCell m.2 (region.valid m.0 a m.1) in
-        let w = within intervals x a valid v above in
-        elim (cases_lt m.0 (i - 1)) [
+    -- it ends after the lowest key
+    near : key x < key b + 8 ^ (15 - resolution x)
+    near =
+        let h : lowest_key x ≤ key b = rw (← is) at (split.after i b (omega arith) lt) in
+        omega (arith, h)
+
+    -- a member after it
+    later : (a : Address) (m : Contains cells a) → i < m.0 → (key b < key a) × (¬ Overlap b a)
+    later a m less =
+        let up : key b < key a = rw (member_at cells a b m, ← is) at (region.in_order i m.0 b less m.1) in
+        let clear : ¬ Overlap b a = rw (member_at cells a b m, ← is) at (region.apart i m.0 b less m.1) in
+        (up, clear)
+
+    -- what stands above x stands there
+    above_is : (a : Address) → Contains cells a → IsAncestor a x → IsAncestor b x
+    above_is a m above =
+        let le = above_there a m above in
+        let va = member_valid a m in
+        elim (cases_lt i m.0) [
           | inl less ↦
-              let up : key a < key b = rw (member_at cells a b m, ← is) at (region.in_order m.0 (i - 1) b less back) in
-              inside intervals x b valid b_valid last_low (omega (arith, w.1, up))
+              let l = later a m less in
+              let w = within intervals a x va valid above in
+              let far = before intervals a b va b_valid (omega (arith, l.0)) (λ over. l.1 (inr over)) in
+              let under = inside intervals x b valid b_valid (omega (arith, far, w.1)) near in
+              absurd (l.1 (inr (tree.through a x b above under)))
           | inr not ↦
-              let e : m.0 ≡ i - 1 = omega (arith, l, not) in
+              let e : m.0 ≡ i = omega (arith, le, not) in
               let same : a ≡ b = sym (member_at cells a b m) ∙ ap (λ n. get_or cells n b) e ∙ sym is in
-              subst (IsAncestor x) same above
+              subst (λ z. IsAncestor z x) same above
         ]
 
-    pub told : (answer : Bool) → (answer ≡ true) ↔ IsAncestor x b → answer ≡ has_below cells x
-    told true h = sym (below_true found cells x b (i - 1, back, sym is) (h.0 refl))
-    told false h =
-        sym (below_false found cells x (λ a m above. (let e : false ≡ true = h.1 (near a m above) in cc)))
+    pub told_covered : (answer : Bool) → (answer ≡ true) ↔ IsAncestor b x → answer ≡ is_covered cells x
+    told_covered true h = sym (covered_true found cells x b here (h.0 refl))
+    told_covered false h =
+        sym (covered_false found cells x (λ a m above. (let e : false ≡ true = h.1 (above_is a m above) in cc)))
+
+    pub low_covers_none : key b < key x → is_covered cells x ≡ false
+    low_covers_none low =
+        covered_false found cells x (λ a m above. (let w = within intervals b x b_valid valid (above_is a m above) in omega (arith, low, w.0)))
+
+    -- where any stands below x, what stands there does
+    pub told_below : (answer : Bool) → (answer ≡ true) ↔ (key b ≤ key x) → answer ≡ has_below cells x
+    told_below true h =
+        sym (below_true found cells x b here (inside intervals x b valid b_valid (h.0 refl) near))
+    told_below false h =
+        sym (below_false found cells x (λ a m above.
+        let w = within intervals x a valid (member_valid a m) above in
+        let le = below_there a m above in
+        let low : key b ≤ key x = elim (cases_lt i m.0) [
+          | inl less ↦ omega (arith, (later a m less).0, w.0)
+          | inr not ↦
+              let e : m.0 ≡ i = omega (arith, le, not) in
+              let same : a ≡ b = sym (member_at cells a b m) ∙ ap (λ n. get_or cells n b) e ∙ sym is in
+              omega (arith, ap key same, w.0)
+        ] in
+        let e : false ≡ true = h.1 low in
+        cc))

@@ -6,51 +6,77 @@ ghost use Rattle.h3_set.specs.Coverage.{finest, is_covered, IsCovered};
 ghost use Rattle.h3_regions.specs.Algebra.{difference};
 ghost use Rattle.h3_regions.specs.Laws.{RegionsAreUnique};
 ghost use Rattle.h3_regions.specs.Region.{IsRegion};
-ghost use Rattle.h3_regions.specs.Left.{has_below, left_of, left_of_all};
+ghost use Rattle.h3_regions.specs.Left.{has_below, left_of, left_of_all, lowest_key};
+ghost use Rattle.h3_regions.specs.Zones.{IsFirstPlace};
 
 use crate::laws::coverages_decide_regions;
 use crate::order::is_below;
 use crate::region::Region;
-use crate::zones::place_above;
+use crate::zones::first_near;
 use h3_index::Cell;
 use h3_index::laws::descendants_are_listed;
 use h3_set::laws::coverages_decide_lists;
 use h3_tree::laws::{cells_form_intervals, cells_form_trees};
 use h3_tree::{children_at, post_order_key};
 
-/// Whether a region covers a cell.
-fn is_covered(cells: &[Cell], cell: Cell) -> bool
-    requires { IsRegion cells.now }
+/// The lowest key that a cell below another may have.
+fn lowest_key(cell: Cell) -> u64
+    ensures { result ≡ lowest_key cell }
+{
+    post_order_key(cell).saturating_sub(cell.unit() - 1)
+}
+
+/// Whether a region covers a cell, where the first place whose cell's key is not below the lowest one
+/// below the cell is given: what covers the cell stands there, since nothing else of a region is
+/// below that.
+fn is_covered(cells: &[Cell], cell: Cell, first: usize) -> bool
+    requires region { IsRegion cells.now }
+    requires first { IsFirstPlace cells.now (lowest_key cell) first }
     ensures is { result ≡ is_covered cells.now cell }
     ensures valid { IsCell cell }
 {
     coverages_decide_lists();
-    match place_above(cells, cell) {
-        Some(_) => true,
-        None => false,
+    cells_form_trees();
+    cells_form_intervals();
+    let key = post_order_key(cell);
+    if first == cells.len() {
+        return false;
     }
+    let member = cells[first];
+    if post_order_key(member) < key {
+        return false;
+    }
+    is_below(cell, member)
 }
 
-/// Whether a cell or one below it is in the list of a region.
-fn has_below(cells: &[Cell], cell: Cell) -> bool
-    requires { IsRegion cells.now }
+/// Whether a cell or one below it is in the list of a region, where the same place is given: the
+/// first of these stands there.
+fn has_below(cells: &[Cell], cell: Cell, first: usize) -> bool
+    requires region { IsRegion cells.now }
+    requires first { IsFirstPlace cells.now (lowest_key cell) first }
     ensures { result ≡ has_below cells.now cell }
 {
     coverages_decide_lists();
+    cells_form_trees();
     cells_form_intervals();
     let key = post_order_key(cell);
-    let i = cells.partition_point(|c: &Cell| post_order_key(*c) <= key);
-    // those below it stand right before where it would stand
-    if i == 0 {
+    if first == cells.len() {
         return false;
     }
-    let before = cells[i - 1];
-    is_below(before, cell)
+    post_order_key(cells[first]) <= key
 }
 
 /// Writes what is left of a cell where those of a region are taken away behind the cells that are
-/// written, and returns how many are written then; `None` where the slots do not suffice.
-fn leave(cell: Cell, others: &[Cell], slots: &mut [Cell], written: usize) -> Option<usize>
+/// written, and returns how many are written then; `None` where the slots do not suffice. Those of the
+/// region are looked for from a place on, which may be any, and which is then where those of the next
+/// cell may be looked for.
+fn leave(
+    cell: Cell,
+    others: &[Cell],
+    slots: &mut [Cell],
+    written: usize,
+    place: &mut usize,
+) -> Option<usize>
     requires others { IsRegion others.now }
     requires room { written ≤ length slots.old }
     ensures within { IfSome result (λ m. m ≤ length slots.old) }
@@ -61,10 +87,12 @@ fn leave(cell: Cell, others: &[Cell], slots: &mut [Cell], written: usize) -> Opt
 {
     cells_form_trees();
     coverages_decide_lists();
-    if is_covered(others, cell) {
+    let first = first_near(others, lowest_key(cell), *place);
+    *place = first;
+    if is_covered(others, cell, first) {
         return Some(written);
     }
-    if !has_below(others, cell) {
+    if !has_below(others, cell, first) {
         if written == slots.len() {
             return None;
         }
@@ -73,7 +101,7 @@ fn leave(cell: Cell, others: &[Cell], slots: &mut [Cell], written: usize) -> Opt
     }
     let mut count = written;
     for child in children_at(cell, cell.resolution() + 1) {
-        match leave(child, others, slots, count) {
+        match leave(child, others, slots, count, place) {
             Some(more) => count = more,
             None => return None,
         }
@@ -90,8 +118,9 @@ fn leave_all(cells: &[Cell], others: &[Cell], slots: &mut [Cell]) -> Option<usiz
     ensures none { result ≡ None → length slots.old < length (left_of_all cells.now others.now) }
 {
     let mut count = 0;
+    let mut place: usize = 0;
     for cell in cells {
-        match leave(*cell, others, slots, count) {
+        match leave(*cell, others, slots, count, &mut place) {
             Some(more) => count = more,
             None => return None,
         }

@@ -6,13 +6,10 @@ ghost use Rattle.h3_set.specs.Compacted.{compacted};
 ghost use Rattle.h3_set.specs.Coverage.{finest, IsCovered};
 ghost use Rattle.h3_regions.specs.Region.{IsRegion};
 
-use crate::order::are_cells;
-use crate::unions::unite;
+use crate::unions::unite_in_order;
 use crate::zones::Zones;
 use h3_index::Cell;
 use h3_set::laws::coverages_decide_lists;
-use h3_set::put_in_order;
-use h3_tree::laws::cells_form_intervals;
 use std::marker::Model;
 
 /// A set of cells, given by the one list of cells that covers it with no overlap and no complete set
@@ -47,10 +44,7 @@ impl<'a> Region<'a> {
         ensures fine { finest cells.old ≤ 15 }
     {
         coverages_decide_lists();
-        cells_form_intervals();
-        are_cells(cells);
-        let count = unite(cells);
-        put_in_order(&mut cells[..count]);
+        let count = unite_in_order(cells);
         Region {
             cells: &cells[..count],
         }

@@ -1,6 +1,6 @@
 //! Unions: the compacted list of what any cells cover.
 
-ghost use Rattle.std.specs.Prelude.{◌≡◌, ◌≤◌, ◌↔◌, ℕ, length, take, drop, All};
+ghost use Rattle.std.specs.Prelude.{◌≡◌, ◌≤◌, ◌↔◌, ℕ, length, take, drop, All, IsPermutation};
 ghost use Rattle.h3_index.specs.Cell.{Address, IsCell};
 ghost use Rattle.h3_index.specs.Descendants.{IsAncestor};
 ghost use Rattle.h3_tree.specs.PostOrder.{post_order_key};
@@ -8,11 +8,14 @@ ghost use Rattle.h3_set.specs.Compacted.{compacted, IsCompacted};
 ghost use Rattle.h3_set.specs.Coverage.{finest, IsApart, IsCovered};
 ghost use Rattle.h3_set.specs.Order.{IsInOrder};
 ghost use Rattle.h3_regions.specs.Coarsest.{IsCoarsest};
+ghost use Rattle.h3_regions.specs.Region.{IsRegion};
 
 use crate::order::are_cells;
+use crate::zones::order_by_number;
 use h3_index::Cell;
+use h3_index::laws::cells_are_listed;
 use h3_set::laws::coverages_decide_lists;
-use h3_set::{compact_in_place, put_in_order};
+use h3_set::{compact_in_order, put_in_order};
 use h3_tree::laws::{cells_form_intervals, cells_form_trees};
 use h3_tree::post_order_key;
 
@@ -61,17 +64,34 @@ fn keep_coarsest(cells: &mut [Cell]) -> usize
     written
 }
 
-/// `compact_in_place` of cells of which no two overlap, which it does not refuse.
+/// `compact_in_order` of cells of which no two overlap, which it does not refuse.
 fn compact_apart(cells: &mut [Cell]) -> usize
     requires { IsApart cells.old }
     ensures fewer { result ≤ length cells.old }
-    ensures is { take result cells.new ≡ compacted cells.old }
+    ensures list { IsPermutation (compacted cells.old) (take result cells.new) }
+    ensures in_order { IsInOrder (take result cells.new) }
 {
     coverages_decide_lists();
-    match compact_in_place(cells) {
+    match compact_in_order(cells) {
         Ok(count) => count,
         Err(_) => unreachable!(),
     }
+}
+
+/// As `unite`, without its last sort: the list stands in post order, as that of a region.
+pub(crate) fn unite_in_order(cells: &mut [Cell]) -> usize
+    ensures list { IsPermutation (compacted cells.old) (take result cells.new) }
+    ensures region { IsRegion (take result cells.new) }
+    ensures fewer { result ≤ length cells.old }
+    ensures valid { All IsCell cells.old }
+{
+    coverages_decide_lists();
+    cells_form_trees();
+    cells_form_intervals();
+    are_cells(cells);
+    put_in_order(cells);
+    let count = keep_coarsest(cells);
+    compact_apart(&mut cells[..count])
 }
 
 /// Puts the compacted list of what any cells cover into the first of them, and returns how many
@@ -91,8 +111,9 @@ pub fn unite(cells: &mut [Cell]) -> usize
 {
     coverages_decide_lists();
     cells_form_trees();
-    are_cells(cells);
-    put_in_order(cells);
-    let count = keep_coarsest(cells);
-    compact_apart(&mut cells[..count])
+    cells_form_intervals();
+    cells_are_listed();
+    let count = unite_in_order(cells);
+    order_by_number(&mut cells[..count]);
+    count
 }

@@ -8,6 +8,7 @@ ghost use Rattle.h3_tree.specs.PostOrder.{post_order_key};
 ghost use Rattle.h3_set.specs.Compacted.{compacted};
 ghost use Rattle.h3_set.specs.Coverage.{finest, IsApart, IsCovered};
 ghost use Rattle.h3_set.specs.Refusals.{compaction_refusal};
+ghost use Rattle.h3_regions.specs.Region.{IsRegion};
 ghost use Rattle.h3_regions.specs.Zones.{AreBelow, AreNotBelow, IsFirstPlace, IsZones, StandsAbove, by_number, zone_of};
 
 use crate::order::are_cells;
@@ -71,7 +72,8 @@ fn are_not_below(cells: &[Cell], key: u64, place: usize) -> bool
 /// The first place whose cell's key is not below another, looked for from a place on, which may be
 /// any: where the place is it, or one of the next few, that is seen in a step or two. A search of all
 /// does not go by the place, so that a processor may begin one before it knows the place.
-fn first_near(cells: &[Cell], key: u64, place: usize) -> usize
+#[inline(always)]
+pub(crate) fn first_near(cells: &[Cell], key: u64, place: usize) -> usize
     requires { IsZones cells.now }
     ensures { IsFirstPlace cells.now key result }
 {
@@ -127,6 +129,7 @@ pub(crate) fn place_above(cells: &[Cell], cell: Cell) -> Option<usize>
 
 /// As `place_above`, looked for from a place on, which may be any, and which is then where the next
 /// cell may be looked for: that of the zone, or of the first one after the cell.
+#[inline(always)]
 pub(crate) fn place_near(cells: &[Cell], cell: Cell, place: &mut usize) -> Option<usize>
     requires { IsZones cells.now }
     ensures found { IfSome result (λ i. i < length cells.now × StandsAbove cells.now i cell) }
@@ -158,11 +161,13 @@ pub fn order_zones(cells: &mut [Cell]) -> Result<(), H3Error>
     Ok(())
 }
 
-/// Puts cells of which no two overlap, as zones, in ascending order of their numbers.
+/// Puts cells of which no two overlap, as zones, in ascending order of their numbers. Those of a
+/// region are then its compacted list.
 pub fn order_by_number(cells: &mut [Cell])
     requires { IsApart cells.old }
     ensures same { IsPermutation cells.old cells.new }
     ensures is { cells.new ≡ by_number cells.old }
+    ensures region { IsRegion cells.old → cells.new ≡ compacted cells.old }
 {
     cells_form_trees();
     cells_form_intervals();

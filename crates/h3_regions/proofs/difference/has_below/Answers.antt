@@ -1,27 +1,14 @@
-use Rattle.std.specs.List.Sorted.{IsPartitionPoint}
-use Rattle.std.proofs.Common.{rules, ◌≡◌, ◌<◌, true, false, nat_le, arith, sym}
-use Rattle.std.proofs.lemmas.List.Sorted.{IsPartitionedBy-leb, IsPartitionPoint-from_clause}
-use Rattle.h3_tree.specs.PostOrder.{post_order_key as key}
-use Rattle.h3_regions.proofs.RegionLaws.{as_zones}
-use Rattle.h3_regions.proofs.SearchLaws.{keys_rise}
-use Rattle.h3_regions.proofs.TestLaws.{last_low, none_where, told}
+use Rattle.std.proofs.Common.{◌≡◌, ◌<◌, ◌≤◌, ◌↔◌, length, true, nat_le, arith, sym}
+use Rattle.h3_tree.specs.PostOrder.{post_order_key}
+use Rattle.h3_regions.proofs.TestLaws.{at_most_decides, end_has_none, told_below}
 use Rattle.h3_regions.proofs.difference.has_below.Goals as goal
-use Rattle.h3_regions.proofs.difference.has_below.Goals.{After-partition_point-i}
 
-split : (c : After-partition_point-i) → IsPartitionPoint (λ y. nat_le (key y) c.post_order_key-key.result ≡ true) (λ y. nat_le (key y) c.post_order_key-key.result ≡ false) c.args.cells.now c.partition_point-i.result
-split c =
-    IsPartitionPoint-from_clause (λ y. nat_le (key y) c.post_order_key-key.result) c.args.cells.now c.partition_point-i.result c.partition_point-i.ensures.partitioned (IsPartitionedBy-leb key c.args.cells.now c.post_order_key-key.result (keys_rise c.args.cells.now (as_zones c.args.cells.now c.requires))) (λ a r q k. search rules)
-
-pub returns-then-i-eq0 : goal.returns-then-i-eq0
-returns-then-i-eq0 c =
-    sym (none_where c.coverages_decide_lists.ensures.ancestors c.cells_form_intervals.ensures c.args.cells.now c.requires c.args.cell c.post_order_key-key.ensures.valid c.post_order_key-key.result c.post_order_key-key.ensures.is c.partition_point-i.result (split c.before) c.if-i-eq0.true)
-
-pub is_below-requires : goal.is_below-requires
-is_below-requires c =
-    let pos : 0 < c.partition_point-i.result = omega (arith, c.if-i-eq0.false) in
-    last_low c.coverages_decide_lists.ensures.ancestors c.cells_form_intervals.ensures c.args.cells.now c.requires c.args.cell c.post_order_key-key.ensures.valid c.post_order_key-key.result c.post_order_key-key.ensures.is c.partition_point-i.result (split c.before.before) pos c.partition_point-i.ensures.bound c.index-cells-i.result c.index-cells-i.is
+pub returns-then-first-cells : goal.returns-then-first-cells
+returns-then-first-cells c =
+    sym (end_has_none c.coverages_decide_lists.ensures.ancestors c.cells_form_trees.ensures c.cells_form_intervals.ensures c.args.cells.now c.requires.region c.args.cell c.post_order_key-key.ensures.valid c.args.first c.requires.first c.if-first-cells.true)
 
 pub returns : goal.returns
 returns c =
-    let pos : 0 < c.partition_point-i.result = omega (arith, c.if-i-eq0.false) in
-    told c.coverages_decide_lists.ensures.ancestors c.cells_form_intervals.ensures c.args.cells.now c.requires c.args.cell c.post_order_key-key.ensures.valid c.post_order_key-key.result c.post_order_key-key.ensures.is c.partition_point-i.result (split c.before.before.before) pos c.partition_point-i.ensures.bound c.index-cells-i.result c.index-cells-i.is c.is_below.result c.is_below.ensures
+    let lt : c.args.first < length c.args.cells.now = omega (arith, c.if-first-cells.false, c.requires.first.within) in
+    let decides : (nat_le c.post_order_key.result c.post_order_key-key.result ≡ true) ↔ (post_order_key c.index-cells-first.result ≤ post_order_key c.args.cell) = rw (c.post_order_key.ensures.is, c.post_order_key-key.ensures.is) (at_most_decides (post_order_key c.index-cells-first.result) (post_order_key c.args.cell)) in
+    told_below c.coverages_decide_lists.ensures.ancestors c.cells_form_trees.ensures c.cells_form_intervals.ensures c.args.cells.now c.requires.region c.args.cell c.post_order_key-key.ensures.valid c.args.first c.requires.first lt c.index-cells-first.result c.index-cells-first.is (nat_le c.post_order_key.result c.post_order_key-key.result) decides

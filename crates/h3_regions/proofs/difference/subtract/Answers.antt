@@ -33,7 +33,7 @@ left_list c =
     let laws = c.coverages_decide_lists.ensures in
     let region = rest_region c.cells_form_trees.ensures c.cells_form_intervals.ensures laws.ancestors c.args.second.now c.cells-2.ensures.region c.args.first.now c.cells.ensures.region in
     let fine = fine_within c.args.second.now c.cells-2.ensures.region.valid in
-    difference_list c.cells_form_trees.ensures laws.ancestors laws.reordered laws.compacted laws.reduced laws.decide c.args.first.now c.args.second.now (left_of_all c.args.first.now c.args.second.now) c.cells.ensures.region.valid c.cells-2.ensures.region.valid region (λ x. rest_covers c.cells_form_trees.ensures c.cells_form_intervals.ensures laws.ancestors c.args.second.now c.cells-2.ensures.region c.args.first.now c.cells.ensures.region 15 fine x)
+    difference_list c.cells_form_trees.ensures laws.ancestors laws.another_order laws.decide c.args.first.now c.args.second.now (left_of_all c.args.first.now c.args.second.now) c.cells.ensures.region.valid c.cells-2.ensures.region.valid region (λ x. rest_covers c.cells_form_trees.ensures c.cells_form_intervals.ensures laws.ancestors c.args.second.now c.cells-2.ensures.region c.args.first.now c.cells.ensures.region 15 fine x)
 
 -- they have as many cells
 size : (c : After-leave_all) → length (left_of_all c.args.first.now c.args.second.now) ≡ length (difference c.args.first.now c.args.second.now)

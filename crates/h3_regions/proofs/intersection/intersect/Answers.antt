@@ -33,4 +33,4 @@ returns-clause-list c =
     let both = shared_covers c.cells_form_trees.ensures c.args.first.now c.args.second.now (take c.write_shared-count.result c.write_shared-count.new.slots) c.cells.ensures.region c.cells-2.ensures.region (found c.before) in
     let region = shared_region c.cells_form_trees.ensures c.args.first.now c.args.second.now (take c.write_shared-count.result c.write_shared-count.new.slots) c.cells.ensures.region c.cells-2.ensures.region (found c.before) in
     let laws = c.coverages_decide_lists.ensures in
-    subst (IsPermutation (intersection c.args.first.now c.args.second.now)) (sym c.over.ensures) (intersection_list c.cells_form_trees.ensures laws.ancestors laws.reordered laws.compacted laws.reduced laws.decide c.args.first.now c.args.second.now (take c.write_shared-count.result c.write_shared-count.new.slots) c.cells.ensures.region.valid c.cells-2.ensures.region.valid region (λ x. both 15 x))
+    subst (IsPermutation (intersection c.args.first.now c.args.second.now)) (sym c.over.ensures) (intersection_list c.cells_form_trees.ensures laws.ancestors laws.another_order laws.decide c.args.first.now c.args.second.now (take c.write_shared-count.result c.write_shared-count.new.slots) c.cells.ensures.region.valid c.cells-2.ensures.region.valid region (λ x. both 15 x))
