@@ -28,10 +28,12 @@ fn siblings_at_front(cells: &[Cell], first: Cell, level: u8) -> usize
 {
     cells_form_trees();
     numbers_are_unique();
-    if first.resolution() != level {
+    let own = first.resolution();
+    // first the digit: of cells of several resolutions few have a 0 there, so a processor guesses it
+    if first.digit(level.min(15)) != 0 {
         return 0;
     }
-    if first.digit(level) != 0 {
+    if own != level {
         return 0;
     }
     let above = first.cut(level - 1);
