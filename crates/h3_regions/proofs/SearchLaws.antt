@@ -1,7 +1,7 @@
 -- The search for the cell of a region that stands above a cell.
 use Rattle.std.specs.Int.{from_bool}
 use Rattle.std.specs.List.Sorted.{IsNonDecreasingBy}
-use Rattle.std.proofs.Common.{ℕ, ◌≡◌, ◌+◌, ◌-◌, ◌^◌, ◌<◌, ◌≤◌, List, length, true, false, ◌*◌, nat_lt, nat_le, IsTrue, ◌↔◌, arith, ◌∙◌, sym, ap, subst, inl, inr, get_or}
+use Rattle.std.proofs.Common.{ℕ, ◌≡◌, ◌+◌, ◌-◌, ◌^◌, ◌<◌, ◌≤◌, ◌⊎◌, List, length, true, false, ◌*◌, nat_lt, nat_le, IsTrue, ◌↔◌, arith, ◌∙◌, sym, ap, subst, inl, inr, get_or}
 use Rattle.std.proofs.lemmas.Bool.{cases_lt}
 use Rattle.std.proofs.lemmas.Bool.Decides.{nat_tests}
 use Rattle.h3_index.specs.Cell.{Address, IsCell, resolution}
@@ -26,8 +26,18 @@ is_at_most m n h = grind (arith, nat_tests)
 at_most_is : (m n : ℕ) → m ≤ n → nat_le m n ≡ true
 at_most_is m n h = grind (arith, nat_tests)
 
+back_one : (i : ℕ) → i + 1 - 1 ≡ i
+back_one i = omega arith
+
 sub_one : (first h : ℕ) → first + h + 1 - 1 ≡ first + h
 sub_one first h = omega arith
+
+-- of the cells from a place on those before i are looked at, and first is past those with keys below k
+pub record IsCounted (cells : List Address) (k from i first : ℕ) : Type 0 where
+  pub low : from ≤ first
+  pub high : first ≤ i
+  pub below : AreBelow cells k first
+  pub after : (first ≡ i) ⊎ AreNotBelow cells k first
 
 module _ (cells : List Address) (region : IsZones cells) where
   -- the keys rise
@@ -89,6 +99,35 @@ module _ (cells : List Address) (region : IsZones cells) where
             let more = not_below_from k (first + h) a (omega (arith, not, ap key is)) in
             (omega (arith, end, room), rw at below, rw end (λ j d from lt. more j d (omega (arith, from, half)) lt))
       ]
+
+  -- one more is looked at
+  pub counted_more : (k from i first passed : ℕ) (a : Address) → i < length cells → a ≡ get_or cells i a → passed ≡ from_bool (nat_lt (key a) k) → IsCounted cells k from i first → IsCounted cells k from (i + 1) (first + passed)
+  counted_more k from i first passed a lt is p s =
+      elim (cases_lt (key a) k) [
+        | inl less ↦
+            let one : passed ≡ 1 = p ∙ ap from_bool (less_is (key a) k less) in
+            elim s.after [
+              | inl e ↦
+                  let at : first + passed ≡ i + 1 = omega (arith, one, e) in
+                  let more = below_from_last k (i + 1) a (omega arith) (omega (arith, lt)) (rw (back_one i) (omega (arith, less, ap key is))) in
+                  record { low = omega (arith, s.low); high = omega (arith, at); below = rw at more; after = inl at }
+              | inr after ↦
+                  let le = after i a s.high lt in
+                  absurd (omega (arith, le, less, ap key is))
+            ]
+        | inr not ↦
+            let none : passed ≡ 0 = p ∙ ap from_bool (less_is_not (key a) k not) in
+            let at : first + passed ≡ first = omega (arith, none) in
+            let after : AreNotBelow cells k first = elim s.after [
+              | inl e ↦ rw e (not_below_from k i a (omega (arith, not, ap key is)))
+              | inr h ↦ h
+            ] in
+            record { low = omega (arith, at, s.low); high = omega (arith, at, s.high); below = rw at s.below; after = inr (rw at after) }
+      ]
+
+  pub counted : (k from to first : ℕ) → to ≤ length cells → AreNotBelow cells k to → IsCounted cells k from to first → IsFirstPlace cells k first
+  counted k from to first room after s =
+      record { within = omega (arith, s.high, room); before = s.below; after = elim s.after [ inl e ↦ rw e after | inr h ↦ h ] }
 
   module _ (intervals : CellsFormIntervals) (x : Address) (valid : IsCell x) (i : ℕ) (split : IsFirstPlace cells (key x) i) where
     low : (j : ℕ) (d : Address) → j < i → key (get_or cells j d) < key x

@@ -51,6 +51,23 @@ pub(crate) fn first_between(cells: &[Cell], key: u64, from: usize, to: usize) ->
     }
 }
 
+/// As `first_between`, where the places are few: the cells there are counted whose keys are below the
+/// other, all of them, so that a processor has nothing to guess.
+fn first_of_few(cells: &[Cell], key: u64, from: usize, to: usize) -> usize
+    requires zones { IsZones cells.now }
+    requires before { AreBelow cells.now key from }
+    requires after { AreNotBelow cells.now key to }
+    requires in_order { from ≤ to }
+    requires within { to ≤ length cells.now }
+    ensures { IsFirstPlace cells.now key result }
+{
+    let mut first = from;
+    for i in from..to {
+        first += usize::from(post_order_key(cells[i]) < key);
+    }
+    first
+}
+
 /// Whether the cells before a place have keys below another.
 fn are_below(cells: &[Cell], key: u64, place: usize) -> bool
     requires zones { IsZones cells.now }
@@ -83,7 +100,7 @@ pub(crate) fn first_near(cells: &[Cell], key: u64, place: usize) -> usize
         if are_not_below(cells, key, from) {
             from
         } else {
-            first_between(cells, key, from, to)
+            first_of_few(cells, key, from, to)
         }
     } else {
         first_between(cells, key, 0, cells.len())
