@@ -51,6 +51,12 @@ static H3Error uncompacted(size_t *count) {
 
 static H3Error united(size_t *count) { return h3w_uniteCells(cells, 343, out, 343, count); }
 static H3Error intersected(size_t *count) { return h3w_intersectCells(cells, 343, cells + 49, 294, out, 343, count); }
+/* lists of two runs each, the second half before the first, which are merged */
+static H3Error merged(size_t *count) {
+    static H3Index turned[343];
+    memcpy(turned, cells + 171, 172 * sizeof *cells), memcpy(turned + 172, cells, 171 * sizeof *cells);
+    return h3w_intersectCells(turned, 343, turned, 343, out, 343, count);
+}
 /* six cells at each of ten resolutions, for which the slots grow */
 static H3Error subtracted(size_t *count) {
     static const H3Index finest[] = {0x8f2834700000000U};
@@ -156,6 +162,7 @@ int main(void) {
     expect(uncompacted, 343);
     expect(united, 1);
     expect(intersected, 6);
+    expect(merged, 1);
     expect(subtracted, 60);
     expect(prepared, 343);
     expect_lookups();
