@@ -3,7 +3,7 @@
 -- H3's digits, as its enumeration `Direction` names them: 0 is the centre, and 1 to 6 are the axes K, J, JK, I, IK and
 -- IJ. As Eisenstein integers these are the six units. One turn, 60 degrees counter-clockwise as H3's `_rotate60ccw`, is
 -- the product with 1 + w. It leaves the digit 0 as it is.
-use Rattle.std.specs.Prelude.{◌≡◌, ℕ, zero, suc, pos, negsuc, ◌==◌, List, [], ◌∷◌, map, Option, Some, None, if◌then◌else◌}
+use Rattle.std.specs.Prelude.{◌≡◌, ℕ, zero, suc, pos, negsuc, ◌==◌, List, [], ◌∷◌, map, Option, Some, None, if◌then◌else◌, option_map}
 use Rattle.h3_directions.specs.declared.direction.Direction.{Direction}
 use Rattle.h3_directions.specs.declared.direction.Direction.TheVariants.{K, J, JK, I, IK, IJ}
 use Rattle.h3_directions.specs.Eisenstein.{Eisenstein, eisenstein, one, product_of, zero_point}
@@ -80,13 +80,9 @@ abbrev pub digit_or_zero : Option Direction → ℕ
 digit_or_zero None = 0
 digit_or_zero (Some d) = digit_of d
 
-abbrev pub option_turned : ℕ → Option Direction → Option Direction
-option_turned n None = None
-option_turned n (Some d) = Some (turned n d)
-
 -- digit_turned n d: a digit turned n times
 abbrev pub digit_turned : ℕ → ℕ → ℕ
-digit_turned n digit = digit_or_zero (option_turned n (direction_of digit))
+digit_turned n digit = digit_or_zero (option_map (turned n) (direction_of digit))
 
 -- opposite d: the direction that leads back
 abbrev pub opposite : Direction → Direction

@@ -1,5 +1,5 @@
 -- Neighbors: the direction that leads to one, the way back, and cells that are refused.
-use Rattle.std.proofs.Common.{ℕ, ◌≡◌, ◌≢◌, ◌<◌, ◌+◌, ◌%◌, ◌==◌, List, [], ◌∷◌, length, map, Contains, Bool, true, false, not, ◌&&◌, ◌||◌, if◌then◌else◌, Option, Some, None, is_some, Result, Ok, Err, refl, arith, sym, ap, ◌∙◌, subst}
+use Rattle.std.proofs.Common.{ℕ, ◌≡◌, ◌≢◌, ◌<◌, ◌+◌, ◌%◌, ◌==◌, List, [], ◌∷◌, length, map, Contains, Bool, true, false, not, ◌&&◌, ◌||◌, if◌then◌else◌, Option, Some, None, option_map, is_some, Result, Ok, Err, refl, arith, sym, ap, ◌∙◌, subst}
 use Rattle.std.specs.List.{find}
 use Rattle.std.proofs.lemmas.List.{length-map}
 use Rattle.std.proofs.lemmas.Bool.Decides.{nat_tests}
@@ -14,7 +14,7 @@ use Rattle.h3_directions.specs.Direction.{digit_turned, directions, opposite, tu
 use Rattle.h3_lattice.specs.Links.{IsSound, Links}
 use Rattle.h3_lattice.specs.Moved.{IsSum}
 use Rattle.h3_grid.specs.Laws.{IsState, OverSoundLinks, StepsLeave, StepsDiffer}
-use Rattle.h3_grid.specs.Neighbors.{AreNeighbors, BothOrdersAgree, DirectionsAreFound, DirectionsDiffer, NeighborsAreFound, NeighborsAreMutual, NeighborsDiffer, are_neighbors, cell_reached, direction_to, is_same, is_some_same, neighbor, neighbor_refusal, pair_refusal}
+use Rattle.h3_grid.specs.Neighbors.{AreNeighbors, BothOrdersAgree, DirectionsAreFound, DirectionsDiffer, NeighborsAreFound, NeighborsAreMutual, NeighborsDiffer, are_neighbors, direction_to, is_same, is_some_same, neighbor, neighbor_refusal, pair_refusal}
 use Rattle.h3_grid.specs.Search.{step_of}
 use Rattle.h3_grid.specs.Steps.{Leads, State, led_to, state}
 use Rattle.h3_grid.proofs.BackLaws.{crossed_over}
@@ -159,13 +159,13 @@ pub step-neighbor : (link : Links) (x y : Address) (d : Direction) → neighbor 
 unfolding neighbor
 step-neighbor link x y d e = by_step (step_of link (state x 0) d) refl e
   where
-    by_step : (o : Option State) → step_of link (state x 0) d ≡ o → cell_reached o ≡ Some y → (r : ℕ) × (step_of link (state x 0) d ≡ Some (state y r))
+    by_step : (o : Option State) → step_of link (state x 0) d ≡ o → option_map (λ s. s.cell) o ≡ Some y → (r : ℕ) × (step_of link (state x 0) d ≡ Some (state y r))
     by_step None is e = cc
     by_step (Some s) is e = let same : s.cell ≡ y = cc in (s.rotation, is ∙ ap (λ c. Some (state c s.rotation)) same)
 
 pub neighbor-step : (link : Links) (x y : Address) (d : Direction) (r : ℕ) → step_of link (state x 0) d ≡ Some (state y r) → neighbor link x d ≡ Some y
 unfolding neighbor
-neighbor-step link x y d r e = ap cell_reached e
+neighbor-step link x y d r e = ap (λ (o : Option State). option_map (λ s. s.cell) o) e
 
 is_passes : (link : Links) (x y : Address) (d : Direction) → neighbor link x d ≡ Some y → is_some_same y (neighbor link x d) ≡ true
 is_passes link x y d e = ap (is_some_same y) e ∙ same_number y y refl

@@ -2,7 +2,7 @@
 --
 -- H3's directed edges: an edge leaves its origin in one of the six directions, and leads to the neighbor there, its
 -- destination.
-use Rattle.std.specs.Prelude.{◌≡◌, ◌↔◌, ◌<◌, List, map, Option, Some, None, Result, Ok, Err, AllPairs, Contains}
+use Rattle.std.specs.Prelude.{◌≡◌, ◌↔◌, ◌<◌, List, map, Option, Some, None, Result, Ok, Err, AllPairs, Contains, ok_or, option_and_then}
 use Rattle.std.specs.List.{filter}
 use Rattle.h3_index.specs.Cell.{Address}
 use Rattle.h3_index.specs.Edge.{DirectedEdge, IsEdge, directed_edge, has_edge}
@@ -41,17 +41,9 @@ edge_toward x (Some d) = Ok (directed_edge x (digit_of d))
 unfoldable pub edge_between : Links → Address → Address → Result DirectedEdge H3Error
 edge_between link x y = unless_refused (edge_refusal x y) (edge_toward x (direction_to link x y))
 
-abbrev pub neighbor_toward : Links → Address → Option Direction → Option Address
-neighbor_toward link x None = None
-neighbor_toward link x (Some d) = neighbor link x d
-
-abbrev pub or_pentagon : Option Address → Result Address H3Error
-or_pentagon None = Err Pentagon
-or_pentagon (Some y) = Ok y
-
 -- edge_destination link e: the cell to which an edge leads, or the error
 unfoldable pub edge_destination : Links → DirectedEdge → Result Address H3Error
-edge_destination link e = or_pentagon (neighbor_toward link e.origin (direction_of e.direction))
+edge_destination link e = ok_or (option_and_then (neighbor link e.origin) (direction_of e.direction)) Pentagon
 
 -- ---- the edges of a cell
 

@@ -3,7 +3,7 @@
 -- Two cells of one resolution are neighbors where a step leads from the one to the other, as H3's `areNeighborCells`
 -- has it outside pentagon base cells. Here no step starts or ends in a pentagon base cell, so a cell in one has no
 -- neighbors.
-use Rattle.std.specs.Prelude.{◌≡◌, ◌≢◌, ◌↔◌, ◌==◌, ◌&&◌, ◌||◌, Bool, true, false, not, if◌then◌else◌, Option, Some, None, is_some, Result, Ok, Err}
+use Rattle.std.specs.Prelude.{◌≡◌, ◌≢◌, ◌↔◌, ◌==◌, ◌&&◌, ◌||◌, Bool, true, false, not, if◌then◌else◌, Option, Some, None, is_some, Result, Ok, Err, option_map}
 use Rattle.std.specs.List.{find}
 use Rattle.h3_index.specs.Cell.{Address, IsCell, is_pentagon_base, number_of, resolution}
 use Rattle.h3_index.specs.declared.error.H3Error.{H3Error}
@@ -14,14 +14,9 @@ use Rattle.h3_lattice.specs.Links.{Links}
 use Rattle.h3_grid.specs.Search.{step_of}
 use Rattle.h3_grid.specs.Steps.{State, state}
 
--- the cell to which a step leads; none where it is refused
-abbrev pub cell_reached : Option State → Option Address
-cell_reached None = None
-cell_reached (Some s) = Some s.cell
-
 -- neighbor link x d: the cell of the step of x, with rotation 0, in the direction d; none where the step is refused
 unfoldable pub neighbor : Links → Address → Direction → Option Address
-neighbor link x d = cell_reached (step_of link (state x 0) d)
+neighbor link x d = option_map (λ s. s.cell) (step_of link (state x 0) d)
 
 -- AreNeighbors link x y: y is the neighbor of x in some direction
 pub record AreNeighbors (link : Links) (x y : Address) : Type 0 where

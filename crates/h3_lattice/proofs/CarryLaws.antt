@@ -1,5 +1,5 @@
 -- What a digit and a direction add up to, entry by entry.
-use Rattle.std.proofs.Common.{◌≡◌, refl, sym, ap, subst, arith, Option, Some, None}
+use Rattle.std.proofs.Common.{◌≡◌, refl, sym, ap, subst, arith, Option, Some, None, option_map}
 use Rattle.h3_directions.specs.declared.direction.Direction.{Direction}
 use Rattle.h3_directions.specs.declared.direction.Direction.TheVariants.{K, J, JK, I, IK, IJ}
 use Rattle.h3_lattice.specs.declared.class.Class.{Class}
@@ -7,7 +7,7 @@ use Rattle.h3_lattice.specs.declared.class.Class.TheVariants.{Two, Three}
 use Rattle.h3_directions.specs.Eisenstein.{Eisenstein, product_of, sum_of, zero_point}
 use Rattle.h3_directions.specs.Direction.{opposite, turned, turned_once, unit_of, value_of}
 use Rattle.h3_lattice.specs.Class.{multiplier}
-use Rattle.h3_lattice.specs.Laws.{option_opposite, Triangle, all_inside, z_across, x_across, y_across, all_across}
+use Rattle.h3_lattice.specs.Laws.{Triangle, all_inside, z_across, x_across, y_across, all_across}
 use Rattle.h3_lattice.proofs.LinearLaws.{points}
 
 -- the digit that is left, as a direction or the centre, and what is carried
@@ -139,9 +139,9 @@ closes_triangle : (c : Class) (x : Option Direction) (d : Direction) → ClosesT
 closes_triangle = at_entry ClosesTriangle (assumption (all_inside, z_across K, z_across J, z_across JK, z_across I, z_across IK, z_across IJ, x_across K, x_across J, x_across JK, x_across I, x_across IK, x_across IJ, y_across K, y_across J, y_across JK, y_across I, y_across IK, y_across IJ, all_across K, all_across J, all_across JK, all_across I, all_across IK, all_across IJ))
 
 abbrev IsUndone : Class → Option Direction → Direction → Type 0
-IsUndone c x d = carried c (carried c x d).0 (opposite d) ≡ (x, option_opposite (carried c x d).1)
+IsUndone c x d = carried c (carried c x d).0 (opposite d) ≡ (x, option_map opposite (carried c x d).1)
 
-carried-opposite : (c : Class) (x : Option Direction) (d : Direction) → carried c (carried c x d).0 (opposite d) ≡ (x, option_opposite (carried c x d).1)
+carried-opposite : (c : Class) (x : Option Direction) (d : Direction) → carried c (carried c x d).0 (opposite d) ≡ (x, option_map opposite (carried c x d).1)
 carried-opposite = at_entry IsUndone assumption
 
 z_outside : (u : Option Direction) → Triangle None u u
@@ -152,7 +152,7 @@ x_outside : (u : Option Direction) → Triangle u None u
 x_outside None = all_inside
 x_outside (Some e) = x_across e
 
-y_outside : (u : Option Direction) → Triangle u (option_opposite u) None
+y_outside : (u : Option Direction) → Triangle u (option_map opposite u) None
 y_outside None = all_inside
 y_outside (Some e) = y_across e
 

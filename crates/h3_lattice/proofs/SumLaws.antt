@@ -1,5 +1,5 @@
 -- Sums of a digit list and a direction: one sum, its reverse, its turns, and triangles.
-use Rattle.std.proofs.Common.{◌≡◌, ◌-◌, ◌<◌, ◌≤◌, ◌++◌, take, get_or, length-append, ℕ, zero, suc, ◌+◌, refl, arith, sym, ap, subst, ◌∙◌, Option, Some, None, List, [], ◌∷◌, length, map, drop, set}
+use Rattle.std.proofs.Common.{◌≡◌, ◌-◌, ◌<◌, ◌≤◌, ◌++◌, take, get_or, length-append, ℕ, zero, suc, ◌+◌, refl, arith, sym, ap, subst, ◌∙◌, Option, Some, None, List, [], ◌∷◌, length, map, drop, set, option_map}
 use Rattle.std.specs.Int.Digits.{AllBelowBase}
 use Rattle.std.proofs.Math.Seq.{take-suc}
 use Rattle.std.proofs.lemmas.List.{append_assoc, drop-set, length-map, length-take-le, set_split, take-set}
@@ -8,11 +8,11 @@ use Rattle.h3_directions.specs.declared.direction.Direction.TheVariants.{K, J, J
 use Rattle.h3_lattice.specs.declared.class.Class.{Class}
 use Rattle.h3_lattice.specs.declared.class.Class.TheVariants.{Two, Three}
 use Rattle.h3_directions.specs.Eisenstein.{Eisenstein, minus_one, product_of, sum_of, zero_point}
-use Rattle.h3_directions.specs.Direction.{digit_or_zero, digit_turned, digit_value, direction_of, opposite, option_turned, turned, turned_once, unit_of, value_of}
+use Rattle.h3_directions.specs.Direction.{digit_or_zero, digit_turned, digit_value, direction_of, opposite, turned, turned_once, unit_of, value_of}
 use Rattle.h3_lattice.specs.Class.{class_at, multiplier, IsCarry}
 use Rattle.h3_lattice.specs.Expansion.{multiplier_at, place, place_from, scaled}
 use Rattle.h3_lattice.specs.Moved.{IsSum}
-use Rattle.h3_lattice.specs.Laws.{option_opposite, SumsCloseTriangles, SumsExist, SumsReverse, SumsTurn, SumsAreUnique, Triangle, all_across}
+use Rattle.h3_lattice.specs.Laws.{SumsCloseTriangles, SumsExist, SumsReverse, SumsTurn, SumsAreUnique, Triangle, all_across}
 use Rattle.h3_lattice.proofs.LinearLaws.{points}
 use Rattle.h3_lattice.proofs.DivisionLaws.{one_division}
 use Rattle.h3_lattice.proofs.CarryLaws.{carries_triangle}
@@ -56,7 +56,7 @@ unit_of-opposite I = refl
 unit_of-opposite IK = refl
 unit_of-opposite IJ = refl
 
-value_of-opposite : (u : Option Direction) → value_of (option_opposite u) ≡ negated (value_of u)
+value_of-opposite : (u : Option Direction) → value_of (option_map opposite u) ≡ negated (value_of u)
 value_of-opposite None = refl
 value_of-opposite (Some d) = unit_of-opposite d
 
@@ -79,7 +79,7 @@ sums_reverse ds d u es a h = record {
   sum =
       ap (sum_of (place es)) (unit_of-opposite d)
       ∙ other_way (place ds) (unit_of d) (scaled 0 (length ds) (value_of u)) (place es) h.sum
-      ∙ ap (λ s. sum_of s (place ds)) (sym (scaled-negated 0 (length ds) (value_of u)) ∙ ap (scaled 0 (length ds)) (sym (value_of-opposite u)) ∙ ap (λ n. scaled 0 n (value_of (option_opposite u))) (sym h.long));
+      ∙ ap (λ s. sum_of s (place ds)) (sym (scaled-negated 0 (length ds) (value_of u)) ∙ ap (scaled 0 (length ds)) (sym (value_of-opposite u)) ∙ ap (λ n. scaled 0 n (value_of (option_map opposite u))) (sym h.long));
 }
 
 -- ---- its turns
@@ -92,7 +92,7 @@ unit_of-once I = refl
 unit_of-once IK = refl
 unit_of-once IJ = refl
 
-value_of-once : (u : Option Direction) → value_of (option_turned 1 u) ≡ once (value_of u)
+value_of-once : (u : Option Direction) → value_of (option_map (turned 1) u) ≡ once (value_of u)
 value_of-once None = refl
 value_of-once (Some d) = unit_of-once d
 
@@ -108,7 +108,7 @@ scaled-once n (suc k) z =
 once-sum : (x y : Eisenstein) → sum_of (once x) (once y) ≡ once (sum_of x y)
 once-sum x y = omega (arith, points)
 
-turned_sum : (ds : List ℕ) (d : Direction) (u : Option Direction) (es : List ℕ) → IsSum ds d u es → IsSum (map (digit_turned 1) ds) (turned 1 d) (option_turned 1 u) (map (digit_turned 1) es)
+turned_sum : (ds : List ℕ) (d : Direction) (u : Option Direction) (es : List ℕ) → IsSum ds d u es → IsSum (map (digit_turned 1) ds) (turned 1 d) (option_map (turned 1) u) (map (digit_turned 1) es)
 turned_sum ds d u es h = record {
   long = length-map es (digit_turned 1) ∙ h.long ∙ sym (length-map ds (digit_turned 1));
   digits = all_small-turned 1 es;
@@ -119,10 +119,10 @@ turned_sum ds d u es h = record {
       ∙ ap once h.sum
       ∙ sym (once-sum (scaled 0 (length ds) (value_of u)) (place es))
       ∙ ap (sum_of (once (scaled 0 (length ds) (value_of u)))) (sym (place-turned 1 es))
-      ∙ ap (λ s. sum_of s (place (map (digit_turned 1) es))) (sym (scaled-once 0 (length ds) (value_of u)) ∙ ap (scaled 0 (length ds)) (sym (value_of-once u)) ∙ ap (λ n. scaled 0 n (value_of (option_turned 1 u))) (sym (length-map ds (digit_turned 1))));
+      ∙ ap (λ s. sum_of s (place (map (digit_turned 1) es))) (sym (scaled-once 0 (length ds) (value_of u)) ∙ ap (scaled 0 (length ds)) (sym (value_of-once u)) ∙ ap (λ n. scaled 0 n (value_of (option_map (turned 1) u))) (sym (length-map ds (digit_turned 1))));
 }
 
-no_turns_sum : (ds : List ℕ) (d : Direction) (u : Option Direction) (es : List ℕ) → IsSum ds d u es → IsSum (map (digit_turned 0) ds) d (option_turned 0 u) (map (digit_turned 0) es)
+no_turns_sum : (ds : List ℕ) (d : Direction) (u : Option Direction) (es : List ℕ) → IsSum ds d u es → IsSum (map (digit_turned 0) ds) d (option_map (turned 0) u) (map (digit_turned 0) es)
 no_turns_sum ds d u es h = record {
   long = length-map es (digit_turned 0) ∙ h.long ∙ sym (length-map ds (digit_turned 0));
   digits = all_small-turned 0 es;
@@ -130,16 +130,16 @@ no_turns_sum ds d u es h = record {
       ap (λ p. sum_of p (unit_of d)) (place_from-no_turns 0 zero_point ds)
       ∙ h.sum
       ∙ ap (sum_of (scaled 0 (length ds) (value_of u))) (sym (place_from-no_turns 0 zero_point es))
-      ∙ ap (λ s. sum_of s (place (map (digit_turned 0) es))) (ap (λ w. scaled 0 (length ds) (value_of w)) (sym (option_turned-zero u)) ∙ ap (λ n. scaled 0 n (value_of (option_turned 0 u))) (sym (length-map ds (digit_turned 0))));
+      ∙ ap (λ s. sum_of s (place (map (digit_turned 0) es))) (ap (λ w. scaled 0 (length ds) (value_of w)) (sym (option_turned-zero u)) ∙ ap (λ n. scaled 0 n (value_of (option_map (turned 0) u))) (sym (length-map ds (digit_turned 0))));
 }
 
 pub sums_turn : SumsTurn
 sums_turn zero ds d u es h = no_turns_sum ds d u es h
 sums_turn (suc n) ds d u es h =
-    let once_more = turned_sum (map (digit_turned n) ds) (turned n d) (option_turned n u) (map (digit_turned n) es) (sums_turn n ds d u es h) in
+    let once_more = turned_sum (map (digit_turned n) ds) (turned n d) (option_map (turned n) u) (map (digit_turned n) es) (sums_turn n ds d u es h) in
     let same_out = subst (λ (w : Option Direction). IsSum (map (digit_turned 1) (map (digit_turned n) ds)) (turned (suc n) d) w (map (digit_turned 1) (map (digit_turned n) es))) (sym (option_turned-suc n u)) once_more in
-    let same_list = subst (λ (l : List ℕ). IsSum (map (digit_turned 1) (map (digit_turned n) ds)) (turned (suc n) d) (option_turned (suc n) u) l) (sym (map-turned-suc n es)) same_out in
-    subst (λ (l : List ℕ). IsSum l (turned (suc n) d) (option_turned (suc n) u) (map (digit_turned (suc n)) es)) (sym (map-turned-suc n ds)) same_list
+    let same_list = subst (λ (l : List ℕ). IsSum (map (digit_turned 1) (map (digit_turned n) ds)) (turned (suc n) d) (option_map (turned (suc n)) u) l) (sym (map-turned-suc n es)) same_out in
+    subst (λ (l : List ℕ). IsSum l (turned (suc n) d) (option_map (turned (suc n)) u) (map (digit_turned (suc n)) es)) (sym (map-turned-suc n ds)) same_list
 
 -- ---- triangles
 

@@ -1,5 +1,5 @@
 -- Turns of digits, and of the places of digit lists.
-use Rattle.std.proofs.Common.{◌≡◌, ℕ, zero, suc, ◌+◌, ◌*◌, ◌/◌, ◌%◌, ◌<◌, zero-add, suc-add, refl, arith, sym, ap, ◌∙◌, Option, Some, None, List, [], ◌∷◌, map, pos, ◌==◌, true, eqb-true, slice_index_or}
+use Rattle.std.proofs.Common.{◌≡◌, ℕ, zero, suc, ◌+◌, ◌*◌, ◌/◌, ◌%◌, ◌<◌, zero-add, suc-add, refl, arith, sym, ap, ◌∙◌, Option, Some, None, List, [], ◌∷◌, map, pos, ◌==◌, true, eqb-true, slice_index_or, option_map}
 use Rattle.std.specs.Int.Digits.{AllBelowBase}
 use Rattle.std.proofs.lemmas.Bool.{agree_below_at}
 use Rattle.h3_lattice.specs.declared.digits.TheConstants.{TURNED}
@@ -8,7 +8,7 @@ use Rattle.h3_directions.specs.declared.direction.Direction.TheVariants.{K, J, J
 use Rattle.h3_lattice.specs.declared.class.Class.{Class}
 use Rattle.h3_lattice.specs.declared.class.Class.TheVariants.{Two, Three}
 use Rattle.h3_directions.specs.Eisenstein.{Eisenstein, eisenstein, one, product_of, sum_of, zero_point}
-use Rattle.h3_directions.specs.Direction.{digit_or_zero, digit_turned, digit_value, direction_of, option_turned, turned, turned_once, turning, value_of, AreTurned}
+use Rattle.h3_directions.specs.Direction.{digit_or_zero, digit_turned, digit_value, direction_of, turned, turned_once, turning, value_of, AreTurned}
 use Rattle.h3_lattice.specs.Class.{class_at, multiplier}
 use Rattle.h3_lattice.specs.Expansion.{place_from, place}
 use Rattle.h3_lattice.specs.Laws.{DigitTurnsAdd, OppositesAreThreeTurns, SixDigitTurnsAreNone, SixTurnsAreNone, TurnsAdd}
@@ -18,13 +18,13 @@ use Rattle.h3_lattice.proofs.DivisionLaws.{digit_or_zero-direction_of, digit_or_
 times_zero : (p : Eisenstein) → zero_point ≡ product_of p zero_point
 times_zero p = omega (arith, points)
 
-value_of-turned : (n : ℕ) (x : Option Direction) → value_of (option_turned n x) ≡ product_of (turning n) (value_of x)
+value_of-turned : (n : ℕ) (x : Option Direction) → value_of (option_map (turned n) x) ≡ product_of (turning n) (value_of x)
 value_of-turned n None = times_zero (turning n)
 value_of-turned n (Some d) = unit_of-turned n d
 
 pub digit_value-turned : (n d : ℕ) → digit_value (digit_turned n d) ≡ product_of (turning n) (digit_value d)
 digit_value-turned n d =
-    ap value_of (direction_of-digit_or_zero (option_turned n (direction_of d))) ∙ value_of-turned n (direction_of d)
+    ap value_of (direction_of-digit_or_zero (option_map (turned n) (direction_of d))) ∙ value_of-turned n (direction_of d)
 
 pub are_turned : (n : ℕ) (ds : List ℕ) → AreTurned n ds (map (digit_turned n) ds)
 are_turned n [] = refl
@@ -35,7 +35,7 @@ are_turned n (d ∷ ds) =
 
 pub all_small-turned : (n : ℕ) (ds : List ℕ) → AllBelowBase 7 (map (digit_turned n) ds)
 all_small-turned n [] = tt
-all_small-turned n (d ∷ ds) = (digit_or_zero-lt (option_turned n (direction_of d)), all_small-turned n ds)
+all_small-turned n (d ∷ ds) = (digit_or_zero-lt (option_map (turned n) (direction_of d)), all_small-turned n ds)
 
 -- ---- places
 
@@ -54,13 +54,13 @@ place_from-turned_once n z (d ∷ ds) =
     ∙ ap (λ v. place_from (n + 1) v (map (digit_turned 1) ds)) (once_further c z (digit_value d))
     ∙ place_from-turned_once (n + 1) (sum_of (product_of (multiplier c) z) (digit_value d)) ds
 
-pub option_turned-suc : (n : ℕ) (x : Option Direction) → option_turned (suc n) x ≡ option_turned 1 (option_turned n x)
+pub option_turned-suc : (n : ℕ) (x : Option Direction) → option_map (turned (suc n)) x ≡ option_map (turned 1) (option_map (turned n) x)
 option_turned-suc n None = refl
 option_turned-suc n (Some d) = refl
 
 digit_turned-suc : (n d : ℕ) → digit_turned (suc n) d ≡ digit_turned 1 (digit_turned n d)
 digit_turned-suc n d =
-    ap digit_or_zero (option_turned-suc n (direction_of d) ∙ ap (option_turned 1) (sym (direction_of-digit_or_zero (option_turned n (direction_of d)))))
+    ap digit_or_zero (option_turned-suc n (direction_of d) ∙ ap (option_map (turned 1)) (sym (direction_of-digit_or_zero (option_map (turned n) (direction_of d)))))
 
 pub map-turned-suc : (n : ℕ) (ds : List ℕ) → map (digit_turned (suc n)) ds ≡ map (digit_turned 1) (map (digit_turned n) ds)
 map-turned-suc n [] = refl
@@ -69,7 +69,7 @@ map-turned-suc n (d ∷ ds) =
     let others = map-turned-suc n ds in
     cc
 
-pub option_turned-zero : (x : Option Direction) → option_turned 0 x ≡ x
+pub option_turned-zero : (x : Option Direction) → option_map (turned 0) x ≡ x
 option_turned-zero None = refl
 option_turned-zero (Some d) = refl
 
@@ -88,7 +88,7 @@ one_times z = omega (arith, points)
 
 digit_value-no_turns : (d : ℕ) → digit_value (digit_turned 0 d) ≡ digit_value d
 digit_value-no_turns d =
-    ap value_of (direction_of-digit_or_zero (option_turned 0 (direction_of d)) ∙ option_turned-zero (direction_of d))
+    ap value_of (direction_of-digit_or_zero (option_map (turned 0) (direction_of d)) ∙ option_turned-zero (direction_of d))
 
 pub place_from-no_turns : (n : ℕ) (z : Eisenstein) (ds : List ℕ) → place_from n z (map (digit_turned 0) ds) ≡ place_from n z ds
 place_from-no_turns n z [] = refl
@@ -141,11 +141,11 @@ opposites_are_three_turns I = refl
 opposites_are_three_turns IK = refl
 opposites_are_three_turns IJ = refl
 
-option_turned-add : (m n : ℕ) (x : Option Direction) → option_turned m (option_turned n x) ≡ option_turned (m + n) x
+option_turned-add : (m n : ℕ) (x : Option Direction) → option_map (turned m) (option_map (turned n) x) ≡ option_map (turned (m + n)) x
 option_turned-add m n None = refl
 option_turned-add m n (Some d) = ap (λ (e : Direction). Some e) (turns_add m n d)
 
-option_turned-mod : (n : ℕ) (x : Option Direction) → option_turned (n % 6) x ≡ option_turned n x
+option_turned-mod : (n : ℕ) (x : Option Direction) → option_map (turned (n % 6)) x ≡ option_map (turned n) x
 option_turned-mod n None = refl
 option_turned-mod n (Some d) = ap (λ (e : Direction). Some e) (six_turns_are_none n d)
 
@@ -153,7 +153,7 @@ pub digit_turns_add : DigitTurnsAdd
 digit_turns_add m n [] = refl
 digit_turns_add m n (d ∷ ds) =
     let first : digit_turned m (digit_turned n d) ≡ digit_turned (m + n) d =
-    ap digit_or_zero (ap (option_turned m) (direction_of-digit_or_zero (option_turned n (direction_of d))) ∙ option_turned-add m n (direction_of d)) in
+    ap digit_or_zero (ap (option_map (turned m)) (direction_of-digit_or_zero (option_map (turned n) (direction_of d))) ∙ option_turned-add m n (direction_of d)) in
     let others = digit_turns_add m n ds in
     cc
 

@@ -1,8 +1,8 @@
 -- Laws of turns, and of sums of a digit list and a direction.
-use Rattle.std.specs.Prelude.{◌≡◌, ℕ, ◌+◌, ◌%◌, List, map, Option, Some, None}
+use Rattle.std.specs.Prelude.{◌≡◌, ℕ, ◌+◌, ◌%◌, List, map, Option, Some, None, option_map}
 use Rattle.std.specs.Int.Digits.{AllBelowBase}
 use Rattle.h3_directions.specs.declared.direction.Direction.{Direction}
-use Rattle.h3_directions.specs.Direction.{digit_turned, opposite, option_turned, turned, turned_once}
+use Rattle.h3_directions.specs.Direction.{digit_turned, opposite, turned, turned_once}
 use Rattle.h3_lattice.specs.Moved.{IsSum}
 
 -- ---- turns
@@ -51,19 +51,15 @@ abbrev pub SumsAreUnique : Type 0
 SumsAreUnique =
     (ds : List ℕ) (d : Direction) (u v : Option Direction) (es fs : List ℕ) → IsSum ds d u es → IsSum ds d v fs → (u ≡ v) × (es ≡ fs)
 
-abbrev pub option_opposite : Option Direction → Option Direction
-option_opposite None = None
-option_opposite (Some d) = Some (opposite d)
-
 -- SumsReverse: the opposite direction leads back
 abbrev pub SumsReverse : Type 0
 SumsReverse =
-    (ds : List ℕ) (d : Direction) (u : Option Direction) (es : List ℕ) → AllBelowBase 7 ds → IsSum ds d u es → IsSum es (opposite d) (option_opposite u) ds
+    (ds : List ℕ) (d : Direction) (u : Option Direction) (es : List ℕ) → AllBelowBase 7 ds → IsSum ds d u es → IsSum es (opposite d) (option_map opposite u) ds
 
 -- SumsTurn: the sum of turned ones is the turned sum
 abbrev pub SumsTurn : Type 0
 SumsTurn =
-    (n : ℕ) (ds : List ℕ) (d : Direction) (u : Option Direction) (es : List ℕ) → IsSum ds d u es → IsSum (map (digit_turned n) ds) (turned n d) (option_turned n u) (map (digit_turned n) es)
+    (n : ℕ) (ds : List ℕ) (d : Direction) (u : Option Direction) (es : List ℕ) → IsSum ds d u es → IsSum (map (digit_turned n) ds) (turned n d) (option_map (turned n) u) (map (digit_turned n) es)
 
 -- which sides of a triangle x, y, z lie across which borders of x's and y's base cells: from x to y, from y to z and
 -- from x to z
