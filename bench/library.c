@@ -111,20 +111,35 @@ CALL(zones_of, h3w_cellsToZones(zones, ZONES, cells, N, out, N, &at))
 CALL(plain_zones_of, plain_cellsToZones(plain_ones, ZONES, cells, N, out))
 CALL(zones_of_sorted, h3w_cellsToZones(zones, ZONES, sorted, N, out, N, &at))
 CALL(plain_zones_of_sorted, plain_cellsToZones(plain_ones, ZONES, sorted, N, out))
+static uint32_t table[2 * ZONES];
+CALL(zones_by_table, h3w_cellsToZonesByTable(zones, ZONES, cells, N, table, 2 * ZONES, out, N, &at))
+CALL(zones_by_table_sorted, h3w_cellsToZonesByTable(zones, ZONES, sorted, N, table, 2 * ZONES, out, N, &at))
 
 /* The counts of both sides are in the orders of their zones: the number of those without a zone is compared. */
-static uint64_t counted(const H3Index *list, int plain) {
+enum how { PLAIN, NEAR, BY_TABLE };
+static uint64_t counted(const H3Index *list, enum how how) {
     static int64_t counts[ZONES];
     int64_t others = 0;
-    if (plain ? plain_countCellsInZones(plain_ones, ZONES, list, N, counts, &others)
-              : h3w_countCellsInZones(zones, ZONES, list, N, counts, ZONES, &others, &at))
-        exit(2);
+    H3Error error = E_SUCCESS;
+    switch (how) {
+        case PLAIN:
+            error = plain_countCellsInZones(plain_ones, ZONES, list, N, counts, &others);
+            break;
+        case NEAR:
+            error = h3w_countCellsInZones(zones, ZONES, list, N, counts, ZONES, &others, &at);
+            break;
+        case BY_TABLE:
+            error = h3w_countCellsInZonesByTable(zones, ZONES, list, N, table, 2 * ZONES, counts, ZONES, &others, &at);
+    }
+    if (error) exit(2);
     return (uint64_t)others;
 }
-CALL(count, counted(cells, 0))
-CALL(plain_count, counted(cells, 1))
-CALL(count_sorted, counted(sorted, 0))
-CALL(plain_count_sorted, counted(sorted, 1))
+CALL(count, counted(cells, NEAR))
+CALL(count_by_table, counted(cells, BY_TABLE))
+CALL(plain_count, counted(cells, PLAIN))
+CALL(count_sorted, counted(sorted, NEAR))
+CALL(count_by_table_sorted, counted(sorted, BY_TABLE))
+CALL(plain_count_sorted, counted(sorted, PLAIN))
 
 typedef H3Error (*Combine)(const H3Index *, size_t, const H3Index *, size_t, H3Index *, size_t, size_t *);
 static uint64_t combined(Combine combine) {
@@ -159,8 +174,14 @@ static const struct {
     {"subtractCells of two regions of a million cells, from C", subtract, plain_subtract, NULL},
     {"cellsToZones of 10000000 cells in 100000 zones, from C", zones_of, plain_zones_of, NULL},
     {"cellsToZones of 10000000 cells in 100000 zones, ascending, from C", zones_of_sorted, plain_zones_of_sorted, NULL},
+    {"cellsToZonesByTable of 10000000 cells in 100000 zones, from C", zones_by_table, plain_zones_of, NULL},
+    {"cellsToZonesByTable of 10000000 cells in 100000 zones, ascending, from C", zones_by_table_sorted,
+     plain_zones_of_sorted, NULL},
     {"countCellsInZones of 10000000 cells in 100000 zones, from C", count, plain_count, NULL},
     {"countCellsInZones of 10000000 cells in 100000 zones, ascending, from C", count_sorted, plain_count_sorted, NULL},
+    {"countCellsInZonesByTable of 10000000 cells in 100000 zones, from C", count_by_table, plain_count, NULL},
+    {"countCellsInZonesByTable of 10000000 cells in 100000 zones, ascending, from C", count_by_table_sorted,
+     plain_count_sorted, NULL},
 };
 
 static double now(void) {

@@ -275,6 +275,19 @@ H3Error h3w_areCoveredCells(const H3Index *zones, size_t zoneCount, const H3Inde
 H3Error h3w_countCellsInZones(const H3Index *zones, size_t zoneCount, const H3Index *cells, size_t n, int64_t *counts,
                               size_t room, int64_t *others, size_t *at);
 
+/* The same, by a table by which a cell is looked up in a few steps, however many the zones are: for many cells in no
+ * order, in many zones. It is written into `table`, memory that is lent for the call, of any size: two to four numbers
+ * for each zone serve well, and with fewer than two all zones are searched for each cell. What it holds afterwards is
+ * not said, also where an error is returned. To write it takes a pass over the zones, so it pays where there are a
+ * fourth as many cells or more. */
+H3Error h3w_cellsToZonesByTable(const H3Index *zones, size_t zoneCount, const H3Index *cells, size_t n, uint32_t *table,
+                                size_t tableRoom, H3Index *out, size_t room, size_t *at);
+H3Error h3w_areCoveredCellsByTable(const H3Index *zones, size_t zoneCount, const H3Index *cells, size_t n,
+                                   uint32_t *table, size_t tableRoom, int *out, size_t room, size_t *at);
+H3Error h3w_countCellsInZonesByTable(const H3Index *zones, size_t zoneCount, const H3Index *cells, size_t n,
+                                     uint32_t *table, size_t tableRoom, int64_t *counts, size_t room, int64_t *others,
+                                     size_t *at);
+
 /* ---- Columns: one call for n indexes. They are named as the plural commands of h3.
  *
  * Of each index the result is written at its place in `out`, and H3_NULL, or -1 where the results are no indexes, where

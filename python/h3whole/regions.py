@@ -22,15 +22,22 @@ _Region = TypeVar("_Region", bound="CellRegion[Any]")
 
 _of_two_lists = (_array, _size, _array, _size, _array, _size, ctypes.POINTER(_size))
 _over_zones = (_array, _size, _array, _size, _array, _size, ctypes.POINTER(_size))
+_by_table = (_array, _size, _array, _size, _array, _size, _array, _size, ctypes.POINTER(_size))
 _unite_cells = _library.number("uniteCells", _array, _size, _array, _size, ctypes.POINTER(_size))
 _intersect_cells = _library.number("intersectCells", *_of_two_lists)
 _subtract_cells = _library.number("subtractCells", *_of_two_lists)
 _zones = _library.number("zones", _array, _size, _array, _size)
-_cells_to_zones = _library.number("cellsToZones", *_over_zones)
-_are_covered_cells = _library.number("areCoveredCells", *_over_zones)
-_count_cells_in_zones = _library.number(
-    "countCellsInZones", _array, _size, _array, _size, _array, _size, ctypes.POINTER(_number), ctypes.POINTER(_size)
+_cells_to_zones = _library.number("cellsToZones", *_over_zones), _library.number("cellsToZonesByTable", *_by_table)
+_are_covered_cells = (
+    _library.number("areCoveredCells", *_over_zones),
+    _library.number("areCoveredCellsByTable", *_by_table),
 )
+_counted = (_array, _size, ctypes.POINTER(_number), ctypes.POINTER(_size))
+_count_cells_in_zones = (
+    _library.number("countCellsInZones", _array, _size, _array, _size, *_counted),
+    _library.number("countCellsInZonesByTable", _array, _size, _array, _size, _array, _size, *_counted),
+)
+_Lookup = Tuple[Callable[..., int], Callable[..., int]]
 
 # (the library wants an address for no cells too)
 _NOWHERE = array("Q", [0])
@@ -43,6 +50,15 @@ def _room(typecode: str, count: int) -> "array[int]":
 def _at(items: "array[int]") -> Tuple[int, int]:
     """The address of items, and how many they are."""
     return items.buffer_info()[0] if items else _NOWHERE.buffer_info()[0], len(items)
+
+
+def _look_up(functions: _Lookup, zones: "array[int]", address: int, count: int, *rest: Any) -> int:
+    """The error of a function over zones for so many cells: by a table where they are enough for it to pay."""
+    plain, by_table = functions
+    if count < 2 or count < len(zones) // 4:
+        return plain(*_at(zones), address, count, *rest)
+    table = array("I", bytes(4)) * (2 * len(zones))
+    return by_table(*_at(zones), address, count, *_at(table), *rest)
 
 
 def _is_column(cells: Any) -> bool:
@@ -167,12 +183,12 @@ class CellSet(Generic[_Cell]):
             self._order = order = _prepared(self._ascending())
         return order
 
-    def _fill(self, function: Callable[..., int], numbers: Any, typecode: str, missing: bool, is_truth: bool) -> Any:
+    def _fill(self, functions: _Lookup, numbers: Any, typecode: str, missing: bool, is_truth: bool) -> Any:
         """What a function over zones writes for a column."""
         zones = self._looked_up()
 
         def over_zones(*given: Any) -> int:
-            return function(*_at(zones), *given)
+            return _look_up(functions, zones, *given)
 
         return columns._fill(over_zones, numbers, typecode, missing, is_truth=is_truth)
 
@@ -309,9 +325,8 @@ class CellZones(CellSet[_Cell]):
     def _count(self, numbers: Any, missing: bool) -> "Counts[_Cell]":
         zones, counts, others, place = self._looked_up(), _room("q", len(self)), _number(), _size()
         with columns._Memory(numbers) as given:
-            number = _count_cells_in_zones(
-                *_at(zones), given.address, given.count, *_at(counts), ctypes.byref(others), ctypes.byref(place)
-            )
+            rest = (*_at(counts), ctypes.byref(others), ctypes.byref(place))
+            number = _look_up(_count_cells_in_zones, zones, given.address, given.count, *rest)
             if number and not missing:
                 raise error_of(number, given.named(place.value))
             kept = _cells_among(given) if number else None

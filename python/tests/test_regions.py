@@ -493,17 +493,21 @@ class Threads(unittest.TestCase):
             self.assertTrue(turns[own.place].wait(60))
             return order
 
-        def call_together(address, *more):
-            turns[own.place + 1].set()
-            called.wait()
-            gc.collect()
-            if address in freed:
-                read_freed.append(own.place)
-                return 0
-            return are_covered(address, *more)
+        def call_together(function):
+            def call(address, *more):
+                turns[own.place + 1].set()
+                called.wait()
+                gc.collect()
+                if address in freed:
+                    read_freed.append(own.place)
+                    return 0
+                return function(address, *more)
+
+            return call
 
         region, asked = h3whole.Region([CHILDREN[4], OTHER]), [CHILDREN[4], CELL, WITHIN, OTHER]
-        with mock.patch.multiple(regions, _prepared=prepare_together, _are_covered_cells=call_together):
+        calls = tuple(map(call_together, are_covered))
+        with mock.patch.multiple(regions, _prepared=prepare_together, _are_covered_cells=calls):
             with concurrent.futures.ThreadPoolExecutor(count) as threads:
                 found = list(threads.map(region.covers, [asked] * count))
         self.assertEqual(read_freed, [])

@@ -197,6 +197,29 @@ extern "C" {
         room: usize,
         at: &mut usize,
     ) -> u32;
+    fn h3w_cellsToZonesByTable(
+        zones: *const u64,
+        zone_count: usize,
+        cells: *const u64,
+        n: usize,
+        table: *mut u32,
+        table_room: usize,
+        out: *mut u64,
+        room: usize,
+        at: &mut usize,
+    ) -> u32;
+    fn h3w_countCellsInZonesByTable(
+        zones: *const u64,
+        zone_count: usize,
+        cells: *const u64,
+        n: usize,
+        table: *mut u32,
+        table_room: usize,
+        counts: *mut i64,
+        room: usize,
+        others: &mut i64,
+        at: &mut usize,
+    ) -> u32;
     fn h3w_countCellsInZones(
         zones: *const u64,
         zone_count: usize,
@@ -404,41 +427,73 @@ impl Order {
         &self.0
     }
 
+    /// Memory for a table by which so many cells are looked up; none where it would not pay, or
+    /// where there is no memory for it.
+    fn table_for(&self, count: usize) -> Vec<u32> {
+        let mut table = Vec::new();
+        let room = self.0.len().saturating_mul(2);
+        if count > 1 && count >= self.0.len() / 4 && table.try_reserve_exact(room).is_ok() {
+            table.resize(room, 0);
+        }
+        table
+    }
+
     /// Writes the zone of each cell at its place. `MemoryBounds` where `out` is shorter.
     pub(crate) fn zones_of(&self, cells: &[Cell], out: &mut [Option<Cell>]) -> Result<(), Error> {
-        let mut at = 0;
+        let (zones, zone_count) = (self.0.as_ptr().cast(), self.0.len());
+        let (numbers, n) = (cells.as_ptr().cast(), cells.len());
+        let (places, room) = (out.as_mut_ptr().cast(), out.len());
+        let (mut table, mut at) = (self.table_for(n), 0);
         // SAFETY: the zones are those of `h3w_zones`, all of them. A `Cell` is a number, each slice
         // is passed with its length, and `at` is one place. What is written is the index of a cell,
         // or 0, which is `None`: a `Cell` is a `NonZeroU64`.
         checked(unsafe {
-            h3w_cellsToZones(
-                self.0.as_ptr().cast(),
-                self.0.len(),
-                cells.as_ptr().cast(),
-                cells.len(),
-                out.as_mut_ptr().cast(),
-                out.len(),
-                &mut at,
-            )
+            if table.is_empty() {
+                h3w_cellsToZones(zones, zone_count, numbers, n, places, room, &mut at)
+            } else {
+                let (table, size) = (table.as_mut_ptr(), table.len());
+                h3w_cellsToZonesByTable(
+                    zones, zone_count, numbers, n, table, size, places, room, &mut at,
+                )
+            }
         })
     }
 
     /// Writes the count of each zone at its place, and returns how many cells have none.
     /// `MemoryBounds` where `counts` is shorter than the zones are many.
     pub(crate) fn count(&self, cells: &[Cell], counts: &mut [i64]) -> Result<i64, Error> {
-        let (mut others, mut at) = (0, 0);
+        let (zones, zone_count) = (self.0.as_ptr().cast(), self.0.len());
+        let (numbers, n) = (cells.as_ptr().cast(), cells.len());
+        let (places, room) = (counts.as_mut_ptr(), counts.len());
+        let (mut table, mut others, mut at) = (self.table_for(n), 0, 0);
         // SAFETY: as of `zones_of`; `others` is one place.
         checked(unsafe {
-            h3w_countCellsInZones(
-                self.0.as_ptr().cast(),
-                self.0.len(),
-                cells.as_ptr().cast(),
-                cells.len(),
-                counts.as_mut_ptr(),
-                counts.len(),
-                &mut others,
-                &mut at,
-            )
+            if table.is_empty() {
+                h3w_countCellsInZones(
+                    zones,
+                    zone_count,
+                    numbers,
+                    n,
+                    places,
+                    room,
+                    &mut others,
+                    &mut at,
+                )
+            } else {
+                let (table, size) = (table.as_mut_ptr(), table.len());
+                h3w_countCellsInZonesByTable(
+                    zones,
+                    zone_count,
+                    numbers,
+                    n,
+                    table,
+                    size,
+                    places,
+                    room,
+                    &mut others,
+                    &mut at,
+                )
+            }
         })?;
         Ok(others)
     }

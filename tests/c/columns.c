@@ -138,6 +138,19 @@ static H3Error zones_of(const H3Index *indexes, size_t n, int res, H3Index *out,
     (void)res;
     return h3w_cellsToZones(zones, zone_count, indexes, n, out, room, at);
 }
+/* tables of all sizes, in turn, that end where their memory does */
+static uint32_t tables[33];
+static size_t turn;
+static uint32_t *lent(size_t *size) {
+    *size = turn++ % (ROOM(tables) + 1);
+    return tables + ROOM(tables) - *size;
+}
+static H3Error zones_by_table(const H3Index *indexes, size_t n, int res, H3Index *out, size_t room, size_t *at) {
+    size_t size;
+    uint32_t *table = lent(&size);
+    (void)res;
+    return h3w_cellsToZonesByTable(zones, zone_count, indexes, n, table, size, out, room, at);
+}
 static int is_covered(H3Index cell) {
     H3Index zone = H3_NULL;
     return zone_of(cell, 0, &zone) == E_SUCCESS && zone != H3_NULL;
@@ -145,15 +158,21 @@ static int is_covered(H3Index cell) {
 static H3Error are_covered(const H3Index *indexes, size_t n, int *out, size_t room, size_t *at) {
     return h3w_areCoveredCells(zones, zone_count, indexes, n, out, room, at);
 }
+static H3Error are_covered_by_table(const H3Index *indexes, size_t n, int *out, size_t room, size_t *at) {
+    size_t size;
+    uint32_t *table = lent(&size);
+    return h3w_areCoveredCellsByTable(zones, zone_count, indexes, n, table, size, out, room, at);
+}
 
 /* The cells of the column. */
 static H3Index valid[N];
 static size_t valid_count;
 
-/* Counts are written where there is room for one of each zone and no error, and only then. */
-static void counted(const H3Index *indexes, size_t n, size_t room) {
+/* Counts are written where there is room for one of each zone and no error, and only then, with a table and without. */
+static void counted(const H3Index *indexes, size_t n, size_t room, int by_table) {
     int64_t counts[10], others = KEPT, wanted[10], none = 0;
-    size_t at = KEPT, place = 0, i, j;
+    size_t at = KEPT, place = 0, i, j, size;
+    uint32_t *table = lent(&size);
     H3Error error;
     for (i = 0; i < 10; i++) counts[i] = KEPT, wanted[i] = i < zone_count ? 0 : KEPT;
     for (i = 0; i < n; i++) {
@@ -164,7 +183,9 @@ static void counted(const H3Index *indexes, size_t n, size_t room) {
     }
     while (place < n && h3w_isValidCell(indexes[place])) place++;
     error = room < zone_count ? E_MEMORY_BOUNDS : place < n ? E_CELL_INVALID : E_SUCCESS;
-    CHECK(h3w_countCellsInZones(zones, zone_count, indexes, n, counts, room, &others, &at) == error);
+    CHECK((by_table
+               ? h3w_countCellsInZonesByTable(zones, zone_count, indexes, n, table, size, counts, room, &others, &at)
+               : h3w_countCellsInZones(zones, zone_count, indexes, n, counts, room, &others, &at)) == error);
     CHECK(at == (error == E_MEMORY_BOUNDS ? KEPT : place) && others == (error ? KEPT : none));
     for (i = 0; i < 10; i++) CHECK(counts[i] == (error ? KEPT : wanted[i]));
 }
@@ -206,9 +227,17 @@ int main(void) {
         cells(origins, origin, 0, lengths[i]);
         cells(zones_of, zone_of, 0, lengths[i]);
         numbers(are_covered, is_covered, of_cell, lengths[i]);
+        for (j = 0; j <= ROOM(tables); j++) {
+            cells(zones_by_table, zone_of, 0, lengths[i]);
+            numbers(are_covered_by_table, is_covered, of_cell, lengths[i]);
+        }
         for (j = zone_count - 1; j < zone_count + 2; j++) {
-            counted(column, lengths[i], j);
-            counted(valid, lengths[i] < valid_count ? lengths[i] : valid_count, j);
+            counted(column, lengths[i], j, 0);
+            counted(valid, lengths[i] < valid_count ? lengths[i] : valid_count, j, 0);
+        }
+        for (j = 0; j <= 2 * ROOM(tables); j++) {
+            counted(column, lengths[i], zone_count - 1 + j % 3, 1);
+            counted(valid, lengths[i] < valid_count ? lengths[i] : valid_count, zone_count - 1 + j % 3, 1);
         }
         for (j = 0; j < ROOM(no_resolutions); j++) no_resolution(no_resolutions[j], lengths[i]);
         for (j = 0; j < ROOM(resolutions); j++) {

@@ -131,6 +131,8 @@ static void expect_table(void) {
 static void expect_lookups(void) {
     static int truths[343];
     static int64_t counts[343];
+    static uint32_t table[686];
+    static H3Index zones[343];
     int64_t others = KEPT;
     size_t at = 0;
     CHECK(h3w_zones(cells, 343, out, 343) == E_SUCCESS && held == 0);
@@ -138,6 +140,12 @@ static void expect_lookups(void) {
     CHECK(h3w_areCoveredCells(out, 343, cells, 343, truths, 343, &at) == E_SUCCESS && truths[0] == 1);
     CHECK(h3w_countCellsInZones(out, 343, cells, 343, counts, 343, &others, &at) == E_SUCCESS && others == 0 &&
           counts[0] == 1 && counts[342] == 1);
+    CHECK(h3w_areCoveredCellsByTable(out, 343, cells, 343, table, 686, truths, 343, &at) == E_SUCCESS &&
+          truths[0] == 1);
+    CHECK(h3w_cellsToZonesByTable(out, 343, cells, 343, table, 686, zones, 343, &at) == E_SUCCESS &&
+          zones[342] == cells[342]);
+    CHECK(h3w_countCellsInZonesByTable(out, 343, cells, 343, table, 686, counts, 343, &others, &at) == E_SUCCESS &&
+          others == 0 && counts[0] == 1 && counts[342] == 1);
     CHECK(made == 0);
 }
 

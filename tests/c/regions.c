@@ -207,6 +207,21 @@ static size_t zone_of(const H3Index *zones, size_t n, H3Index cell) {
     return i;
 }
 
+/* The same answers by a table of a random size. */
+static void look_up_by_table(const H3Index *zones, size_t n, const H3Index *column, const H3Index *wanted,
+                             const int *wanted_truths, const int64_t *wanted_counts) {
+    static uint32_t table[4 * LIST];
+    static H3Index out[CELLS];
+    static int covered[CELLS];
+    int64_t counts[LIST + 1], others = 77;
+    size_t at = 77, size = below(4 * LIST + 1);
+    CHECK(!h3w_cellsToZonesByTable(zones, n, column, CELLS, table, size, out, CELLS, &at) && at == CELLS);
+    CHECK(!h3w_areCoveredCellsByTable(zones, n, column, CELLS, table, size, covered, CELLS, &at) && at == CELLS);
+    CHECK(!h3w_countCellsInZonesByTable(zones, n, column, CELLS, table, size, counts, n, &others, &at) && at == CELLS);
+    CHECK(!memcmp(out, wanted, sizeof out) && !memcmp(covered, wanted_truths, sizeof covered));
+    CHECK(!memcmp(counts, wanted_counts, n * sizeof *counts) && others == wanted_counts[n]);
+}
+
 /* All cells are looked up, and counted in two parts and in one, in random order. */
 static void look_up(const H3Index *zones, size_t n) {
     static H3Index column[CELLS], out[CELLS];
@@ -224,6 +239,7 @@ static void look_up(const H3Index *zones, size_t n) {
         wanted[zone]++;
     }
     CHECK(same == CELLS);
+    look_up_by_table(zones, n, column, out, covered, wanted);
     at = 77;
     CHECK(h3w_countCellsInZones(zones, n, column, CELLS, counts, n, &others, &at) == E_SUCCESS && at == CELLS);
     CHECK(memcmp(counts, wanted, n * sizeof *counts) == 0 && others == wanted[n] && counts[n] == 77);

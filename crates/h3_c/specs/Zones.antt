@@ -13,6 +13,8 @@ use Rattle.h3_c.specs.Columns.{first_code, first_place}
 use Rattle.h3_c.specs.Lists.{indexes, laid_over}
 use Rattle.h3_c.specs.Outcome.{code_of}
 use Rattle.h3_c.specs.Sets.{cells_in, for_cells}
+use Rattle.h3_c.specs.declared.zones.Lookup.{Lookup}
+use Rattle.h3_c.specs.declared.zones.Lookup.TheVariants.{Near, ByTable}
 
 -- ---- zones, prepared
 
@@ -34,6 +36,11 @@ pub record AreZonesOver (hs old new : List ℕ) : Type 0 where
   pub in_order : IsZones zones
   pub written : new ≡ laid_over (indexes zones) old
   pub read_again : cells_in (take (length hs) new) ≡ Some zones
+
+-- the zones in which cells are looked up; private contracts alone cite it
+abbrev pub zones_in : Lookup → List Address
+zones_in (Near zones) = zones
+zones_in (ByTable zones) = zones
 
 -- ---- the zones of cells
 

@@ -1,18 +1,18 @@
 //! Zones: cells of which no two overlap, prepared once in C's memory, the zones of columns of cells
 //! and their counts.
 
-ghost use Rattle.std.specs.Prelude.{◌≡◌, ◌≢◌, ◌≤◌, ◌⊎◌, ◌+◌, List, length, map, sum, take, replicate, negsuc, IsPermutation, Some, None};
+ghost use Rattle.std.specs.Prelude.{◌≡◌, ◌≢◌, ◌<◌, ◌≤◌, ◌⊎◌, ◌+◌, ◌-◌, ◌^◌, ◌++◌, ◌∷◌, [], List, length, map, sum, take, replicate, negsuc, IsPermutation, Some, None};
 ghost use Rattle.h3_index.specs.Cell.{Address};
 ghost use Rattle.h3_functions.specs.Hierarchy.{unless};
 ghost use Rattle.h3_set.specs.Coverage.{is_covered};
 ghost use Rattle.h3_set.specs.Refusals.{compaction_refusal};
 ghost use Rattle.h3_regions.specs.Counts.{AreCounts};
-ghost use Rattle.h3_regions.specs.Zones.{IsZones};
+ghost use Rattle.h3_regions.specs.Zones.{IsZones, zone_of};
 ghost use Rattle.h3_c.specs.Columns.{column_code, column_over, first_code, first_place, place_over};
 ghost use Rattle.h3_c.specs.Lists.{indexes, laid_over};
 ghost use Rattle.h3_c.specs.Outcome.{code_of, truth_of};
 ghost use Rattle.h3_c.specs.Sets.{cells_in};
-ghost use Rattle.h3_c.specs.Zones.{AreZonesOver, cell_to_zone, counts_code, counts_over, counts_place, is_covered_cell, judged, others_over, zones_code};
+ghost use Rattle.h3_c.specs.Zones.{AreZonesOver, cell_to_zone, counts_code, counts_over, counts_place, is_covered_cell, judged, others_over, zones_code, zones_in};
 
 use crate::column::{MEMORY_BOUNDS, NO_NUMBER, NULL, Question, fill};
 use crate::outcome::truth;
@@ -21,7 +21,7 @@ use h3_functions::cell_from;
 use h3_index::laws::numbers_are_read;
 use h3_index::{Cell, H3Error};
 use h3_regions::laws::zones_are_lawful;
-use h3_regions::{Zones, count_next, order_zones};
+use h3_regions::{ZoneIndex, Zones, count_next, count_next_indexed, order_zones};
 use std::alloc::Global;
 
 /// Puts the indexes of cells, in the order of zones, into the first slots. Returns 0, or the number
@@ -59,19 +59,61 @@ pub extern "C" fn h3w_zones(alloc: Global, cells: &[u64], zones: &mut [u64]) -> 
     put_zones(zones, &mut cells)
 }
 
+/// Zones in which cells are looked up: each from where the last one was found, or by a table.
+#[derive(Drop)]
+enum Lookup<'a> {
+    Near(Zones<'a>),
+    ByTable(ZoneIndex<'a>),
+}
+
+impl<'a> Lookup<'a> {
+    /// The zone of a cell, which may be looked for from a place on, as `Zones::zone_near` does.
+    #[inline(always)]
+    fn zone_of(&self, cell: Cell, place: &mut usize) -> Option<Cell>
+        ensures { result ≡ zone_of (zones_in self.now) cell }
+    {
+        match self {
+            Lookup::Near(zones) => zones.zone_near(cell, place),
+            Lookup::ByTable(index) => index.zone_of(cell),
+        }
+    }
+
+    /// Whether a cell has a zone.
+    #[inline(always)]
+    fn covers(&self, cell: Cell, place: &mut usize) -> bool
+        ensures { result ≡ is_covered (zones_in self.now) cell }
+    {
+        self.zone_of(cell, place).is_some()
+    }
+
+    /// Counts one cell more, as `count_next` of `h3_regions`.
+    #[inline(always)]
+    fn count_next(&self, cell: Cell, counts: &mut [u64], others: u64, place: &mut usize) -> u64
+        requires size { length counts.old ≡ length (zones_in self.now) }
+        requires few { sum counts.old + others < 2 ^ 64 - 1 }
+        ensures { (cells : List Address) → AreCounts (zones_in self.now) cells counts.old others
+            → AreCounts (zones_in self.now) (cells ++ cell ∷ []) counts.new result }
+    {
+        match self {
+            Lookup::Near(zones) => count_next(zones, cell, counts, others, place),
+            Lookup::ByTable(index) => count_next_indexed(index, cell, counts, others),
+        }
+    }
+}
+
 /// The zone of a cell, for each index of a column.
 #[derive(Drop)]
 struct ZonesOf<'a> {
-    zones: Zones<'a>,
+    zones: Lookup<'a>,
 }
 
 impl<'a> Question<u64> for ZonesOf<'a> {
-    ghost outcome = { λ q h. cell_to_zone q.zones h };
+    ghost outcome = { λ q h. cell_to_zone (zones_in q.zones) h };
 
     #[inline(always)]
     fn ask(&self, index: u64, place: &mut usize) -> Result<u64, H3Error> {
         let cell = cell_from(Some(index))?;
-        match self.zones.zone_near(cell, place) {
+        match self.zones.zone_of(cell, place) {
             Some(zone) => Ok(zone.raw()),
             None => Ok(NULL),
         }
@@ -95,32 +137,45 @@ pub extern "C" fn h3w_cellsToZones(
         ≡ place_over (map (λ h. cell_to_zone zones.now h) cells.now) (length out.old) at.old }
 {
     let question = ZonesOf {
-        zones: Zones::over(zones),
+        zones: Lookup::Near(Zones::over(zones)),
     };
     fill(&question, cells, NULL, out, at)
 }
 
-/// Whether the zones cover a cell: whether it has a zone, which is looked for from a place on.
-#[inline(always)]
-fn covers(zones: &Zones, cell: Cell, place: &mut usize) -> bool
-    ensures { result ≡ is_covered zones.now cell }
+/// `h3w_cellsToZones` by a table, which is written into memory that is lent.
+#[unsafe(no_mangle)]
+pub extern "C" fn h3w_cellsToZonesByTable(
+    zones: &[Cell],
+    cells: &[u64],
+    table: &mut [u32],
+    out: &mut [u64],
+    at: &mut usize,
+) -> u32
+    requires { IsZones zones.now }
+    ensures code { result
+        ≡ column_code (map (λ h. cell_to_zone zones.now h) cells.now) (length out.old) }
+    ensures values { out.new
+        ≡ column_over 0 (map (λ h. cell_to_zone zones.now h) cells.now) out.old }
+    ensures place { at.new
+        ≡ place_over (map (λ h. cell_to_zone zones.now h) cells.now) (length out.old) at.old }
 {
-    zones.zone_near(cell, place).is_some()
+    let zones = Lookup::ByTable(ZoneIndex::of(&Zones::over(zones), table));
+    fill(&ZonesOf { zones }, cells, NULL, out, at)
 }
 
 /// Whether the zones cover a cell, for each index of a column.
 #[derive(Drop)]
 struct CoveredBy<'a> {
-    zones: Zones<'a>,
+    zones: Lookup<'a>,
 }
 
 impl<'a> Question<i32> for CoveredBy<'a> {
-    ghost outcome = { λ q h. truth_of (is_covered_cell q.zones h) };
+    ghost outcome = { λ q h. truth_of (is_covered_cell (zones_in q.zones) h) };
 
     #[inline(always)]
     fn ask(&self, index: u64, place: &mut usize) -> Result<i32, H3Error> {
         let cell = cell_from(Some(index))?;
-        let is = covers(&self.zones, cell, place);
+        let is = self.zones.covers(cell, place);
         Ok(truth(is))
     }
 }
@@ -142,9 +197,30 @@ pub extern "C" fn h3w_areCoveredCells(
         (map (λ h. truth_of (is_covered_cell zones.now h)) cells.now) (length out.old) at.old }
 {
     let question = CoveredBy {
-        zones: Zones::over(zones),
+        zones: Lookup::Near(Zones::over(zones)),
     };
     fill(&question, cells, NO_NUMBER, out, at)
+}
+
+/// `h3w_areCoveredCells` by a table, which is written into memory that is lent.
+#[unsafe(no_mangle)]
+pub extern "C" fn h3w_areCoveredCellsByTable(
+    zones: &[Cell],
+    cells: &[u64],
+    table: &mut [u32],
+    out: &mut [i32],
+    at: &mut usize,
+) -> u32
+    requires { IsZones zones.now }
+    ensures code { result ≡ column_code
+        (map (λ h. truth_of (is_covered_cell zones.now h)) cells.now) (length out.old) }
+    ensures values { out.new ≡ column_over (negsuc 0)
+        (map (λ h. truth_of (is_covered_cell zones.now h)) cells.now) out.old }
+    ensures place { at.new ≡ place_over
+        (map (λ h. truth_of (is_covered_cell zones.now h)) cells.now) (length out.old) at.old }
+{
+    let zones = Lookup::ByTable(ZoneIndex::of(&Zones::over(zones), table));
+    fill(&CoveredBy { zones }, cells, NO_NUMBER, out, at)
 }
 
 /// Looks for the first index that is no cell's. Returns the number of its error, and puts its place
@@ -174,11 +250,11 @@ fn clear(counts: &mut [u64])
 }
 
 /// Counts the cells with these indexes by zones, and returns how many have none.
-fn count_all(zones: &Zones, indexes: &[u64], counts: &mut [u64]) -> u64
+fn count_all(zones: &Lookup, indexes: &[u64], counts: &mut [u64]) -> u64
     requires cells { cells_in indexes.now ≢ None }
-    requires size { length counts.old ≡ length zones.now }
+    requires size { length counts.old ≡ length (zones_in zones.now) }
     ensures { (cells : List Address) → cells_in indexes.now ≡ Some cells
-        → AreCounts zones.now cells counts.new result }
+        → AreCounts (zones_in zones.now) cells counts.new result }
 {
     zones_are_lawful();
     clear(counts);
@@ -186,11 +262,41 @@ fn count_all(zones: &Zones, indexes: &[u64], counts: &mut [u64]) -> u64
     let mut place: usize = 0;
     for index in indexes {
         match Cell::new(*index) {
-            Ok(cell) => others = count_next(zones, cell, counts, others, &mut place),
+            Ok(cell) => others = zones.count_next(cell, counts, others, &mut place),
             Err(_) => unreachable!(),
         }
     }
     others
+}
+
+/// How many of the cells have each zone, in the order of the zones, and how many have none, once all
+/// indexes are judged. Given is how many zones there are, too.
+#[inline(always)]
+fn count_judged(
+    zones: &Lookup,
+    size: usize,
+    cells: &[u64],
+    counts: &mut [u64],
+    others: &mut u64,
+    at: &mut usize,
+) -> u32
+    requires { size ≡ length (zones_in zones.now) }
+    ensures code { result ≡ counts_code (zones_in zones.now) cells.now (length counts.old) }
+    ensures counts { counts.new ≡ counts_over (zones_in zones.now) cells.now counts.old }
+    ensures others { others.new
+        ≡ others_over (zones_in zones.now) cells.now (length counts.old) others.old }
+    ensures place { at.new ≡ counts_place (zones_in zones.now) cells.now (length counts.old) at.old }
+    ensures cells { result ≡ 0 → cells_in cells.now ≢ None }
+    ensures all { result ≡ 0 → sum (take size counts.new) + others.new ≡ length cells.now }
+{
+    if counts.len() < size {
+        return MEMORY_BOUNDS;
+    }
+    let code = judge(cells, at);
+    if code == 0 {
+        *others = count_all(zones, cells, &mut counts[..size]);
+    }
+    code
 }
 
 /// How many of the cells have each zone, in the order of the zones, and how many have none, once all
@@ -213,12 +319,30 @@ pub extern "C" fn h3w_countCellsInZones(
     ensures all { result ≡ 0 →
         sum (take (length zones.now) counts.new) + others.new ≡ length cells.now }
 {
-    if counts.len() < zones.len() {
-        return MEMORY_BOUNDS;
-    }
-    let code = judge(cells, at);
-    if code == 0 {
-        *others = count_all(&Zones::over(zones), cells, &mut counts[..zones.len()]);
-    }
-    code
+    let lookup = Lookup::Near(Zones::over(zones));
+    count_judged(&lookup, zones.len(), cells, counts, others, at)
+}
+
+/// `h3w_countCellsInZones` by a table, which is written into memory that is lent.
+#[unsafe(no_mangle)]
+pub extern "C" fn h3w_countCellsInZonesByTable(
+    zones: &[Cell],
+    cells: &[u64],
+    table: &mut [u32],
+    counts: &mut [u64],
+    others: &mut u64,
+    at: &mut usize,
+) -> u32
+    requires { IsZones zones.now }
+    ensures code { result ≡ counts_code zones.now cells.now (length counts.old) }
+    ensures counts { counts.new ≡ counts_over zones.now cells.now counts.old }
+    ensures others { others.new
+        ≡ others_over zones.now cells.now (length counts.old) others.old }
+    ensures place { at.new ≡ counts_place zones.now cells.now (length counts.old) at.old }
+    ensures cells { result ≡ 0 → cells_in cells.now ≢ None }
+    ensures all { result ≡ 0 →
+        sum (take (length zones.now) counts.new) + others.new ≡ length cells.now }
+{
+    let lookup = Lookup::ByTable(ZoneIndex::of(&Zones::over(zones), table));
+    count_judged(&lookup, zones.len(), cells, counts, others, at)
 }

@@ -159,3 +159,21 @@ pub fn count_indexed(index: &ZoneIndex, cells: &[Cell], counts: &mut [u64]) -> u
     clear(&mut counts[..size]);
     count_each_indexed(index, cells, &mut counts[..size])
 }
+
+/// As `count_next`, over zones with a table: for cells in any order.
+pub fn count_next_indexed(index: &ZoneIndex, cell: Cell, counts: &mut [u64], outside: u64) -> u64
+    requires size { length counts.old ≡ length index.now }
+    requires few { sum counts.old + outside < 2 ^ 64 - 1 }
+    ensures next { (cells : List Address) → AreCounts index.now cells counts.old outside
+        → AreCounts index.now (cells ++ cell ∷ []) counts.new result }
+    ensures one { sum counts.new + result ≡ sum counts.old + outside + 1 }
+{
+    coverages_decide_lists();
+    match index.place_of(cell) {
+        Some(place) => {
+            counts[place] += 1;
+            outside
+        }
+        None => outside + 1,
+    }
+}

@@ -13,7 +13,7 @@ mod unions;
 mod zone_index;
 mod zones;
 
-pub use counting::{count, count_indexed, count_next, count_of};
+pub use counting::{count, count_indexed, count_next, count_next_indexed, count_of};
 pub use difference::subtract;
 pub use intersection::intersect;
 pub use joining::{join, join_indexed};
