@@ -1,5 +1,5 @@
 -- The command and the values that the words of a command line parse as.
-use Rattle.std.specs.Prelude.{All, Contains, ◌≡◌, ℕ, ℤ, pos, List, Option, Some, None, drop, slice_get, false, true, MatchBool}
+use Rattle.std.specs.Prelude.{⊤, All, Contains, ◌≡◌, ℕ, ℤ, List, [], ◌∷◌, Option, Some, None, drop, slice_get, false, true, MatchBool}
 use Rattle.std.specs.Str.Parse.{signed_digits_value}
 use Rattle.clap.specs.Words.{Accepts, Text, first_value}
 use Rattle.clap.specs.declared.parser.matches.Found.{Found}
@@ -9,9 +9,8 @@ use Rattle.h3_words.specs.Commands.{Index, Number, Value, has_option, name_of_co
 use Rattle.h3_words.specs.Given.{given}
 use Rattle.h3_words.specs.declared.options.CommandFile.{CommandFile}
 use Rattle.h3_words.specs.declared.options.CommandOption.{CommandOption}
-use Rattle.h3_words.specs.declared.options.CommandOption.TheVariants.{Cell, Resolution, Radius, To, Position, Edge, Table, Region, Zones}
+use Rattle.h3_words.specs.declared.options.CommandOption.TheVariants.{Table, Region, Zones}
 use Rattle.h3_words.specs.declared.commands.CommandName.{CommandName}
-use Rattle.h3_words.specs.declared.commands.Values.{Values}
 use Rattle.h3_words.specs.declared.words.Words.{Words}
 use Rattle.h3_requests.specs.declared.command.Command.{Command}
 
@@ -35,17 +34,22 @@ IsValue text (Number o value) = IsNumber o (text o) value
 abbrev pub HasValues : (CommandOption → Option Text) → Command → Type 0
 HasValues text c = All (IsValue text) (values_of_command c)
 
--- the value that is read for the option; none for the path of a file. Private contracts and proofs alone cite it.
-abbrev pub value_in : Values → CommandOption → Option Value
-value_in values Cell = Some (Index Cell values.cell)
-value_in values Resolution = Some (Number Resolution values.res)
-value_in values Radius = Some (Number Radius values.k)
-value_in values To = Some (Index To values.to)
-value_in values Position = Some (Number Position (pos values.position))
-value_in values Edge = Some (Index Edge values.edge)
-value_in values Table = None
-value_in values Region = None
-value_in values Zones = None
+-- what is read of what a parse found for the value's option, where the option's parser accepted it. Private contracts and
+-- proofs alone cite it.
+abbrev pub IsRead : Found → Value → Type 0
+IsRead found (Index o index) = (text : Text) → first_value found (id_of o) ≡ Some text → index ≡ parsed_index text
+IsRead found (Number o number) =
+    (text : Text) → first_value found (id_of o) ≡ Some text → Accepts false (parser_done o) text → number ≡ signed_digits_value 10 text
+
+-- the option that the value is for
+abbrev pub option_of : Value → CommandOption
+option_of (Index o index) = o
+option_of (Number o number) = o
+
+-- each value is read for an option that the command has. Private contracts and proofs alone cite it.
+abbrev pub AreRead : CommandName → Found → List Value → Type 0
+AreRead k found [] = ⊤
+AreRead k found (v ∷ vs) = (has_option k (option_of v) ≡ true) × IsRead found v × AreRead k found vs
 
 -- there is a text, and this is it
 abbrev pub IsText : Option Text → Option Text → Type 0

@@ -1,12 +1,13 @@
 //! The names of the commands, and the command line that `clap` parses.
 
-ghost use Rattle.std.specs.Prelude.{◌≡◌, Option, IfOk, find, false, filter_map, option_map, string_bytes};
+ghost use Rattle.std.specs.Prelude.{◌≡◌, Option, IfOk, find, false, option_map, pos, string_bytes};
 ghost use Rattle.std.specs.Str.{bytes_eq};
 ghost use Rattle.clap.specs.Words.{Text, app_of, found_of, shape_of};
 ghost use Rattle.clap.specs.declared.builder.command.Command.TheViews.{out-Command};
-ghost use Rattle.h3_words.specs.Commands.{app, command_names, has_option, name_of_command, options_of, shape_for, values_of_command, word_of};
-ghost use Rattle.h3_words.specs.Values.{AreFound, HasFile, HasPath, HasValues, value_in};
+ghost use Rattle.h3_words.specs.Commands.{Number, app, command_names, has_option, name_of_command, options_of, shape_for, values_of_command, word_of};
+ghost use Rattle.h3_words.specs.Values.{AreFound, AreRead, HasFile, HasPath, IsRead};
 ghost use Rattle.h3_words.specs.declared.options.CommandOption.{CommandOption};
+ghost use Rattle.h3_words.specs.declared.options.CommandOption.TheVariants.{Position, Radius, Resolution};
 
 use crate::help::HELP;
 use crate::options::CommandFile;
@@ -121,15 +122,11 @@ struct Entry {
     options: &'static [CommandOption],
 }
 
-/// What the options' texts parse as. An option that the command does not have has no text: its
-/// value here, `None` or 0, is not used.
-struct Values {
-    cell: Option<u64>,
-    to: Option<u64>,
-    edge: Option<u64>,
-    res: i32,
-    k: i32,
-    position: u64,
+// A command with the values of these options, each asked for by what has the name of its field.
+macro_rules! asked {
+    ($command:ident, $($field:ident),+) => {
+        Command::$command { $($field: $field()),+ }
+    };
 }
 
 impl CommandName {
@@ -353,68 +350,52 @@ impl CommandName {
     /// The command with the values that a parse found.
     pub(crate) fn command(self, matches: &ArgMatches<'_>) -> Command
         ensures named { name_of_command result ≡ self }
-        ensures values { (text : CommandOption → Option Text)
-            → AreFound self text (found_of matches.now) → HasValues text result }
+        ensures values { AreRead self (found_of matches.now) (values_of_command result) }
     {
-        self.with_values(Values {
-            cell: Cell.index(matches),
-            to: To.index(matches),
-            edge: Edge.index(matches),
-            res: Resolution.number(matches) as i32,
-            k: Radius.number(matches) as i32,
-            position: Position.number(matches) as u64,
-        })
-    }
-
-    /// The command with these values.
-    fn with_values(self, values: Values) -> Command
-        ensures named { name_of_command result ≡ self }
-        ensures values { values_of_command result ≡ filter_map (value_in values) (options_of self) }
-    {
-        let Values {
-            cell,
-            to,
-            edge,
-            res,
-            k,
-            position,
-        } = values;
+        let cell = || Cell.index(matches);
+        let to = || To.index(matches);
+        let edge = || Edge.index(matches);
+        let res = || -> i32
+            ensures { IsRead (found_of matches.entry.now) (Number Resolution result) }
+        { Resolution.number(matches) as i32 };
+        let k = || -> i32
+            ensures { IsRead (found_of matches.entry.now) (Number Radius result) }
+        { Radius.number(matches) as i32 };
+        let position = || -> u64
+            ensures { IsRead (found_of matches.entry.now) (Number Position (pos result)) }
+        { Position.number(matches) as u64 };
         match self {
-            CommandName::IsValidCell => Command::IsValidCell { cell },
-            CommandName::GetResolution => Command::GetResolution { cell },
-            CommandName::GetBaseCellNumber => Command::GetBaseCellNumber { cell },
-            CommandName::IsPentagon => Command::IsPentagon { cell },
-            CommandName::IsResClassIII => Command::IsResClassIII { cell },
-            CommandName::GetNumCells => Command::GetNumCells { res },
+            CommandName::IsValidCell => asked!(IsValidCell, cell),
+            CommandName::GetResolution => asked!(GetResolution, cell),
+            CommandName::GetBaseCellNumber => asked!(GetBaseCellNumber, cell),
+            CommandName::IsPentagon => asked!(IsPentagon, cell),
+            CommandName::IsResClassIII => asked!(IsResClassIII, cell),
+            CommandName::GetNumCells => asked!(GetNumCells, res),
             CommandName::GetRes0Cells => Command::GetRes0Cells,
-            CommandName::GetPentagons => Command::GetPentagons { res },
-            CommandName::CellToParent => Command::CellToParent { cell, res },
-            CommandName::CellToCenterChild => Command::CellToCenterChild { cell, res },
-            CommandName::CellToChildren => Command::CellToChildren { cell, res },
-            CommandName::CellToChildrenSize => Command::CellToChildrenSize { cell, res },
-            CommandName::CellToChildPos => Command::CellToChildPos { cell, res },
-            CommandName::ChildPosToCell => Command::ChildPosToCell {
-                position,
-                cell,
-                res,
-            },
+            CommandName::GetPentagons => asked!(GetPentagons, res),
+            CommandName::CellToParent => asked!(CellToParent, cell, res),
+            CommandName::CellToCenterChild => asked!(CellToCenterChild, cell, res),
+            CommandName::CellToChildren => asked!(CellToChildren, cell, res),
+            CommandName::CellToChildrenSize => asked!(CellToChildrenSize, cell, res),
+            CommandName::CellToChildPos => asked!(CellToChildPos, cell, res),
+            CommandName::ChildPosToCell => asked!(ChildPosToCell, position, cell, res),
             CommandName::CompactCells => Command::CompactCells,
-            CommandName::UncompactCells => Command::UncompactCells { res },
+            CommandName::UncompactCells => asked!(UncompactCells, res),
             CommandName::UniteCells => Command::UniteCells,
             CommandName::IntersectCells => Command::IntersectCells,
             CommandName::SubtractCells => Command::SubtractCells,
             CommandName::AreCoveredCells => Command::AreCoveredCells,
             CommandName::CellsToZones => Command::CellsToZones,
             CommandName::CountCellsInZones => Command::CountCellsInZones,
-            CommandName::GridDiskUnsafe => Command::GridDiskUnsafe { cell, k },
-            CommandName::GridDiskDistancesUnsafe => Command::GridDiskDistancesUnsafe { cell, k },
-            CommandName::GridRingUnsafe => Command::GridRingUnsafe { cell, k },
-            CommandName::AreNeighborCells => Command::AreNeighborCells { cell, to },
-            CommandName::CellsToDirectedEdge => Command::CellsToDirectedEdge { cell, to },
-            CommandName::IsValidDirectedEdge => Command::IsValidDirectedEdge { edge },
-            CommandName::GetDirectedEdgeOrigin => Command::GetDirectedEdgeOrigin { edge },
-            CommandName::GetDirectedEdgeDestination => Command::GetDirectedEdgeDestination { edge },
-            CommandName::OriginToDirectedEdges => Command::OriginToDirectedEdges { cell },
+            CommandName::GridDiskUnsafe => asked!(GridDiskUnsafe, cell, k),
+            CommandName::GridDiskDistancesUnsafe => asked!(GridDiskDistancesUnsafe, cell, k),
+            CommandName::GridRingUnsafe => asked!(GridRingUnsafe, cell, k),
+            CommandName::AreNeighborCells => asked!(AreNeighborCells, cell, to),
+            CommandName::CellsToDirectedEdge => asked!(CellsToDirectedEdge, cell, to),
+            CommandName::IsValidDirectedEdge => asked!(IsValidDirectedEdge, edge),
+            CommandName::GetDirectedEdgeOrigin => asked!(GetDirectedEdgeOrigin, edge),
+            CommandName::GetDirectedEdgeDestination => asked!(GetDirectedEdgeDestination, edge),
+            CommandName::OriginToDirectedEdges => asked!(OriginToDirectedEdges, cell),
             CommandName::AreValidCells => Command::ForEach(CellFunction::IsValidCell),
             CommandName::AreValidDirectedEdges => Command::ForEach(
                 CellFunction::IsValidDirectedEdge,
@@ -423,15 +404,17 @@ impl CommandName {
             CommandName::GetBaseCellNumbers => Command::ForEach(CellFunction::GetBaseCellNumber),
             CommandName::ArePentagons => Command::ForEach(CellFunction::IsPentagon),
             CommandName::AreResClassIII => Command::ForEach(CellFunction::IsResClassIII),
-            CommandName::CellsToParents => Command::ForEach(CellFunction::CellToParent { res }),
+            CommandName::CellsToParents => Command::ForEach(CellFunction::CellToParent {
+                res: res(),
+            }),
             CommandName::CellsToCenterChildren => Command::ForEach(CellFunction::CellToCenterChild {
-                res,
+                res: res(),
             }),
             CommandName::CellsToChildrenSizes => Command::ForEach(CellFunction::CellToChildrenSize {
-                res,
+                res: res(),
             }),
             CommandName::CellsToChildPositions => Command::ForEach(CellFunction::CellToChildPos {
-                res,
+                res: res(),
             }),
             CommandName::GetDirectedEdgeOrigins => Command::ForEach(
                 CellFunction::GetDirectedEdgeOrigin,

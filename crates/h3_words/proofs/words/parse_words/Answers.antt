@@ -6,6 +6,7 @@ use Rattle.h3_words.specs.Commands.{command_names, word_of}
 use Rattle.h3_words.proofs.Plain.{call_passes}
 use Rattle.h3_words.proofs.Names.{word_named}
 use Rattle.h3_words.proofs.Reading.{fault_reported, met, only_memory, passed, some_none, some_same, asks_for}
+use Rattle.h3_words.proofs.Values.{has_values}
 use Rattle.h3_words.proofs.words.parse_words.Goals as goal
 
 pub returns-in-Err-clause-faults : goal.returns-in-Err-clause-faults
@@ -25,7 +26,8 @@ pub returns-clause-read : goal.returns-clause-read
 returns-clause-read c =
     let m = met _ _ _ _ _ (found_of c.in-Some.inner.now) c.in_ok-parser.ensures (ap (map string_bytes) c.as_slice.ensures.value) c.in-Ok.ensures.kinds c.in-Ok.ensures.matches c.in-Some.ensures.name c.in-Some.ensures.rows in
     let same = some_same _ _ (sym (word_named m.0) ∙ sym (ap (λ n. find (λ k. bytes_eq (word_of k) n) command_names) m.3) ∙ sym c.named_by.ensures ∙ c.in-Some-named_by.is) in
-    asks_for (map string_bytes c.args.words.items) _ (found_of c.in-Some.inner.now) m same _ c.command.ensures.named c.command.ensures.values c.in_ok-file.ensures
+    asks_for (map string_bytes c.args.words.items) _ (found_of c.in-Some.inner.now) m same _ c.command.ensures.named
+    (has_values _ (found_of c.in-Some.inner.now) _ c.command.ensures.values) c.in_ok-file.ensures
 
 pub returns-clause-accepted : goal.returns-clause-accepted
 returns-clause-accepted c = passed _ _ _ c.in_ok-parser.ensures (ap (map string_bytes) c.as_slice.ensures.value) c.in-Ok.ensures.kinds
