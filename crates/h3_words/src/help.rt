@@ -66,83 +66,95 @@ pub(crate) const HELP: &str = "Inspect, traverse and compact H3 cells\n\n\
     The options, the errors and an example of a command: h3 COMMAND --help";
 
 // What the notes of several commands share, with the example of each: a macro, since `concat!`
-// takes literals alone.
+// takes literals alone. What is said before the errors comes first.
 macro_rules! notes {
-    (index, $example:literal) => {
-        concat!("Errors: 1 no index, 13 out of memory\nExample: ", $example)
+    (index $($first:literal)*, $example:literal) => {
+        notes!(errors $($first)*; "1 no index, ", $example)
     };
-    (cell, $example:literal) => {
-        concat!("Errors: 1 no index, 5 no cell, 13 out of memory\nExample: ", $example)
+    (cell $($first:literal)*, $example:literal) => {
+        notes!(errors $($first)*; "1 no index, 5 no cell, ", $example)
     };
-    (edge, $example:literal) => {
-        concat!("Errors: 1 no index, 6 no edge, 13 out of memory\nExample: ", $example)
+    (edge $($first:literal)*, $example:literal) => {
+        notes!(errors $($first)*; "1 no index, 6 no edge, ", $example)
     };
     (resolution, $example:literal) => {
-        concat!("Errors: 4 no resolution, 13 out of memory\nExample: ", $example)
+        notes!(errors; "4 no resolution, ", $example)
     };
-    (ancestor, $example:literal) => {
-        concat!(
-            "Errors: 1 no index, 5 no cell, 4 no resolution,\n\
-            12 a resolution finer than the cell's, 13 out of memory\n\
-            Example: ",
+    (ancestor $($first:literal)*, $example:literal) => {
+        notes!(
+            errors $($first)*;
+            "1 no index, 5 no cell, 4 no resolution,\n\
+            12 a resolution finer than the cell's, ",
             $example
         )
     };
-    (descendants, $example:literal) => {
-        concat!(
-            "Errors: 1 no index, 5 no cell, 4 no resolution from the cell's to 15,\n\
-            13 out of memory\n\
-            Example: ",
+    (descendants $($first:literal)*, $example:literal) => {
+        notes!(
+            errors $($first)*;
+            "1 no index, 5 no cell, 4 no resolution from the cell's to 15,\n",
             $example
         )
     };
     (overlaps, $example:literal) => {
         notes!(region "The cells of either may repeat and overlap.\n", $example)
     };
-    (region $lists:literal, $example:literal) => {
-        concat!(
-            $lists,
-            "An error of the list is told with its line, as line 2: error 5: E_CELL_INVALID,\n\
-            one of the file as region: line 2: error 5: E_CELL_INVALID. A file that cannot\n\
-            be opened is region: open, status 3; a read that fails is fault: read, status 4.\n\
-            Errors: 1 no index, 5 no cell, 13 out of memory\n\
-            Example: ",
+    (region $first:literal, $example:literal) => {
+        notes!(file $first, "region", "", "\n" " ", "", $example)
+    };
+    (zones $($first:literal)?, $example:literal) => {
+        notes!(
+            file $($first)? "The zone of a cell is the one that is the cell or its ancestor.\n",
+            "zones",
+            ", and zones that\noverlap are zones: error 10: E_DUPLICATE_INPUT",
+            " " "\n",
+            "10 zones that overlap, ",
             $example
         )
     };
-    (zones $($lines:literal)?, $example:literal) => {
-        concat!(
-            $($lines,)?
-            "The zone of a cell is the one that is the cell or its ancestor.\n\
-            An error of the list is told with its line, as line 2: error 5: E_CELL_INVALID,\n\
-            one of the file as zones: line 2: error 5: E_CELL_INVALID, and zones that\n\
-            overlap are zones: error 10: E_DUPLICATE_INPUT. A file that cannot be opened is\n\
-            zones: open, status 3; a read that fails is fault: read, status 4.\n\
-            Errors: 1 no index, 5 no cell, 10 zones that overlap, 13 out of memory\n\
-            Example: ",
+    // The line ends before "be opened is" or after it.
+    (
+        file $($first:literal)+,
+        $kind:literal,
+        $overlap:literal,
+        $before:literal $after:literal,
+        $errors:literal,
+        $example:literal
+    ) => {
+        notes!(
+            errors $($first)+
+            "An error of the list is told with its line, as line 2: error 5: E_CELL_INVALID,\n\
+            one of the file as " $kind ": line 2: error 5: E_CELL_INVALID" $overlap
+            ". A file that cannot" $before "be opened is" $after $kind
+            ": open, status 3; a read that fails is fault: read, status 4.\n";
+            "1 no index, 5 no cell, " $errors,
             $example
         )
     };
     (radius, $example:literal) => {
+        notes!(table; "1 no index, 5 no cell,\n", " ", $example)
+    };
+    (neighbors $errors:literal, $end:literal, $example:literal) => {
         notes!(
-            table "Errors: 1 no index, 5 no cell,\n\
-            9 a step that starts or ends in a pentagon base cell, 13 out of memory\n",
+            table "Error 1 or 5 is that of -c, if it has one, else that of --to.\n";
+            "1 no index, 5 no cell, 12 cells of two resolutions,\n" $errors,
+            $end,
             $example
         )
     };
-    (neighbors $errors:literal, $example:literal) => {
+    (table $($first:literal)?; $($errors:literal)+, $end:literal, $example:literal) => {
         notes!(
-            table "Error 1 or 5 is that of -c, if it has one, else that of --to.\n\
-            Errors: 1 no index, 5 no cell, 12 cells of two resolutions,\n" $errors,
-            $example
+            errors $($first)?;
+            $($errors)+ "9 a step that starts or ends in a pentagon base cell," $end,
+            $example "\nA table: h3-table baseCells.c -o h3.csv, of the file in H3's source"
         )
     };
-    (table $($errors:literal)+, $example:literal) => {
+    (errors $($first:literal)*; $($errors:literal)+, $($example:literal)+) => {
         concat!(
+            $($first,)*
+            "Errors: ",
             $($errors,)+
-            "Example: ",
-            $example,
-            "\nA table: h3-table baseCells.c -o h3.csv, of the file in H3's source"
+            "13 out of memory\nExample: ",
+            $($example),+
         )
     };
 }
@@ -231,8 +243,7 @@ impl CommandName {
             CommandName::IsPentagon => notes!(cell, "h3 isPentagon -c 85283473fffffff"),
             CommandName::IsResClassIII => notes!(cell, "h3 isResClassIII -c 85283473fffffff"),
             CommandName::GetNumCells => notes!(resolution, "h3 getNumCells -r 5"),
-            CommandName::GetRes0Cells => "Errors: 13 out of memory\n\
-                Example: h3 getRes0Cells",
+            CommandName::GetRes0Cells => notes!(errors; "", "h3 getRes0Cells"),
             CommandName::GetPentagons => notes!(resolution, "h3 getPentagons -r 5"),
             CommandName::CellToParent => notes!(
                 ancestor,
@@ -254,16 +265,23 @@ impl CommandName {
                 ancestor,
                 "h3 cellToChildPos -c 85283473fffffff -r 4"
             ),
-            CommandName::ChildPosToCell => "Errors: 1 no index, 5 no cell, 4 no resolution,\n\
-                12 a resolution coarser than the cell's, 2 no such position,\n\
-                13 out of memory\n\
-                Example: h3 childPosToCell --position 3 -c 85283473fffffff -r 6",
-            CommandName::CompactCells =>
-                "Errors: 1 no index, 5 no cell, 10 cells that overlap, 13 out of memory\n\
-                Example: h3 compactCells < cells",
-            CommandName::UncompactCells => "Errors: 1 no index, 5 no cell, 4 no resolution,\n\
-                12 a resolution coarser than a cell's, 13 out of memory\n\
-                Example: h3 uncompactCells -r 6 < cells",
+            CommandName::ChildPosToCell => notes!(
+                errors;
+                "1 no index, 5 no cell, 4 no resolution,\n\
+                12 a resolution coarser than the cell's, 2 no such position,\n",
+                "h3 childPosToCell --position 3 -c 85283473fffffff -r 6"
+            ),
+            CommandName::CompactCells => notes!(
+                errors;
+                "1 no index, 5 no cell, 10 cells that overlap, ",
+                "h3 compactCells < cells"
+            ),
+            CommandName::UncompactCells => notes!(
+                errors;
+                "1 no index, 5 no cell, 4 no resolution,\n\
+                12 a resolution coarser than a cell's, ",
+                "h3 uncompactCells -r 6 < cells"
+            ),
             CommandName::UniteCells => notes!(cell, "h3 uniteCells < cells"),
             CommandName::IntersectCells => notes!(
                 overlaps,
@@ -296,12 +314,13 @@ impl CommandName {
                 "h3 gridRingUnsafe -c 85283473fffffff -k 1 --table h3.csv"
             ),
             CommandName::AreNeighborCells => notes!(
-                neighbors "9 a step that starts or ends in a pentagon base cell, 13 out of memory\n",
+                neighbors "",
+                " ",
                 "h3 areNeighborCells -c 85283473fffffff --to 85283477fffffff --table h3.csv"
             ),
             CommandName::CellsToDirectedEdge => notes!(
-                neighbors "11 no neighbors, 9 a step that starts or ends in a pentagon base cell,\n\
-                13 out of memory\n",
+                neighbors "11 no neighbors, ",
+                "\n",
                 "h3 cellsToDirectedEdge -c 85283473fffffff --to 85283477fffffff --table h3.csv"
             ),
             CommandName::IsValidDirectedEdge => notes!(
@@ -313,8 +332,9 @@ impl CommandName {
                 "h3 getDirectedEdgeOrigin --edge 115283473fffffff"
             ),
             CommandName::GetDirectedEdgeDestination => notes!(
-                table "Errors: 1 no index, 6 no edge,\n\
-                9 a step that starts or ends in a pentagon base cell, 13 out of memory\n",
+                table;
+                "1 no index, 6 no edge,\n",
+                " ",
                 "h3 getDirectedEdgeDestination --edge 115283473fffffff --table h3.csv"
             ),
             CommandName::OriginToDirectedEdges => notes!(
