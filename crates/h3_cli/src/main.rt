@@ -3,7 +3,7 @@
 
 use h3_index::{H3Error, Sink, Source, Streamed};
 use h3_lines::{Refusal, report, write_all};
-use h3_program::{NamedFile, PageWriter, Retried, run_words};
+use h3_program::{NamedFile, Retried, run_words};
 use h3_requests::{CellFunction, Command};
 use h3_words::read_words;
 use std::alloc::Global;
@@ -79,7 +79,7 @@ fn start<S: Env + Files<File = File> + AllocGlobal, R: Source, W: Sink, E: Sink>
 
 fn main(rt: HostRuntime) -> ExitCode {
     let mut input = Streamed::new(Retried::new(rt.stdin()));
-    let mut out = Streamed::new(PageWriter::new(Retried::new(rt.stdout())));
+    let mut out = Streamed::new(Retried::new(rt.stdout()));
     let mut err = Streamed::new(Retried::new(rt.stderr()));
     // (a line that is said before the command runs is no part of what its errors are written to)
     let mut said = Streamed::new(Retried::new(rt.stderr()));

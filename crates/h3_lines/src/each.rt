@@ -38,7 +38,7 @@ pub trait IndexFunction {
         block: &mut [u8; BLOCK],
         at: usize,
     ) -> Result<usize, H3Error>
-        requires room { at + 672 ≤ 4096 }
+        requires room { at + 672 ≤ 32768 }
         ensures end { IfOk result (λ end. end ≤ at + 672) }
         ensures ok { IfOk result (λ end.
             Puts (answer_of self.now index) block.old block.new at end) }
@@ -55,7 +55,7 @@ pub fn put_result<L: Line + Drop>(
     block: &mut [u8; BLOCK],
     at: usize,
 ) -> Result<usize, H3Error>
-    requires room { at + 112 ≤ 4096 }
+    requires room { at + 112 ≤ 32768 }
     ensures end { IfOk result (λ end. end ≤ at + 112) }
     ensures ok { IfOk result (λ end.
         Puts (printed L.line_of value) block.old block.new at end) }
@@ -274,6 +274,8 @@ fn answer_lines<'a, 'f, R: Source, W: Sink, F: IndexFunction>(
 }
 
 /// The same to a sink.
+// Inlined, its block would take its place on the stack while the caller runs a writer.
+#[inline(never)]
 fn answer_pages<R: Source, W: Sink, F: IndexFunction>(
     function: &F,
     input: &mut R,

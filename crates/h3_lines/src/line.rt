@@ -9,8 +9,9 @@ use itoa::Buffer;
 /// The room that the lines of an item may take, their line feeds included.
 pub const ROOM: usize = 112;
 
-/// The bytes of a block, in which lines are put before they go out together.
-pub const BLOCK: usize = 4096;
+/// The bytes of a block, in which lines are put before they go out together. With twice as many the
+/// stack would have to grow, which fails where memory is short.
+pub const BLOCK: usize = 32768;
 
 /// What is written as a line, or as several.
 pub trait Line {
@@ -21,7 +22,7 @@ pub trait Line {
     /// them may change too. A cell's line is put faster where it is near to that of the cell before,
     /// which `lines` has put.
     fn put(&self, lines: &mut CellLines, block: &mut [u8; BLOCK], at: usize) -> usize
-        requires room { at + 112 ≤ 4096 }
+        requires room { at + 112 ≤ 32768 }
         ensures end { result ≤ at + 112 }
         ensures some { at < result }
         ensures line { take result block.new ≡ take at block.old ++ line_of self.now };

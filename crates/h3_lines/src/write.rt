@@ -44,6 +44,8 @@ pub fn write_answer<W: Sink>(out: &mut W, answer: &[u8]) -> Result<(), Refusal>
 /// Writes the line of a result's value and flushes, or returns the result's error.
 ///
 /// `Refusal::Write` where a push or the flush fails.
+// Inlined, its block would take its place on the stack while the caller runs another writer.
+#[inline(never)]
 pub fn write_result<W: Sink, L: Line + Drop>(
     out: &mut W,
     value: Result<L, H3Error>,
@@ -81,6 +83,8 @@ fn make_room<W: Sink>(out: &mut W, block: &[u8; BLOCK], end: usize) -> Result<us
 /// lines than a block has.
 ///
 /// `Refusal::Write` where a push or the flush fails.
+// not inlined, for its block
+#[inline(never)]
 pub fn write_lines<W: Sink, L: Line + Drop, I: Iterator<Item = L> + Drop>(
     out: &mut W,
     items: I,

@@ -1,4 +1,3 @@
 pub mod NamedFile
-pub mod PageWriter
 pub mod Program
 pub mod Retried

@@ -2,11 +2,9 @@
 #![tactic(auto)]
 
 mod file;
-mod page;
 mod program;
 mod retried;
 
 pub use file::{NamedFile, OpenFault, OpenFile};
-pub use page::PageWriter;
 pub use program::run_words;
 pub use retried::Retried;

@@ -19,8 +19,6 @@ mod help;
 #[cfg(test)]
 mod lists;
 #[cfg(test)]
-mod page;
-#[cfg(test)]
 mod plural_faults;
 #[cfg(test)]
 mod plural_flushes;

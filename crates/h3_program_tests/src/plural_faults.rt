@@ -138,7 +138,7 @@ fn nothing_is_read_after_a_write_fault(rt: HostRuntime) {
 }
 
 /// The same cell on `count` lines, and then a line that is refused.
-fn refused_after(count: usize) -> ArrayString<8192> {
+fn refused_after(count: usize) -> ArrayString<65536> {
     let mut list = ArrayString::new();
     for _ in 0..count {
         let _ = list.try_push_str("85283473fffffff\n");
@@ -150,7 +150,7 @@ fn refused_after(count: usize) -> ArrayString<8192> {
 /// Whether lines are flushed once before an error.
 fn flushes_once(alloc: Global, count: usize) -> bool {
     let list = refused_after(count);
-    let mut out: FaultySink<8192> = FaultySink::new(8192, NO_FAULT);
+    let mut out: FaultySink<65536> = FaultySink::new(65536, NO_FAULT);
     let mut err: FaultySink<64> = FaultySink::new(64, NO_FAULT);
     let status = for_each(PARENTS, &list, "").status(alloc, &mut out, &mut err);
     status == 1
@@ -163,7 +163,7 @@ fn flushes_once(alloc: Global, count: usize) -> bool {
 /// Whether a flush that fails before an error is a write fault.
 fn reports_a_flush_fault(alloc: Global, count: usize) -> bool {
     let list = refused_after(count);
-    let mut out: FaultySink<8192> = FaultySink::refusing_flush(8192);
+    let mut out: FaultySink<65536> = FaultySink::refusing_flush(65536);
     let mut err: FaultySink<64> = FaultySink::new(64, NO_FAULT);
     let status = for_each(PARENTS, &list, "").status(alloc, &mut out, &mut err);
     status == 4
@@ -172,9 +172,9 @@ fn reports_a_flush_fault(alloc: Global, count: usize) -> bool {
         && out.flushes() == 1
 }
 
-/// Numbers of lines. A block has room for the answers to 244 lines, and for more only once it is
-/// written.
-static COUNTS: [usize; 8] = [1, 2, 244, 245, 256, 257, 488, 489];
+/// Numbers of lines. A block has room for the answers to 2007 lines, and for more only once it is
+/// written, up to 4013.
+static COUNTS: [usize; 8] = [1, 2, 2007, 2008, 2048, 2049, 4013, 4014];
 
 #[test]
 fn lines_are_flushed_before_an_error(rt: HostRuntime) {

@@ -5,7 +5,7 @@ use arrayvec::ArrayVec;
 use h3_fakes::table_file;
 use h3_index::{Sink, Source, StreamFault, Streamed};
 use h3_lattice::vectors::TestTable;
-use h3_program::{OpenFault, OpenFile, PageWriter, run_words};
+use h3_program::{OpenFault, OpenFile, run_words};
 use std::alloc::Global;
 use std::io;
 use std::io::Write;
@@ -217,7 +217,7 @@ fn the_version_is_written_to_standard_output(rt: HostRuntime) {
 #[test]
 fn a_version_that_cannot_be_written_is_a_write_fault(rt: HostRuntime) {
     let mut file = MemoryFile::new("", "");
-    let mut out = Streamed::new(PageWriter::new(ArrayVec::<u8, 8>::new()));
+    let mut out = Streamed::new(ArrayVec::<u8, 8>::new());
     let mut err = Streamed::new(ArrayVec::<u8, 64>::new());
     let line = "h3 --version";
     let status = status_of(rt.alloc(), line, "", &mut file, &mut out, &mut err);
@@ -228,24 +228,11 @@ fn a_version_that_cannot_be_written_is_a_write_fault(rt: HostRuntime) {
 #[test]
 fn help_that_cannot_be_written_is_a_write_fault(rt: HostRuntime) {
     let mut file = MemoryFile::new("", "");
-    let mut out = Streamed::new(PageWriter::new(ArrayVec::<u8, 8>::new()));
+    let mut out = Streamed::new(ArrayVec::<u8, 8>::new());
     let mut err = Streamed::new(ArrayVec::<u8, 64>::new());
     let status = status_of(rt.alloc(), "h3 --help", "", &mut file, &mut out, &mut err);
     assert!(&rt; status == Some(4));
     assert!(&rt; err.into_inner().as_slice() == b"fault: write\n".as_slice());
-}
-
-#[test]
-fn a_list_reaches_what_is_behind_the_page(rt: HostRuntime) {
-    let line = "h3 uncompactCells -r 5";
-    let list = "85283473fffffff\n85283473fffffff\n";
-    let mut file = MemoryFile::new("", "");
-    let mut out = Vec::new(rt.alloc());
-    let mut page = Streamed::new(PageWriter::new(&mut out));
-    let mut err = Streamed::new(ArrayVec::<u8, 64>::new());
-    let status = status_of(rt.alloc(), line, list, &mut file, &mut page, &mut err);
-    assert!(&rt; status == Some(0));
-    assert!(&rt; out.as_slice() == list.as_bytes());
 }
 
 /// Whether a command line over a file at a path ends so.

@@ -2,7 +2,7 @@
 
 use crate::words::words_of;
 use h3_index::Streamed;
-use h3_program::{NamedFile, PageWriter, Retried, run_words};
+use h3_program::{NamedFile, Retried, run_words};
 use std::alloc::Global;
 use std::io;
 use std::io::{ErrorKind, Read, Write};
@@ -171,8 +171,7 @@ fn ends<R: AllocGlobal + Files>(rt: &R, line: &str, status: u8, output: &str, te
     let mut reported = Vec::new(rt.alloc());
     let mut input = Streamed::new(Retried::new(interrupted(LIST.as_bytes(), 3)));
     let mut file = NamedFile::new(rt);
-    let behind = Retried::new(interrupted(&mut written, 3));
-    let mut out = Streamed::new(PageWriter::new(behind));
+    let mut out = Streamed::new(Retried::new(interrupted(&mut written, 3)));
     let mut err = Streamed::new(Retried::new(interrupted(&mut reported, 3)));
     let alloc = rt.alloc();
     let ended = run_words(alloc, words, &mut input, &mut file, &mut out, &mut err);

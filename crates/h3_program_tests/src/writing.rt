@@ -29,22 +29,22 @@ fn have_numbers(bytes: &[u8], count: u64) -> bool {
 
 #[test]
 fn many_lines_go_out_by_blocks(rt: HostRuntime) {
-    // 10 * 2 + 90 * 3 + 900 * 4 + 1000 * 5 bytes, in blocks of at least 4065: two of them, the
-    // rest, and a flush
-    let mut out: FaultySink<8890> = FaultySink::new(65536, Faults::From(4));
-    assert!(&rt; write_lines(&mut out, 0..2000u64).is_ok());
-    assert!(&rt; out.bytes().len() == 8890 && have_numbers(out.bytes(), 2000));
-    let mut out: FaultySink<8890> = FaultySink::new(65536, Faults::From(3));
-    assert!(&rt; write_lines(&mut out, 0..2000u64) == Err(Refusal::Write));
+    // 10 * 2 + 90 * 3 + 900 * 4 + 9000 * 5 + 4000 * 6 bytes, in blocks of at least 32657: two of
+    // them, the rest, and a flush
+    let mut out: FaultySink<72890> = FaultySink::new(131072, Faults::From(4));
+    assert!(&rt; write_lines(&mut out, 0..14000u64).is_ok());
+    assert!(&rt; out.bytes().len() == 72890 && have_numbers(out.bytes(), 14000));
+    let mut out: FaultySink<72890> = FaultySink::new(131072, Faults::From(3));
+    assert!(&rt; write_lines(&mut out, 0..14000u64) == Err(Refusal::Write));
 }
 
 #[test]
 fn lines_go_out_while_there_is_room(rt: HostRuntime) {
-    // 10 * 2 + 90 * 3 + 900 * 4 + 222 * 5 bytes
-    let mut out: FaultySink<5000> = FaultySink::new(65536, Faults::From(4));
-    assert!(&rt; write_lines(&mut out, 0..2000u64) == Err(Refusal::Write));
-    assert!(&rt; out.bytes().len() == 5000);
-    assert!(&rt; out.bytes().starts_with(b"0\n1\n2\n") && out.bytes().ends_with(b"1221\n"));
+    // 10 * 2 + 90 * 3 + 900 * 4 + 7222 * 5 bytes
+    let mut out: FaultySink<40000> = FaultySink::new(65536, Faults::From(4));
+    assert!(&rt; write_lines(&mut out, 0..14000u64) == Err(Refusal::Write));
+    assert!(&rt; out.bytes().len() == 40000);
+    assert!(&rt; out.bytes().starts_with(b"0\n1\n2\n") && out.bytes().ends_with(b"8221\n"));
 }
 
 /// The cell of these walks.
@@ -87,7 +87,7 @@ fn are_lines(bytes: &[u8]) -> bool {
 }
 
 /// Whether a sink got this many bytes of lines of the cell by these calls, one of them a flush.
-fn has_lines(out: &FaultySink<4800>, length: usize, calls: u64) -> bool {
+fn has_lines(out: &FaultySink<33600>, length: usize, calls: u64) -> bool {
     out.bytes().len() == length
         && are_lines(out.bytes())
         && out.calls() == calls
@@ -96,26 +96,26 @@ fn has_lines(out: &FaultySink<4800>, length: usize, calls: u64) -> bool {
 
 #[test]
 fn a_walk_of_many_lines_goes_out_by_blocks(rt: HostRuntime) {
-    // 250 lines of 16 bytes fill a block: it goes out, then the other 50, and then comes a flush
-    let mut steps: [Result<Cell, H3Error>; 300] = [cell(); 300];
-    let mut out: FaultySink<4800> = FaultySink::new(65536, Faults::From(3));
+    // 2042 lines of 16 bytes fill a block: it goes out, then the other 58, and then comes a flush
+    let mut steps: [Result<Cell, H3Error>; 2100] = [cell(); 2100];
+    let mut out: FaultySink<33600> = FaultySink::new(65536, Faults::From(3));
     let written = write_walk(&mut out, steps.iter().copied());
-    assert!(&rt; written == Ok(()) && has_lines(&out, 4800, 3));
-    // an error after 299 lines
-    steps[299] = Err(H3Error::Pentagon);
-    let mut out: FaultySink<4800> = FaultySink::new(65536, Faults::From(3));
+    assert!(&rt; written == Ok(()) && has_lines(&out, 33600, 3));
+    // an error after 2099 lines
+    steps[2099] = Err(H3Error::Pentagon);
+    let mut out: FaultySink<33600> = FaultySink::new(65536, Faults::From(3));
     let written = write_walk(&mut out, steps.iter().copied());
-    assert!(&rt; written == Err(Refusal::Error(H3Error::Pentagon)) && has_lines(&out, 4784, 3));
+    assert!(&rt; written == Err(Refusal::Error(H3Error::Pentagon)) && has_lines(&out, 33584, 3));
 }
 
 /// The first push, the second one and the flush, each with the calls and the bytes up to it.
-static WRITE_FAULTS: [(u64, u64, usize); 3] = [(0, 1, 0), (1, 2, 4000), (2, 3, 4800)];
+static WRITE_FAULTS: [(u64, u64, usize); 3] = [(0, 1, 0), (1, 2, 32672), (2, 3, 33600)];
 
 #[test]
 fn a_walk_of_many_lines_ends_at_a_write_fault(rt: HostRuntime) {
-    let steps: [Result<Cell, H3Error>; 300] = [cell(); 300];
+    let steps: [Result<Cell, H3Error>; 2100] = [cell(); 2100];
     for (fault, calls, length) in &WRITE_FAULTS {
-        let mut out: FaultySink<4800> = FaultySink::new(65536, Faults::Once(*fault));
+        let mut out: FaultySink<33600> = FaultySink::new(65536, Faults::Once(*fault));
         let written = write_walk(&mut out, steps.iter().copied());
         let stopped = out.calls() == *calls && out.bytes().len() == *length;
         assert!(&rt; written == Err(Refusal::Write) && stopped, "call {fault}");
