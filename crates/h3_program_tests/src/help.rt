@@ -307,3 +307,19 @@ fn help_says_how_a_list_is_given(rt: HostRuntime) {
         assert!(&rt; help_says(rt.alloc(), line, said), "{line}");
     }
 }
+
+/// Lines that ask for help of a command that tells an error of a list with its line.
+static LINE_HELP: [&str; 4] = [
+    "h3 uniteCells --help",
+    "h3 areValidDirectedEdges --help",
+    "h3 cellsToParents --help",
+    "h3 originsToDirectedEdges --help",
+];
+
+#[test]
+fn help_says_that_an_error_of_a_list_is_told_with_its_line(rt: HostRuntime) {
+    let said = "as line 2: error 1: E_FAILED.\n";
+    for line in &LINE_HELP {
+        assert!(&rt; help_says(rt.alloc(), line, said), "{line}");
+    }
+}

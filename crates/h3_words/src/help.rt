@@ -95,6 +95,12 @@ macro_rules! notes {
             $example
         )
     };
+    (list $errors:ident, $example:literal) => {
+        notes!(
+            $errors "An error of the list is told with its line, as line 2: error 1: E_FAILED.\n",
+            $example
+        )
+    };
     (overlaps, $example:literal) => {
         notes!(region "The cells of either may repeat and overlap.\n", $example)
     };
@@ -282,7 +288,7 @@ impl CommandName {
                 12 a resolution coarser than a cell's, ",
                 "h3 uncompactCells -r 6 < cells"
             ),
-            CommandName::UniteCells => notes!(cell, "h3 uniteCells < cells"),
+            CommandName::UniteCells => notes!(list cell, "h3 uniteCells < cells"),
             CommandName::IntersectCells => notes!(
                 overlaps,
                 "h3 intersectCells --region region < cells"
@@ -341,31 +347,32 @@ impl CommandName {
                 cell,
                 "h3 originToDirectedEdges -c 85283473fffffff"
             ),
-            CommandName::AreValidCells => notes!(index, "h3 areValidCells < cells"),
-            CommandName::AreValidDirectedEdges => notes!(index, "h3 areValidDirectedEdges < edges"),
-            CommandName::GetResolutions => notes!(cell, "h3 getResolutions < cells"),
-            CommandName::GetBaseCellNumbers => notes!(cell, "h3 getBaseCellNumbers < cells"),
-            CommandName::ArePentagons => notes!(cell, "h3 arePentagons < cells"),
-            CommandName::AreResClassIII => notes!(cell, "h3 areResClassIII < cells"),
-            CommandName::CellsToParents => notes!(ancestor, "h3 cellsToParents -r 4 < cells"),
+            CommandName::AreValidCells => notes!(list index, "h3 areValidCells < cells"),
+            CommandName::AreValidDirectedEdges =>
+                notes!(list index, "h3 areValidDirectedEdges < edges"),
+            CommandName::GetResolutions => notes!(list cell, "h3 getResolutions < cells"),
+            CommandName::GetBaseCellNumbers => notes!(list cell, "h3 getBaseCellNumbers < cells"),
+            CommandName::ArePentagons => notes!(list cell, "h3 arePentagons < cells"),
+            CommandName::AreResClassIII => notes!(list cell, "h3 areResClassIII < cells"),
+            CommandName::CellsToParents => notes!(list ancestor, "h3 cellsToParents -r 4 < cells"),
             CommandName::CellsToCenterChildren => notes!(
-                descendants,
+                list descendants,
                 "h3 cellsToCenterChildren -r 6 < cells"
             ),
             CommandName::CellsToChildrenSizes => notes!(
-                descendants,
+                list descendants,
                 "h3 cellsToChildrenSizes -r 6 < cells"
             ),
             CommandName::CellsToChildPositions => notes!(
-                ancestor,
+                list ancestor,
                 "h3 cellsToChildPositions -r 4 < cells"
             ),
             CommandName::GetDirectedEdgeOrigins => notes!(
-                edge,
+                list edge,
                 "h3 getDirectedEdgeOrigins < edges"
             ),
             CommandName::OriginsToDirectedEdges => notes!(
-                cell,
+                list cell,
                 "h3 originsToDirectedEdges < cells"
             ),
         }
