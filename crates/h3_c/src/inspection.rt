@@ -3,6 +3,7 @@
 ghost use Rattle.std.specs.Prelude.{◌≡◌, pos, negsuc, Some, map, length};
 ghost use Rattle.h3_functions.specs.Inspection.{get_base_cell_number, get_resolution, is_pentagon, is_res_class_iii, is_valid_cell};
 ghost use Rattle.h3_c.specs.Columns.{column_code, column_over, place_over};
+ghost use Rattle.h3_c.specs.Inspection.{inspected};
 ghost use Rattle.h3_c.specs.Outcome.{int_of, truth_of, value_or};
 
 use crate::column::{NO_NUMBER, Question, fill};
@@ -10,24 +11,38 @@ use crate::outcome::truth;
 use h3_functions::{cell_from, is_pentagon, is_res_class_iii, is_valid_cell};
 use h3_index::H3Error;
 
-/// Whether an index is that of a cell.
-#[inline(always)]
-fn valid(index: u64) -> Result<i32, H3Error>
-    ensures { result ≡ truth_of (is_valid_cell (Some index)) }
-{
-    let is = is_valid_cell(Some(index))?;
-    Ok(truth(is))
+/// What an index says of its cell as an `int`.
+enum Inspection {
+    IsValidCell,
+    Resolution,
+    BaseCellNumber,
+    IsPentagon,
+    IsResClassIii,
 }
 
-/// Whether each index is that of a cell, for each index of a column.
-struct Validities;
+impl Inspection {
+    /// What it finds of an index.
+    #[inline(always)]
+    fn of(&self, index: u64) -> Result<i32, H3Error>
+        ensures { result ≡ inspected self.now index }
+    {
+        let index = Some(index);
+        match self {
+            Inspection::IsValidCell => Ok(truth(is_valid_cell(index)?)),
+            Inspection::Resolution => Ok(i32::from(cell_from(index)?.resolution())),
+            Inspection::BaseCellNumber => Ok(i32::from(cell_from(index)?.base_cell())),
+            Inspection::IsPentagon => Ok(truth(is_pentagon(index)?)),
+            Inspection::IsResClassIii => Ok(truth(is_res_class_iii(index)?)),
+        }
+    }
+}
 
-impl Question<i32> for Validities {
-    ghost outcome = { λ q h. truth_of (is_valid_cell (Some h)) };
+impl Question<i32> for Inspection {
+    ghost outcome = { λ q h. inspected q h };
 
     #[inline(always)]
     fn ask(&self, index: u64, _place: &mut usize) -> Result<i32, H3Error> {
-        valid(index)
+        self.of(index)
     }
 }
 
@@ -36,7 +51,7 @@ impl Question<i32> for Validities {
 pub extern "C" fn h3w_isValidCell(h: u64) -> i32
     ensures { result ≡ value_or (pos 0) (truth_of (is_valid_cell (Some h))) }
 {
-    valid(h).unwrap_or(0)
+    Inspection::IsValidCell.of(h).unwrap_or(0)
 }
 
 /// [`h3w_isValidCell`] of each index, with its errors.
@@ -50,28 +65,7 @@ pub extern "C" fn h3w_areValidCells(cells: &[u64], out: &mut [i32], at: &mut usi
         ≡ place_over (map (λ h. truth_of (is_valid_cell (Some h))) cells.now)
         (length out.old) at.old }
 {
-    fill(&Validities, cells, NO_NUMBER, out, at)
-}
-
-/// The resolution of a cell.
-#[inline(always)]
-fn resolution(index: u64) -> Result<i32, H3Error>
-    ensures { result ≡ int_of (get_resolution (Some index)) }
-{
-    let cell = cell_from(Some(index))?;
-    Ok(i32::from(cell.resolution()))
-}
-
-/// The resolution of a cell, for each index of a column.
-struct Resolutions;
-
-impl Question<i32> for Resolutions {
-    ghost outcome = { λ q h. int_of (get_resolution (Some h)) };
-
-    #[inline(always)]
-    fn ask(&self, index: u64, _place: &mut usize) -> Result<i32, H3Error> {
-        resolution(index)
-    }
+    fill(&Inspection::IsValidCell, cells, NO_NUMBER, out, at)
 }
 
 /// H3's `getResolution`; -1 where no cell has the index.
@@ -79,7 +73,7 @@ impl Question<i32> for Resolutions {
 pub extern "C" fn h3w_getResolution(h: u64) -> i32
     ensures { result ≡ value_or (negsuc 0) (int_of (get_resolution (Some h))) }
 {
-    resolution(h).unwrap_or(NO_NUMBER)
+    Inspection::Resolution.of(h).unwrap_or(NO_NUMBER)
 }
 
 /// [`h3w_getResolution`] of each index, with its errors.
@@ -93,28 +87,7 @@ pub extern "C" fn h3w_getResolutions(cells: &[u64], out: &mut [i32], at: &mut us
         ≡ place_over (map (λ h. int_of (get_resolution (Some h))) cells.now)
         (length out.old) at.old }
 {
-    fill(&Resolutions, cells, NO_NUMBER, out, at)
-}
-
-/// The base cell of a cell.
-#[inline(always)]
-fn base_cell(index: u64) -> Result<i32, H3Error>
-    ensures { result ≡ int_of (get_base_cell_number (Some index)) }
-{
-    let cell = cell_from(Some(index))?;
-    Ok(i32::from(cell.base_cell()))
-}
-
-/// The base cell of a cell, for each index of a column.
-struct BaseCellNumbers;
-
-impl Question<i32> for BaseCellNumbers {
-    ghost outcome = { λ q h. int_of (get_base_cell_number (Some h)) };
-
-    #[inline(always)]
-    fn ask(&self, index: u64, _place: &mut usize) -> Result<i32, H3Error> {
-        base_cell(index)
-    }
+    fill(&Inspection::Resolution, cells, NO_NUMBER, out, at)
 }
 
 /// H3's `getBaseCellNumber`; -1 where no cell has the index.
@@ -122,7 +95,7 @@ impl Question<i32> for BaseCellNumbers {
 pub extern "C" fn h3w_getBaseCellNumber(h: u64) -> i32
     ensures { result ≡ value_or (negsuc 0) (int_of (get_base_cell_number (Some h))) }
 {
-    base_cell(h).unwrap_or(NO_NUMBER)
+    Inspection::BaseCellNumber.of(h).unwrap_or(NO_NUMBER)
 }
 
 /// [`h3w_getBaseCellNumber`] of each index, with its errors.
@@ -138,28 +111,7 @@ pub extern "C" fn h3w_getBaseCellNumbers(cells: &[u64], out: &mut [i32], at: &mu
         ≡ place_over (map (λ h. int_of (get_base_cell_number (Some h))) cells.now)
         (length out.old) at.old }
 {
-    fill(&BaseCellNumbers, cells, NO_NUMBER, out, at)
-}
-
-/// Whether a cell is a pentagon.
-#[inline(always)]
-fn pentagon(index: u64) -> Result<i32, H3Error>
-    ensures { result ≡ truth_of (is_pentagon (Some index)) }
-{
-    let is = is_pentagon(Some(index))?;
-    Ok(truth(is))
-}
-
-/// Whether a cell is a pentagon, for each index of a column.
-struct Pentagons;
-
-impl Question<i32> for Pentagons {
-    ghost outcome = { λ q h. truth_of (is_pentagon (Some h)) };
-
-    #[inline(always)]
-    fn ask(&self, index: u64, _place: &mut usize) -> Result<i32, H3Error> {
-        pentagon(index)
-    }
+    fill(&Inspection::BaseCellNumber, cells, NO_NUMBER, out, at)
 }
 
 /// H3's `isPentagon`; 0 where no cell has the index.
@@ -167,7 +119,7 @@ impl Question<i32> for Pentagons {
 pub extern "C" fn h3w_isPentagon(h: u64) -> i32
     ensures { result ≡ value_or (pos 0) (truth_of (is_pentagon (Some h))) }
 {
-    pentagon(h).unwrap_or(0)
+    Inspection::IsPentagon.of(h).unwrap_or(0)
 }
 
 /// [`h3w_isPentagon`] of each index, with its errors.
@@ -181,28 +133,7 @@ pub extern "C" fn h3w_arePentagons(cells: &[u64], out: &mut [i32], at: &mut usiz
         ≡ place_over (map (λ h. truth_of (is_pentagon (Some h))) cells.now)
         (length out.old) at.old }
 {
-    fill(&Pentagons, cells, NO_NUMBER, out, at)
-}
-
-/// Whether the resolution of a cell is Class III.
-#[inline(always)]
-fn class_iii(index: u64) -> Result<i32, H3Error>
-    ensures { result ≡ truth_of (is_res_class_iii (Some index)) }
-{
-    let is = is_res_class_iii(Some(index))?;
-    Ok(truth(is))
-}
-
-/// Whether the resolution of a cell is Class III, for each index of a column.
-struct ClassesIii;
-
-impl Question<i32> for ClassesIii {
-    ghost outcome = { λ q h. truth_of (is_res_class_iii (Some h)) };
-
-    #[inline(always)]
-    fn ask(&self, index: u64, _place: &mut usize) -> Result<i32, H3Error> {
-        class_iii(index)
-    }
+    fill(&Inspection::IsPentagon, cells, NO_NUMBER, out, at)
 }
 
 /// H3's `isResClassIII`; 0 where no cell has the index.
@@ -210,7 +141,7 @@ impl Question<i32> for ClassesIii {
 pub extern "C" fn h3w_isResClassIII(h: u64) -> i32
     ensures { result ≡ value_or (pos 0) (truth_of (is_res_class_iii (Some h))) }
 {
-    class_iii(h).unwrap_or(0)
+    Inspection::IsResClassIii.of(h).unwrap_or(0)
 }
 
 /// [`h3w_isResClassIII`] of each index, with its errors.
@@ -225,5 +156,5 @@ pub extern "C" fn h3w_areResClassIII(cells: &[u64], out: &mut [i32], at: &mut us
         ≡ place_over (map (λ h. truth_of (is_res_class_iii (Some h))) cells.now)
         (length out.old) at.old }
 {
-    fill(&ClassesIii, cells, NO_NUMBER, out, at)
+    fill(&Inspection::IsResClassIii, cells, NO_NUMBER, out, at)
 }
