@@ -275,11 +275,12 @@ H3Error h3w_areCoveredCells(const H3Index *zones, size_t zoneCount, const H3Inde
 H3Error h3w_countCellsInZones(const H3Index *zones, size_t zoneCount, const H3Index *cells, size_t n, int64_t *counts,
                               size_t room, int64_t *others, size_t *at);
 
-/* The same, by a table by which a cell is looked up in a few steps, however many the zones are: for many cells in no
- * order, in many zones. It is written into `table`, memory that is lent for the call, of any size: two to four numbers
- * for each zone serve well, and with fewer than two all zones are searched for each cell. What it holds afterwards is
- * not said, also where an error is returned. To write it takes a pass over the zones, so it pays where there are a
- * fourth as many cells or more. */
+/* The same, by a table of the zones, for many cells in any order, in many zones: where the zones are spread evenly, a
+ * cell is looked up in a few steps, however many they are. It is written into `table`, memory that is lent for the
+ * call, of any size: room for two to four numbers for each zone serves well; with room for fewer than two in all, or
+ * with more than 2^32 - 1 zones, each cell is searched for as without a table. What it holds afterwards is not said,
+ * also where an error is returned. To write it takes a pass over the zones and over the table, so it pays where there
+ * are a fourth as many cells as zones, or more. */
 H3Error h3w_cellsToZonesByTable(const H3Index *zones, size_t zoneCount, const H3Index *cells, size_t n, uint32_t *table,
                                 size_t tableRoom, H3Index *out, size_t room, size_t *at);
 H3Error h3w_areCoveredCellsByTable(const H3Index *zones, size_t zoneCount, const H3Index *cells, size_t n,

@@ -57,7 +57,10 @@ def _look_up(functions: _Lookup, zones: "array[int]", address: int, count: int, 
     plain, by_table = functions
     if count < 2 or count < len(zones) // 4:
         return plain(*_at(zones), address, count, *rest)
-    table = array("I", bytes(4)) * (2 * len(zones))
+    try:
+        table = array("I", bytes(4)) * (2 * len(zones))
+    except MemoryError:
+        return plain(*_at(zones), address, count, *rest)
     return by_table(*_at(zones), address, count, *_at(table), *rest)
 
 

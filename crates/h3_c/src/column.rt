@@ -35,7 +35,8 @@ pub(crate) trait Question<T> {
 /// error. Returns whether there is none.
 ///
 /// It goes on after an error without a branch, so that the compiler can ask of several at once.
-/// Errors are counted: a `bool` that is false stays so, and a loop that knows that is divided.
+/// Errors are counted: of a `bool` that stays false the compiler would make two loops, one for before
+/// and one for after, with a branch.
 #[inline(always)]
 fn fill_values<T: Copy, Q: Question<T>>(
     question: &Q,

@@ -83,7 +83,7 @@ fn make_room<W: Sink>(out: &mut W, block: &[u8; BLOCK], end: usize) -> Result<us
 /// lines than a block has.
 ///
 /// `Refusal::Write` where a push or the flush fails.
-// not inlined, for its block
+// Inlined, its block would take its place on the stack while the caller runs another writer.
 #[inline(never)]
 pub fn write_lines<W: Sink, L: Line + Drop, I: Iterator<Item = L> + Drop>(
     out: &mut W,
@@ -121,6 +121,7 @@ fn write_refused<W: Sink>(out: &mut W, bytes: &[u8], error: H3Error) -> Result<(
 /// end, and before an error only where a line was written.
 ///
 /// `Refusal::Write` where a push or the flush fails.
+// (may be inlined: a step takes fewer instructions so, and no caller runs another writer meanwhile)
 pub fn write_walk<W: Sink, L: Line + Drop, I: Iterator<Item = Result<L, H3Error>> + Drop>(
     out: &mut W,
     walk: I,

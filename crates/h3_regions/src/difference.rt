@@ -27,8 +27,8 @@ fn lowest_key(cell: Cell) -> u64
 }
 
 /// Whether a region covers a cell, where the first place whose cell's key is not below the lowest one
-/// below the cell is given: what covers the cell stands there, since nothing else of a region is
-/// below that.
+/// below the cell is given: what covers the cell stands there, since no other cell of the region is
+/// below the one that covers it.
 fn is_covered(cells: &[Cell], cell: Cell, first: usize) -> bool
     requires region { IsRegion cells.now }
     requires first { IsFirstPlace cells.now (lowest_key cell) first }

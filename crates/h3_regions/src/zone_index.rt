@@ -89,9 +89,9 @@ fn first_by_table(cells: &[Cell], firsts: &[u32], lowest: u64, shift: u32, key: 
     }
 }
 
-/// Zones with a table of first places, which makes looking a cell up a matter of a few steps, however
-/// many zones there are: the keys of the zones are divided into parts of one size, and the table has
-/// the first zone of each part, so that only those of the cell's part are searched. Both stand in
+/// Zones with a table of first places: the keys of the zones are divided into parts of one size, and
+/// the table has the first zone of each part, so that only those of the cell's part are searched.
+/// Where the zones are spread evenly, these are a few, however many zones there are. Both stand in
 /// memory that is borrowed. Contracts see the list of the zones.
 #[derive(Debug, Drop)]
 pub struct ZoneIndex<'a> {

@@ -68,7 +68,7 @@ abbrev pub ReducedListsAreCompacted : Type 0
 ReducedListsAreCompacted =
     (cells : List Address) → All IsCell cells → IsApart cells → ((p : Address) → ¬ HasChildren (Contains cells) p) → (x : Address) → Contains cells x ↔ Contains (compacted cells) x
 
--- ReducedListsAreReordered: such cells are their compacted list, in another order
+-- ReducedListsAreReordered: such cells are those of their compacted list, in some order
 abbrev pub ReducedListsAreReordered : Type 0
 ReducedListsAreReordered =
     (cells : List Address) → All IsCell cells → IsApart cells → ((p : Address) → ¬ HasChildren (Contains cells) p) → IsPermutation (compacted cells) cells
