@@ -328,7 +328,7 @@ class CellZones(CellSet[_Cell]):
     def _count(self, numbers: Any, missing: bool) -> "Counts[_Cell]":
         zones, counts, others, place = self._looked_up(), _room("q", len(self)), _number(), _size()
         with columns._Memory(numbers) as given:
-            rest = (*_at(counts), ctypes.byref(others), ctypes.byref(place))
+            rest = _at(counts) + (ctypes.byref(others), ctypes.byref(place))
             number = _look_up(_count_cells_in_zones, zones, given.address, given.count, *rest)
             if number and not missing:
                 raise error_of(number, given.named(place.value))
