@@ -10,7 +10,7 @@ pub mod DigitsLaws
 pub mod DigitTestLaws
 pub mod EdgeLaws
 pub mod EdgeOrderLaws
-pub mod GatherLaws
+pub mod LaneLaws
 pub mod MoveLaws
 pub mod OrderLaws
 pub mod PathLaws

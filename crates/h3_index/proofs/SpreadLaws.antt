@@ -5,7 +5,7 @@ use Rattle.std.specs.Int.{w64, to_be_bytes, from_be_bytes}
 use Rattle.std.specs.Int.Digits.{number_from_digits, AllBelowBase}
 use Rattle.std.specs.Str.{IsAscii}
 use Rattle.std.proofs.Common.{ℕ, zero, suc, ◌≡◌, ◌+◌, ◌-◌, ◌*◌, ◌/◌, ◌%◌, ◌^◌, ◌<◌, ◌==◌, nat_lt, List, [], ◌∷◌, ◌++◌, get_or, map, true, refl, arith, sym, ap, ◌∙◌, lit<, eqb-true}
-use Rattle.std.proofs.Math.Nat.{div-div-eq-div-mul, pow-suc, mod-eq_of_lt}
+use Rattle.std.proofs.Math.Nat.{div-div-eq-div-mul, mod-eq_of_lt}
 use Rattle.std.proofs.lemmas.Bool.{agree_below_at, ltb-true}
 use Rattle.std.proofs.lemmas.Int.Digits.{number_push}
 use Rattle.std.proofs.lemmas.List.{map-append}
@@ -43,10 +43,6 @@ packed_times (suc n) c f v =
 pub packed_same : (n : ℕ) (f g : ℕ → ℕ) (v : ℕ) → ((d : ℕ) → d < 16 → f d ≡ g d) → packed n f v ≡ packed n g v
 packed_same zero f g v same = refl
 packed_same (suc n) f g v same = rw (packed_same n f g (v / 16) same, same (v % 16) (mod_below v 16 (lit< tt))) refl
-
-pub packed_below : (n : ℕ) (f : ℕ → ℕ) (v : ℕ) → ((d : ℕ) → d < 16 → f d < 256) → packed n f v < 256 ^ n
-packed_below zero f v small = lit< tt
-packed_below (suc n) f v small = omega (arith, packed_below n f (v / 16) small, small (v % 16) (mod_below v 16 (lit< tt)), pow-suc 256 n)
 
 -- bit 4 of each byte, moved to bit 0
 pub packed_carry : (n : ℕ) (f : ℕ → ℕ) (v : ℕ) → ((d : ℕ) → d < 16 → f d < 256) → bit_and (packed n f v / 16) (packed n (λ d. 1) v) ≡ packed n (λ d. f d / 16 % 2) v
@@ -204,10 +200,6 @@ ascii_digits (d ∷ ds) h (suc i) = ascii_digits ds h.1 i
 
 eight_bytes : (a b c d e f g h : ℕ) → number_from_digits 256 (a ∷ b ∷ c ∷ d ∷ e ∷ f ∷ g ∷ h ∷ []) ≡ from_be_bytes w64 (a ∷ b ∷ c ∷ d ∷ e ∷ f ∷ g ∷ h ∷ [])
 eight_bytes a b c d e f g h = omega arith
-
--- eight characters as a word
-pub word_is : (v : ℕ) → from_be_bytes w64 (map digit_char (last_digits 16 8 v)) ≡ number_from_digits 256 (map digit_char (last_digits 16 8 v))
-word_is v = sym (eight_bytes _ _ _ _ _ _ _ _)
 
 -- the bytes of the word
 pub word_bytes : (v : ℕ) → to_be_bytes w64 (number_from_digits 256 (map digit_char (last_digits 16 8 v))) ≡ map digit_char (last_digits 16 8 v)

@@ -2,10 +2,9 @@
 --
 -- Written: lower-case hexadecimal without leading zeros, `0` for 0. Read: spaces, tabs and carriage returns at both
 -- ends are dropped, then an optional `0x` or `0X`; what is left is 1 to 16 hexadecimal digits of either case.
-use Rattle.std.specs.Prelude.{ℕ, ◌≡◌, ◌==◌, nat_lt, nat_le, nat_eq, List, [], ◌∷◌, length, drop, map, reverse, Bool, ◌&&◌, ◌||◌, Option, Some, None, codes, if◌then◌else◌}
+use Rattle.std.specs.Prelude.{ℕ, ◌==◌, nat_lt, nat_le, nat_eq, List, [], ◌∷◌, length, drop, map, reverse, Bool, ◌&&◌, ◌||◌, Option, Some, None, codes, if◌then◌else◌}
 use Rattle.std.specs.List.{starts_with, list_all}
 use Rattle.std.specs.Char.{digit_char, is_digit}
-use Rattle.std.specs.Int.Digits.{number_from_digits}
 use Rattle.std.specs.Str.Parse.{digits_value}
 use Rattle.h3_index.specs.Digits.{last_digits}
 
@@ -57,8 +56,3 @@ is_lower_digit b = (nat_le 48 b && nat_le b 57) || (nat_le 97 b && nat_le b 102)
 -- bytes
 abbrev pub plain_index : List ℕ → Option ℕ
 plain_index bs = if nat_le 8 (length bs) && nat_le (length bs) 16 && list_all is_lower_digit bs then Some (digits_value 16 bs) else None
-
--- a word whose eight bytes are the last eight hexadecimal digits of a number, in lower case; private contracts alone
--- cite it
-abbrev pub HoldsHalf : ℕ → ℕ → Type 0
-HoldsHalf word half = word ≡ number_from_digits 256 (map digit_char (last_digits 16 8 half))

@@ -7,6 +7,7 @@ ghost use Rattle.h3_index.specs.Digits.{last_digits};
 ghost use Rattle.h3_index.specs.Text.{without_leading_zeros, is_blank, without_leading_blanks, without_trailing_blanks, without_prefix, parsed_number, parsed_index, text_of, trimmed};
 
 mod halves;
+mod lanes;
 mod lines;
 mod pairs;
 mod plain;

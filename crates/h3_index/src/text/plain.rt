@@ -5,7 +5,7 @@ ghost use Rattle.std.specs.Char.{is_digit};
 ghost use Rattle.std.specs.List.{list_all};
 ghost use Rattle.h3_index.specs.Text.{plain_index, parsed_index};
 
-use super::halves::{halves_in, word_of};
+use super::lanes::read_sixteen;
 
 /// The number that 8 to 16 hexadecimal digits in lower case stand for; none for all other bytes,
 /// which may be the text of an index in another form.
@@ -19,7 +19,7 @@ pub fn read_plain(bytes: &[u8]) -> Option<u64>
         return None;
     }
     let more = bytes.len() - 8;
-    // Both words hold the digits in the middle.
-    let (first, last) = halves_in(word_of(&bytes[..8]), word_of(&bytes[more..]))?;
-    Some(first << (4 * more) | last)
+    // The digits in the middle are read twice.
+    let both = read_sixteen(&bytes[..8], &bytes[more..])?;
+    Some(both >> 32 << (4 * more) | both & 0xffff_ffff)
 }
