@@ -10,7 +10,6 @@ ghost use Rattle.h3_index.specs.Digits.{last_digits};
 ghost use Rattle.h3_index.specs.Text.{text_of};
 
 use super::digits_of;
-use super::halves::characters;
 use super::pairs::pair;
 use crate::cell::Cell;
 
@@ -39,8 +38,10 @@ fn put_sibling(line: &[u8; LINE], byte: u64, after: usize, bytes: &mut [u8], at:
 fn last_four(number: u64) -> [u8; 4]
     ensures { result ≡ map digit_char (last_digits 16 4 number) }
 {
-    let eight = characters(number & 0xffff).to_be_bytes();
-    [eight[4], eight[5], eight[6], eight[7]]
+    let mut four = [b'0'; 4];
+    four[..2].copy_from_slice(&pair(number >> 8 & 0xff));
+    four[2..].copy_from_slice(&pair(number & 0xff));
+    four
 }
 
 /// Puts the texts of cells, one after another, each with a line feed. It holds the line of one of

@@ -1,16 +1,22 @@
-use Rattle.std.proofs.Common.{◌∙◌, ap, map, List, ℕ, [], ◌∷◌, slice_index_or}
-use Rattle.std.specs.Char.{digit_char}
-use Rattle.std.specs.Int.{w64, to_be_bytes}
+use Rattle.std.proofs.Common.{ℕ, ◌≡◌, ◌/◌, ◌%◌, ◌∙◌, ◌++◌, ap, arith, map, refl}
 use Rattle.std.proofs.lemmas.Nat.{and_mask}
+use Rattle.std.specs.Char.{digit_char}
 use Rattle.h3_index.specs.Digits.{last_digits}
-use Rattle.h3_index.proofs.SpreadLaws.{low_digits, word_bytes}
 use Rattle.h3_index.proofs.text.lines.last_four.Goals as goal
 
-abbrev last : List ℕ → List ℕ
-last l = slice_index_or l 4 0 ∷ slice_index_or l 5 0 ∷ slice_index_or l 6 0 ∷ slice_index_or l 7 0 ∷ []
+parts : (n : ℕ) → map digit_char (last_digits 16 2 (n / 256 % 256)) ++ map digit_char (last_digits 16 2 (n % 256)) ≡ map digit_char (last_digits 16 4 n)
+parts n =
+    let first : n / 256 % 256 / 16 % 16 ≡ n / 16 / 16 / 16 % 16 = omega arith in
+    let second : n / 256 % 256 % 16 ≡ n / 16 / 16 % 16 = omega arith in
+    let third : n % 256 / 16 % 16 ≡ n / 16 % 16 = omega arith in
+    let fourth : n % 256 % 16 ≡ n % 16 = omega arith in
+    rw (first, second, third, fourth) refl
 
 pub returns : goal.returns
 returns c =
-    let number = c.args.number in
-    ap last (c.to_be_bytes-eight.ensures ∙ ap (to_be_bytes w64) c.characters.ensures ∙ word_bytes _)
-    ∙ ap (map digit_char) (ap (last_digits 16 4) (and_mask number 16) ∙ low_digits 4 number)
+    let n = c.args.number in
+    let high : c.copy_from_slice.new.self ≡ map digit_char (last_digits 16 2 (n / 256 % 256)) =
+    c.copy_from_slice.ensures.after ∙ c.pair.ensures ∙ ap (λ k. map digit_char (last_digits 16 2 k)) (and_mask (n / 256) 8) in
+    let low : c.copy_from_slice-2.new.self ≡ map digit_char (last_digits 16 2 (n % 256)) =
+    c.copy_from_slice-2.ensures.after ∙ c.pair-2.ensures ∙ ap (λ k. map digit_char (last_digits 16 2 k)) (and_mask n 8) in
+    rw (high, low) (parts n)
