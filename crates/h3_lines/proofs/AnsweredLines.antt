@@ -24,9 +24,6 @@ answer_parsed answer line n short parses =
     let left : (length (trimmed line) == 0) ≡ false = nothing_left (trimmed line) _ refl n parses in
     rw (few, left) (ap answer parses)
 
-pub answer_long : (answer : Option ℕ → Answer) (line : List ℕ) → 64 < length line → line_answer answer line ≡ refused Failed
-answer_long answer line long = let test : nat_lt 64 (length line) ≡ true = grind (arith, nat_tests) in rw test refl
-
 -- ---- bytes that are written
 
 pub some_of_part : (xs ys zs : List ℕ) (out : SinkUse) → zs ≡ xs ++ ys → AppendsPart out.before out.after xs → out.has_failed ≡ true → TakesSome out zs

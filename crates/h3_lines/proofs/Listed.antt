@@ -51,10 +51,6 @@ refuses_said n line later said e is refuses =
 pub said_parsed : (line : List ℕ) (index : ℕ) (said : Result (Option Address) H3Error) → ParsesAs line index → said ≡ said_by_cell (cell_in index) → said ≡ said_by line
 said_parsed line index said p is = is ∙ sym (said_by_parsed line index p.short p.parses)
 
--- a line of too many bytes is refused, whatever lines come after it
-pub refuses_long : (n : ℕ) (line : List ℕ) (later : List (List ℕ)) → 64 < length line → RefusesLinesAt n (line ∷ later) (At n Failed)
-refuses_long n line later h = let test : nat_lt 64 (length line) ≡ true = grind (arith, nat_tests) in rw test (refl, refl)
-
 -- ---- refusals
 
 -- a refusal fits the list, whatever may be said of reads
@@ -82,19 +78,6 @@ known_faulty bytes TableOpen refused other memory = absurd (refused [])
 known_faulty bytes (FileOpen f) refused other memory = absurd (refused [])
 known_faulty bytes (FileAt f n d) refused other memory = absurd (refused [])
 known_faulty bytes (File f d) refused other memory = absurd (refused [])
-
--- a refusal told without a number fits the list
-pub fits_list : (reads : Type 0) (list : Result (List Address) H3Error) (n : ℕ) (e : Refusal) → RefusesAt reads list n e → RefusesList reads list (without_number e)
-fits_list reads list n (Error e) h = absurd h
-fits_list reads list n (At line d) h = h.0
-fits_list reads list n Memory h = h
-fits_list reads list n Read h = h
-fits_list reads list n Write h = absurd h
-fits_list reads list n (Table d) h = absurd h
-fits_list reads list n TableOpen h = absurd h
-fits_list reads list n (FileOpen f) h = absurd h
-fits_list reads list n (FileAt f m d) h = absurd h
-fits_list reads list n (File f d) h = absurd h
 
 -- where nothing is read
 pub stops_at_start : (page : ℕ) (list : List ℕ) → StopsAtFault page list list

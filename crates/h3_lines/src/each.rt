@@ -129,38 +129,6 @@ fn make_room<W: Sink>(out: &mut W, block: &mut [u8; BLOCK], end: usize) -> Resul
     Ok(1)
 }
 
-/// Puts the answer to the line with this number into a block of answers that ends at `end`, and
-/// returns where it ends.
-#[inline(always)]
-fn answer_index<W: Sink, F: IndexFunction>(
-    out: &mut W,
-    lines: &mut CellLines,
-    block: &mut [u8; BLOCK],
-    end: usize,
-    number: u64,
-    function: &F,
-    index: Option<u64>,
-    place: &mut usize,
-) -> Result<usize, Refusal>
-    requires { end ≤ BLOCK }
-    ensures within { IfOk result (λ last. last ≤ BLOCK) }
-    ensures ok { IfOk result (λ last. (line : List ℕ) →
-        line_answer (F.answer_of function.now) line ≡ F.answer_of function.now index →
-        Answered W.taken W.has_failed (F.answer_of function.now) number (number + 1)
-        (take end block.old) (take last block.new) out.old out.new (line ∷ [])) }
-    ensures err { IfErr result (λ e. (line : List ℕ) →
-        line_answer (F.answer_of function.now) line ≡ F.answer_of function.now index →
-        (later : List (List ℕ)) →
-        RefusesEach (F.answer_of function.now) number (take end block.old) (line ∷ later) e
-        (sink_use W.taken W.has_failed out.old out.new)) }
-{
-    let at = make_room(out, block, end)?;
-    match function.put(index, place, lines, block, at) {
-        Ok(last) => Ok(last),
-        Err(error) => Err(refuse(out, &block[..at], number, error)),
-    }
-}
-
 /// The answers to the lines of a list, in a block that is written when it is full.
 #[derive(Drop)]
 struct Answers<'a, 'f, W, F> {
@@ -172,6 +140,44 @@ struct Answers<'a, 'f, W, F> {
     block: [u8; BLOCK],
     end: usize,
     ghost within: { end ≤ BLOCK },
+}
+
+impl<'a, 'f, W: Sink, F: IndexFunction> Answers<'a, 'f, W, F> {
+    /// Puts the answer to the next line.
+    // What only an error or a full block needs is read where there is one.
+    #[inline(always)]
+    fn answer(&mut self, index: Option<u64>) -> Result<(), Refusal>
+        requires { self.old.number < 2 ^ 63 }
+        ensures ok { OnOk result ((line : List ℕ) →
+            line_answer (F.answer_of self.old.function.now) line
+            ≡ F.answer_of self.old.function.now index →
+            Answered W.taken W.has_failed (F.answer_of self.old.function.now)
+            self.old.number self.new.number (take self.old.end self.old.block)
+            (take self.new.end self.new.block) self.old.out.now self.new.out.now (line ∷ [])) }
+        ensures counted { OnOk result (self.new.number ≡ self.old.number + 1) }
+        ensures err { IfErr result (λ e. (line : List ℕ) →
+            line_answer (F.answer_of self.old.function.now) line
+            ≡ F.answer_of self.old.function.now index →
+            (later : List (List ℕ)) →
+            RefusesEach (F.answer_of self.old.function.now) self.old.number
+            (take self.old.end self.old.block) (line ∷ later) e
+            (sink_use W.taken W.has_failed self.old.out.now self.new.out.now)) }
+        ensures function { self.new.function ≡ self.old.function }
+        ensures sink { self.new.out.ghost_name ≡ self.old.out.ghost_name }
+    {
+        let at = make_room(self.out, &mut self.block, self.end)?;
+        match self.function.put(index, &mut self.place, &mut self.lines, &mut self.block, at) {
+            Ok(last) => {
+                self.end = last;
+                self.number += 1;
+                Ok(())
+            }
+            Err(error) => {
+                let held = &self.block[..at];
+                Err(refuse(self.out, held, self.number, error))
+            }
+        }
+    }
 }
 
 impl<'a, 'f, W: Sink, F: IndexFunction> LineTaker for Answers<'a, 'f, W, F> {
@@ -192,20 +198,7 @@ impl<'a, 'f, W: Sink, F: IndexFunction> LineTaker for Answers<'a, 'f, W, F> {
     fn take(&mut self, line: &[u8]) -> Result<(), Refusal> {
         let held = &self.block[..self.end];
         match index_on(line) {
-            Ok(Some(index)) => {
-                self.end = answer_index(
-                    self.out,
-                    &mut self.lines,
-                    &mut self.block,
-                    self.end,
-                    self.number,
-                    self.function,
-                    index,
-                    &mut self.place,
-                )?;
-                self.number += 1;
-                Ok(())
-            }
+            Ok(Some(index)) => self.answer(index),
             Ok(None) => {
                 self.number += 1;
                 Ok(())
@@ -216,18 +209,7 @@ impl<'a, 'f, W: Sink, F: IndexFunction> LineTaker for Answers<'a, 'f, W, F> {
 
     #[inline(always)]
     fn take_index(&mut self, index: u64) -> Result<(), Refusal> {
-        self.end = answer_index(
-            self.out,
-            &mut self.lines,
-            &mut self.block,
-            self.end,
-            self.number,
-            self.function,
-            Some(index),
-            &mut self.place,
-        )?;
-        self.number += 1;
-        Ok(())
+        self.answer(Some(index))
     }
 
     fn refuse_long(&mut self) -> Refusal {
