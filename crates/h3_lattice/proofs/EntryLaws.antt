@@ -2,12 +2,23 @@
 use Rattle.std.proofs.Common.{◌≡◌, ℕ, zero, suc, ◌-◌, ◌≤◌, ◌<◌, nat_lt, true, ltb-true, arith, sym, ◌∙◌, Option, None, List, [], slice_index_or}
 use Rattle.h3_lattice.specs.declared.carries.TheConstants.{CARRIES_THREE, CARRIES_TWO}
 use Rattle.h3_directions.specs.declared.direction.Direction.{Direction}
+use Rattle.h3_directions.specs.declared.direction.Direction.TheVariants.{K, J, JK, I, IK, IJ}
 use Rattle.h3_lattice.specs.declared.class.Class.{Class}
 use Rattle.h3_lattice.specs.declared.class.Class.TheVariants.{Two, Three}
 use Rattle.h3_directions.specs.Direction.{digit_of, value_of}
 use Rattle.h3_lattice.specs.Class.{IsCarry, IsOnlyCarry}
-use Rattle.h3_lattice.proofs.CarryLaws.{EachDirection, at_direction}
 use Rattle.h3_lattice.proofs.DivisionLaws.{one_digit}
+
+abbrev pub EachDirection : (Direction → Type 0) → Type 0
+EachDirection P = P K × P J × P JK × P I × P IK × P IJ
+
+pub at_direction : (P : Direction → Type 0) → EachDirection P → (d : Direction) → P d
+at_direction P h K = h.0
+at_direction P h J = h.1
+at_direction P h JK = h.2
+at_direction P h I = h.3
+at_direction P h IK = h.4
+at_direction P h IJ = h.5
 
 abbrev pub table_of : Class → List (List (ℕ × Option Direction))
 table_of Three = CARRIES_THREE

@@ -1,16 +1,13 @@
 -- The definitions at worked values, by computation.
-use Rattle.std.specs.Prelude.{◌≡◌, ℕ, List, [], ◌∷◌, map, pos, negsuc, Option, Some, None, codes, refl}
-use Rattle.std.specs.List.{flat_map}
-use Rattle.h3_directions.specs.declared.direction.Direction.{Direction}
+use Rattle.std.specs.Prelude.{◌≡◌, ℕ, List, [], ◌∷◌, map, pos, negsuc, Some, None, codes, refl}
 use Rattle.h3_directions.specs.declared.direction.Direction.TheVariants.{K, J, JK, I, IK, IJ}
-use Rattle.h3_lattice.specs.declared.class.Class.{Class}
 use Rattle.h3_lattice.specs.declared.class.Class.TheVariants.{Two, Three}
 use Rattle.h3_directions.specs.declared.error.TableError.TheVariants.{Corner, Form, Range, Repeated}
 use Rattle.h3_lattice.specs.declared.vectors.TestTable.TheVariants.{Plain, Skew, Twisted}
 use Rattle.h3_lattice.specs.declared.format.Format.TheVariants as format
 use Rattle.h3_directions.specs.Eisenstein.{Eisenstein, eisenstein, minus_one, norm, one, product_of, sum_of, zero_point}
-use Rattle.h3_directions.specs.Direction.{digit_of, digit_turned, digit_value, direction_of, directions, opposite, turned, turning, unit_of, value_of}
-use Rattle.h3_lattice.specs.Class.{class_at, multiplier}
+use Rattle.h3_directions.specs.Direction.{digit_of, digit_turned, direction_of, directions, opposite, turned, turning, unit_of}
+use Rattle.h3_lattice.specs.Class.{class_at, multiplier, IsCarry}
 use Rattle.h3_lattice.specs.Expansion.{place, scaled, sum_from}
 use Rattle.h3_lattice.specs.Fields.{Record, all_numbers, number_from, number_in, same_fields}
 use Rattle.h3_lattice.specs.FormatOne.{header_one}
@@ -71,40 +68,15 @@ whole_turn_number = refl
 turned_digits : map (digit_turned 1) (0 ∷ 1 ∷ 2 ∷ 3 ∷ 4 ∷ 5 ∷ 6 ∷ []) ≡ 0 ∷ 5 ∷ 3 ∷ 1 ∷ 6 ∷ 4 ∷ 2 ∷ []
 turned_digits = refl
 
--- ---- carries: the digit that is left and the direction that is carried, a row for each digit from 0 on, a column for
--- each direction that is added
+-- ---- carries
 
-abbrev carries_three : List (ℕ × Option Direction)
-carries_three =
-    (1, None) ∷ (2, None) ∷ (3, None) ∷ (4, None) ∷ (5, None) ∷ (6, None) ∷
-    (4, Some K) ∷ (3, None) ∷ (6, Some K) ∷ (5, None) ∷ (2, Some IK) ∷ (0, None) ∷
-    (3, None) ∷ (1, Some J) ∷ (4, Some JK) ∷ (6, None) ∷ (0, None) ∷ (5, Some J) ∷
-    (6, Some K) ∷ (4, Some JK) ∷ (5, Some JK) ∷ (0, None) ∷ (1, None) ∷ (2, None) ∷
-    (5, None) ∷ (6, None) ∷ (0, None) ∷ (2, Some I) ∷ (3, Some I) ∷ (1, Some IJ) ∷
-    (2, Some IK) ∷ (0, None) ∷ (1, None) ∷ (3, Some I) ∷ (6, Some IK) ∷ (4, None) ∷
-    (0, None) ∷ (5, Some J) ∷ (2, None) ∷ (1, Some IJ) ∷ (4, None) ∷ (3, Some IJ) ∷ []
+-- 1 + 1 = (2 - w)*1 + w at an odd resolution
+carry_three : IsCarry Three 4 I one 2
+carry_three = refl
 
-abbrev carries_two : List (ℕ × Option Direction)
-carries_two =
-    (1, None) ∷ (2, None) ∷ (3, None) ∷ (4, None) ∷ (5, None) ∷ (6, None) ∷
-    (2, Some K) ∷ (3, None) ∷ (4, Some JK) ∷ (5, None) ∷ (6, Some K) ∷ (0, None) ∷
-    (3, None) ∷ (4, Some J) ∷ (5, Some J) ∷ (6, None) ∷ (0, None) ∷ (1, Some IJ) ∷
-    (4, Some JK) ∷ (5, Some J) ∷ (6, Some JK) ∷ (0, None) ∷ (1, None) ∷ (2, None) ∷
-    (5, None) ∷ (6, None) ∷ (0, None) ∷ (1, Some I) ∷ (2, Some IK) ∷ (3, Some I) ∷
-    (6, Some K) ∷ (0, None) ∷ (1, None) ∷ (2, Some IK) ∷ (3, Some IK) ∷ (4, None) ∷
-    (0, None) ∷ (1, Some IJ) ∷ (2, None) ∷ (3, Some I) ∷ (4, None) ∷ (5, Some IJ) ∷ []
-
-abbrev sums : List Eisenstein
-sums = flat_map (λ x. map (λ d. sum_of (digit_value x) (unit_of d)) directions) (0 ∷ 1 ∷ 2 ∷ 3 ∷ 4 ∷ 5 ∷ 6 ∷ [])
-
-abbrev sum_carried : Class → ℕ × Option Direction → Eisenstein
-sum_carried c (left, carried) = sum_of (product_of (multiplier c) (value_of carried)) (digit_value left)
-
-three_carries : map (sum_carried Three) carries_three ≡ sums
-three_carries = refl
-
-two_carries : map (sum_carried Two) carries_two ≡ sums
-two_carries = refl
+-- 1 + 1 = (3 + w)*1 - 1 - w at an even one
+carry_two : IsCarry Two 4 I one 1
+carry_two = refl
 
 -- ---- places and sums
 
