@@ -1,8 +1,8 @@
 -- Keys: the cells below a cell are an interval that ends at its own, so in order the siblings of a complete set stand
 -- together.
-use Rattle.std.proofs.Common.{ℕ, zero, suc, ◌≡◌, ◌+◌, ◌-◌, ◌*◌, ◌%◌, ◌^◌, ◌<◌, ◌≤◌, ◌⊎◌, List, length, refl, All, AllPairs, Contains, arith, sym, subst, get_or, inl, inr}
-use Rattle.std.proofs.Math.Nat.{pow-suc, pow-le-pow_right}
-use Rattle.std.proofs.lemmas.Nat.{mod_below, pow-add}
+use Rattle.std.proofs.Common.{ℕ, ◌≡◌, ◌+◌, ◌-◌, ◌^◌, ◌<◌, ◌≤◌, ◌⊎◌, List, length, refl, All, AllPairs, Contains, arith, sym, subst, get_or, inl, inr}
+use Rattle.std.proofs.Math.Nat.{pow-le-pow_right}
+use Rattle.std.proofs.lemmas.Nat.{mod_below}
 use Rattle.std.proofs.lemmas.List.Elements.{Contains-get_or}
 use Rattle.std.proofs.lemmas.Bool.{cases_lt}
 use Rattle.h3_index.specs.Cell.{Address, number_of, IsCell}
@@ -15,23 +15,11 @@ use Rattle.h3_set.specs.Order.{IsInOrder}
 use Rattle.h3_set.proofs.RoundLaws.{one_of}
 use Rattle.h3_set.proofs.TreeLaws.{step_down, IsChild}
 
--- the interval that is kept for a cell and those below it has a power of eight of keys
-eights : (k : ℕ) → 2 ^ (3 * k) ≡ 8 ^ k
-eights zero = refl
-eights (suc k) =
-    let next : 3 * suc k ≡ 3 * k + 3 = omega arith in
-    rw (next, pow-add 2 (3 * k) 3, eights k, pow-suc 8 k) refl
-
-power_small : (k : ℕ) → k ≤ 15 → 8 ^ k ≤ 2 ^ 45
-power_small k h = (let p : 8 ^ k ≤ 8 ^ 15 = pow-le-pow_right (omega arith) h in p)
-
-pub block : (r : ℕ) → 1 * 2 ^ (3 * (15 - r)) % 2 ^ 64 ≡ 8 ^ (15 - r)
-block r =
-    let small = power_small (15 - r) (omega arith) in
-    rw (eights (15 - r)) (omega (arith, small))
-
+-- a cell has at most 2^45 keys, with those of the cells below it
 pub block_small : (r : ℕ) → 8 ^ (15 - r) ≤ 2 ^ 45
-block_small r = power_small (15 - r) (omega arith)
+block_small r =
+    let le : 15 - r ≤ 15 = omega arith in
+    let p : 8 ^ (15 - r) ≤ 8 ^ 15 = pow-le-pow_right (omega arith) le in p
 
 -- keys are below 2^52
 pub key_small : (c : Address) → key c < 2 ^ 52

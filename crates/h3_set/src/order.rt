@@ -1,8 +1,8 @@
 //! The order of the slots between rounds: each cell right after its descendants, so that one sort
 //! serves all rounds. In order of their numbers, each merge would move a cell to the front.
 
-ghost use Rattle.std.specs.Prelude.{◌≡◌, ◌-◌, ◌^◌, ◌≤◌, true, All, AllPairs, IsPermutation};
-ghost use Rattle.h3_index.specs.Cell.{IsCell, resolution};
+ghost use Rattle.std.specs.Prelude.{◌≡◌, true, All, AllPairs, IsPermutation};
+ghost use Rattle.h3_index.specs.Cell.{IsCell};
 ghost use Rattle.h3_set.specs.Order.{IsInOrder, IsBeforeBlock};
 ghost use Rattle.h3_set.specs.Refusals.{has_overlap};
 
@@ -19,15 +19,6 @@ pub fn put_in_order(cells: &mut [Cell])
     cells.sort_unstable_by_key(|c: &Cell| post_order_key(*c));
 }
 
-/// How many keys there are for a cell and the cells below it: an interval of that
-/// length ends at the cell's own key.
-pub(crate) fn keys_below(cell: Cell) -> u64
-    ensures is { result ≡ 8 ^ (15 - resolution cell) }
-    ensures at_most { result ≤ 2 ^ 45 }
-{
-    1 << (3 * (15 - cell.resolution()))
-}
-
 /// Whether cells at two places of a list overlap: one is the other, or stands above it. The list
 /// must be in post order, as `put_in_order` leaves it: then two neighboring ones do.
 pub fn has_overlap(cells: &[Cell]) -> bool
@@ -39,9 +30,9 @@ pub fn has_overlap(cells: &[Cell]) -> bool
     for i in 1..cells.len() {
         let before = cells[i - 1];
         let cell = cells[i];
-        // `before` comes before `cell`; where it does not come before all cells below `cell`, it
-        // is one of them.
-        if post_order_key(cell) < post_order_key(before) + keys_below(cell) {
+        // `before` comes before `cell`; where it does not come before all cells below `cell`, whose
+        // keys with its own are as many as its unit, it is one of them.
+        if post_order_key(cell) < post_order_key(before) + cell.unit() {
             return true;
         }
     }

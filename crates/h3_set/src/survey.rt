@@ -5,7 +5,6 @@ ghost use Rattle.h3_index.specs.Cell.{IsCell, resolution};
 ghost use Rattle.h3_set.specs.Coverage.{finest};
 ghost use Rattle.h3_set.specs.Order.{IsBeforeBlock};
 
-use crate::order::keys_below;
 use h3_index::Cell;
 use h3_tree::post_order_key;
 
@@ -23,8 +22,9 @@ pub(crate) fn survey(cells: &[Cell]) -> (u8, bool)
     for cell in cells {
         finest = finest.max(cell.resolution());
         let next = post_order_key(*cell) + 1;
-        // without a branch: the last cell comes before this one and all cells below it
-        rises = rises & (end + keys_below(*cell) <= next);
+        // without a branch: the last cell comes before this one and all cells below it, whose keys
+        // are as many as the cell's unit
+        rises = rises & (end + cell.unit() <= next);
         end = next;
     }
     (finest, rises)
