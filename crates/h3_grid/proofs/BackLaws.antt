@@ -172,7 +172,7 @@ direction_at-unit IJ = refl
 unit_one : (d e : Direction) → unit_of d ≡ unit_of e → d ≡ e
 unit_one d e h = sym (direction_at-unit d) ∙ ap direction_at h ∙ direction_at-unit e
 
-add_one : (p y z : Eisenstein) → sum_of p y ≡ sum_of p z → y ≡ z
+pub add_one : (p y z : Eisenstein) → sum_of p y ≡ sum_of p z → y ≡ z
 add_one p y z e = omega (arith, points)
 
 -- the digits of a sum determine the direction

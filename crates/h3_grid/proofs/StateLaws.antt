@@ -1,5 +1,5 @@
 -- The states of a disk that is not refused, by ring, side and step.
-use Rattle.std.proofs.Common.{ℕ, zero, suc, ◌≡◌, ◌<◌, ◌≤◌, ◌+◌, List, [], ◌∷◌, ◌++◌, map, replicate, Some, refl, arith, sym, ap, ◌∙◌, subst, add-one, append_assoc, zero-add, inl, inr}
+use Rattle.std.proofs.Common.{ℕ, zero, suc, ◌≡◌, ◌<◌, ◌≤◌, ◌+◌, List, ◌∷◌, ◌++◌, map, replicate, Some, refl, arith, sym, ap, ◌∙◌, subst, add-one, append_assoc, zero-add, inl, inr}
 use Rattle.std.specs.Prelude.{unwrap_or}
 use Rattle.std.proofs.lemmas.Bool.{cases_lt}
 use Rattle.std.specs.List.{flat_map, range_with_len}
@@ -14,7 +14,7 @@ use Rattle.h3_grid.specs.Moves.{Move, ring_moves, side_moves, silent, write}
 use Rattle.h3_grid.specs.Search.{step_of}
 use Rattle.h3_grid.specs.Steps.{State}
 use Rattle.h3_grid.specs.Walks.{followed}
-use Rattle.h3_grid.proofs.DiskLaws.{all_ok, began, went}
+use Rattle.h3_grid.proofs.DiskLaws.{all_ok, began, went, states-nil}
 
 module _ (link : Links) where
   -- the state to which a step leads, where it is not refused
@@ -45,10 +45,6 @@ module _ (link : Links) where
 
 go_is : (link : Links) (s t : State) (d : Direction) → step_of link s d ≡ Some t → go link s d ≡ t
 go_is link s t d e = rw e refl
-
-states-nil : (link : Links) (s : State) → states_from link s [] ≡ []
-unfolding states_from
-states-nil link s = refl
 
 states-write : (link : Links) (s : State) (r : ℕ) (d : Direction) (ms : List Move) → step_of link s d ≡ Some (go link s d) → states_from link s (write r d ∷ ms) ≡ go link s d ∷ states_from link (go link s d) ms
 unfolding states_from

@@ -18,6 +18,9 @@ use Rattle.h3_lattice.proofs.FormLaws.{form_of, no_fault_of, none_missing}
 use Rattle.h3_lattice.proofs.KindLaws.{IsKind, checks-kind, is_kind, kind, missing-kind, records-kind}
 use Rattle.h3_lattice.proofs.SoundLaws.{apart-is, apart-of, closed-is, closed-of, digit_at, digit_of-gt, digit_of-lt, direction-at, from_base-none, hexagon_of, in_each, is_hexagon_of, both, if_none, in_directions-none, no_fault, no_fault_at, reversed-is, reversed-of, error_unless-none}
 
+nat_cases : (b a : ℕ) → b ≤ a → (b ≡ a) ⊎ (b + 1 ≤ a)
+nat_cases b a h = grind arith
+
 -- ---- the first of a list of directions
 
 record FirstIn (f : Direction → Option TableError) (ds : List Direction) (x : TableError) : Type 0 where
@@ -76,9 +79,6 @@ from_base-first f b (suc n) x e = by (is_hexagon_base b) refl (in_directions (f 
         let high : i.base < b + 1 + n = i.high in
         record { base = i.base; low = omega arith; high = omega arith; hexagon = i.hexagon; here = i.here; before = λ a p q h. none_at (nat_cases b a p) q h }
       where
-        nat_cases : (b a : ℕ) → b ≤ a → (b ≡ a) ⊎ (b + 1 ≤ a)
-        nat_cases b a h = grind arith
-
         none_at : {a : ℕ} → (b ≡ a) ⊎ (b + 1 ≤ a) → a < i.base → is_hexagon_base a ≡ true → in_directions (f a) directions ≡ None
         none_at (inl same) q h = subst (λ a. in_directions (f a) directions ≡ None) same (none (rw same h))
         none_at {a} (inr more) q h = i.before a more q h
@@ -97,9 +97,6 @@ from_base-some f b zero base x low high hexagon here before = absurd (omega arit
 from_base-some f b (suc n) base x low high hexagon here before =
     by (nat_cases b base low) (λ more. from_base-some f (b + 1) n base x more (omega arith) hexagon here (λ a p q h. before a (omega arith) q h))
   where
-    nat_cases : (b a : ℕ) → b ≤ a → (b ≡ a) ⊎ (b + 1 ≤ a)
-    nat_cases b a h = grind arith
-
     none_here : b + 1 ≤ base → (if is_hexagon_base b then in_directions (f b) directions else None) ≡ None
     none_here more = if_none (is_hexagon_base b) (in_directions (f b) directions) (λ h. before b (omega arith) (omega arith) h)
 

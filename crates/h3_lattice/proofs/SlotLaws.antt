@@ -6,8 +6,6 @@ use Rattle.std.specs.Prelude.{is_some, if◌then◌else◌, ◌==◌, ◌&&◌, 
 use Rattle.std.specs.List.{list_all}
 use Rattle.std.specs.Option.{option_and_then, option_or}
 use Rattle.h3_directions.specs.declared.error.TableError.TheVariants as fault
-use Rattle.h3_directions.specs.declared.direction.Direction.{Direction}
-use Rattle.h3_directions.specs.declared.direction.Direction.TheVariants.{K, J, JK, I, IK, IJ}
 use Rattle.h3_lattice.specs.declared.format.Format.{Format}
 use Rattle.h3_lattice.specs.declared.format.Format.TheVariants.{One, Two}
 use Rattle.h3_directions.specs.Direction.{digit_of, directions}
@@ -18,7 +16,7 @@ use Rattle.h3_lattice.specs.FormatTwo.{in_range_two, is_link_two, link_at_digit,
 use Rattle.h3_lattice.specs.Links.{IsLink, is_hexagon_base, is_link, slot_of}
 use Rattle.h3_lattice.specs.Records.{fault_in, record_link, first_link}
 use Rattle.h3_lattice.specs.Slots.{Holds, IsInRangeOne, IsInRangeTwo, SetsLinks}
-use Rattle.h3_lattice.proofs.SoundLaws.{and_both, direction_below, eqb-eq, nth_direction, true-nat_lt}
+use Rattle.h3_lattice.proofs.SoundLaws.{and_both, direction_below, eqb-eq, nth_direction, true-nat_lt, each_at}
 
 or_none : (o : Option (ℕ × ℕ)) → option_or o None ≡ o
 or_none None = refl
@@ -61,21 +59,13 @@ in_range_one-true ns e =
     let link = link-true (slice_index ns 2, slice_index ns 3) p.3 in
     (hexagon_below (slice_index ns 0) p.0, true-nat_lt 0 (slice_index ns 1) p.1, true-nat_lt (slice_index ns 1) 7 p.2, link.0, link.1)
 
-pub each-direction : (p : Direction → Bool) (d : Direction) → list_all p directions ≡ true → p d ≡ true
-each-direction p K e = (and_both (p K) _ e).0
-each-direction p J e = (and_both (p J) _ (and_both (p K) _ e).1).0
-each-direction p JK e = (and_both (p JK) _ (and_both (p J) _ (and_both (p K) _ e).1).1).0
-each-direction p I e = (and_both (p I) _ (and_both (p JK) _ (and_both (p J) _ (and_both (p K) _ e).1).1).1).0
-each-direction p IK e = (and_both (p IK) _ (and_both (p I) _ (and_both (p JK) _ (and_both (p J) _ (and_both (p K) _ e).1).1).1).1).0
-each-direction p IJ e = (and_both (p IJ) _ (and_both (p IK) _ (and_both (p I) _ (and_both (p JK) _ (and_both (p J) _ (and_both (p K) _ e).1).1).1).1).1).0
-
 pub in_range_two-true : (ns : List ℕ) → in_range_two ns ≡ true → IsInRangeTwo ns
 in_range_two-true ns e =
     let two = and_both (is_hexagon_base (slice_index ns 0)) (list_all (is_link_two ns) directions) e in (
       hexagon_below (slice_index ns 0) two.0,
       λ d low high.
           let is = direction_below d low high in
-          rw is at (link-true (link_at_digit (digit_of (nth_direction d)) ns) (each-direction (is_link_two ns) (nth_direction d) two.1)),
+          rw is at (link-true (link_at_digit (digit_of (nth_direction d)) ns) (each_at (is_link_two ns) (nth_direction d) two.1)),
     )
 
 -- what all formats have of numbers in range: a hexagon base cell, and a first digit

@@ -157,7 +157,7 @@ list_all-at p [] i e h = absurd (omega arith)
 list_all-at p (d ∷ ds) zero e h = (and_both (p d) (list_all p ds) e).0
 list_all-at p (d ∷ ds) (suc i) e h = list_all-at p ds i (and_both (p d) (list_all p ds) e).1 (omega arith)
 
-each_at : (p : Direction → Bool) (d : Direction) → list_all p directions ≡ true → p d ≡ true
+pub each_at : (p : Direction → Bool) (d : Direction) → list_all p directions ≡ true → p d ≡ true
 each_at p d e =
     let small = digit_of-lt d in
     subst (λ d. p d ≡ true) (direction-at d) (list_all-at p directions (digit_of d - 1) e (omega arith))
