@@ -1,7 +1,7 @@
 -- Counting cells by the cell of a region that covers them.
 use Rattle.std.specs.List.{count_by, flat_map, sum_by}
 use Rattle.std.specs.List.Sorted.{IsPermutation}
-use Rattle.std.proofs.Common.{ℕ, zero, suc, ◌++◌, replicate, length-append, take_all, Contains, ◌≡◌, ◌≢◌, ◌+◌, ◌<◌, List, [], ◌∷◌, length, take, set, map, not, sum, Bool, true, false, cond, Some, None, refl, arith, ◌∙◌, sym, ap, subst, inl, inr, get_or}
+use Rattle.std.proofs.Common.{ℕ, zero, suc, ◌++◌, replicate, length-append, take_all, Contains, ◌≡◌, ◌+◌, ◌<◌, List, [], ◌∷◌, length, take, set, map, not, sum, Bool, true, false, cond, Some, None, refl, arith, ◌∙◌, sym, ap, subst, inl, inr, get_or}
 use Rattle.std.proofs.Math.ListN.{length-set}
 use Rattle.std.proofs.lemmas.Bool.{cases_eq}
 use Rattle.std.proofs.lemmas.List.{length-map, get_or-set_same, get_or-set_other}
@@ -17,7 +17,7 @@ use Rattle.h3_regions.specs.Laws.{CountsAddUp}
 use Rattle.h3_regions.specs.Zones.{StandsAbove}
 use Rattle.h3_regions.proofs.ListLaws.{any_default}
 use Rattle.h3_regions.proofs.RegionLaws.{none_above}
-use Rattle.h3_regions.proofs.TestLaws.{covered_false, covered_true}
+use Rattle.h3_regions.proofs.TestLaws.{covered_false, covered_true, not_true}
 
 -- the first k cells are counted
 pub record IsCounting (list cells : List Address) (counts : List ℕ) (others k : ℕ) : Type 0 where
@@ -25,10 +25,6 @@ pub record IsCounting (list cells : List Address) (counts : List ℕ) (others k 
   pub each : (i : ℕ) (d : Address) → i < length list → get_or counts i 0 ≡ count_by (λ x. is_ancestor (get_or list i d) x) (take k cells)
   pub none : others ≡ count_by (λ x. not (is_covered list x)) (take k cells)
   pub total : sum counts + others ≡ k
-
-not_true : (b : Bool) → (b ≢ true) → b ≡ false
-not_true true h = absurd (h refl)
-not_true false h = refl
 
 pub as_map : (f : Address → ℕ) (list : List Address) (counts : List ℕ) → length counts ≡ length list → ((i : ℕ) (d : Address) → i < length list → get_or counts i 0 ≡ f (get_or list i d)) → counts ≡ map f list
 as_map f [] [] e h = refl

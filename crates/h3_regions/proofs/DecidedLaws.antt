@@ -1,8 +1,9 @@
 -- What two lists share, and what one has beyond the other, by the cells of one resolution.
-use Rattle.std.specs.List.{filter, flat_map}
+use Rattle.std.specs.List.{filter}
 use Rattle.std.specs.List.Sorted.{IsPermutation}
-use Rattle.std.proofs.Common.{ℕ, ◌≡◌, ◌≤◌, ◌⊎◌, ◌↔◌, List, [], ◌∷◌, All, Contains, Bool, true, false, not, refl, arith, ◌∙◌, sym, ap, subst, inl, inr}
-use Rattle.std.proofs.lemmas.List.Elements.{All-contains, Contains-append_cases, Contains-append_left, Contains-append_right}
+use Rattle.std.proofs.Common.{ℕ, ◌≡◌, ◌≤◌, ◌↔◌, List, [], ◌∷◌, All, Contains, Bool, true, false, not, arith, ◌∙◌, sym, ap, subst, inl, inr}
+use Rattle.std.proofs.lemmas.Bool.{cases_Bool}
+use Rattle.std.proofs.lemmas.List.Elements.{All-contains}
 use Rattle.h3_index.specs.Cell.{Address, IsCell, resolution}
 use Rattle.h3_index.specs.Descendants.{cut, descendants, IsAncestor, IsDescendant}
 use Rattle.h3_tree.specs.Laws.{CellsFormTrees}
@@ -13,20 +14,16 @@ use Rattle.h3_set.specs.Uncompaction.{uncompacted}
 use Rattle.h3_regions.specs.Algebra.{difference, finest_of_both, intersection}
 use Rattle.h3_regions.specs.Region.{IsRegion}
 use Rattle.h3_regions.proofs.CoverageLaws.{fine_within}
-use Rattle.h3_regions.proofs.ListLaws.{all_of, contains_cases, contains_head, contains_tail}
+use Rattle.h3_regions.proofs.ListLaws.{all_of, contains_cases, contains_head, contains_tail, from_flat, in_flat}
 use Rattle.h3_regions.proofs.LeftLaws.{finest_at}
 use Rattle.h3_regions.proofs.TestLaws.{covered_true, from_covered}
-
-true_or_not : (b : Bool) → (b ≡ true) ⊎ (b ≡ false)
-true_or_not true = inl refl
-true_or_not false = inr refl
 
 -- ---- the members of lists
 
 pub kept_from : (p : Address → Bool) (xs : List Address) (x : Address) → Contains (filter p xs) x → Contains xs x × (p x ≡ true)
 kept_from p [] x m = absurd (omega (arith, m.1))
 kept_from p (y ∷ xs) x m =
-    elim (true_or_not (p y)) [
+    elim (cases_Bool (p y)) [
       | inl pass ↦
           let n : Contains (y ∷ filter p xs) x = rw pass at m in
           elim (contains_cases y x (filter p xs) n) [
@@ -42,7 +39,7 @@ kept_from p (y ∷ xs) x m =
 pub kept : (p : Address → Bool) (xs : List Address) (x : Address) → Contains xs x → p x ≡ true → Contains (filter p xs) x
 kept p [] x m t = absurd (omega (arith, m.1))
 kept p (y ∷ xs) x m t =
-    elim (true_or_not (p y)) [
+    elim (cases_Bool (p y)) [
       | inl pass ↦ elim (contains_cases y x xs m) [
         | inl e ↦ rw pass (subst (Contains (y ∷ filter p xs)) e (contains_head y (filter p xs)))
         | inr k ↦ rw pass (contains_tail y x (filter p xs) (kept p xs x k t))
@@ -51,22 +48,6 @@ kept p (y ∷ xs) x m t =
         | inl e ↦ let never : true ≡ false = sym t ∙ sym (ap p e) ∙ miss in absurd (cc)
         | inr k ↦ rw miss (kept p xs x k t)
       ]
-    ]
-
-in_flat : (f : Address → List Address) (xs : List Address) (c x : Address) → Contains xs c → Contains (f c) x → Contains (flat_map f xs) x
-in_flat f [] c x m n = absurd (omega (arith, m.1))
-in_flat f (y ∷ xs) c x m n =
-    elim (contains_cases y c xs m) [
-      | inl e ↦ Contains-append_left (f y) (flat_map f xs) x (subst (λ a. Contains (f a) x) (sym e) n)
-      | inr k ↦ Contains-append_right (f y) (flat_map f xs) x (in_flat f xs c x k n)
-    ]
-
-from_flat : (f : Address → List Address) (xs : List Address) (x : Address) → Contains (flat_map f xs) x → (c : Address) × Contains xs c × Contains (f c) x
-from_flat f [] x m = absurd (omega (arith, m.1))
-from_flat f (y ∷ xs) x m =
-    elim (Contains-append_cases (f y) (flat_map f xs) x m) [
-      | inl h ↦ (y, contains_head y xs, h)
-      | inr h ↦ let r = from_flat f xs x h in (r.0, contains_tail y r.0 xs r.1, r.2)
     ]
 
 -- ---- the cells of one resolution
@@ -153,7 +134,7 @@ module _ (tree : CellsFormTrees) (found : AncestorsAreFound) (decide : Coverages
       picked_same (λ x. not (is_covered b x)) (λ x. (
         (λ c.
             let w = (covers x).0 c in
-            let out : is_covered b (cut x (finest_of_both a b)) ≡ false = elim (true_or_not (is_covered b (cut x (finest_of_both a b)))) [
+            let out : is_covered b (cut x (finest_of_both a b)) ≡ false = elim (cases_Bool (is_covered b (cut x (finest_of_both a b)))) [
               | inl pass ↦ absurd (w.1 (covered_from tree found b (finest_of_both a b) fine_second fine_both x c.below.valid c.below.resolution_is pass))
               | inr miss ↦ miss
             ] in

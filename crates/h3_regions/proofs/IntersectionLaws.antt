@@ -35,21 +35,6 @@ pub record IsSeen (a b slots : List Address) (i j w : ℕ) : Type 0 where
   pub all_b : (q : ℕ) (d : Address) → q < j → HasAncestor a (get_or b q d) → (k : ℕ) × (k < w) × (get_or slots k d ≡ get_or b q d)
   pub rises : (k l : ℕ) (d : Address) → k < l → l < w → key (get_or slots k d) < key (get_or slots l d)
 
-pub none_seen : (a b slots : List Address) → length a + length b ≤ length slots → IsSeen a b slots 0 0 0
-none_seen a b slots room =
-    record {
-      in_a = omega arith;
-      in_b = omega arith;
-      behind = omega arith;
-      room = room;
-      before_b = λ p q d l. absurd (omega (arith, l));
-      before_a = λ q p d l. absurd (omega (arith, l));
-      chosen = λ k d l. absurd (omega (arith, l));
-      all_a = λ p d l. absurd (omega (arith, l));
-      all_b = λ q d l. absurd (omega (arith, l));
-      rises = λ k l d lt lw. absurd (omega (arith, lw));
-    }
-
 -- the two lists change places
 pub turned : (a b slots : List Address) (i j w : ℕ) → IsSeen a b slots i j w → IsSeen b a slots j i w
 turned a b slots i j w s =

@@ -43,19 +43,6 @@ pub record IsKeeping (all now : List Address) (i w : ℕ) : Type 0 where
   pub rises : (a b : ℕ) (d : Address) → a < b → b < w → key (get_or now a d) < key (get_or now b d)
   pub apart : (a b : ℕ) (d : Address) → a < b → b < w → ¬ Overlap (get_or now a d) (get_or now b d)
 
-pub none_kept : (all : List Address) → IsKeeping all all 0 0
-none_kept all =
-    record {
-      size = refl;
-      inside = omega arith;
-      behind = omega arith;
-      rest = λ j d le lt. refl;
-      chosen = λ k d lt. absurd (omega (arith, lt));
-      above = λ j d lt. absurd (omega (arith, lt));
-      rises = λ a b d lt lb. absurd (omega (arith, lb));
-      apart = λ a b d lt lb. absurd (omega (arith, lb));
-    }
-
 module _ (tree : CellsFormTrees) (intervals : CellsFormIntervals) (all : List Address) (valid : All IsCell all) (order : IsInOrder all) where
   module _ (now : List Address) (i w : ℕ) (inv : IsKeeping all now i w) where
     kept_valid : (k : ℕ) (d : Address) → k < w → IsCell (get_or now k d)

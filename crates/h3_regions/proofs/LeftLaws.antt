@@ -3,7 +3,7 @@
 use Rattle.std.specs.List.{flat_map}
 use Rattle.std.proofs.Common.{ℕ, zero, suc, ◌≡◌, ◌+◌, ◌-◌, ◌<◌, ◌≤◌, ◌↔◌, List, [], ◌∷◌, ◌++◌, true, false, All, AllPairs, Contains, arith, ◌∙◌, sym, ap, subst, inl, inr, get_or}
 use Rattle.std.proofs.lemmas.Bool.{cases_Bool, cases_lt}
-use Rattle.std.proofs.lemmas.List.Elements.{All-contains, Contains-append_cases, Contains-append_left, Contains-append_right, Contains-get_or}
+use Rattle.std.proofs.lemmas.List.Elements.{All-contains, Contains-append_cases, Contains-get_or}
 use Rattle.h3_index.specs.Cell.{Address, IsCell, number_of, resolution}
 use Rattle.h3_index.specs.Descendants.{children, cut, IsAncestor, IsDescendant}
 use Rattle.h3_tree.specs.Laws.{CellsFormTrees}
@@ -15,7 +15,7 @@ use Rattle.h3_regions.specs.Region.{IsRegion}
 use Rattle.h3_regions.specs.Left.{has_below, left_of, left_of_all}
 use Rattle.h3_regions.proofs.IntervalLaws.{before, within}
 use Rattle.h3_regions.proofs.LeavingLaws.{left_gone, left_split, left_whole, splits_coarse}
-use Rattle.h3_regions.proofs.ListLaws.{all_of, contains_cases, contains_head, contains_tail}
+use Rattle.h3_regions.proofs.ListLaws.{all_of, contains_cases, contains_head, contains_tail, from_flat, in_flat}
 use Rattle.h3_regions.proofs.SharedLaws.{ordered_or, up_or_same, IsChild}
 use Rattle.h3_regions.proofs.TestLaws.{from_below, from_covered, none_below, none_covered}
 
@@ -27,22 +27,6 @@ finest_at (x ∷ cells) c m =
     elim (contains_cases x c cells m) [
       | inl e ↦ let same : resolution x ≡ resolution c = ap (λ v. resolution v) e in omega (arith, same)
       | inr n ↦ let h = finest_at cells c n in omega (arith, h)
-    ]
-
-from_flat : (f : Address → List Address) (cs : List Address) (x : Address) → Contains (flat_map f cs) x → (c : Address) × Contains cs c × Contains (f c) x
-from_flat f [] x m = absurd (omega (arith, m.1))
-from_flat f (c ∷ cs) x m =
-    elim (Contains-append_cases (f c) (flat_map f cs) x m) [
-      | inl n ↦ (c, contains_head c cs, n)
-      | inr n ↦ let w = from_flat f cs x n in (w.0, contains_tail c w.0 cs w.1, w.2)
-    ]
-
-in_flat : (f : Address → List Address) (cs : List Address) (c x : Address) → Contains cs c → Contains (f c) x → Contains (flat_map f cs) x
-in_flat f [] c x m n = absurd (omega (arith, m.1))
-in_flat f (y ∷ cs) c x m n =
-    elim (contains_cases y c cs m) [
-      | inl e ↦ Contains-append_left (f y) (flat_map f cs) x (subst (λ v. Contains (f v) x) (sym e) n)
-      | inr k ↦ Contains-append_right (f y) (flat_map f cs) x (in_flat f cs c x k n)
     ]
 
 module _ (R : Address → Address → Type 0) where

@@ -1,11 +1,10 @@
 -- How a region is made, and what its list says.
 use Rattle.std.specs.List.Sorted.{IsPermutation}
-use Rattle.std.proofs.Common.{ℕ, ◌≡◌, ◌-◌, ◌^◌, ◌<◌, ◌≤◌, ◌++◌, List, length, take, All, AllPairs, Contains, Some, None, refl, arith, ◌∙◌, sym, ap, subst, inl, inr, get_or}
+use Rattle.std.proofs.Common.{ℕ, ◌≡◌, ◌-◌, ◌^◌, ◌<◌, ◌≤◌, List, length, All, AllPairs, Contains, Some, None, refl, arith, ◌∙◌, sym, ap, subst, inl, inr, get_or}
 use Rattle.std.proofs.Math.Nat.{one-le-pow}
 use Rattle.std.proofs.lemmas.Bool.{cases_lt}
-use Rattle.std.proofs.lemmas.List.{take_at}
 use Rattle.std.proofs.lemmas.List.Elements.{Contains-get_or}
-use Rattle.std.proofs.lemmas.List.Sorted.{All-permutation, Contains-permutation, IsPermutation-sym, length_permutation}
+use Rattle.std.proofs.lemmas.List.Sorted.{All-permutation, Contains-permutation, IsPermutation-sym}
 use Rattle.h3_index.specs.Cell.{Address, IsCell, resolution}
 use Rattle.h3_index.specs.Descendants.{IsAncestor}
 use Rattle.h3_tree.specs.PostOrder.{post_order_key as key, CellsFormIntervals}
@@ -40,10 +39,6 @@ as_region intervals S r list sorted k same order apart =
       apart = apart;
       no_siblings = λ p h. k.no_siblings p (record { valid = h.valid; coarse = h.coarse; all = λ x b. Contains-permutation sorted list x (IsPermutation-sym list sorted same) (h.all x b) });
     }
-
--- a region's list is one of zones
-pub as_zones : (cells : List Address) → IsRegion cells → IsZones cells
-as_zones cells region = record { valid = region.valid; in_order = region.in_order; apart = region.apart }
 
 -- cells of which no two overlap are zones, once they are in order
 pub ordered_zones : (intervals : CellsFormIntervals) (cells : List Address) → All IsCell cells → IsInOrder cells → IsApart cells → IsZones cells

@@ -1,6 +1,6 @@
 -- How many cells a difference may have.
 use Rattle.std.specs.List.{flat_map}
-use Rattle.std.proofs.Common.{ℕ, zero, suc, ◌≡◌, ◌≢◌, ◌+◌, ◌-◌, ◌*◌, ◌<◌, ◌≤◌, List, [], ◌∷◌, length, not, Bool, true, false, AllPairs, Contains, refl, arith, ◌∙◌, sym, ap, subst, inl, inr, get_or, length-append}
+use Rattle.std.proofs.Common.{ℕ, zero, suc, ◌≡◌, ◌+◌, ◌-◌, ◌*◌, ◌<◌, ◌≤◌, List, [], ◌∷◌, length, not, Bool, true, false, AllPairs, Contains, refl, arith, ◌∙◌, sym, ap, subst, inl, inr, get_or, length-append}
 use Rattle.std.proofs.Math.Nat.{mul-le-mul_left}
 use Rattle.std.proofs.lemmas.Bool.{both_ways, cases_Bool, cases_lt}
 use Rattle.std.proofs.lemmas.List.Elements.{All-contains}
@@ -17,7 +17,7 @@ use Rattle.h3_regions.proofs.ListLaws.{contains_cases, contains_head, contains_t
 use Rattle.h3_regions.proofs.LeftLaws.{child_of, children_ordered, of_child, pairs_head, pairs_tail, which}
 use Rattle.h3_regions.proofs.LeftLaws.IsCase.{gone, whole, split}
 use Rattle.h3_regions.proofs.SharedLaws.{ordered_or, IsChild}
-use Rattle.h3_regions.proofs.TestLaws.{below_true, covered_true, from_below}
+use Rattle.h3_regions.proofs.TestLaws.{below_true, covered_true, from_below, not_true}
 
 -- ---- sums
 
@@ -80,10 +80,6 @@ total_none p (k ∷ ks) h =
 bit_small : (b : Bool) → bit b ≤ 1
 bit_small true = omega arith
 bit_small false = omega arith
-
-not_true : (b : Bool) → (b ≢ true) → b ≡ false
-not_true true h = absurd (h refl)
-not_true false h = refl
 
 -- where no two pass, at most one does
 total_one : (p : Address → Bool) (ks : List Address) → AllPairs (λ x y. p x ≡ true → p y ≡ true → ⊥) ks → total (λ k. bit (p k)) ks ≤ 1

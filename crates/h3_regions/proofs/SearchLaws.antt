@@ -2,7 +2,7 @@
 use Rattle.std.specs.Int.{from_bool}
 use Rattle.std.specs.List.Sorted.{IsNonDecreasingBy}
 use Rattle.std.proofs.Common.{ℕ, ◌≡◌, ◌+◌, ◌-◌, ◌^◌, ◌<◌, ◌≤◌, ◌⊎◌, List, length, true, false, ◌*◌, nat_lt, nat_le, IsTrue, ◌↔◌, arith, ◌∙◌, sym, ap, subst, inl, inr, get_or}
-use Rattle.std.proofs.lemmas.Bool.{cases_lt}
+use Rattle.std.proofs.lemmas.Bool.{cases_lt, leb-true, le-leb}
 use Rattle.std.proofs.lemmas.Bool.Decides.{nat_tests}
 use Rattle.h3_index.specs.Cell.{Address, IsCell, resolution}
 use Rattle.h3_index.specs.Descendants.{IsAncestor}
@@ -19,12 +19,6 @@ less_is m n h = grind (arith, nat_tests)
 
 less_is_not : (m n : ℕ) → n ≤ m → nat_lt m n ≡ false
 less_is_not m n h = grind (arith, nat_tests)
-
-is_at_most : (m n : ℕ) → nat_le m n ≡ true → m ≤ n
-is_at_most m n h = grind (arith, nat_tests)
-
-at_most_is : (m n : ℕ) → m ≤ n → nat_le m n ≡ true
-at_most_is m n h = grind (arith, nat_tests)
 
 back_one : (i : ℕ) → i + 1 - 1 ≡ i
 back_one i = omega arith
@@ -75,11 +69,11 @@ module _ (cells : List Address) (region : IsZones cells) where
   pub not_below_where : (k i r : ℕ) (a : Address) → i < length cells → a ≡ get_or cells i a → r ≡ key a → IsTrue (nat_le k r) ↔ AreNotBelow cells k i
   not_below_where k i r a lt is r_is = (
     (λ t.
-        let le : k ≤ r = is_at_most k r t in
+        let le : k ≤ r = leb-true k r t in
         not_below_from k i a (omega (arith, le, r_is, ap key is))),
     (λ after.
         let le = after i a (omega arith) lt in
-        at_most_is k r (omega (arith, le, r_is, ap key is))),
+        le-leb k r (omega (arith, le, r_is, ap key is))),
   )
 
   -- one step of a search: h places on, where the cell there has a key below k

@@ -2,8 +2,7 @@
 use Rattle.std.specs.List.{list_any}
 use Rattle.std.proofs.Common.{ℕ, ◌≡◌, ◌≢◌, ◌+◌, ◌-◌, ◌^◌, ◌<◌, ◌≤◌, ◌↔◌, List, length, Contains, Bool, true, false, nat_le, refl, arith, ◌∙◌, sym, ap, subst, inl, inr, get_or}
 use Rattle.std.proofs.Math.Nat.{one-le-pow}
-use Rattle.std.proofs.lemmas.Bool.{both_ways, cases_lt}
-use Rattle.std.proofs.lemmas.Bool.Decides.{nat_tests}
+use Rattle.std.proofs.lemmas.Bool.{both_ways, cases_lt, leb-true, le-leb}
 use Rattle.std.proofs.lemmas.List.Elements.{Contains-get_or}
 use Rattle.std.proofs.lemmas.List.Folds.{Any-from_list_any, list_any_at, list_any_none}
 use Rattle.h3_index.specs.Cell.{Address, IsCell, resolution}
@@ -19,7 +18,7 @@ use Rattle.h3_regions.specs.Zones.{IsFirstPlace}
 use Rattle.h3_regions.proofs.IntervalLaws.{before, inside, within}
 use Rattle.h3_regions.proofs.ListLaws.{member_at}
 
-not_true : (b : Bool) → (b ≢ true) → b ≡ false
+pub not_true : (b : Bool) → (b ≢ true) → b ≡ false
 not_true true h = absurd (h refl)
 not_true false h = refl
 
@@ -66,14 +65,8 @@ module _ (found : AncestorsAreFound) (cells : List Address) (x : Address) where
 
 -- ---- the search for a cell above or below
 
-is_at_most : (m n : ℕ) → nat_le m n ≡ true → m ≤ n
-is_at_most m n h = grind (arith, nat_tests)
-
-at_most_is : (m n : ℕ) → m ≤ n → nat_le m n ≡ true
-at_most_is m n h = grind (arith, nat_tests)
-
 pub at_most_decides : (m n : ℕ) → (nat_le m n ≡ true) ↔ (m ≤ n)
-at_most_decides m n = (is_at_most m n, at_most_is m n)
+at_most_decides m n = (leb-true m n, le-leb m n)
 
 module _ (found : AncestorsAreFound) (tree : CellsFormTrees) (intervals : CellsFormIntervals) (cells : List Address) (region : IsRegion cells) (x : Address) (valid : IsCell x) (i : ℕ) (split : IsFirstPlace cells (lowest_key x) i) where
   member_valid : (a : Address) → Contains cells a → IsCell a

@@ -1,7 +1,8 @@
 -- The zone of a cell.
 use Rattle.std.specs.List.{find}
 use Rattle.std.specs.List.Sorted.{IsPermutation}
-use Rattle.std.proofs.Common.{◌≡◌, ◌⊎◌, List, [], ◌∷◌, All, Contains, Bool, true, false, Some, None, refl, arith, ◌∙◌, sym, ap, inl, inr}
+use Rattle.std.proofs.Common.{◌≡◌, List, [], ◌∷◌, All, Contains, Bool, true, false, Some, None, refl, arith, ◌∙◌, sym, ap, inl, inr}
+use Rattle.std.proofs.lemmas.Bool.{cases_Bool}
 use Rattle.std.proofs.lemmas.List.Sorted.{Contains-permutation, IsPermutation-sym, list_any-IsPermutation}
 use Rattle.h3_index.specs.Cell.{Address, IsCell}
 use Rattle.h3_index.specs.Descendants.{IsAncestor}
@@ -17,10 +18,6 @@ use Rattle.h3_regions.proofs.SharedLaws.{ordered_or}
 use Rattle.h3_regions.proofs.TestLaws.{from_covered, none_covered}
 
 -- ---- the first that passes a test
-
-true_or_not : (b : Bool) → (b ≡ true) ⊎ (b ≡ false)
-true_or_not true = inl refl
-true_or_not false = inr refl
 
 pub find_none : (p : Address → Bool) (cells : List Address) → ((z : Address) → Contains cells z → p z ≡ false) → find p cells ≡ None
 find_none p [] h = refl
@@ -39,7 +36,7 @@ found_later p y w cells miss f =
 find_first : (p : Address → Bool) (cells : List Address) (z : Address) → Contains cells z → p z ≡ true → (w : Address) × IsFound p cells w
 find_first p [] z m t = absurd (omega (arith, m.1))
 find_first p (y ∷ cells) z m t =
-    elim (true_or_not (p y)) [
+    elim (cases_Bool (p y)) [
       | inl pass ↦ (y, record { is = rw pass refl; member = contains_head y cells; passes = pass })
       | inr miss ↦ elim (contains_cases y z cells m) [
         | inl e ↦ let same : p y ≡ p z = ap p e in let never : true ≡ false = sym t ∙ sym same ∙ miss in absurd (cc)
@@ -51,7 +48,7 @@ find_first p (y ∷ cells) z m t =
 find_from : (p : Address → Bool) (cells : List Address) (z : Address) → find p cells ≡ Some z → p z ≡ true
 find_from p [] z e = absurd (cc)
 find_from p (y ∷ cells) z e =
-    elim (true_or_not (p y)) [
+    elim (cases_Bool (p y)) [
       | inl pass ↦ let same : Some y ≡ Some z = rw pass at e in let eq : y ≡ z = cc in sym (ap p eq) ∙ pass
       | inr miss ↦ find_from p cells z (rw miss at e)
     ]
@@ -71,14 +68,14 @@ module _ (tree : CellsFormTrees) (found : AncestorsAreFound) where
 
   pub no_zone : (zones : List Address) (x : Address) → ((z : Address) → Contains zones z → ¬ IsAncestor z x) → zone_of zones x ≡ None
   no_zone zones x none =
-      find_none (λ y. is_ancestor y x) zones (λ z m. elim (true_or_not (is_ancestor z x)) [
+      find_none (λ y. is_ancestor y x) zones (λ z m. elim (cases_Bool (is_ancestor z x)) [
         | inl pass ↦ absurd (none z m ((found z x).0 pass))
         | inr miss ↦ miss
       ])
 
   covered_zone : (zones : List Address) (x : Address) → zone_of zones x ≡ None → is_covered zones x ≡ false
   covered_zone zones x e =
-      elim (true_or_not (is_covered zones x)) [
+      elim (cases_Bool (is_covered zones x)) [
         | inl pass ↦
             let h = from_covered found zones x pass in
             let f = find_first (λ y. is_ancestor y x) zones h.by h.member ((found h.by x).1 h.above) in
@@ -102,7 +99,7 @@ module _ (tree : CellsFormTrees) (found : AncestorsAreFound) where
 module _ (tree : CellsFormTrees) (found : AncestorsAreFound) (reordered : ApartInAnyOrder) where
   zone_permuted : (zones others : List Address) (x : Address) → IsApart zones → IsPermutation zones others → zone_of zones x ≡ zone_of others x
   zone_permuted zones others x apart same =
-      elim (true_or_not (is_covered zones x)) [
+      elim (cases_Bool (is_covered zones x)) [
         | inl pass ↦
             let h = from_covered found zones x pass in
             let f = find_first (λ y. is_ancestor y x) zones h.by h.member ((found h.by x).1 h.above) in
@@ -122,8 +119,8 @@ overlap_kept overlaps reordered a b same none = (overlaps b).1 (reordered a b sa
 
 pub overlap_permuted : OverlapsAreFound → ApartInAnyOrder → (a b : List Address) → IsPermutation a b → has_overlap a ≡ has_overlap b
 overlap_permuted overlaps reordered a b same =
-    elim (true_or_not (has_overlap a)) [
-      | inl some ↦ elim (true_or_not (has_overlap b)) [
+    elim (cases_Bool (has_overlap a)) [
+      | inl some ↦ elim (cases_Bool (has_overlap b)) [
         | inl also ↦ some ∙ sym also
         | inr none ↦
             let never : true ≡ false = sym some ∙ overlap_kept overlaps reordered b a (IsPermutation-sym a b same) none in
