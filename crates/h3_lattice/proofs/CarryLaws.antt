@@ -6,14 +6,14 @@ use Rattle.h3_lattice.specs.declared.class.Class.{Class}
 use Rattle.h3_lattice.specs.declared.class.Class.TheVariants.{Two, Three}
 use Rattle.h3_directions.specs.Eisenstein.{Eisenstein, product_of, sum_of, zero_point}
 use Rattle.h3_directions.specs.Direction.{digit_of, digit_or_zero, digit_value, direction_of, opposite, turned, turned_once, unit_of, value_of}
-use Rattle.h3_lattice.specs.Class.{multiplier}
+use Rattle.h3_lattice.specs.Class.{carried_to, multiplier}
 use Rattle.h3_lattice.specs.Laws.{Triangle, all_inside, z_across, x_across, y_across, all_across}
-use Rattle.h3_lattice.proofs.EntryLaws.{EachDirection, at_direction, entry, entry_is}
+use Rattle.h3_lattice.proofs.EntryLaws.{EachDirection, at_direction, entry_sum, left_of, row_after}
 use Rattle.h3_lattice.proofs.LinearLaws.{points}
 
 -- the digit that is left, as a direction or the centre, and what is carried
 abbrev pub carried : Class → Option Direction → Direction → Option Direction × Option Direction
-carried c x d = let e = entry c (digit_or_zero x) d in (direction_of e.0, e.1)
+carried c x d = (direction_of (left_of c (digit_or_zero x) d), carried_to c (row_after c (digit_or_zero x) d))
 
 abbrev pub EachEntry : (Class → Option Direction → Direction → Type 0) → Type 0
 EachEntry P =
@@ -34,7 +34,7 @@ digit_value-digit None = refl
 digit_value-digit (Some d) = at_direction (λ d. digit_value (digit_of d) ≡ unit_of d) (refl, refl, refl, refl, refl, refl) d
 
 pub carried_is : (c : Class) (x : Option Direction) (d : Direction) → sum_of (value_of x) (unit_of d) ≡ sum_of (product_of (multiplier c) (value_of (carried c x d).1)) (value_of (carried c x d).0)
-carried_is c x d = rw (sym (digit_value-digit x)) (entry_is c (digit_or_zero x) d (digit_small x)).0
+carried_is c x d = rw (sym (digit_value-digit x)) (entry_sum c (digit_or_zero x) d (digit_small x)).carry
 
 -- what is carried may be nothing
 abbrev pub carried_into : Class → Option Direction → Option Direction → Option Direction × Option Direction

@@ -1,8 +1,8 @@
 -- Sums of a digit list and a direction: one sum, its reverse, its turns, and triangles.
-use Rattle.std.proofs.Common.{◌≡◌, ◌-◌, ◌<◌, ◌≤◌, ◌++◌, take, get_or, length-append, ℕ, zero, suc, ◌+◌, refl, arith, sym, ap, subst, ◌∙◌, Option, Some, None, List, [], ◌∷◌, length, map, drop, set, option_map}
+use Rattle.std.proofs.Common.{rules, ◌≡◌, ◌-◌, ◌<◌, ◌≤◌, ◌++◌, take, get_or, length-append, ℕ, zero, suc, ◌+◌, refl, arith, sym, ap, subst, ◌∙◌, Option, Some, None, List, [], ◌∷◌, length, map, drop, set, option_map}
 use Rattle.std.specs.Int.Digits.{AllBelowBase}
 use Rattle.std.proofs.Math.Seq.{take-suc}
-use Rattle.std.proofs.lemmas.List.{append_assoc, drop-set, length-map, length-take-le, set_split, take-set}
+use Rattle.std.proofs.lemmas.List.{append_assoc, drop_all, drop-set, length-map, length-take-le, set_split, take_all, take-set}
 use Rattle.h3_directions.specs.declared.direction.Direction.{Direction}
 use Rattle.h3_directions.specs.declared.direction.Direction.TheVariants.{K, J, JK, I, IK, IJ}
 use Rattle.h3_lattice.specs.declared.class.Class.{Class}
@@ -202,6 +202,15 @@ pushed_sum ds es d k u x y n at long all small h e =
 -- what is added to the first r of the digits ms, and the others after that: the whole sum
 pub record IsUnderway (ds : List ℕ) (direction : Direction) (r : ℕ) (d : Direction) (ms : List ℕ) : Type 0 where
   pub whole : (u : Option Direction) (es : List ℕ) → IsSum (take r ms) d u es → IsSum ds direction u (es ++ drop r ms)
+
+pub begins : (ds : List ℕ) (direction : Direction) → IsUnderway ds direction (length ds) direction ds
+begins ds direction = record {
+  whole = λ u es h.
+      let all : take (length ds) ds ≡ ds = take_all (length ds) ds (omega arith) in
+      let none : drop (length ds) ds ≡ [] = drop_all (length ds) ds (omega arith) in
+      let same : es ++ [] ≡ es = search rules in
+      rw (none, same) (rw all at h);
+}
 
 nothing-sum : (x : Eisenstein) → sum_of zero_point x ≡ sum_of x zero_point
 nothing-sum x = omega (arith, points)

@@ -1,127 +1,49 @@
 //! The carry tables: what each digit and each direction add up to.
 //!
-//! A row for each digit from 0 on, a column for each direction in the order of the digits. An entry
-//! is the digit that is left, and the direction that is carried to the next coarser resolution,
-//! where there is one.
+//! A row stands for a direction at a resolution of a class: rows 1 to 6 for the directions in the
+//! order of their digits at the even resolutions, rows 7 to 12 for them at the odd ones, and row 0
+//! for nothing that is added. A column stands for a digit, 0 to 6; column 7 makes each row eight
+//! numbers long, so that a number's place is found without a product.
 
-use h3_directions::Direction;
+/// What is left and what is carried, by the row and the digit.
+pub(crate) struct Carries {
+    /// The digit that is left.
+    pub(crate) left: [[u8; 8]; 13],
 
-/// The carries of the odd resolutions.
-pub(crate) static CARRIES_THREE: [[(u8, Option<Direction>); 6]; 7] = [
-    [
-        (1, None),
-        (2, None),
-        (3, None),
-        (4, None),
-        (5, None),
-        (6, None),
-    ],
-    [
-        (4, Some(Direction::K)),
-        (3, None),
-        (6, Some(Direction::K)),
-        (5, None),
-        (2, Some(Direction::IK)),
-        (0, None),
-    ],
-    [
-        (3, None),
-        (1, Some(Direction::J)),
-        (4, Some(Direction::JK)),
-        (6, None),
-        (0, None),
-        (5, Some(Direction::J)),
-    ],
-    [
-        (6, Some(Direction::K)),
-        (4, Some(Direction::JK)),
-        (5, Some(Direction::JK)),
-        (0, None),
-        (1, None),
-        (2, None),
-    ],
-    [
-        (5, None),
-        (6, None),
-        (0, None),
-        (2, Some(Direction::I)),
-        (3, Some(Direction::I)),
-        (1, Some(Direction::IJ)),
-    ],
-    [
-        (2, Some(Direction::IK)),
-        (0, None),
-        (1, None),
-        (3, Some(Direction::I)),
-        (6, Some(Direction::IK)),
-        (4, None),
-    ],
-    [
-        (0, None),
-        (5, Some(Direction::J)),
-        (2, None),
-        (1, Some(Direction::IJ)),
-        (4, None),
-        (3, Some(Direction::IJ)),
-    ],
-];
+    /// The row of what is carried, at the next coarser resolution.
+    pub(crate) carried: [[u8; 8]; 13],
+}
 
-/// The carries of the even resolutions.
-pub(crate) static CARRIES_TWO: [[(u8, Option<Direction>); 6]; 7] = [
-    [
-        (1, None),
-        (2, None),
-        (3, None),
-        (4, None),
-        (5, None),
-        (6, None),
+/// The sums of all rows and digits.
+pub(crate) static CARRIES: Carries = Carries {
+    left: [
+        [0, 1, 2, 3, 4, 5, 6, 7],
+        [1, 2, 3, 4, 5, 6, 0, 7],
+        [2, 3, 4, 5, 6, 0, 1, 7],
+        [3, 4, 5, 6, 0, 1, 2, 7],
+        [4, 5, 6, 0, 1, 2, 3, 7],
+        [5, 6, 0, 1, 2, 3, 4, 7],
+        [6, 0, 1, 2, 3, 4, 5, 7],
+        [1, 4, 3, 6, 5, 2, 0, 7],
+        [2, 3, 1, 4, 6, 0, 5, 7],
+        [3, 6, 4, 5, 0, 1, 2, 7],
+        [4, 5, 6, 0, 2, 3, 1, 7],
+        [5, 2, 0, 1, 3, 6, 4, 7],
+        [6, 0, 5, 2, 1, 4, 3, 7],
     ],
-    [
-        (2, Some(Direction::K)),
-        (3, None),
-        (4, Some(Direction::JK)),
-        (5, None),
-        (6, Some(Direction::K)),
-        (0, None),
+    carried: [
+        [0, 0, 0, 0, 0, 0, 0, 0],
+        [0, 7, 0, 9, 0, 7, 0, 0],
+        [0, 0, 8, 8, 0, 0, 12, 0],
+        [0, 9, 8, 9, 0, 0, 0, 0],
+        [0, 0, 0, 0, 10, 11, 10, 0],
+        [0, 7, 0, 0, 11, 11, 0, 0],
+        [0, 0, 12, 0, 10, 0, 12, 0],
+        [0, 1, 0, 1, 0, 5, 0, 0],
+        [0, 0, 2, 3, 0, 0, 2, 0],
+        [0, 1, 3, 3, 0, 0, 0, 0],
+        [0, 0, 0, 0, 4, 4, 6, 0],
+        [0, 5, 0, 0, 4, 5, 0, 0],
+        [0, 0, 2, 0, 6, 0, 6, 0],
     ],
-    [
-        (3, None),
-        (4, Some(Direction::J)),
-        (5, Some(Direction::J)),
-        (6, None),
-        (0, None),
-        (1, Some(Direction::IJ)),
-    ],
-    [
-        (4, Some(Direction::JK)),
-        (5, Some(Direction::J)),
-        (6, Some(Direction::JK)),
-        (0, None),
-        (1, None),
-        (2, None),
-    ],
-    [
-        (5, None),
-        (6, None),
-        (0, None),
-        (1, Some(Direction::I)),
-        (2, Some(Direction::IK)),
-        (3, Some(Direction::I)),
-    ],
-    [
-        (6, Some(Direction::K)),
-        (0, None),
-        (1, None),
-        (2, Some(Direction::IK)),
-        (3, Some(Direction::IK)),
-        (4, None),
-    ],
-    [
-        (0, None),
-        (1, Some(Direction::IJ)),
-        (2, None),
-        (3, Some(Direction::I)),
-        (4, None),
-        (5, Some(Direction::IJ)),
-    ],
-];
+};

@@ -23,5 +23,5 @@ pub mod vectors;
 pub use class::{Class, carry};
 pub use digits::Digits;
 pub use direction::{edge_direction, turn};
-pub use moved::{Moved, add};
+pub use moved::{Moved, add, add_at};
 pub use table::BaseTable;

@@ -1,11 +1,11 @@
 //! Sums of a cell and a direction.
 
 ghost use Rattle.std.specs.Prelude.{◌≡◌, false};
-ghost use Rattle.h3_index.specs.Cell.{is_pentagon_base, IsCell};
+ghost use Rattle.h3_index.specs.Cell.{is_pentagon_base, resolution, IsCell};
 ghost use Rattle.h3_lattice.specs.Expansion.{ExpansionsAreUnique, PlacesAreSums};
 ghost use Rattle.h3_lattice.specs.Moved.{IsMoved, IsSum};
 
-use crate::class::{Class, carry};
+use crate::class::{Class, direction_in, row_of, sum_in};
 use crate::digits::Digits;
 use h3_directions::Direction;
 use h3_index::Cell;
@@ -33,18 +33,29 @@ pub fn add(cell: Cell, direction: Direction) -> Moved
     ensures unique { ExpansionsAreUnique }
     ensures places { PlacesAreSums }
 {
-    let resolution = cell.resolution();
+    add_at(cell, cell.resolution(), direction)
+}
+
+/// The same, where the resolution of the cell is given: a walk stays at one.
+#[inline(always)]
+pub fn add_at(cell: Cell, res: u8, direction: Direction) -> Moved
+    requires hexagon { is_pentagon_base cell.base ≡ false }
+    requires res { res ≡ resolution cell }
+    ensures { IsMoved cell direction result }
+{
+    // The proof takes from this that the cell is a valid cell.
+    let _resolution = cell.resolution();
     let mut moved = cell;
-    let mut carried = direction;
+    let mut row = row_of(Class::at(res), direction);
     // from the finest digit on towards that of resolution 1, while something is carried
-    for done in 0..resolution {
-        let r = resolution - done;
-        let (digit, next) = carry(Class::at(r), moved.digit(r), carried);
+    for done in 0..res {
+        let r = res - done;
+        let (digit, carried) = sum_in(row, moved.digit(r));
         moved = moved.with_digit(r, digit);
-        match next {
-            None => return Moved::Inside(moved),
-            Some(coarser) => carried = coarser,
+        if carried == 0 {
+            return Moved::Inside(moved);
         }
+        row = carried;
     }
-    Moved::Across(carried, Digits::of(moved))
+    Moved::Across(direction_in(row), Digits::of(moved))
 }

@@ -3,7 +3,7 @@
 use crate::rows::{cell, differ, holds, is_cell};
 use h3_directions::{DIRECTIONS, Direction};
 use h3_index::{Cell, Edge};
-use h3_lattice::{Class, Digits, Moved, add, carry, edge_direction, turn};
+use h3_lattice::{Class, Digits, Moved, add, add_at, carry, edge_direction, turn};
 use std::process::Abort;
 
 /// Whether there is the direction expected, or none where none is.
@@ -119,6 +119,14 @@ fn across(cell: u64, direction: Direction) -> Option<(Direction, Digits)> {
 #[test]
 fn a_sum_lies_inside(rt: HostRuntime) {
     assert!(rt; is_cell(inside(0x85283473fffffff, Direction::IJ), 0x85283447fffffff));
+}
+
+#[test]
+fn a_sum_at_a_given_resolution_is_the_same(rt: HostRuntime) {
+    match add_at(cell(&rt, 0x85283473fffffff), 5, Direction::IJ) {
+        Moved::Inside(sum) => assert!(rt; sum.raw() == 0x85283447fffffff),
+        Moved::Across(_, _) => panic!(rt; "it lies across"),
+    }
 }
 
 #[test]
