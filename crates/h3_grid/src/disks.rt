@@ -1,8 +1,10 @@
 //! Disks.
 
-ghost use Rattle.std.specs.Prelude.{◌≡◌, ◌≤◌, ◌<◌, ◌+◌, ◌*◌, ◌^◌, ◌∷◌, true, length, IfOk, unsigned_abs};
+ghost use Rattle.std.specs.Prelude.{◌≡◌, ◌≤◌, ◌<◌, ◌+◌, ◌*◌, ◌^◌, ◌∷◌, true, false, length, IfOk, unsigned_abs};
 ghost use Rattle.std.specs.Iterator.{YieldsFirst, item_count};
 ghost use Rattle.std.specs.Result.{result_err};
+ghost use Rattle.h3_directions.specs.Direction.{turned};
+ghost use Rattle.h3_index.specs.Cell.{is_pentagon_base, resolution};
 ghost use Rattle.h3_lattice.specs.BaseTable.{link_of};
 ghost use Rattle.h3_grid.specs.Chart.{ChartsLeadAlongPaths, DisksAreCharts, OriginsAreAlone, RingsAgree, StatesAreWritten};
 ghost use Rattle.h3_grid.specs.Counters.{side_before};
@@ -12,11 +14,11 @@ ghost use Rattle.h3_grid.specs.Refusals.{disk_refusal};
 ghost use Rattle.h3_grid.specs.Walks.{disk};
 ghost use Rattle.h3_grid.specs.WholeDisk.{IsWholeDisk};
 
-use crate::steps::{step, steps_are_found, steps_are_lawful};
+use crate::steps::{step_ahead, steps_are_found, steps_are_lawful};
 use h3_directions::Direction;
 use h3_index::{Cell, H3Error};
-use h3_lattice::BaseTable;
 use h3_lattice::laws::{sums_are_lawful, turns_add_up};
+use h3_lattice::{BaseTable, turn};
 
 /// The direction of the side of a ring that has this many sides after it.
 pub(crate) fn side_before(sides: u8) -> Direction
@@ -37,19 +39,25 @@ pub(crate) fn side_before(sides: u8) -> Direction
 /// number of its ring.
 ///
 /// An iterator. After the error `Pentagon`, which comes where a step meets a pentagon base cell,
-/// there is no further item. It takes no memory: it holds the cell that was reached last and counts
-/// what is left, steps of a side, sides of a ring and rings.
+/// there is no further item. It takes no memory: it holds the cell that was reached last, the
+/// direction of its side as it is turned there, and counts what is left, steps of a side, sides of a
+/// ring and rings.
 #[derive(Clone, Copy, Debug)]
 pub struct Disk<'a> {
     table: &'a BaseTable,
     cell: Cell,
+    res: u8,
     rotation: u8,
+    ahead: Direction,
     ring: u32,
     steps: u32,
     sides: u8,
     rings: u32,
     begun: bool,
-    ghost turned: { rotation < 6 },
+    ghost few_turns: { rotation < 6 },
+    ghost of_cell: { res ≡ resolution cell },
+    ghost on_hexagons: { 0 < steps + sides + rings → is_pentagon_base cell.base ≡ false },
+    ghost on_side: { 0 < steps → ahead ≡ turned rotation (side_before sides) },
     ghost on_ring: { sides ≤ 5 * ring },
     ghost in_ring: { sides ≤ 5 },
     ghost in_range: { ring + rings < 2 ^ 31 },
@@ -135,7 +143,9 @@ impl<'a> Disk<'a> {
         Ok(Disk {
             table,
             cell,
+            res: cell.resolution(),
             rotation: 0,
+            ahead: Direction::I,
             ring: 0,
             steps: 0,
             sides: 0,
@@ -151,21 +161,17 @@ impl<'a> Disk<'a> {
         requires some { 0 < self.old.steps }
         ensures { disk_left self.old ≡ result ∷ disk_left self.new }
     {
-        match step(
-            self.table,
-            self.cell,
-            side_before(self.sides),
-            self.rotation,
-        ) {
+        match step_ahead(self.table, self.cell, self.res, self.ahead, self.rotation) {
             Err(error) => {
                 self.steps = 0;
                 self.sides = 0;
                 self.rings = 0;
                 Err(error)
             }
-            Ok((cell, rotation)) => {
+            Ok((cell, rotation, ahead)) => {
                 self.cell = cell;
                 self.rotation = rotation;
+                self.ahead = ahead;
                 self.steps -= 1;
                 Ok((cell, self.ring))
             }
@@ -194,23 +200,26 @@ impl<'a> Iterator for Disk<'a> {
         if self.sides > 0 {
             self.sides -= 1;
             self.steps = self.ring;
+            self.ahead = turn(side_before(self.sides), self.rotation);
             return Some(self.go_on());
         }
         if self.rings == 0 {
             return None;
         }
-        match step(self.table, self.cell, Direction::I, self.rotation) {
+        let outward = turn(Direction::I, self.rotation);
+        match step_ahead(self.table, self.cell, self.res, outward, self.rotation) {
             Err(error) => {
                 self.rings = 0;
                 Some(Err(error))
             }
-            Ok((cell, rotation)) => {
+            Ok((cell, rotation, _outward)) => {
                 self.cell = cell;
                 self.rotation = rotation;
                 self.rings -= 1;
                 self.ring += 1;
                 self.sides = 5;
                 self.steps = self.ring;
+                self.ahead = turn(side_before(5), rotation);
                 Some(self.go_on())
             }
         }

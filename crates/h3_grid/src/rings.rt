@@ -3,20 +3,24 @@
 ghost use Rattle.std.specs.Prelude.{◌≡◌, ◌≤◌, ◌<◌, ◌^◌, ◌∷◌, replicate, true, false, Some, None, IfOk, IfErr, unsigned_abs};
 ghost use Rattle.std.specs.Iterator.{YieldsFirst, item_count};
 ghost use Rattle.std.specs.Result.{result_err};
+ghost use Rattle.h3_directions.specs.Direction.{turned};
+ghost use Rattle.h3_index.specs.Cell.{is_pentagon_base, resolution};
 ghost use Rattle.h3_lattice.specs.BaseTable.{link_of};
 ghost use Rattle.h3_grid.specs.Chart.{OriginsAreAlone, RingEndsDisk};
+ghost use Rattle.h3_grid.specs.Counters.{side_before};
 ghost use Rattle.h3_grid.specs.Refusals.{ring_refusal};
 ghost use Rattle.h3_grid.specs.Steps.{state};
 ghost use Rattle.h3_grid.specs.Walks.{ring, stepped};
 
 use crate::disks::{disks_are_charts, side_before};
-use crate::steps::step;
+use crate::steps::step_ahead;
 use h3_directions::Direction;
 use h3_index::{Cell, H3Error};
-use h3_lattice::BaseTable;
+use h3_lattice::{BaseTable, turn};
 
 /// The cell and the rotation that k steps in the direction I lead to from a cell.
 fn outward(table: &BaseTable, cell: Cell, k: u32) -> Result<(Cell, u8), H3Error>
+    requires { 0 < k → is_pentagon_base cell.base ≡ false }
     ensures led { IfOk result (λ r.
         (stepped (link_of table.now) (Some (state cell 0)) (replicate k Direction.I)
         ≡ Some (state r.0 r.1))
@@ -24,15 +28,20 @@ fn outward(table: &BaseTable, cell: Cell, k: u32) -> Result<(Cell, u8), H3Error>
     ensures refused { IfErr result (λ e.
         (stepped (link_of table.now) (Some (state cell 0)) (replicate k Direction.I) ≡ None)
         × (e ≡ H3Error.Pentagon)) }
+    ensures reached { IfOk result (λ r. (0 < k → is_pentagon_base r.0.base ≡ false)
+        × (resolution r.0 ≡ resolution cell)) }
 {
+    let res = cell.resolution();
     let mut reached = cell;
     let mut rotation = 0;
+    let mut ahead = Direction::I;
     for _done in 0..k {
-        match step(table, reached, Direction::I, rotation) {
+        match step_ahead(table, reached, res, ahead, rotation) {
             Err(error) => return Err(error),
-            Ok((next, turned)) => {
+            Ok((next, turns, turned)) => {
                 reached = next;
-                rotation = turned;
+                rotation = turns;
+                ahead = turned;
             }
         }
     }
@@ -43,21 +52,26 @@ fn outward(table: &BaseTable, cell: Cell, k: u32) -> Result<(Cell, u8), H3Error>
 ///
 /// An iterator. After the error `Pentagon`, which comes where a step meets a pentagon base cell, or
 /// after the last cell where the ring does not close, there is no further item. It takes no memory:
-/// it holds the cell that was reached last and the first one, and counts what is left, steps of a
-/// side and sides.
+/// it holds the cell that was reached last, the direction of its side as it is turned there, and the
+/// first cell, and counts what is left, steps of a side and sides.
 #[derive(Clone, Copy, Debug)]
 pub struct Ring<'a> {
     table: &'a BaseTable,
     cell: Cell,
+    res: u8,
     rotation: u8,
+    ahead: Direction,
     first: Cell,
     radius: u32,
     steps: u32,
     sides: u8,
     begun: bool,
-    ghost turned: { rotation < 6 },
+    ghost few_turns: { rotation < 6 },
+    ghost of_cell: { res ≡ resolution cell },
+    ghost on_hexagons: { 0 < radius → is_pentagon_base cell.base ≡ false },
     ghost in_ring: { sides ≤ 5 },
     ghost on_side: { steps ≤ radius },
+    ghost along_side: { begun ≡ true → 0 < steps → ahead ≡ turned rotation (side_before sides) },
 }
 
 /// A law of the ring of a radius around a cell, over the links of a table. It does nothing.
@@ -100,7 +114,9 @@ impl<'a> Ring<'a> {
         Ok(Ring {
             table,
             cell,
+            res: cell.resolution(),
             rotation: 0,
+            ahead: Direction::I,
             first: cell,
             radius: k as u32,
             steps: k as u32,
@@ -124,6 +140,7 @@ impl<'a> Ring<'a> {
             Ok((cell, rotation)) => {
                 self.cell = cell;
                 self.rotation = rotation;
+                self.ahead = turn(side_before(self.sides), rotation);
                 self.first = cell;
                 Ok(cell)
             }
@@ -137,20 +154,16 @@ impl<'a> Ring<'a> {
         requires some { 0 < self.old.steps }
         ensures { YieldsFirst ring_left self.old result self.new }
     {
-        match step(
-            self.table,
-            self.cell,
-            side_before(self.sides),
-            self.rotation,
-        ) {
+        match step_ahead(self.table, self.cell, self.res, self.ahead, self.rotation) {
             Err(error) => {
                 self.steps = 0;
                 self.sides = 0;
                 Some(Err(error))
             }
-            Ok((cell, rotation)) => {
+            Ok((cell, rotation, ahead)) => {
                 self.cell = cell;
                 self.rotation = rotation;
+                self.ahead = ahead;
                 self.steps -= 1;
                 if self.steps > 0 {
                     return Some(Ok(cell));
@@ -192,6 +205,7 @@ impl<'a> Iterator for Ring<'a> {
         }
         self.sides -= 1;
         self.steps = self.radius;
+        self.ahead = turn(side_before(self.sides), self.rotation);
         self.go_on()
     }
 }

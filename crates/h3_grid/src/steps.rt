@@ -1,7 +1,9 @@
 //! Steps to the cells beside a cell.
 
-ghost use Rattle.std.specs.Prelude.{◌≡◌, ◌<◌, None, Some, IfOk, IfErr};
-ghost use Rattle.h3_index.specs.Cell.{IsCell};
+ghost use Rattle.std.specs.Prelude.{◌≡◌, ◌<◌, false, None, Some, IfOk, IfErr};
+ghost use Rattle.h3_directions.specs.declared.direction.Direction.{Direction};
+ghost use Rattle.h3_directions.specs.Direction.{turned};
+ghost use Rattle.h3_index.specs.Cell.{is_pentagon_base, resolution, IsCell};
 ghost use Rattle.h3_lattice.specs.BaseTable.{link_of};
 ghost use Rattle.h3_grid.specs.Laws.{OverSoundLinks, StepsCloseTriangles, StepsDiffer, StepsLeave, StepsReachStates, StepsReverse};
 ghost use Rattle.h3_grid.specs.Search.{step_of, StepsAreFound};
@@ -10,7 +12,7 @@ ghost use Rattle.h3_grid.specs.Steps.{state, IsStep};
 use h3_directions::Direction;
 use h3_index::{Cell, H3Error, is_pentagon_base};
 use h3_lattice::laws::{checks_lift_to_steps, sums_are_lawful, turns_add_up};
-use h3_lattice::{BaseTable, Moved, add, turn};
+use h3_lattice::{BaseTable, Moved, add_at, turn};
 
 /// A law: a state has exactly one step in each direction, that which the function `step_of` of the
 /// definitions gives. It does nothing.
@@ -90,14 +92,48 @@ pub fn step(
     if cell.in_pentagon_base() {
         return Err(H3Error::Pentagon);
     }
-    match add(cell, turn(direction, rot)) {
-        Moved::Inside(moved) => Ok((moved, rot)),
+    let ahead = turn(direction, rot);
+    match step_ahead(table, cell, cell.resolution(), ahead, rot) {
+        Err(error) => Err(error),
+        Ok((next, rotation, _ahead)) => Ok((next, rotation)),
+    }
+}
+
+/// The same from a cell that is in no pentagon base cell, of a resolution that is given, in a
+/// direction that is turned as often as the rotation says. So what stays the same on a side of a
+/// walk is not found anew for each step. The direction comes back as it is turned at the neighbor.
+#[inline(always)]
+pub(crate) fn step_ahead(
+    table: &BaseTable,
+    cell: Cell,
+    res: u8,
+    ahead: Direction,
+    rot: u8,
+) -> Result<(Cell, u8, Direction), H3Error>
+    requires rot { rot < 6 }
+    requires hexagon { is_pentagon_base cell.base ≡ false }
+    requires res { res ≡ resolution cell }
+    ensures leads { IfOk result (λ r. (d : Direction) → ahead ≡ turned rot d →
+        step_of (link_of table.now) (state cell rot) d ≡ Some (state r.0 r.1)) }
+    ensures ahead { IfOk result (λ r. (d : Direction) → ahead ≡ turned rot d →
+        r.2 ≡ turned r.1 d) }
+    ensures valid { IfOk result (λ r. (r.1 < 6) × IsCell r.0
+        × (is_pentagon_base r.0.base ≡ false) × (res ≡ resolution r.0)) }
+    ensures ends { IfErr result (λ e. (d : Direction) → ahead ≡ turned rot d →
+        step_of (link_of table.now) (state cell rot) d ≡ None) }
+    ensures refused { IfErr result (λ e. e ≡ H3Error.Pentagon) }
+{
+    steps_are_found();
+    turns_add_up();
+    match add_at(cell, res, ahead) {
+        Moved::Inside(moved) => Ok((moved, rot, ahead)),
         Moved::Across(border, digits) => {
             let (base, turns) = table.link(cell.base_cell(), border);
             if is_pentagon_base(base) {
                 return Err(H3Error::Pentagon);
             }
-            Ok((digits.turned(turns).at(base), (rot + turns) % 6))
+            let next = digits.turned(turns).at(base);
+            Ok((next, (rot + turns) % 6, turn(ahead, turns)))
         }
     }
 }
