@@ -407,7 +407,20 @@ fn a_copy_or_a_clone_of_a_ring_goes_on_where_it_stands(rt: HostRuntime) {
 /// It has room for these alone, and what is copied owns no collection.
 #[test]
 fn a_ring_holds_two_cells_a_direction_and_counters(rt: HostRuntime) {
-    let parts = size_of::<(&BaseTable, Cell, u8, u8, Direction, Cell, u32, u32, u8, bool)>();
+    let parts = size_of::<
+        (
+            &BaseTable,
+            Cell,
+            u8,
+            u8,
+            Direction,
+            Cell,
+            u32,
+            u32,
+            u8,
+            bool,
+        ),
+    >();
     assert!(rt; size_of::<Ring<'_>>() == parts);
 }
 

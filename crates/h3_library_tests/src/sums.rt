@@ -84,7 +84,13 @@ fn a_digit_and_a_direction_leave_a_digit(rt: HostRuntime) {
     ];
     for (row, (class, digit, direction, left, carried)) in ROWS.iter().enumerate() {
         let (found, direction) = carry(*class, *digit, *direction);
-        assert!(rt; holds(&rt, row, found == *left && is_direction(direction, *carried)));
+        assert!(rt;
+            holds(
+                &rt,
+                row,
+                found == *left && is_direction(direction, *carried)
+            )
+        );
     }
 }
 
