@@ -33,6 +33,10 @@ fine_within : (cells : List Address) → ((c : Address) → Contains cells c →
 fine_within cells h =
     finest_within 15 cells (λ c m. let v = h c m in omega (arith, v.coarse))
 
+-- no cell is finer than resolution 15
+pub finest_is_fine : (cells : List Address) → All IsCell cells → finest cells ≤ 15
+finest_is_fine cells valid = fine_within cells (λ c m. All-contains IsCell cells c valid m)
+
 -- ---- the parts
 
 abbrev joined : List (List Address) → List Address

@@ -3,10 +3,11 @@ use Rattle.std.specs.Prelude.{ℕ, ◌≡◌, ◌≢◌, ◌≤◌, ◌↔◌, L
 use Rattle.std.specs.List.{flat_map}
 use Rattle.h3_index.specs.Cell.{Address, IsCell, resolution}
 use Rattle.h3_index.specs.Descendants.{IsAncestor}
-use Rattle.h3_set.specs.Compacted.{compacted, HasChildren, IsCompacted, IsTop}
+use Rattle.h3_set.specs.Compacted.{compacted, HasChildren, HoldsOnce, IsCompacted, IsTop}
 use Rattle.h3_set.specs.Coverage.{finest, is_ancestor, IsApart, IsCovered}
 use Rattle.h3_set.specs.Refusals.{has_overlap}
 use Rattle.h3_set.specs.Rounds.{InPart}
+use Rattle.h3_set.specs.Uncompaction.{uncompacted}
 
 -- RoundsReachTheTop: at level 0 the rounds have reached the top cells
 abbrev pub RoundsReachTheTop : Type 0
@@ -17,6 +18,26 @@ RoundsReachTheTop =
 abbrev pub CompactedListsAreUnique : Type 0
 CompactedListsAreUnique =
     (cells : List Address) (r : ℕ) (a b : List Address) → r ≤ 15 → IsCompacted (IsCovered cells r) r a → IsCompacted (IsCovered cells r) r b → a ≡ b
+
+-- CompactedListsAreTheOnlyOnes: what the cells of a list cover has no other compacted list than `compacted` of it
+abbrev pub CompactedListsAreTheOnlyOnes : Type 0
+CompactedListsAreTheOnlyOnes =
+    (cells others : List Address) → All IsCell cells → IsCompacted (IsCovered cells (finest cells)) (finest cells) others → others ≡ compacted cells
+
+-- CompactedListsHoldTheTops: the compacted list of cells has the top cells of what they cover, and no others
+abbrev pub CompactedListsHoldTheTops : Type 0
+CompactedListsHoldTheTops =
+    (cells : List Address) → All IsCell cells → (x : Address) → Contains (compacted cells) x ↔ IsTop (IsCovered cells (finest cells)) (finest cells) x
+
+-- CompactedListsCoverOnce: below the compacted list of cells each cell that they cover stands once
+abbrev pub CompactedListsCoverOnce : Type 0
+CompactedListsCoverOnce =
+    (cells : List Address) → All IsCell cells → HoldsOnce (IsCovered cells (finest cells)) (uncompacted (compacted cells) (finest cells))
+
+-- OneResolutionCoversItself: cells of one resolution cover themselves, and no others
+abbrev pub OneResolutionCoversItself : Type 0
+OneResolutionCoversItself =
+    (cells : List Address) → All IsCell cells → All (λ c. resolution c ≡ finest cells) cells → (x : Address) → IsCovered cells (finest cells) x ↔ Contains cells x
 
 -- OverlapsAreFound: `has_overlap` is false exactly where no cells at two places of a list overlap
 abbrev pub OverlapsAreFound : Type 0

@@ -1,16 +1,13 @@
 //! Compaction: the one list of cells that covers those of a list, with no overlap and no complete
 //! set of siblings.
 
-ghost use Rattle.std.specs.Prelude.{◌≡◌, ◌≤◌, ◌↔◌, length, take, drop, All, Contains, IfOk, IsPermutation, List};
+ghost use Rattle.std.specs.Prelude.{◌≡◌, ◌≤◌, length, take, drop, IfOk, IsPermutation};
 ghost use Rattle.std.specs.Result.{result_err};
-ghost use Rattle.h3_index.specs.Cell.{Address, resolution};
-ghost use Rattle.h3_set.specs.Compacted.{compacted, HoldsOnce, IsCompacted, IsTop};
+ghost use Rattle.h3_set.specs.Compacted.{compacted, IsCompacted};
 ghost use Rattle.h3_set.specs.Compaction.{IsDone};
 ghost use Rattle.h3_set.specs.Coverage.{finest, IsCovered};
-ghost use Rattle.h3_set.specs.Laws.{CompactedListsAreUnique, ListsCompactInParts, OneResolutionIsApart, OverlapsAreFound};
 ghost use Rattle.h3_set.specs.Order.{IsInOrder};
 ghost use Rattle.h3_set.specs.Refusals.{compaction_refusal};
-ghost use Rattle.h3_set.specs.Uncompaction.{uncompacted};
 
 use crate::rounds::Compaction;
 use h3_index::laws::{cells_are_listed, numbers_are_unique};
@@ -31,6 +28,12 @@ use h3_tree::laws::cells_form_trees;
 ///
 /// `DuplicateInput` where cells at two places overlap: a cell is listed twice, or together with an
 /// ancestor of it. The first n slots then hold the cells in some order.
+///
+/// What holds of compacted lists is said by [`compacted_lists_are_unique`] and
+/// [`coverages_decide_lists`] of [`laws`](crate::laws).
+///
+/// [`compacted_lists_are_unique`]: crate::laws::compacted_lists_are_unique
+/// [`coverages_decide_lists`]: crate::laws::coverages_decide_lists
 pub fn compact_cells(cells: &[Cell], slots: &mut [Cell]) -> Result<usize, H3Error>
     requires { length cells.now ≤ length slots.old }
     ensures compacted { IfOk result (λ m. IsCompacted
@@ -41,25 +44,6 @@ pub fn compact_cells(cells: &[Cell], slots: &mut [Cell]) -> Result<usize, H3Erro
     ensures overlapping { result ≡ Err H3Error.DuplicateInput
         → IsPermutation cells.now (take (length cells.now) slots.new) }
     ensures others { drop (length cells.now) slots.new ≡ drop (length cells.now) slots.old }
-
-    // The list has the top cells of what is covered, and no other list is a compacted one. Cells of
-    // one resolution cover themselves; below the list each cell covered stands once.
-    ensures tops { IfOk result (λ m. (x : Address)
-        → Contains (take m slots.new) x
-        ↔ IsTop (IsCovered cells.now (finest cells.now)) (finest cells.now) x) }
-    ensures only { IfOk result (λ m. (others : List Address)
-        → IsCompacted (IsCovered cells.now (finest cells.now)) (finest cells.now) others
-        → others ≡ take m slots.new) }
-    ensures covered { IfOk result (λ _. All (λ c. resolution c ≡ finest cells.now) cells.now
-        → (x : Address) → IsCovered cells.now (finest cells.now) x ↔ Contains cells.now x) }
-    ensures stream { IfOk result (λ m. HoldsOnce (IsCovered cells.now (finest cells.now))
-        (uncompacted (take m slots.new) (finest cells.now))) }
-
-    // Laws, whatever the cells.
-    ensures unique { CompactedListsAreUnique }
-    ensures parts { ListsCompactInParts }
-    ensures overlaps { OverlapsAreFound }
-    ensures repeats { OneResolutionIsApart }
 {
     let count = cells.len();
     slots[..count].copy_from_slice(cells);
@@ -114,24 +98,6 @@ pub fn compact_in_place(cells: &mut [Cell]) -> Result<usize, H3Error>
     ensures refused { result_err result ≡ compaction_refusal cells.old }
     ensures overlapping { result ≡ Err H3Error.DuplicateInput
         → IsPermutation cells.old cells.new }
-
-    // What the list is, as at `compact_cells`.
-    ensures tops { IfOk result (λ m. (x : Address)
-        → Contains (take m cells.new) x
-        ↔ IsTop (IsCovered cells.old (finest cells.old)) (finest cells.old) x) }
-    ensures only { IfOk result (λ m. (others : List Address)
-        → IsCompacted (IsCovered cells.old (finest cells.old)) (finest cells.old) others
-        → others ≡ take m cells.new) }
-    ensures covered { IfOk result (λ _. All (λ c. resolution c ≡ finest cells.old) cells.old
-        → (x : Address) → IsCovered cells.old (finest cells.old) x ↔ Contains cells.old x) }
-    ensures stream { IfOk result (λ m. HoldsOnce (IsCovered cells.old (finest cells.old))
-        (uncompacted (take m cells.new) (finest cells.old))) }
-
-    // Laws, whatever the cells.
-    ensures unique { CompactedListsAreUnique }
-    ensures parts { ListsCompactInParts }
-    ensures overlaps { OverlapsAreFound }
-    ensures repeats { OneResolutionIsApart }
 {
     cells_form_trees();
     numbers_are_unique();

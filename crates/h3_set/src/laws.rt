@@ -2,7 +2,7 @@
 //! holds always.
 
 ghost use Rattle.std.specs.Prelude.{◌≡◌};
-ghost use Rattle.h3_set.specs.Laws.{AncestorsAreFound, ApartInAnyOrder, CompactedListsAreCompacted, CompactedListsCoverAlike, CoveragesDecideLists, ListsCompactInParts, OverlapsAreFound, ReducedListsAreCompacted, ReducedListsAreReordered};
+ghost use Rattle.h3_set.specs.Laws.{AncestorsAreFound, ApartInAnyOrder, CompactedListsAreCompacted, CompactedListsAreTheOnlyOnes, CompactedListsAreUnique, CompactedListsCoverAlike, CompactedListsCoverOnce, CompactedListsHoldTheTops, CoveragesDecideLists, ListsCompactInParts, OneResolutionCoversItself, OneResolutionIsApart, OverlapsAreFound, ReducedListsAreCompacted, ReducedListsAreReordered};
 ghost use Rattle.h3_set.specs.Uncompact.{cells_left};
 ghost use Rattle.h3_set.specs.declared.iter.Uncompact.{Uncompact};
 ghost use Rattle.h3_set.specs.declared.rounds.Compaction.{Compaction};
@@ -21,6 +21,21 @@ pub fn clones_go_on<'a>()
     ensures compaction { (a b : Compaction) → ⟦<Compaction as Clone>⟧.is_clone a b → b ≡ a }
     ensures compaction_made { (a : Compaction) → ⟦<Compaction as Clone>⟧.is_infallible a }
 {}
+
+/// What the compacted list of cells is: the one compacted list of what they cover, with the top
+/// cells of that; below it each cell covered stands once. Cells of one resolution cover themselves,
+/// and overlap only where one is listed twice.
+pub fn compacted_lists_are_unique()
+    ensures unique { CompactedListsAreUnique }
+    ensures only { CompactedListsAreTheOnlyOnes }
+    ensures tops { CompactedListsHoldTheTops }
+    ensures stream { CompactedListsCoverOnce }
+    ensures covered { OneResolutionCoversItself }
+    ensures repeats { OneResolutionIsApart }
+{
+    cells_form_trees();
+    cells_are_listed();
+}
 
 /// Any list of cells has a compacted list, which covers the same; lists that cover the same have the
 /// same one.

@@ -5,7 +5,7 @@ ghost use Rattle.std.specs.Result.{result_err};
 ghost use Rattle.h3_index.specs.Cell.{Address, IsCell, number_of};
 ghost use Rattle.h3_set.specs.Compaction.{level_of, slots_in_use, IsNextLevel, IsStarted, LeadsOn};
 ghost use Rattle.h3_set.specs.Coverage.{IsApart};
-ghost use Rattle.h3_set.specs.Laws.{OneResolutionIsApart, OverlapsAreFound, RoundsReachTheTop};
+ghost use Rattle.h3_set.specs.Laws.{RoundsReachTheTop};
 ghost use Rattle.h3_set.specs.Order.{IsInOrder};
 ghost use Rattle.h3_set.specs.Refusals.{compaction_refusal};
 ghost use Rattle.h3_set.specs.Rounds.{InRound};
@@ -40,12 +40,8 @@ impl Compaction {
 
         ensures started { IfOk result (IsStarted cells.now slots.new) }
 
-        // At level 0, where no round is left, these are the top cells. The test of
-        // the refusal finds the cells that overlap; those of one resolution do so
-        // only where one is listed twice.
+        // At level 0, where no round is left, these are the top cells.
         ensures last { RoundsReachTheTop }
-        ensures overlaps { OverlapsAreFound }
-        ensures repeats { OneResolutionIsApart }
     {
         cells_form_trees();
         let count = cells.len();

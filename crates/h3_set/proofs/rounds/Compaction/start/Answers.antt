@@ -1,4 +1,3 @@
-use Rattle.h3_set.proofs.OverlapLaws.{one_resolution, overlaps_found}
 use Rattle.h3_set.proofs.PartLaws.{reached}
 use Rattle.h3_set.proofs.PermutedLaws.{started_in_front}
 use Rattle.h3_set.proofs.rounds.Compaction.start.Goals as goal
@@ -9,9 +8,3 @@ returns-clause-started c =
 
 pub returns-clause-last : goal.returns-clause-last
 returns-clause-last c = reached c.cells_form_trees.ensures
-
-pub returns-clause-overlaps : goal.returns-clause-overlaps
-returns-clause-overlaps c = overlaps_found
-
-pub returns-clause-repeats : goal.returns-clause-repeats
-returns-clause-repeats c = one_resolution c.cells_form_trees.ensures
