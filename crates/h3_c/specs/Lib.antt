@@ -1,6 +1,6 @@
 pub mod Columns
 pub mod Edges
-pub mod Inspection
+pub mod Functions
 pub mod Lists
 pub mod Outcome
 pub mod Regions

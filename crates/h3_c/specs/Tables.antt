@@ -9,7 +9,7 @@ use Rattle.h3_directions.specs.Direction.{digit_of}
 use Rattle.h3_lattice.specs.Links.{Links}
 use Rattle.h3_directions.specs.declared.error.TableError.{TableError}
 use Rattle.h3_directions.specs.declared.error.TableError.TheVariants as fault
-use Rattle.h3_functions.specs.Edges.{are_neighbor_cells as are_neighbors, cell_pair_from, cells_to_directed_edge as edge_between, edge_from, get_directed_edge_destination as edge_destination}
+use Rattle.h3_functions.specs.Edges.{are_neighbor_cells as are_neighbors, cells_to_directed_edge as edge_between, edge_from, get_directed_edge_destination as edge_destination, pair_of}
 use Rattle.h3_functions.specs.Inspection.{cell_from, for_value}
 use Rattle.h3_functions.specs.Walks.{Walk, grid_disk_distances_unsafe as disk_distances, grid_disk_unsafe as disk, grid_ring_unsafe as ring}
 use Rattle.h3_c.specs.declared.tables.Table.{Table}
@@ -47,16 +47,16 @@ over_table f table value = for_value (λ link. for_value (λ x. f link x) value)
 
 -- are_neighbor_cells table a b: `are_neighbor_cells` of `h3_functions`, over a table and for indexes
 abbrev pub are_neighbor_cells : Table → ℕ → ℕ → Result Bool H3Error
-are_neighbor_cells table a b = over_table are_neighbors table (cell_pair_from (Some a) (Some b))
+are_neighbor_cells table a b = over_table are_neighbors table (pair_of (cell_from a) (cell_from b))
 
 -- cells_to_directed_edge table a b: `cells_to_directed_edge` of `h3_functions`, over a table and for indexes
 abbrev pub cells_to_directed_edge : Table → ℕ → ℕ → Result DirectedEdge H3Error
-cells_to_directed_edge table a b = over_table edge_between table (cell_pair_from (Some a) (Some b))
+cells_to_directed_edge table a b = over_table edge_between table (pair_of (cell_from a) (cell_from b))
 
 -- get_directed_edge_destination table index: `get_directed_edge_destination` of `h3_functions`, over a table and for an
 -- index
 abbrev pub get_directed_edge_destination : Table → ℕ → Result Address H3Error
-get_directed_edge_destination table index = over_table edge_destination table (edge_from (Some index))
+get_directed_edge_destination table index = over_table edge_destination table (edge_from index)
 
 -- edge_index_of outcome: the edge's index, or the error
 abbrev pub edge_index_of : Result DirectedEdge H3Error → Result ℕ H3Error
@@ -66,12 +66,12 @@ edge_index_of edge = for_value (λ e. Ok (edge_number e)) edge
 
 -- grid_disk_unsafe table index k: the walk of `h3_functions`, over a table and for an index
 abbrev pub grid_disk_unsafe : Table → ℕ → ℤ → Walk Address
-grid_disk_unsafe table index k = over_table (λ link c. disk link c k) table (cell_from (Some index))
+grid_disk_unsafe table index k = over_table (λ link c. disk link c k) table (cell_from index)
 
 -- grid_disk_distances_unsafe table index k: the walk of `h3_functions`, over a table and for an index
 abbrev pub grid_disk_distances_unsafe : Table → ℕ → ℤ → Walk (Address × ℕ)
-grid_disk_distances_unsafe table index k = over_table (λ link c. disk_distances link c k) table (cell_from (Some index))
+grid_disk_distances_unsafe table index k = over_table (λ link c. disk_distances link c k) table (cell_from index)
 
 -- grid_ring_unsafe table index k: the walk of `h3_functions`, over a table and for an index
 abbrev pub grid_ring_unsafe : Table → ℕ → ℤ → Walk Address
-grid_ring_unsafe table index k = over_table (λ link c. ring link c k) table (cell_from (Some index))
+grid_ring_unsafe table index k = over_table (λ link c. ring link c k) table (cell_from index)

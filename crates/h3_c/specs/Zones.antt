@@ -51,17 +51,17 @@ zone_index (Some zone) = number_of zone
 
 -- the index of the zone of the cell with an index
 abbrev pub cell_to_zone : List Address → ℕ → Result ℕ H3Error
-cell_to_zone zones h = for_value (λ c. Ok (zone_index (zone_of zones c))) (cell_from (Some h))
+cell_to_zone zones h = for_value (λ c. Ok (zone_index (zone_of zones c))) (cell_from h)
 
 -- whether the zones cover the cell with an index
 abbrev pub is_covered_cell : List Address → ℕ → Result Bool H3Error
-is_covered_cell zones h = for_value (λ c. Ok (is_covered zones c)) (cell_from (Some h))
+is_covered_cell zones h = for_value (λ c. Ok (is_covered zones c)) (cell_from h)
 
 -- ---- the counts of zones
 
 -- the cells with these indexes, each or its error
 abbrev pub judged : List ℕ → List (Result Address H3Error)
-judged hs = map (λ h. cell_from (Some h)) hs
+judged hs = map cell_from hs
 
 -- what comes of the cells with these indexes, or what stands where an index is no cell's
 abbrev pub if_cells : {A : Type 0} → List ℕ → (List Address → A) → A → A

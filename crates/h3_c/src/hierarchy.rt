@@ -1,42 +1,25 @@
 //! Parents, children and positions.
 
-ghost use Rattle.std.specs.Prelude.{◌≡◌, ◌-◌, ◌^◌, Some, map, length};
+ghost use Rattle.std.specs.Prelude.{◌≡◌, ◌-◌, ◌^◌, map, length};
 ghost use Rattle.h3_functions.specs.Hierarchy.{cell_to_center_child, cell_to_child_pos, cell_to_children, cell_to_children_size, cell_to_parent, child_pos_to_cell};
 ghost use Rattle.h3_c.specs.Columns.{column_code_at, column_over_at, place_over_at};
 ghost use Rattle.h3_c.specs.Lists.{list_code, list_over};
 ghost use Rattle.h3_c.specs.Outcome.{code_of, index_of, put_over};
 
-use crate::column::{NO_COUNT, NULL, Question, fill_at};
+use crate::column::{NO_COUNT, NULL, fill_at};
+use crate::functions::word;
 use crate::lists::put_list;
 use crate::outcome::{index_of, put};
-use h3_functions::{
-    cell_to_center_child, cell_to_child_pos, cell_to_children, cell_to_children_size,
-    cell_to_parent, child_pos_to_cell,
-};
-use h3_index::H3Error;
+use h3_functions::{cell_to_children, child_pos_to_cell};
+use h3_requests::CellFunction::*;
 
 /// H3's `cellToParent`.
 #[unsafe(no_mangle)]
 pub extern "C" fn h3w_cellToParent(h: u64, res: i32, out: &mut u64) -> u32
-    ensures code { result ≡ code_of (index_of (cell_to_parent (Some h) res)) }
-    ensures value { out.new ≡ put_over out.old (index_of (cell_to_parent (Some h) res)) }
+    ensures code { result ≡ code_of (index_of (cell_to_parent h res)) }
+    ensures value { out.new ≡ put_over out.old (index_of (cell_to_parent h res)) }
 {
-    put(out, index_of(cell_to_parent(Some(h), res)))
-}
-
-/// The parents of a column of cells, at a resolution.
-#[derive(Drop)]
-struct Parents {
-    res: i32,
-}
-
-impl Question<u64> for Parents {
-    ghost outcome = { λ q h. index_of (cell_to_parent (Some h) q.res) };
-
-    #[inline(always)]
-    fn ask(&self, index: u64, _place: &mut usize) -> Result<u64, H3Error> {
-        index_of(cell_to_parent(Some(index), self.res))
-    }
+    put(out, word(CellToParent { res }, h))
 }
 
 /// [`h3w_cellToParent`] of each index, once the resolution is judged.
@@ -48,39 +31,24 @@ pub extern "C" fn h3w_cellsToParents(
     at: &mut usize,
 ) -> u32
     ensures code { result
-        ≡ column_code_at res (map (λ h. index_of (cell_to_parent (Some h) res)) cells.now)
+        ≡ column_code_at res (map (λ h. index_of (cell_to_parent h res)) cells.now)
         (length out.old) }
     ensures values { out.new
-        ≡ column_over_at res 0 (map (λ h. index_of (cell_to_parent (Some h) res)) cells.now) out.old }
+        ≡ column_over_at res 0 (map (λ h. index_of (cell_to_parent h res)) cells.now) out.old }
     ensures place { at.new
-        ≡ place_over_at res (map (λ h. index_of (cell_to_parent (Some h) res)) cells.now)
+        ≡ place_over_at res (map (λ h. index_of (cell_to_parent h res)) cells.now)
         (length out.old) at.old }
 {
-    fill_at(res, &Parents { res }, cells, NULL, out, at)
+    fill_at(res, &CellToParent { res }, cells, NULL, out, at)
 }
 
 /// H3's `cellToCenterChild`.
 #[unsafe(no_mangle)]
 pub extern "C" fn h3w_cellToCenterChild(h: u64, res: i32, out: &mut u64) -> u32
-    ensures code { result ≡ code_of (index_of (cell_to_center_child (Some h) res)) }
-    ensures value { out.new ≡ put_over out.old (index_of (cell_to_center_child (Some h) res)) }
+    ensures code { result ≡ code_of (index_of (cell_to_center_child h res)) }
+    ensures value { out.new ≡ put_over out.old (index_of (cell_to_center_child h res)) }
 {
-    put(out, index_of(cell_to_center_child(Some(h), res)))
-}
-
-/// The center children of a column of cells, at a resolution.
-#[derive(Drop)]
-struct CenterChildren {
-    res: i32,
-}
-
-impl Question<u64> for CenterChildren {
-    ghost outcome = { λ q h. index_of (cell_to_center_child (Some h) q.res) };
-
-    #[inline(always)]
-    fn ask(&self, index: u64, _place: &mut usize) -> Result<u64, H3Error> {
-        index_of(cell_to_center_child(Some(index), self.res))
-    }
+    put(out, word(CellToCenterChild { res }, h))
 }
 
 /// [`h3w_cellToCenterChild`] of each index, once the resolution is judged.
@@ -92,40 +60,25 @@ pub extern "C" fn h3w_cellsToCenterChildren(
     at: &mut usize,
 ) -> u32
     ensures code { result
-        ≡ column_code_at res (map (λ h. index_of (cell_to_center_child (Some h) res)) cells.now)
+        ≡ column_code_at res (map (λ h. index_of (cell_to_center_child h res)) cells.now)
         (length out.old) }
     ensures values { out.new
-        ≡ column_over_at res 0 (map (λ h. index_of (cell_to_center_child (Some h) res)) cells.now)
+        ≡ column_over_at res 0 (map (λ h. index_of (cell_to_center_child h res)) cells.now)
         out.old }
     ensures place { at.new
-        ≡ place_over_at res (map (λ h. index_of (cell_to_center_child (Some h) res)) cells.now)
+        ≡ place_over_at res (map (λ h. index_of (cell_to_center_child h res)) cells.now)
         (length out.old) at.old }
 {
-    fill_at(res, &CenterChildren { res }, cells, NULL, out, at)
+    fill_at(res, &CellToCenterChild { res }, cells, NULL, out, at)
 }
 
 /// H3's `cellToChildrenSize`.
 #[unsafe(no_mangle)]
 pub extern "C" fn h3w_cellToChildrenSize(h: u64, res: i32, out: &mut u64) -> u32
-    ensures code { result ≡ code_of (cell_to_children_size (Some h) res) }
-    ensures value { out.new ≡ put_over out.old (cell_to_children_size (Some h) res) }
+    ensures code { result ≡ code_of (cell_to_children_size h res) }
+    ensures value { out.new ≡ put_over out.old (cell_to_children_size h res) }
 {
-    put(out, cell_to_children_size(Some(h), res))
-}
-
-/// The numbers of children of a column of cells, at a resolution.
-#[derive(Drop)]
-struct ChildrenSizes {
-    res: i32,
-}
-
-impl Question<u64> for ChildrenSizes {
-    ghost outcome = { λ q h. cell_to_children_size (Some h) q.res };
-
-    #[inline(always)]
-    fn ask(&self, index: u64, _place: &mut usize) -> Result<u64, H3Error> {
-        cell_to_children_size(Some(index), self.res)
-    }
+    put(out, word(CellToChildrenSize { res }, h))
 }
 
 /// [`h3w_cellToChildrenSize`] of each index, once the resolution is judged.
@@ -136,40 +89,25 @@ pub extern "C" fn h3w_cellsToChildrenSizes(
     out: &mut [u64],
     at: &mut usize,
 ) -> u32
-    ensures code { result ≡ column_code_at res (map (λ h. cell_to_children_size (Some h) res) cells.now)
+    ensures code { result ≡ column_code_at res (map (λ h. cell_to_children_size h res) cells.now)
         (length out.old) }
     ensures values { out.new
-        ≡ column_over_at res (2 ^ 64 - 1) (map (λ h. cell_to_children_size (Some h) res) cells.now)
+        ≡ column_over_at res (2 ^ 64 - 1) (map (λ h. cell_to_children_size h res) cells.now)
         out.old }
     ensures place { at.new
-        ≡ place_over_at res (map (λ h. cell_to_children_size (Some h) res) cells.now)
+        ≡ place_over_at res (map (λ h. cell_to_children_size h res) cells.now)
         (length out.old) at.old }
 {
-    fill_at(res, &ChildrenSizes { res }, cells, NO_COUNT, out, at)
+    fill_at(res, &CellToChildrenSize { res }, cells, NO_COUNT, out, at)
 }
 
 /// H3's `cellToChildPos`.
 #[unsafe(no_mangle)]
 pub extern "C" fn h3w_cellToChildPos(h: u64, res: i32, out: &mut u64) -> u32
-    ensures code { result ≡ code_of (cell_to_child_pos (Some h) res) }
-    ensures value { out.new ≡ put_over out.old (cell_to_child_pos (Some h) res) }
+    ensures code { result ≡ code_of (cell_to_child_pos h res) }
+    ensures value { out.new ≡ put_over out.old (cell_to_child_pos h res) }
 {
-    put(out, cell_to_child_pos(Some(h), res))
-}
-
-/// The positions of a column of cells, at a resolution.
-#[derive(Drop)]
-struct ChildPositions {
-    res: i32,
-}
-
-impl Question<u64> for ChildPositions {
-    ghost outcome = { λ q h. cell_to_child_pos (Some h) q.res };
-
-    #[inline(always)]
-    fn ask(&self, index: u64, _place: &mut usize) -> Result<u64, H3Error> {
-        cell_to_child_pos(Some(index), self.res)
-    }
+    put(out, word(CellToChildPos { res }, h))
 }
 
 /// [`h3w_cellToChildPos`] of each index, once the resolution is judged.
@@ -180,31 +118,31 @@ pub extern "C" fn h3w_cellsToChildPositions(
     out: &mut [u64],
     at: &mut usize,
 ) -> u32
-    ensures code { result ≡ column_code_at res (map (λ h. cell_to_child_pos (Some h) res) cells.now)
+    ensures code { result ≡ column_code_at res (map (λ h. cell_to_child_pos h res) cells.now)
         (length out.old) }
     ensures values { out.new
-        ≡ column_over_at res (2 ^ 64 - 1) (map (λ h. cell_to_child_pos (Some h) res) cells.now) out.old }
+        ≡ column_over_at res (2 ^ 64 - 1) (map (λ h. cell_to_child_pos h res) cells.now) out.old }
     ensures place { at.new
-        ≡ place_over_at res (map (λ h. cell_to_child_pos (Some h) res) cells.now) (length out.old) at.old }
+        ≡ place_over_at res (map (λ h. cell_to_child_pos h res) cells.now) (length out.old) at.old }
 {
-    fill_at(res, &ChildPositions { res }, cells, NO_COUNT, out, at)
+    fill_at(res, &CellToChildPos { res }, cells, NO_COUNT, out, at)
 }
 
 /// H3's `childPosToCell`. A position below 0 is one of 2^63 or more here, which no descendant has.
 #[unsafe(no_mangle)]
 pub extern "C" fn h3w_childPosToCell(position: u64, h: u64, res: i32, out: &mut u64) -> u32
-    ensures code { result ≡ code_of (index_of (child_pos_to_cell position (Some h) res)) }
+    ensures code { result ≡ code_of (index_of (child_pos_to_cell position h res)) }
     ensures value { out.new
-        ≡ put_over out.old (index_of (child_pos_to_cell position (Some h) res)) }
+        ≡ put_over out.old (index_of (child_pos_to_cell position h res)) }
 {
-    put(out, index_of(child_pos_to_cell(position, Some(h), res)))
+    put(out, index_of(child_pos_to_cell(position, h, res)))
 }
 
 /// H3's `cellToChildren`, with the room for them.
 #[unsafe(no_mangle)]
 pub extern "C" fn h3w_cellToChildren(h: u64, res: i32, out: &mut [u64]) -> u32
-    ensures code { result ≡ list_code (cell_to_children (Some h) res) (length out.old) }
-    ensures list { out.new ≡ list_over (cell_to_children (Some h) res) out.old }
+    ensures code { result ≡ list_code (cell_to_children h res) (length out.old) }
+    ensures list { out.new ≡ list_over (cell_to_children h res) out.old }
 {
-    put_list(out, cell_to_children(Some(h), res))
+    put_list(out, cell_to_children(h, res))
 }

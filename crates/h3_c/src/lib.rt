@@ -4,6 +4,7 @@
 
 mod column;
 mod edges;
+mod functions;
 mod hierarchy;
 mod inspection;
 mod lists;

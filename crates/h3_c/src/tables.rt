@@ -10,7 +10,7 @@ ghost use Rattle.h3_c.specs.Tables.{are_neighbor_cells, cells_to_directed_edge, 
 
 use crate::outcome::{index_of, put, truth};
 use h3_directions::TableError;
-use h3_functions::{cell_pair_from, edge_from};
+use h3_functions::{cell_from, edge_from};
 use h3_grid::{are_neighbors, edge_between, edge_destination};
 use h3_index::{Cell, H3Error};
 use h3_lattice::BaseTable;
@@ -102,7 +102,8 @@ fn neighbors(table: &Table, a: u64, b: u64) -> Result<i32, H3Error>
     if table.is_refused() {
         return Err(H3Error::Failed);
     }
-    let (a, b) = cell_pair_from(Some(a), Some(b))?;
+    let a = cell_from(a)?;
+    let b = cell_from(b)?;
     let are = are_neighbors(&table.links, a, b)?;
     Ok(truth(are))
 }
@@ -129,8 +130,9 @@ fn edge_to(table: &Table, a: u64, b: u64) -> Result<u64, H3Error>
     if table.is_refused() {
         return Err(H3Error::Failed);
     }
-    let (a, b) = cell_pair_from(Some(a), Some(b))?;
-    let edge = edge_between(&table.links, a, b)?;
+    let origin = cell_from(a)?;
+    let to = cell_from(b)?;
+    let edge = edge_between(&table.links, origin, to)?;
     Ok(edge.raw())
 }
 
@@ -157,7 +159,7 @@ fn destination(table: &Table, index: u64) -> Result<Cell, H3Error>
     if table.is_refused() {
         return Err(H3Error::Failed);
     }
-    let edge = edge_from(Some(index))?;
+    let edge = edge_from(index)?;
     edge_destination(&table.links, edge)
 }
 

@@ -134,7 +134,7 @@ pub extern "C" fn h3w_gridDiskUnsafe(table: &Table, origin: u64, k: i32, out: &m
     if table.is_refused() {
         return FAILED;
     }
-    match cell_from(Some(origin)) {
+    match cell_from(origin) {
         Ok(cell) => put_disk(&table.links, cell, k, out),
         Err(error) => u32::from(error.number()),
     }
@@ -160,7 +160,7 @@ pub extern "C" fn h3w_gridDiskDistancesUnsafe(
     if table.is_refused() {
         return FAILED;
     }
-    match cell_from(Some(origin)) {
+    match cell_from(origin) {
         Ok(cell) => put_distances(&table.links, cell, k, out, distances),
         Err(error) => u32::from(error.number()),
     }
@@ -175,7 +175,7 @@ pub extern "C" fn h3w_gridRingUnsafe(table: &Table, origin: u64, k: i32, out: &m
     if table.is_refused() {
         return FAILED;
     }
-    match cell_from(Some(origin)) {
+    match cell_from(origin) {
         Ok(cell) => put_ring(&table.links, cell, k, out),
         Err(error) => u32::from(error.number()),
     }

@@ -112,7 +112,7 @@ impl<'a> Question<u64> for ZonesOf<'a> {
 
     #[inline(always)]
     fn ask(&self, index: u64, place: &mut usize) -> Result<u64, H3Error> {
-        let cell = cell_from(Some(index))?;
+        let cell = cell_from(index)?;
         match self.zones.zone_of(cell, place) {
             Some(zone) => Ok(zone.raw()),
             None => Ok(NULL),
@@ -174,7 +174,7 @@ impl<'a> Question<i32> for CoveredBy<'a> {
 
     #[inline(always)]
     fn ask(&self, index: u64, place: &mut usize) -> Result<i32, H3Error> {
-        let cell = cell_from(Some(index))?;
+        let cell = cell_from(index)?;
         let is = self.zones.covers(cell, place);
         Ok(truth(is))
     }

@@ -4,7 +4,8 @@ use Rattle.std.proofs.Math.Path.{fun_ext}
 use Rattle.h3_index.specs.Cell.{Address, IsCell}
 use Rattle.h3_set.specs.Compacted.{compacted}
 use Rattle.h3_set.specs.Coverage.{finest, is_covered, IsCovered}
-use Rattle.h3_functions.specs.Inspection.{cell_from, for_value}
+use Rattle.h3_functions.specs.Inspection.{for_value}
+use Rattle.h3_command.specs.Given.{cell_given}
 use Rattle.h3_regions.specs.Algebra.{difference, intersection}
 use Rattle.h3_regions.specs.Laws.{CoveragesDecideDifferences, CoveragesDecideIntersections}
 use Rattle.h3_regions.specs.Zones.{by_number, zone_of}
@@ -68,8 +69,8 @@ one_more ordered cells k z n lines lt is count so_far =
 
 pub covered_alike : (a b : List Address) → ((x : Address) → is_covered a x ≡ is_covered b x) → region_answer a ≡ region_answer b
 covered_alike a b same =
-    fun_ext (λ index. ap (λ f. printed truth_line (for_value f (cell_from index))) (fun_ext (λ c. ap Ok (same c))))
+    fun_ext (λ index. ap (λ f. printed truth_line (for_value f (cell_given index))) (fun_ext (λ c. ap Ok (same c))))
 
 pub zones_alike : (a b : List Address) → ((x : Address) → zone_of a x ≡ zone_of b x) → zone_answer a ≡ zone_answer b
 zones_alike a b same =
-    fun_ext (λ index. ap (λ f. printed zone_line (for_value f (cell_from index))) (fun_ext (λ c. ap Ok (same c))))
+    fun_ext (λ index. ap (λ f. printed zone_line (for_value f (cell_given index))) (fun_ext (λ c. ap Ok (same c))))

@@ -1,5 +1,5 @@
 -- The edges that leave a cell, as an iterator yields them: at most six.
-use Rattle.std.proofs.Common.{◌≡◌, ℕ, suc, ◌+◌, ◌≤◌, Bool, true, false, List, [], ◌∷◌, length, filter, map, Option, None, Some, Result, Ok, Err, sym, ap, ◌∙◌, refl, subst, arith}
+use Rattle.std.proofs.Common.{◌≡◌, ℕ, suc, ◌+◌, ◌≤◌, Bool, true, false, List, [], ◌∷◌, length, filter, map, None, Some, Result, Ok, Err, sym, ap, ◌∙◌, refl, subst, arith}
 use Rattle.std.proofs.lemmas.Iterator.{YieldsList}
 use Rattle.std.proofs.lemmas.Iterator.Consumers.{YieldsList-end, YieldsList-turn}
 use Rattle.std.specs.Iterator.{Yields, YieldsFirst}
@@ -44,7 +44,7 @@ listed : {s : Edges} (found : Result (List DirectedEdge) H3Error) → Lists (Yie
 listed (Ok all) e = (all, refl, e)
 listed (Err d) never = absurd never
 
-pub at_most_six : {s : Edges} (index : Option ℕ) → Lists (YieldsFirst edges_left) (Ok s) (origin_to_directed_edges index) → (from : Edges) → from ≡ s → (xs : List DirectedEdge) (t : Edges) → Yields (YieldsFirst edges_left) from xs t
+pub at_most_six : {s : Edges} (index : ℕ) → Lists (YieldsFirst edges_left) (Ok s) (origin_to_directed_edges index) → (from : Edges) → from ≡ s → (xs : List DirectedEdge) (t : Edges) → Yields (YieldsFirst edges_left) from xs t
     → (u : Edges) (x : DirectedEdge) → YieldsFirst edges_left t (Some x) u → length xs + 1 ≤ 6
 at_most_six index e from begins xs t y u x st =
     let (all, is, e1) = listed (origin_to_directed_edges index) e in
@@ -53,7 +53,7 @@ at_most_six index e from begins xs t y u x st =
     let few : length all ≤ 6 = six_of (cell_from index) all is in
     omega (arith, less, few)
 
-pub all_edges : {s : Edges} (index : Option ℕ) → Lists (YieldsFirst edges_left) (Ok s) (origin_to_directed_edges index) → (from : Edges) → from ≡ s → (xs : List DirectedEdge) (t : Edges) → Yields (YieldsFirst edges_left) from xs t
+pub all_edges : {s : Edges} (index : ℕ) → Lists (YieldsFirst edges_left) (Ok s) (origin_to_directed_edges index) → (from : Edges) → from ≡ s → (xs : List DirectedEdge) (t : Edges) → Yields (YieldsFirst edges_left) from xs t
     → (u : Edges) → YieldsFirst edges_left t None u → (origin_to_directed_edges index ≡ Ok xs) × (length xs ≤ 6)
 all_edges index e from begins xs t y u st =
     let (all, is, e1) = listed (origin_to_directed_edges index) e in

@@ -1,6 +1,6 @@
 -- The lines of the descendants of a cell.
 use Rattle.std.specs.List.{flat_map}
-use Rattle.std.proofs.Common.{◌≡◌, ℕ, ℤ, Option, Ok, Err, ◌-◌, List, [], ◌∷◌, ◌++◌, length, append-nil, arith, refl, ap, ◌∙◌}
+use Rattle.std.proofs.Common.{◌≡◌, ℕ, ℤ, Option, Result, Ok, Err, ◌-◌, List, [], ◌∷◌, ◌++◌, length, append-nil, arith, refl, ap, sym, ◌∙◌}
 use Rattle.std.specs.Prelude.{unsigned_abs}
 use Rattle.std.proofs.lemmas.Grind.{flat_map-append}
 use Rattle.h3_index.specs.Cell.{Address, resolution}
@@ -11,6 +11,7 @@ use Rattle.h3_tree.specs.Refusals.{descent_refusal}
 use Rattle.h3_lines.specs.Answer.{cell_line, cell_lines, children_lines}
 use Rattle.h3_functions.specs.Hierarchy.{cell_to_children, unless}
 use Rattle.h3_functions.specs.Inspection.{cell_from, for_value}
+use Rattle.h3_command.specs.Given.{cell_given, index_given}
 
 -- at its own resolution a cell has itself
 own : (c : Address) (r : ℕ) → r ≡ length c.digits → descendants c r ≡ c ∷ []
@@ -27,10 +28,18 @@ pub group_lines : (parents : List Address) → cell_lines (flat_map children par
 group_lines [] = refl
 group_lines (p ∷ ps) = flat_map-append cell_line (children p) (flat_map children ps) ∙ ap (λ l. children_lines p ++ l) (group_lines ps)
 
--- ---- what is asked of an index
+-- ---- what is asked of the index of a word
 
-pub no_cell : (index : Option ℕ) (res : ℤ) (e : H3Error) → cell_from index ≡ Err e → cell_to_children index res ≡ Err e
-no_cell index res e found = ap (for_value (λ c. unless (descent_refusal (resolution c) res) (descendants c (unsigned_abs res)))) found
+of_word : (word : Result ℕ H3Error) (res : ℤ)
+    → for_value (λ c. unless (descent_refusal (resolution c) res) (descendants c (unsigned_abs res))) (for_value cell_from word) ≡ for_value (λ h. cell_to_children h res) word
+of_word (Ok h) res = refl
+of_word (Err e) res = refl
 
-pub of_cell : (index : Option ℕ) (res : ℤ) (cell : Address) → cell_from index ≡ Ok cell → cell_to_children index res ≡ unless (descent_refusal (resolution cell) res) (descendants cell (unsigned_abs res))
-of_cell index res cell found = ap (for_value (λ c. unless (descent_refusal (resolution c) res) (descendants c (unsigned_abs res)))) found
+pub no_cell : (index : Option ℕ) (res : ℤ) (e : H3Error) → cell_given index ≡ Err e → for_value (λ h. cell_to_children h res) (index_given index) ≡ Err e
+no_cell index res e found =
+    sym (of_word (index_given index) res) ∙ ap (for_value (λ c. unless (descent_refusal (resolution c) res) (descendants c (unsigned_abs res)))) found
+
+pub of_cell : (index : Option ℕ) (res : ℤ) (cell : Address) → cell_given index ≡ Ok cell
+    → for_value (λ h. cell_to_children h res) (index_given index) ≡ unless (descent_refusal (resolution cell) res) (descendants cell (unsigned_abs res))
+of_cell index res cell found =
+    sym (of_word (index_given index) res) ∙ ap (for_value (λ c. unless (descent_refusal (resolution c) res) (descendants c (unsigned_abs res)))) found

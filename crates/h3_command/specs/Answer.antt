@@ -14,14 +14,18 @@ use Rattle.h3_lines.specs.Numbered.{faulty_line}
 use Rattle.h3_lines.specs.declared.refusal.CellFile.{CellFile}
 use Rattle.h3_lines.specs.declared.refusal.CellFile.TheVariants.{Region, Zones}
 use Rattle.h3_lines.specs.declared.refusal.Refusal.TheVariants.{At}
-use Rattle.h3_functions.specs.Edges.{are_neighbor_cells, cell_pair_from, cells_to_directed_edge, edge_from, get_directed_edge_destination, get_directed_edge_origin, is_valid_directed_edge, origin_to_directed_edges}
-use Rattle.h3_functions.specs.Hierarchy.{cell_to_center_child, cell_to_child_pos, cell_to_children, cell_to_children_size, cell_to_parent, child_pos_to_cell}
-use Rattle.h3_functions.specs.Inspection.{cell_from, get_base_cell_number, get_resolution, is_pentagon, is_res_class_iii, is_valid_cell}
+use Rattle.h3_functions.specs.Edges.{are_neighbor_cells, cells_to_directed_edge, get_directed_edge_destination, origin_to_directed_edges, pair_of}
+use Rattle.h3_functions.specs.Hierarchy.{cell_to_children, child_pos_to_cell}
+use Rattle.h3_functions.specs.Inspection.{for_value}
+use Rattle.h3_functions.specs.Outcome.{outcome_of}
+use Rattle.h3_functions.specs.declared.outcome.Outcome.{Outcome}
+use Rattle.h3_functions.specs.declared.outcome.Outcome.TheVariants.{Cell, Count, Edges, Number, Truth}
 use Rattle.h3_functions.specs.Resolutions.{get_num_cells, get_pentagons, get_res0_cells}
 use Rattle.h3_functions.specs.Sets.{compact_cells, uncompact_cells}
 use Rattle.h3_functions.specs.Walks.{grid_disk_distances_unsafe, grid_disk_unsafe, grid_ring_unsafe}
 use Rattle.h3_set.specs.Compacted.{compacted}
 use Rattle.h3_command.specs.Files.{counts_answer, covered_answer, file_cells, left_answer, shared_answer, unless_refused, zone_answer}
+use Rattle.h3_command.specs.Given.{cell_given, edge_given, index_given}
 use Rattle.h3_requests.specs.declared.command.CellFunction.{CellFunction}
 use Rattle.h3_requests.specs.declared.command.CellFunction.TheVariants as each
 use Rattle.h3_requests.specs.declared.command.Command.{Command}
@@ -45,20 +49,17 @@ abbrev pub with_table : {A : Type 0} → (A → Links → Answer) → Result A H
 with_table about (Ok value) = of_table (about value)
 with_table about (Err e) = plain (refused e)
 
--- answer_for function index: what the command of a function of one index answers
+-- shown outcome: the lines of what a function of one index returns, or its error
+abbrev pub shown : Outcome → Answer
+shown (Truth is) = printed truth_line is
+shown (Number number) = printed number_line number
+shown (Count count) = printed number_line count
+shown (Cell cell) = printed cell_line cell
+shown (Edges index) = printed edge_lines (origin_to_directed_edges index)
+
+-- answer_for function word: what the command of a function of one index answers, or `Failed` where the word has no index
 abbrev pub answer_for : CellFunction → Option ℕ → Answer
-answer_for each.IsValidCell index = printed truth_line (is_valid_cell index)
-answer_for each.IsValidDirectedEdge index = printed truth_line (is_valid_directed_edge index)
-answer_for each.GetResolution index = printed number_line (get_resolution index)
-answer_for each.GetBaseCellNumber index = printed number_line (get_base_cell_number index)
-answer_for each.IsPentagon index = printed truth_line (is_pentagon index)
-answer_for each.IsResClassIII index = printed truth_line (is_res_class_iii index)
-answer_for (each.CellToParent res) index = printed cell_line (cell_to_parent index res)
-answer_for (each.CellToCenterChild res) index = printed cell_line (cell_to_center_child index res)
-answer_for (each.CellToChildrenSize res) index = printed number_line (cell_to_children_size index res)
-answer_for (each.CellToChildPos res) index = printed number_line (cell_to_child_pos index res)
-answer_for each.GetDirectedEdgeOrigin index = printed cell_line (get_directed_edge_origin index)
-answer_for each.OriginToDirectedEdges index = printed edge_lines (origin_to_directed_edges index)
+answer_for function index = answer_or_error (λ h. shown (outcome_of function h)) (index_given index)
 
 -- request command: what a command reads and writes: an answer that its words alone fix, one about the cells listed on
 -- standard input, the same with the number of a faulty line, one line by line about the indexes listed there, one about
@@ -74,10 +75,10 @@ request command.GetRes0Cells = plain (written (cell_lines get_res0_cells))
 request (command.GetPentagons res) = plain (printed cell_lines (get_pentagons res))
 request (command.CellToParent cell res) = plain (answer_for (each.CellToParent res) cell)
 request (command.CellToCenterChild cell res) = plain (answer_for (each.CellToCenterChild res) cell)
-request (command.CellToChildren cell res) = plain (printed cell_lines (cell_to_children cell res))
+request (command.CellToChildren cell res) = plain (printed cell_lines (for_value (λ h. cell_to_children h res) (index_given cell)))
 request (command.CellToChildrenSize cell res) = plain (answer_for (each.CellToChildrenSize res) cell)
 request (command.CellToChildPos cell res) = plain (answer_for (each.CellToChildPos res) cell)
-request (command.ChildPosToCell position cell res) = plain (printed cell_line (child_pos_to_cell position cell res))
+request (command.ChildPosToCell position cell res) = plain (printed cell_line (for_value (λ h. child_pos_to_cell position h res) (index_given cell)))
 request command.CompactCells = of_list (λ cells. printed cell_lines (compact_cells cells))
 request (command.UncompactCells res) = of_list (λ cells. printed cell_lines (uncompact_cells res cells))
 request command.UniteCells = of_numbered_list (λ cells. written (cell_lines (compacted cells)))
@@ -86,14 +87,14 @@ request command.SubtractCells = of_file_and_list Region left_answer
 request command.AreCoveredCells = of_file_and_lines Region covered_answer
 request command.CellsToZones = of_file_and_lines Zones zone_answer
 request command.CountCellsInZones = of_file_and_list Zones counts_answer
-request (command.GridDiskUnsafe cell k) = with_table (λ c link. answer_or_error (walked cell_line) (grid_disk_unsafe link c k)) (cell_from cell)
-request (command.GridDiskDistancesUnsafe cell k) = with_table (λ c link. answer_or_error (walked ring_line) (grid_disk_distances_unsafe link c k)) (cell_from cell)
-request (command.GridRingUnsafe cell k) = with_table (λ c link. answer_or_error (walked cell_line) (grid_ring_unsafe link c k)) (cell_from cell)
-request (command.AreNeighborCells cell to) = with_table (λ cells link. printed truth_line (are_neighbor_cells link cells)) (cell_pair_from cell to)
-request (command.CellsToDirectedEdge cell to) = with_table (λ cells link. printed edge_line (cells_to_directed_edge link cells)) (cell_pair_from cell to)
+request (command.GridDiskUnsafe cell k) = with_table (λ c link. answer_or_error (walked cell_line) (grid_disk_unsafe link c k)) (cell_given cell)
+request (command.GridDiskDistancesUnsafe cell k) = with_table (λ c link. answer_or_error (walked ring_line) (grid_disk_distances_unsafe link c k)) (cell_given cell)
+request (command.GridRingUnsafe cell k) = with_table (λ c link. answer_or_error (walked cell_line) (grid_ring_unsafe link c k)) (cell_given cell)
+request (command.AreNeighborCells cell to) = with_table (λ cells link. printed truth_line (are_neighbor_cells link cells)) (pair_of (cell_given cell) (cell_given to))
+request (command.CellsToDirectedEdge cell to) = with_table (λ cells link. printed edge_line (cells_to_directed_edge link cells)) (pair_of (cell_given cell) (cell_given to))
 request (command.IsValidDirectedEdge edge) = plain (answer_for each.IsValidDirectedEdge edge)
 request (command.GetDirectedEdgeOrigin edge) = plain (answer_for each.GetDirectedEdgeOrigin edge)
-request (command.GetDirectedEdgeDestination edge) = with_table (λ e link. printed cell_line (get_directed_edge_destination link e)) (edge_from edge)
+request (command.GetDirectedEdgeDestination edge) = with_table (λ e link. printed cell_line (get_directed_edge_destination link e)) (edge_given edge)
 request (command.OriginToDirectedEdges cell) = plain (answer_for each.OriginToDirectedEdges cell)
 request (command.ForEach function) = of_lines (answer_for function)
 

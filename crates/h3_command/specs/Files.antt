@@ -9,7 +9,7 @@ use Rattle.h3_set.specs.Refusals.{compaction_refusal}
 use Rattle.h3_regions.specs.Algebra.{difference, intersection}
 use Rattle.h3_regions.specs.Counts.{count_in, count_outside}
 use Rattle.h3_regions.specs.Zones.{by_number, zone_of}
-use Rattle.h3_functions.specs.Inspection.{cell_from, for_value}
+use Rattle.h3_functions.specs.Inspection.{for_value}
 use Rattle.h3_lines.specs.Answer.{Answer, cell_lines, count_line, printed, truth_line, written, zone_line}
 use Rattle.h3_lines.specs.List.{listed_cells}
 use Rattle.h3_lines.specs.Numbered.{faulty_line}
@@ -17,6 +17,7 @@ use Rattle.h3_lines.specs.declared.refusal.CellFile.{CellFile}
 use Rattle.h3_lines.specs.declared.refusal.CellFile.TheVariants.{Region, Zones}
 use Rattle.h3_lines.specs.declared.refusal.Refusal.{Refusal}
 use Rattle.h3_lines.specs.declared.refusal.Refusal.TheVariants.{File, FileAt}
+use Rattle.h3_command.specs.Given.{cell_given}
 
 -- ---- how a file is judged
 
@@ -59,7 +60,7 @@ left_answer file cells = written (cell_lines (difference cells file))
 
 -- whether a region covers the cell with an index
 abbrev pub is_covered_cell : List Address → Option ℕ → Result Bool H3Error
-is_covered_cell region index = for_value (λ c. Ok (is_covered region c)) (cell_from index)
+is_covered_cell region index = for_value (λ c. Ok (is_covered region c)) (cell_given index)
 
 -- covered_answer file index: the line that says whether the region of a file's cells covers the cell with an index, or the
 -- error where there is no such cell
@@ -68,7 +69,7 @@ covered_answer file index = printed truth_line (is_covered_cell (compacted file)
 
 -- the zone of the cell with an index, if it has one
 abbrev pub cell_to_zone : List Address → Option ℕ → Result (Option Address) H3Error
-cell_to_zone zones index = for_value (λ c. Ok (zone_of zones c)) (cell_from index)
+cell_to_zone zones index = for_value (λ c. Ok (zone_of zones c)) (cell_given index)
 
 -- zone_answer zones index: the line of the zone of the cell with an index, `0` where it has none, or the error where there is
 -- no such cell

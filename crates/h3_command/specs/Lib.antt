@@ -3,6 +3,7 @@ pub mod Combination
 pub mod EdgeExamples
 pub mod Examples
 pub mod Files
+pub mod Given
 pub mod Run
 pub mod TableQuery
 pub mod Tallying

@@ -1,14 +1,16 @@
-//! H3's `cellToChildren`.
+//! H3's `cellToChildren` and `childPosToCell`, for the index of a word, `None` where the word has none.
 
-ghost use Rattle.std.specs.Prelude.{◌≤◌};
+ghost use Rattle.std.specs.Prelude.{◌≡◌, ◌≤◌};
 ghost use Rattle.h3_index.specs.Cell.{resolution};
 ghost use Rattle.h3_index.specs.Descendants.{descendants};
 ghost use Rattle.h3_lines.specs.Answer.{cell_lines, printed, written};
 ghost use Rattle.h3_lines.specs.Writing.{Writes, sink_use};
-ghost use Rattle.h3_functions.specs.Hierarchy.{cell_to_children};
+ghost use Rattle.h3_functions.specs.Hierarchy.{cell_to_children, child_pos_to_cell};
+ghost use Rattle.h3_functions.specs.Inspection.{for_value};
+ghost use Rattle.h3_command.specs.Given.{index_given};
 
-use h3_functions::cell_from;
-use h3_index::{Cell, Sink};
+use crate::given::{cell_given, index_given};
+use h3_index::{Cell, H3Error, Sink};
 use h3_lines::{Refusal, write_lines, write_result};
 use h3_tree::{resolution_below, sibling_groups_at};
 
@@ -33,10 +35,23 @@ pub(crate) fn cell_to_children<W: Sink>(
     res: i32,
     out: &mut W,
 ) -> Result<(), Refusal>
-    ensures { Writes (printed cell_lines (cell_to_children index res)) result
-        (sink_use W.taken W.has_failed out.old out.new) }
+    ensures { Writes (printed cell_lines (for_value (λ h. cell_to_children h res) (index_given index)))
+        result (sink_use W.taken W.has_failed out.old out.new) }
 {
-    let cell = cell_from(index)?;
+    let cell = cell_given(index)?;
     let r = resolution_below(cell, res)?;
     write_descendants(cell, r, out)
+}
+
+/// The descendant of a cell at a resolution that stands at a position, as H3's `childPosToCell`
+/// returns it.
+pub(crate) fn child_pos_to_cell(
+    position: u64,
+    index: Option<u64>,
+    res: i32,
+) -> Result<Cell, H3Error>
+    ensures { result ≡ for_value (λ h. child_pos_to_cell position h res) (index_given index) }
+{
+    let index = index_given(index)?;
+    h3_functions::child_pos_to_cell(position, index, res)
 }

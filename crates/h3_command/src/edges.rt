@@ -10,8 +10,8 @@ ghost use Rattle.h3_command.specs.Answer.{request, with_table};
 ghost use Rattle.h3_command.specs.TableQuery.{table_answer};
 ghost use Rattle.h3_requests.specs.declared.command.Command.TheVariants.{AreNeighborCells, CellsToDirectedEdge, GetDirectedEdgeDestination};
 
+use crate::given::{cell_given, edge_given};
 use crate::table_query::TableQuery;
-use h3_functions::{cell_pair_from, edge_from};
 use h3_index::H3Error;
 
 /// Whether two cells are neighbors, as H3's `areNeighborCells` returns it, over the links of a
@@ -19,7 +19,8 @@ use h3_index::H3Error;
 pub(crate) fn are_neighbor_cells(cell: Option<u64>, to: Option<u64>) -> Result<TableQuery, H3Error>
     ensures { with_table table_answer result ≡ request (AreNeighborCells cell to) }
 {
-    let (cell, to) = cell_pair_from(cell, to)?;
+    let cell = cell_given(cell)?;
+    let to = cell_given(to)?;
     Ok(TableQuery::Neighbors { cell, to })
 }
 
@@ -31,7 +32,8 @@ pub(crate) fn cells_to_directed_edge(
 ) -> Result<TableQuery, H3Error>
     ensures { with_table table_answer result ≡ request (CellsToDirectedEdge cell to) }
 {
-    let (origin, destination) = cell_pair_from(cell, to)?;
+    let origin = cell_given(cell)?;
+    let destination = cell_given(to)?;
     Ok(TableQuery::EdgeBetween {
         origin,
         destination,
@@ -43,6 +45,6 @@ pub(crate) fn cells_to_directed_edge(
 pub(crate) fn get_directed_edge_destination(index: Option<u64>) -> Result<TableQuery, H3Error>
     ensures { with_table table_answer result ≡ request (GetDirectedEdgeDestination index) }
 {
-    let edge = edge_from(index)?;
+    let edge = edge_given(index)?;
     Ok(TableQuery::EdgeDestination { edge })
 }

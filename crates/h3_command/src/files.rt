@@ -20,8 +20,8 @@ ghost use Rattle.h3_command.specs.Combination.{combined, combined_answer, region
 ghost use Rattle.h3_command.specs.Files.{cell_to_zone, covered_answer, is_covered_cell, zone_answer};
 ghost use Rattle.h3_command.specs.Run.{EndsOverFile, GivesFile, RefusesFile, WritesOfNumberedList, source_use};
 
+use crate::given::cell_given;
 use crate::sets::write_united;
-use h3_functions::cell_from;
 use h3_index::{Cell, CellLines, H3Error, Sink, Source};
 use h3_lines::{
     BLOCK, CellFile, IndexFunction, Refusal, answer_each, put_result, read_numbered_cells,
@@ -222,7 +222,7 @@ fn is_covered_cell(region: &Region, index: Option<u64>, place: &mut usize) -> Re
     ensures { result ≡ is_covered_cell region.now index }
 {
     zones_are_lawful();
-    let cell = cell_from(index)?;
+    let cell = cell_given(index)?;
     Ok(region.zones().zone_near(cell, place).is_some())
 }
 
@@ -235,7 +235,7 @@ fn cell_to_zone(
 ) -> Result<Option<Cell>, H3Error>
     ensures { result ≡ cell_to_zone zones.now index }
 {
-    let cell = cell_from(index)?;
+    let cell = cell_given(index)?;
     Ok(zones.zone_near(cell, place))
 }
 

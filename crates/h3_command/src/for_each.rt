@@ -1,25 +1,32 @@
-//! H3's functions of one index, for each line of a list.
+//! H3's functions of one index, for the index of a word or of each line of a list.
 
 ghost use Rattle.std.specs.Prelude.{◌≡◌, ◌+◌, ◌≤◌, ◌*◌, length, take, IfOk, IfErr};
 ghost use Rattle.h3_functions.specs.Edges.{origin_to_directed_edges};
 ghost use Rattle.h3_lines.specs.Answer.{edge_lines, printed, refused};
 ghost use Rattle.h3_lines.specs.Answering.{Puts};
+ghost use Rattle.h3_lines.specs.Writing.{Writes, sink_use};
 ghost use Rattle.h3_command.specs.Answer.{answer_for};
 
-use h3_functions::{
-    cell_to_center_child, cell_to_child_pos, cell_to_children_size, cell_to_parent,
-    get_base_cell_number, get_directed_edge_origin, get_resolution, is_pentagon, is_res_class_iii,
-    is_valid_cell, is_valid_directed_edge, origin_to_directed_edges,
-};
-use h3_index::{CellLines, H3Error};
-use h3_lines::{ANSWER, BLOCK, IndexFunction, Line, put_result};
-use h3_requests::CellFunction::{self, *};
+use crate::given::index_given;
+use h3_functions::{Outcome, origin_to_directed_edges, outcome_of};
+use h3_index::{CellLines, H3Error, Sink};
+use h3_lines::{ANSWER, BLOCK, IndexFunction, Line, Refusal, put_result, write_answer};
+use h3_requests::CellFunction;
+
+/// The same number in more bits.
+#[inline(always)]
+fn widened(number: Result<u8, H3Error>) -> Result<u64, H3Error>
+    ensures { result ≡ number }
+{
+    let number = number?;
+    Ok(u64::from(number))
+}
 
 /// Puts a line for each edge that leaves a cell, at most six, into a block from the byte `at` on.
 // Inlined, the place of its iterator would be cleared for each line, whatever the function.
 #[inline(never)]
 fn put_edges(
-    index: Option<u64>,
+    index: u64,
     lines: &mut CellLines,
     block: &mut [u8; BLOCK],
     at: usize,
@@ -55,29 +62,31 @@ impl IndexFunction for AnswerOf {
         block: &mut [u8; BLOCK],
         at: usize,
     ) -> Result<usize, H3Error> {
-        match self.0 {
-            IsValidCell => put_result(is_valid_cell(index), lines, block, at),
-            IsValidDirectedEdge => put_result(is_valid_directed_edge(index), lines, block, at),
-            GetResolution => put_result(get_resolution(index), lines, block, at),
-            GetBaseCellNumber => put_result(get_base_cell_number(index), lines, block, at),
-            IsPentagon => put_result(is_pentagon(index), lines, block, at),
-            IsResClassIII => put_result(is_res_class_iii(index), lines, block, at),
-            CellToParent { res } => put_result(cell_to_parent(index, res), lines, block, at),
-            CellToCenterChild { res } => put_result(
-                cell_to_center_child(index, res),
-                lines,
-                block,
-                at,
-            ),
-            CellToChildrenSize { res } => put_result(
-                cell_to_children_size(index, res),
-                lines,
-                block,
-                at,
-            ),
-            CellToChildPos { res } => put_result(cell_to_child_pos(index, res), lines, block, at),
-            GetDirectedEdgeOrigin => put_result(get_directed_edge_origin(index), lines, block, at),
-            OriginToDirectedEdges => put_edges(index, lines, block, at),
+        let index = index_given(index)?;
+        match outcome_of(self.0, index) {
+            Outcome::Truth(is) => put_result(is, lines, block, at),
+            Outcome::Number(number) => put_result(widened(number), lines, block, at),
+            Outcome::Count(count) => put_result(count, lines, block, at),
+            Outcome::Cell(cell) => put_result(cell, lines, block, at),
+            Outcome::Edges(index) => put_edges(index, lines, block, at),
         }
     }
+}
+
+/// Writes what a function answers to the index of a word and flushes, or returns its error.
+///
+/// `Refusal::Write` where a push or the flush fails.
+// Inlined, its block would take its place on the stack while the caller runs another writer.
+#[inline(never)]
+pub(crate) fn write_answer_for<W: Sink>(
+    function: CellFunction,
+    index: Option<u64>,
+    out: &mut W,
+) -> Result<(), Refusal>
+    ensures { Writes (answer_for function index) result
+        (sink_use W.taken W.has_failed out.old out.new) }
+{
+    let mut block = [0; BLOCK];
+    let end = AnswerOf(function).put(index, &mut 0, &mut CellLines::new(), &mut block, 0)?;
+    write_answer(out, &block[..end])
 }

@@ -6,6 +6,7 @@ mod counts;
 mod edges;
 mod files;
 mod for_each;
+mod given;
 pub mod run;
 mod sets;
 mod table_query;

@@ -5,24 +5,19 @@ ghost use Rattle.h3_lines.specs.Writing.{Reports, sink_use};
 ghost use Rattle.h3_command.specs.Answer.{reads_list, reads_table, request};
 ghost use Rattle.h3_command.specs.Run.{Ends, Runs, source_use};
 
-use crate::children::cell_to_children;
+use crate::children::{cell_to_children, child_pos_to_cell};
 use crate::counts::count_cells_in_zones;
 use crate::edges::{are_neighbor_cells, cells_to_directed_edge, get_directed_edge_destination};
 use crate::files::{Combination, are_covered_cells, cells_to_zones, combine_cells};
-use crate::for_each::AnswerOf;
+use crate::for_each::{AnswerOf, write_answer_for};
 use crate::sets::{compact_cells, uncompact_cells, unite_cells};
 use crate::table_query::over_table;
 use crate::walks::{grid_disk_distances_unsafe, grid_disk_unsafe, grid_ring_unsafe};
-use h3_functions::{
-    cell_to_center_child, cell_to_child_pos, cell_to_children_size, cell_to_parent,
-    child_pos_to_cell, get_base_cell_number, get_directed_edge_origin, get_num_cells,
-    get_pentagons, get_res0_cells, get_resolution, is_pentagon, is_res_class_iii, is_valid_cell,
-    is_valid_directed_edge, origin_to_directed_edges,
-};
+use h3_functions::{get_num_cells, get_pentagons, get_res0_cells};
 use h3_index::{Sink, Source};
 use h3_lines::{Refusal, answer_each, report, write_lines, write_result};
-use h3_requests::Command;
 use h3_requests::Command::*;
+use h3_requests::{CellFunction, Command};
 use std::alloc::Global;
 
 /// Does the work of a command, up to the line on standard error.
@@ -40,19 +35,27 @@ fn perform<R: Source, T: Source, W: Sink>(
     ensures table_kept { reads_table (request command.now) ≡ false → table.new ≡ table.old }
 {
     match *command {
-        IsValidCell { cell } => write_result(out, is_valid_cell(cell)),
-        GetResolution { cell } => write_result(out, get_resolution(cell)),
-        GetBaseCellNumber { cell } => write_result(out, get_base_cell_number(cell)),
-        IsPentagon { cell } => write_result(out, is_pentagon(cell)),
-        IsResClassIII { cell } => write_result(out, is_res_class_iii(cell)),
+        IsValidCell { cell } => write_answer_for(CellFunction::IsValidCell, cell, out),
+        GetResolution { cell } => write_answer_for(CellFunction::GetResolution, cell, out),
+        GetBaseCellNumber { cell } => write_answer_for(CellFunction::GetBaseCellNumber, cell, out),
+        IsPentagon { cell } => write_answer_for(CellFunction::IsPentagon, cell, out),
+        IsResClassIII { cell } => write_answer_for(CellFunction::IsResClassIII, cell, out),
         GetNumCells { res } => write_result(out, get_num_cells(res)),
         GetRes0Cells => write_lines(out, get_res0_cells()),
         GetPentagons { res } => write_lines(out, get_pentagons(res)?),
-        CellToParent { cell, res } => write_result(out, cell_to_parent(cell, res)),
-        CellToCenterChild { cell, res } => write_result(out, cell_to_center_child(cell, res)),
+        CellToParent { cell, res } => {
+            write_answer_for(CellFunction::CellToParent { res }, cell, out)
+        }
+        CellToCenterChild { cell, res } => {
+            write_answer_for(CellFunction::CellToCenterChild { res }, cell, out)
+        }
         CellToChildren { cell, res } => cell_to_children(cell, res, out),
-        CellToChildrenSize { cell, res } => write_result(out, cell_to_children_size(cell, res)),
-        CellToChildPos { cell, res } => write_result(out, cell_to_child_pos(cell, res)),
+        CellToChildrenSize { cell, res } => {
+            write_answer_for(CellFunction::CellToChildrenSize { res }, cell, out)
+        }
+        CellToChildPos { cell, res } => {
+            write_answer_for(CellFunction::CellToChildPos { res }, cell, out)
+        }
         ChildPosToCell {
             position,
             cell,
@@ -77,12 +80,18 @@ fn perform<R: Source, T: Source, W: Sink>(
         CellsToDirectedEdge { cell, to } => {
             over_table(alloc, cells_to_directed_edge(cell, to), table, out)
         }
-        IsValidDirectedEdge { edge } => write_result(out, is_valid_directed_edge(edge)),
-        GetDirectedEdgeOrigin { edge } => write_result(out, get_directed_edge_origin(edge)),
+        IsValidDirectedEdge { edge } => {
+            write_answer_for(CellFunction::IsValidDirectedEdge, edge, out)
+        }
+        GetDirectedEdgeOrigin { edge } => {
+            write_answer_for(CellFunction::GetDirectedEdgeOrigin, edge, out)
+        }
         GetDirectedEdgeDestination { edge } => {
             over_table(alloc, get_directed_edge_destination(edge), table, out)
         }
-        OriginToDirectedEdges { cell } => write_lines(out, origin_to_directed_edges(cell)?),
+        OriginToDirectedEdges { cell } => {
+            write_answer_for(CellFunction::OriginToDirectedEdges, cell, out)
+        }
         ForEach(function) => answer_each(alloc, &AnswerOf(function), input, out),
     }
 }

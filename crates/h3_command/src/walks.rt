@@ -8,15 +8,15 @@ ghost use Rattle.h3_command.specs.Answer.{request, with_table};
 ghost use Rattle.h3_command.specs.TableQuery.{table_answer};
 ghost use Rattle.h3_requests.specs.declared.command.Command.TheVariants.{GridDiskDistancesUnsafe, GridDiskUnsafe, GridRingUnsafe};
 
+use crate::given::cell_given;
 use crate::table_query::TableQuery;
-use h3_functions::cell_from;
 use h3_index::H3Error;
 
 /// The cells within a radius of a cell, as H3's `gridDiskUnsafe` walks them.
 pub(crate) fn grid_disk_unsafe(index: Option<u64>, k: i32) -> Result<TableQuery, H3Error>
     ensures { with_table table_answer result ≡ request (GridDiskUnsafe index k) }
 {
-    let cell = cell_from(index)?;
+    let cell = cell_given(index)?;
     Ok(TableQuery::GridDisk { cell, k })
 }
 
@@ -25,7 +25,7 @@ pub(crate) fn grid_disk_unsafe(index: Option<u64>, k: i32) -> Result<TableQuery,
 pub(crate) fn grid_disk_distances_unsafe(index: Option<u64>, k: i32) -> Result<TableQuery, H3Error>
     ensures { with_table table_answer result ≡ request (GridDiskDistancesUnsafe index k) }
 {
-    let cell = cell_from(index)?;
+    let cell = cell_given(index)?;
     Ok(TableQuery::GridDiskDistances { cell, k })
 }
 
@@ -33,6 +33,6 @@ pub(crate) fn grid_disk_distances_unsafe(index: Option<u64>, k: i32) -> Result<T
 pub(crate) fn grid_ring_unsafe(index: Option<u64>, k: i32) -> Result<TableQuery, H3Error>
     ensures { with_table table_answer result ≡ request (GridRingUnsafe index k) }
 {
-    let cell = cell_from(index)?;
+    let cell = cell_given(index)?;
     Ok(TableQuery::GridRing { cell, k })
 }

@@ -1,4 +1,4 @@
--- What H3's hierarchy functions return for the index of a word, if the word has one.
+-- What H3's hierarchy functions return for an index.
 use Rattle.std.specs.Prelude.{ℕ, ℤ, List, length, slice_get, unsigned_abs, unwrap_or, Option, None, Some, Result, Ok, Err}
 use Rattle.h3_index.specs.Cell.{Address, resolution}
 use Rattle.h3_index.specs.Descendants.{center_at, cut, descendants}
@@ -13,31 +13,31 @@ unless None value = Ok value
 unless (Some e) value = Err e
 
 -- cell_to_parent index r: the ancestor at a resolution, or the error
-abbrev pub cell_to_parent : Option ℕ → ℤ → Result Address H3Error
+abbrev pub cell_to_parent : ℕ → ℤ → Result Address H3Error
 cell_to_parent index res =
     for_value (λ c. unless (parent_refusal (resolution c) res) (cut c (unsigned_abs res))) (cell_from index)
 
 -- cell_to_center_child index r: the descendant whose further digits are 0, or the error
-abbrev pub cell_to_center_child : Option ℕ → ℤ → Result Address H3Error
+abbrev pub cell_to_center_child : ℕ → ℤ → Result Address H3Error
 cell_to_center_child index res =
     for_value (λ c. unless (descent_refusal (resolution c) res) (center_at c (unsigned_abs res))) (cell_from index)
 
 -- cell_to_children index r: the descendants, or the error
-abbrev pub cell_to_children : Option ℕ → ℤ → Result (List Address) H3Error
+abbrev pub cell_to_children : ℕ → ℤ → Result (List Address) H3Error
 cell_to_children index res =
     for_value (λ c. unless (descent_refusal (resolution c) res) (descendants c (unsigned_abs res))) (cell_from index)
 
 -- cell_to_children_size index r: their number, or the error
-abbrev pub cell_to_children_size : Option ℕ → ℤ → Result ℕ H3Error
+abbrev pub cell_to_children_size : ℕ → ℤ → Result ℕ H3Error
 cell_to_children_size index res =
     for_value (λ c. unless (descent_refusal (resolution c) res) (length (descendants c (unsigned_abs res)))) (cell_from index)
 
 -- cell_to_child_pos index r: the cell's position under its ancestor, or the error
-abbrev pub cell_to_child_pos : Option ℕ → ℤ → Result ℕ H3Error
+abbrev pub cell_to_child_pos : ℕ → ℤ → Result ℕ H3Error
 cell_to_child_pos index res =
     for_value (λ c. unless (parent_refusal (resolution c) res) (position_under (cut c (unsigned_abs res)) c)) (cell_from index)
 
 -- child_pos_to_cell n index r: the descendant at a position, or the error
-abbrev pub child_pos_to_cell : ℕ → Option ℕ → ℤ → Result Address H3Error
+abbrev pub child_pos_to_cell : ℕ → ℕ → ℤ → Result Address H3Error
 child_pos_to_cell position index res =
     for_value (λ c. unless (position_refusal c res position) (unwrap_or (slice_get (descendants c (unsigned_abs res)) position) c)) (cell_from index)

@@ -4,6 +4,7 @@ pub mod Edges
 pub mod Hierarchy
 pub mod Inspection
 pub mod Items
+pub mod Outcome
 pub mod Resolutions
 pub mod Sets
 pub mod Walks

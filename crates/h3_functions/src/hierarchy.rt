@@ -1,7 +1,7 @@
-//! H3's hierarchy functions, for the index of a word: `None` where the word has none.
+//! H3's hierarchy functions.
 //!
-//! Each returns `Failed` where there is no index, then `CellInvalid` where no cell has the index,
-//! and then the error of the function for that cell.
+//! Each returns `CellInvalid` where no cell has the index, and then the error of the function for
+//! that cell.
 
 ghost use Rattle.std.specs.Prelude.{◌≡◌};
 ghost use Rattle.std.specs.Iterator.{YieldsFirst};
@@ -15,7 +15,7 @@ use h3_tree::{Children, center_child, child_at, child_pos, children, children_si
 
 /// The ancestor of a cell at a resolution, as H3's `cellToParent` returns it.
 #[inline(always)]
-pub fn cell_to_parent(index: Option<u64>, res: i32) -> Result<Cell, H3Error>
+pub fn cell_to_parent(index: u64, res: i32) -> Result<Cell, H3Error>
     ensures { result ≡ cell_to_parent index res }
 {
     let cell = cell_from(index)?;
@@ -24,7 +24,7 @@ pub fn cell_to_parent(index: Option<u64>, res: i32) -> Result<Cell, H3Error>
 
 /// The descendant of a cell at a resolution whose further digits are 0, as H3's `cellToCenterChild`
 /// returns it.
-pub fn cell_to_center_child(index: Option<u64>, res: i32) -> Result<Cell, H3Error>
+pub fn cell_to_center_child(index: u64, res: i32) -> Result<Cell, H3Error>
     ensures { result ≡ cell_to_center_child index res }
 {
     let cell = cell_from(index)?;
@@ -33,7 +33,7 @@ pub fn cell_to_center_child(index: Option<u64>, res: i32) -> Result<Cell, H3Erro
 
 /// The descendants of a cell at a resolution, in ascending order, as H3's `cellToChildren` lists
 /// them.
-pub fn cell_to_children(index: Option<u64>, res: i32) -> Result<Children, H3Error>
+pub fn cell_to_children(index: u64, res: i32) -> Result<Children, H3Error>
     ensures { Lists (YieldsFirst children_left) result (cell_to_children index res) }
 {
     let cell = cell_from(index)?;
@@ -42,7 +42,7 @@ pub fn cell_to_children(index: Option<u64>, res: i32) -> Result<Children, H3Erro
 
 /// The number of descendants that a cell has at a resolution, as H3's `cellToChildrenSize` returns
 /// it.
-pub fn cell_to_children_size(index: Option<u64>, res: i32) -> Result<u64, H3Error>
+pub fn cell_to_children_size(index: u64, res: i32) -> Result<u64, H3Error>
     ensures { result ≡ cell_to_children_size index res }
 {
     let cell = cell_from(index)?;
@@ -52,7 +52,7 @@ pub fn cell_to_children_size(index: Option<u64>, res: i32) -> Result<u64, H3Erro
 /// The position of a cell among the descendants of its ancestor at a resolution, as H3's
 /// `cellToChildPos` returns it.
 #[inline(always)]
-pub fn cell_to_child_pos(index: Option<u64>, res: i32) -> Result<u64, H3Error>
+pub fn cell_to_child_pos(index: u64, res: i32) -> Result<u64, H3Error>
     ensures { result ≡ cell_to_child_pos index res }
 {
     let cell = cell_from(index)?;
@@ -61,7 +61,7 @@ pub fn cell_to_child_pos(index: Option<u64>, res: i32) -> Result<u64, H3Error>
 
 /// The descendant of a cell at a resolution that stands at a position, as H3's `childPosToCell`
 /// returns it.
-pub fn child_pos_to_cell(position: u64, index: Option<u64>, res: i32) -> Result<Cell, H3Error>
+pub fn child_pos_to_cell(position: u64, index: u64, res: i32) -> Result<Cell, H3Error>
     ensures { result ≡ child_pos_to_cell position index res }
 {
     let cell = cell_from(index)?;

@@ -1,7 +1,6 @@
-//! H3's index inspection functions, for the index of a word: `None` where the word has none.
+//! H3's index inspection functions.
 //!
-//! Each returns `Failed` where there is no index, and then `CellInvalid` where no cell has the
-//! index.
+//! Each but `is_valid_cell` returns `CellInvalid` where no cell has the index.
 
 ghost use Rattle.std.specs.Prelude.{◌≡◌};
 ghost use Rattle.h3_functions.specs.Inspection.{cell_from, get_base_cell_number, get_resolution, is_pentagon, is_res_class_iii, is_valid_cell};
@@ -10,42 +9,40 @@ use h3_index::{Cell, H3Error};
 
 /// The cell with an index.
 #[inline(always)]
-pub fn cell_from(index: Option<u64>) -> Result<Cell, H3Error>
+pub fn cell_from(index: u64) -> Result<Cell, H3Error>
     ensures { result ≡ cell_from index }
 {
-    Cell::new(index.ok_or(H3Error::Failed)?)
+    Cell::new(index)
 }
 
-/// Whether an index is a valid cell, as H3's `isValidCell` returns it. `Failed` where there is no
-/// index; no other error.
+/// Whether an index is a valid cell, as H3's `isValidCell` returns it.
 #[inline(always)]
-pub fn is_valid_cell(index: Option<u64>) -> Result<bool, H3Error>
+pub fn is_valid_cell(index: u64) -> bool
     ensures { result ≡ is_valid_cell index }
 {
-    let index = index.ok_or(H3Error::Failed)?;
-    Ok(Cell::new(index).is_ok())
+    cell_from(index).is_ok()
 }
 
 /// The resolution of a cell, 0 to 15, as H3's `getResolution` returns it.
 #[inline(always)]
-pub fn get_resolution(index: Option<u64>) -> Result<u64, H3Error>
+pub fn get_resolution(index: u64) -> Result<u8, H3Error>
     ensures { result ≡ get_resolution index }
 {
     let cell = cell_from(index)?;
-    Ok(u64::from(cell.resolution()))
+    Ok(cell.resolution())
 }
 
 /// The base cell of a cell, 0 to 121, as H3's `getBaseCellNumber` returns it.
 #[inline(always)]
-pub fn get_base_cell_number(index: Option<u64>) -> Result<u64, H3Error>
+pub fn get_base_cell_number(index: u64) -> Result<u8, H3Error>
     ensures { result ≡ get_base_cell_number index }
 {
     let cell = cell_from(index)?;
-    Ok(u64::from(cell.base_cell()))
+    Ok(cell.base_cell())
 }
 
 /// Whether a cell is a pentagon, as H3's `isPentagon` returns it.
-pub fn is_pentagon(index: Option<u64>) -> Result<bool, H3Error>
+pub fn is_pentagon(index: u64) -> Result<bool, H3Error>
     ensures { result ≡ is_pentagon index }
 {
     let cell = cell_from(index)?;
@@ -53,7 +50,7 @@ pub fn is_pentagon(index: Option<u64>) -> Result<bool, H3Error>
 }
 
 /// Whether the resolution of a cell is Class III, as H3's `isResClassIII` returns it.
-pub fn is_res_class_iii(index: Option<u64>) -> Result<bool, H3Error>
+pub fn is_res_class_iii(index: u64) -> Result<bool, H3Error>
     ensures { result ≡ is_res_class_iii index }
 {
     let cell = cell_from(index)?;

@@ -4,8 +4,7 @@ use Rattle.std.proofs.KnownBytes.{Keeps-refl}
 use Rattle.std.proofs.lemmas.Int.{to_z-of_z}
 use Rattle.std.proofs.lemmas.Iterator.Consumers.{YieldsList-from_first}
 use Rattle.std.proofs.lemmas.Result.{err_from_is_err_and}
-use Rattle.h3_grid.specs.Edges.{edges_left}
-use Rattle.h3_lines.specs.Answer.{cell_lines, edge_lines, written}
+use Rattle.h3_lines.specs.Answer.{cell_lines, written}
 use Rattle.h3_functions.specs.Bases.{base_cells_left, pentagons_left}
 use Rattle.h3_functions.specs.Resolutions.{get_pentagons}
 use Rattle.h3_command.proofs.Written.{answered_error}
@@ -29,8 +28,3 @@ pub returns-in-UncompactCells-clause-ends : goal.returns-in-UncompactCells-claus
 returns-in-UncompactCells-clause-ends g c =
     let res = c.in-UncompactCells.res in
     rw c.in-UncompactCells.is (rw (to_z-of_z w32 res (search rules)) at c.uncompact_cells.ensures)
-
-pub returns-in_err-origin_to_directed_edges-in-OriginToDirectedEdges-clause-ends : goal.returns-in_err-origin_to_directed_edges-in-OriginToDirectedEdges-clause-ends
-returns-in_err-origin_to_directed_edges-in-OriginToDirectedEdges-clause-ends g c =
-    let p = err_from_is_err_and c.from_residual-in_err-origin_to_directed_edges-in-OriginToDirectedEdges.result c.from_residual-in_err-origin_to_directed_edges-in-OriginToDirectedEdges.ensures.1 in
-    rw (c.in-OriginToDirectedEdges.is, p.1, p.2) (answered_error (λ edges. written (edge_lines edges)) (YieldsFirst edges_left) _ _ _ _ refl c.in_err-origin_to_directed_edges-in-OriginToDirectedEdges.ensures (Keeps-refl _, refl))

@@ -1,4 +1,4 @@
-use Rattle.std.proofs.Common.{w32, rules, of_z, to_z, ◌≡◌, ◌∙◌, ℕ, ℤ, Option, Ok, ap, subst}
+use Rattle.std.proofs.Common.{w32, rules, of_z, to_z, ◌≡◌, ◌∙◌, ℕ, ℤ, Ok, ap, subst}
 use Rattle.std.specs.Prelude.{unsigned_abs}
 use Rattle.std.specs.Iterator.{YieldsFirst}
 use Rattle.std.proofs.lemmas.Int.{to_z-of_z}
@@ -13,7 +13,7 @@ use Rattle.h3_functions.proofs.Listed.{lists_first}
 use Rattle.h3_functions.proofs.hierarchy.cell_to_children.Goals as goal
 
 -- the descendants of the cell with the index
-listed : (index : Option ℕ) (res read : ℤ) (cell : Address) → read ≡ res → Ok cell ≡ cell_from index
+listed : (index : ℕ) (res read : ℤ) (cell : Address) → read ≡ res → Ok cell ≡ cell_from index
     → unless (descent_refusal (resolution cell) read) (descendants cell (unsigned_abs read)) ≡ cell_to_children index res
 listed index res read cell same is =
     ap (λ (z : ℤ). unless (descent_refusal (resolution cell) z) (descendants cell (unsigned_abs z))) same

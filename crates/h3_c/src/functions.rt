@@ -1,0 +1,53 @@
+//! H3's functions of one index, of one index or of each of a column.
+
+ghost use Rattle.std.specs.Prelude.{◌≡◌};
+ghost use Rattle.h3_functions.specs.Outcome.{outcome_of};
+ghost use Rattle.h3_c.specs.Functions.{int_in, word_in};
+
+use crate::column::Question;
+use crate::outcome::{index_of, truth};
+use h3_functions::{Outcome, outcome_of};
+use h3_index::H3Error;
+use h3_requests::CellFunction;
+
+/// What a function returns for an index, as an `int`; `Failed` where that is none.
+#[inline(always)]
+pub(crate) fn int(function: CellFunction, index: u64) -> Result<i32, H3Error>
+    ensures { result ≡ int_in (outcome_of function index) }
+{
+    match outcome_of(function, index) {
+        Outcome::Truth(is) => Ok(truth(is?)),
+        Outcome::Number(number) => Ok(i32::from(number?)),
+        _ => Err(H3Error::Failed),
+    }
+}
+
+/// What a function returns for an index, as an index or a count; `Failed` where that is neither.
+#[inline(always)]
+pub(crate) fn word(function: CellFunction, index: u64) -> Result<u64, H3Error>
+    ensures { result ≡ word_in (outcome_of function index) }
+{
+    match outcome_of(function, index) {
+        Outcome::Count(count) => count,
+        Outcome::Cell(cell) => index_of(cell),
+        _ => Err(H3Error::Failed),
+    }
+}
+
+impl Question<i32> for CellFunction {
+    ghost outcome = { λ f h. int_in (outcome_of f h) };
+
+    #[inline(always)]
+    fn ask(&self, index: u64, _place: &mut usize) -> Result<i32, H3Error> {
+        int(*self, index)
+    }
+}
+
+impl Question<u64> for CellFunction {
+    ghost outcome = { λ f h. word_in (outcome_of f h) };
+
+    #[inline(always)]
+    fn ask(&self, index: u64, _place: &mut usize) -> Result<u64, H3Error> {
+        word(*self, index)
+    }
+}
