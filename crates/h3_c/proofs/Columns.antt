@@ -2,14 +2,14 @@
 use Rattle.std.proofs.Common.{◌≡◌, ℕ, zero, suc, ◌+◌, ◌<◌, ◌≤◌, List, [], ◌∷◌, ◌++◌, length, map, take, slice_set, slice_index_or, nat_le, ◌==◌, ◌&&◌, ◌↔◌, IsTrue, is_ok, is_err, Bool, true, false, Result, Ok, Err, refl, ap, sym, ◌∙◌, arith}
 use Rattle.std.specs.Int.{from_bool}
 use Rattle.std.proofs.Math.Bool.{and-false, and-true}
-use Rattle.std.proofs.lemmas.Bool.{false≢true, le-leb, lt-leb}
+use Rattle.std.proofs.lemmas.Bool.{false≢true, le-leb}
 use Rattle.std.proofs.lemmas.Bool.Decides.{nat_tests}
 use Rattle.std.proofs.lemmas.List.{length-map, map-append}
+use Rattle.std.specs.Result.{result_unwrap_or}
 use Rattle.h3_index.specs.Error.{error_number}
 use Rattle.h3_index.specs.declared.error.H3Error.{H3Error}
 use Rattle.h3_index.specs.declared.error.H3Error.TheVariants.{Failed, Domain, ResDomain, CellInvalid, DirEdgeInvalid, Pentagon, DuplicateInput, NotNeighbors, ResMismatch, MemoryAlloc}
 use Rattle.h3_c.specs.Columns.{first_code, first_place}
-use Rattle.h3_c.specs.Outcome.{value_or}
 use Rattle.h3_c.specs.Lists.{laid_over}
 use Rattle.h3_c.proofs.Laid.{laid_over-snoc}
 
@@ -106,20 +106,17 @@ place-none (Err d ∷ rs) none = absurd (error_number-some d none)
 -- ---- the values
 
 values-snoc : {A : Type 0} (missing : A) (rs : List (Result A H3Error)) (r : Result A H3Error) (old : List A) → length rs < length old
-    → laid_over (map (λ q. value_or missing q) (rs ++ r ∷ [])) old ≡ slice_set (laid_over (map (λ q. value_or missing q) rs) old) (length rs) (value_or missing r)
+    → laid_over (map (λ q. result_unwrap_or q missing) (rs ++ r ∷ [])) old ≡ slice_set (laid_over (map (λ q. result_unwrap_or q missing) rs) old) (length rs) (result_unwrap_or r missing)
 values-snoc missing rs r old room =
-    ap (λ l. laid_over l old) (map-append (λ q. value_or missing q) rs (r ∷ []))
-    ∙ laid_over-snoc (map (λ q. value_or missing q) rs) old (value_or missing r) (rw length-map room)
-    ∙ ap (λ n. slice_set (laid_over (map (λ q. value_or missing q) rs) old) n (value_or missing r)) (length-map rs (λ q. value_or missing q))
+    ap (λ l. laid_over l old) (map-append (λ q. result_unwrap_or q missing) rs (r ∷ []))
+    ∙ laid_over-snoc (map (λ q. result_unwrap_or q missing) rs) old (result_unwrap_or r missing) (rw length-map room)
+    ∙ ap (λ n. slice_set (laid_over (map (λ q. result_unwrap_or q missing) rs) old) n (result_unwrap_or r missing)) (length-map rs (λ q. result_unwrap_or q missing))
 
 pub values-next : {A : Type 0} (missing : A) (rs : List (Result A H3Error)) (r : Result A H3Error) (old out : List A) (n : ℕ) (v : A) → length rs ≡ n → length rs < length old
-    → out ≡ laid_over (map (λ q. value_or missing q) rs) old → v ≡ value_or missing r → slice_set out n v ≡ laid_over (map (λ q. value_or missing q) (rs ++ r ∷ [])) old
+    → out ≡ laid_over (map (λ q. result_unwrap_or q missing) rs) old → v ≡ result_unwrap_or r missing → slice_set out n v ≡ laid_over (map (λ q. result_unwrap_or q missing) (rs ++ r ∷ [])) old
 values-next missing rs r old out n v long room is put = rw (is, sym long, put) (sym (values-snoc missing rs r old room))
 
 -- ---- the test of the room
 
 pub fits : {A : Type 0} (rs : List (Result A H3Error)) (room : ℕ) → length rs ≤ room → nat_le (length rs) room ≡ true
 fits rs room h = le-leb (length rs) room h
-
-pub too_little : {A : Type 0} (rs : List (Result A H3Error)) (room : ℕ) → room < length rs → nat_le (length rs) room ≡ false
-too_little rs room h = lt-leb (length rs) room h

@@ -1,12 +1,12 @@
 -- What a column holds, and what is returned with it, for the outcomes of a function at each of its indexes.
 use Rattle.std.specs.Prelude.{ℕ, ℤ, suc, List, [], ◌∷◌, map, length, Result, Ok, Err, nat_le, if◌then◌else◌}
+use Rattle.std.specs.Result.{result_unwrap_or}
 use Rattle.std.specs.Option.{option_map_or}
 use Rattle.h3_index.specs.Count.{resolution_of}
 use Rattle.h3_index.specs.Error.{error_number}
 use Rattle.h3_index.specs.declared.error.H3Error.{H3Error}
 use Rattle.h3_index.specs.declared.error.H3Error.TheVariants.{ResDomain}
 use Rattle.h3_c.specs.Lists.{laid_over}
-use Rattle.h3_c.specs.Outcome.{value_or}
 
 -- first_code outcomes: the number of the first error, or 0
 unfoldable pub first_code : {A : Type 0} → List (Result A H3Error) → ℕ
@@ -28,7 +28,7 @@ column_code outcomes room = if nat_le (length outcomes) room then first_code out
 -- what was there, where there is too little room
 abbrev pub column_over : {A : Type 0} → A → List (Result A H3Error) → List A → List A
 column_over missing outcomes old =
-    if nat_le (length outcomes) (length old) then laid_over (map (λ r. value_or missing r) outcomes) old else old
+    if nat_le (length outcomes) (length old) then laid_over (map (λ r. result_unwrap_or r missing) outcomes) old else old
 
 -- place_over outcomes room old: `first_place`, or what was there, where there is too little room
 abbrev pub place_over : {A : Type 0} → List (Result A H3Error) → ℕ → ℕ → ℕ

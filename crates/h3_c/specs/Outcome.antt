@@ -10,16 +10,6 @@ abbrev pub code_of : {A : Type 0} → Result A H3Error → ℕ
 code_of (Ok value) = 0
 code_of (Err e) = error_number e
 
--- put_over old outcome: the value, or what was there before
-abbrev pub put_over : {A : Type 0} → A → Result A H3Error → A
-put_over old (Ok value) = value
-put_over old (Err e) = old
-
--- value_or missing outcome: the value, or another in the place of an error
-abbrev pub value_or : {A : Type 0} → A → Result A H3Error → A
-value_or missing (Ok value) = value
-value_or missing (Err e) = missing
-
 -- index_of outcome: the cell's index, or the error
 abbrev pub index_of : Result Address H3Error → Result ℕ H3Error
 index_of cell = for_value (λ c. Ok (number_of c)) cell

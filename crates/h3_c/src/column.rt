@@ -1,10 +1,10 @@
 //! One call for each index of a column.
 
 ghost use Rattle.std.specs.Prelude.{◌≡◌, ◌≤◌, ◌↔◌, ℕ, IsTrue, Result, map, length};
+ghost use Rattle.std.specs.Result.{result_unwrap_or};
 ghost use Rattle.h3_index.specs.declared.error.H3Error.{H3Error};
 ghost use Rattle.h3_c.specs.Columns.{column_code, column_code_at, column_over, column_over_at, first_code, first_place, place_over, place_over_at};
 ghost use Rattle.h3_c.specs.Lists.{laid_over};
-ghost use Rattle.h3_c.specs.Outcome.{value_or};
 
 use h3_index::{H3Error, resolution_from};
 
@@ -46,7 +46,8 @@ fn fill_values<T: Copy, Q: Question<T>>(
 ) -> bool
     requires room { length indexes.now ≤ length out.old }
     ensures values { out.new ≡ laid_over
-        (map (λ r. value_or missing r) (map (λ h. Q.outcome question.now h) indexes.now)) out.old }
+        (map (λ r. result_unwrap_or r missing)
+        (map (λ h. Q.outcome question.now h) indexes.now)) out.old }
     ensures none { IsTrue result ↔ (first_code (map (λ h. Q.outcome question.now h) indexes.now) ≡ 0) }
 {
     let mut missed: usize = 0;

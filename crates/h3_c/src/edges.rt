@@ -1,10 +1,11 @@
 //! Directed edges, where no table is needed.
 
 ghost use Rattle.std.specs.Prelude.{◌≡◌, Ok, map, length, negsuc};
+ghost use Rattle.std.specs.Result.{result_unwrap_or};
 ghost use Rattle.h3_functions.specs.Edges.{get_directed_edge_origin, is_valid_directed_edge, origin_to_directed_edges};
 ghost use Rattle.h3_c.specs.Columns.{column_code, column_over, place_over};
 ghost use Rattle.h3_c.specs.Edges.{edge_or_null, edges_or_nulls};
-ghost use Rattle.h3_c.specs.Outcome.{code_of, index_of, put_over, truth, truth_of};
+ghost use Rattle.h3_c.specs.Outcome.{code_of, index_of, truth, truth_of};
 
 use crate::column::{NO_NUMBER, NULL, fill};
 use crate::functions::{int, word};
@@ -41,7 +42,7 @@ pub extern "C" fn h3w_areValidDirectedEdges(edges: &[u64], out: &mut [i32], at: 
 #[unsafe(no_mangle)]
 pub extern "C" fn h3w_getDirectedEdgeOrigin(h: u64, out: &mut u64) -> u32
     ensures code { result ≡ code_of (index_of (get_directed_edge_origin h)) }
-    ensures value { out.new ≡ put_over out.old (index_of (get_directed_edge_origin h)) }
+    ensures value { out.new ≡ result_unwrap_or (index_of (get_directed_edge_origin h)) out.old }
 {
     put(out, word(GetDirectedEdgeOrigin, h))
 }
@@ -77,7 +78,7 @@ fn edge_or_null(cell: Cell, direction: u8) -> u64
 pub extern "C" fn h3w_originToDirectedEdges(h: u64, out: &mut [u64; 6]) -> u32
     ensures code { result ≡ code_of (edges_or_nulls (origin_to_directed_edges h)) }
     ensures value { out.new
-        ≡ put_over out.old (edges_or_nulls (origin_to_directed_edges h)) }
+        ≡ result_unwrap_or (edges_or_nulls (origin_to_directed_edges h)) out.old }
 {
     match cell_from(h) {
         Ok(cell) => {

@@ -1,10 +1,11 @@
 //! Parents, children and positions.
 
 ghost use Rattle.std.specs.Prelude.{◌≡◌, ◌-◌, ◌^◌, map, length};
+ghost use Rattle.std.specs.Result.{result_unwrap_or};
 ghost use Rattle.h3_functions.specs.Hierarchy.{cell_to_center_child, cell_to_child_pos, cell_to_children, cell_to_children_size, cell_to_parent, child_pos_to_cell};
 ghost use Rattle.h3_c.specs.Columns.{column_code_at, column_over_at, place_over_at};
 ghost use Rattle.h3_c.specs.Lists.{list_code, list_over};
-ghost use Rattle.h3_c.specs.Outcome.{code_of, index_of, put_over};
+ghost use Rattle.h3_c.specs.Outcome.{code_of, index_of};
 
 use crate::column::{NO_COUNT, NULL, fill_at};
 use crate::functions::word;
@@ -17,7 +18,7 @@ use h3_requests::CellFunction::*;
 #[unsafe(no_mangle)]
 pub extern "C" fn h3w_cellToParent(h: u64, res: i32, out: &mut u64) -> u32
     ensures code { result ≡ code_of (index_of (cell_to_parent h res)) }
-    ensures value { out.new ≡ put_over out.old (index_of (cell_to_parent h res)) }
+    ensures value { out.new ≡ result_unwrap_or (index_of (cell_to_parent h res)) out.old }
 {
     put(out, word(CellToParent { res }, h))
 }
@@ -46,7 +47,7 @@ pub extern "C" fn h3w_cellsToParents(
 #[unsafe(no_mangle)]
 pub extern "C" fn h3w_cellToCenterChild(h: u64, res: i32, out: &mut u64) -> u32
     ensures code { result ≡ code_of (index_of (cell_to_center_child h res)) }
-    ensures value { out.new ≡ put_over out.old (index_of (cell_to_center_child h res)) }
+    ensures value { out.new ≡ result_unwrap_or (index_of (cell_to_center_child h res)) out.old }
 {
     put(out, word(CellToCenterChild { res }, h))
 }
@@ -76,7 +77,7 @@ pub extern "C" fn h3w_cellsToCenterChildren(
 #[unsafe(no_mangle)]
 pub extern "C" fn h3w_cellToChildrenSize(h: u64, res: i32, out: &mut u64) -> u32
     ensures code { result ≡ code_of (cell_to_children_size h res) }
-    ensures value { out.new ≡ put_over out.old (cell_to_children_size h res) }
+    ensures value { out.new ≡ result_unwrap_or (cell_to_children_size h res) out.old }
 {
     put(out, word(CellToChildrenSize { res }, h))
 }
@@ -105,7 +106,7 @@ pub extern "C" fn h3w_cellsToChildrenSizes(
 #[unsafe(no_mangle)]
 pub extern "C" fn h3w_cellToChildPos(h: u64, res: i32, out: &mut u64) -> u32
     ensures code { result ≡ code_of (cell_to_child_pos h res) }
-    ensures value { out.new ≡ put_over out.old (cell_to_child_pos h res) }
+    ensures value { out.new ≡ result_unwrap_or (cell_to_child_pos h res) out.old }
 {
     put(out, word(CellToChildPos { res }, h))
 }
@@ -133,7 +134,7 @@ pub extern "C" fn h3w_cellsToChildPositions(
 pub extern "C" fn h3w_childPosToCell(position: u64, h: u64, res: i32, out: &mut u64) -> u32
     ensures code { result ≡ code_of (index_of (child_pos_to_cell position h res)) }
     ensures value { out.new
-        ≡ put_over out.old (index_of (child_pos_to_cell position h res)) }
+        ≡ result_unwrap_or (index_of (child_pos_to_cell position h res)) out.old }
 {
     put(out, index_of(child_pos_to_cell(position, h, res)))
 }

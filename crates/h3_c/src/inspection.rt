@@ -1,9 +1,10 @@
 //! What an index says of its cell.
 
 ghost use Rattle.std.specs.Prelude.{◌≡◌, pos, negsuc, Ok, map, length};
+ghost use Rattle.std.specs.Result.{result_unwrap_or};
 ghost use Rattle.h3_functions.specs.Inspection.{get_base_cell_number, get_resolution, is_pentagon, is_res_class_iii, is_valid_cell};
 ghost use Rattle.h3_c.specs.Columns.{column_code, column_over, place_over};
-ghost use Rattle.h3_c.specs.Outcome.{int_of, truth, truth_of, value_or};
+ghost use Rattle.h3_c.specs.Outcome.{int_of, truth, truth_of};
 
 use crate::column::{NO_NUMBER, fill};
 use crate::functions::int;
@@ -34,7 +35,7 @@ pub extern "C" fn h3w_areValidCells(cells: &[u64], out: &mut [i32], at: &mut usi
 /// H3's `getResolution`; -1 where no cell has the index.
 #[unsafe(no_mangle)]
 pub extern "C" fn h3w_getResolution(h: u64) -> i32
-    ensures { result ≡ value_or (negsuc 0) (int_of (get_resolution h)) }
+    ensures { result ≡ result_unwrap_or (int_of (get_resolution h)) (negsuc 0) }
 {
     int(GetResolution, h).unwrap_or(NO_NUMBER)
 }
@@ -56,7 +57,7 @@ pub extern "C" fn h3w_getResolutions(cells: &[u64], out: &mut [i32], at: &mut us
 /// H3's `getBaseCellNumber`; -1 where no cell has the index.
 #[unsafe(no_mangle)]
 pub extern "C" fn h3w_getBaseCellNumber(h: u64) -> i32
-    ensures { result ≡ value_or (negsuc 0) (int_of (get_base_cell_number h)) }
+    ensures { result ≡ result_unwrap_or (int_of (get_base_cell_number h)) (negsuc 0) }
 {
     int(GetBaseCellNumber, h).unwrap_or(NO_NUMBER)
 }
@@ -80,7 +81,7 @@ pub extern "C" fn h3w_getBaseCellNumbers(cells: &[u64], out: &mut [i32], at: &mu
 /// H3's `isPentagon`; 0 where no cell has the index.
 #[unsafe(no_mangle)]
 pub extern "C" fn h3w_isPentagon(h: u64) -> i32
-    ensures { result ≡ value_or (pos 0) (truth_of (is_pentagon h)) }
+    ensures { result ≡ result_unwrap_or (truth_of (is_pentagon h)) (pos 0) }
 {
     int(IsPentagon, h).unwrap_or(0)
 }
@@ -102,7 +103,7 @@ pub extern "C" fn h3w_arePentagons(cells: &[u64], out: &mut [i32], at: &mut usiz
 /// H3's `isResClassIII`; 0 where no cell has the index.
 #[unsafe(no_mangle)]
 pub extern "C" fn h3w_isResClassIII(h: u64) -> i32
-    ensures { result ≡ value_or (pos 0) (truth_of (is_res_class_iii h)) }
+    ensures { result ≡ result_unwrap_or (truth_of (is_res_class_iii h)) (pos 0) }
 {
     int(IsResClassIII, h).unwrap_or(0)
 }

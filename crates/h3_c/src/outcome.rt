@@ -1,7 +1,8 @@
 //! How an outcome reaches C: a code, and a value at a place.
 
 ghost use Rattle.std.specs.Prelude.{◌≡◌};
-ghost use Rattle.h3_c.specs.Outcome.{code_of, index_of, put_over, truth};
+ghost use Rattle.std.specs.Result.{result_unwrap_or};
+ghost use Rattle.h3_c.specs.Outcome.{code_of, index_of, truth};
 
 use h3_index::{Cell, H3Error};
 
@@ -9,7 +10,7 @@ use h3_index::{Cell, H3Error};
 #[inline(always)]
 pub(crate) fn put<T: Copy>(out: &mut T, outcome: Result<T, H3Error>) -> u32
     ensures code { result ≡ code_of outcome }
-    ensures value { out.new ≡ put_over out.old outcome }
+    ensures value { out.new ≡ result_unwrap_or outcome out.old }
 {
     match outcome {
         Ok(value) => {

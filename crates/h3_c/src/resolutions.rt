@@ -1,9 +1,10 @@
 //! Whole resolutions.
 
 ghost use Rattle.std.specs.Prelude.{◌≡◌, Ok, length};
+ghost use Rattle.std.specs.Result.{result_unwrap_or};
 ghost use Rattle.h3_functions.specs.Resolutions.{get_num_cells, get_pentagons, get_res0_cells};
 ghost use Rattle.h3_c.specs.Lists.{list_code, list_over};
-ghost use Rattle.h3_c.specs.Outcome.{code_of, put_over};
+ghost use Rattle.h3_c.specs.Outcome.{code_of};
 
 use crate::lists::put_list;
 use crate::outcome::put;
@@ -13,7 +14,7 @@ use h3_functions::{get_num_cells, get_pentagons, get_res0_cells};
 #[unsafe(no_mangle)]
 pub extern "C" fn h3w_getNumCells(res: i32, out: &mut u64) -> u32
     ensures code { result ≡ code_of (get_num_cells res) }
-    ensures value { out.new ≡ put_over out.old (get_num_cells res) }
+    ensures value { out.new ≡ result_unwrap_or (get_num_cells res) out.old }
 {
     put(out, get_num_cells(res))
 }

@@ -1,10 +1,10 @@
 //! Compaction.
 
 ghost use Rattle.std.specs.Prelude.{◌≡◌, ◌≢◌, ◌⊎◌, length, Some, None, Ok, IfOk, IfErr};
+ghost use Rattle.std.specs.Result.{result_unwrap_or};
 ghost use Rattle.h3_index.specs.declared.error.H3Error.TheVariants.{CellInvalid, MemoryAlloc};
 ghost use Rattle.h3_functions.specs.Sets.{uncompact_cells as uncompact};
 ghost use Rattle.h3_c.specs.Lists.{count_of, list_code, list_over};
-ghost use Rattle.h3_c.specs.Outcome.{put_over};
 ghost use Rattle.h3_c.specs.Sets.{cells_in, compact_cells, uncompact_cells};
 
 use crate::column::MEMORY_BOUNDS;
@@ -74,7 +74,7 @@ pub extern "C" fn h3w_compactCells(
     ensures code { (result ≡ 13) ⊎ (result ≡ list_code (compact_cells set.now) (length out.old)) }
     ensures list { result ≢ 13 → out.new ≡ list_over (compact_cells set.now) out.old }
     ensures count { result ≢ 13 →
-        count.new ≡ put_over count.old (count_of (compact_cells set.now)) }
+        count.new ≡ result_unwrap_or (count_of (compact_cells set.now)) count.old }
     ensures kept { result ≡ 13 → (out.new ≡ out.old) × (count.new ≡ count.old) }
 {
     let mut cells = match cells_in(alloc, set) {

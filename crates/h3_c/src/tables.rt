@@ -1,11 +1,12 @@
 //! Base cell tables, and what is returned for one pair of cells or one edge over them.
 
 ghost use Rattle.std.specs.Prelude.{◌≡◌, ◌≢◌, ◌⊎◌, ◌==◌, Some};
+ghost use Rattle.std.specs.Result.{result_unwrap_or};
 ghost use Rattle.h3_lattice.specs.BaseTable.{link_of};
 ghost use Rattle.h3_lattice.specs.Fields.{records_of};
 ghost use Rattle.h3_lattice.specs.Table.{links_of, table_fault};
 ghost use Rattle.h3_directions.specs.declared.error.TableError.{TableError};
-ghost use Rattle.h3_c.specs.Outcome.{code_of, index_of, put_over, truth_of};
+ghost use Rattle.h3_c.specs.Outcome.{code_of, index_of, truth_of};
 ghost use Rattle.h3_c.specs.Tables.{are_neighbor_cells, cells_to_directed_edge, edge_index_of, get_directed_edge_destination, told, told_error};
 
 use crate::outcome::{index_of, put, truth};
@@ -118,7 +119,7 @@ pub extern "C" fn h3w_areNeighborCells(
 ) -> u32
     ensures code { result ≡ code_of (truth_of (are_neighbor_cells table.now origin destination)) }
     ensures value { out.new
-        ≡ put_over out.old (truth_of (are_neighbor_cells table.now origin destination)) }
+        ≡ result_unwrap_or (truth_of (are_neighbor_cells table.now origin destination)) out.old }
 {
     put(out, neighbors(table, origin, destination))
 }
@@ -147,7 +148,7 @@ pub extern "C" fn h3w_cellsToDirectedEdge(
     ensures code { result
         ≡ code_of (edge_index_of (cells_to_directed_edge table.now origin destination)) }
     ensures value { out.new
-        ≡ put_over out.old (edge_index_of (cells_to_directed_edge table.now origin destination)) }
+        ≡ result_unwrap_or (edge_index_of (cells_to_directed_edge table.now origin destination)) out.old }
 {
     put(out, edge_to(table, origin, destination))
 }
@@ -168,7 +169,7 @@ fn destination(table: &Table, index: u64) -> Result<Cell, H3Error>
 pub extern "C" fn h3w_getDirectedEdgeDestination(table: &Table, edge: u64, out: &mut u64) -> u32
     ensures code { result ≡ code_of (index_of (get_directed_edge_destination table.now edge)) }
     ensures value { out.new
-        ≡ put_over out.old (index_of (get_directed_edge_destination table.now edge)) }
+        ≡ result_unwrap_or (index_of (get_directed_edge_destination table.now edge)) out.old }
 {
     put(out, index_of(destination(table, edge)))
 }

@@ -1,9 +1,10 @@
 //! The texts of indexes.
 
 ghost use Rattle.std.specs.Prelude.{◌≡◌, ◌+◌, ◌<◌, ◌≤◌, ◌∷◌, ◌++◌, [], length, take, drop, ok_or};
+ghost use Rattle.std.specs.Result.{result_unwrap_or};
 ghost use Rattle.h3_index.specs.Text.{parsed_index, text_of};
 ghost use Rattle.h3_index.specs.declared.error.H3Error.TheVariants.{Failed};
-ghost use Rattle.h3_c.specs.Outcome.{code_of, put_over};
+ghost use Rattle.h3_c.specs.Outcome.{code_of};
 
 use crate::column::MEMORY_BOUNDS;
 use crate::outcome::put;
@@ -16,7 +17,7 @@ const ROOM: usize = 17;
 #[unsafe(no_mangle)]
 pub extern "C" fn h3w_stringToH3(text: &[u8], out: &mut u64) -> u32
     ensures code { result ≡ code_of (ok_or (parsed_index text.now) Failed) }
-    ensures value { out.new ≡ put_over out.old (ok_or (parsed_index text.now) Failed) }
+    ensures value { out.new ≡ result_unwrap_or (ok_or (parsed_index text.now) Failed) out.old }
 {
     put(out, read_index(text))
 }

@@ -1,6 +1,6 @@
 use Rattle.std.proofs.Common.{◌≡◌, ◌∙◌, ◌++◌, ◌∷◌, [], ◌+◌, ◌<◌, ◌==◌, length, map, take, refl, sym, ap, arith}
+use Rattle.std.specs.Result.{result_unwrap_or}
 use Rattle.h3_c.specs.Columns.{first_code}
-use Rattle.h3_c.specs.Outcome.{value_or}
 use Rattle.h3_c.specs.Lists.{laid_over}
 use Rattle.h3_c.proofs.Columns.{few-next, length-up_to, missed-next, tells, up_to-next, values-next, whole}
 use Rattle.h3_c.proofs.column.fill_values.Goals as goal
@@ -20,15 +20,15 @@ loop-i-preserved g c =
     up_to-next (λ h. g.Q.Question.outcome c.args.question.now h) hs i r c.loop-i-test.true c.ask-answer.ensures in
     let long : length rs ≡ i = length-up_to (λ h. g.Q.Question.outcome c.args.question.now h) hs i (omega (arith, c.loop-i-test.true)) in
     let room : length rs < length c.args.out.now = omega (arith, long, c.loop-i-test.true, c.requires.room) in
-    let put : c.match-answer.out ≡ value_or c.args.missing r = elim c.match-answer.branch [
-      | in-Ok w ↦ w.out-is ∙ sym (ap (λ r. value_or c.args.missing r) w.in-Ok.is)
-      | in-Err w ↦ w.out-is ∙ sym (ap (λ r. value_or c.args.missing r) w.in-Err.is)
+    let put : c.match-answer.out ≡ result_unwrap_or r c.args.missing = elim c.match-answer.branch [
+      | in-Ok w ↦ w.out-is ∙ sym (ap (λ r. result_unwrap_or r c.args.missing) w.in-Ok.is)
+      | in-Err w ↦ w.out-is ∙ sym (ap (λ r. result_unwrap_or r c.args.missing) w.in-Err.is)
     ] in
     record {
       few = rw c.from.ensures (few-next c.loop-i.missed i _ c.loop-i.invariant.few);
       whole = rw (more, c.from.ensures, c.is_err.ensures.value) (missed-next c.loop-i.missed rs r c.loop-i.invariant.whole);
       values = values-next c.args.missing rs r c.args.out.now c.loop-i.out i c.match-answer.out long room c.loop-i.invariant.values put
-          ∙ ap (λ rs. laid_over (map (λ r. value_or c.args.missing r) rs) c.args.out.now) (sym more);
+          ∙ ap (λ rs. laid_over (map (λ r. result_unwrap_or r c.args.missing) rs) c.args.out.now) (sym more);
     }
 
 pub returns-clause-values : goal.returns-clause-values
@@ -37,7 +37,7 @@ returns-clause-values g c =
     let end : c.loop-i.i ≡ length hs = omega (arith, c.loop-i.auto.i-end, c.loop-i-test.false) in
     let all : map (λ h. g.Q.Question.outcome c.args.question.now h) (take c.loop-i.i hs) ≡ map (λ h. g.Q.Question.outcome c.args.question.now h) hs =
     ap (λ n. map (λ h. g.Q.Question.outcome c.args.question.now h) (take n hs)) end ∙ whole (λ h. g.Q.Question.outcome c.args.question.now h) hs in
-    c.loop-i.invariant.values ∙ ap (λ rs. laid_over (map (λ r. value_or c.args.missing r) rs) c.args.out.now) all
+    c.loop-i.invariant.values ∙ ap (λ rs. laid_over (map (λ r. result_unwrap_or r c.args.missing) rs) c.args.out.now) all
 
 pub returns-clause-none : goal.returns-clause-none
 returns-clause-none g c =

@@ -1,6 +1,6 @@
 use Rattle.std.proofs.Common.{◌≡◌, ◌≤◌, ◌==◌, map, take}
+use Rattle.std.specs.Result.{result_unwrap_or}
 use Rattle.h3_c.specs.Columns.{first_code}
-use Rattle.h3_c.specs.Outcome.{value_or}
 use Rattle.h3_c.specs.Lists.{laid_over}
 use Rattle.h3_c.proofs.column.fill_values.Given as goal
 
@@ -8,5 +8,5 @@ abbrev pub invariant-loop-i : goal.invariant-loop-i
 invariant-loop-i g l = record {
   few : l.missed ≤ l.i;
   whole : (l.missed == 0) ≡ (first_code (map (λ h. g.Q.Question.outcome l.question h) (take l.i l.indexes)) == 0);
-  values : l.out ≡ laid_over (map (λ r. value_or l.missing r) (map (λ h. g.Q.Question.outcome l.question h) (take l.i l.indexes))) l.initial.out;
+  values : l.out ≡ laid_over (map (λ r. result_unwrap_or r l.missing) (map (λ h. g.Q.Question.outcome l.question h) (take l.i l.indexes))) l.initial.out;
 }
