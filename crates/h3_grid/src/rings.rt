@@ -38,10 +38,10 @@ fn outward(table: &BaseTable, cell: Cell, k: u32) -> Result<(Cell, u8), H3Error>
     for _done in 0..k {
         match step_ahead(table, reached, res, ahead, rotation) {
             Err(error) => return Err(error),
-            Ok((next, turns, turned)) => {
+            Ok((next, rotated, outward)) => {
                 reached = next;
-                rotation = turns;
-                ahead = turned;
+                rotation = rotated;
+                ahead = outward;
             }
         }
     }
@@ -52,8 +52,9 @@ fn outward(table: &BaseTable, cell: Cell, k: u32) -> Result<(Cell, u8), H3Error>
 ///
 /// An iterator. After the error `Pentagon`, which comes where a step meets a pentagon base cell, or
 /// after the last cell where the ring does not close, there is no further item. It takes no memory:
-/// it holds the cell that was reached last, the direction of its side as it is turned there, and the
-/// first cell, and counts what is left, steps of a side and sides.
+/// it holds the cell that was reached last with its resolution, the rotation and the direction of the
+/// side as it is turned there, and the first cell, and counts what is left, steps of a side and
+/// sides.
 #[derive(Clone, Copy, Debug)]
 pub struct Ring<'a> {
     table: &'a BaseTable,

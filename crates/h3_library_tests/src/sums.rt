@@ -6,6 +6,130 @@ use h3_index::{Cell, Edge};
 use h3_lattice::{Class, Digits, Moved, add, add_at, carry, edge_direction, turn};
 use std::process::Abort;
 
+/// The digit that is left, and the direction that is carried. There is a row for each digit, and a
+/// column for each direction in the order of the digits.
+type Carries = [[(u8, Option<Direction>); 6]; 7];
+
+/// The carries of Class III.
+static CARRIES_THREE: Carries = [
+    [
+        (1, None),
+        (2, None),
+        (3, None),
+        (4, None),
+        (5, None),
+        (6, None),
+    ],
+    [
+        (4, Some(Direction::K)),
+        (3, None),
+        (6, Some(Direction::K)),
+        (5, None),
+        (2, Some(Direction::IK)),
+        (0, None),
+    ],
+    [
+        (3, None),
+        (1, Some(Direction::J)),
+        (4, Some(Direction::JK)),
+        (6, None),
+        (0, None),
+        (5, Some(Direction::J)),
+    ],
+    [
+        (6, Some(Direction::K)),
+        (4, Some(Direction::JK)),
+        (5, Some(Direction::JK)),
+        (0, None),
+        (1, None),
+        (2, None),
+    ],
+    [
+        (5, None),
+        (6, None),
+        (0, None),
+        (2, Some(Direction::I)),
+        (3, Some(Direction::I)),
+        (1, Some(Direction::IJ)),
+    ],
+    [
+        (2, Some(Direction::IK)),
+        (0, None),
+        (1, None),
+        (3, Some(Direction::I)),
+        (6, Some(Direction::IK)),
+        (4, None),
+    ],
+    [
+        (0, None),
+        (5, Some(Direction::J)),
+        (2, None),
+        (1, Some(Direction::IJ)),
+        (4, None),
+        (3, Some(Direction::IJ)),
+    ],
+];
+
+/// The carries of Class II.
+static CARRIES_TWO: Carries = [
+    [
+        (1, None),
+        (2, None),
+        (3, None),
+        (4, None),
+        (5, None),
+        (6, None),
+    ],
+    [
+        (2, Some(Direction::K)),
+        (3, None),
+        (4, Some(Direction::JK)),
+        (5, None),
+        (6, Some(Direction::K)),
+        (0, None),
+    ],
+    [
+        (3, None),
+        (4, Some(Direction::J)),
+        (5, Some(Direction::J)),
+        (6, None),
+        (0, None),
+        (1, Some(Direction::IJ)),
+    ],
+    [
+        (4, Some(Direction::JK)),
+        (5, Some(Direction::J)),
+        (6, Some(Direction::JK)),
+        (0, None),
+        (1, None),
+        (2, None),
+    ],
+    [
+        (5, None),
+        (6, None),
+        (0, None),
+        (1, Some(Direction::I)),
+        (2, Some(Direction::IK)),
+        (3, Some(Direction::I)),
+    ],
+    [
+        (6, Some(Direction::K)),
+        (0, None),
+        (1, None),
+        (2, Some(Direction::IK)),
+        (3, Some(Direction::IK)),
+        (4, None),
+    ],
+    [
+        (0, None),
+        (1, Some(Direction::IJ)),
+        (2, None),
+        (3, Some(Direction::I)),
+        (4, None),
+        (5, Some(Direction::IJ)),
+    ],
+];
+
 /// Whether there is the direction expected, or none where none is.
 fn is_direction(found: Option<Direction>, expected: Option<Direction>) -> bool {
     match (found, expected) {
@@ -69,28 +193,34 @@ fn edges_have_directions(rt: HostRuntime) {
     }
 }
 
+/// Whether the carries of a digit, 0 to 6, are these.
+fn has_carries(
+    rt: &HostRuntime,
+    class: Class,
+    digit: u8,
+    entries: &[(u8, Option<Direction>); 6],
+) -> bool {
+    if digit > 6 {
+        return false;
+    }
+    for (column, direction) in DIRECTIONS.iter().enumerate() {
+        let (left, carried) = carry(class, digit, *direction);
+        let (other, expected) = entries[column];
+        if !holds(rt, column, left == other && is_direction(carried, expected)) {
+            return false;
+        }
+    }
+    true
+}
+
 #[test]
-fn a_digit_and_a_direction_leave_a_digit(rt: HostRuntime) {
-    // the class, the digit and the direction; the digit that is left and the direction carried
-    static ROWS: [(Class, u8, Direction, u8, Option<Direction>); 8] = [
-        (Class::Three, 0, Direction::IJ, 6, None),
-        (Class::Three, 1, Direction::IJ, 0, None),
-        (Class::Three, 4, Direction::I, 2, Some(Direction::I)),
-        (Class::Three, 6, Direction::J, 5, Some(Direction::J)),
-        (Class::Two, 0, Direction::K, 1, None),
-        (Class::Two, 4, Direction::I, 1, Some(Direction::I)),
-        (Class::Two, 6, Direction::J, 1, Some(Direction::IJ)),
-        (Class::Two, 3, Direction::IJ, 2, None),
-    ];
-    for (row, (class, digit, direction, left, carried)) in ROWS.iter().enumerate() {
-        let (found, direction) = carry(*class, *digit, *direction);
-        assert!(rt;
-            holds(
-                &rt,
-                row,
-                found == *left && is_direction(direction, *carried)
-            )
-        );
+fn carries_are_those_of_the_tables(rt: HostRuntime) {
+    for digit in 0..7u8 {
+        let row = usize::from(digit);
+        let three = has_carries(&rt, Class::Three, digit, &CARRIES_THREE[row]);
+        assert!(rt; holds(&rt, row, three));
+        let two = has_carries(&rt, Class::Two, digit, &CARRIES_TWO[row]);
+        assert!(rt; holds(&rt, row, two));
     }
 }
 
@@ -129,7 +259,11 @@ fn a_sum_lies_inside(rt: HostRuntime) {
 
 #[test]
 fn a_sum_at_a_given_resolution_is_the_same(rt: HostRuntime) {
-    match add_at(cell(&rt, 0x85283473fffffff), 5, Direction::IJ) {
+    let start = cell(&rt, 0x85283473fffffff);
+    if start.in_pentagon_base() {
+        panic!(rt; "it is in a pentagon base cell");
+    }
+    match add_at(start, start.resolution(), Direction::IJ) {
         Moved::Inside(sum) => assert!(rt; sum.raw() == 0x85283447fffffff),
         Moved::Across(_, _) => panic!(rt; "it lies across"),
     }
