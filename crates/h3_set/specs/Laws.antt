@@ -19,7 +19,7 @@ abbrev pub CompactedListsAreUnique : Type 0
 CompactedListsAreUnique =
     (cells : List Address) (r : ℕ) (a b : List Address) → r ≤ 15 → IsCompacted (IsCovered cells r) r a → IsCompacted (IsCovered cells r) r b → a ≡ b
 
--- CompactedListsAreTheOnlyOnes: what the cells of a list cover has no other compacted list than `compacted` of it
+-- CompactedListsAreTheOnlyOnes: what the cells of a list cover has no other compacted list than `compacted` of the list
 abbrev pub CompactedListsAreTheOnlyOnes : Type 0
 CompactedListsAreTheOnlyOnes =
     (cells others : List Address) → All IsCell cells → IsCompacted (IsCovered cells (finest cells)) (finest cells) others → others ≡ compacted cells
@@ -29,7 +29,8 @@ abbrev pub CompactedListsHoldTheTops : Type 0
 CompactedListsHoldTheTops =
     (cells : List Address) → All IsCell cells → (x : Address) → Contains (compacted cells) x ↔ IsTop (IsCovered cells (finest cells)) (finest cells) x
 
--- CompactedListsCoverOnce: below the compacted list of cells each cell that they cover stands once
+-- CompactedListsCoverOnce: uncompacted to the finest resolution of the cells, their compacted list has each cell that
+-- they cover once, and no other
 abbrev pub CompactedListsCoverOnce : Type 0
 CompactedListsCoverOnce =
     (cells : List Address) → All IsCell cells → HoldsOnce (IsCovered cells (finest cells)) (uncompacted (compacted cells) (finest cells))

@@ -6,9 +6,11 @@ ghost use Rattle.std.specs.Result.{result_err};
 ghost use Rattle.h3_set.specs.Compacted.{compacted, IsCompacted};
 ghost use Rattle.h3_set.specs.Compaction.{IsDone};
 ghost use Rattle.h3_set.specs.Coverage.{finest, IsCovered};
+ghost use Rattle.h3_set.specs.Laws.{CompactedListsAreUnique};
 ghost use Rattle.h3_set.specs.Order.{IsInOrder};
 ghost use Rattle.h3_set.specs.Refusals.{compaction_refusal};
 
+use crate::laws::compacted_lists_are_unique;
 use crate::rounds::Compaction;
 use h3_index::laws::{cells_are_listed, numbers_are_unique};
 use h3_index::{Cell, H3Error};
@@ -29,11 +31,8 @@ use h3_tree::laws::cells_form_trees;
 /// `DuplicateInput` where cells at two places overlap: a cell is listed twice, or together with an
 /// ancestor of it. The first n slots then hold the cells in some order.
 ///
-/// What holds of compacted lists is said by [`compacted_lists_are_unique`] and
-/// [`coverages_decide_lists`] of [`laws`](crate::laws).
-///
-/// [`compacted_lists_are_unique`]: crate::laws::compacted_lists_are_unique
-/// [`coverages_decide_lists`]: crate::laws::coverages_decide_lists
+/// The further laws of compacted lists are those of [`compacted_lists_are_unique`] and
+/// [`coverages_decide_lists`](crate::laws::coverages_decide_lists).
 pub fn compact_cells(cells: &[Cell], slots: &mut [Cell]) -> Result<usize, H3Error>
     requires { length cells.now ≤ length slots.old }
     ensures compacted { IfOk result (λ m. IsCompacted
@@ -44,7 +43,9 @@ pub fn compact_cells(cells: &[Cell], slots: &mut [Cell]) -> Result<usize, H3Erro
     ensures overlapping { result ≡ Err H3Error.DuplicateInput
         → IsPermutation cells.now (take (length cells.now) slots.new) }
     ensures others { drop (length cells.now) slots.new ≡ drop (length cells.now) slots.old }
+    ensures unique { CompactedListsAreUnique }
 {
+    compacted_lists_are_unique();
     let count = cells.len();
     slots[..count].copy_from_slice(cells);
     compact_in_place(&mut slots[..count])

@@ -38,7 +38,8 @@ pub fn compacted_lists_are_unique()
 }
 
 /// Any list of cells has a compacted list, which covers the same; lists that cover the same have the
-/// same one.
+/// same one. Overlaps are found, whatever the order of the cells, and a list may be compacted in
+/// parts.
 pub fn coverages_decide_lists()
     ensures compacted { CompactedListsAreCompacted }
     ensures alike { CompactedListsCoverAlike }
