@@ -132,8 +132,8 @@ fn edge_to(table: &Table, a: u64, b: u64) -> Result<u64, H3Error>
         return Err(H3Error::Failed);
     }
     let origin = cell_from(a)?;
-    let to = cell_from(b)?;
-    let edge = edge_between(&table.links, origin, to)?;
+    let destination = cell_from(b)?;
+    let edge = edge_between(&table.links, origin, destination)?;
     Ok(edge.raw())
 }
 

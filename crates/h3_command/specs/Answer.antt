@@ -59,7 +59,7 @@ shown (Edges index) = printed edge_lines (origin_to_directed_edges index)
 
 -- answer_for function word: what the command of a function of one index answers, or `Failed` where the word has no index
 abbrev pub answer_for : CellFunction → Option ℕ → Answer
-answer_for function index = answer_or_error (λ h. shown (outcome_of function h)) (index_given index)
+answer_for function word = answer_or_error (λ h. shown (outcome_of function h)) (index_given word)
 
 -- request command: what a command reads and writes: an answer that its words alone fix, one about the cells listed on
 -- standard input, the same with the number of a faulty line, one line by line about the indexes listed there, one about

@@ -9,12 +9,14 @@ use Rattle.h3_functions.specs.Inspection.{cell_from, for_value}
 
 -- index_given word: the index of a word, or `Failed` where it has none
 abbrev pub index_given : Option ℕ → Result ℕ H3Error
-index_given index = ok_or index Failed
+index_given word = ok_or word Failed
 
--- cell_given word: the cell with the index of a word, or the error
+-- cell_given word: the cell with the index of a word: `Failed` where the word has none, `CellInvalid` where no cell has
+-- it
 abbrev pub cell_given : Option ℕ → Result Address H3Error
-cell_given index = for_value cell_from (index_given index)
+cell_given word = for_value cell_from (index_given word)
 
--- edge_given word: the edge with the index of a word, or the error
+-- edge_given word: the edge with the index of a word: `Failed` where the word has none, `DirEdgeInvalid` where no edge
+-- has it
 abbrev pub edge_given : Option ℕ → Result DirectedEdge H3Error
-edge_given index = for_value edge_from (index_given index)
+edge_given word = for_value edge_from (index_given word)

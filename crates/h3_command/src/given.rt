@@ -14,7 +14,8 @@ pub(crate) fn index_given(index: Option<u64>) -> Result<u64, H3Error>
     index.ok_or(H3Error::Failed)
 }
 
-/// The cell with the index of a word: `CellInvalid` where no cell has it.
+/// The cell with the index of a word: `Failed` where the word has none, `CellInvalid` where no cell
+/// has it.
 #[inline(always)]
 pub(crate) fn cell_given(index: Option<u64>) -> Result<Cell, H3Error>
     ensures { result ≡ cell_given index }
@@ -22,7 +23,8 @@ pub(crate) fn cell_given(index: Option<u64>) -> Result<Cell, H3Error>
     cell_from(index_given(index)?)
 }
 
-/// The edge with the index of a word: `DirEdgeInvalid` where no edge has it.
+/// The edge with the index of a word: `Failed` where the word has none, `DirEdgeInvalid` where no
+/// edge has it.
 pub(crate) fn edge_given(index: Option<u64>) -> Result<Edge, H3Error>
     ensures { result ≡ edge_given index }
 {

@@ -8,7 +8,8 @@ use Rattle.h3_functions.specs.Inspection.{get_base_cell_number, get_resolution, 
 use Rattle.h3_functions.specs.declared.outcome.Outcome.{Outcome}
 use Rattle.h3_functions.specs.declared.outcome.Outcome.TheVariants.{Cell, Count, Edges, Number, Truth}
 
--- outcome_of function index: what a function of one index returns, by its kind
+-- outcome_of function index: what a function of one index returns, by its kind; for the edges of a cell the index, of
+-- which `origin_to_directed_edges` says them
 abbrev pub outcome_of : CellFunction → ℕ → Outcome
 outcome_of each.IsValidCell index = Truth (Ok (is_valid_cell index))
 outcome_of each.IsValidDirectedEdge index = Truth (Ok (is_valid_directed_edge index))

@@ -1,5 +1,5 @@
-//! H3's functions over indexes: a cell or an edge is made of each index first, and where none has
-//! it, that is the error.
+//! H3's functions over indexes: a cell or an edge is made of each index first, and where no cell
+//! or edge has it, that is the error.
 #![tactic(auto)]
 
 mod bases;

@@ -16,7 +16,7 @@ use h3_requests::CellFunction::{self, *};
 /// What a function of one index returns, by its kind.
 #[derive(Drop)]
 pub enum Outcome {
-    /// Whether it is so.
+    /// A truth value.
     Truth(Result<bool, H3Error>),
 
     /// A resolution, or a base cell.

@@ -39,9 +39,9 @@ pub(crate) fn side_before(sides: u8) -> Direction
 /// number of its ring.
 ///
 /// An iterator. After the error `Pentagon`, which comes where a step meets a pentagon base cell,
-/// there is no further item. It takes no memory: it holds the cell that was reached last, the
-/// direction of its side as it is turned there, and counts what is left, steps of a side, sides of a
-/// ring and rings.
+/// there is no further item. It takes no memory: it holds the cell that was reached last with
+/// its resolution, the rotation and the direction of the side as it is turned there, and counts what
+/// is left, steps of a side, sides of a ring and rings.
 #[derive(Clone, Copy, Debug)]
 pub struct Disk<'a> {
     table: &'a BaseTable,

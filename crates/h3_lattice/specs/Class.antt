@@ -29,7 +29,7 @@ abbrev pub IsOnlyCarry : Class → ℕ → Direction → Eisenstein → ℕ → 
 IsOnlyCarry class digit direction carried left =
     (other : Eisenstein) (rest : ℕ) → rest ≤ 6 → IsCarry class digit direction other rest → (other ≡ carried) × (rest ≡ left)
 
--- ---- the rows of the carry tables
+-- ---- the rows of the carry tables, which contracts within the crate alone cite
 
 -- the row of a direction at a resolution of a class
 abbrev pub row_of : Class → Direction → ℕ
@@ -41,7 +41,8 @@ abbrev pub coarser_class : Class → Class
 coarser_class Two = Three
 coarser_class Three = Two
 
--- the direction that is carried from a resolution of a class, by its row there: none where that is 0
+-- the direction that is carried from a resolution of a class, by the row of what is carried: none where
+-- that is 0
 abbrev pub carried_to : Class → ℕ → Option Direction
 carried_to Two row = direction_of (row - 6)
 carried_to Three row = direction_of row

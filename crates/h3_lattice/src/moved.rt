@@ -36,7 +36,7 @@ pub fn add(cell: Cell, direction: Direction) -> Moved
     add_at(cell, cell.resolution(), direction)
 }
 
-/// The same, where the resolution of the cell is given: a walk stays at one.
+/// As [`add`], where the resolution of the cell is given: a walk stays at one.
 #[inline(always)]
 pub fn add_at(cell: Cell, res: u8, direction: Direction) -> Moved
     requires hexagon { is_pentagon_base cell.base ≡ false }

@@ -1,6 +1,7 @@
 //! The commands.
 
-/// A function of one index: a command in the plural answers it for each line of a list.
+/// A function of one index: a command in the singular answers it for a word, one in the plural for
+/// each line of a list, and the library for C for an index or each of a column.
 #[derive(Clone, Copy, Debug, Eq, PartialEq)]
 pub enum CellFunction {
     /// `isValidCell`
