@@ -222,7 +222,7 @@ fn zones(rt: &HostRuntime, count: u64, percent: u64, sorted: bool, way: Way) -> 
             let index = ZoneIndex::of(&zones, &mut places);
             println!(rt; "{}", look_up(&zones, &index, &others, way, count))
         }
-        Err(error) => println!(rt; "{error}"),
+        Err(refused) => println!(rt; "{}", refused.error),
     }
 }
 

@@ -1,13 +1,14 @@
 -- Zones that are given by their indexes, the zones of cells, and how many cells each has.
-use Rattle.std.specs.Prelude.{ℕ, ◌≡◌, nat_le, List, map, length, take, IsPermutation, Bool, Option, None, Some, Result, Ok, if◌then◌else◌}
+use Rattle.std.specs.Prelude.{ℕ, ◌≡◌, ◌⊎◌, nat_le, List, map, length, take, IsPermutation, Bool, Option, None, Some, Result, Ok, if◌then◌else◌}
 use Rattle.std.specs.Option.{option_map_or}
 use Rattle.h3_index.specs.Cell.{Address, number_of}
 use Rattle.h3_index.specs.declared.error.H3Error.{H3Error}
 use Rattle.h3_functions.specs.Hierarchy.{unless}
 use Rattle.h3_functions.specs.Inspection.{cell_from, for_value}
-use Rattle.h3_set.specs.Coverage.{is_covered}
+use Rattle.h3_set.specs.Coverage.{is_covered, IsApart}
 use Rattle.h3_set.specs.Refusals.{compaction_refusal}
 use Rattle.h3_regions.specs.Counts.{count_in, count_outside}
+use Rattle.h3_regions.specs.Overlaps.{IsFirstOverlap}
 use Rattle.h3_regions.specs.Zones.{IsZones, zone_of}
 use Rattle.h3_c.specs.Columns.{first_code, first_place}
 use Rattle.h3_c.specs.Lists.{indexes, laid_over}
@@ -88,3 +89,11 @@ counts_over zones hs old =
 abbrev pub others_over : List Address → List ℕ → ℕ → ℕ → ℕ
 others_over zones hs room old =
     if_room zones room (if_cells hs (λ cells. count_outside zones cells) old) old
+
+-- ---- cells that overlap
+
+-- FindsOverlap cells j i: j is the first place whose cell overlaps an earlier one, and i the first place whose cell it
+-- overlaps; where no two overlap both are the length of the list
+abbrev pub FindsOverlap : List Address → ℕ → ℕ → Type 0
+FindsOverlap cells j i =
+    IsFirstOverlap cells j i ⊎ (IsApart cells × (j ≡ length cells) × (i ≡ length cells))

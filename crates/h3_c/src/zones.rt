@@ -1,8 +1,9 @@
 //! Zones: cells of which no two overlap, prepared once in C's memory, the zones of columns of cells
 //! and their counts.
 
-ghost use Rattle.std.specs.Prelude.{◌≡◌, ◌≢◌, ◌<◌, ◌≤◌, ◌⊎◌, ◌+◌, ◌-◌, ◌^◌, ◌++◌, ◌∷◌, [], List, length, map, sum, take, replicate, negsuc, IsPermutation, Some, None};
+ghost use Rattle.std.specs.Prelude.{◌≡◌, ◌≢◌, ◌<◌, ◌≤◌, ◌⊎◌, ◌+◌, ◌-◌, ◌^◌, ◌++◌, ◌∷◌, [], List, length, map, sum, take, replicate, negsuc, IfErr, IfOk, IsPermutation, Some, None};
 ghost use Rattle.h3_index.specs.Cell.{Address};
+ghost use Rattle.h3_index.specs.declared.error.H3Error.TheVariants.{MemoryAlloc};
 ghost use Rattle.h3_functions.specs.Hierarchy.{unless};
 ghost use Rattle.h3_set.specs.Coverage.{is_covered};
 ghost use Rattle.h3_set.specs.Refusals.{compaction_refusal};
@@ -12,7 +13,7 @@ ghost use Rattle.h3_c.specs.Columns.{column_code, column_over, first_code, first
 ghost use Rattle.h3_c.specs.Lists.{indexes, laid_over};
 ghost use Rattle.h3_c.specs.Outcome.{code_of, truth_of};
 ghost use Rattle.h3_c.specs.Sets.{cells_in};
-ghost use Rattle.h3_c.specs.Zones.{AreZonesOver, cell_to_zone, counts_code, counts_over, counts_place, is_covered_cell, judged, others_over, zones_code, zones_in};
+ghost use Rattle.h3_c.specs.Zones.{AreZonesOver, FindsOverlap, cell_to_zone, counts_code, counts_over, counts_place, is_covered_cell, judged, others_over, zones_code, zones_in};
 
 use crate::column::{MEMORY_BOUNDS, NO_NUMBER, NULL, Question, fill};
 use crate::outcome::truth;
@@ -21,7 +22,7 @@ use h3_functions::cell_from;
 use h3_index::laws::numbers_are_read;
 use h3_index::{Cell, H3Error};
 use h3_regions::laws::zones_are_lawful;
-use h3_regions::{ZoneIndex, Zones, count_next, count_next_indexed, order_zones};
+use h3_regions::{ZoneIndex, Zones, count_next, count_next_indexed, find_overlap, order_zones};
 use std::alloc::Global;
 
 /// Puts the indexes of cells, in the order of zones, into the first slots. Returns 0, or the number
@@ -229,6 +230,7 @@ fn judge(indexes: &[u64], at: &mut usize) -> u32
     ensures code { result ≡ first_code (judged indexes.now) }
     ensures place { at.new ≡ first_place (judged indexes.now) }
     ensures cells { result ≡ 0 → cells_in indexes.now ≢ None }
+    ensures invalid { result ≢ 0 → result ≡ 5 }
 {
     for i in 0..indexes.len() {
         if let Err(error) = Cell::new(indexes[i]) {
@@ -345,4 +347,66 @@ pub extern "C" fn h3w_countCellsInZonesByTable(
 {
     let lookup = Lookup::ByTable(ZoneIndex::of(&Zones::over(zones), table));
     count_judged(&lookup, zones.len(), cells, counts, others, at)
+}
+
+/// The first cell of a list that overlaps an earlier one, and the first cell that it overlaps, by
+/// their places; the length of the list twice where no two overlap. The slots, as many as the cells,
+/// are overwritten.
+fn first_overlap(cells: &[Cell], slots: &mut [Cell]) -> (usize, usize)
+    requires { length cells.now ≤ length slots.old }
+    ensures { FindsOverlap cells.now result.0 result.1 }
+{
+    match find_overlap(cells, slots) {
+        Some(places) => places,
+        None => (cells.len(), cells.len()),
+    }
+}
+
+/// The same of the cells with these indexes, each of which is a cell's.
+fn overlap_in(alloc: Global, indexes: &[u64]) -> Result<(usize, usize), H3Error>
+    requires { cells_in indexes.now ≢ None }
+    ensures found { IfOk result (λ places. (cells : List Address) → cells_in indexes.now ≡ Some cells
+        → FindsOverlap cells places.0 places.1) }
+    ensures refused { IfErr result (λ e. e ≡ MemoryAlloc) }
+{
+    let cells = cells_in(alloc, indexes)?;
+    let mut slots = match cells.to_vec(alloc) {
+        Ok(slots) => slots,
+        Err(_) => return Err(H3Error::MemoryAlloc),
+    };
+    Ok(first_overlap(&cells, &mut slots))
+}
+
+/// The places of the first cell that overlaps an earlier one and of the first cell that it overlaps,
+/// once all indexes are judged.
+#[unsafe(no_mangle)]
+pub extern "C" fn h3w_findOverlap(
+    alloc: Global,
+    cells: &[u64],
+    at: &mut usize,
+    earlier: &mut usize,
+) -> u32
+    ensures code { ((result ≡ 13) × (first_code (judged cells.now) ≡ 0))
+        ⊎ (result ≡ first_code (judged cells.now)) }
+    ensures cells { result ≡ 0 → cells_in cells.now ≢ None }
+    ensures found { result ≡ 0 → (list : List Address) → cells_in cells.now ≡ Some list
+        → FindsOverlap list at.new earlier.new }
+    ensures place { result ≢ 0 → result ≢ 13 → at.new ≡ first_place (judged cells.now) }
+    ensures kept { result ≢ 0 → earlier.new ≡ earlier.old }
+    ensures kept_at { result ≡ 13 → at.new ≡ at.old }
+{
+    let mut place = 0;
+    let code = judge(cells, &mut place);
+    if code != 0 {
+        *at = place;
+        return code;
+    }
+    match overlap_in(alloc, cells) {
+        Ok((found, first)) => {
+            *at = found;
+            *earlier = first;
+            0
+        }
+        Err(error) => u32::from(error.number()),
+    }
 }

@@ -1,14 +1,15 @@
 //! The command `h3`.
 #![tactic(auto)]
 
-use h3_index::{H3Error, Sink, Source, Streamed};
+use h3_index::{H3Error, Sink, Source, StreamFault, Streamed};
 use h3_lines::{Refusal, report, write_all};
 use h3_program::{NamedFile, Retried, run_words};
 use h3_requests::{CellFunction, Command};
-use h3_words::read_words;
+use h3_words::{CommandFile, Words, read_words};
 use std::alloc::Global;
 use std::fs::File;
 use std::io::{ErrorKind, IsTerminal};
+use std::os::unix::fs::{FileTypeExt, MetadataExt};
 use std::process::ExitCode;
 use std::rt::{Env, Files};
 use std::{env, fs};
@@ -23,15 +24,30 @@ fn given_words<R: Env + AllocGlobal>(rt: &R) -> Result<Vec<String>, Refusal> {
     words.collect(rt.alloc()).map_err(|_| Refusal::Memory)
 }
 
-/// What the words have the program read from standard input, as it is said at a terminal; `None`
-/// where that is nothing.
-fn awaited_list<'a>(alloc: Global, words: &Vec<String>) -> Option<&'a str> {
-    let words = words.clone().ok()?;
-    match read_words(alloc, words).ok()?.command {
+/// Whether the words may be those of a command over a region or zones. No others are parsed twice.
+fn may_name_cells(words: &Vec<String>) -> bool {
+    for word in words {
+        if word.starts_with("--region") || word.starts_with("--zones") {
+            return true;
+        }
+    }
+    false
+}
+
+/// What the words of a command line ask for, where they are those of a command.
+fn asked_for(alloc: Global, words: &Vec<String>) -> Option<Words> {
+    read_words(alloc, words.clone().ok()?).ok()
+}
+
+/// What a command has the program read from standard input, as it is said at a terminal; `None` where
+/// that is nothing.
+fn awaited_list<'a>(command: &Command) -> Option<&'a str> {
+    match command {
         Command::ForEach(CellFunction::IsValidDirectedEdge | CellFunction::GetDirectedEdgeOrigin) =>
             Some("h3: reading edges from standard input, one a line\n"),
         Command::CompactCells
         | Command::UncompactCells { .. }
+        | Command::UncompactCellsSize { .. }
         | Command::UniteCells
         | Command::IntersectCells
         | Command::SubtractCells
@@ -40,6 +56,62 @@ fn awaited_list<'a>(alloc: Global, words: &Vec<String>) -> Option<&'a str> {
         | Command::CountCellsInZones
         | Command::ForEach(_) => Some("h3: reading cells from standard input, one a line\n"),
         _ => None,
+    }
+}
+
+/// Standard input, of which a line says that it is read, once its first bytes are to be read.
+#[derive(Drop)]
+struct Announced<R: Source, E: Sink> {
+    input: R,
+    line: Option<&'static str>,
+    said: E,
+}
+
+impl<R: Source, E: Sink> Source for Announced<R, E> {
+    ghost left = { λ list. R.left list.input };
+
+    ghost has_failed = { λ list. R.has_failed list.input };
+
+    fn pull(&mut self, buf: &mut [u8]) -> Result<usize, StreamFault> {
+        if let Some(line) = self.line.take() {
+            let _ = write_all(&mut self.said, line.as_bytes());
+        }
+        self.input.pull(buf)
+    }
+}
+
+/// Whether the file at a path is the pipe that standard input is: what is read of the one is then
+/// lost to the other.
+fn is_input<S: Files<File = File>>(rt: &S, path: &str) -> bool {
+    match (fs::metadata(rt, "/dev/stdin"), fs::metadata(rt, path)) {
+        (Ok(input), Ok(file)) => {
+            input.file_type().is_fifo() && input.dev() == file.dev() && input.ino() == file.ino()
+        }
+        _ => false,
+    }
+}
+
+/// The error line of a command that would read its list and its region or zones from one pipe;
+/// `None` where it would not.
+fn input_twice<'a, S: Files<File = File>>(rt: &S, file: &Option<CommandFile>) -> Option<&'a str> {
+    match file {
+        Some(CommandFile::Region(path)) if is_input(rt, path) => {
+            Some("region: standard input is the list\n")
+        }
+        Some(CommandFile::Zones(path)) if is_input(rt, path) => {
+            Some("zones: standard input is the list\n")
+        }
+        _ => None,
+    }
+}
+
+/// Whether a command has a region or zones, and no file is at the path.
+fn is_list_missing<S: Files<File = File>>(rt: &S, file: &Option<CommandFile>) -> bool {
+    match file {
+        Some(CommandFile::Region(path) | CommandFile::Zones(path)) => {
+            !fs::exists(rt, path.as_str()).unwrap_or(false)
+        }
+        _ => false,
     }
 }
 
@@ -52,43 +124,56 @@ fn closed_input<S: Files<File = File>>(rt: &S) -> Option<File> {
     }
 }
 
-/// Takes the words from the system, and runs their command over the streams and the file that they
-/// name. Where the user has to type a list, `said` gets a line that says so.
-fn start<S: Env + Files<File = File> + AllocGlobal, R: Source, W: Sink, E: Sink>(
+/// Runs the command that the words ask for over the streams and the file that they name. Where the
+/// user has to type a list, `said` gets a line that says so.
+fn start<S: Env + Files<File = File> + AllocGlobal, R: Source + Drop, W: Sink, E: Sink + Drop>(
     rt: &S,
     is_terminal: bool,
-    input: &mut R,
+    input: R,
     out: &mut W,
     err: &mut E,
-    said: &mut E,
+    said: E,
 ) -> u8 {
-    match given_words(rt) {
-        Ok(words) => {
-            if is_terminal {
-                if let Some(line) = awaited_list(rt.alloc(), &words) {
-                    let _ = write_all(said, line.as_bytes());
-                }
+    let words = match given_words(rt) {
+        Ok(words) => words,
+        Err(refusal) => return report(err, Err(refusal)),
+    };
+    let mut input = Announced {
+        input,
+        line: None,
+        said,
+    };
+    let mut is_missing = false;
+    if is_terminal || may_name_cells(&words) {
+        if let Some(asked) = asked_for(rt.alloc(), &words) {
+            if let Some(line) = input_twice(rt, &asked.file) {
+                let _ = write_all(err, line.as_bytes());
+                return 3;
             }
-            let _kept = closed_input(rt);
-            let mut file = NamedFile::new(rt);
-            run_words(rt.alloc(), words, input, &mut file, out, err)
+            if is_terminal {
+                input.line = awaited_list(&asked.command);
+            }
+            is_missing = is_list_missing(rt, &asked.file);
         }
-        Err(refusal) => report(err, Err(refusal)),
     }
+    // (a missing file may be standard input itself, closed: the folder would then be opened for it)
+    let _kept = if is_missing { None } else { closed_input(rt) };
+    let mut file = NamedFile::new(rt);
+    run_words(rt.alloc(), words, &mut input, &mut file, out, err)
 }
 
 fn main(rt: HostRuntime) -> ExitCode {
-    let mut input = Streamed::new(Retried::new(rt.stdin()));
+    let input = Streamed::new(Retried::new(rt.stdin()));
     let mut out = Streamed::new(Retried::new(rt.stdout()));
     let mut err = Streamed::new(Retried::new(rt.stderr()));
-    // (a line that is said before the command runs is no part of what its errors are written to)
-    let mut said = Streamed::new(Retried::new(rt.stderr()));
+    // (a line that is said before a list is read is no part of what errors are written to)
+    let said = Streamed::new(Retried::new(rt.stderr()));
     ExitCode::from(start(
         &rt,
         rt.stdin().is_terminal(),
-        &mut input,
+        input,
         &mut out,
         &mut err,
-        &mut said,
+        said,
     ))
 }

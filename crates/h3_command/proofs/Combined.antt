@@ -15,7 +15,6 @@ use Rattle.h3_command.specs.Files.{counts_answer, zone_answer, zone_counts}
 use Rattle.std.specs.Prelude.{Ok, None, not, count_by, ◌++◌}
 use Rattle.std.specs.List.{flat_map}
 use Rattle.h3_regions.specs.Counts.{count_in, count_outside}
-use Rattle.std.proofs.lemmas.List.{take_more, map-append}
 
 -- no valid cell is finer than resolution 15
 pub fine : (cells : List Address) → All IsCell cells → finest cells ≤ 15
@@ -55,15 +54,6 @@ counts_alike a b ordered same =
     let outside : count_outside a cells ≡ count_outside b cells = ap (λ p. count_by (λ x. not (p x)) cells) (fun_ext same) in
     ap (λ zones. written (flat_map count_line (zone_counts zones cells ++ (None, count_outside a cells) ∷ []))) ordered
     ∙ ap (λ n. written (flat_map count_line (zone_counts (by_number b) cells ++ (None, n) ∷ []))) outside)
-
--- one zone more, with its count
-pub one_more : (ordered cells : List Address) (k : ℕ) (z : Address) (n : ℕ) (lines : List (Option Address × ℕ)) → k < length ordered → z ≡ get_or ordered k z → n ≡ count_in z cells → lines ≡ zone_counts (take k ordered) cells
-    → lines ++ (Some z, n) ∷ [] ≡ zone_counts (take (k + 1) ordered) cells
-one_more ordered cells k z n lines lt is count so_far =
-    let more : take (k + 1) ordered ≡ take k ordered ++ z ∷ [] = take_more ordered k z lt ∙ ap (λ x. take k ordered ++ x ∷ []) (sym is) in
-    ap (λ l. l ++ (Some z, n) ∷ []) so_far
-    ∙ ap (λ m. zone_counts (take k ordered) cells ++ (Some z, m) ∷ []) count
-    ∙ sym (ap (λ l. zone_counts l cells) more ∙ map-append (λ zone. (Some zone, count_in zone cells)) (take k ordered) (z ∷ []))
 
 -- ---- functions of one index
 

@@ -21,7 +21,7 @@ use Rattle.h3_functions.specs.Outcome.{outcome_of}
 use Rattle.h3_functions.specs.declared.outcome.Outcome.{Outcome}
 use Rattle.h3_functions.specs.declared.outcome.Outcome.TheVariants.{Cell, Count, Edges, Number, Truth}
 use Rattle.h3_functions.specs.Resolutions.{get_num_cells, get_pentagons, get_res0_cells}
-use Rattle.h3_functions.specs.Sets.{compact_cells, uncompact_cells}
+use Rattle.h3_functions.specs.Sets.{compact_cells, uncompact_cells, uncompact_cells_size}
 use Rattle.h3_functions.specs.Walks.{grid_disk_distances_unsafe, grid_disk_unsafe, grid_ring_unsafe}
 use Rattle.h3_set.specs.Compacted.{compacted}
 use Rattle.h3_command.specs.Files.{counts_answer, covered_answer, file_cells, left_answer, shared_answer, unless_refused, zone_answer}
@@ -81,6 +81,7 @@ request (command.CellToChildPos cell res) = plain (answer_for (each.CellToChildP
 request (command.ChildPosToCell position cell res) = plain (printed cell_line (for_value (λ h. child_pos_to_cell position h res) (index_given cell)))
 request command.CompactCells = of_list (λ cells. printed cell_lines (compact_cells cells))
 request (command.UncompactCells res) = of_list (λ cells. printed cell_lines (uncompact_cells res cells))
+request (command.UncompactCellsSize res) = of_numbered_list (λ cells. printed number_line (uncompact_cells_size res cells))
 request command.UniteCells = of_numbered_list (λ cells. written (cell_lines (compacted cells)))
 request command.IntersectCells = of_file_and_list Region shared_answer
 request command.SubtractCells = of_file_and_list Region left_answer

@@ -1,10 +1,10 @@
 -- Files of cells that commands are answered over: how a file is judged, and the answers about the cells of one.
-use Rattle.std.specs.Prelude.{ℕ, Bool, List, [], ◌∷◌, ◌++◌, map, Option, None, Some, Result, Ok, Err}
+use Rattle.std.specs.Prelude.{ℕ, ◌≡◌, Bool, List, [], ◌∷◌, ◌++◌, All, length, map, sum, Option, None, Some, Result, Ok, Err}
 use Rattle.std.specs.List.{flat_map}
-use Rattle.h3_index.specs.Cell.{Address}
+use Rattle.h3_index.specs.Cell.{Address, IsCell}
 use Rattle.h3_index.specs.declared.error.H3Error.{H3Error}
 use Rattle.h3_set.specs.Compacted.{compacted}
-use Rattle.h3_set.specs.Coverage.{is_covered}
+use Rattle.h3_set.specs.Coverage.{is_covered, IsApart}
 use Rattle.h3_set.specs.Refusals.{compaction_refusal}
 use Rattle.h3_regions.specs.Algebra.{difference, intersection}
 use Rattle.h3_regions.specs.Counts.{count_in, count_outside}
@@ -82,8 +82,18 @@ zone_answer zones index = printed zone_line (cell_to_zone zones index)
 abbrev pub zone_counts : List Address → List Address → List (Option Address × ℕ)
 zone_counts zones cells = map (λ zone. (Some zone, count_in zone cells)) zones
 
+-- counted_lines zones cells: each zone, in ascending order, with how many places of the list have it as their zone, and then
+-- no zone with how many have none
+abbrev pub counted_lines : List Address → List Address → List (Option Address × ℕ)
+counted_lines zones cells = zone_counts (by_number zones) cells ++ (None, count_outside zones cells) ∷ []
+
 -- counts_answer zones cells: a line for each zone, in ascending order, with how many places of the list have it as their
--- zone, and then one with how many have none: so each place of the list is counted once
+-- zone, and then one with how many have none
 abbrev pub counts_answer : List Address → List Address → Answer
-counts_answer zones cells =
-    written (flat_map count_line (zone_counts (by_number zones) cells ++ (None, count_outside zones cells) ∷ []))
+counts_answer zones cells = written (flat_map count_line (counted_lines zones cells))
+
+-- CountsPrintedAddUp: the numbers on the lines of the counts of zones of which no two overlap add up to the number of cells
+-- that are counted
+abbrev pub CountsPrintedAddUp : Type 0
+CountsPrintedAddUp =
+    (zones cells : List Address) → All IsCell zones → IsApart zones → sum (map (λ line. line.1) (counted_lines zones cells)) ≡ length cells

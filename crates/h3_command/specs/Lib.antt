@@ -1,9 +1,11 @@
 pub mod Answer
 pub mod Combination
+pub mod CountLines
 pub mod EdgeExamples
 pub mod Examples
 pub mod Files
 pub mod Given
 pub mod Run
+pub mod Sizing
 pub mod TableQuery
 pub mod Tallying

@@ -1,73 +1,23 @@
 //! How many cells of a list lie in each zone of a file.
 
 ghost use Rattle.std.proofs.Common.{◌∙◌, refl};
-ghost use Rattle.std.specs.Prelude.{◌≡◌, ◌++◌, ◌+◌, ◌∷◌, [], ℕ, List, length, sum, Contains, None, IfOk, IfErr};
+ghost use Rattle.std.specs.Prelude.{◌≡◌, ◌+◌, List, length, sum};
 ghost use Rattle.h3_index.specs.Cell.{Address};
-ghost use Rattle.h3_regions.specs.Counts.{AreCounts, count_outside};
-ghost use Rattle.h3_regions.specs.Zones.{IsZones, by_number};
-ghost use Rattle.std.specs.List.{flat_map};
-ghost use Rattle.h3_lines.specs.Answer.{count_line, written};
+ghost use Rattle.h3_regions.specs.Counts.{AreCounts};
+ghost use Rattle.h3_regions.specs.Zones.{IsZones};
 ghost use Rattle.h3_lines.specs.Writing.{Writes, sink_use};
 ghost use Rattle.h3_lines.specs.declared.refusal.CellFile.TheVariants as kind_of_file;
-ghost use Rattle.h3_lines.specs.declared.refusal.Refusal.TheVariants.{Memory};
-ghost use Rattle.h3_command.specs.Files.{counts_answer, zone_counts};
+ghost use Rattle.h3_command.specs.Files.{counts_answer};
 ghost use Rattle.h3_command.specs.Run.{EndsOverFile, WritesOfNumberedList, source_use};
 ghost use Rattle.h3_command.specs.Tallying.{CountsMore, counts_none, counts_then};
 
-use crate::files::{copied, read_zones};
+use crate::count_lines::CountLines;
+use crate::files::read_zones;
 use h3_index::{Cell, Sink, Source};
 use h3_lines::{CellTaker, Refusal, take_cells, write_lines};
 use h3_regions::laws::zones_are_lawful;
-use h3_regions::{Zones, count_next, count_of, order_by_number};
+use h3_regions::{Zones, count_next};
 use std::alloc::Global;
-
-/// Zones with their counts, of those of all zones, in the order given. `Refusal::Memory` where there
-/// is none for them.
-fn with_counts(
-    alloc: Global,
-    zones: &Zones,
-    counts: &[u64],
-    ordered: &[Cell],
-) -> Result<Vec<(Option<Cell>, u64)>, Refusal>
-    requires size { length counts.now ≡ length zones.now }
-    requires members { (z : Address) → Contains ordered.now z → Contains zones.now z }
-    ensures ok { IfOk result (λ lines. (cells : List Address) (others : ℕ)
-        → AreCounts zones.now cells counts.now others
-        → lines.items ≡ zone_counts ordered.now cells) }
-    ensures err { IfErr result (λ e. e ≡ Memory) }
-{
-    let mut lines = Vec::with_capacity(alloc, ordered.len()).map_err(|_| Refusal::Memory)?;
-    for zone in ordered {
-        let count = count_of(zones, counts, *zone);
-        lines
-            .push((Some(*zone), count))
-            .map_err(|_| Refusal::Memory)?;
-    }
-    Ok(lines)
-}
-
-/// The zones in ascending order with their counts, and then no zone with the number of others.
-/// `Refusal::Memory` where there is none for them.
-fn count_lines(
-    alloc: Global,
-    zones: &[Cell],
-    counts: &[u64],
-    others: u64,
-) -> Result<Vec<(Option<Cell>, u64)>, Refusal>
-    requires zones { IsZones zones.now }
-    requires size { length counts.now ≡ length zones.now }
-    ensures ok { IfOk result (λ lines. (cells : List Address)
-        → AreCounts zones.now cells counts.now others
-        → lines.items ≡ zone_counts (by_number zones.now) cells
-        ++ (None, count_outside zones.now cells) ∷ []) }
-    ensures err { IfErr result (λ e. e ≡ Memory) }
-{
-    let mut ordered = copied(alloc, zones)?;
-    order_by_number(&mut ordered);
-    let mut lines = with_counts(alloc, &Zones::over(zones), counts, &ordered)?;
-    lines.push((None, others)).map_err(|_| Refusal::Memory)?;
-    Ok(lines)
-}
 
 /// How many of the cells taken so far lie in each zone, and how many in none.
 #[derive(Drop)]
@@ -105,12 +55,20 @@ impl<'z> CellTaker for Tally<'z> {
     ) };
 }
 
-/// Writes lines of counts.
-fn write_counts<W: Sink>(lines: &[(Option<Cell>, u64)], out: &mut W) -> Result<(), Refusal>
-    ensures { Writes (written (flat_map count_line lines.now)) result
+/// Writes a line for each of zones in ascending order, with its count, and then one with the number
+/// of others.
+fn write_counts<W: Sink>(
+    zones: &Zones,
+    counts: &[u64],
+    others: u64,
+    out: &mut W,
+) -> Result<(), Refusal>
+    requires { length counts.now ≡ length zones.now }
+    ensures { (cells : List Address) → AreCounts zones.now cells counts.now others
+        → Writes (counts_answer zones.now cells) result
         (sink_use W.taken W.has_failed out.old out.new) }
 {
-    write_lines(out, lines.iter().copied())
+    write_lines(out, CountLines::new(zones, counts, others))
 }
 
 /// Writes how many of the cells listed on the input lie in each of zones in order, and how many in
@@ -135,8 +93,7 @@ fn answer_counts<R: Source, W: Sink>(
         place: 0,
     };
     let tally = take_cells(alloc, tally, input)?;
-    let lines = count_lines(alloc, zones, &tally.counts, tally.others)?;
-    write_counts(&lines, out)
+    write_counts(&Zones::over(zones), &tally.counts, tally.others, out)
 }
 
 /// Writes how many of the cells listed on the input lie in each zone of a file, and how many in none.

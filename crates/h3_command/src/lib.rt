@@ -2,6 +2,7 @@
 #![tactic(auto)]
 
 mod children;
+mod count_lines;
 mod counts;
 mod edges;
 mod files;
@@ -9,5 +10,6 @@ mod for_each;
 mod given;
 pub mod run;
 mod sets;
+mod sizes;
 mod table_query;
 mod walks;

@@ -3,6 +3,7 @@
 ghost use Rattle.std.specs.Prelude.{◌≡◌, false};
 ghost use Rattle.h3_lines.specs.Writing.{Reports, sink_use};
 ghost use Rattle.h3_command.specs.Answer.{reads_list, reads_table, request};
+ghost use Rattle.h3_command.specs.Files.{CountsPrintedAddUp};
 ghost use Rattle.h3_command.specs.Run.{Ends, Runs, source_use};
 
 use crate::children::{cell_to_children, child_pos_to_cell};
@@ -11,11 +12,13 @@ use crate::edges::{are_neighbor_cells, cells_to_directed_edge, get_directed_edge
 use crate::files::{Combination, are_covered_cells, cells_to_zones, combine_cells};
 use crate::for_each::{AnswerOf, write_answer_for};
 use crate::sets::{compact_cells, uncompact_cells, unite_cells};
+use crate::sizes::uncompact_cells_size;
 use crate::table_query::over_table;
 use crate::walks::{grid_disk_distances_unsafe, grid_disk_unsafe, grid_ring_unsafe};
 use h3_functions::{get_num_cells, get_pentagons, get_res0_cells};
 use h3_index::{Sink, Source};
 use h3_lines::{Refusal, answer_each, report, write_lines, write_result};
+use h3_regions::laws::counts_add_up;
 use h3_requests::Command::*;
 use h3_requests::{CellFunction, Command};
 use std::alloc::Global;
@@ -63,6 +66,7 @@ fn perform<R: Source, T: Source, W: Sink>(
         } => write_result(out, child_pos_to_cell(position, cell, res)),
         CompactCells => compact_cells(alloc, input, out),
         UncompactCells { res } => uncompact_cells(alloc, res, input, out),
+        UncompactCellsSize { res } => uncompact_cells_size(alloc, res, input, out),
         UniteCells => unite_cells(alloc, input, out),
         IntersectCells => combine_cells(alloc, Combination::Shared, input, table, out),
         SubtractCells => combine_cells(alloc, Combination::Left, input, table, out),
@@ -130,7 +134,11 @@ pub fn run<R: Source, T: Source, W: Sink, E: Sink>(
     ensures input_kept { reads_list (request command.now) ≡ false → input.new ≡ input.old }
     ensures table_kept { reads_table (request command.now) ≡ false → table.new ≡ table.old }
     ensures err_kept { result ≡ 0 → err.new ≡ err.old }
+
+    // A law, whatever the command: what is printed of the counts of zones adds up to the list.
+    ensures counts { CountsPrintedAddUp }
 {
+    counts_add_up();
     let ending = perform(alloc, command, input, table, out);
     report(err, ending)
 }

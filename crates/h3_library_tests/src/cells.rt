@@ -62,9 +62,10 @@ fn with_base(cell: u64, base: u8) -> Result<u64, H3Error> {
 
 #[test]
 fn the_base_cell_is_replaced(rt: HostRuntime) {
-    static ROWS: [(u64, u8, u64); 3] = [
+    static ROWS: [(u64, u8, u64); 4] = [
         (HEXAGON, 0, 0x85003473fffffff),
         (HEXAGON, 121, 0x85f23473fffffff),
+        (0x85f23473fffffff, 0, 0x85003473fffffff),
         (PENTAGON, 0, 0x8001fffffffffff),
     ];
     for (row, (cell, base, expected)) in ROWS.iter().enumerate() {
@@ -78,12 +79,13 @@ fn number_of(raw: u64) -> Result<u64, H3Error> {
 
 #[test]
 fn other_numbers_are_no_cells(rt: HostRuntime) {
-    static NUMBERS: [u64; 11] = [
+    static NUMBERS: [u64; 12] = [
         0x81087ffffffffff,
         0x80f5fffffffffff,
         0x8109fffffffffff,
         0x885283473fffffff,
         0x115283473fffffff,
+        0x95283473fffffff,
         0,
         // an unused digit that is not 7, a used one that is, and the
         // deleted subsequence in a second digit
@@ -108,7 +110,7 @@ fn digits_beside_the_deleted_subsequence_are_accepted(rt: HostRuntime) {
 
 #[test]
 fn twelve_base_cells_are_pentagons(rt: HostRuntime) {
-    assert!(rt; (0..122u8).filter(|b| is_pentagon_base(*b)).count() == 12);
+    assert!(rt; (0..255u8).filter(|b| is_pentagon_base(*b)).count() == 12);
 }
 
 #[test]

@@ -210,8 +210,9 @@ fn position_of(cell: u64, res: i32) -> Result<u64, H3Error> {
 
 #[test]
 fn positions(rt: HostRuntime) {
-    static ROWS: [(u64, i32, Expected); 8] = [
+    static ROWS: [(u64, i32, Expected); 9] = [
         (HEXAGON, 0, Ok(2279)),
+        (0x85284003fffffff, 0, Ok(2401)),
         (HEXAGON, 5, Ok(0)),
         (HEXAGON, 6, Err(H3Error::ResMismatch)),
         (HEXAGON, 16, Err(H3Error::ResDomain)),

@@ -5,7 +5,9 @@ ghost use Rattle.std.specs.Prelude.{◌≤◌};
 
 use crate::rows::{cell, holds, is_cell};
 use h3_index::{Cell, H3Error};
-use h3_regions::{Region, Zones, count, intersect, join, order_zones, subtract, unite};
+use h3_regions::{
+    Region, Zones, count, find_overlap, intersect, join, order_zones, subtract, unite,
+};
 use h3_tree::{children, parent};
 
 /// A hexagon of resolution 4 and its children.
@@ -90,9 +92,14 @@ fn unites(rt: &HostRuntime, row: &Row<'_>) -> bool {
 
 #[test]
 fn cells_are_united(rt: HostRuntime) {
-    static ROWS: [Row<'static>; 7] = [
+    static ROWS: [Row<'static>; 8] = [
         (&[], &[], &[]),
         (&[0x85283463fffffff], &[], &[0x85283463fffffff]),
+        (
+            &[0x81003ffffffffff],
+            &[0x8003fffffffffff],
+            &[0x8003fffffffffff, 0x81003ffffffffff],
+        ),
         (
             &[0x85283463fffffff, 0x85283467fffffff, 0x8528346bfffffff],
             &[HEXAGON, 0x85283463fffffff, 0x85283467fffffff],
@@ -466,7 +473,15 @@ fn two_overlap(first: Cell, second: Cell) -> bool {
     let mut others = cells;
     matches!(order_zones(&mut cells), Err(H3Error::DuplicateInput))
         && (cells == [first, second] || cells == [second, first])
-        && matches!(Zones::of(&mut others), Err(H3Error::DuplicateInput))
+        && match Zones::of(&mut others) {
+            Ok(_) => false,
+            Err(refused) => {
+                let error = refused.error;
+                let given: &[Cell] = refused.cells;
+                error == H3Error::DuplicateInput
+                    && (given == [first, second].as_slice() || given == [second, first].as_slice())
+            }
+        }
 }
 
 #[test]
@@ -476,6 +491,30 @@ fn zones_that_overlap_are_refused(rt: HostRuntime) {
     assert!(rt; two_overlap(coarse, fine));
     assert!(rt; two_overlap(fine, coarse));
     assert!(rt; two_overlap(fine, fine));
+}
+
+/// Whether the first two cells of a list that overlap are those at two places, where any do.
+fn is_found(cells: &[Cell; 4], places: Option<(usize, usize)>) -> bool {
+    let mut slots = *cells;
+    find_overlap(cells, &mut slots) == places
+}
+
+#[test]
+fn the_first_overlap_is_found(rt: HostRuntime) {
+    let coarse = cell(&rt, HEXAGON);
+    let fine = cell(&rt, CHILDREN[4]);
+    let other = cell(&rt, CHILDREN[5]);
+    let pentagon = cell(&rt, PENTAGON);
+    assert!(rt; is_found(&[pentagon, fine, other, coarse], Some((3, 1))));
+    assert!(rt; is_found(&[coarse, pentagon, other, pentagon], Some((2, 0))));
+    assert!(rt; is_found(&[other, other, other, fine], Some((1, 0))));
+    assert!(rt;
+        is_found(
+            &[other, fine, pentagon, cell(&rt, GRANDCHILDREN[0])],
+            Some((3, 1))
+        )
+    );
+    assert!(rt; is_found(&[other, fine, pentagon, cell(&rt, 0x8528340ffffffff)], None));
 }
 
 #[test]

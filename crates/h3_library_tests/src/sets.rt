@@ -81,6 +81,9 @@ fn one_cell_is_uncompacted(rt: HostRuntime) {
     let cells = [cell(&rt, HEXAGON)];
     assert!(rt; uncompacts(&rt, &cells, 6, &CHILDREN));
     assert!(rt; is_refused(&cells, 4, H3Error::ResMismatch));
+    assert!(rt; is_refused(&cells, -1, H3Error::ResDomain));
+    let finest = [cell(&rt, 0x8f2834700000000)];
+    assert!(rt; uncompacts(&rt, &finest, 15, &[0x8f2834700000000]));
 }
 
 #[test]

@@ -1,7 +1,9 @@
 //! The texts of indexes: how they are read, written, displayed and parsed, and lines of cells.
 
 use crate::rows::{Expected, cell, holds, same};
-use h3_index::{Cell, CellLines, Edge, H3Error, index_bytes, read_index, read_plain, write_index};
+use h3_index::{
+    Cell, CellLines, Edge, H3Error, index_bytes, is_blank_text, read_index, read_plain, write_index,
+};
 use std::alloc::AllocError;
 
 #[test]
@@ -184,7 +186,7 @@ fn edges_are_parsed(rt: HostRuntime) {
 /// cell again.
 #[test]
 fn lines_are_put_one_after_another(rt: HostRuntime) {
-    static ROWS: [(u64, &str); 15] = [
+    static ROWS: [(u64, &str); 16] = [
         (0x85283473fffffff, "...85283473fffffff\n"),
         (0x85283473fffffff, "...85283473fffffff\n"),
         (0x85283477fffffff, "...85283477fffffff\n"),
@@ -200,6 +202,7 @@ fn lines_are_put_one_after_another(rt: HostRuntime) {
         (0x81083ffffffffff, "...81083ffffffffff\n"),
         (0x8108bffffffffff, "...8108bffffffffff\n"),
         (0x85283473fffffff, "...85283473fffffff\n"),
+        (0x85f23473fffffff, "...85f23473fffffff\n"),
     ];
     let mut lines = CellLines::new();
     let mut bytes = [b'.'; 20];
@@ -255,5 +258,20 @@ fn the_lines_of_children_are_put_together(rt: HostRuntime) {
                 puts_children(&mut lines, &mut bytes, parent, text)
             )
         );
+    }
+}
+
+#[test]
+fn texts_of_blanks_alone_are_blank(rt: HostRuntime) {
+    static ROWS: [(&str, bool); 6] = [
+        ("", true),
+        (" ", true),
+        ("\t \r", true),
+        ("8", false),
+        (" 8", false),
+        ("8 ", false),
+    ];
+    for (row, (text, expected)) in ROWS.iter().enumerate() {
+        assert!(rt; holds(&rt, row, is_blank_text(text.as_bytes()) == *expected));
     }
 }

@@ -67,6 +67,17 @@ impl Line for u64 {
     }
 }
 
+impl Line for u128 {
+    ghost line_of = { number_line };
+
+    #[inline(always)]
+    fn put(&self, _: &mut CellLines, block: &mut [u8; BLOCK], at: usize) -> usize {
+        let mut buffer = Buffer::new();
+        let text = buffer.format(*self);
+        put_ended(block, at, text.as_bytes(), text.len(), b'\n')
+    }
+}
+
 impl Line for Cell {
     ghost line_of = { cell_line };
 

@@ -1,7 +1,7 @@
 //! Lists of cells, one a line, of which each cell is taken as it is read.
 
 ghost use Rattle.std.proofs.Common.{refl};
-ghost use Rattle.std.specs.Prelude.{◌≡◌, ◌≢◌, ◌≤◌, ◌<◌, ◌*◌, ◌+◌, ◌^◌, ◌⊎◌, ◌++◌, ◌∷◌, ⊤, ℕ, true, List, [], length, Some, Result, Ok, IsOk, IfOk, IfErr, OnOk, OnErr, IsErrOf};
+ghost use Rattle.std.specs.Prelude.{◌≡◌, ◌≢◌, ◌≤◌, ◌<◌, ◌*◌, ◌+◌, ◌^◌, ◌⊎◌, ◌++◌, ◌∷◌, ⊤, ℕ, true, List, [], length, Some, Result, Ok, Err, IsOk, IfOk, IfErr, OnOk, OnErr, IsErrOf};
 ghost use Rattle.h3_index.specs.Cell.{Address};
 ghost use Rattle.h3_index.specs.Stream.{HasLeft};
 ghost use Rattle.h3_index.specs.declared.error.H3Error.{H3Error};
@@ -50,6 +50,7 @@ fn take_said<V: CellTaker>(
     ensures ok { OnOk result (V.taken taker.old (cells_on said) taker.new) }
     ensures counted { V.count taker.new ≤ V.count taker.old + 1 }
     ensures said { OnOk result (IsOk said) }
+    ensures faulty { (e : H3Error) → said ≡ Err e → result ≡ Err (Refusal.At number e) }
     ensures err { IfErr result (λ e. (later : Result (List Address) H3Error) (after : ℕ) →
         RefusesAt ⊥ (said_before said later) (number_of_fault number said after) e) }
 {

@@ -59,7 +59,7 @@ RunsCommand {F = F} files (Some f) r status input file s =
 
 -- version_line: `h3`, a space, the version and a line feed
 abbrev pub version_line : List ℕ
-version_line = codes "h3 1.2.0" ++ 10 ∷ []
+version_line = codes "h3 1.3.0" ++ 10 ∷ []
 
 -- Follows: what is done and written for what words parse as
 --

@@ -17,7 +17,7 @@ use h3_words::{CommandFile, Words, WordsFault, read_words};
 use std::alloc::Global;
 
 /// What `h3 --version` prints.
-const VERSION_LINE: &str = "h3 1.2.0\n";
+const VERSION_LINE: &str = "h3 1.3.0\n";
 
 /// The refusal of a file that cannot be opened, by its kind.
 fn open_refusal(file: &CommandFile) -> Refusal

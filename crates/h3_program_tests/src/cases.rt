@@ -364,7 +364,7 @@ const FIVE: &str = "81083ffffffffff\n8108bffffffffff\n8108fffffffffff\n81093ffff
                     81097ffffffffff\n";
 
 /// Commands on a list.
-pub static LIST_CASES: [Case<'static>; 6] = [
+pub static LIST_CASES: [Case<'static>; 7] = [
     Case {
         command: Command::CompactCells,
         reads: Reads::List(
@@ -393,6 +393,13 @@ pub static LIST_CASES: [Case<'static>; 6] = [
         command: Command::UncompactCells { res: 6 },
         reads: Reads::List("85283473fffffff\n"),
         output: CHILDREN,
+        line: "",
+        status: 0,
+    },
+    Case {
+        command: Command::UncompactCellsSize { res: 6 },
+        reads: Reads::List("85283473fffffff\n8428347ffffffff\n"),
+        output: "56\n",
         line: "",
         status: 0,
     },

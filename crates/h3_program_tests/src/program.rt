@@ -208,7 +208,7 @@ fn an_output_is_flushed_once(rt: HostRuntime) {
 
 #[test]
 fn the_version_is_written_to_standard_output(rt: HostRuntime) {
-    let ending = (0, "h3 1.2.0\n", "", 0);
+    let ending = (0, "h3 1.3.0\n", "", 0);
     for line in &["h3 --version", "h3 -V", "h3 --version isValidCell"] {
         assert!(&rt; ends(rt.alloc(), line, "", "", ending), "{line}");
     }

@@ -10,7 +10,7 @@ pub fn is_invalid(alloc: Global, line: &str) -> bool {
 }
 
 /// Invalid lines of commands without a file.
-static OTHER_WORDS: [&str; 27] = [
+static OTHER_WORDS: [&str; 29] = [
     "h3",
     "h3 nothing",
     "h3 isValidCell",
@@ -37,6 +37,8 @@ static OTHER_WORDS: [&str; 27] = [
     "h3 uncompactCells -r 6 junk",
     "h3 getResolution -c 0 --table t",
     "h3 uncompactCells -r 6 --table t",
+    "h3 uncompactCellsSize",
+    "h3 uncompactCellsSize -r 6 cells",
     "h3 --versions",
 ];
 

@@ -362,6 +362,54 @@ fn lists_are_uncompacted(rt: HostRuntime) {
     }
 }
 
+/// Resolutions and lists, and how many cells they uncompact to or the error: n levels down a hexagon
+/// has 7^n descendants, and a pentagon 1 + 5 * ((7^n - 1) / 6).
+static SIZES: [(i32, &str, &str, &str); 13] = [
+    (6, "85283473fffffff\n", "7\n", ""),
+    (1, "8009fffffffffff\n\n 81283ffffffffff", "7\n", ""),
+    (15, "8001fffffffffff\n", "4747561509943\n", ""),
+    (
+        15,
+        "8001fffffffffff\n8009fffffffffff\n",
+        "8703862768229\n",
+        "",
+    ),
+    (5, TWICE, "2\n", ""),
+    (5, "8428347ffffffff\n85283473fffffff\n", "8\n", ""),
+    (5, "", "0\n", ""),
+    (
+        4,
+        "8428347ffffffff\n85283473fffffff\n8428347ffffffff\n",
+        "",
+        RES_MISMATCH,
+    ),
+    (16, "", "", RES_DOMAIN),
+    (-1, "85283473fffffff\n", "", RES_DOMAIN),
+    (
+        4,
+        "85283473fffffff\n\nxyz\n81087ffffffffff\n",
+        "",
+        "line 3: error 1: E_FAILED\n",
+    ),
+    (
+        6,
+        "85283473fffffff\n81087ffffffffff\nxyz\n",
+        "",
+        "line 2: error 5: E_CELL_INVALID\n",
+    ),
+    (16, "xyz\n", "", "line 1: error 1: E_FAILED\n"),
+];
+
+#[test]
+fn what_lists_uncompact_to_is_counted(rt: HostRuntime) {
+    for (number, (res, list, output, line)) in SIZES.iter().enumerate() {
+        let command = Command::UncompactCellsSize { res: *res };
+        let list = Reads::List(list);
+        let right = answers(rt.alloc(), command, list, output, line, &PIECES);
+        assert!(&rt; right, "row {number}");
+    }
+}
+
 /// Five of the six children of a pentagon, ascending.
 const FIVE: &str = "81083ffffffffff\n8108bffffffffff\n8108fffffffffff\n81093ffffffffff\n\
                     81097ffffffffff\n";

@@ -86,7 +86,7 @@ fn reads_a_cell(rt: HostRuntime) {
 }
 
 /// Lines of commands with a resolution, and on a list.
-static OF_A_RESOLUTION: [(&str, Command); 5] = [
+static OF_A_RESOLUTION: [(&str, Command); 6] = [
     ("h3 getNumCells -r 15", Command::GetNumCells { res: 15 }),
     (
         "h3 getPentagons --resolution=2147483647",
@@ -94,6 +94,10 @@ static OF_A_RESOLUTION: [(&str, Command); 5] = [
     ),
     ("h3 compactCells", Command::CompactCells),
     ("h3 uncompactCells -r 6", Command::UncompactCells { res: 6 }),
+    (
+        "h3 uncompactCellsSize --resolution 16",
+        Command::UncompactCellsSize { res: 16 },
+    ),
     ("h3 uniteCells", Command::UniteCells),
 ];
 

@@ -13,7 +13,7 @@ use Rattle.h3_index.specs.Descendants.{IsAncestor}
 use Rattle.h3_set.specs.Coverage.{is_ancestor, is_covered}
 use Rattle.h3_set.specs.Laws.{AncestorsAreFound}
 use Rattle.h3_regions.specs.Counts.{AreCounts}
-use Rattle.h3_regions.specs.Laws.{CountsAddUp}
+use Rattle.h3_regions.specs.Laws.{CountsInParts}
 use Rattle.h3_regions.specs.Zones.{StandsAbove}
 use Rattle.h3_regions.proofs.ListLaws.{any_default}
 use Rattle.h3_regions.proofs.RegionLaws.{none_above}
@@ -157,8 +157,8 @@ parts_add_up : (p : Address → Bool) (cells : List Address) (parts : List (List
 parts_add_up p cells parts same =
     sym (sum_by-IsPermutation (λ x. cond (p x) 1 0) cells (flat_map (λ part. part) parts) same) ∙ sum_of_parts (λ x. cond (p x) 1 0) parts ∙ sym (sum-map (count_by p) parts)
 
-pub counts_add_up : CountsAddUp
-counts_add_up = record {
+pub counts_in_parts : CountsInParts
+counts_in_parts = record {
   zone = λ zone cells parts same. parts_add_up (λ x. is_ancestor zone x) cells parts same;
   others = λ zones cells parts same. parts_add_up (λ x. not (is_covered zones x)) cells parts same;
 }

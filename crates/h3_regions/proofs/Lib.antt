@@ -10,10 +10,12 @@ pub mod LeavingLaws
 pub mod LeftLaws
 pub mod ListLaws
 pub mod NumberLaws
+pub mod OverlapLaws
 pub mod RegionLaws
 pub mod RoomLaws
 pub mod SearchLaws
 pub mod SharedLaws
+pub mod SumLaws
 pub mod TableLaws
 pub mod TestLaws
 pub mod ZoneLaws

@@ -1,10 +1,10 @@
 -- Cells in ascending order of their numbers.
 use Rattle.std.specs.List.{filter}
 use Rattle.std.specs.List.Sorted.{IsPermutation}
-use Rattle.std.proofs.Common.{ℕ, ◌≡◌, ◌^◌, ◌-◌, ◌%◌, ◌<◌, ◌≤◌, ◌&&◌, List, length, All, AllPairs, Contains, Bool, true, false, refl, arith, sym, ap, subst, inl, inr, get_or}
+use Rattle.std.proofs.Common.{ℕ, ◌≡◌, ◌^◌, ◌-◌, ◌%◌, ◌<◌, ◌≤◌, ◌↔◌, ◌&&◌, List, length, All, AllPairs, Contains, Bool, true, false, refl, arith, sym, ap, subst, inl, inr, get_or}
 use Rattle.std.proofs.Math.Nat.{one-le-pow}
 use Rattle.std.proofs.lemmas.Bool.{cases_lt}
-use Rattle.std.proofs.lemmas.List.Elements.{All-contains}
+use Rattle.std.proofs.lemmas.List.Elements.{All-contains, Contains-get_or}
 use Rattle.std.proofs.lemmas.List.Kept.{AllPairs-filter}
 use Rattle.std.proofs.lemmas.List.Folds.{Any-from_list_any, list_any_at}
 use Rattle.std.proofs.lemmas.List.Sorted.{All-permutation, Contains-permutation, IsPermutation-sym}
@@ -22,6 +22,7 @@ use Rattle.h3_regions.proofs.CoverageLaws.{fine_within}
 use Rattle.h3_regions.proofs.DecidedLaws.{kept, kept_from}
 use Rattle.h3_regions.proofs.IntervalLaws.{inside}
 use Rattle.h3_regions.proofs.LeftLaws.{finest_at}
+use Rattle.h3_regions.proofs.ListLaws.{one_of}
 
 both_true : (p q : Bool) → p ≡ true → q ≡ true → (p && q) ≡ true
 both_true p q e f = rw (e, f) refl
@@ -84,6 +85,40 @@ module _ (tree : CellsFormTrees) (intervals : CellsFormIntervals) (found : Ances
       (λ z m.
       let w = kept_from (is_member old) (cells_up_to (finest old)) z m in
       Contains-permutation old new z same (from_member old z w.1))
+
+  -- in ascending order they are the same cells, of which no two overlap
+  pub number_members : (cells : List Address) (x : Address) → All IsCell cells → Contains (by_number cells) x ↔ Contains cells x
+  unfolding by_number
+  number_members cells x valid =
+      let fine : finest cells ≤ 15 = fine_within cells valid in
+      let all = listed (finest cells) (omega (arith, fine)) in (
+        (λ m. from_member cells x (kept_from (is_member cells) (cells_up_to (finest cells)) x m).1),
+        (λ m. kept (is_member cells) (cells_up_to (finest cells)) x ((all.each x).1 (All-contains IsCell cells x valid m, finest_at cells x m)) (member cells x m)),
+      )
+
+  number_rises : (cells : List Address) → All IsCell cells → AllPairs (λ a b. number_of a < number_of b) (by_number cells)
+  unfolding by_number
+  number_rises cells valid =
+      let fine : finest cells ≤ 15 = fine_within cells valid in
+      AllPairs-filter (λ a b. number_of a < number_of b) (is_member cells) (cells_up_to (finest cells)) (listed (finest cells) (omega (arith, fine))).ascending
+
+  pub number_apart : (cells : List Address) → All IsCell cells → IsApart cells → IsApart (by_number cells)
+  number_apart cells valid apart i j d lt lj over =
+      let a = get_or (by_number cells) i d in
+      let b = get_or (by_number cells) j d in
+      let up : number_of a < number_of b = number_rises cells valid i j d lt lj in
+      let in_a : Contains cells a = (number_members cells a valid).0 (Contains-get_or (by_number cells) i d (omega (arith, lt, lj))) in
+      let in_b : Contains cells b = (number_members cells b valid).0 (Contains-get_or (by_number cells) j d lj) in
+      let same : a ≡ b = elim over [ inl h ↦ one_of cells apart a b in_a in_b h | inr h ↦ sym (one_of cells apart b a in_b in_a h) ] in
+      let numbers : number_of a ≡ number_of b = ap number_of same in
+      omega (arith, up, numbers)
+
+  -- a list that ascends is known by the cells that it has
+  pub number_of_ascending : (zones list : List Address) → All IsCell zones → AllPairs (λ a b. number_of a < number_of b) list → ((z : Address) → Contains zones z ↔ Contains list z) → list ≡ by_number zones
+  number_of_ascending zones list valid ascending alike =
+      same_rising number_of list (by_number zones) ascending (number_rises zones valid)
+      (λ z m. (number_members zones z valid).1 ((alike z).1 m))
+      (λ z m. (alike z).0 ((number_members zones z valid).0 m))
 
   -- the members and their finest resolution do not depend on the order
   pub number_permuted : ApartInAnyOrder → (old new : List Address) → All IsCell old → IsApart old → IsPermutation old new → by_number old ≡ by_number new

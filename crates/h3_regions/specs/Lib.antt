@@ -5,6 +5,7 @@ pub mod Examples
 pub mod FirstPlaces
 pub mod Laws
 pub mod Left
+pub mod Overlaps
 pub mod Region
 pub mod Shared
 pub mod Zones

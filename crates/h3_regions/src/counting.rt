@@ -3,7 +3,7 @@
 ghost use Rattle.std.specs.Prelude.{◌≡◌, ◌+◌, ◌-◌, ◌^◌, ◌<◌, ◌≤◌, ◌++◌, ◌∷◌, [], ℕ, List, Contains, length, map, replicate, sum, take, drop};
 ghost use Rattle.h3_index.specs.Cell.{Address};
 ghost use Rattle.h3_regions.specs.Counts.{AreCounts, count_in, count_outside};
-ghost use Rattle.h3_regions.specs.Laws.{CountsAddUp, ZonesAreOne};
+ghost use Rattle.h3_regions.specs.Laws.{CountsInParts, ZonesAreOne};
 ghost use Rattle.h3_regions.specs.Zones.{IsZones};
 
 use crate::zone_index::ZoneIndex;
@@ -69,7 +69,7 @@ pub fn count(zones: &Zones, cells: &[Cell], counts: &mut [u64]) -> u64
 
     // Laws, whatever the zones and the cells.
     ensures one { ZonesAreOne }
-    ensures parts { CountsAddUp }
+    ensures parts { CountsInParts }
 {
     cells_form_trees();
     coverages_decide_lists();
@@ -151,7 +151,7 @@ pub fn count_indexed(index: &ZoneIndex, cells: &[Cell], counts: &mut [u64]) -> u
 
     // Laws, whatever the zones and the cells.
     ensures one { ZonesAreOne }
-    ensures parts { CountsAddUp }
+    ensures parts { CountsInParts }
 {
     cells_form_trees();
     coverages_decide_lists();

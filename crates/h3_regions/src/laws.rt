@@ -1,7 +1,7 @@
 //! Laws of regions and zones. Each function does nothing; what it ensures is a law that holds
 //! always.
 
-ghost use Rattle.h3_regions.specs.Laws.{CoverageAtOneResolution, CoveragesDecideDifferences, CoveragesDecideIntersections, NothingCounted, RegionsAreUnique, RegionsCoverAlike, UnionsCoverBoth, UnionsInAnyOrder, UnionsInParts, UnionsOfOne, ZonesAreOne, ZonesInAnyOrder};
+ghost use Rattle.h3_regions.specs.Laws.{CoverageAtOneResolution, CoveragesDecideDifferences, CoveragesDecideIntersections, CountsAddUp, CountsInParts, NothingCounted, RegionsAreUnique, RegionsCoverAlike, UnionsCoverBoth, UnionsInAnyOrder, UnionsInParts, UnionsOfOne, ZonesAreOne, ZonesByNumber, ZonesInAnyOrder};
 
 use h3_index::laws::cells_are_listed;
 use h3_set::laws::coverages_decide_lists;
@@ -41,11 +41,25 @@ pub fn coverages_decide_combinations()
 }
 
 /// Zones may be given in any order, and each is the zone of exactly the cells that are counted in it;
-/// the counts of no cells are all 0.
+/// a list that has the zones alone and ascends is theirs by number; the counts of no cells are all 0.
 pub fn zones_are_lawful()
     ensures one { ZonesAreOne }
     ensures in_any_order { ZonesInAnyOrder }
+    ensures by_number { ZonesByNumber }
     ensures nothing { NothingCounted }
+{
+    coverages_decide_lists();
+    cells_form_trees();
+    cells_form_intervals();
+    cells_are_listed();
+}
+
+/// The counts of zones of which no two overlap, in any order, and the number of cells without a zone
+/// add up to the number of cells; and what is counted of the parts of a list, to what is counted of
+/// the whole.
+pub fn counts_add_up()
+    ensures whole { CountsAddUp }
+    ensures parts { CountsInParts }
 {
     coverages_decide_lists();
     cells_form_trees();

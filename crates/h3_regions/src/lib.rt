@@ -8,6 +8,7 @@ mod intersection;
 mod joining;
 pub mod laws;
 mod order;
+mod overlap;
 mod region;
 mod unions;
 mod zone_index;
@@ -17,7 +18,8 @@ pub use counting::{count, count_indexed, count_next, count_next_indexed, count_o
 pub use difference::subtract;
 pub use intersection::intersect;
 pub use joining::{join, join_indexed};
+pub use overlap::find_overlap;
 pub use region::Region;
 pub use unions::unite;
 pub use zone_index::ZoneIndex;
-pub use zones::{Zones, order_by_number, order_zones};
+pub use zones::{RefusedCells, Zones, order_by_number, order_zones};

@@ -1,6 +1,7 @@
 //! Zones: cells of which no two overlap, in which one can look up which one a cell lies in.
 
-ghost use Rattle.std.specs.Prelude.{◌≡◌, ◌<◌, ◌≤◌, ◌↔◌, ℕ, length, Some, Contains, IfOk, IfSome, IsPermutation, IsTrue, slice_get};
+ghost use Rattle.std.specs.Prelude.{◌≡◌, ◌<◌, ◌≤◌, ◌↔◌, ℕ, length, Some, Contains, IfErr, IfOk, IfSome, IsPermutation, IsTrue, slice_get};
+ghost use Rattle.std.specs.Option.{option_map};
 ghost use Rattle.std.specs.Result.{result_err};
 ghost use Rattle.h3_index.specs.Cell.{Address, IsCell, resolution};
 ghost use Rattle.h3_index.specs.Descendants.{IsAncestor};
@@ -194,6 +195,13 @@ pub fn order_by_number(cells: &mut [Cell])
     cells.sort_unstable_by_key(|c: &Cell| c.raw());
 }
 
+/// Cells that are no zones, given back, and the error that says why.
+#[derive(Debug, Drop)]
+pub struct RefusedCells<'a> {
+    pub error: H3Error,
+    pub cells: &'a mut [Cell],
+}
+
 /// Cells of which no two overlap, as they were given, compacted or not, of any resolutions. They
 /// stand in memory that is borrowed, in such an order that the one that a cell lies in is found in
 /// as many steps as their number has bits, or one more. Contracts see the list.
@@ -218,18 +226,21 @@ impl<'a> Zones<'a> {
     /// The cells as zones, in their memory, in another order: by `order_zones`.
     ///
     /// `DuplicateInput` where cells at two places overlap: a cell is listed twice, or together with
-    /// an ancestor of it. The cells are then the same, in some order; a caller whose own contract
-    /// rests on that calls `order_zones` and `over`.
-    pub fn of(cells: &'a mut [Cell]) -> Result<Zones<'a>, H3Error>
-        ensures refused { result_err result ≡ compaction_refusal cells.old }
+    /// an ancestor of it. The cells are then given back: the same ones, in some order.
+    pub fn of(cells: &'a mut [Cell]) -> Result<Zones<'a>, RefusedCells<'a>>
+        ensures refused { option_map (λ r. r.error) (result_err result) ≡ compaction_refusal cells.old }
+        ensures same { IfErr result (λ r. IsPermutation cells.old r.cells.now) }
+        ensures back { IfErr result (λ r. r.cells.ghost_name ≡ cells.entry.ghost_name) }
         ensures zones { IfOk result (IsPermutation cells.old) }
         ensures covers { IfOk result (λ zones. (r : ℕ) → finest cells.old ≤ r → (x : Address)
             → IsCovered zones r x ↔ IsCovered (compacted cells.old) r x) }
     {
         coverages_decide_lists();
         are_cells(cells);
-        order_zones(cells)?;
-        Ok(Zones { cells })
+        match order_zones(cells) {
+            Ok(()) => Ok(Zones { cells }),
+            Err(error) => Err(RefusedCells { error, cells }),
+        }
     }
 
     /// Cells that are zones, in order, as `order_zones` leaves them.

@@ -129,6 +129,11 @@ pub enum Command {
         res: i32,
     },
 
+    /// How many cells of a resolution `UncompactCells` gives for a list.
+    UncompactCellsSize {
+        res: i32,
+    },
+
     /// The cells that cover what those of a list cover, which may overlap one another, with no
     /// overlap and no complete set of siblings.
     UniteCells,

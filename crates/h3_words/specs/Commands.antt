@@ -19,7 +19,7 @@ command_names =
     name.IsValidCell ∷ name.GetResolution ∷ name.GetBaseCellNumber ∷ name.IsPentagon ∷ name.IsResClassIII ∷
     name.GetNumCells ∷ name.GetRes0Cells ∷ name.GetPentagons ∷ name.CellToParent ∷ name.CellToCenterChild ∷
     name.CellToChildren ∷ name.CellToChildrenSize ∷ name.CellToChildPos ∷ name.ChildPosToCell ∷ name.CompactCells ∷
-    name.UncompactCells ∷ name.UniteCells ∷ name.IntersectCells ∷ name.SubtractCells ∷ name.AreCoveredCells ∷
+    name.UncompactCells ∷ name.UncompactCellsSize ∷ name.UniteCells ∷ name.IntersectCells ∷ name.SubtractCells ∷ name.AreCoveredCells ∷
     name.CellsToZones ∷ name.CountCellsInZones ∷ name.GridDiskUnsafe ∷ name.GridDiskDistancesUnsafe ∷ name.GridRingUnsafe ∷
     name.AreNeighborCells ∷ name.CellsToDirectedEdge ∷ name.IsValidDirectedEdge ∷ name.GetDirectedEdgeOrigin ∷
     name.GetDirectedEdgeDestination ∷ name.OriginToDirectedEdges ∷
@@ -49,6 +49,7 @@ entry_of name.CellToChildPos = record { word = codes "cellToChildPos"; options =
 entry_of name.ChildPosToCell = record { word = codes "childPosToCell"; options = Position ∷ Cell ∷ Resolution ∷ [] }
 entry_of name.CompactCells = record { word = codes "compactCells"; options = [] }
 entry_of name.UncompactCells = record { word = codes "uncompactCells"; options = Resolution ∷ [] }
+entry_of name.UncompactCellsSize = record { word = codes "uncompactCellsSize"; options = Resolution ∷ [] }
 entry_of name.UniteCells = record { word = codes "uniteCells"; options = [] }
 entry_of name.IntersectCells = record { word = codes "intersectCells"; options = Region ∷ [] }
 entry_of name.SubtractCells = record { word = codes "subtractCells"; options = Region ∷ [] }
@@ -113,6 +114,7 @@ call_of (command.ChildPosToCell position cell res) =
     (name.ChildPosToCell, Number Position (pos position) ∷ Index Cell cell ∷ Number Resolution res ∷ [])
 call_of command.CompactCells = (name.CompactCells, [])
 call_of (command.UncompactCells res) = (name.UncompactCells, Number Resolution res ∷ [])
+call_of (command.UncompactCellsSize res) = (name.UncompactCellsSize, Number Resolution res ∷ [])
 call_of command.UniteCells = (name.UniteCells, [])
 call_of command.IntersectCells = (name.IntersectCells, [])
 call_of command.SubtractCells = (name.SubtractCells, [])

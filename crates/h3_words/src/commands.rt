@@ -37,6 +37,7 @@ pub enum CommandName {
     ChildPosToCell,
     CompactCells,
     UncompactCells,
+    UncompactCellsSize,
     UniteCells,
     IntersectCells,
     SubtractCells,
@@ -66,7 +67,7 @@ pub enum CommandName {
     OriginsToDirectedEdges,
 }
 
-static COMMAND_NAMES: [CommandName; 43] = [
+static COMMAND_NAMES: [CommandName; 44] = [
     CommandName::IsValidCell,
     CommandName::GetResolution,
     CommandName::GetBaseCellNumber,
@@ -83,6 +84,7 @@ static COMMAND_NAMES: [CommandName; 43] = [
     CommandName::ChildPosToCell,
     CommandName::CompactCells,
     CommandName::UncompactCells,
+    CommandName::UncompactCellsSize,
     CommandName::UniteCells,
     CommandName::IntersectCells,
     CommandName::SubtractCells,
@@ -198,6 +200,10 @@ impl CommandName {
             },
             CommandName::UncompactCells => Entry {
                 word: "uncompactCells",
+                options: &[Resolution],
+            },
+            CommandName::UncompactCellsSize => Entry {
+                word: "uncompactCellsSize",
                 options: &[Resolution],
             },
             CommandName::UniteCells => Entry {
@@ -381,6 +387,7 @@ impl CommandName {
             CommandName::ChildPosToCell => asked!(ChildPosToCell, position, cell, res),
             CommandName::CompactCells => Command::CompactCells,
             CommandName::UncompactCells => asked!(UncompactCells, res),
+            CommandName::UncompactCellsSize => asked!(UncompactCellsSize, res),
             CommandName::UniteCells => Command::UniteCells,
             CommandName::IntersectCells => Command::IntersectCells,
             CommandName::SubtractCells => Command::SubtractCells,

@@ -42,6 +42,7 @@ pub(crate) const HELP: &str = "Inspect, traverse and compact H3 cells\n\n\
     Lists on standard input, one index a line:\n\
     \x20 compactCells                The cells, compacted\n\
     \x20 uncompactCells              The descendants of the cells at a resolution\n\
+    \x20 uncompactCellsSize          How many cells uncompactCells prints\n\
     \x20 uniteCells                  What the cells cover, compacted\n\
     \x20 intersectCells              What both the cells and a region cover, compacted\n\
     \x20 subtractCells               What the cells cover and a region does not\n\
@@ -92,6 +93,14 @@ macro_rules! notes {
         notes!(
             errors $($first)*;
             "1 no index, 5 no cell, 4 no resolution from the cell's to 15,\n",
+            $example
+        )
+    };
+    (below $($first:literal)?, $example:literal) => {
+        notes!(
+            errors $($first)?;
+            "1 no index, 5 no cell, 4 no resolution,\n\
+            12 a resolution coarser than a cell's, ",
             $example
         )
     };
@@ -189,6 +198,8 @@ impl CommandName {
                 "The compacted list of the cells, of any resolutions, on standard input; error 10 where two overlap",
             CommandName::UncompactCells =>
                 "The descendants at a resolution of each cell listed on standard input",
+            CommandName::UncompactCellsSize =>
+                "How many cells uncompactCells prints for the cells listed on standard input",
             CommandName::UniteCells =>
                 "The compacted list of what the cells on standard input cover, which may repeat and overlap",
             CommandName::IntersectCells =>
@@ -282,11 +293,11 @@ impl CommandName {
                 "1 no index, 5 no cell, 10 cells that overlap, ",
                 "h3 compactCells < cells"
             ),
-            CommandName::UncompactCells => notes!(
-                errors;
-                "1 no index, 5 no cell, 4 no resolution,\n\
-                12 a resolution coarser than a cell's, ",
-                "h3 uncompactCells -r 6 < cells"
+            CommandName::UncompactCells => notes!(below, "h3 uncompactCells -r 6 < cells"),
+            CommandName::UncompactCellsSize => notes!(
+                below "Cells that repeat or overlap count again. The first faulty line is reported\n\
+                with its number, as line 2: error 5: E_CELL_INVALID.\n",
+                "h3 uncompactCellsSize -r 6 < cells"
             ),
             CommandName::UniteCells => notes!(list cell, "h3 uniteCells < cells"),
             CommandName::IntersectCells => notes!(
@@ -385,6 +396,9 @@ impl CommandName {
             CommandName::CompactCells => Some("h3 compactCells < cells"),
             CommandName::UncompactCells => Some(
                 "h3 uncompactCells --resolution <resolution> < cells",
+            ),
+            CommandName::UncompactCellsSize => Some(
+                "h3 uncompactCellsSize --resolution <resolution> < cells",
             ),
             CommandName::UniteCells => Some("h3 uniteCells < cells"),
             CommandName::IntersectCells => Some("h3 intersectCells --region <region> < cells"),

@@ -28,6 +28,9 @@ loop-i-preserved c =
     let up : c.loop-i.i + 1 ≡ suc c.loop-i.i = omega arith in
     subst (λ n. cells_in (take n c.args.indexes.now) ≢ None) (sym up) (some-snoc c.args.indexes.now c.loop-i.i c.in_default.field-0 c.loop-i-test.true c.loop-i.invariant (sym c.in_default.ensures.read))
 
+pub returns-in-Err-clause-invalid : goal.returns-in-Err-clause-invalid
+returns-in-Err-clause-invalid c = λ ne. c.from.ensures ∙ c.number.ensures ∙ ap error_number c.in-Err.ensures.refused.0
+
 all : (c : After-loop-i) → cells_in c.args.indexes.now ≢ None
 all c =
     let whole : take c.loop-i.i c.args.indexes.now ≡ c.args.indexes.now = take_all c.loop-i.i c.args.indexes.now (omega (arith, c.loop-i-test.false)) in

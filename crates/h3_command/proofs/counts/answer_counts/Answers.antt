@@ -38,7 +38,7 @@ returns g c =
     let zeros : c.in_ok-counts.counts.items ≡ replicate (length zones) 0 = first_of (search rules, grind (arith, common_steps)) in
     let start = subst (λ l. AreCounts zones [] l 0) (sym zeros) (c.zones_are_lawful.ensures.nothing zones) in
     let told : AreCounts zones cells c.in_ok-tally.tally.counts.items others = rw c.over.ensures at taken.1 [] start in
-    let lines = c.in_ok-lines.ensures.ok cells (subst (λ l. AreCounts zones cells l others) (sym c.deref.ensures.value) told) in
-    let lines_written = rw (c.deref-2.ensures.value, lines) at c.write_counts.ensures in
+    let wrote = rw (c.over-2.ensures, c.deref.ensures.value) at c.write_counts.ensures in
+    let lines_written = wrote cells told in
     let (writes, so_far) = numbered_written (counts_answer zones) list _ input _ out is short sound (c.in_ok-tally.ensures.whole refl) lines_written in
     (list, held, writes, so_far)

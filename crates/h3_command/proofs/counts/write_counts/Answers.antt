@@ -1,9 +1,7 @@
-use Rattle.std.proofs.Common.{rules, ◌≡◌, refl}
-use Rattle.std.proofs.lemmas.Iterator.{YieldsList-from_slice}
-use Rattle.std.proofs.lemmas.Iterator.Consumers.{YieldsList-from_copied}
+use Rattle.std.proofs.lemmas.Iterator.Consumers.{YieldsList-from_first}
+use Rattle.h3_command.specs.CountLines.{lines_left}
 use Rattle.h3_command.proofs.counts.write_counts.Goals as goal
 
 pub returns : goal.returns
-returns g c =
-    let same : c.copied.result.iter.rest.now ≡ c.args.lines.now = search rules in
-    rw (← same) (c.write_lines.ensures _ (YieldsList-from_copied (YieldsList-from_slice _ refl)))
+returns g c cells told =
+    c.write_lines.ensures _ (YieldsList-from_first (λ x. x) lines_left _ (c.new.ensures cells told))

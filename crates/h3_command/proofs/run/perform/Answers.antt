@@ -28,3 +28,8 @@ pub returns-in-UncompactCells-clause-ends : goal.returns-in-UncompactCells-claus
 returns-in-UncompactCells-clause-ends g c =
     let res = c.in-UncompactCells.res in
     rw c.in-UncompactCells.is (rw (to_z-of_z w32 res (search rules)) at c.uncompact_cells.ensures)
+
+pub returns-in-UncompactCellsSize-clause-ends : goal.returns-in-UncompactCellsSize-clause-ends
+returns-in-UncompactCellsSize-clause-ends g c =
+    let res = c.in-UncompactCellsSize.res in
+    rw c.in-UncompactCellsSize.is (rw (to_z-of_z w32 res (search rules)) at c.uncompact_cells_size.ensures)
