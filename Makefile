@@ -22,11 +22,15 @@ library:
 # (make's own variables are not for the makes that these call)
 alone = env -u MAKEFLAGS -u MFLAGS -u MAKELEVEL
 
+# (by the environment, so that a path may have any characters)
+install uninstall: export DESTDIR := $(DESTDIR)
+install uninstall: export PREFIX := $(PREFIX)
+
 install:
-	@$(alone) DESTDIR='$(DESTDIR)' ./install $(if $(LIBRARY),--library) '$(PREFIX)'
+	@$(alone) ./install $(if $(LIBRARY),--library) "$$PREFIX"
 
 uninstall:
-	@$(alone) DESTDIR='$(DESTDIR)' ./install --uninstall '$(PREFIX)'
+	@$(alone) ./install --uninstall "$$PREFIX"
 
 packages:
 	@$(alone) tools/packages

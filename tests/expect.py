@@ -8,6 +8,10 @@ import sys
 
 # a shell has what it runs in the background ignore an interrupt, and so would what is tried here
 signal.signal(signal.SIGINT, signal.default_int_handler)
+# and nohup a hangup: a handler that does nothing spares the check as before, while what it starts has the default again
+for ignored in (signal.SIGHUP, signal.SIGQUIT, signal.SIGTERM, signal.SIGUSR1, signal.SIGALRM):
+    if signal.getsignal(ignored) == signal.SIG_IGN:
+        signal.signal(ignored, lambda *_: None)
 
 CHECK = os.path.basename(sys.argv[0])
 counts = {"passed": 0, "failed": 0, "skipped": 0}
