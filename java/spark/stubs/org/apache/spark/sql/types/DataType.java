@@ -1,0 +1,4 @@
+package org.apache.spark.sql.types;
+
+/** As much of Spark's as the examples name. */
+public abstract class DataType {}
