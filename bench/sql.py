@@ -2,7 +2,7 @@
 """Measures the extensions for SQLite and PostgreSQL, and columns of numpy: ratios of the best times of several runs,
 each pair in turn.
 
-bench/sql.py [sqlite | postgresql | numpy ..]    these alone; all, if none is given"""
+bench/sql.py [sqlite | postgresql | numpy | texts ..]    these alone; all, if none is given"""
 import os
 import sqlite3
 import subprocess
@@ -62,6 +62,17 @@ def measure_sqlite(cells):
     compare("SQLite: a million rows by parents / by an integer expression", ask(PARENT), ask(PLAIN.format("cell", "")))
     query = "SELECT json_array_length(h3_compact_cells(cell)) FROM long"
     compare(f"SQLite: h3_compact_cells of {LONG} rows / h3 compactCells", ask(query), lambda: compact_by_command(cells))
+    place = "h3_child_pos_to_cell({}, '8029fffffffffff', 7)"
+    count = "WITH RECURSIVE n (n) AS (SELECT 0 UNION ALL SELECT n + 1 FROM n WHERE n < {})"
+    engine.execute(
+        f"CREATE TABLE shapes AS {count.format(199)} SELECT n, (WITH RECURSIVE p (p) AS (SELECT n.n * 500 UNION ALL"
+        f" SELECT p + 1 FROM p WHERE p < n.n * 500 + 1999) SELECT json_group_array({place.format('p * 7')}) FROM p)"
+        " AS cells FROM n"
+    )
+    loop = "SELECT count(*) FROM (SELECT * FROM big LIMIT {}) AS spots CROSS JOIN shapes WHERE n < {}"
+    loop += " AND h3_is_covered(cell, cells)"
+    name = "SQLite: 100000 lookups in 200 arrays / in 40"
+    compare(name, ask(loop.format(500, 200)), ask(loop.format(2500, 40)))
 
 
 def measure_postgresql(cells):
@@ -92,26 +103,61 @@ def measure_postgresql(cells):
                 lambda: compact_by_command(cells),
             )
         measure_points(engine, ask)
+        measure_arrays(engine, ask)
+
+
+ZONED = "SELECT cell FROM h3_cell_to_children('8001fffffffffff', {}) cell WHERE cell::bigint % 10 < 7"
+JOINED = "SELECT count(*) FROM points JOIN zones ON zones.cell = ANY (h3_cell_to_ancestors(points.cell))"
+BY_ZONE = "SELECT count(*) FROM points JOIN {} zones ON zones.cell = h3_zone_of(points.cell, {})"
 
 
 def measure_points(engine, ask):
-    """Two million points by the zones in which they lie, against the join of zones and of the points' ancestors."""
+    """Two million points by the zones in which they lie, against the join of zones and of the points' ancestors, and a
+    subquery against a constant."""
+    for table, res in (("zones", 5), ("millions", 8)):
+        engine.psql(
+            f"CREATE UNLOGGED TABLE {table} AS {ZONED.format(res)} LIMIT 1000000;"
+            f"CREATE UNIQUE INDEX ON {table} (cell); VACUUM ANALYZE {table}"
+        )
     engine.psql(
-        "CREATE UNLOGGED TABLE zones AS SELECT cell FROM h3_cell_to_children('8001fffffffffff', 5) cell"
-        " WHERE cell::bigint % 10 < 7;"
-        "CREATE UNIQUE INDEX ON zones (cell); VACUUM ANALYZE zones;"
         "CREATE UNLOGGED TABLE points AS SELECT h3_child_pos_to_cell((n * 7919 % 33000000)::bigint,"
         " h3_cell_to_parent(cell, 0), 9) AS cell"
         " FROM (SELECT cell, row_number() OVER () AS n FROM long LIMIT 2000000) numbered; VACUUM ANALYZE points"
     )
-    # (a constant: an array of a sub-select is compared in each row)
     listed = "'" + engine.psql("SELECT array_agg(cell) FROM zones") + "'"
-    joined = "SELECT count(*) FROM points JOIN zones ON zones.cell = ANY (h3_cell_to_ancestors(points.cell))"
+    once = "(SELECT array_agg(cell) FROM {})"
+    looked_up, covered = "SELECT count(h3_zone_of(cell, {})) FROM points", "h3_is_covered(cell, {})"
+    covered = f"SELECT count(*) FROM points WHERE {covered}"
     for name, query in (
-        ("h3_zone_of", f"SELECT count(h3_zone_of(cell, {listed})) FROM points"),
-        ("h3_is_covered", f"SELECT count(*) FROM points WHERE h3_is_covered(cell, {listed})"),
+        ("h3_zone_of", looked_up.format(listed)),
+        ("h3_is_covered", covered.format(listed)),
+        ("h3_zone_of in a subquery", looked_up.format(once.format("zones"))),
+        ("zones by h3_zone_of in a subquery", BY_ZONE.format("zones", once.format("zones"))),
     ):
-        compare(f"PostgreSQL: {name} of 2000000 points / a join of ancestors", ask(query, 0), ask(joined, 0))
+        compare(f"PostgreSQL: {name} of 2000000 points / a join of ancestors", ask(query, 0), ask(JOINED, 0))
+    for name, query in (("h3_zone_of", looked_up), ("h3_is_covered", covered)):
+        subquery, constant = query.format(once.format("zones")), query.format(listed)
+        compare(f"PostgreSQL: {name} in a subquery / in a constant", ask(subquery, 0), ask(constant, 0))
+    number = "SELECT sum(cell::bigint % 10) * 0 + 1 FROM points"
+    for name, count in (("zones", "10,085"), ("millions", "a million")):
+        query = f"SELECT (count(*) > 0)::int FROM ({BY_ZONE.format(name, once.format(name))}) x"
+        compare(f"PostgreSQL: zones of 2000000 points in {count} / a sum of remainders", ask(query, 0), ask(number, 0))
+
+
+def measure_arrays(engine, ask):
+    """A loop over 200 arrays of 2000 cells against one over 40, for as many lookups."""
+    engine.psql(
+        "CREATE UNLOGGED TABLE shapes AS SELECT n, ARRAY(SELECT h3_child_pos_to_cell(p * 7, '8029fffffffffff', 7)"
+        " FROM generate_series(n * 500, n * 500 + 1999) p) AS cells FROM generate_series(0, 199) n;"
+        "CREATE UNLOGGED TABLE spots AS SELECT n, h3_child_pos_to_cell(n, '8001fffffffffff', 7) AS cell FROM"
+        " generate_series(0, 4999) n; ANALYZE shapes; ANALYZE spots"
+    )
+    loop = (
+        "SELECT sum(found) FROM spots, LATERAL (SELECT count(*) FROM shapes WHERE n < {} AND"
+        " h3_is_covered(cell, cells)) x (found) WHERE n < {}"
+    )
+    name = "PostgreSQL: 200000 lookups in 200 arrays / in 40"
+    compare(name, ask(loop.format(200, 1000), 0), ask(loop.format(40, 5000), 0))
 
 
 C_PROGRAM = r"""
@@ -174,6 +220,49 @@ def measure_numpy(_):
         print(f"numpy: cells_to_parents of {LONG} / h3w_cellsToParents into {kind} memory: {ratio}", flush=True)
 
 
+def measure_texts(_):
+    """Single calls beside a call of str.upper, and columns of a hundred thousand texts beside as many of these."""
+    import numpy
+    import pandas
+
+    import h3whole
+    from h3whole import columns
+
+    text, count = "85283473fffffff", 100_000
+    texts = [text] * count
+    cells = columns.str_to_int(texts)
+
+    def repeated(call):
+        return lambda: [call() for _ in range(count)] and None
+
+    def upper():
+        return [one.upper() for one in texts] and None
+
+    for name, call in (
+        ("cell_to_parent of a text", lambda: h3whole.cell_to_parent(text, 4)),
+        ("get_resolution of a text", lambda: h3whole.get_resolution(text)),
+        ("h3whole.int.cell_to_parent", lambda: h3whole.int.cell_to_parent(0x85283473FFFFFFF, 4)),
+    ):
+        compare(f"Python: {name}, {count} times / str.upper", repeated(call), repeated(lambda: text.upper()))
+    # (a call that names its arguments goes by ctypes)
+    by_ctypes = repeated(lambda: h3whole.cell_to_parent(cell=text, res=4))
+    compare(
+        f"Python: cell_to_parent of a text, {count} times / by ctypes",
+        repeated(lambda: h3whole.cell_to_parent(text, 4)),
+        by_ctypes,
+    )
+    kinds = {
+        "a list": texts,
+        "numpy's objects": numpy.array(texts, dtype=object),
+        "pandas' strings": pandas.Series(texts, dtype="string"),
+    }
+    compare(f"Python: int_to_str of {count} / str.upper", lambda: columns.int_to_str(cells) and None, upper)
+    for kind, column in kinds.items():
+        for function, more in ((columns.str_to_int, ()), (columns.cells_to_parents, (4,))):
+            name = f"Python: {function.__name__} of {kind} of {count} texts / str.upper"
+            compare(name, lambda: function(column, *more) is None, lambda: upper() is not None)
+
+
 def measure_columns(_):
     """Five million cells looked up in a region of 1,440,000 and in as many zones, against numpy's search in the same
     order."""
@@ -215,6 +304,7 @@ def main():
         kinds = (
             ("numpy", measure_numpy),
             ("numpy", measure_columns),
+            ("texts", measure_texts),
             ("sqlite", measure_sqlite),
             ("postgresql", measure_postgresql),
         )

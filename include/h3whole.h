@@ -16,8 +16,8 @@
  * (an `int64_t *out` or the like: to one), also where there are none: it is never null. What a function writes
  * to overlaps nothing else that it has been passed. Where an array is too short for what is to be written,
  * the error is E_MEMORY_BOUNDS. No function keeps what it has been passed. compactCells, uncompactCells,
- * uniteCells, intersectCells, subtractCells, zones and readTable alone take memory, by malloc, and free it before they
- * return: E_MEMORY_ALLOC, or H3W_TABLE_MEMORY, where they get none.
+ * uniteCells, intersectCells, subtractCells, zones, findOverlap and readTable alone take memory, by malloc, and free it
+ * before they return: E_MEMORY_ALLOC, or H3W_TABLE_MEMORY, where they get none.
  *
  * Threads. Each function may be called from any number of threads at once: the library has no variable that
  * changes. Two calls at once may read the same memory, and may not write to the same.
@@ -31,7 +31,7 @@
 #include <string.h>
 
 /* The version of this page. h3w_version returns that of the library which runs. */
-#define H3WHOLE_VERSION "1.2.0"
+#define H3WHOLE_VERSION "1.3.0"
 
 /* H3's own page has the same types and numbers: a program that includes both includes that one first. */
 #ifndef H3API_H
@@ -253,6 +253,13 @@ H3Error h3w_subtractCells(const H3Index *first, size_t n, const H3Index *second,
  * E_CELL_INVALID: an index is no cell's. E_DUPLICATE_INPUT: a cell is there twice, or together with an ancestor of
  * it. */
 H3Error h3w_zones(const H3Index *cells, size_t n, H3Index *zones, size_t room);
+
+/* Finds the first of n cells that overlaps an earlier one: the same cell, or an ancestor or a descendant of it. So it
+ * says why h3w_zones or h3w_compactCells returned E_DUPLICATE_INPUT. `*at` is the place of that cell, and `*earlier`
+ * the first place whose cell it overlaps; both are n if no two overlap. E_CELL_INVALID: an index is no cell's; then
+ * `*at` is the place of the first such, and `*earlier` stays. E_MEMORY_ALLOC: no memory; it takes 16 bytes for each of
+ * the n cells. */
+H3Error h3w_findOverlap(const H3Index *cells, size_t n, size_t *at, size_t *earlier);
 
 /* Of each function below, the `zoneCount` zones are all that h3w_zones has written for as many cells, or a copy of
  * it. With any others the behavior is undefined: memory outside of the arrays may be read or written. As of other

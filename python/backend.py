@@ -2,7 +2,10 @@
 nothing but Python, so pip builds it where it reaches no network, with its isolation and without: see PEP 517 and PEP
 660.
 
-The shared object is the file that H3WHOLE_LIBRARY names, or else the one that tools/library made in this repository."""
+The shared object is the file that H3WHOLE_LIBRARY names, or else the one that tools/library made in this repository.
+
+Where there are a compiler and Python's headers, it compiles native.c, which makes single calls faster, for any Python
+from 3.10 on. `python3 backend.py` puts that into the package in this folder, for use from the tree."""
 
 import base64
 import gzip
@@ -10,14 +13,17 @@ import hashlib
 import io
 import os
 import re
+import subprocess
 import sys
 import sysconfig
 import tarfile
+import tempfile
 import zipfile
 
 NAME = "libh3whole.so.1"
 HERE = os.path.dirname(os.path.realpath(__file__))
-SOURCES = ["README.md", "backend.py", "pyproject.toml"]
+NATIVE = "_native.abi3.so"
+SOURCES = ["README.md", "backend.py", "native.c", "pyproject.toml"]
 
 
 def library():
@@ -31,6 +37,25 @@ def library():
 def read(path):
     with open(path, "rb") as file:
         return file.read()
+
+
+def compile_native(folder):
+    """Compiles the extension into a folder. False where there is no compiler, or no headers of Python 3.10 or later."""
+    headers = sysconfig.get_paths()["include"]
+    if sys.version_info < (3, 10) or not os.path.exists(os.path.join(headers, "Python.h")):
+        return False
+    words = [os.environ.get("CC", "cc"), "-O2", "-g0", "-fPIC", "-shared", "-s", f"-I{headers}"]
+    try:
+        subprocess.run([*words, "-o", os.path.join(folder, NATIVE), "native.c"], cwd=HERE, check=True)
+    except (OSError, subprocess.CalledProcessError):
+        return False
+    return True
+
+
+def native():
+    """The extension as files of the package: one, or none."""
+    with tempfile.TemporaryDirectory() as folder:
+        return {f"h3whole/{NATIVE}": read(os.path.join(folder, NATIVE))} if compile_native(folder) else {}
 
 
 def project():
@@ -86,7 +111,7 @@ def write_wheel(folder, files):
 
 
 def build_wheel(wheel_directory, config_settings=None, metadata_directory=None):
-    return write_wheel(wheel_directory, {**package(), f"h3whole/{NAME}": read(library())})
+    return write_wheel(wheel_directory, {**package(), **native(), f"h3whole/{NAME}": read(library())})
 
 
 def build_editable(wheel_directory, config_settings=None, metadata_directory=None):
@@ -108,3 +133,7 @@ def build_sdist(sdist_directory, config_settings=None):
             entry.mode = 0o644
             out.addfile(entry, io.BytesIO(content))
     return f"{top}.tar.gz"
+
+
+if __name__ == "__main__":
+    sys.exit(0 if compile_native(os.path.join(HERE, "h3whole")) else "h3whole: native.c was not compiled")

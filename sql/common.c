@@ -38,6 +38,16 @@ void h3sql_about_list(char text[H3SQL_ABOUT_ROOM], H3Error error, const H3Index 
     if (is_finer) snprintf(text + n, H3SQL_ABOUT_ROOM - (size_t)n, ", at resolution %d", res);
 }
 
+void h3sql_about_overlap(char text[H3SQL_ABOUT_ROOM], const H3Index *cells, size_t count, bool has_places) {
+    size_t at, earlier;
+    text[0] = 0;
+    if (count == 0 || h3w_findOverlap(cells, count, &at, &earlier) || at == count) return;
+    if (has_places)
+        snprintf(text, H3SQL_ABOUT_ROOM, "cell %zu, %" PRIx64 ", overlaps cell %zu, %" PRIx64, at + 1, cells[at],
+                 earlier + 1, cells[earlier]);
+    else snprintf(text, H3SQL_ABOUT_ROOM, "%" PRIx64 " overlaps %" PRIx64, cells[at], cells[earlier]);
+}
+
 H3Error h3sql_read_table(H3wTable *table, const char *bytes, size_t count, char text[H3SQL_FAULT_ROOM]) {
     static const char *const formats[] = {
         "table: refused",
@@ -152,6 +162,93 @@ H3Error h3sql_prepare(h3sql_List *prepared, const h3sql_List *list, bool is_regi
 H3Error h3sql_zone_of(const h3sql_List *prepared, H3Index cell, H3Index *zone) {
     size_t at;
     return h3w_cellsToZones(cells_of(prepared), prepared->count, &cell, 1, zone, 1, &at);
+}
+
+/* Mixes a word into a hash: by odd constants, with the upper half folded into the lower one. */
+static uint64_t mixed(uint64_t hash, uint64_t word) {
+    hash = (hash ^ word) * UINT64_C(0x9e3779b97f4a7c15);
+    return hash ^ hash >> 32;
+}
+
+uint64_t h3sql_hash(const void *bytes, size_t size) {
+    const unsigned char *from = bytes;
+    uint64_t word = 0, hash = mixed(0, size);
+    size_t words = size / sizeof word, step = words / 64 + 1, i;
+    for (i = 0; i < words; i += step) {
+        memcpy(&word, from + i * sizeof word, sizeof word);
+        hash = mixed(hash, word);
+    }
+    /* the end, which no step may meet */
+    word = 0;
+    i = size < sizeof word ? size : sizeof word;
+    if (i > 0) memcpy(&word, from + size - i, i);
+    return mixed(hash, word);
+}
+
+h3sql_Kept *h3sql_chain(const h3sql_Cache *cache, uint64_t hash) {
+    return cache->chain_count ? cache->chains[hash % cache->chain_count] : NULL;
+}
+
+static void put_in(h3sql_Kept **chains, size_t chain_count, h3sql_Kept *kept) {
+    h3sql_Kept **chain = &chains[kept->hash % chain_count];
+    kept->next = *chain;
+    *chain = kept;
+}
+
+/* Moves what is kept into twice as many chains. */
+static H3Error spread(h3sql_Cache *cache, h3sql_Resize resize, void *engine) {
+    size_t chain_count = cache->chain_count, i;
+    h3sql_Kept *all = NULL, **chains;
+    size_t more = chain_count ? 2 * chain_count : 4;
+    if (more > SIZE_MAX / 2 / sizeof *chains) return E_MEMORY_ALLOC;
+    chains = resize(engine, cache->chains, more * sizeof *chains);
+    if (!chains) return E_MEMORY_ALLOC;
+    for (i = 0; i < chain_count; i++)
+        while (chains[i]) {
+            h3sql_Kept *kept = chains[i];
+            chains[i] = kept->next;
+            kept->next = all;
+            all = kept;
+        }
+    memset(chains, 0, more * sizeof *chains);
+    cache->chains = chains;
+    cache->chain_count = more;
+    while (all) {
+        h3sql_Kept *kept = all;
+        all = kept->next;
+        put_in(chains, more, kept);
+    }
+    return E_SUCCESS;
+}
+
+H3Error h3sql_keep(h3sql_Cache *cache, h3sql_Kept *kept, size_t cells, h3sql_Resize resize, void *engine) {
+    if (cache->count == cache->chain_count) {
+        H3Error error = spread(cache, resize, engine);
+        if (error) return error;
+    }
+    kept->weight = cells + H3SQL_KEPT_EXTRA;
+    put_in(cache->chains, cache->chain_count, kept);
+    cache->count++;
+    cache->weight += kept->weight;
+    return E_SUCCESS;
+}
+
+/* The place of the first one of a chain, other than `but`; that of a null where there is none. */
+static h3sql_Kept **other_than(h3sql_Kept **at, const h3sql_Kept *but) { return *at && *at == but ? &(*at)->next : at; }
+
+h3sql_Kept *h3sql_evict(h3sql_Cache *cache, size_t most, const h3sql_Kept *but) {
+    h3sql_Kept **at, *out;
+    size_t i;
+    if (cache->weight <= most || cache->count == (but != NULL)) return NULL;
+    cache->chance = cache->chance * UINT64_C(6364136223846793005) + UINT64_C(1442695040888963407);
+    i = (size_t)(cache->chance >> 33) % cache->chain_count;
+    for (at = other_than(&cache->chains[i], but); !*at; at = other_than(&cache->chains[i], but))
+        i = (i + 1) % cache->chain_count;
+    out = *at;
+    *at = out->next;
+    cache->count--;
+    cache->weight -= out->weight;
+    return out;
 }
 
 H3Error h3sql_ancestors(H3Index cell, H3Index out[H3SQL_ANCESTORS], size_t *count) {

@@ -21,6 +21,11 @@ void h3sql_error_text(H3Error error, char text[H3SQL_ERROR_ROOM]);
  * cells were asked for, or any where they were not. */
 void h3sql_about_list(char text[H3SQL_ABOUT_ROOM], H3Error error, const H3Index *cells, size_t count, int res);
 
+/* Writes which two cells of a list overlap, the first one that overlaps an earlier one, with their places from 1 on:
+ * "cell 3, 85283473fffffff, overlaps cell 1, 8428347ffffffff", or without, if the list is not the one that was given.
+ * An empty text, if none do or there is no memory for the search. */
+void h3sql_about_overlap(char text[H3SQL_ABOUT_ROOM], const H3Index *cells, size_t count, bool has_places);
+
 /* The room of a text that says why a table is refused, and the most bytes that its file may have. */
 #define H3SQL_FAULT_ROOM 40
 #define H3SQL_TABLE_MOST 1048576
@@ -73,6 +78,41 @@ H3Error h3sql_prepare(h3sql_List *prepared, const h3sql_List *list, bool is_regi
 /* Whether prepared cells cover a cell, and which of them does; H3_NULL where none does.
  * E_CELL_INVALID: the index is no cell's. */
 H3Error h3sql_zone_of(const h3sql_List *prepared, H3Index cell, H3Index *zone);
+
+/* Prepared arrays or texts that are kept, and found by a hash of what was given. An engine's own type
+ * begins with an h3sql_Kept. All bytes 0, the cache is empty. */
+typedef struct h3sql_Kept {
+    struct h3sql_Kept *next;
+    uint64_t hash;
+    /* what it takes of H3SQL_KEPT_CELLS */
+    size_t weight;
+} h3sql_Kept;
+
+typedef struct {
+    h3sql_Kept **chains;
+    size_t chain_count, count, weight;
+    uint64_t chance;
+} h3sql_Cache;
+
+/* The most cells that a cache keeps, beside the last ones that were put in, and how many one more array or
+ * text counts as, for what it takes beside its cells. */
+#define H3SQL_KEPT_CELLS (4 * 1024 * 1024)
+#define H3SQL_KEPT_EXTRA 16
+
+/* A hash of a length and at most 65 words of the bytes, so that it takes no longer for more bytes. */
+uint64_t h3sql_hash(const void *bytes, size_t size);
+
+/* The first of those that may have a hash; each has a `next`. NULL if there is none. */
+h3sql_Kept *h3sql_chain(const h3sql_Cache *cache, uint64_t hash);
+
+/* Puts `kept` in, whose hash is set, for an array or a text of so many cells. E_MEMORY_ALLOC: there is no
+ * memory; the cache stays as it is. */
+H3Error h3sql_keep(h3sql_Cache *cache, h3sql_Kept *kept, size_t cells, h3sql_Resize resize, void *engine);
+
+/* Takes one out while the cache keeps more than `most` cells, other than `but`; NULL if there is none to take
+ * out. Which one is chance: of arrays that a loop takes in turn a bit more than fit, most are found again,
+ * where the oldest would always be the next one that is asked for. */
+h3sql_Kept *h3sql_evict(h3sql_Cache *cache, size_t most, const h3sql_Kept *but);
 
 /* The most cells that are a cell or its ancestors. */
 #define H3SQL_ANCESTORS 16

@@ -4,17 +4,21 @@
 indexes in one call. Each answer comes from libh3whole, which is compiled from proved code; this package checks the
 types of what it is given, and hands it on."""
 
+# (the module `int` of this package takes the name)
+from builtins import int as _int
 from typing import Any, Iterable, List, Optional, SupportsIndex, overload
 
+from . import _fast
 from . import errors as _errors
 from . import int as _integers
+from ._arguments import indexes_of as _indexes_of
 from .errors import *  # noqa: F401,F403 (the exceptions are part of this module)
 from .errors import H3FailedError
 from .int import int_to_str, str_to_int
 from .regions import CellRegion, CellSet, CellZones, Counts
 from .table import Table, TableError, over_table, use_table
 
-__version__ = "1.2.0"
+__version__ = "1.3.0"
 __all__ = [
     *_errors.__all__,
     "Counts",
@@ -53,11 +57,11 @@ __all__ = [
 ]
 
 
-def _texts(indexes: Iterable[int]) -> List[str]:
+def _texts(indexes: Iterable[_int]) -> List[str]:
     return [int_to_str(index) for index in indexes]
 
 
-def _parsed(text: Any) -> Optional[int]:
+def _parsed(text: Any) -> Optional[_int]:
     """The index of a text, and None where it parses as none or is no text."""
     try:
         return str_to_int(text)
@@ -73,12 +77,12 @@ def is_valid_cell(cell: Any) -> bool:
     return _integers.is_valid_cell(_parsed(cell))
 
 
-def get_resolution(cell: str) -> int:
+def get_resolution(cell: str) -> _int:
     """The resolution of a cell, 0 to 15."""
     return _integers.get_resolution(str_to_int(cell))
 
 
-def get_base_cell_number(cell: str) -> int:
+def get_base_cell_number(cell: str) -> _int:
     """The base cell of a cell, 0 to 121."""
     return _integers.get_base_cell_number(str_to_int(cell))
 
@@ -96,7 +100,7 @@ def is_res_class_III(cell: str) -> bool:
 # ---- resolutions
 
 
-def get_num_cells(res: SupportsIndex) -> int:
+def get_num_cells(res: SupportsIndex) -> _int:
     """The number of cells of a resolution."""
     return _integers.get_num_cells(res)
 
@@ -126,7 +130,7 @@ def cell_to_center_child(cell: str, res: Optional[SupportsIndex] = None) -> str:
     return _integers._text_at_resolution(_integers._cell_to_center_child, cell, wanted)
 
 
-def cell_to_children_size(cell: str, res: Optional[SupportsIndex] = None) -> int:
+def cell_to_children_size(cell: str, res: Optional[SupportsIndex] = None) -> _int:
     """The number of descendants of a cell at a resolution, by default the next finer one."""
     return _integers.cell_to_children_size(str_to_int(cell), res)
 
@@ -136,7 +140,7 @@ def cell_to_children(cell: str, res: Optional[SupportsIndex] = None) -> List[str
     return _texts(_integers.cell_to_children(str_to_int(cell), res))
 
 
-def cell_to_child_pos(child: str, res_parent: SupportsIndex) -> int:
+def cell_to_child_pos(child: str, res_parent: SupportsIndex) -> _int:
     """The position of a cell, from 0 on, among the descendants of its ancestor at a resolution."""
     return _integers.cell_to_child_pos(str_to_int(child), res_parent)
 
@@ -270,13 +274,13 @@ def get_directed_edge_destination(table, edge):  # type: ignore[no-untyped-def]
 def compact_cells(cells: Iterable[str]) -> List[str]:
     """The texts of the least list of cells that covers what the given ones cover, ascending. H3DuplicateInputError
     where a cell is given twice, or together with an ancestor of it. They may have different resolutions."""
-    return _texts(_integers.compact_cells(map(str_to_int, cells)))
+    return _texts(_integers.compact_cells(_indexes_of(str_to_int, cells)))
 
 
 def uncompact_cells(cells: Iterable[str], res: SupportsIndex) -> List[str]:
     """The texts of the descendants at a resolution of the first cell, ascending, then those of the second, and so on.
     H3ResMismatchError where a cell is finer."""
-    return _texts(_integers.uncompact_cells(map(str_to_int, cells), res))
+    return _texts(_integers.uncompact_cells(_indexes_of(str_to_int, cells), res))
 
 
 class _Texts(CellSet[str]):
@@ -285,11 +289,11 @@ class _Texts(CellSet[str]):
     __slots__ = ()
 
     @staticmethod
-    def _index_of(cell: str) -> int:
+    def _index_of(cell: str) -> _int:
         return str_to_int(cell)
 
     @staticmethod
-    def _form_of(index: int) -> str:
+    def _form_of(index: _int) -> str:
         return int_to_str(index)
 
 
@@ -311,3 +315,6 @@ class Zones(_Texts, CellZones[str]):
     H3DuplicateInputError where two overlap."""
 
     __slots__ = ()
+
+
+_fast.replace(globals(), over_texts=True)

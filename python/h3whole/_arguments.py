@@ -1,12 +1,13 @@
 """Arguments of the library's functions, made of what programs have for them: integers of any kind, those of numpy
 too."""
 
+from array import array
 from operator import index as whole_number
-from typing import SupportsIndex
+from typing import Any, Callable, Iterable, SupportsIndex
 
-from .errors import H3CellInvalidError, H3DirEdgeInvalidError, H3FailedError
+from .errors import H3BaseException, H3CellInvalidError, H3DirEdgeInvalidError, H3FailedError
 
-__all__ = ["MOST", "as_cell", "as_edge", "as_int", "as_int64", "as_text", "whole_number"]
+__all__ = ["MOST", "as_cell", "as_edge", "as_int", "as_int64", "as_res", "as_text", "indexes_of", "whole_number"]
 
 # what an index is below
 MOST = 2**64
@@ -23,6 +24,14 @@ def as_int(number: SupportsIndex) -> int:
     except TypeError:
         raise _refuse(number) from None
     return given if -(2**31) <= given < 2**31 else -1
+
+
+def as_res(number: SupportsIndex) -> int:
+    """The same of a resolution, which is named where it is no number."""
+    try:
+        return as_int(number)
+    except TypeError as error:
+        raise TypeError(f"res: {error}") from None
 
 
 def as_int64(number: SupportsIndex) -> int:
@@ -67,3 +76,15 @@ def as_text(text: str) -> bytes:
     except AttributeError:
         hint = ": h3whole.int has the functions over integers" if hasattr(text, "__index__") else ""
         raise TypeError(f"an index is a text, and not {text!r}{hint}") from None
+
+
+def indexes_of(convert: Callable[[Any], int], cells: Iterable[Any]) -> "array[int]":
+    """The indexes of a list of cells, each by itself. An error of H3 names the place."""
+    if isinstance(cells, (str, bytes)):
+        raise TypeError(f"cells are wanted, and not one text: {cells!r}")
+    found = array("Q")
+    try:
+        found.extend(map(convert, cells))
+    except H3BaseException as error:
+        raise type(error)(f"{error} at place {len(found)}") from None
+    return found

@@ -7,6 +7,9 @@ index for one of pandas. Where the results are indexes, their type is that of th
 column of categories, that of the categories. Else they are integers of 32 or 64 bits, and of the tests True or False,
 which in an array and a memoryview are 1 or 0 in a byte.
 
+A list of texts or of integers gives a list, a column of texts, of numpy or pandas, one of texts and None, and an Index
+of pandas an Index. These are copied, and a text that parses as no index is an error before any other.
+
 Where an index is refused, an exception says which error it is, which index, and at which place, the first one's; with
 `missing=True` there is none, and what is refused has 0 in place of an index, -1 in place of a number, and False in
 place of a truth value. A value that pandas marks as missing (NA) is refused as the index 0 is. A number that is no
@@ -17,10 +20,14 @@ import sys
 from array import array
 from typing import Any, Callable, Iterable, List, Optional, SupportsIndex, Tuple, TypeVar
 
-from . import _library
-from ._arguments import as_cell, as_int
+from . import _fast, _library
+from ._arguments import as_cell, as_res, indexes_of
 from ._library import _array, _index, _resolution, _size
-from .errors import H3CellInvalidError, error_of
+from ._memory import numpy_room
+from ._memory import room as _room
+from ._memory import room_at
+from ._overlap import overlap_named
+from .errors import H3CellInvalidError, H3FailedError, error_of
 
 __all__ = [
     "are_pentagons",
@@ -92,19 +99,40 @@ def _memory_of(column: Any) -> Any:
     return column
 
 
+# of what is no integer: a float, whose lowest bits are gone, a truth value, a date
+# (not as Int64: with a gap, pandas 1.5 makes that of floats)
+_ROUNDED = ": read the column as text; a float has lost digits already"
+
+
+def _hint(column: Any) -> str:
+    """What helps where a column is refused. Nothing that makes other cells of those that were read."""
+    dtype = getattr(column, "dtype", None)
+    dtype = getattr(getattr(dtype, "categories", None), "dtype", dtype)
+    kind = getattr(dtype, "kind", "")
+    if kind in ("f", "c", "b", "M", "m") or _typecode_of(column) in ("e", "f", "d", "?"):
+        return _ROUNDED
+    if str(dtype) in ("int64", "uint64"):
+        return ": numpy.ascontiguousarray(column) puts them one after another"
+    if kind in ("O", "S", "U") or isinstance(column, (list, tuple)):
+        return ": h3whole.columns.str_to_int makes one of texts, and array('Q', column) of integers"
+    if kind in ("i", "u"):
+        return ": column.astype('uint64') makes one"
+    if isinstance(column, memoryview):
+        return ": memoryview(bytes(column)).cast('Q') is one, where the items are such integers"
+    return ""
+
+
+def _typecode_of(column: Any) -> str:
+    """The type of the items of an array or a memoryview."""
+    if isinstance(column, array):
+        return column.typecode
+    return column.format.lstrip("@=<>!") if isinstance(column, memoryview) else ""
+
+
 def _refuse(column: Any) -> TypeError:
-    kind = getattr(column, "dtype", None)
-    found = type(column).__name__ if kind is None else f"{type(column).__name__} of {kind}"
-    hint = ""
-    if str(kind) in ("int64", "uint64"):
-        hint = ": numpy.ascontiguousarray(column) puts them one after another"
-    elif getattr(kind, "kind", "") in ("O", "S", "U") or isinstance(column, (list, tuple)):
-        hint = ": h3whole.columns.str_to_int makes one of texts, and array('Q', column) of integers"
-    elif kind is not None:
-        hint = ": column.astype('uint64') makes one"
-    elif isinstance(column, memoryview):
-        hint = ": memoryview(bytes(column)).cast('Q') is one, where the items are such integers"
-    return TypeError(f"a column is of 64-bit integers, one after another in memory, and not a {found}{hint}")
+    dtype = getattr(column, "dtype", None)
+    found = type(column).__name__ if dtype is None else f"{type(column).__name__} of {dtype}"
+    return TypeError(f"a column is of 64-bit integers, one after another in memory, and not a {found}{_hint(column)}")
 
 
 class _Memory:
@@ -143,13 +171,16 @@ class _Memory:
 
 _INDEXES = ""
 
+# of a function that takes no resolution
+_NONE: Any = object()
+
 
 def _room_for(column: Any, given: _Memory, typecode: str, count: int) -> Tuple[Any, int]:
     """Room for so many results of a column, and its address. Indexes have the type of those that were given."""
     if _is_series(column) or _is_numpy(column):
-        items = sys.modules["numpy"].empty(count, dtype=typecode or given.dtype)
+        items = numpy_room(count, typecode or given.dtype)
         return items, items.ctypes.data
-    numbers = array(typecode or given.typecode, [0]) * count
+    numbers = _room(typecode or given.typecode, count)
     return numbers, numbers.buffer_info()[0]
 
 
@@ -157,6 +188,16 @@ def _dtype_for(column: Any) -> Any:
     """The type of a column of pandas in which indexes have the place of its own; None where that is theirs: of
     categories, since theirs need be none of the column's."""
     return None if _is_of(column.dtype, "pandas", "CategoricalDtype") else column.dtype
+
+
+# of each byte whether it is 1
+_IS_ONE = bytes(byte == 1 for byte in range(256))
+
+
+def _truths_of(items: "array[int]") -> "array[int]":
+    """Whether each item is 1, in a byte: of 1, 0 and -1 the lowest byte tells."""
+    lowest = items.tobytes()[0 if sys.byteorder == "little" else items.itemsize - 1 :: items.itemsize]
+    return array("b", lowest.translate(_IS_ONE))
 
 
 def _as_kind_of(column: Any, given: _Memory, items: Any, typecode: str, is_truth: bool) -> Any:
@@ -167,7 +208,7 @@ def _as_kind_of(column: Any, given: _Memory, items: Any, typecode: str, is_truth
     if _is_numpy(column):
         return (items > 0 if is_truth else items).reshape(given.shape)
     if is_truth:
-        items = array("b", [item > 0 for item in items])
+        items = _truths_of(items)
     if not isinstance(column, memoryview):
         return items
     if len(given.shape) == 1:
@@ -175,17 +216,17 @@ def _as_kind_of(column: Any, given: _Memory, items: Any, typecode: str, is_truth
     return memoryview(items).cast("B").cast(items.typecode, list(given.shape))
 
 
-def _fill(
+def _fill_memory(
     function: Callable[..., int],
     column: Any,
     typecode: str,
     missing: bool,
     *,
-    res: Optional[SupportsIndex] = None,
+    res: SupportsIndex = _NONE,
     is_truth: bool = False,
 ) -> Any:
-    """What a function for columns writes."""
-    resolution = () if res is None else (as_int(res),)
+    """What a function for columns writes for one of integers."""
+    resolution = () if res is _NONE else (as_res(res),)
     with _Memory(column) as given:
         place = _size(0)
         room, address = _room_for(column, given, typecode, given.count)
@@ -197,6 +238,92 @@ def _fill(
         if number and not missing:
             raise error_of(number, given.named(place.value) + (f", at resolution {res}" if number in (4, 12) else ""))
     return _as_kind_of(column, given, room, typecode, is_truth)
+
+
+def _fill(function: Callable[..., int], column: Any, typecode: str, missing: bool, **how: Any) -> Any:
+    """What a function for columns writes."""
+    if not _is_listed(column):
+        return _fill_memory(function, column, typecode, missing, **how)
+    # (a number that is no resolution is an error before any text)
+    _fill_memory(function, array("Q"), typecode, missing, **how)
+    numbers, integers = _numbers_of(column, missing)
+    found = _fill_memory(function, numbers, typecode, missing, **how)
+    return _as_list_of(column, found, integers, typecode == _INDEXES, missing)
+
+
+# ---- lists, and columns of texts
+
+
+def _is_pandas_index(column: Any) -> bool:
+    return _is_of(column, "pandas", "Index")
+
+
+def _is_listed(column: Any) -> bool:
+    """Whether a column is a list, one of texts, or an Index of pandas."""
+    if isinstance(column, (list, tuple)) or _is_pandas_index(column):
+        return True
+    dtype = getattr(column, "dtype", None)
+    dtype = getattr(getattr(dtype, "categories", None), "dtype", dtype)
+    return (_is_numpy(column) or _is_series(column)) and getattr(dtype, "kind", "") in ("O", "S", "U")
+
+
+def _numbers_of(column: Any, missing: bool) -> Tuple[Any, "array[int]"]:
+    """The indexes of a column of texts or of a list, and the places of integers in it, which a list alone has."""
+    integers = array("q")
+    if _is_pandas_index(column):
+        series = column.to_series()
+        return (_to_int(series, missing) if _is_listed(series) else series), integers
+    if isinstance(column, (list, tuple)):
+        return _to_int(column, missing, integers), integers
+    try:
+        numbers = _to_int(column, missing, integers)
+    except H3FailedError:
+        if not any(hasattr(item, "__index__") for item in _objects_in(column)):
+            raise
+        raise _refuse(column) from None
+    if integers:
+        raise _refuse(column)
+    return numbers, integers
+
+
+def _objects_in(column: Any) -> Any:
+    return _items_of(column) if _is_series(column) else column.ravel()
+
+
+def _as_list_of(column: Any, found: Any, integers: "array[int]", are_indexes: bool, missing: bool) -> Any:
+    """Results as a list, a column of texts or an Index, as another is one. Indexes have the form of what was given."""
+    if _is_pandas_index(column):
+        given = column.to_series()
+        of_texts = are_indexes and _is_listed(given)
+        items = (_objects_of(given, found, integers) if of_texts else found).to_numpy()
+        return sys.modules["pandas"].Index(items, name=column.name)
+    if not isinstance(column, (list, tuple)):
+        return _objects_of(column, found, integers) if are_indexes else found
+    if not are_indexes:
+        return list(map(bool, found)) if found.typecode == "b" else found.tolist()
+    texts: List[Any] = int_to_str(found)
+    if missing:
+        texts = [text if number else None for text, number in zip(texts, found)]
+    for place in integers:
+        texts[place] = found[place]
+    return texts
+
+
+def _objects_of(column: Any, indexes: Any, integers: "array[int]") -> Any:
+    """Indexes as a column of objects of the same kind: integers at the places of integers, else texts, and None in
+    place of 0."""
+    numpy = sys.modules["numpy"]
+    numbers = numpy.ascontiguousarray(indexes.to_numpy() if _is_series(indexes) else indexes.ravel())
+    found = numpy.empty(len(numbers), dtype=object)
+    with _Memory(numbers) as given:
+        found[:] = _write(given)
+    if integers:
+        places = numpy.array(integers, dtype="int64")
+        found[places] = numbers[places].astype(object)
+    found[numbers == 0] = None
+    if _is_series(column):
+        return type(column)(found, index=column.index, name=column.name, dtype=object)
+    return found.reshape(indexes.shape)
 
 
 def _function(name: str, *more: Any) -> Callable[..., int]:
@@ -286,19 +413,49 @@ def _alone(column: Any, items: Any) -> Any:
 
 
 def _first_of_no_cell(given: _Memory) -> str:
-    found, place = array("i", [0]) * given.count, _size()
-    _are_valid_cells(given.address, given.count, found.buffer_info()[0], given.count, ctypes.byref(place))
+    (found, address), place = room_at("i", given.count), _size()
+    _are_valid_cells(given.address, given.count, address, given.count, ctypes.byref(place))
     return given.named(found.index(0))
+
+
+def _refused_cell(number: int, given: _Memory) -> str:
+    """What an error of a list of cells is about."""
+    if number == 5:
+        return _first_of_no_cell(given)
+    if number != 10:
+        return f"among {given.count} cells"
+    cells = _room("Q", given.count)
+    ctypes.memmove(cells.buffer_info()[0], given.address, 8 * given.count)
+    return overlap_named(cells)
+
+
+def _set_of_list(column: Any, function: Callable[[Any], Any]) -> Any:
+    """The cells that a function of a column finds for a list, a column of texts or an Index, in their form: texts, or
+    integers, where all that is given are integers."""
+    numbers, integers = _numbers_of(column, False)
+    if integers and len(integers) < len(numbers):
+        raise TypeError("a list is of texts or of integers, and not of both")
+    found = function(numbers)
+    if _is_pandas_index(column):
+        items = found.to_numpy() if not _is_listed(column.to_series()) else int_to_str(found).to_numpy()
+        return sys.modules["pandas"].Index(items, name=column.name)
+    if isinstance(column, (list, tuple)):
+        return found.tolist() if integers else int_to_str(found)
+    if _is_numpy(column):
+        return int_to_str(found).astype(object)
+    return int_to_str(found)
 
 
 def compact_cells(column: _Column) -> _Column:
     """The least list of cells that covers what those of a column cover, ascending, as a column."""
+    if _is_listed(column):
+        return _set_of_list(column, compact_cells)  # type: ignore[no-any-return]
     with _Memory(column) as given:
         room, address = _room_for(column, given, _INDEXES, max(given.count, 1))
         found = _size()
         number = _compact_cells(given.address, given.count, address, given.count, ctypes.byref(found))
         if number:
-            raise error_of(number, _first_of_no_cell(given) if number == 5 else f"among {given.count} cells")
+            raise error_of(number, _refused_cell(number, given))
     # (a copy, so that the room of those that merged is given back)
     kept = room[: found.value]
     return _alone(column, kept.copy() if hasattr(kept, "copy") else kept)  # type: ignore[no-any-return]
@@ -307,17 +464,18 @@ def compact_cells(column: _Column) -> _Column:
 def uncompact_cells(column: _Column, res: SupportsIndex) -> _Column:
     """The descendants at a resolution of the cells of a column, in their order, as a column. A number that is no
     resolution is refused before any cell."""
+    wanted = as_res(res)
+    if _is_listed(column):
+        uncompact_cells(array("Q"), res)
+        return _set_of_list(column, lambda cells: uncompact_cells(cells, res))  # type: ignore[no-any-return]
     with _Memory(column) as given:
-        sizes, place = array("q", [0]) * max(given.count, 1), _size()
-        address = sizes.buffer_info()[0]
-        number = _cells_to_children_sizes(
-            given.address, given.count, as_int(res), address, given.count, ctypes.byref(place)
-        )
-        if number == 4 and not 0 <= as_int(res) <= 15:
+        (sizes, address), place = room_at("q", given.count), _size()
+        number = _cells_to_children_sizes(given.address, given.count, wanted, address, given.count, ctypes.byref(place))
+        if number == 4 and not 0 <= wanted <= 15:
             raise error_of(number, f"resolution {res}")
         count = _sum(sizes) if not number else 0
         room, address = _room_for(column, given, _INDEXES, max(count, 1))
-        number = _uncompact_cells(given.address, given.count, address, count, as_int(res))
+        number = _uncompact_cells(given.address, given.count, address, count, wanted)
         if number:
             about = _first_of_no_cell(given) if number == 5 else f"{given.named(place.value)}, at resolution {res}"
             raise error_of(number, about)
@@ -339,23 +497,36 @@ def _sum(sizes: Any) -> int:
 
 def _parse(texts: Iterable[Any], missing: bool, integers: "Optional[array[int]]" = None) -> "array[int]":
     """The indexes of texts; with room for the places of integers, those of integers too."""
-    found = array("Q")
-    out = _index()
-    at = ctypes.byref(out)
-    for text in texts:
-        try:
-            given = text if isinstance(text, bytes) else text.encode("ascii")
-        except (AttributeError, UnicodeEncodeError):
-            number = 1
-            if integers is not None and hasattr(text, "__index__"):
-                number, out.value = _whole(text)
-                integers.append(len(found))
-        else:
-            number = _string_to_h3(given, len(given), at)
+    items = texts if isinstance(texts, list) else list(texts)
+    found, address = _room("Q", len(items)), 0
+    native, place = _fast.native, 0
+    if items:
+        address = found.buffer_info()[0]
+    while place < len(items):
+        if native is not None:
+            place = native.read_texts(items, place, address)
+            if place == len(items):
+                break
+        number, index = _parse_one(items[place], place, integers)
         if number and not missing:
-            raise error_of(number, f"{text!r} at place {len(found)}")
-        found.append(0 if number else out.value)
+            raise error_of(number, f"{items[place]!r} at place {place}")
+        found[place] = 0 if number else index
+        place += 1
     return found
+
+
+def _parse_one(text: Any, place: int, integers: "Optional[array[int]]") -> Tuple[int, int]:
+    """The error of an item, and its index."""
+    try:
+        given = text if isinstance(text, bytes) else text.encode("ascii")
+    except (AttributeError, UnicodeEncodeError):
+        if integers is None or not hasattr(text, "__index__"):
+            return 1, 0
+        integers.append(place)
+        return _whole(text)
+    out = _index()
+    number = _string_to_h3(given, len(given), ctypes.byref(out))
+    return number, out.value
 
 
 def _whole(number: Any) -> Tuple[int, int]:
@@ -371,7 +542,7 @@ def _whole(number: Any) -> Tuple[int, int]:
 def _items_of(column: Any) -> Any:
     """The items of a column of pandas."""
     if not _is_of(column.dtype, "pandas", "CategoricalDtype"):
-        return column
+        return column.to_numpy(dtype=object)
     # (where one is missing, pandas makes floats of categories that are integers)
     categories = column.cat.categories.to_numpy(dtype=object)
     return sys.modules["numpy"].append(categories, [float("nan")])[column.cat.codes]
@@ -381,7 +552,7 @@ def _to_int(column: Any, missing: bool, integers: "Optional[array[int]]" = None)
     """The indexes of a column of texts; with room for the places of integers, those of a column of objects, texts and
     integers."""
     if _is_series(column):
-        numbers = _parse(_items_of(column), missing, integers)
+        numbers = _parse(_items_of(column).tolist(), missing, integers)
         found = sys.modules["numpy"].frombuffer(numbers or b"", dtype="uint64")
         return type(column)(found.copy(), index=column.index, name=column.name)
     if _is_numpy(column):
@@ -403,6 +574,9 @@ def str_to_int(column: Any, *, missing: bool = False) -> Any:
 
 def _write(given: _Memory) -> List[str]:
     """The texts of indexes."""
+    if _fast.native is not None:
+        listed: List[str] = _fast.native.write_texts(given.address, given.count)
+        return listed
     found = []
     room = (ctypes.c_char * 17)()
     for index in (_index * given.count).from_address(given.address):
@@ -415,7 +589,11 @@ def _write(given: _Memory) -> List[str]:
 
 def int_to_str(column: Any) -> Any:
     """The texts of a column of indexes, each as `h3whole.int_to_str` writes it: a list for an array or a memoryview, a
-    numpy array of the same shape for a numpy array, and a Series for a Series."""
+    numpy array of the same shape for a numpy array, and a Series for a Series. It takes a list of integers, too."""
+    if isinstance(column, (list, tuple)):
+        column = indexes_of(as_cell, column)
+    if _is_pandas_index(column):
+        return sys.modules["pandas"].Index(int_to_str(column.to_series()).to_numpy(), name=column.name)
     with _Memory(column) as given:
         texts = _write(given)
     if _is_series(column):

@@ -45,7 +45,9 @@ class UnknownH3ErrorCode(H3BaseException):
     """A number that H3's table does not have."""
 
 
-class H3FailedError(H3GridNavigationError):
+class H3FailedError(H3GridNavigationError, ValueError):
+    """A text parses as no index, or a table was refused. h3-py has it among the errors of the grid."""
+
     number, name = 1, "E_FAILED"
 
 

@@ -7,10 +7,14 @@ import ctypes
 from array import array
 from typing import Any, Callable, Iterable, List, Optional, SupportsIndex, Tuple, overload
 
-from . import _library
-from ._arguments import MOST, as_cell, as_edge, as_int, as_int64, as_text, whole_number
+from . import _fast, _library
+from ._arguments import MOST, as_cell, as_edge, as_int, as_int64, as_text, indexes_of, whole_number
 from ._library import _array, _index, _number, _resolution, _size, _table, _truth
-from .errors import H3BaseException, H3MemoryAllocError, error_at, error_of
+from ._memory import or_refused
+from ._memory import room as _room
+from ._memory import room_at
+from ._overlap import overlap_named
+from .errors import H3BaseException, error_at, error_of
 from .regions import CellRegion, CellSet, CellZones
 from .table import Table, over_table
 
@@ -83,13 +87,17 @@ _get_directed_edge_destination = _library.number("getDirectedEdgeDestination", _
 
 def _indexes(count: int) -> Tuple["array[int]", int]:
     """Room for so many indexes, at least one, and its address."""
-    room = array("Q", [0]) * max(count, 1)
-    return room, room.buffer_info()[0]
+    return room_at("Q", count)
+
+
+def _listed(indexes: "array[int]") -> List[int]:
+    listed: List[int] = or_refused(lambda: list(indexes), len(indexes))
+    return listed
 
 
 def _column(cells: Iterable[SupportsIndex]) -> Tuple["array[int]", int, int]:
     """Indexes one after another in memory, their address and their number."""
-    column = array("Q", [as_cell(cell) for cell in cells])
+    column = indexes_of(as_cell, cells)
     count = len(column)
     if not count:
         column.append(0)
@@ -198,7 +206,7 @@ def get_res0_cells() -> List[int]:
     """The 122 cells of resolution 0, ascending."""
     room, at = _indexes(122)
     _get_res0_cells(at, 122)
-    return list(room)
+    return _listed(room)
 
 
 def get_pentagons(res: SupportsIndex) -> List[int]:
@@ -207,7 +215,7 @@ def get_pentagons(res: SupportsIndex) -> List[int]:
     number = _get_pentagons(as_int(res), at, 12)
     if number:
         raise error_of(number, f"resolution {res}")
-    return list(room)
+    return _listed(room)
 
 
 # ---- the hierarchy
@@ -261,7 +269,7 @@ def cell_to_children(cell: SupportsIndex, res: Optional[SupportsIndex] = None) -
     count = cell_to_children_size(cell, wanted)
     room, at = _indexes(count)
     _cell_to_children(as_cell(cell), as_int(wanted), at, count)
-    return list(room)
+    return _listed(room)
 
 
 def cell_to_child_pos(child: SupportsIndex, res_parent: SupportsIndex) -> int:
@@ -335,10 +343,7 @@ def _walk_room(
     number = walk(over, cell, as_int(k), at, 1)
     if number != 14:
         _check_walk(number, cell, k)
-    try:
-        return _indexes(count)
-    except (MemoryError, OverflowError):
-        raise H3MemoryAllocError(f"error 13: E_MEMORY_ALLOC: {count} cells") from None
+    return _indexes(count)
 
 
 def _disk_len(k: int) -> int:
@@ -362,7 +367,7 @@ def grid_disk_unsafe(table, origin, k):  # type: ignore[no-untyped-def]
     over, cell, radius = _over(table), as_cell(origin), as_int(k)
     room, at = _walk_room(_grid_disk_unsafe, over, cell, k, _disk_len(radius))
     _check_walk(_grid_disk_unsafe(over, cell, radius, at, len(room)), cell, k)
-    return list(room)
+    return _listed(room)
 
 
 @overload
@@ -380,10 +385,7 @@ def grid_disk_distances_unsafe(table, origin, k):  # type: ignore[no-untyped-def
     """The same as `grid_disk_unsafe`, ring by ring: a list for each of 0 to k steps."""
     over, cell, radius = _over(table), as_cell(origin), as_int(k)
     room, at = _walk_room(_grid_disk_unsafe, over, cell, k, _disk_len(radius))
-    try:
-        rings = array("i", [0]) * len(room)
-    except MemoryError:
-        raise H3MemoryAllocError(f"error 13: E_MEMORY_ALLOC: {len(room)} rings") from None
+    rings = _room("i", len(room))
     number = _grid_disk_distances_unsafe(over, cell, radius, at, len(room), rings.buffer_info()[0], len(rings))
     _check_walk(number, cell, k)
     found: List[List[int]] = [[] for _ in range(radius + 1)]
@@ -408,7 +410,7 @@ def grid_ring_unsafe(table, origin, k):  # type: ignore[no-untyped-def]
     over, cell, radius = _over(table), as_cell(origin), as_int(k)
     room, at = _walk_room(_grid_ring_unsafe, over, cell, k, 6 * radius)
     _check_walk(_grid_ring_unsafe(over, cell, radius, at, len(room)), cell, k)
-    return list(room)
+    return _listed(room)
 
 
 def _check_pair(number: int, origin: int, destination: int) -> None:
@@ -482,10 +484,17 @@ def get_directed_edge_destination(table, edge):  # type: ignore[no-untyped-def]
 
 def _first_of_no_cell(column: "array[int]", at: int, count: int) -> str:
     """The first index that is no cell's, and its place."""
-    found, place = array("i", [0]) * count, _size()
+    found, place = _room("i", count), _size()
     _are_valid_cells(at, count, found.buffer_info()[0], count, ctypes.byref(place))
     first = found.index(0)
     return f"{column[first]:x} at place {first}"
+
+
+def _refused_cell(number: int, column: "array[int]", at: int, count: int) -> str:
+    """What an error of a list of cells is about."""
+    if number == 5:
+        return _first_of_no_cell(column, at, count)
+    return overlap_named(column) if number == 10 else f"among {count} cells"
 
 
 def compact_cells(cells: Iterable[SupportsIndex]) -> List[int]:
@@ -496,8 +505,8 @@ def compact_cells(cells: Iterable[SupportsIndex]) -> List[int]:
     found = _size()
     number = _compact_cells(at, count, out, count, ctypes.byref(found))
     if number:
-        raise error_of(number, _first_of_no_cell(given, at, count) if number == 5 else f"among {count} cells")
-    return list(room[: found.value])
+        raise error_of(number, _refused_cell(number, given, at, count))
+    return _listed(room[: found.value])
 
 
 def uncompact_cells(cells: Iterable[SupportsIndex], res: SupportsIndex) -> List[int]:
@@ -513,7 +522,7 @@ def uncompact_cells(cells: Iterable[SupportsIndex], res: SupportsIndex) -> List[
         raise error_of(number, f"{given[place]:x} at place {place}, at resolution {res}")
     if number:
         raise error_of(number, _first_of_no_cell(given, at, count) if number == 5 else f"resolution {res}")
-    return list(room[:size])
+    return _listed(room[:size])
 
 
 def _size_at(cell: int, res: int) -> int:
@@ -553,3 +562,6 @@ class Zones(_Numbers, CellZones[int]):
     H3CellInvalidError where an index is no cell's; H3DuplicateInputError where two overlap."""
 
     __slots__ = ()
+
+
+_fast.replace(globals(), over_texts=False)

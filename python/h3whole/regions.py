@@ -9,16 +9,35 @@ import ctypes
 import sys
 from array import array
 from itertools import compress
-from typing import Any, Callable, Dict, Generic, Iterator, List, Mapping, Optional, Tuple, TypeVar
+from typing import (
+    Any,
+    Callable,
+    Dict,
+    Generic,
+    Iterable,
+    Iterator,
+    List,
+    Mapping,
+    Optional,
+    Tuple,
+    Type,
+    TypeVar,
+    Union,
+)
 
 from . import _library, columns
+from ._arguments import indexes_of
 from ._library import _array, _number, _size
+from ._memory import room as _room
 from .errors import H3BaseException, error_of
 
 __all__ = ["CellRegion", "CellSet", "CellZones", "Counts"]
 
 _Cell = TypeVar("_Cell", str, int)
 _Region = TypeVar("_Region", bound="CellRegion[Any]")
+
+# cells of one form, or a column of integers, or another set of cells
+_Cells = Union[Iterable[_Cell], "array[int]", memoryview, "CellSet[Any]"]
 
 _of_two_lists = (_array, _size, _array, _size, _array, _size, ctypes.POINTER(_size))
 _over_zones = (_array, _size, _array, _size, _array, _size, ctypes.POINTER(_size))
@@ -41,10 +60,6 @@ _Lookup = Tuple[Callable[..., int], Callable[..., int]]
 
 # (the library wants an address for no cells too)
 _NOWHERE = array("Q", [0])
-
-
-def _room(typecode: str, count: int) -> "array[int]":
-    return array(typecode, bytes(8)) * count
 
 
 def _at(items: "array[int]") -> Tuple[int, int]:
@@ -92,7 +107,7 @@ def _united(cells: Any) -> "array[int]":
     with columns._Memory(cells) as given:
         number, found = _fitted(_unite_cells, (given.address, given.count), given.count)
         if number:
-            raise error_of(number, columns._first_of_no_cell(given) if number == 5 else f"among {given.count} cells")
+            raise error_of(number, columns._refused_cell(number, given))
     return found
 
 
@@ -102,7 +117,7 @@ def _prepared(cells: Any) -> "array[int]":
         out = _room("Q", given.count)
         number = _zones(given.address, given.count, *_at(out))
         if number:
-            raise error_of(number, columns._first_of_no_cell(given) if number == 5 else f"among {given.count} cells")
+            raise error_of(number, columns._refused_cell(number, given))
     return out
 
 
@@ -155,10 +170,8 @@ class CellSet(Generic[_Cell]):
         """Cells of any kind as a column of integers; one that is such a column stays."""
         if isinstance(cells, CellSet):
             return cells._ascending()
-        if isinstance(cells, (str, bytes)):
-            raise TypeError(f"cells are wanted, and not one text: {cells!r}")
         if not _is_column(cells):
-            return array("Q", map(cls._index_of, cells))
+            return indexes_of(cls._index_of, cells)
         return columns._to_int(cells, False, array("q")) if _is_of_objects(cells) else cells
 
     @classmethod
@@ -193,7 +206,7 @@ class CellSet(Generic[_Cell]):
         def over_zones(*given: Any) -> int:
             return _look_up(functions, zones, *given)
 
-        return columns._fill(over_zones, numbers, typecode, missing, is_truth=is_truth)
+        return columns._fill_memory(over_zones, numbers, typecode, missing, is_truth=is_truth)
 
 
 class CellRegion(CellSet[_Cell]):
@@ -207,7 +220,7 @@ class CellRegion(CellSet[_Cell]):
 
     _cells: "array[int]"
 
-    def __init__(self, cells: Any = ()) -> None:
+    def __init__(self, cells: _Cells[_Cell] = ()) -> None:
         self._order = None
         self._cells = cells._cells if isinstance(cells, CellRegion) else _united(self._column_of(cells))
 
@@ -256,16 +269,66 @@ class CellRegion(CellSet[_Cell]):
     def __gt__(self, other: "CellRegion[Any]") -> bool:
         return NotImplemented if not isinstance(other, CellRegion) else other < self
 
+    def __xor__(self: _Region, other: "CellRegion[Any]") -> _Region:
+        if not isinstance(other, CellRegion):
+            return NotImplemented
+        return (self - other) | (other - self)
+
+    def union(self: _Region, *others: _Cells[_Cell]) -> _Region:
+        """What this region or any of others covers. Each is a region, or cells of any kind."""
+        found = self
+        for other in map(self._as_region, others):
+            found = found | other
+        return found
+
+    def intersection(self: _Region, *others: _Cells[_Cell]) -> _Region:
+        """What this region and all others cover. Each is a region, or cells of any kind."""
+        found = self
+        for other in map(self._as_region, others):
+            found = found & other
+        return found
+
+    def difference(self: _Region, *others: _Cells[_Cell]) -> _Region:
+        """What this region covers and no other does. Each is a region, or cells of any kind."""
+        found = self
+        for other in map(self._as_region, others):
+            found = found - other
+        return found
+
+    def symmetric_difference(self: _Region, other: _Cells[_Cell]) -> _Region:
+        """What one of the two covers and the other does not. The other is a region, or cells of any kind."""
+        return self ^ self._as_region(other)
+
+    def issubset(self, other: _Cells[_Cell]) -> bool:
+        """Whether the other, a region or cells of any kind, covers all that this one does."""
+        return self <= self._as_region(other)
+
+    def issuperset(self, other: _Cells[_Cell]) -> bool:
+        """Whether this region covers all that the other, a region or cells of any kind, does."""
+        return self >= self._as_region(other)
+
+    def isdisjoint(self, other: _Cells[_Cell]) -> bool:
+        """Whether nothing is covered by both."""
+        return not self & self._as_region(other)
+
+    @classmethod
+    def _as_region(cls: Type[_Region], other: Any) -> _Region:
+        return other if isinstance(other, CellRegion) else cls(other)  # type: ignore[return-value]
+
+    def column(self) -> "array[int]":
+        """The cells, ascending, as a column of integers: a copy."""
+        return self._cells[:]
+
     def __contains__(self, cell: _Cell) -> bool:
         """Whether the region covers a cell. H3CellInvalidError where it is none, H3FailedError where it is a text that
         parses as no index."""
         return bool(self.covers(array("Q", [self._index_of(cell)]))[0])
 
-    def covers(self, cells: Any, *, missing: bool = False) -> Any:
+    def covers(self, cells: _Cells[_Cell], *, missing: bool = False) -> Any:
         """Whether the region covers each cell of a column: a column of the same kind, or a list of truth values for any
         other cells. With `missing=True` what is no cell is False."""
         found = self._fill(_are_covered_cells, self._numbers_of(cells, missing), "i", missing, True)
-        return found if _is_column(cells) else [item == 1 for item in found]
+        return found if _is_column(cells) else list(map(bool, found))
 
 
 class CellZones(CellSet[_Cell]):
@@ -278,7 +341,7 @@ class CellZones(CellSet[_Cell]):
 
     _sorted: "Optional[array[int]]"
 
-    def __init__(self, cells: Any = ()) -> None:
+    def __init__(self, cells: _Cells[_Cell] = ()) -> None:
         self._order = _prepared(self._column_of(cells))
         self._sorted = None
 
@@ -308,7 +371,7 @@ class CellZones(CellSet[_Cell]):
     def _form_or_none(self, zone: int) -> Optional[_Cell]:
         return self._form_of(zone) if zone else None
 
-    def of(self, cells: Any, *, missing: bool = False) -> Any:
+    def of(self, cells: _Cells[_Cell], *, missing: bool = False) -> Any:
         """The zone in which each cell of a column lies: a column of the same kind, with 0 where it lies in none. Of a
         column of texts, of numpy or pandas, it is one of texts and None, of one of objects it has a text for a text,
         an integer for an integer, and None, and of any other cells it is a list of zones and None. With `missing=True`
@@ -318,9 +381,9 @@ class CellZones(CellSet[_Cell]):
         found = self._fill(_cells_to_zones, numbers, columns._INDEXES, missing, False)
         if not _is_column(cells):
             return [self._form_or_none(zone) for zone in found]
-        return _objects_of(cells, found, integers) if _is_of_objects(cells) else found
+        return columns._objects_of(cells, found, integers) if _is_of_objects(cells) else found
 
-    def count(self, cells: Any, *, missing: bool = False) -> "Counts[_Cell]":
+    def count(self, cells: _Cells[_Cell], *, missing: bool = False) -> "Counts[_Cell]":
         """How many cells of a column, or of any other cells, lie in each zone, and in none. With `missing=True` what
         is no cell is counted by itself."""
         return self._count(self._numbers_of(cells, missing), missing)
@@ -348,21 +411,6 @@ def _cells_among(given: Any) -> Any:
     if numpy is not None:
         return numpy.frombuffer(numbers, dtype="uint64")[numpy.frombuffer(are_cells, dtype="int8") > 0]
     return array("Q", compress(numbers, are_cells))
-
-
-def _objects_of(column: Any, zones: Any, integers: "array[int]") -> Any:
-    """Zones as a column of objects of the same kind: integers at the places of integers, else texts, and None in place
-    of 0."""
-    numpy = sys.modules["numpy"]
-    numbers = zones.to_numpy() if columns._is_series(zones) else zones.ravel()
-    are_texts = numbers > 0
-    are_texts[numpy.array(integers, dtype="int64")] = False
-    found = numbers.astype(object)
-    found[are_texts] = columns.int_to_str(numbers[are_texts])
-    found[numbers == 0] = None
-    if columns._is_series(column):
-        return type(column)(found, index=column.index, name=column.name, dtype=object)
-    return found.reshape(zones.shape)
 
 
 class Counts(Mapping[_Cell, int]):

@@ -42,6 +42,11 @@ def compacted(finest):
     return sorted(map(number_of, kept))
 
 
+def overlap(first, second):
+    """Whether one of two cells is the other or an ancestor of it."""
+    return first[0] == second[0] and all(a == b for a, b in zip(first[1], second[1]))
+
+
 def zone_of(zones, cell):
     """The one of the cells that is a cell or an ancestor of it, or None."""
     base, digits = cell

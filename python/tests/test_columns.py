@@ -103,7 +103,7 @@ class Kinds(unittest.TestCase):
             self.assertIsInstance(columns.cells_to_parents(column, 0), array)
         self.assertEqual(columns.cells_to_parents(array("Q"), 15), array("Q"))
         self.assertEqual(columns.compact_cells(array("Q")), array("Q"))
-        for column in (array("I", [1]), array("d", [1.0]), b"12345678", [1], "text"):
+        for column in (array("I", [1]), array("d", [1.0]), b"12345678", "text", None, 5, {1}):
             self.assertRaises(TypeError, columns.get_resolutions, column)
 
     def test_memoryviews(self):
@@ -137,7 +137,7 @@ class Kinds(unittest.TestCase):
         kinds = [lambda items: numpy.array(items, dtype=object)]
         if pandas is not None:
             kinds.append(lambda items: pandas.Series(items, dtype=object))
-        for items in ([0x85283473FFFFFFF], [0x85283473FFFFFFF, None], [None], ["85283473fffffff"]):
+        for items in ([0x85283473FFFFFFF], [0x85283473FFFFFFF, None], [None, "85283473fffffff", 5]):
             for column in (kind(items) for kind in kinds):
                 for function, _, more, _ in FUNCTIONS:
                     self.assertRaises(TypeError, function, column, *more)
@@ -145,6 +145,74 @@ class Kinds(unittest.TestCase):
                 for function in others:
                     self.assertRaises(TypeError, function, column)
                 self.assertRaises(TypeError, columns.uncompact_cells, column, 15)
+
+    def forms(self, texts):
+        """Columns of these texts, and what makes a list of each."""
+        yield texts, list
+        yield tuple(texts), list
+        if numpy is not None:
+            yield numpy.array(texts, dtype=object), numpy.ndarray.tolist
+            yield numpy.array([text.encode() for text in texts]), numpy.ndarray.tolist
+            yield numpy.array(texts), numpy.ndarray.tolist
+        if pandas is not None:
+            for dtype in (object, "string", "category"):
+                yield pandas.Series(texts, dtype=dtype), pandas.Series.tolist
+            yield pandas.Index(texts), pandas.Index.tolist
+
+    def test_texts(self):
+        """Of a column of texts, of any kind, each function finds what it finds of the integers; indexes are texts."""
+        given = cells(50)
+        for column, listed in self.forms([f"{cell:x}" for cell in given]):
+            for function, _, more, missing in FUNCTIONS:
+                wanted = list(function(array("Q", given), *more, missing=True))
+                if not missing:
+                    wanted = [f"{index:x}" if index else None for index in wanted]
+                found = function(column, *more, missing=True)
+                self.assertEqual(listed(found), wanted, (type(column), function))
+                self.assertIsInstance(found, list if isinstance(column, tuple) else type(column))
+            self.assertEqual(listed(columns.are_valid_cells(column)), [True] * 50)
+            self.assertIs(listed(columns.are_valid_cells(column))[0], True)
+            self.assertRaises(errors.H3ResDomainError, columns.cells_to_parents, column, 16)
+        children = integers.cell_to_children(0x85283473FFFFFFF, 6)
+        for column, listed in self.forms([f"{cell:x}" for cell in children]):
+            self.assertEqual(listed(columns.compact_cells(column)), ["85283473fffffff"])
+            self.assertEqual(
+                listed(columns.uncompact_cells(columns.compact_cells(column), 6)), [f"{c:x}" for c in children]
+            )
+            self.assertRaises(errors.H3ResDomainError, columns.uncompact_cells, column, 16)
+
+    def test_lists(self):
+        cell, text = 0x85283473FFFFFFF, "85283473fffffff"
+        self.assertEqual(columns.cells_to_parents([cell, text], 4), [0x8428347FFFFFFFF, "8428347ffffffff"])
+        self.assertEqual(columns.get_resolutions([cell, 5, None, "xyz"], missing=True), [5, -1, -1, -1])
+        self.assertEqual(
+            columns.cells_to_parents([cell, 5, None, "5"], 4, missing=True), [0x8428347FFFFFFFF, 0, None, None]
+        )
+        self.assertEqual(columns.compact_cells(integers.cell_to_children(cell, 6)), [cell])
+        self.assertEqual((columns.compact_cells([]), columns.are_valid_cells([])), ([], []))
+        self.assertEqual(columns.int_to_str([cell, 5]), [text, "5"])
+        self.assertRaises(TypeError, columns.compact_cells, [cell, text])
+        self.assertRaisesRegex(errors.H3FailedError, "'xyz' at place 1", columns.get_resolutions, [text, "xyz"])
+        self.assertRaisesRegex(errors.H3CellInvalidError, "5 at place 1", columns.get_resolutions, [text, "5"])
+
+    @unittest.skipIf(pandas is None, "pandas is not installed")
+    def test_index(self):
+        """An Index of pandas gives an Index."""
+        given = cells(20)
+        index = pandas.Index(numpy.array(given, dtype="uint64"), name="cell")
+        found = columns.cells_to_parents(index, 0)
+        self.assertEqual((type(found), found.name, found.dtype), (type(index), "cell", index.dtype))
+        self.assertEqual(found.tolist(), [integers.cell_to_parent(cell, 0) for cell in given])
+        self.assertEqual(columns.int_to_str(index).tolist(), [f"{cell:x}" for cell in given])
+        self.assertEqual(columns.compact_cells(index[:1]).tolist(), given[:1])
+        self.assertTrue(columns.are_valid_cells(index).all())
+
+    def test_truths(self):
+        """A truth is 1 or 0 in a byte, of what is refused 0."""
+        pentagon = integers.get_pentagons(3)[0]
+        given = array("Q", [pentagon, 0x85283473FFFFFFF, 5, pentagon])
+        found = columns.are_pentagons(given, missing=True)
+        self.assertEqual((found.typecode, found.tolist()), ("b", [1, 0, 0, 1]))
 
     @unittest.skipIf(pandas is None, "pandas is not installed")
     def test_pandas(self):

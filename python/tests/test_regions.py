@@ -127,6 +127,24 @@ class Rows(unittest.TestCase):
         self.assertEqual(list(h3whole.Zones(region)), [CELL])
         self.assertEqual((list(h3whole.Zones()), h3whole.Zones().count([CELL]).others), ([], 1))
 
+    def test_of_sets(self):
+        """What a set of Python has by name, of regions and of cells of any kind."""
+        region, one = h3whole.Region([CELL]), h3whole.Region([CHILDREN[4]])
+        six = h3whole.Region(CHILDREN[:4] + CHILDREN[5:])
+        self.assertEqual((region ^ one, one ^ region, region ^ region), (six, six, h3whole.Region()))
+        self.assertEqual(region.symmetric_difference(CHILDREN[4:5]), six)
+        self.assertEqual((one.union(six, [OTHER]), one.union()), (h3whole.Region([CELL, OTHER]), one))
+        self.assertEqual(region.intersection(CHILDREN, [CHILDREN[4]]), one)
+        self.assertEqual(region.difference([CHILDREN[4]], array("Q", [int(OTHER, 16)])), six)
+        self.assertEqual((one.issubset(region), region.issubset([CHILDREN[4]])), (True, False))
+        self.assertEqual((region.issuperset(CHILDREN), one.issuperset(region)), (True, False))
+        self.assertEqual((one.isdisjoint(six), one.isdisjoint([WITHIN])), (True, False))
+        self.assertEqual(region.column(), array("Q", [int(CELL, 16)]))
+        region.column()[0] = 0
+        self.assertEqual(list(region), [CELL])
+        self.assertRaises(TypeError, lambda: region ^ [CELL])
+        self.assertRaises(TypeError, region.union, CELL)
+
 
 class Random(unittest.TestCase):
     def test_regions(self):
@@ -142,6 +160,7 @@ class Random(unittest.TestCase):
                 (a | b, of_first | of_second),
                 (a & b, of_first & of_second),
                 (a - b, of_first - of_second),
+                (a ^ b, of_first ^ of_second),
             ):
                 self.assertEqual(list(found), plain.compacted(wanted))
             self.assertEqual(
@@ -403,14 +422,16 @@ class Refused(unittest.TestCase):
     def test_cells(self):
         for make in (h3whole.Region, h3whole.Zones):
             self.assertEqual(message(make, [CELL, "5"]), "H3CellInvalidError: error 5: E_CELL_INVALID: 5 at place 1")
-            self.assertEqual(message(make, [CELL, "xyz"]), "H3FailedError: error 1: E_FAILED: 'xyz'")
+            self.assertEqual(message(make, [CELL, "xyz"]), "H3FailedError: error 1: E_FAILED: 'xyz' at place 1")
             for error in (H3CellInvalidError, H3FailedError):
                 self.assertIn(error.__name__, make.__doc__)
             self.assertIn("h3whole.int", message(make, [5]))
             self.assertRaises(TypeError, make, CELL)
             self.assertRaises(TypeError, make, None)
         self.assertEqual(
-            message(h3whole.Zones, [CELL, CELL]), "H3DuplicateInputError: error 10: E_DUPLICATE_INPUT: among 2 cells"
+            message(h3whole.Zones, [CELL, CELL]),
+            "H3DuplicateInputError: error 10: E_DUPLICATE_INPUT: among 2 cells:"
+            f" {CELL} at place 1 overlaps {CELL} at place 0",
         )
         self.assertIn("h3whole itself", message(integers.Region, [CELL]))
         self.assertRaises(H3CellInvalidError, integers.Region, [2**64])

@@ -3,17 +3,20 @@ missing values, texts, errors with their values, names, docstrings and types."""
 
 import ctypes
 import inspect
+import io
 import pickle
 import subprocess
 import sys
 import timeit
 import unittest
 from array import array
+from unittest import mock
 
 import h3whole
 import h3whole.columns as columns
 import h3whole.int as integers
 import h3whole.parts
+import plain_cells as plain
 from h3whole import H3ResDomainError
 from test_tables import DISK, HEXAGON, table_file
 
@@ -243,7 +246,12 @@ class Errors(unittest.TestCase):
             (("get_directed_edge_origin", HEXAGON), "error 6: E_DIR_EDGE_INVALID: 85283473fffffff"),
             (("origin_to_directed_edges", "5"), "error 5: E_CELL_INVALID: 5"),
             (("compact_cells", [HEXAGON, "5"]), "error 5: E_CELL_INVALID: 5 at place 1"),
-            (("compact_cells", [HEXAGON, HEXAGON]), "error 10: E_DUPLICATE_INPUT: among 2 cells"),
+            (
+                ("compact_cells", [HEXAGON, HEXAGON]),
+                f"error 10: E_DUPLICATE_INPUT: among 2 cells: {HEXAGON} at place 1 overlaps {HEXAGON} at place 0",
+            ),
+            (("compact_cells", [HEXAGON, "xyz"]), "error 1: E_FAILED: 'xyz' at place 1"),
+            (("uncompact_cells", [HEXAGON, HEXAGON, "é"], 9), "error 1: E_FAILED: 'é' at place 2"),
             (
                 ("uncompact_cells", ["8009fffffffffff", HEXAGON], 4),
                 "error 12: E_RES_MISMATCH: 85283473fffffff at place 1, at resolution 4",
@@ -260,7 +268,10 @@ class Errors(unittest.TestCase):
                 "error 12: E_RES_MISMATCH: 85283473fffffff at place 0, at resolution 6",
             ),
             ((columns.compact_cells, [CELL, 5]), "error 5: E_CELL_INVALID: 5 at place 1"),
-            ((columns.compact_cells, [CELL, CELL]), "error 10: E_DUPLICATE_INPUT: among 2 cells"),
+            (
+                (columns.compact_cells, [CELL, CELL]),
+                f"error 10: E_DUPLICATE_INPUT: among 2 cells: {HEXAGON} at place 1 overlaps {HEXAGON} at place 0",
+            ),
             (
                 (columns.uncompact_cells, [0x8009FFFFFFFFFFF, CELL], 4),
                 "error 12: E_RES_MISMATCH: 85283473fffffff at place 1, at resolution 4",
@@ -271,13 +282,157 @@ class Errors(unittest.TestCase):
     def test_hints(self):
         self.assertIn("h3whole itself", message(integers.get_resolution, HEXAGON))
         self.assertIn("h3whole.int", message(h3whole.get_resolution, CELL))
-        self.assertIn("str_to_int", message(columns.get_resolutions, [HEXAGON]))
         if numpy is not None:
             given = numpy.array(CHILDREN, dtype="uint64")
             self.assertIn("numpy.ascontiguousarray(column)", message(columns.get_resolutions, given[::2]))
-            self.assertIn("astype('uint64')", message(columns.get_resolutions, given.astype("float64")))
-            self.assertIn("str_to_int", message(columns.get_resolutions, numpy.array([HEXAGON])))
+            self.assertIn("astype('uint64')", message(columns.get_resolutions, given.astype("int32")))
+            self.assertIn("str_to_int", message(columns.get_resolutions, numpy.array([HEXAGON, 5], dtype=object)))
             self.assertEqual(columns.get_resolutions(numpy.ascontiguousarray(given[::2])).tolist(), [8] * 172)
+
+
+class Refused(unittest.TestCase):
+    def test_values(self):
+        """A text that parses as no index is a wrong value, as a cell that is none."""
+        for call in (h3whole.get_resolution, h3whole.str_to_int, h3whole.compact_cells):
+            given = ["xyz"] if call is h3whole.compact_cells else "xyz"
+            with self.assertRaises(ValueError) as caught:
+                call(given)
+            self.assertIsInstance(caught.exception, (h3whole.H3FailedError, h3whole.H3GridNavigationError))
+
+    def test_one_text(self):
+        """A text in the place of a list."""
+        for module in (h3whole, integers):
+            for call in (
+                module.compact_cells,
+                lambda cells, module=module: module.uncompact_cells(cells, 9),
+                module.Region,
+                module.Zones,
+            ):
+                for text in (HEXAGON, HEXAGON.encode(), ""):
+                    self.assertEqual(message(call, text), f"TypeError: cells are wanted, and not one text: {text!r}")
+
+    def test_no_resolution(self):
+        for function in Missing.OVER_RESOLUTIONS + [columns.uncompact_cells]:
+            self.assertEqual(
+                message(function, array("Q", [CELL]), None), "TypeError: res: a whole number is wanted, and not None"
+            )
+            self.assertRegex(message(function, array("Q", [CELL])), "missing 1 required positional argument: 'res'")
+
+    def test_memory(self):
+        """Want of memory says for how many items."""
+        for call in (integers.cell_to_children, lambda cell, res: integers.uncompact_cells([cell], res)):
+            self.assertEqual(
+                message(call, 0x8001FFFFFFFFFFF, 15),
+                f"H3MemoryAllocError: error 13: E_MEMORY_ALLOC: {7**15} items",
+            )
+        self.assertEqual(
+            message(columns.uncompact_cells, array("Q", [0x8001FFFFFFFFFFF]), 15),
+            f"H3MemoryAllocError: error 13: E_MEMORY_ALLOC: {7**15} items",
+        )
+        if numpy is not None:
+            self.assertEqual(
+                message(columns.uncompact_cells, numpy.array([0x8001FFFFFFFFFFF], dtype="uint64"), 15),
+                f"H3MemoryAllocError: error 13: E_MEMORY_ALLOC: {7**15} items",
+            )
+
+
+class Overlaps(unittest.TestCase):
+    """Of cells that overlap, the first that overlaps an earlier one is named, and the first that it overlaps."""
+
+    def check(self, cells):
+        """Against each pair, in the order of their places."""
+        pairs = ((later, earlier) for later in range(len(cells)) for earlier in range(later))
+        found = next(((b, a) for b, a in pairs if plain.overlap(cells[a], cells[b])), None)
+        numbers = list(map(plain.number_of, cells))
+        wanted = "none"
+        if found:
+            later, earlier = (f"{numbers[place]:x} at place {place}" for place in found)
+            wanted = f"error 10: E_DUPLICATE_INPUT: among {len(cells)} cells: {later} overlaps {earlier}"
+        for call, given in (
+            (integers.compact_cells, numbers),
+            (h3whole.compact_cells, list(map(integers.int_to_str, numbers))),
+            (columns.compact_cells, array("Q", numbers)),
+            (columns.compact_cells, memoryview(array("q", numbers))),
+            (integers.Zones, numbers),
+            (h3whole.Zones, array("Q", numbers)),
+        ):
+            self.assertEqual(message(call, given).split(": ", 1)[-1], wanted)
+        return found
+
+    def test_worked(self):
+        zero, one, two = (4, ()), (4, (2,)), (4, (2, 3))
+        other, pentagon = (4, (3, 3)), (4, (0,))
+        for cells, found in (
+            ([zero, other], (1, 0)),
+            ([two, other, zero], (2, 0)),
+            ([other, two, zero, one], (2, 0)),
+            ([pentagon, two, other, one], (3, 1)),
+            ([two, other, one, one], (2, 0)),
+            ([other, pentagon, pentagon], (2, 1)),
+            ([other, pentagon, two], None),
+        ):
+            self.assertEqual(self.check(cells), found)
+
+    def test_memory(self):
+        with mock.patch.object(h3whole._overlap, "_find_overlap", return_value=13):
+            self.assertEqual(
+                message(integers.Zones, [CELL, CELL]),
+                "H3DuplicateInputError: error 10: E_DUPLICATE_INPUT: among 2 cells",
+            )
+
+    def test_random(self):
+        chance = plain.seeded(5)
+        found = [self.check(plain.random_cells(chance, chance.randrange(25))) for _ in range(300)]
+        self.assertGreater(sum(pair is not None for pair in found), 100)
+        self.assertGreater(found.count(None), 10)
+
+
+class Rounded(unittest.TestCase):
+    """No hint leads from what is no integer to cells: a float has lost digits already."""
+
+    ADVICE = "read the column as text; a float has lost digits already"
+
+    OVER_COLUMNS = [columns.get_resolutions, columns.int_to_str, columns.compact_cells]
+
+    def check(self, *refused, functions=(*OVER_COLUMNS, h3whole.Region, integers.Zones)):
+        for column in refused:
+            for function in functions:
+                said = message(function, column)
+                self.assertTrue(said.startswith("TypeError: "), said)
+                self.assertIn(self.ADVICE, said)
+                self.assertNotIn("astype", said)
+                self.assertNotIn("cast(", said)
+
+    def test_arrays(self):
+        self.check(array("d", [CELL]), array("f", [1.0]), memoryview(array("d", [CELL])))
+
+    @unittest.skipIf(numpy is None, "numpy is not installed")
+    def test_numpy(self):
+        numbers = numpy.array([CELL, PARENT])
+        dates = numpy.array(["2024-02-29"], dtype="datetime64[ns]")
+        self.check(numbers.astype("float64"), numbers.astype("float32"), numbers > 0, dates, dates - dates)
+
+    @unittest.skipIf(pandas is None, "pandas is not installed")
+    def test_pandas(self):
+        """A column of integers with a gap, as pandas reads it, and others that are no integers."""
+        fine = integers.cell_to_center_child(CELL, 15) + 1
+        lines = f"cell,name\n{fine},a\n,b\n"
+        read = pandas.read_csv(io.StringIO(lines))["cell"]
+        self.assertEqual(str(read.dtype), "float64")
+        self.assertNotEqual(int(read[0]), fine)
+        dates = pandas.to_datetime(pandas.Series(["2024-02-29"]))
+        self.check(read, read.astype("Float64"), read > 0, dates)
+        # (a region takes categories as objects, and names the one that is no index)
+        self.check(read.astype("category"), dates.astype("category"), functions=self.OVER_COLUMNS)
+        self.assertEqual(
+            message(h3whole.Region, read.astype("category")),
+            f"H3FailedError: error 1: E_FAILED: {read[0]!r} at place 0",
+        )
+        # (as UInt64 or Int64 with a gap, pandas 1.5 reads floats too, and says nothing)
+        texts = pandas.read_csv(io.StringIO(lines), dtype={"cell": "string"})["cell"]
+        self.assertEqual(texts[0], str(fine))
+        texts = pandas.read_csv(io.StringIO(f"cell,name\n{fine:x},a\n,b\n"), dtype={"cell": "string"})["cell"]
+        self.assertEqual(columns.str_to_int(texts, missing=True).tolist(), [fine, 0])
 
 
 class Tables(unittest.TestCase):
@@ -368,6 +523,15 @@ class Names(unittest.TestCase):
                     if module is not h3whole or name not in ("int_to_str", "str_to_int"):
                         self.assertEqual(function.__module__, module.__name__)
                     self.assertIs(pickle.loads(pickle.dumps(function)), function)
+
+    def test_annotations(self):
+        """The module `h3whole.int` is no type, which Python 3.9 and 3.10 refuse at import."""
+        for module in (h3whole, integers, columns, h3whole.regions):
+            functions = [one for one in vars(module).values() if inspect.isfunction(one) or inspect.isclass(one)]
+            functions += [one for kind in functions for one in vars(kind).values() if inspect.isfunction(one)]
+            self.assertGreater(len(functions), 20)
+            for function in functions:
+                self.assertNotIn("<module", repr(getattr(function, "__annotations__", {})), function)
 
     def test_docstrings(self):
         self.assertIn("text", h3whole.cell_to_parent.__doc__)

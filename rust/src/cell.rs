@@ -1,10 +1,11 @@
 use crate::index::{index, write_text};
 use crate::{ffi, Edge, Error, Refused, Resolution};
-use std::fmt;
-use std::iter::FusedIterator;
-use std::num::NonZeroU64;
-use std::ops::Range;
-use std::str::FromStr;
+use alloc::vec::Vec;
+use core::fmt;
+use core::iter::FusedIterator;
+use core::num::NonZeroU64;
+use core::ops::Range;
+use core::str::FromStr;
 
 /// A cell. It holds the index of one: a number that is the index of no cell is refused where it is
 /// converted. No index is 0, so an `Option<Cell>` takes 8 bytes too.
@@ -118,9 +119,13 @@ impl Cell {
 
     /// The edges that leave the cell, in ascending direction: H3's `originToDirectedEdges`. They
     /// are six; of a pentagon five.
-    pub fn edges(self) -> impl Iterator<Item = Edge> {
+    pub fn edges(
+        self,
+    ) -> impl DoubleEndedIterator<Item = Edge> + ExactSizeIterator + FusedIterator {
         let edges = ffi::edges(self.raw()).expect("a cell has edges");
-        edges.into_iter().filter(|edge| *edge != 0).map(Edge::known)
+        // a pentagon has 0 in place of the first
+        let missing = usize::from(edges[0] == 0);
+        edges.into_iter().skip(missing).map(Edge::known)
     }
 }
 
@@ -181,5 +186,9 @@ impl DoubleEndedIterator for Children {
         self.positions.nth_back(n).map(|position| self.at(position))
     }
 }
+
+/// (A usize of 32 bits does not count the descendants of all cells.)
+#[cfg(target_pointer_width = "64")]
+impl ExactSizeIterator for Children {}
 
 impl FusedIterator for Children {}

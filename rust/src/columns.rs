@@ -17,7 +17,7 @@
 
 use crate::ffi::columns as ffi;
 use crate::{Error, Resolution};
-use std::fmt;
+use core::fmt;
 
 /// The first error of a column, and its place.
 #[derive(Clone, Copy, Debug, PartialEq, Eq, Hash)]
@@ -47,6 +47,7 @@ impl fmt::Display for ColumnError {
     }
 }
 
+#[cfg(feature = "std")]
 impl std::error::Error for ColumnError {}
 
 impl From<ColumnError> for Error {

@@ -1,8 +1,8 @@
 use crate::index::{index, write_text};
 use crate::{ffi, Cell, Error, Refused};
-use std::fmt;
-use std::num::NonZeroU64;
-use std::str::FromStr;
+use core::fmt;
+use core::num::NonZeroU64;
+use core::str::FromStr;
 
 /// A directed edge: the step from a cell in one direction. It holds the index of one: a number that
 /// is the index of no edge is refused where it is converted.

@@ -1,4 +1,4 @@
-use std::fmt;
+use core::fmt;
 
 /// Declares the errors by their numbers and H3's names.
 macro_rules! errors {
@@ -78,4 +78,5 @@ impl fmt::Display for Error {
     }
 }
 
+#[cfg(feature = "std")]
 impl std::error::Error for Error {}

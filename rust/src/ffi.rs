@@ -7,7 +7,13 @@
 //! pointer, and all may be called from any thread.
 
 use crate::{Cell, Error};
-use std::os::raw::{c_char, c_int};
+use alloc::vec::Vec;
+
+// (core has these types from Rust 1.64 on; the library is one for Unix systems of 64 bits)
+#[allow(non_camel_case_types)]
+type c_int = i32;
+#[allow(non_camel_case_types)]
+type c_char = u8;
 
 /// Declares functions for columns, whose signatures differ in the type of the results and by a
 /// resolution.
@@ -188,6 +194,7 @@ extern "C" {
         count: &mut usize,
     ) -> u32;
     fn h3w_zones(cells: *const u64, n: usize, zones: *mut u64, room: usize) -> u32;
+    fn h3w_findOverlap(cells: *const u64, n: usize, at: &mut usize, earlier: &mut usize) -> u32;
     fn h3w_cellsToZones(
         zones: *const u64,
         zone_count: usize,
@@ -368,6 +375,16 @@ pub(crate) fn unite(cells: &[Cell]) -> Result<Vec<Cell>, Error> {
         let code = unsafe { h3w_uniteCells(cells.as_ptr().cast(), n, out, n, &mut count) };
         (code, count)
     })
+}
+
+/// The places that the library writes: of the first cell that overlaps an earlier one, and of that.
+pub(crate) fn find_overlap(cells: &[Cell]) -> Result<(usize, usize), Error> {
+    let (mut at, mut earlier) = (0, 0);
+    // SAFETY: a `Cell` is a number. The slice is passed with its length, and `at` and `earlier` are
+    // one place each.
+    let code =
+        unsafe { h3w_findOverlap(cells.as_ptr().cast(), cells.len(), &mut at, &mut earlier) };
+    checked(code).map(|()| (at, earlier))
 }
 
 pub(crate) fn intersect(first: &[Cell], second: &[Cell]) -> Result<Vec<Cell>, Error> {

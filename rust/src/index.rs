@@ -1,13 +1,13 @@
 //! What cells and edges have in common.
 
 use crate::ffi;
-use std::fmt;
+use core::fmt;
 
 /// Writes the text of an index.
 pub(crate) fn write_text(index: u64, f: &mut fmt::Formatter<'_>) -> fmt::Result {
     let text = ffi::to_text(index).map_err(|_| fmt::Error)?;
     let end = text.iter().position(|byte| *byte == 0).ok_or(fmt::Error)?;
-    f.pad(std::str::from_utf8(&text[..end]).map_err(|_| fmt::Error)?)
+    f.pad(core::str::from_utf8(&text[..end]).map_err(|_| fmt::Error)?)
 }
 
 /// Implements the conversions and formats of a type that holds an index of one kind.

@@ -4,6 +4,9 @@
 //! Every result comes from the library libh3whole, which is compiled from proved code. This crate
 //! makes its functions safe to call, and has no logic of H3's; it is tested, not proved.
 //!
+//! Without the default feature `std` the crate takes `core` and `alloc` alone, and its errors do not
+//! implement `std::error::Error`. The archive that it links takes the C library.
+//!
 //! ```
 //! use h3whole::{compact, Cell, Resolution};
 //!
@@ -14,7 +17,12 @@
 //! assert_eq!(compact(&children)?, [parent]);
 //! # Ok::<(), h3whole::Error>(())
 //! ```
+#![no_std]
 #![deny(missing_docs, unsafe_code, unsafe_op_in_unsafe_fn)]
+
+extern crate alloc;
+#[cfg(feature = "std")]
+extern crate std;
 
 mod cell;
 pub mod columns;
@@ -35,5 +43,5 @@ pub use error::Error;
 pub use refused::Refused;
 pub use regions::{Counts, Region, Zones};
 pub use resolution::Resolution;
-pub use sets::{compact, uncompact};
+pub use sets::{compact, find_overlap, uncompact};
 pub use table::{Table, TableError};

@@ -1,5 +1,6 @@
 use crate::Error;
-use std::fmt;
+use alloc::boxed::Box;
+use core::fmt;
 
 /// A text or a number that is no index of the kind it is converted to: the error, and what was
 /// refused.
@@ -67,6 +68,7 @@ impl fmt::Display for Refused {
     }
 }
 
+#[cfg(feature = "std")]
 impl std::error::Error for Refused {}
 
 impl From<Refused> for Error {

@@ -1,10 +1,11 @@
 use crate::ffi::{self, Order};
 use crate::{Cell, Error};
-use std::fmt;
-use std::hash::{Hash, Hasher};
-use std::iter::Copied;
-use std::ops::{BitAnd, BitOr, Sub};
-use std::slice;
+use alloc::vec::Vec;
+use core::fmt;
+use core::hash::{Hash, Hasher};
+use core::iter::{Copied, FusedIterator};
+use core::ops::{BitAnd, BitOr, Sub};
+use core::slice;
 
 /// What cells cover: the least list of cells that covers the same. It takes 16 bytes of memory for
 /// each of these cells.
@@ -267,7 +268,9 @@ impl Counts<'_> {
     }
 
     /// Each zone with its count, in the order of [`Zones::iter`].
-    pub fn iter(&self) -> impl Iterator<Item = (Cell, u64)> + '_ {
+    pub fn iter(
+        &self,
+    ) -> impl DoubleEndedIterator<Item = (Cell, u64)> + ExactSizeIterator + FusedIterator + '_ {
         let counts = self.counts.iter().map(|count| count.unsigned_abs());
         self.zones.iter().zip(counts)
     }

@@ -1,6 +1,6 @@
 use crate::{ffi, Cell, Error};
-use std::fmt;
-use std::str::FromStr;
+use core::fmt;
+use core::str::FromStr;
 
 /// A resolution, 0 to 15: the cells of the next finer one are about a seventh of the size.
 #[allow(missing_docs)]

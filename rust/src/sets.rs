@@ -1,8 +1,9 @@
 use crate::{ffi, Cell, Error, Resolution};
+use alloc::vec::Vec;
 
 /// The least list of cells that covers the same as the given ones, ascending: H3's `compactCells`.
 /// `DuplicateInput` where a cell is there twice, or together with an ancestor of it; `MemoryAlloc`
-/// where there is no memory.
+/// where there is no memory. [`find_overlap`] says which cells overlap.
 ///
 /// ```
 /// use h3whole::{compact, uncompact, Cell, Error, Resolution};
@@ -17,6 +18,24 @@ use crate::{ffi, Cell, Error, Resolution};
 /// ```
 pub fn compact(cells: &[Cell]) -> Result<Vec<Cell>, Error> {
     ffi::compact(cells)
+}
+
+/// The places of two cells that overlap: of the first one that overlaps an earlier one, and of the first that
+/// it overlaps. They say why [`compact`] or [`Zones::new`](crate::Zones::new) returned
+/// `DuplicateInput`; `None` if no two overlap. `MemoryAlloc` where there is no memory.
+///
+/// ```
+/// use h3whole::{find_overlap, Cell, Error, Resolution};
+///
+/// let cell = Cell::try_from(0x85283473fffffff)?;
+/// let other = Cell::try_from(0x8009fffffffffff)?;
+/// assert_eq!(find_overlap(&[cell, other, cell.parent(Resolution::Four)?])?, Some((2, 0)));
+/// assert_eq!(find_overlap(&[cell, other])?, None);
+/// # Ok::<(), Error>(())
+/// ```
+pub fn find_overlap(cells: &[Cell]) -> Result<Option<(usize, usize)>, Error> {
+    let (at, earlier) = ffi::find_overlap(cells)?;
+    Ok(Some((at, earlier)).filter(|_| at < cells.len()))
 }
 
 /// The descendants at a resolution of the first cell, ascending, then those of the second, and so

@@ -1,6 +1,7 @@
 use crate::ffi::{self, Fault, RawTable};
 use crate::{Cell, Edge, Error};
-use std::fmt;
+use alloc::vec::Vec;
+use core::fmt;
 
 /// A base cell table: how the base cells of hexagons lie beside each other. What goes from cell to
 /// cell needs one, and H3 ships none as a file: the repository's `tools/h3-table` makes it of H3's
@@ -67,7 +68,11 @@ impl Table {
         found
             .try_reserve_exact(cells.len())
             .map_err(|_| Error::MemoryAlloc)?;
-        found.extend(cells.into_iter().zip(rings.into_iter().map(i32::unsigned_abs)));
+        found.extend(
+            cells
+                .into_iter()
+                .zip(rings.into_iter().map(i32::unsigned_abs)),
+        );
         Ok(found)
     }
 
@@ -173,4 +178,5 @@ impl fmt::Display for TableError {
     }
 }
 
+#[cfg(feature = "std")]
 impl std::error::Error for TableError {}

@@ -1,7 +1,10 @@
 //! Worked examples, the errors, and what holds of many cells.
 
-use h3whole::{columns, compact, uncompact, Cell, Edge, Error, Resolution, Table, TableError};
+use h3whole::{
+    columns, compact, uncompact, Cell, Edge, Error, Resolution, Table, TableError, Zones,
+};
 use std::collections::{BTreeSet, HashSet};
+use std::iter::FusedIterator;
 
 const CHILDREN: [u64; 7] = [
     0x862834707ffffff,
@@ -545,4 +548,40 @@ fn refused_tables() {
     let refused = Table::from_csv(&table_file(13)).err();
     assert_eq!(refused, Some(TableError::Reversal(0, 1)));
     assert_eq!(refused.unwrap().to_string(), "table: reversal 0 1");
+}
+
+/// Iterators say how many items they have left, from both ends.
+#[test]
+fn iterators_have_lengths() {
+    fn ends<I: DoubleEndedIterator + ExactSizeIterator + FusedIterator>(
+        mut items: I,
+    ) -> [usize; 4] {
+        let whole = items.len();
+        items.next();
+        let less = items.len();
+        items.next_back();
+        [whole, less, items.len(), items.count()]
+    }
+    let hexagon = Cell::try_from(0x85283473fffffff).unwrap();
+    let pentagon = Cell::try_from(0x8009fffffffffff).unwrap();
+    assert_eq!(ends(hexagon.edges()), [6, 5, 4, 4]);
+    assert_eq!(ends(pentagon.edges()), [5, 4, 3, 3]);
+    let directions = |cell: Cell| {
+        cell.edges()
+            .map(|edge| u64::from(edge) >> 56 & 7)
+            .collect::<Vec<_>>()
+    };
+    assert_eq!(directions(hexagon), [1, 2, 3, 4, 5, 6]);
+    assert_eq!(directions(pentagon), [2, 3, 4, 5, 6]);
+    assert_eq!(
+        ends(hexagon.children(Resolution::Six).unwrap()),
+        [7, 6, 5, 5]
+    );
+    assert_eq!(
+        ends(pentagon.children(Resolution::One).unwrap()),
+        [6, 5, 4, 4]
+    );
+    let zones = Zones::new(&[hexagon, pentagon]).unwrap();
+    assert_eq!(ends(zones.count(&[hexagon]).unwrap().iter()), [2, 1, 0, 0]);
+    assert_eq!(ends(zones.iter()), [2, 1, 0, 0]);
 }

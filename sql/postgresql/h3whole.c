@@ -2,18 +2,27 @@
  * lists them. */
 #include "postgres.h"
 
+#include "access/spgist.h"
+#include "catalog/pg_proc.h"
+#include "catalog/pg_type.h"
 #include "fmgr.h"
 #include "funcapi.h"
 #include "miscadmin.h"
+#include "nodes/makefuncs.h"
 #include "nodes/nodeFuncs.h"
+#include "nodes/pathnodes.h"
 #include "nodes/supportnodes.h"
 #include "optimizer/cost.h"
 #include "optimizer/optimizer.h"
+#include "rewrite/rewriteManip.h"
 #include "storage/fd.h"
+#include "utils/acl.h"
 #include "utils/array.h"
+#include "utils/builtins.h"
 #include "utils/guc.h"
 #include "utils/lsyscache.h"
 #include "utils/memutils.h"
+#include "utils/syscache.h"
 #if PG_VERSION_NUM >= 160000
 #include "varatt.h"
 #endif
@@ -83,6 +92,23 @@ static void check_resolution(H3Error error, int64 res)
 		refuse(error, "resolution " INT64_FORMAT, res);
 }
 
+/* Reports that cells of a list overlap, and, as the detail, which two: by their places too, if it is the list that was
+ * given. */
+static void refuse_overlap(const H3Index *cells, size_t count, bool has_places)
+{
+	char text[H3SQL_ERROR_ROOM];
+	char about[H3SQL_ABOUT_ROOM];
+	char overlap[H3SQL_ABOUT_ROOM];
+
+	h3sql_error_text(E_DUPLICATE_INPUT, text);
+	h3sql_about_list(about, E_DUPLICATE_INPUT, cells, count, 0);
+	h3sql_about_overlap(overlap, cells, count, has_places);
+	if (has_places)
+		overlap[0] = pg_toupper((unsigned char) overlap[0]);
+	ereport(ERROR, (errcode(sqlstate_of(E_DUPLICATE_INPUT)), errmsg("%s: %s", text, about),
+					overlap[0] ? errdetail("%s.", overlap) : 0));
+}
+
 /* Reports an error of a function of a list of cells, which may be asked for at a resolution. */
 static void check_list(H3Error error, const H3Index *cells, size_t count, int64 res)
 {
@@ -92,6 +118,8 @@ static void check_list(H3Error error, const H3Index *cells, size_t count, int64 
 		return;
 	if (error == E_RES_DOMAIN)
 		check_resolution(error, res);
+	if (error == E_DUPLICATE_INPUT)
+		refuse_overlap(cells, count, true);
 	h3sql_about_list(about, error, cells, count, (int) res);
 	refuse(error, "%s", about);
 }
@@ -646,6 +674,8 @@ static h3sql_List made_of(Made *made, const h3sql_List *list, bool is_whole)
 	error = made(list, out.cells, &out.count);
 	if (error == E_CELL_INVALID && !is_whole)
 		check(error, h3sql_first_invalid(list));
+	if (error == E_DUPLICATE_INPUT && !is_whole)
+		refuse_overlap(list->cells, list->count, false);
 	check_list(error, list->cells, list->count, 0);
 	return out;
 }
@@ -832,29 +862,126 @@ Datum h3whole_list_rows(PG_FUNCTION_ARGS)
 	return estimated(fcinfo, list_estimate);
 }
 
-/* ---- What the planner asks: what a lookup costs. In an array that is a constant, which is prepared once, it is a
- * search; of any other the planner takes what the function is declared with. */
+/* ---- What the planner asks of a lookup. What it costs: in an array that is a constant, which is prepared once, it is
+ * a search; of any other the planner takes what the function is declared with. And whether there is a simpler call:
+ * where the array is a subquery that depends on nothing outside of it, the subquery prepares it, once:
+ *
+ *     h3_is_covered(cell, (SELECT ..)) is h3_prepared_covers(cell, (SELECT h3_prepare_region((SELECT ..)))) */
 
-PG_FUNCTION_INFO_V1(h3whole_lookup_cost);
-Datum h3whole_lookup_cost(PG_FUNCTION_ARGS)
+static void cost_lookup(SupportRequestCost *request)
 {
-	SupportRequestCost *request = (SupportRequestCost *) PG_GETARG_POINTER(0);
-	Const *array;
-	ArrayType *items;
-	double count;
+	Const *array = lsecond(((FuncExpr *) request->node)->args);
+	ArrayType *items = DatumGetArrayTypeP(array->constvalue);
+	double count = ArrayGetNItems(ARR_NDIM(items), ARR_DIMS(items));
 
-	if (!IsA(request, SupportRequestCost) || !request->node || !IsA(request->node, FuncExpr))
-		PG_RETURN_POINTER(NULL);
-	array = lsecond(((FuncExpr *) request->node)->args);
-	if (!IsA(array, Const) || array->constisnull)
-		PG_RETURN_POINTER(NULL);
-	items = DatumGetArrayTypeP(array->constvalue);
-	count = ArrayGetNItems(ARR_NDIM(items), ARR_DIMS(items));
 	request->startup = 2 * count * cpu_operator_cost;
 	request->per_tuple = cpu_operator_cost;
 	for (; count >= 1; count /= 2)
 		request->per_tuple += cpu_operator_cost;
-	PG_RETURN_POINTER(request);
+}
+
+/* Whether an array is a subquery, converted or not, that depends on nothing outside of it. */
+static bool is_own_subquery(const PlannerInfo *root, Node *array)
+{
+	SubLink *query;
+
+	while (IsA(array, RelabelType) || IsA(array, ArrayCoerceExpr))
+		array =
+			IsA(array, RelabelType) ? (Node *) ((RelabelType *) array)->arg : (Node *) ((ArrayCoerceExpr *) array)->arg;
+	query = (SubLink *) array;
+	if (!IsA(array, SubLink) || (query->subLinkType != EXPR_SUBLINK && query->subLinkType != ARRAY_SUBLINK))
+		return false;
+	for (Index level = 1; level <= root->query_level; level++)
+		if (contain_vars_of_level(query->subselect, (int) level))
+			return false;
+	return true;
+}
+
+/* A function of the schema of another, by its name; InvalidOid if there is none, as before an update of the
+ * extension. */
+static Oid sibling(Oid function, const char *name, int count, const Oid *types)
+{
+	return GetSysCacheOid3(PROCNAMEARGSNSP, Anum_pg_proc_oid, CStringGetDatum(name),
+						   PointerGetDatum(buildoidvector(types, count)),
+						   ObjectIdGetDatum(get_func_namespace(function)));
+}
+
+static bool may_execute(Oid function)
+{
+#if PG_VERSION_NUM >= 160000
+	return object_aclcheck(ProcedureRelationId, function, GetUserId(), ACL_EXECUTE) == ACLCHECK_OK;
+#else
+	return pg_proc_aclcheck(function, GetUserId(), ACL_EXECUTE) == ACLCHECK_OK;
+#endif
+}
+
+/* The subquery `SELECT prepare(array)`. */
+static Node *preparing(Node *array, Oid prepare, Oid type)
+{
+	Query *query = makeNode(Query);
+	SubLink *link = makeNode(SubLink);
+	Node *inner = copyObject(array);
+	FuncExpr *call;
+
+	IncrementVarSublevelsUp(inner, 1, 0);
+	call = makeFuncExpr(prepare, type, list_make1(inner), InvalidOid, InvalidOid, COERCE_EXPLICIT_CALL);
+	query->commandType = CMD_SELECT;
+	query->querySource = QSRC_ORIGINAL;
+	query->canSetTag = true;
+	query->jointree = makeFromExpr(NIL, NULL);
+	query->targetList = list_make1(makeTargetEntry((Expr *) call, 1, pstrdup("prepared"), false));
+	query->hasSubLinks = true;
+	link->subLinkType = EXPR_SUBLINK;
+	link->subselect = (Node *) query;
+	link->location = -1;
+	return (Node *) link;
+}
+
+/* The call of a lookup over what a subquery prepares; NULL if the array is none. */
+static Node *simplified(PlannerInfo *root, FuncExpr *call)
+{
+	char *name = get_func_name(call->funcid);
+	bool is_region = name && strcmp(name, "h3_is_covered") == 0;
+	Node *array = lsecond(call->args);
+	Oid types[2] = {exprType(linitial(call->args)), exprType(array)};
+	Oid prepare;
+	Oid look_up;
+
+	if (!root || !is_own_subquery(root, array) || !may_execute(call->funcid))
+		return NULL;
+	prepare = sibling(call->funcid, is_region ? "h3_prepare_region" : "h3_prepare_zones", 1, types + 1);
+	if (!OidIsValid(prepare))
+		return NULL;
+	types[1] = get_func_rettype(prepare);
+	look_up = sibling(call->funcid, is_region ? "h3_prepared_covers" : "h3_prepared_zone_of", 2, types);
+	if (!OidIsValid(look_up))
+		return NULL;
+	return (Node *) makeFuncExpr(look_up, call->funcresulttype,
+								 list_make2(linitial(call->args), preparing(array, prepare, types[1])), InvalidOid,
+								 InvalidOid, COERCE_EXPLICIT_CALL);
+}
+
+/* Whether a node is a call whose second argument is a known array. */
+static bool has_known_array(Node *node)
+{
+	return node && IsA(node, FuncExpr) && IsA(lsecond(((FuncExpr *) node)->args), Const) &&
+		   !((Const *) lsecond(((FuncExpr *) node)->args))->constisnull;
+}
+
+PG_FUNCTION_INFO_V1(h3whole_lookup_cost);
+Datum h3whole_lookup_cost(PG_FUNCTION_ARGS)
+{
+	Node *request = (Node *) PG_GETARG_POINTER(0);
+	Node *answer = NULL;
+
+	if (IsA(request, SupportRequestSimplify))
+		answer = simplified(((SupportRequestSimplify *) request)->root, ((SupportRequestSimplify *) request)->fcall);
+	else if (IsA(request, SupportRequestCost) && has_known_array(((SupportRequestCost *) request)->node))
+	{
+		cost_lookup((SupportRequestCost *) request);
+		answer = request;
+	}
+	PG_RETURN_POINTER(answer);
 }
 
 /* ---- The aggregates h3_compact_cells and h3_unite_cells. A worker hands on its part compacted, or its region: the
@@ -1045,25 +1172,23 @@ Datum h3whole_subtract_cells(PG_FUNCTION_ARGS)
 }
 
 /* An array that is prepared, so that cells are looked up in it. */
-typedef struct Prepared
+typedef struct
 {
-	struct Prepared *next;
+	h3sql_Kept kept;
 	/* what was passed: the array, or the place at which it is stored */
 	struct varlena *given;
 	h3sql_List zones;
 } Prepared;
 
-/* What a call in a query has prepared, for itself and those after it: the last one first. */
+/* What a call in a query has prepared, for itself and those after it. */
 typedef struct
 {
 	/* whether each call has the same array, which is a constant of the query */
 	bool is_constant;
-	Prepared *first;
+	/* the one of the last call */
+	Prepared *last;
+	h3sql_Cache cache;
 } Lookup;
-
-/* How many arrays are kept, and how many cells they have, but for the last one. */
-#define KEPT_ARRAYS 64
-#define KEPT_CELLS (4 * 1024 * 1024)
 
 /* Whether the argument of this place is a constant of the query. (A parameter is none: what PL/pgSQL evaluates again
  * and again has the same call for other values.) */
@@ -1089,65 +1214,56 @@ static bool is_same(const struct varlena *a, const struct varlena *b)
 	return VARSIZE_ANY(a) == VARSIZE_ANY(b) && memcmp(a, b, VARSIZE_ANY(a)) == 0;
 }
 
-/* Finds what was prepared of an array, and puts it first; NULL where it was not. */
-static Prepared *find(Lookup *lookup, const struct varlena *given)
+/* Finds what was prepared of an array: of the last call, or by the hash; NULL if it was not. */
+static Prepared *find(const Lookup *lookup, const struct varlena *given, uint64_t hash)
 {
-	for (Prepared **at = &lookup->first; *at; at = &(*at)->next)
-	{
-		Prepared *found = *at;
+	h3sql_Kept *found = h3sql_chain(&lookup->cache, hash);
 
-		if (!is_same(found->given, given))
-			continue;
-		*at = found->next;
-		found->next = lookup->first;
-		return lookup->first = found;
-	}
-	return NULL;
+	while (found && !(found->hash == hash && is_same(((Prepared *) found)->given, given)))
+		found = found->next;
+	return (Prepared *) found;
 }
 
-/* Gives back what has not been asked for in the longest time. */
-static void forget(Lookup *lookup)
+static void release(Prepared *prepared)
 {
-	size_t count = 1;
-	size_t cells = lookup->first->zones.count;
-	Prepared *last = lookup->first;
-
-	while (last->next && ++count <= KEPT_ARRAYS && (cells += last->next->zones.count) <= KEPT_CELLS)
-		last = last->next;
-	while (last->next)
-	{
-		Prepared *old = last->next;
-
-		last->next = old->next;
-		pfree(old->zones.cells);
-		pfree(old->given);
-		pfree(old);
-	}
+	pfree(prepared->zones.cells);
+	pfree(prepared->given);
+	pfree(prepared);
 }
 
-/* Prepares an array. What it takes on the way is of the row's memory, and only the result stays, so that an error
- * leaves nothing behind. */
-static Prepared *prepare(Lookup *lookup, struct varlena *given, bool is_region, MemoryContext memory)
+/* A list prepared, in the current memory. */
+static h3sql_List zones_of(const h3sql_List *cells, bool is_region)
+{
+	h3sql_List zones;
+
+	CHECK_FOR_INTERRUPTS();
+	check_list(h3sql_prepare(&zones, cells, is_region, resize, CurrentMemoryContext), cells->cells, cells->count, 0);
+	return zones;
+}
+
+/* Prepares an array, and keeps it. What it takes on the way is of the row's memory, and only the result stays, so that
+ * an error leaves nothing behind. */
+static Prepared *prepare(Lookup *lookup, struct varlena *given, uint64_t hash, bool is_region, MemoryContext memory)
 {
 	ArrayType *array = DatumGetArrayTypeP(PointerGetDatum(given));
 	h3sql_List cells = cells_of(array);
-	h3sql_List zones;
-	Prepared *made;
+	h3sql_List zones = zones_of(&cells, is_region);
+	Prepared *made = MemoryContextAllocZero(memory, sizeof *made);
+	h3sql_Kept *old;
 
-	CHECK_FOR_INTERRUPTS();
-	check_list(h3sql_prepare(&zones, &cells, is_region, resize, CurrentMemoryContext), cells.cells, cells.count, 0);
-	made = MemoryContextAllocZero(memory, sizeof *made);
 	made->given = MemoryContextAllocHuge(memory, VARSIZE_ANY(given));
 	memcpy(made->given, given, VARSIZE_ANY(given));
 	made->zones.count = zones.count;
 	made->zones.cells = MemoryContextAllocHuge(memory, (zones.count + 1) * sizeof(H3Index));
 	memcpy(made->zones.cells, zones.cells, zones.count * sizeof(H3Index));
 	pfree(zones.cells);
+	made->kept.hash = hash;
+	h3sql_keep(&lookup->cache, &made->kept, cells.count, resize, memory);
+	lookup->last = made;
+	while ((old = h3sql_evict(&lookup->cache, H3SQL_KEPT_CELLS, &made->kept)))
+		release((Prepared *) old);
 	if ((struct varlena *) array != given)
 		pfree(array);
-	made->next = lookup->first;
-	lookup->first = made;
-	forget(lookup);
 	return made;
 }
 
@@ -1165,39 +1281,163 @@ static Lookup *lookup_of(FunctionCallInfo fcinfo)
 	return lookup;
 }
 
-/* The zone of the cell of the first argument in the array of the second; H3_NULL where it has none. */
-static H3Index looked_up(FunctionCallInfo fcinfo, bool is_region)
+/* What is prepared of the array of the second argument. */
+static const h3sql_List *prepared_of(FunctionCallInfo fcinfo, bool is_region)
 {
 	Lookup *lookup = lookup_of(fcinfo);
-	Prepared *prepared = lookup->first;
+	struct varlena *given;
+	uint64_t hash;
+
+	if (lookup->last && lookup->is_constant)
+		return &lookup->last->zones;
+	given = value_of((struct varlena *) PG_GETARG_POINTER(1));
+	if (!lookup->last || !is_same(lookup->last->given, given))
+	{
+		hash = h3sql_hash(given, VARSIZE_ANY(given));
+		lookup->last = find(lookup, given, hash);
+		if (!lookup->last)
+			prepare(lookup, given, hash, is_region, fcinfo->flinfo->fn_mcxt);
+	}
+	return &lookup->last->zones;
+}
+
+/* The zone of the cell of the first argument; H3_NULL if it has none. */
+static H3Index looked_up(FunctionCallInfo fcinfo, const h3sql_List *zones)
+{
 	H3Index zone = H3_NULL;
 
-	if (!prepared || !lookup->is_constant)
-	{
-		struct varlena *given = value_of((struct varlena *) PG_GETARG_POINTER(1));
-
-		prepared = find(lookup, given);
-		if (!prepared)
-			prepared = prepare(lookup, given, is_region, fcinfo->flinfo->fn_mcxt);
-	}
-	check(h3sql_zone_of(&prepared->zones, GET_INDEX(0), &zone), GET_INDEX(0));
+	check(h3sql_zone_of(zones, GET_INDEX(0), &zone), GET_INDEX(0));
 	return zone;
+}
+
+/* Returns a zone, or NULL. */
+static Datum zone_or_null(FunctionCallInfo fcinfo, H3Index zone)
+{
+	if (zone == H3_NULL)
+		PG_RETURN_NULL();
+	PG_RETURN_DATUM(INDEX_DATUM(zone));
 }
 
 PG_FUNCTION_INFO_V1(h3whole_is_covered);
 Datum h3whole_is_covered(PG_FUNCTION_ARGS)
 {
-	PG_RETURN_BOOL(looked_up(fcinfo, true) != H3_NULL);
+	PG_RETURN_BOOL(looked_up(fcinfo, prepared_of(fcinfo, true)) != H3_NULL);
 }
 
 PG_FUNCTION_INFO_V1(h3whole_zone_of);
 Datum h3whole_zone_of(PG_FUNCTION_ARGS)
 {
-	H3Index zone = looked_up(fcinfo, false);
+	return zone_or_null(fcinfo, looked_up(fcinfo, prepared_of(fcinfo, false)));
+}
 
-	if (zone == H3_NULL)
-		PG_RETURN_NULL();
-	PG_RETURN_DATUM(INDEX_DATUM(zone));
+/* ---- The type h3_prepared: an array that a subquery has prepared. The planner writes calls for it, see
+ * `h3whole_lookup_cost`; no text is one, so each was made here. */
+
+typedef struct
+{
+	int32 header;
+	/* whether it has the array as it was given, which is refused once a cell is looked up in it */
+	int32 is_refused;
+	H3Index cells[FLEXIBLE_ARRAY_MEMBER];
+} PreparedValue;
+
+PG_FUNCTION_INFO_V1(h3whole_prepared_in);
+Datum h3whole_prepared_in(PG_FUNCTION_ARGS)
+{
+	ereport(ERROR, (errcode(ERRCODE_FEATURE_NOT_SUPPORTED), errmsg("cannot accept a value of type %s", "h3_prepared")));
+	PG_RETURN_VOID();
+}
+
+/* How many cells a prepared value has. */
+static size_t count_of_value(const PreparedValue *value)
+{
+	return (VARSIZE(value) - offsetof(PreparedValue, cells)) / sizeof(H3Index);
+}
+
+PG_FUNCTION_INFO_V1(h3whole_prepared_out);
+Datum h3whole_prepared_out(PG_FUNCTION_ARGS)
+{
+	PreparedValue *value = (PreparedValue *) PG_DETOAST_DATUM(PG_GETARG_DATUM(0));
+
+	PG_RETURN_CSTRING(psprintf("%zu cells", value->is_refused ? (size_t) 0 : count_of_value(value)));
+}
+
+static Datum prepared_value(const void *bytes, size_t size, bool is_refused)
+{
+	size_t whole = offsetof(PreparedValue, cells) + size;
+	PreparedValue *value;
+
+	if (whole > MaxAllocSize)
+		ereport(ERROR, (errcode(ERRCODE_PROGRAM_LIMIT_EXCEEDED), errmsg("the cells take more than a gigabyte")));
+	value = palloc(whole);
+	SET_VARSIZE(value, whole);
+	value->is_refused = is_refused;
+	memcpy(value->cells, bytes, size);
+	PG_RETURN_POINTER(value);
+}
+
+/* Prepares an array. An error is reported by the lookup, which is called for no cell that is NULL. */
+static Datum prepare_value(FunctionCallInfo fcinfo, bool is_region)
+{
+	ArrayType *array = PG_GETARG_ARRAYTYPE_P(0);
+	h3sql_List cells;
+	h3sql_List zones = {NULL, 0, 0};
+	H3Error error = E_CELL_INVALID;
+
+	CHECK_FOR_INTERRUPTS();
+	if (!array_contains_nulls(array))
+	{
+		cells = cells_of(array);
+		error = h3sql_prepare(&zones, &cells, is_region, resize, CurrentMemoryContext);
+	}
+	if (error == E_MEMORY_ALLOC)
+		check(error, H3_NULL);
+	if (error)
+		return prepared_value(array, VARSIZE(array), true);
+	return prepared_value(zones.cells, zones.count * sizeof(H3Index), false);
+}
+
+PG_FUNCTION_INFO_V1(h3whole_prepare_region);
+Datum h3whole_prepare_region(PG_FUNCTION_ARGS)
+{
+	return prepare_value(fcinfo, true);
+}
+
+PG_FUNCTION_INFO_V1(h3whole_prepare_zones);
+Datum h3whole_prepare_zones(PG_FUNCTION_ARGS)
+{
+	return prepare_value(fcinfo, false);
+}
+
+/* The zone of the cell of the first argument in the prepared value of the second. */
+static H3Index looked_up_in_value(FunctionCallInfo fcinfo, bool is_region)
+{
+	PreparedValue *value = (PreparedValue *) PG_DETOAST_DATUM(PG_GETARG_DATUM(1));
+	h3sql_List zones;
+
+	if (value->is_refused)
+	{
+		zones = cells_of((ArrayType *) value->cells);
+		zones = zones_of(&zones, is_region);
+	}
+	else
+	{
+		zones.cells = value->cells;
+		zones.count = zones.room = count_of_value(value);
+	}
+	return looked_up(fcinfo, &zones);
+}
+
+PG_FUNCTION_INFO_V1(h3whole_prepared_covers);
+Datum h3whole_prepared_covers(PG_FUNCTION_ARGS)
+{
+	PG_RETURN_BOOL(looked_up_in_value(fcinfo, true) != H3_NULL);
+}
+
+PG_FUNCTION_INFO_V1(h3whole_prepared_zone_of);
+Datum h3whole_prepared_zone_of(PG_FUNCTION_ARGS)
+{
+	return zone_or_null(fcinfo, looked_up_in_value(fcinfo, false));
 }
 
 PG_FUNCTION_INFO_V1(h3whole_cell_to_ancestors);
@@ -1208,4 +1448,221 @@ Datum h3whole_cell_to_ancestors(PG_FUNCTION_ARGS)
 
 	check(h3sql_ancestors(GET_INDEX(0), ancestors, &count), GET_INDEX(0));
 	PG_RETURN_ARRAYTYPE_P(array_of(ancestors, count, item_type(fcinfo)));
+}
+
+/* ---- The operators @>, <@ and &&, of which each is false of what is no cell */
+
+/* Whether a cell is another or an ancestor of it. */
+static bool contains(H3Index a, H3Index b)
+{
+	int res = h3w_getResolution(a);
+	H3Index above;
+
+	return res >= 0 && h3w_cellToParent(b, res, &above) == E_SUCCESS && above == a;
+}
+
+PG_FUNCTION_INFO_V1(h3whole_contains);
+Datum h3whole_contains(PG_FUNCTION_ARGS)
+{
+	PG_RETURN_BOOL(contains(GET_INDEX(0), GET_INDEX(1)));
+}
+
+PG_FUNCTION_INFO_V1(h3whole_contained);
+Datum h3whole_contained(PG_FUNCTION_ARGS)
+{
+	PG_RETURN_BOOL(contains(GET_INDEX(1), GET_INDEX(0)));
+}
+
+PG_FUNCTION_INFO_V1(h3whole_overlaps);
+Datum h3whole_overlaps(PG_FUNCTION_ARGS)
+{
+	PG_RETURN_BOOL(contains(GET_INDEX(0), GET_INDEX(1)) || contains(GET_INDEX(1), GET_INDEX(0)));
+}
+
+/* ---- SP-GiST for these operators: a radix tree. An inner tuple divides indexes by their labels of one level, which is
+ * its prefix; of all levels before, they have the same labels. A cell's label of a level is its ancestor at that
+ * resolution, or the cell itself if it is not finer; that of any other index is its first hexadecimal digits, one more
+ * of each level, and zeros, which is no cell before level 15. From there on each index is its own label. */
+
+#define LAST_LEVEL 15
+
+static H3Index label_of(H3Index index, int level)
+{
+	H3Index above;
+
+	if (level >= LAST_LEVEL)
+		return index;
+	if (!h3w_isValidCell(index))
+		return index >> (60 - 4 * level) << (60 - 4 * level);
+	return h3w_cellToParent(index, level, &above) == E_SUCCESS ? above : index;
+}
+
+PG_FUNCTION_INFO_V1(h3whole_tree_config);
+Datum h3whole_tree_config(PG_FUNCTION_ARGS)
+{
+	const spgConfigIn *in = (spgConfigIn *) PG_GETARG_POINTER(0);
+	spgConfigOut *out = (spgConfigOut *) PG_GETARG_POINTER(1);
+
+	out->prefixType = INT4OID;
+	out->labelType = in->attType;
+	out->canReturnData = true;
+	out->longValuesOK = false;
+	PG_RETURN_VOID();
+}
+
+/* Divides an inner tuple at a level before its own: the one above it has one node, for all that it has. */
+static void split_tuple(spgChooseOut *out, H3Index label, int level, int lower)
+{
+	Datum *labels = palloc(sizeof *labels);
+
+	labels[0] = INDEX_DATUM(label);
+	out->resultType = spgSplitTuple;
+	out->result.splitTuple.prefixHasPrefix = true;
+	out->result.splitTuple.prefixPrefixDatum = Int32GetDatum(level);
+	out->result.splitTuple.prefixNNodes = 1;
+	out->result.splitTuple.prefixNodeLabels = labels;
+	out->result.splitTuple.childNodeN = 0;
+	out->result.splitTuple.postfixHasPrefix = true;
+	out->result.splitTuple.postfixPrefixDatum = Int32GetDatum(lower);
+}
+
+PG_FUNCTION_INFO_V1(h3whole_tree_choose);
+Datum h3whole_tree_choose(PG_FUNCTION_ARGS)
+{
+	const spgChooseIn *in = (spgChooseIn *) PG_GETARG_POINTER(0);
+	spgChooseOut *out = (spgChooseOut *) PG_GETARG_POINTER(1);
+	H3Index index = (H3Index) DatumGetInt64(in->datum);
+	H3Index present = (H3Index) DatumGetInt64(in->nodeLabels[0]);
+	int level = DatumGetInt32(in->prefixDatum);
+	int before = in->level;
+	int node = 0;
+
+	while (before < level && label_of(index, before) == label_of(present, before))
+		before++;
+	while (node < in->nNodes && (H3Index) DatumGetInt64(in->nodeLabels[node]) != label_of(index, level))
+		node++;
+	if (before < level)
+		split_tuple(out, label_of(present, before), before, level);
+	else if (node < in->nNodes)
+	{
+		out->resultType = spgMatchNode;
+		out->result.matchNode.nodeN = node;
+		out->result.matchNode.levelAdd = level + 1 - in->level;
+		out->result.matchNode.restDatum = in->datum;
+	}
+	else if (in->allTheSame)
+		split_tuple(out, present, level, level + 1);
+	else
+	{
+		out->resultType = spgAddNode;
+		out->result.addNode.nodeLabel = INDEX_DATUM(label_of(index, level));
+		out->result.addNode.nodeN = in->nNodes;
+	}
+	PG_RETURN_VOID();
+}
+
+/* The first level, from one on, whose labels are not all the same; the last one, if all are. */
+static int level_of(const spgPickSplitIn *in)
+{
+	H3Index first = (H3Index) DatumGetInt64(in->datums[0]);
+	int level = in->level;
+	int same = 0;
+
+	while (level < LAST_LEVEL)
+	{
+		for (same = 1; same < in->nTuples; same++)
+			if (label_of((H3Index) DatumGetInt64(in->datums[same]), level) != label_of(first, level))
+				return level;
+		level++;
+	}
+	return level;
+}
+
+PG_FUNCTION_INFO_V1(h3whole_tree_picksplit);
+Datum h3whole_tree_picksplit(PG_FUNCTION_ARGS)
+{
+	const spgPickSplitIn *in = (spgPickSplitIn *) PG_GETARG_POINTER(0);
+	spgPickSplitOut *out = (spgPickSplitOut *) PG_GETARG_POINTER(1);
+	int level = level_of(in);
+
+	out->hasPrefix = true;
+	out->prefixDatum = Int32GetDatum(level);
+	out->nNodes = 0;
+	out->nodeLabels = palloc(sizeof(Datum) * in->nTuples);
+	out->mapTuplesToNodes = palloc(sizeof(int) * in->nTuples);
+	out->leafTupleDatums = palloc(sizeof(Datum) * in->nTuples);
+	for (int i = 0; i < in->nTuples; i++)
+	{
+		Datum label = INDEX_DATUM(label_of((H3Index) DatumGetInt64(in->datums[i]), level));
+		int node = 0;
+
+		while (node < out->nNodes && out->nodeLabels[node] != label)
+			node++;
+		if (node == out->nNodes)
+			out->nodeLabels[out->nNodes++] = label;
+		out->mapTuplesToNodes[i] = node;
+		out->leafTupleDatums[i] = in->datums[i];
+	}
+	PG_RETURN_VOID();
+}
+
+/* What the numbers of operators in the script are. */
+enum
+{
+	OVERLAPS = 3,
+	CONTAINS = 7,
+	CONTAINED = 8
+};
+
+static bool is_so(int strategy, H3Index cell, H3Index asked)
+{
+	return (strategy != CONTAINED && contains(cell, asked)) || (strategy != CONTAINS && contains(asked, cell));
+}
+
+/* Whether an index with this label may be what each key asks for. Below a cell that contains what is asked for, as
+ * below one that is contained, there may be what is; a cell that contains it has labels that do. */
+static bool may_have(const spgInnerConsistentIn *in, H3Index label)
+{
+	for (int i = 0; i < in->nkeys; i++)
+	{
+		H3Index asked = (H3Index) DatumGetInt64(in->scankeys[i].sk_argument);
+
+		if (!is_so(in->scankeys[i].sk_strategy == CONTAINS ? CONTAINS : OVERLAPS, label, asked))
+			return false;
+	}
+	return true;
+}
+
+PG_FUNCTION_INFO_V1(h3whole_tree_inner);
+Datum h3whole_tree_inner(PG_FUNCTION_ARGS)
+{
+	const spgInnerConsistentIn *in = (spgInnerConsistentIn *) PG_GETARG_POINTER(0);
+	spgInnerConsistentOut *out = (spgInnerConsistentOut *) PG_GETARG_POINTER(1);
+
+	out->nNodes = 0;
+	out->nodeNumbers = palloc(sizeof(int) * in->nNodes);
+	out->levelAdds = palloc(sizeof(int) * in->nNodes);
+	for (int i = 0; i < in->nNodes; i++)
+	{
+		if (!may_have(in, (H3Index) DatumGetInt64(in->nodeLabels[i])))
+			continue;
+		out->levelAdds[out->nNodes] = DatumGetInt32(in->prefixDatum) + 1 - in->level;
+		out->nodeNumbers[out->nNodes++] = i;
+	}
+	PG_RETURN_VOID();
+}
+
+PG_FUNCTION_INFO_V1(h3whole_tree_leaf);
+Datum h3whole_tree_leaf(PG_FUNCTION_ARGS)
+{
+	const spgLeafConsistentIn *in = (spgLeafConsistentIn *) PG_GETARG_POINTER(0);
+	spgLeafConsistentOut *out = (spgLeafConsistentOut *) PG_GETARG_POINTER(1);
+	H3Index cell = (H3Index) DatumGetInt64(in->leafDatum);
+	bool found = true;
+
+	out->leafValue = in->leafDatum;
+	out->recheck = false;
+	for (int i = 0; found && i < in->nkeys; i++)
+		found = is_so(in->scankeys[i].sk_strategy, cell, (H3Index) DatumGetInt64(in->scankeys[i].sk_argument));
+	PG_RETURN_BOOL(found);
 }

@@ -99,9 +99,10 @@ static char *item(sqlite3_value *value, size_t number) {
 
 /* What an error of a list of cells is about, of which each is one. */
 static char *listed(H3Error error, const h3sql_List *list, int res) {
-    char text[H3SQL_ABOUT_ROOM];
+    char text[H3SQL_ABOUT_ROOM], overlap[H3SQL_ABOUT_ROOM] = "";
     h3sql_about_list(text, error, list->cells, list->count, res);
-    return sqlite3_mprintf("%s", text);
+    if (error == E_DUPLICATE_INPUT) h3sql_about_overlap(overlap, list->cells, list->count, true);
+    return sqlite3_mprintf(overlap[0] ? "%s: %s" : "%s", text, overlap);
 }
 
 /* The whole text of an error; what it is about is freed. */
@@ -139,6 +140,8 @@ typedef struct {
     const char *name;
     int arity;
     Call *call;
+    /* how much finer than the cell's the resolution is that is not given */
+    int steps;
     union {
         int (*test)(H3Index);
         H3Error (*number)(const H3Index *, size_t, int *, size_t, size_t *);
@@ -192,6 +195,23 @@ static void cell(sqlite3_context *context, int count, sqlite3_value **values) {
     error = index_of(values[0], &index);
     if (!error) error = called(context)->of.cell(index, resolution_of(values[1]), &out);
     if (error) put_error(context, error, at_resolution(error, values[0], values[1]));
+    else put_index(context, out, is_text(values[0]));
+}
+
+/* The same at the next resolution. */
+static void cell_next(sqlite3_context *context, int count, sqlite3_value **values) {
+    H3Index index, out = H3_NULL;
+    H3Error error;
+    int res = -1;
+    if (has_null(count, values)) return;
+    error = index_of(values[0], &index);
+    if (!error) {
+        res = h3w_getResolution(index) + called(context)->steps;
+        error = called(context)->of.cell(index, res, &out);
+    }
+    if (error == E_RES_DOMAIN)
+        put_error(context, error, joined("%s at resolution %s", named(values[0]), sqlite3_mprintf("%d", res)));
+    else if (error) put_error(context, error, named(values[0]));
     else put_index(context, out, is_text(values[0]));
 }
 
@@ -251,21 +271,23 @@ static void as_integer(sqlite3_context *context, int count, sqlite3_value **valu
 }
 
 static const Function functions[] = {
-    {"h3_is_valid_cell", 1, test, {.test = h3w_isValidCell}},
-    {"h3_is_valid_directed_edge", 1, test, {.test = h3w_isValidDirectedEdge}},
-    {"h3_get_resolution", 1, number, {.number = h3w_getResolutions}},
-    {"h3_get_base_cell_number", 1, number, {.number = h3w_getBaseCellNumbers}},
-    {"h3_is_pentagon", 1, number, {.number = h3w_arePentagons}},
-    {"h3_is_res_class_iii", 1, number, {.number = h3w_areResClassIII}},
-    {"h3_get_directed_edge_origin", 1, origin, {.origin = h3w_getDirectedEdgeOrigin}},
-    {"h3_cell_to_parent", 2, cell, {.cell = h3w_cellToParent}},
-    {"h3_cell_to_center_child", 2, cell, {.cell = h3w_cellToCenterChild}},
-    {"h3_cell_to_children_size", 2, count_of, {.count = h3w_cellToChildrenSize}},
-    {"h3_cell_to_child_pos", 2, count_of, {.count = h3w_cellToChildPos}},
-    {"h3_child_pos_to_cell", 3, cell_at_position, {0}},
-    {"h3_get_num_cells", 1, cells_of_resolution, {0}},
-    {"h3_h3_to_string", 1, as_text, {0}},
-    {"h3_string_to_h3", 1, as_integer, {0}},
+    {"h3_is_valid_cell", 1, test, 0, {.test = h3w_isValidCell}},
+    {"h3_is_valid_directed_edge", 1, test, 0, {.test = h3w_isValidDirectedEdge}},
+    {"h3_get_resolution", 1, number, 0, {.number = h3w_getResolutions}},
+    {"h3_get_base_cell_number", 1, number, 0, {.number = h3w_getBaseCellNumbers}},
+    {"h3_is_pentagon", 1, number, 0, {.number = h3w_arePentagons}},
+    {"h3_is_res_class_iii", 1, number, 0, {.number = h3w_areResClassIII}},
+    {"h3_get_directed_edge_origin", 1, origin, 0, {.origin = h3w_getDirectedEdgeOrigin}},
+    {"h3_cell_to_parent", 2, cell, 0, {.cell = h3w_cellToParent}},
+    {"h3_cell_to_center_child", 2, cell, 0, {.cell = h3w_cellToCenterChild}},
+    {"h3_cell_to_parent", 1, cell_next, -1, {.cell = h3w_cellToParent}},
+    {"h3_cell_to_center_child", 1, cell_next, 1, {.cell = h3w_cellToCenterChild}},
+    {"h3_cell_to_children_size", 2, count_of, 0, {.count = h3w_cellToChildrenSize}},
+    {"h3_cell_to_child_pos", 2, count_of, 0, {.count = h3w_cellToChildPos}},
+    {"h3_child_pos_to_cell", 3, cell_at_position, 0, {0}},
+    {"h3_get_num_cells", 1, cells_of_resolution, 0, {0}},
+    {"h3_h3_to_string", 1, as_text, 0, {0}},
+    {"h3_string_to_h3", 1, as_integer, 0, {0}},
 };
 
 /* ---- Lists of cells */
@@ -430,20 +452,20 @@ static void operate(sqlite3_context *context, int count, sqlite3_value **values)
 }
 
 static const Function operations[] = {
-    {"h3_intersect_cells", 2, operate, {.operation = h3w_intersectCells}},
-    {"h3_subtract_cells", 2, operate, {.operation = h3w_subtractCells}},
+    {"h3_intersect_cells", 2, operate, 0, {.operation = h3w_intersectCells}},
+    {"h3_subtract_cells", 2, operate, 0, {.operation = h3w_subtractCells}},
 };
 
 /* ---- What a connection has: a base cell table, and cells that are prepared */
 
 /* Cells of a text, prepared, so that others are looked up in them. Who has them holds them. */
-typedef struct Prepared {
+typedef struct {
+    h3sql_Kept kept;
     int holders;
     bool is_region;
     char *text;
     size_t length;
     h3sql_List zones;
-    struct Prepared *next;
 } Prepared;
 
 static void drop(void *held) {
@@ -469,24 +491,18 @@ typedef struct Connection {
     int holders;
     bool has_table;
     H3wTable table;
-    /* the one that was asked for last comes first */
-    Prepared *prepared;
+    /* what is prepared, and the one of it that was asked for last */
+    h3sql_Cache cache;
+    Prepared *last;
     Module modules[SETS];
 } Connection;
 
-/* Drops what comes after some of the prepared cells. */
-static void drop_after(Prepared **at) {
-    while (*at) {
-        Prepared *old = *at;
-        *at = old->next;
-        drop(old);
-    }
-}
-
 static void let_go(void *held) {
     Connection *connection = held;
+    h3sql_Kept *old;
     if (--connection->holders > 0) return;
-    drop_after(&connection->prepared);
+    while ((old = h3sql_evict(&connection->cache, 0, NULL))) drop(old);
+    sqlite3_free(connection->cache.chains);
     sqlite3_free(connection);
 }
 
@@ -618,37 +634,41 @@ static void destination(sqlite3_context *context, int count, sqlite3_value **val
     else put_index(context, out, is_text(values[0]));
 }
 
-/* How many texts of cells are kept prepared, and how many cells they have, but for the last one. */
-#define KEPT_TEXTS 64
-#define KEPT_CELLS (4 * 1024 * 1024)
-
-/* Finds what was prepared of a text, and puts it first; NULL where it was not. */
-static Prepared *find(Connection *connection, const char *text, size_t length, bool is_region) {
-    Prepared **at;
-    for (at = &connection->prepared; *at; at = &(*at)->next) {
-        Prepared *found = *at;
-        if (found->is_region != is_region || found->length != length || memcmp(found->text, text, length)) continue;
-        *at = found->next;
-        found->next = connection->prepared;
-        return connection->prepared = found;
-    }
-    return NULL;
+static bool is_same(const Prepared *prepared, const char *text, size_t length, bool is_region) {
+    return prepared->is_region == is_region && prepared->length == length && !memcmp(prepared->text, text, length);
 }
 
-/* Puts what was prepared of a text first, and drops what has not been asked for in the longest
- * time. E_MEMORY_ALLOC: there is no memory for the text. */
-static H3Error keep(Connection *connection, Prepared *prepared, const char *text, size_t length) {
-    Prepared *last = prepared;
-    size_t count = 1, cells = prepared->zones.count;
+static uint64_t hash_of(const char *text, size_t length, bool is_region) {
+    return h3sql_hash(text, length) ^ (uint64_t)is_region;
+}
+
+/* Finds what was prepared of a text: of the last call, or by the hash; NULL if it was not. */
+static Prepared *find(Connection *connection, const char *text, size_t length, bool is_region) {
+    Prepared *last = connection->last;
+    uint64_t hash;
+    h3sql_Kept *found;
+    if (last && is_same(last, text, length, is_region)) return last;
+    hash = hash_of(text, length, is_region);
+    found = h3sql_chain(&connection->cache, hash);
+    while (found && !(found->hash == hash && is_same((Prepared *)found, text, length, is_region))) found = found->next;
+    if (found) connection->last = (Prepared *)found;
+    return (Prepared *)found;
+}
+
+/* Keeps what was prepared of a text of so many cells. E_MEMORY_ALLOC: there is no memory. */
+static H3Error keep(Connection *connection, Prepared *prepared, const char *text, size_t length, size_t cells) {
+    h3sql_Kept *old;
+    H3Error error;
     prepared->text = text ? sqlite3_malloc64(length + 1) : NULL;
     if (!prepared->text) return E_MEMORY_ALLOC;
     memcpy(prepared->text, text, length);
     prepared->length = length;
-    prepared->next = connection->prepared;
+    prepared->kept.hash = hash_of(text, length, prepared->is_region);
+    error = h3sql_keep(&connection->cache, &prepared->kept, cells, resize, NULL);
+    if (error) return error;
     prepared->holders++;
-    connection->prepared = prepared;
-    while (last->next && ++count <= KEPT_TEXTS && (cells += last->next->zones.count) <= KEPT_CELLS) last = last->next;
-    drop_after(&last->next);
+    connection->last = prepared;
+    while ((old = h3sql_evict(&connection->cache, H3SQL_KEPT_CELLS, &prepared->kept))) drop(old);
     return E_SUCCESS;
 }
 
@@ -669,7 +689,8 @@ static Prepared *prepare(sqlite3_context *context, sqlite3_value *value, bool is
     }
     if (!error && code == SQLITE_OK) error = h3sql_prepare(&made->zones, &cells.list, is_region, resize, NULL);
     if (!error && code == SQLITE_OK && is_text(value))
-        error = keep(connection, made, (const char *)sqlite3_value_text(value), (size_t)sqlite3_value_bytes(value));
+        error = keep(connection, made, (const char *)sqlite3_value_text(value), (size_t)sqlite3_value_bytes(value),
+                     cells.list.count);
     if (error || code != SQLITE_OK) {
         put_list_error(context, code, error, &cells, refused);
         if (made) drop(made);
@@ -758,14 +779,17 @@ typedef struct {
     /* the memory of a walk */
     void *walked;
     bool as_texts, found;
+    /* what the second argument is, if it is not given */
+    bool is_default;
+    int second;
     H3Index row;
     sqlite3_int64 place;
 } Cursor;
 
 struct Set {
     const char *name, *schema;
-    /* how many columns are seen, and how many are hidden */
-    int columns, arity;
+    /* how many columns are seen, how many are hidden, and how many of these have to be given */
+    int columns, arity, least;
     /* begins the rows; what it returns is an error of H3, or E_SUCCESS, and `*code` is one of
      * SQLite */
     H3Error (*begin)(Cursor *cursor, sqlite3 *engine, sqlite3_value **values, int *code);
@@ -802,14 +826,20 @@ static char *about_index(H3Error error, Cursor *cursor, sqlite3_value **values) 
 }
 
 static char *about_children(H3Error error, Cursor *cursor, sqlite3_value **values) {
-    (void)cursor;
-    return at_resolution(error, values[0], values[1]);
+    if (!cursor->is_default) return at_resolution(error, values[0], values[1]);
+    if (error == E_FAILED || error == E_CELL_INVALID) return named(values[0]);
+    return joined("%s at resolution %s", named(values[0]), sqlite3_mprintf("%d", cursor->second));
+}
+
+/* The second argument, or what it is if it is not given. */
+static int second_of(const Cursor *cursor, sqlite3_value **values) {
+    return cursor->is_default ? cursor->second : resolution_of(values[1]);
 }
 
 static char *about_uncompacted(H3Error error, Cursor *cursor, sqlite3_value **values) {
     if (cursor->refused) return sqlite3_mprintf("%s", cursor->refused);
     if (error == E_RES_DOMAIN) return resolution(values[1]);
-    return listed(error, &cursor->cells.list, resolution_of(values[1]));
+    return listed(error, &cursor->cells.list, second_of(cursor, values));
 }
 
 static H3Error begin_pentagons(Cursor *cursor, sqlite3 *engine, sqlite3_value **values, int *code) {
@@ -841,7 +871,20 @@ static H3Error begin_children(Cursor *cursor, sqlite3 *engine, sqlite3_value **v
     H3Error error = index_of(values[0], &index);
     (void)engine, (void)code;
     cursor->as_texts = is_text(values[0]);
-    return error ? error : h3sql_children(&cursor->rows, index, resolution_of(values[1]));
+    if (error) return error;
+    cursor->second = h3w_getResolution(index) + 1;
+    return h3sql_children(&cursor->rows, index, second_of(cursor, values));
+}
+
+/* The resolution that follows the finest of some cells; of resolution 15 that itself. */
+static int next_of(const h3sql_List *list) {
+    int finest = -1;
+    size_t i;
+    for (i = 0; i < list->count; i++) {
+        int res = h3w_getResolution(list->cells[i]);
+        if (res > finest) finest = res;
+    }
+    return finest < 15 ? finest + 1 : 15;
 }
 
 static H3Error begin_uncompacted(Cursor *cursor, sqlite3 *engine, sqlite3_value **values, int *code) {
@@ -850,14 +893,14 @@ static H3Error begin_uncompacted(Cursor *cursor, sqlite3 *engine, sqlite3_value 
     H3Error error = take_array(cells, &cursor->refused, engine, values[0], code);
     cursor->as_texts = cells->any_text;
     if (error || *code != SQLITE_OK) return error;
+    cursor->second = next_of(&cells->list);
     return h3sql_uncompacted(&cursor->rows, cells->list.count ? cells->list.cells : &none, cells->list.count,
-                             resolution_of(values[1]));
+                             second_of(cursor, values));
 }
 
 static char *about_walk(H3Error error, Cursor *cursor, sqlite3_value **values) {
-    (void)cursor;
     if (error == E_FAILED || error == E_CELL_INVALID) return named(values[0]);
-    return joined("%s steps from %s", shown(values[1]), named(values[0]));
+    return joined("%s steps from %s", cursor->is_default ? sqlite3_mprintf("1") : shown(values[1]), named(values[0]));
 }
 
 static H3Error begin_walk(Cursor *cursor, h3sql_Walk walk, sqlite3_value **values) {
@@ -866,7 +909,8 @@ static H3Error begin_walk(Cursor *cursor, h3sql_Walk walk, sqlite3_value **value
     H3Error error = index_of(values[0], &origin);
     cursor->as_texts = is_text(values[0]);
     if (error) return error;
-    return h3sql_walk(&cursor->rows, walk, &connection->table, origin, resolution_of(values[1]), resize, NULL,
+    cursor->second = 1;
+    return h3sql_walk(&cursor->rows, walk, &connection->table, origin, second_of(cursor, values), resize, NULL,
                       &cursor->walked);
 }
 
@@ -888,21 +932,21 @@ static H3Error begin_ring(Cursor *cursor, sqlite3 *engine, sqlite3_value **value
 #define ARGUMENTS_OF_WALK "\"h3whole.origin\" HIDDEN, \"h3whole.k\" HIDDEN)"
 
 static const Set sets[SETS] = {
-    {"h3_get_res_0_cells", "CREATE TABLE x(value)", 1, 0, begin_res0_cells, about_nothing, false},
-    {"h3_get_pentagons", "CREATE TABLE x(value, \"h3whole.resolution\" HIDDEN)", 1, 1, begin_pentagons,
+    {"h3_get_res_0_cells", "CREATE TABLE x(value)", 1, 0, 0, begin_res0_cells, about_nothing, false},
+    {"h3_get_pentagons", "CREATE TABLE x(value, \"h3whole.resolution\" HIDDEN)", 1, 1, 1, begin_pentagons,
      about_resolution, false},
-    {"h3_origin_to_directed_edges", "CREATE TABLE x(value, \"h3whole.origin\" HIDDEN)", 1, 1, begin_edges, about_index,
+    {"h3_origin_to_directed_edges", "CREATE TABLE x(value, \"h3whole.origin\" HIDDEN)", 1, 1, 1, begin_edges,
+     about_index, false},
+    {"h3_cell_to_ancestors", "CREATE TABLE x(value, \"h3whole.cell\" HIDDEN)", 1, 1, 1, begin_ancestors, about_index,
      false},
-    {"h3_cell_to_ancestors", "CREATE TABLE x(value, \"h3whole.cell\" HIDDEN)", 1, 1, begin_ancestors, about_index,
-     false},
-    {"h3_cell_to_children", "CREATE TABLE x(value, \"h3whole.cell\" HIDDEN, \"h3whole.resolution\" HIDDEN)", 1, 2,
+    {"h3_cell_to_children", "CREATE TABLE x(value, \"h3whole.cell\" HIDDEN, \"h3whole.resolution\" HIDDEN)", 1, 2, 1,
      begin_children, about_children, false},
-    {"h3_uncompact_cells", "CREATE TABLE x(value, \"h3whole.cells\" HIDDEN, \"h3whole.resolution\" HIDDEN)", 1, 2,
+    {"h3_uncompact_cells", "CREATE TABLE x(value, \"h3whole.cells\" HIDDEN, \"h3whole.resolution\" HIDDEN)", 1, 2, 1,
      begin_uncompacted, about_uncompacted, false},
-    {"h3_grid_disk_unsafe", "CREATE TABLE x(value, " ARGUMENTS_OF_WALK, 1, 2, begin_disk, about_walk, true},
-    {"h3_grid_disk_distances_unsafe", "CREATE TABLE x(value, distance, " ARGUMENTS_OF_WALK, 2, 2, begin_distances,
+    {"h3_grid_disk_unsafe", "CREATE TABLE x(value, " ARGUMENTS_OF_WALK, 1, 2, 1, begin_disk, about_walk, true},
+    {"h3_grid_disk_distances_unsafe", "CREATE TABLE x(value, distance, " ARGUMENTS_OF_WALK, 2, 2, 1, begin_distances,
      about_walk, true},
-    {"h3_grid_ring_unsafe", "CREATE TABLE x(value, " ARGUMENTS_OF_WALK, 1, 2, begin_ring, about_walk, true},
+    {"h3_grid_ring_unsafe", "CREATE TABLE x(value, " ARGUMENTS_OF_WALK, 1, 2, 1, begin_ring, about_walk, true},
 };
 
 static int connect(sqlite3 *engine, void *data, int argc, const char *const *argv, sqlite3_vtab **out, char **message) {
@@ -947,9 +991,9 @@ static int best_index(sqlite3_vtab *base, sqlite3_index_info *info) {
         asked |= 1 << column;
         count++;
     }
-    if (count < set->arity)
+    if (count < set->least || (set->least > 0 && !(asked & 1 << 1)))
         return say(base, SQLITE_ERROR,
-                   sqlite3_mprintf("%s takes %d argument%s", set->name, set->arity, set->arity == 1 ? "" : "s"));
+                   sqlite3_mprintf("%s takes %d argument%s", set->name, set->least, set->least == 1 ? "" : "s"));
     info->estimatedCost = 1000;
     info->estimatedRows = 1000;
     return SQLITE_OK;
@@ -1021,6 +1065,7 @@ static int filter(sqlite3_vtab_cursor *base, int plan, const char *words, int co
     if (has_null(count, values)) return SQLITE_OK;
     if (table->set->is_over_table && !table->connection->has_table)
         return say(base->pVtab, SQLITE_ERROR, no_table(table->set->name));
+    cursor->is_default = count < table->set->arity;
     code = keep_arguments(cursor, count, values);
     if (code != SQLITE_OK) return code;
     error = table->set->begin(cursor, table->engine, values, &code);
@@ -1037,7 +1082,7 @@ static int column(sqlite3_vtab_cursor *base, sqlite3_context *context, int numbe
     int columns = ((Table *)base->pVtab)->set->columns;
     if (number == 0) put_index(context, cursor->row, cursor->as_texts);
     else if (number < columns) sqlite3_result_int(context, cursor->rows.distances[cursor->rows.at - 1]);
-    else sqlite3_result_value(context, cursor->arguments[number - columns]);
+    else if (cursor->arguments[number - columns]) sqlite3_result_value(context, cursor->arguments[number - columns]);
     return SQLITE_OK;
 }
 

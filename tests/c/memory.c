@@ -68,6 +68,14 @@ static H3Error prepared(size_t *count) {
     return error;
 }
 
+/* no two overlap, so both places are the number of cells */
+static H3Error found(size_t *count) {
+    size_t earlier = KEPT;
+    H3Error error = h3w_findOverlap(cells, 343, count, &earlier);
+    CHECK(earlier == (error ? KEPT : 343));
+    return error;
+}
+
 /* Where all is granted, and with each allocation refused. */
 static void expect(H3Error (*call)(size_t *), size_t wanted) {
     unsigned long allocations;
@@ -173,6 +181,7 @@ int main(void) {
     expect(merged, 1);
     expect(subtracted, 60);
     expect(prepared, 343);
+    expect(found, 343);
     expect_lookups();
     expect_order();
     /* a list that is refused */

@@ -249,6 +249,23 @@ static void look_up(const H3Index *zones, size_t n) {
     CHECK(same == n && rest[0] + rest[1] == others && parts[0][n] == 77);
 }
 
+/* The first place before another whose cell overlaps the one there, or that place. */
+static size_t first_overlapped(const List *list, size_t place) {
+    size_t i = 0;
+    while (i < place && !is_above(list->cells[i], list->cells[place]) && !is_above(list->cells[place], list->cells[i]))
+        i++;
+    return i;
+}
+
+/* The first cell that overlaps an earlier one, and the first that it overlaps. */
+static void find(const List *list) {
+    size_t place = 0, at = 77, earlier = 77;
+    while (place < list->n && first_overlapped(list, place) == place) place++;
+    CHECK((place < list->n) == overlaps(list));
+    CHECK(h3w_findOverlap(list->cells, list->n, &at, &earlier) == E_SUCCESS);
+    CHECK(at == place && earlier == (place < list->n ? first_overlapped(list, place) : list->n));
+}
+
 /* The cells as zones, and these again; looked up where they stand, and in a copy. */
 static void prepare(const List *list) {
     static H3Index zones[LIST + 2], copy[LIST + 2];
@@ -279,8 +296,10 @@ int main(void) {
         make_list(&second, i % 10 ? below(i % 3 ? LIST : 4) : 0);
         regions(&first, &second);
         prepare(&first);
+        find(&first);
         coarsest(&first, &zones);
         prepare(&zones);
+        find(&zones);
     }
     return counts();
 }

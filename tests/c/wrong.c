@@ -226,12 +226,20 @@ static void zones(void) {
     H3Index *none = places(0), *out = places(3), *ready = places(2), cells[2] = {HEXAGON, 5};
     int64_t counts[3] = {77, 77, 77}, others = 77;
     int truths[2] = {77, 77};
-    size_t at = 9, i;
+    size_t at = 9, earlier = 9, i;
     CHECK(h3w_zones(overlap, 2, out, 3) == E_DUPLICATE_INPUT && h3w_zones(last, 2, out, 3) == E_DUPLICATE_INPUT);
     CHECK(h3w_zones(last, 3, out, 3) == E_CELL_INVALID && h3w_zones(last, 3, out, 2) == E_MEMORY_BOUNDS);
     CHECK(h3w_zones(two, 2, out, 1) == E_MEMORY_BOUNDS && h3w_zones(two, 1, none, 0) == E_MEMORY_BOUNDS);
     for (i = 0; i < ROOM(no_cells); i++) CHECK(h3w_zones(no_cells + i, 1, out, 3) == E_CELL_INVALID);
     CHECK(are_kept(out, 3));
+    /* an index that is no cell's is judged before an overlap, wherever it stands */
+    CHECK(h3w_findOverlap(last, 3, &at, &earlier) == E_CELL_INVALID && at == 2 && earlier == 9);
+    for (i = 0; i < ROOM(no_cells); i++)
+        CHECK(h3w_findOverlap(no_cells + i, 1, &at, &earlier) == E_CELL_INVALID && at == 0 && earlier == 9);
+    CHECK(h3w_findOverlap(last, 2, &at, &earlier) == E_SUCCESS && at == 1 && earlier == 0);
+    CHECK(h3w_findOverlap(two, 2, &at, &earlier) == E_SUCCESS && at == 2 && earlier == 2);
+    CHECK(h3w_findOverlap(none, 0, &at, &earlier) == E_SUCCESS && at == 0 && earlier == 0);
+    at = 9;
     CHECK(h3w_zones(none, 0, none, 0) == E_SUCCESS && h3w_zones(two, 2, ready, 2) == E_SUCCESS);
     CHECK(h3w_cellsToZones(ready, 2, cells, 2, out, 1, &at) == E_MEMORY_BOUNDS);
     CHECK(h3w_areCoveredCells(ready, 2, cells, 2, truths, 1, &at) == E_MEMORY_BOUNDS);

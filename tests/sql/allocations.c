@@ -31,8 +31,10 @@ static const char *const statements[] = {
     " FROM h3_cell_to_children('85283473fffffff', 7)",
     "SELECT group_concat(h3_zone_of(value, (SELECT h3_compact_cells(value)"
     " FROM h3_cell_to_children('85283473fffffff', 6)))) FROM h3_cell_to_children('85283473fffffff', 6)",
+    /* (seven texts, of which the cache has chains for four at first) */
     "SELECT sum(h3_is_covered('85283473fffffff', '[' || value || ']')),"
     " h3_zone_of('85283473fffffff', 599686042433355775) FROM h3_cell_to_children(599686042433355775, 6)",
+    "SELECT h3_cell_to_parent('85283473fffffff'), count(value) FROM h3_cell_to_children('85283473fffffff')",
     "SELECT group_concat(value) FROM h3_cell_to_ancestors('85283473fffffff')",
 };
 

@@ -115,7 +115,7 @@ def server(*words, settings=()):
     """A server while it is used."""
     with prepared(*words) as (found, programs):
         options = " ".join(f"-c {setting}" for setting in ("listen_addresses=", "fsync=off", *settings))
-        control = own_words(f"{programs}/pg_ctl", "-D", found.data, "-l", found.log, "-w")
+        control = own_words(f"{programs}/pg_ctl", "-D", found.data, "-l", found.log, "-w", "-t", "600")
         try:
             subprocess.run(
                 [*control, "-o", f"-k {found.socket} {options}", "start"],

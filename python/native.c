@@ -1,0 +1,345 @@
+/* The functions of one index, over texts and over integers, and columns of texts: the calls of libh3whole that ctypes
+ * makes slowly, by the stable ABI of Python 3.10. The package is whole without it.
+ *
+ * Each function here takes the place of one in Python, and calls it for all that is not plain: another type of
+ * argument, one passed by its name, an error. So errors are made in Python alone. */
+#define Py_LIMITED_API 0x030a0000
+#define PY_SSIZE_T_CLEAN
+#include <Python.h>
+#include <dlfcn.h>
+#include <stdint.h>
+#include <string.h>
+
+typedef int OfIndex(uint64_t);
+typedef uint32_t IndexAt(uint64_t, int, uint64_t *);
+typedef uint32_t NumberAt(uint64_t, int, int64_t *);
+
+/* The library's functions. */
+static struct {
+    OfIndex *is_valid_cell, *get_resolution, *get_base_cell_number, *is_pentagon, *is_res_class_iii, *is_valid_edge;
+    IndexAt *to_parent, *to_center_child;
+    NumberAt *to_children_size, *to_child_pos;
+    uint32_t (*edge_origin)(uint64_t, uint64_t *);
+    uint32_t (*string_to_h3)(const char *, size_t, uint64_t *);
+    uint32_t (*h3_to_string)(uint64_t, char *, size_t);
+} library;
+
+static const struct {
+    const char *name;
+    void *place;
+} symbols[] = {
+    {"h3w_isValidCell", &library.is_valid_cell},
+    {"h3w_getResolution", &library.get_resolution},
+    {"h3w_getBaseCellNumber", &library.get_base_cell_number},
+    {"h3w_isPentagon", &library.is_pentagon},
+    {"h3w_isResClassIII", &library.is_res_class_iii},
+    {"h3w_isValidDirectedEdge", &library.is_valid_edge},
+    {"h3w_cellToParent", &library.to_parent},
+    {"h3w_cellToCenterChild", &library.to_center_child},
+    {"h3w_cellToChildrenSize", &library.to_children_size},
+    {"h3w_cellToChildPos", &library.to_child_pos},
+    {"h3w_getDirectedEdgeOrigin", &library.edge_origin},
+    {"h3w_stringToH3", &library.string_to_h3},
+    {"h3w_h3ToString", &library.h3_to_string},
+};
+
+/* ---- What is plain. Each returns 0, without an exception, of anything else. */
+
+static int take_text(PyObject *given, uint64_t *index) {
+    Py_ssize_t count;
+    const char *text;
+    if (PyUnicode_CheckExact(given)) {
+        text = PyUnicode_AsUTF8AndSize(given, &count);
+        if (text) return library.string_to_h3(text, (size_t)count, index) == 0;
+        PyErr_Clear();
+    }
+    return 0;
+}
+
+static int take_integer(PyObject *given, uint64_t *index) {
+    unsigned long long number;
+    if (!PyLong_CheckExact(given)) return 0;
+    number = PyLong_AsUnsignedLongLong(given);
+    if (number == (unsigned long long)-1 && PyErr_Occurred()) {
+        PyErr_Clear();
+        return 0;
+    }
+    *index = number;
+    return 1;
+}
+
+static int take_res(PyObject *given, int *res) {
+    long number;
+    if (!PyLong_CheckExact(given)) return 0;
+    number = PyLong_AsLong(given);
+    if (number == -1 && PyErr_Occurred()) PyErr_Clear();
+    *res = (int)number;
+    return number >= 0 && number <= 15;
+}
+
+static PyObject *give_text(uint64_t index) {
+    char text[17];
+    if (library.h3_to_string(index, text, sizeof text)) return PyErr_NoMemory();
+    return PyUnicode_FromStringAndSize(text, (Py_ssize_t)strlen(text));
+}
+
+static PyObject *give_integer(uint64_t index) { return PyLong_FromUnsignedLongLong(index); }
+
+/* ---- The functions in Python */
+
+static PyObject *pass_on(PyObject *function, PyObject *const *given, Py_ssize_t count, PyObject *names) {
+    Py_ssize_t named = names ? PyTuple_Size(names) : 0, i;
+    PyObject *plain = PyTuple_New(count), *by_name = named ? PyDict_New() : NULL, *result = NULL;
+    if (!plain || (named && !by_name)) goto done;
+    for (i = 0; i < count; i++) {
+        Py_INCREF(given[i]);
+        if (PyTuple_SetItem(plain, i, given[i]) < 0) goto done;
+    }
+    for (i = 0; i < named; i++)
+        if (PyDict_SetItem(by_name, PyTuple_GetItem(names, i), given[count + i]) < 0) goto done;
+    result = PyObject_Call(function, plain, by_name);
+done:
+    Py_XDECREF(plain);
+    Py_XDECREF(by_name);
+    return result;
+}
+
+enum { MOST = 16 };
+static PyObject *texts_in_python[MOST], *integers_in_python[MOST];
+
+/* A function of one index, or of one and a resolution: `take` and `give` are those of texts or of integers. */
+#define FUNCTION(kind, place, name, least, most)                                                                       \
+    static PyObject *kind##_##name(PyObject *self, PyObject *const *given, Py_ssize_t count, PyObject *names) {        \
+        uint64_t index = 0;                                                                                            \
+        PyObject *result = NULL;                                                                                       \
+        int is_plain = !names && count >= least && count <= most && take_##kind(given[0], &index);                     \
+        (void)self;                                                                                                    \
+        if (is_plain && name(index, count > 1 ? given[1] : NULL, give_##kind, &result)) return result;                 \
+        return pass_on(kind##s_in_python[place], given, count, names);                                                 \
+    }
+
+typedef PyObject *Give(uint64_t);
+
+/* Each of these returns 0 where the library refuses the index or the resolution is none. */
+#define TEST(name, test, is_known)                                                                                     \
+    static int name(uint64_t index, PyObject *res, Give *give, PyObject **result) {                                    \
+        int found = library.test(index) == 1;                                                                          \
+        (void)res;                                                                                                     \
+        (void)give;                                                                                                    \
+        if (!found && !(is_known)) return 0;                                                                           \
+        *result = PyBool_FromLong(found);                                                                              \
+        return 1;                                                                                                      \
+    }
+TEST(is_valid_cell, is_valid_cell, 1)
+TEST(is_pentagon, is_pentagon, library.is_valid_cell(index) == 1)
+TEST(is_res_class_III, is_res_class_iii, library.is_valid_cell(index) == 1)
+TEST(is_valid_directed_edge, is_valid_edge, 1)
+
+#define FIELD(name)                                                                                                    \
+    static int name(uint64_t index, PyObject *res, Give *give, PyObject **result) {                                    \
+        int found = library.name(index);                                                                               \
+        (void)res;                                                                                                     \
+        (void)give;                                                                                                    \
+        if (found < 0) return 0;                                                                                       \
+        *result = PyLong_FromLong(found);                                                                              \
+        return 1;                                                                                                      \
+    }
+FIELD(get_resolution)
+FIELD(get_base_cell_number)
+
+/* The resolution that is given, or by default one beside the cell's. */
+static int wanted_res(uint64_t index, PyObject *given, int step, int *res) {
+    if (given && given != Py_None) return take_res(given, res);
+    *res = library.get_resolution(index) + step;
+    return step != 0 && *res >= 0 && *res <= 15;
+}
+
+#define INDEX_AT(name, function, step)                                                                                 \
+    static int name(uint64_t index, PyObject *given, Give *give, PyObject **result) {                                  \
+        int res;                                                                                                       \
+        uint64_t found;                                                                                                \
+        if (!wanted_res(index, given, step, &res) || library.function(index, res, &found)) return 0;                   \
+        *result = give(found);                                                                                         \
+        return 1;                                                                                                      \
+    }
+INDEX_AT(cell_to_parent, to_parent, -1)
+INDEX_AT(cell_to_center_child, to_center_child, 1)
+
+#define NUMBER_AT(name, function, step)                                                                                \
+    static int name(uint64_t index, PyObject *given, Give *give, PyObject **result) {                                  \
+        int res;                                                                                                       \
+        int64_t found;                                                                                                 \
+        (void)give;                                                                                                    \
+        if (!wanted_res(index, given, step, &res) || library.function(index, res, &found)) return 0;                   \
+        *result = PyLong_FromLongLong(found);                                                                          \
+        return 1;                                                                                                      \
+    }
+NUMBER_AT(cell_to_children_size, to_children_size, 1)
+NUMBER_AT(cell_to_child_pos, to_child_pos, 0)
+
+static int get_directed_edge_origin(uint64_t index, PyObject *res, Give *give, PyObject **result) {
+    uint64_t found;
+    (void)res;
+    if (library.edge_origin(index, &found)) return 0;
+    *result = give(found);
+    return 1;
+}
+
+static int str_to_int(uint64_t index, PyObject *res, Give *give, PyObject **result) {
+    (void)res;
+    (void)give;
+    *result = give_integer(index);
+    return 1;
+}
+
+static int int_to_str(uint64_t index, PyObject *res, Give *give, PyObject **result) {
+    (void)res;
+    (void)give;
+    *result = give_text(index);
+    return 1;
+}
+
+#define OF_ONE_INDEX(kind)                                                                                             \
+    FUNCTION(kind, 0, is_valid_cell, 1, 1)                                                                             \
+    FUNCTION(kind, 1, get_resolution, 1, 1)                                                                            \
+    FUNCTION(kind, 2, get_base_cell_number, 1, 1)                                                                      \
+    FUNCTION(kind, 3, is_pentagon, 1, 1)                                                                               \
+    FUNCTION(kind, 4, is_res_class_III, 1, 1)                                                                          \
+    FUNCTION(kind, 5, is_valid_directed_edge, 1, 1)                                                                    \
+    FUNCTION(kind, 6, cell_to_parent, 1, 2)                                                                            \
+    FUNCTION(kind, 7, cell_to_center_child, 1, 2)                                                                      \
+    FUNCTION(kind, 8, cell_to_children_size, 1, 2)                                                                     \
+    FUNCTION(kind, 9, cell_to_child_pos, 2, 2)                                                                         \
+    FUNCTION(kind, 10, get_directed_edge_origin, 1, 1)
+OF_ONE_INDEX(text)
+OF_ONE_INDEX(integer)
+
+/* (it is in the module over integers, and takes a text) */
+static PyObject *text_str_to_int(PyObject *self, PyObject *const *given, Py_ssize_t count, PyObject *names) {
+    uint64_t index = 0;
+    PyObject *result = NULL;
+    (void)self;
+    if (!names && count == 1 && take_text(given[0], &index) && str_to_int(index, NULL, NULL, &result)) return result;
+    return pass_on(integers_in_python[11], given, count, names);
+}
+FUNCTION(integer, 12, int_to_str, 1, 1)
+
+#define METHOD(kind, name)                                                                                             \
+    { #name, (PyCFunction)(void (*)(void))kind##_##name, METH_FASTCALL | METH_KEYWORDS, NULL }
+#define METHODS(kind)                                                                                                  \
+    METHOD(kind, is_valid_cell), METHOD(kind, get_resolution), METHOD(kind, get_base_cell_number),                     \
+        METHOD(kind, is_pentagon), METHOD(kind, is_res_class_III), METHOD(kind, is_valid_directed_edge),               \
+        METHOD(kind, cell_to_parent), METHOD(kind, cell_to_center_child), METHOD(kind, cell_to_children_size),         \
+        METHOD(kind, cell_to_child_pos), METHOD(kind, get_directed_edge_origin)
+static PyMethodDef of_texts[] = {METHODS(text), {NULL, NULL, 0, NULL}};
+static PyMethodDef of_integers[] = {
+    METHODS(integer), METHOD(text, str_to_int), METHOD(integer, int_to_str), {NULL, NULL, 0, NULL}};
+
+/* ---- Columns of texts */
+
+/* read_texts(list, place, address): the indexes of texts and bytes from a place on, each at its place from an address
+ * on, up to the first item that is none or is refused, whose place is returned. */
+static PyObject *read_texts(PyObject *self, PyObject *given) {
+    PyObject *list;
+    Py_ssize_t place, count, length;
+    unsigned long long address;
+    uint64_t *out;
+    char *bytes;
+    (void)self;
+    if (!PyArg_ParseTuple(given, "O!nK", &PyList_Type, &list, &place, &address)) return NULL;
+    out = (uint64_t *)(uintptr_t)address;
+    for (count = PyList_Size(list); place < count; place++) {
+        PyObject *item = PyList_GetItem(list, place);
+        if (take_text(item, out + place)) continue;
+        if (!PyBytes_CheckExact(item) || PyBytes_AsStringAndSize(item, &bytes, &length) < 0) break;
+        if (library.string_to_h3(bytes, (size_t)length, out + place)) break;
+    }
+    return PyLong_FromSsize_t(place);
+}
+
+/* write_texts(address, count): the texts of so many indexes, as a list. */
+static PyObject *write_texts(PyObject *self, PyObject *given) {
+    unsigned long long address;
+    Py_ssize_t count, i;
+    PyObject *list;
+    (void)self;
+    if (!PyArg_ParseTuple(given, "Kn", &address, &count)) return NULL;
+    list = PyList_New(count);
+    for (i = 0; list && i < count; i++) {
+        PyObject *text = give_text(((const uint64_t *)(uintptr_t)address)[i]);
+        if (text && PyList_SetItem(list, i, text) == 0) continue;
+        Py_DECREF(list);
+        return NULL;
+    }
+    return list;
+}
+
+/* ---- The module */
+
+/* Puts the functions of a table into the place of those in Python, which are kept. */
+static int put_functions(PyObject *self, PyMethodDef *table, PyObject **kept, PyObject *names, PyObject *module,
+                         PyObject *docs) {
+    size_t place;
+    for (place = 0; table[place].ml_name; place++) {
+        PyMethodDef *method = table + place;
+        PyObject *python = PyDict_GetItemString(names, method->ml_name), *function;
+        PyObject *doc = PyDict_GetItemString(docs, method->ml_name);
+        if (kept[place] || !python || !doc) continue;
+        method->ml_doc = PyUnicode_AsUTF8AndSize(doc, NULL);
+        function = method->ml_doc ? PyCFunction_NewEx(method, self, module) : NULL;
+        if (!function) return -1;
+        Py_INCREF(doc);
+        Py_INCREF(python);
+        kept[place] = python;
+        if (PyDict_SetItemString(names, method->ml_name, function) < 0) {
+            Py_DECREF(function);
+            return -1;
+        }
+        Py_DECREF(function);
+    }
+    return 0;
+}
+
+/* replace(names, module, docs, over_texts) */
+static PyObject *replace(PyObject *self, PyObject *given) {
+    PyObject *names, *module, *docs;
+    int over_texts;
+    if (!PyArg_ParseTuple(given, "O!UO!p", &PyDict_Type, &names, &module, &PyDict_Type, &docs, &over_texts))
+        return NULL;
+    if (put_functions(self, over_texts ? of_texts : of_integers, over_texts ? texts_in_python : integers_in_python,
+                      names, module, docs) < 0)
+        return NULL;
+    Py_RETURN_NONE;
+}
+
+/* load(path): finds the functions of the shared object at a path. It stays loaded. */
+static PyObject *load(PyObject *self, PyObject *path) {
+    const char *text = PyUnicode_AsUTF8AndSize(path, NULL);
+    void *object = text ? dlopen(text, RTLD_NOW | RTLD_LOCAL) : NULL;
+    size_t i;
+    (void)self;
+    if (!text) return NULL;
+    for (i = 0; object && i < sizeof symbols / sizeof *symbols; i++) {
+        void *found = dlsym(object, symbols[i].name);
+        if (!found) break;
+        memcpy(symbols[i].place, &found, sizeof found);
+    }
+    if (!object || i < sizeof symbols / sizeof *symbols) {
+        PyErr_SetString(PyExc_ImportError, dlerror());
+        return NULL;
+    }
+    Py_RETURN_NONE;
+}
+
+static PyMethodDef methods[] = {
+    {"load", load, METH_O, NULL},
+    {"replace", replace, METH_VARARGS, NULL},
+    {"read_texts", read_texts, METH_VARARGS, NULL},
+    {"write_texts", write_texts, METH_VARARGS, NULL},
+    {NULL, NULL, 0, NULL},
+};
+
+static struct PyModuleDef definition = {
+    PyModuleDef_HEAD_INIT, "h3whole._native", NULL, -1, methods, NULL, NULL, NULL, NULL};
+
+PyMODINIT_FUNC PyInit__native(void) { return PyModule_Create(&definition); }

@@ -1,0 +1,120 @@
+\echo Use "ALTER EXTENSION h3whole UPDATE TO '1.3'" to load this file. \quit
+
+-- What a subquery prepares, once, for h3_is_covered and h3_zone_of: the planner writes the calls (h3_lookup_cost).
+CREATE TYPE h3_prepared;
+CREATE FUNCTION h3_prepared_in(cstring) RETURNS h3_prepared
+    AS 'MODULE_PATHNAME', 'h3whole_prepared_in' LANGUAGE C IMMUTABLE STRICT PARALLEL SAFE;
+CREATE FUNCTION h3_prepared_out(h3_prepared) RETURNS cstring
+    AS 'MODULE_PATHNAME', 'h3whole_prepared_out' LANGUAGE C IMMUTABLE STRICT PARALLEL SAFE;
+CREATE TYPE h3_prepared (
+    INPUT = h3_prepared_in, OUTPUT = h3_prepared_out, INTERNALLENGTH = VARIABLE, ALIGNMENT = double, STORAGE = plain
+);
+CREATE FUNCTION h3_prepare_region(cells h3cell[]) RETURNS h3_prepared
+    AS 'MODULE_PATHNAME', 'h3whole_prepare_region' LANGUAGE C IMMUTABLE STRICT PARALLEL SAFE COST 1000;
+CREATE FUNCTION h3_prepare_zones(cells h3cell[]) RETURNS h3_prepared
+    AS 'MODULE_PATHNAME', 'h3whole_prepare_zones' LANGUAGE C IMMUTABLE STRICT PARALLEL SAFE COST 1000;
+CREATE FUNCTION h3_prepared_covers(cell h3cell, region h3_prepared) RETURNS boolean
+    AS 'MODULE_PATHNAME', 'h3whole_prepared_covers' LANGUAGE C IMMUTABLE STRICT PARALLEL SAFE COST 10;
+CREATE FUNCTION h3_prepared_zone_of(cell h3cell, zones h3_prepared) RETURNS h3cell
+    AS 'MODULE_PATHNAME', 'h3whole_prepared_zone_of' LANGUAGE C IMMUTABLE STRICT PARALLEL SAFE COST 10;
+
+COMMENT ON TYPE h3_prepared IS 'cells in which others are looked up, as h3_is_covered and h3_zone_of keep them';
+COMMENT ON FUNCTION h3_prepared_in(cstring) IS 'refuses: no text is an h3_prepared';
+COMMENT ON FUNCTION h3_prepared_out(h3_prepared) IS 'how many cells it has';
+COMMENT ON FUNCTION h3_prepare_region(h3cell[]) IS 'what h3_is_covered prepares of a subquery';
+COMMENT ON FUNCTION h3_prepare_zones(h3cell[]) IS 'what h3_zone_of prepares of a subquery';
+COMMENT ON FUNCTION h3_prepared_covers(h3cell, h3_prepared) IS 'h3_is_covered over the region of a subquery';
+COMMENT ON FUNCTION h3_prepared_zone_of(h3cell, h3_prepared) IS 'h3_zone_of over the zones of a subquery';
+
+-- Hierarchy: whether a cell covers another. What is no cell covers nothing, and is covered by nothing.
+CREATE FUNCTION h3cell_contains(h3cell, h3cell) RETURNS boolean
+    AS 'MODULE_PATHNAME', 'h3whole_contains' LANGUAGE C IMMUTABLE STRICT PARALLEL SAFE;
+CREATE FUNCTION h3cell_contained(h3cell, h3cell) RETURNS boolean
+    AS 'MODULE_PATHNAME', 'h3whole_contained' LANGUAGE C IMMUTABLE STRICT PARALLEL SAFE;
+CREATE FUNCTION h3cell_overlaps(h3cell, h3cell) RETURNS boolean
+    AS 'MODULE_PATHNAME', 'h3whole_overlaps' LANGUAGE C IMMUTABLE STRICT PARALLEL SAFE;
+CREATE OPERATOR @> (
+    LEFTARG = h3cell, RIGHTARG = h3cell, FUNCTION = h3cell_contains, COMMUTATOR = <@,
+    RESTRICT = contsel, JOIN = contjoinsel
+);
+CREATE OPERATOR <@ (
+    LEFTARG = h3cell, RIGHTARG = h3cell, FUNCTION = h3cell_contained, COMMUTATOR = @>,
+    RESTRICT = contsel, JOIN = contjoinsel
+);
+CREATE OPERATOR && (
+    LEFTARG = h3cell, RIGHTARG = h3cell, FUNCTION = h3cell_overlaps, COMMUTATOR = &&,
+    RESTRICT = contsel, JOIN = contjoinsel
+);
+
+-- A radix tree by ancestors, for these operators
+CREATE FUNCTION h3cell_tree_config(internal, internal) RETURNS void
+    AS 'MODULE_PATHNAME', 'h3whole_tree_config' LANGUAGE C IMMUTABLE STRICT PARALLEL SAFE;
+CREATE FUNCTION h3cell_tree_choose(internal, internal) RETURNS void
+    AS 'MODULE_PATHNAME', 'h3whole_tree_choose' LANGUAGE C IMMUTABLE STRICT PARALLEL SAFE;
+CREATE FUNCTION h3cell_tree_picksplit(internal, internal) RETURNS void
+    AS 'MODULE_PATHNAME', 'h3whole_tree_picksplit' LANGUAGE C IMMUTABLE STRICT PARALLEL SAFE;
+CREATE FUNCTION h3cell_tree_inner(internal, internal) RETURNS void
+    AS 'MODULE_PATHNAME', 'h3whole_tree_inner' LANGUAGE C IMMUTABLE STRICT PARALLEL SAFE;
+CREATE FUNCTION h3cell_tree_leaf(internal, internal) RETURNS boolean
+    AS 'MODULE_PATHNAME', 'h3whole_tree_leaf' LANGUAGE C IMMUTABLE STRICT PARALLEL SAFE;
+CREATE OPERATOR CLASS h3cell_tree_ops DEFAULT FOR TYPE h3cell USING spgist AS
+    OPERATOR 3 && (h3cell, h3cell), OPERATOR 7 @> (h3cell, h3cell), OPERATOR 8 <@ (h3cell, h3cell),
+    FUNCTION 1 h3cell_tree_config(internal, internal),
+    FUNCTION 2 h3cell_tree_choose(internal, internal),
+    FUNCTION 3 h3cell_tree_picksplit(internal, internal),
+    FUNCTION 4 h3cell_tree_inner(internal, internal),
+    FUNCTION 5 h3cell_tree_leaf(internal, internal);
+
+COMMENT ON FUNCTION h3cell_contains(h3cell, h3cell) IS 'implementation of @>: the first is the second or an ancestor of it';
+COMMENT ON FUNCTION h3cell_contained(h3cell, h3cell) IS 'implementation of <@: the second is the first or an ancestor of it';
+COMMENT ON FUNCTION h3cell_overlaps(h3cell, h3cell) IS 'implementation of &&: one is the other or an ancestor of it';
+COMMENT ON FUNCTION h3cell_tree_config(internal, internal) IS 'what an SP-GiST index of cells is made of';
+COMMENT ON FUNCTION h3cell_tree_choose(internal, internal) IS 'where an SP-GiST index puts a cell';
+COMMENT ON FUNCTION h3cell_tree_picksplit(internal, internal) IS 'how an SP-GiST index divides a page of cells';
+COMMENT ON FUNCTION h3cell_tree_inner(internal, internal) IS 'which branches of an SP-GiST index may have what is asked for';
+COMMENT ON FUNCTION h3cell_tree_leaf(internal, internal) IS 'whether a cell of an SP-GiST index is what is asked for';
+COMMENT ON OPERATOR @> (h3cell, h3cell) IS 'contains: is it, or an ancestor of it';
+COMMENT ON OPERATOR <@ (h3cell, h3cell) IS 'is contained by: is it, or a descendant of it';
+COMMENT ON OPERATOR && (h3cell, h3cell) IS 'overlaps: contains it or is contained by it';
+
+-- Equality with a bigint of the same bits, so that indexes of either answer. The order of bigint is another one from
+-- 2^63 on, so no merge join goes by these.
+CREATE FUNCTION h3cell_eq_bigint(h3cell, bigint) RETURNS boolean
+    AS 'int8eq' LANGUAGE internal IMMUTABLE STRICT PARALLEL SAFE;
+CREATE FUNCTION bigint_eq_h3cell(bigint, h3cell) RETURNS boolean
+    AS 'int8eq' LANGUAGE internal IMMUTABLE STRICT PARALLEL SAFE;
+CREATE FUNCTION h3cell_cmp_bigint(h3cell, bigint) RETURNS integer
+    AS 'MODULE_PATHNAME', 'h3whole_cmp' LANGUAGE C IMMUTABLE STRICT PARALLEL SAFE;
+CREATE FUNCTION bigint_cmp_h3cell(bigint, h3cell) RETURNS integer
+    AS 'btint8cmp' LANGUAGE internal IMMUTABLE STRICT PARALLEL SAFE;
+CREATE FUNCTION h3cell_cmp_signed(h3cell, h3cell) RETURNS integer
+    AS 'btint8cmp' LANGUAGE internal IMMUTABLE STRICT PARALLEL SAFE;
+CREATE FUNCTION bigint_cmp_unsigned(bigint, bigint) RETURNS integer
+    AS 'MODULE_PATHNAME', 'h3whole_cmp' LANGUAGE C IMMUTABLE STRICT PARALLEL SAFE;
+CREATE OPERATOR = (
+    LEFTARG = h3cell, RIGHTARG = bigint, FUNCTION = h3cell_eq_bigint, COMMUTATOR = =,
+    RESTRICT = eqsel, JOIN = eqjoinsel, HASHES
+);
+CREATE OPERATOR = (
+    LEFTARG = bigint, RIGHTARG = h3cell, FUNCTION = bigint_eq_h3cell, COMMUTATOR = =,
+    RESTRICT = eqsel, JOIN = eqjoinsel, HASHES
+);
+ALTER OPERATOR FAMILY h3cell_ops USING btree ADD
+    OPERATOR 3 = (h3cell, bigint), FUNCTION 1 (h3cell, bigint) h3cell_cmp_bigint(h3cell, bigint),
+    FUNCTION 1 (bigint, bigint) bigint_cmp_unsigned(bigint, bigint);
+ALTER OPERATOR FAMILY integer_ops USING btree ADD
+    OPERATOR 3 = (bigint, h3cell), FUNCTION 1 (bigint, h3cell) bigint_cmp_h3cell(bigint, h3cell),
+    FUNCTION 1 (h3cell, h3cell) h3cell_cmp_signed(h3cell, h3cell);
+ALTER OPERATOR FAMILY h3cell_hash_ops USING hash ADD
+    OPERATOR 1 = (h3cell, bigint), OPERATOR 1 = (bigint, h3cell),
+    FUNCTION 1 (bigint, bigint) hashint8(bigint), FUNCTION 2 (bigint, bigint) hashint8extended(bigint, bigint);
+ALTER OPERATOR FAMILY integer_ops USING hash ADD
+    OPERATOR 1 = (bigint, h3cell), FUNCTION 1 (h3cell, h3cell) h3cell_hash(h3cell),
+    FUNCTION 2 (h3cell, h3cell) h3cell_hash_extended(h3cell, bigint);
+
+COMMENT ON FUNCTION h3cell_eq_bigint(h3cell, bigint) IS 'implementation of =';
+COMMENT ON FUNCTION bigint_eq_h3cell(bigint, h3cell) IS 'implementation of =';
+COMMENT ON FUNCTION h3cell_cmp_bigint(h3cell, bigint) IS '-1, 0 or 1: the order of the numbers without a sign';
+COMMENT ON FUNCTION bigint_cmp_h3cell(bigint, h3cell) IS '-1, 0 or 1: the order of the numbers with a sign';
+COMMENT ON FUNCTION h3cell_cmp_signed(h3cell, h3cell) IS '-1, 0 or 1: the order of the numbers with a sign';
+COMMENT ON FUNCTION bigint_cmp_unsigned(bigint, bigint) IS '-1, 0 or 1: the order of the numbers without a sign';
