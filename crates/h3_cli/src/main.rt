@@ -5,7 +5,7 @@ use h3_index::{H3Error, Sink, Source, StreamFault, Streamed};
 use h3_lines::{Refusal, report, write_all};
 use h3_program::{NamedFile, Retried, run_words};
 use h3_requests::{CellFunction, Command};
-use h3_words::{CommandFile, Words, read_words};
+use h3_words::{CommandFile, Words, WordsFault, read_words};
 use std::alloc::Global;
 use std::fs::File;
 use std::io::{ErrorKind, IsTerminal};
@@ -34,9 +34,14 @@ fn may_name_cells(words: &Vec<String>) -> bool {
     false
 }
 
-/// What the words of a command line ask for, where they are those of a command.
-fn asked_for(alloc: Global, words: &Vec<String>) -> Option<Words> {
-    read_words(alloc, words.clone().ok()?).ok()
+/// What the words of a command line ask for; `None` where they are not those of a command.
+fn asked_for(alloc: Global, words: &Vec<String>) -> Result<Option<Words>, Refusal> {
+    let words = words.clone().map_err(|_| Refusal::Memory)?;
+    match read_words(alloc, words) {
+        Ok(asked) => Ok(Some(asked)),
+        Err(WordsFault::Memory) => Err(Refusal::Memory),
+        Err(_) => Ok(None),
+    }
 }
 
 /// What a command has the program read from standard input, as it is said at a terminal; `None` where
@@ -145,15 +150,19 @@ fn start<S: Env + Files<File = File> + AllocGlobal, R: Source + Drop, W: Sink, E
     };
     let mut is_missing = false;
     if is_terminal || may_name_cells(&words) {
-        if let Some(asked) = asked_for(rt.alloc(), &words) {
-            if let Some(line) = input_twice(rt, &asked.file) {
-                let _ = write_all(err, line.as_bytes());
-                return 3;
+        match asked_for(rt.alloc(), &words) {
+            Ok(Some(asked)) => {
+                if let Some(line) = input_twice(rt, &asked.file) {
+                    let _ = write_all(err, line.as_bytes());
+                    return 3;
+                }
+                if is_terminal {
+                    input.line = awaited_list(&asked.command);
+                }
+                is_missing = is_list_missing(rt, &asked.file);
             }
-            if is_terminal {
-                input.line = awaited_list(&asked.command);
-            }
-            is_missing = is_list_missing(rt, &asked.file);
+            Ok(None) => {}
+            Err(refusal) => return report(err, Err(refusal)),
         }
     }
     // (a missing file may be standard input itself, closed: the folder would then be opened for it)
