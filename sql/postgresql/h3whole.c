@@ -1,4 +1,4 @@
-/* H3's functions in PostgreSQL. h3whole--1.0.sql and the scripts of later versions declare them; docs/LIBRARY.md
+/* H3's functions in PostgreSQL. h3whole--1.0.sql and the scripts of later versions declare them; docs/library/sql.md
  * lists them. */
 #include "postgres.h"
 

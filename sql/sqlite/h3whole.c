@@ -1,5 +1,5 @@
 /* H3's functions in SQLite: a loadable extension. A cell is an integer or a text, and what is
- * returned is of the same kind. docs/LIBRARY.md lists the functions. */
+ * returned is of the same kind. docs/library/sql.md lists the functions. */
 #include <errno.h>
 #include <limits.h>
 #include <stdio.h>
