@@ -1,26 +1,26 @@
 /* The whole-number functions of H3 version 4: cells, their hierarchy, compaction, regions and zones, and directed
  * edges.
  *
- * The library, libh3whole, is compiled from proved code: docs/PROVED.md says of each function what its
- * contract promises. Nothing checks a C caller against it, so what this page asks of the caller counts.
+ * The library, libh3whole, is compiled from proved code: docs/PROVED.md says what the contract of each function
+ * promises. Nothing checks a C caller against it: callers must follow the rules in this header.
  *
- * Names. Each function has H3's name after `h3w_`, so that this library and one with H3's own names can be
- * in one program. With H3WHOLE_BARE_NAMES defined before this page is included, H3's bare names and
- * signatures stand for them (at the end of this page), for programs that are written for h3api.h.
+ * Names. Each function has H3's name after `h3w_`, so this library and one with H3's own names can be in one program.
+ * Define H3WHOLE_BARE_NAMES before you include this header to get H3's bare names and signatures (at its end), for
+ * programs that are written for h3api.h.
  *
- * Errors. A function that can fail returns an H3Error: E_SUCCESS, or the error of H3's table that says why.
- * The first error in the order of its comment is the one that is returned. Unless its comment says more, what
- * a function has been given to write to is written on E_SUCCESS alone, and stays as it was otherwise.
+ * Errors. A function that can fail returns an H3Error: E_SUCCESS, or the error of H3's table that says why. If more
+ * than one applies, the first in the order of its comment is returned. Unless its comment says more, a function writes
+ * its results on E_SUCCESS alone, and otherwise leaves the caller's memory as it was.
  *
  * Memory. An array is passed as its first element and its length. Each pointer points to that many elements
- * (an `int64_t *out` or the like: to one), also where there are none: it is never null. What a function writes
- * to overlaps nothing else that it has been passed. Where an array is too short for what is to be written,
- * the error is E_MEMORY_BOUNDS. No function keeps what it has been passed. compactCells, uncompactCells,
+ * (an `int64_t *out` or the like: to one). It is never null, also if the length is 0. What a function writes to
+ * overlaps nothing else that it is passed. If an array is too short for what is to be written, the error is
+ * E_MEMORY_BOUNDS. No function keeps what it is passed. compactCells, uncompactCells,
  * uniteCells, intersectCells, subtractCells, zones, findOverlap and readTable alone take memory, by malloc, and free it
- * before they return: E_MEMORY_ALLOC, or H3W_TABLE_MEMORY, where they get none.
+ * before they return: E_MEMORY_ALLOC, or H3W_TABLE_MEMORY, if they get none.
  *
  * Threads. Each function may be called from any number of threads at once: the library has no variable that
- * changes. Two calls at once may read the same memory, and may not write to the same.
+ * changes. Two calls at once may read the same memory, and must not write to the same.
  *
  * Units. A resolution is 0 to 15, a base cell 0 to 121. A position and a size count cells. */
 #ifndef H3WHOLE_H
@@ -30,10 +30,10 @@
 #include <stdlib.h>
 #include <string.h>
 
-/* The version of this page. h3w_version returns that of the library which runs. */
+/** The version of this header. h3w_version returns that of the library which runs. */
 #define H3WHOLE_VERSION "1.3.0"
 
-/* H3's own page has the same types and numbers: a program that includes both includes that one first. */
+/* H3's own header has the same types and numbers: a program that includes both includes that one first. */
 #ifndef H3API_H
 typedef uint64_t H3Index;
 typedef uint32_t H3Error;
@@ -60,17 +60,17 @@ typedef enum {
 } H3ErrorCodes;
 #endif
 
-/* A base cell table: how the base cells lie beside each other. It is the caller's, on its stack, in a variable or in
- * memory that it has taken; there is nothing in it to free, it may be copied, and read from many threads at once. The
- * bytes of a table are those that h3w_readTable returned, or a copy of them, or all 0, which is as a refused table.
- * With any others the behavior is undefined: memory outside of the table may be read. So a table is not to be kept in a
- * file or taken from one; the file that h3w_readTable reads is. */
+/** A base cell table: how the base cells lie beside each other. It is the caller's, on the stack, in a variable or in
+ * allocated memory. There is nothing in it to free; it may be copied, and read from many threads at once. The bytes of
+ * a table are those that h3w_readTable returned, or a copy of them, or all 0, which is as a refused table. With any
+ * others the behavior is undefined: memory outside of the table may be read. So never store a table in a file or take
+ * one from there; store the file that h3w_readTable reads. */
 typedef struct {
     uint8_t bytes[1465];
 } H3wTable;
 
-/* Why a table file is refused, in the order in which the errors are found. `at` and `direction` of H3wTableFault are
- * 0 where none is named here. Record 1 is the header. */
+/** Why a table file is refused, in the order in which the errors are found. `at` and `direction` of H3wTableFault are
+ * 0 if the code names none. Record 1 is the header. */
 typedef enum {
     H3W_TABLE_ACCEPTED = 0,
     H3W_TABLE_READ = 1,      /* never returned here */
@@ -94,152 +94,212 @@ typedef struct {
 extern "C" {
 #endif
 
-/* The version of the library as a number: 10,000 times the major one, and 100 times the minor one, and the patch. */
+/** Returns the version of the library as a number: 10,000 * major + 100 * minor + patch. */
 int h3w_version(void);
 
 /* ---- Inspection */
 
-/* 1 if the number is the index of a cell, else 0. */
+/** Tests an index.
+ * @return 1 if it is a valid cell, else 0 */
 int h3w_isValidCell(H3Index h);
 
-/* The resolution of a cell, or -1 where the number is no cell's. H3's own function returns the bits of any number. */
+/** Returns the resolution of a cell. H3's own function returns the bits of any number.
+ * @return 0 to 15, or -1 if `h` is not a valid cell */
 int h3w_getResolution(H3Index h);
 
-/* The base cell of a cell, or -1 where the number is no cell's. H3's own function returns the bits of any number. */
+/** Returns the base cell of a cell. H3's own function returns the bits of any number.
+ * @return 0 to 121, or -1 if `h` is not a valid cell */
 int h3w_getBaseCellNumber(H3Index h);
 
-/* 1 if the number is the index of a pentagon, else 0. */
+/** Tests an index.
+ * @return 1 if it is a valid pentagon, else 0 */
 int h3w_isPentagon(H3Index h);
 
-/* 1 if the number is the index of a cell whose resolution is Class III, which is odd, else 0. */
+/** Tests an index.
+ * @return 1 if it is a valid cell whose resolution is Class III, which is odd; else 0 */
 int h3w_isResClassIII(H3Index h);
 
 /* ---- Resolutions */
 
-/* The number of cells of a resolution. E_RES_DOMAIN: no resolution. */
+/** Counts the cells of a resolution.
+ * @param out receives the number
+ * @return E_SUCCESS; E_RES_DOMAIN: not a resolution */
 H3Error h3w_getNumCells(int res, int64_t *out);
 
-/* The 122 cells of resolution 0, ascending. E_MEMORY_BOUNDS: room for fewer; then those that have room are written. */
+/** Lists the 122 cells of resolution 0, ascending.
+ * @param room the length of `out`
+ * @return E_SUCCESS; E_MEMORY_BOUNDS: room for fewer than 122; as many as fit are written */
 H3Error h3w_getRes0Cells(H3Index *out, size_t room);
 
-/* The 12 pentagons of a resolution, ascending. E_RES_DOMAIN: no resolution. E_MEMORY_BOUNDS: room for fewer; then
- * those that have room are written. */
+/** Lists the 12 pentagons of a resolution, ascending.
+ * @param room the length of `out`
+ * @return E_SUCCESS; E_RES_DOMAIN: not a resolution; E_MEMORY_BOUNDS: room for fewer than 12; as many as fit are
+ * written */
 H3Error h3w_getPentagons(int res, H3Index *out, size_t room);
 
-/* ---- Hierarchy. E_CELL_INVALID of each function: the index is no cell's. */
+/* ---- Hierarchy */
 
-/* The ancestor of a cell. E_RES_DOMAIN: no resolution. E_RES_MISMATCH: one finer than the cell's. */
+/** Finds the ancestor of a cell.
+ * @param parentRes the ancestor's resolution
+ * @param out receives the ancestor
+ * @return E_SUCCESS; E_CELL_INVALID: not a valid cell; E_RES_DOMAIN: not a resolution; E_RES_MISMATCH: finer than the
+ * cell's */
 H3Error h3w_cellToParent(H3Index cell, int parentRes, H3Index *out);
 
-/* The descendant of a cell in its center. E_RES_DOMAIN: no resolution, or one coarser than the cell's. */
+/** Finds the descendant in the center of a cell.
+ * @param childRes the descendant's resolution
+ * @param out receives the descendant
+ * @return E_SUCCESS; E_CELL_INVALID: not a valid cell; E_RES_DOMAIN: not a resolution, or coarser than the cell's */
 H3Error h3w_cellToCenterChild(H3Index cell, int childRes, H3Index *out);
 
-/* The number of descendants of a cell at a resolution. E_RES_DOMAIN: no resolution, or one coarser than the cell's. */
+/** Counts the descendants of a cell at a resolution.
+ * @param childRes the descendants' resolution
+ * @param out receives the number
+ * @return E_SUCCESS; E_CELL_INVALID: not a valid cell; E_RES_DOMAIN: not a resolution, or coarser than the cell's */
 H3Error h3w_cellToChildrenSize(H3Index cell, int childRes, int64_t *out);
 
-/* The descendants of a cell at a resolution, ascending: as many as h3w_cellToChildrenSize returns. E_RES_DOMAIN: no
- * resolution, or one coarser than the cell's. E_MEMORY_BOUNDS: room for fewer; then those that have room are
- * written. */
+/** Lists the descendants of a cell at a resolution, ascending: as many as h3w_cellToChildrenSize returns.
+ * @param childRes the descendants' resolution
+ * @param room the length of `out`
+ * @return E_SUCCESS; E_CELL_INVALID: not a valid cell; E_RES_DOMAIN: not a resolution, or coarser than the cell's;
+ * E_MEMORY_BOUNDS: room for fewer; as many as fit are written */
 H3Error h3w_cellToChildren(H3Index cell, int childRes, H3Index *out, size_t room);
 
-/* The position of a cell, from 0 on, among the descendants of its ancestor at a resolution. E_RES_DOMAIN: no
- * resolution. E_RES_MISMATCH: one finer than the cell's. */
+/** Finds the position of a cell, from 0 on, among the descendants of its ancestor at a resolution.
+ * @param parentRes the ancestor's resolution
+ * @param out receives the position
+ * @return E_SUCCESS; E_CELL_INVALID: not a valid cell; E_RES_DOMAIN: not a resolution; E_RES_MISMATCH: finer than the
+ * cell's */
 H3Error h3w_cellToChildPos(H3Index child, int parentRes, int64_t *out);
 
-/* The descendant of a cell that has this position. E_RES_DOMAIN: no resolution. E_RES_MISMATCH: one coarser than the
- * cell's. E_DOMAIN: no descendant has the position (one below 0, too). */
+/** Finds the descendant of a cell at a position.
+ * @param childPos the position, from 0 on
+ * @param childRes the descendant's resolution
+ * @param out receives the descendant
+ * @return E_SUCCESS; E_CELL_INVALID: not a valid cell; E_RES_DOMAIN: not a resolution; E_RES_MISMATCH: coarser than the
+ * cell's; E_DOMAIN: no descendant has this position, as none has one below 0 */
 H3Error h3w_childPosToCell(int64_t childPos, H3Index parent, int childRes, H3Index *out);
 
 /* ---- Texts */
 
-/* The text of an index: lower-case hexadecimal, 1 to 16 digits, and a 0 byte. What stands after that byte, within the
- * first 17 bytes, is not said. E_MEMORY_BOUNDS: room for fewer than 17 bytes; then nothing is written. */
+/** Writes an index as lower-case hexadecimal, 1 to 16 digits, and a 0 byte. The first 17 bytes may change; what follows
+ * the 0 byte in them is unspecified.
+ * @param room the length of `str`
+ * @return E_SUCCESS; E_MEMORY_BOUNDS: room for fewer than 17 bytes; nothing is written */
 H3Error h3w_h3ToString(H3Index h, char *str, size_t room);
 
-/* The index that n bytes of text parse as: spaces, tabs and carriage returns at both ends are dropped, then an optional
- * 0x or 0X; what is left is 1 to 16 hexadecimal digits of either case. It need not be that of a cell. E_FAILED: any
- * other text. */
+/** Parses n bytes of text as an index. Spaces, tabs and carriage returns at both ends are dropped, then an optional 0x
+ * or 0X; what is left is 1 to 16 hexadecimal digits of either case.
+ * @param out receives the index, which need not be that of a cell
+ * @return E_SUCCESS; E_FAILED: any other text */
 H3Error h3w_stringToH3(const char *text, size_t n, H3Index *out);
 
 /* ---- Directed edges */
 
-/* 1 if the number is the index of a directed edge, else 0. */
+/** Tests an index.
+ * @return 1 if it is a valid directed edge, else 0 */
 int h3w_isValidDirectedEdge(H3Index edge);
 
-/* The cell that an edge leaves. E_DIR_EDGE_INVALID: the index is no edge's. */
+/** Finds the cell that an edge leaves.
+ * @param out receives the cell
+ * @return E_SUCCESS; E_DIR_EDGE_INVALID: not a valid directed edge */
 H3Error h3w_getDirectedEdgeOrigin(H3Index edge, H3Index *out);
 
-/* The six edges that leave a cell, in ascending direction; H3_NULL in place of the first at a pentagon, which has five.
- * `edges` has room for six. E_CELL_INVALID: the index is no cell's. */
+/** Lists the six edges that leave a cell, in ascending direction. A pentagon has five, and H3_NULL for the first.
+ * @param edges has room for six
+ * @return E_SUCCESS; E_CELL_INVALID: not a valid cell */
 H3Error h3w_originToDirectedEdges(H3Index origin, H3Index *edges);
 
-/* ---- Over a base cell table. First E_FAILED of each function: the table's file was refused. */
+/* ---- Over a base cell table. The first error of each function is E_FAILED: the table's file was refused. */
 
-/* The table in the n bytes of a file, in one of the two formats that tools/h3-table writes and the command h3 reads.
- * `*fault` is written always: its code is H3W_TABLE_ACCEPTED, or says why the file is refused. In the latter case the
- * functions over the table that is returned return E_FAILED. */
+/** Reads a base cell table from the n bytes of a file, in one of the two formats that tools/h3-table writes and the
+ * command h3 reads.
+ * @param fault is always set: its code is H3W_TABLE_ACCEPTED, or says why the file is refused
+ * @return the table; over that of a refused file the functions below return E_FAILED */
 H3wTable h3w_readTable(const char *file, size_t n, H3wTableFault *fault);
 
-/* The cells within k steps of a cell, in the order in which they are walked: the cell first, and then ring by ring;
- * they are 3k(k + 1) + 1. E_CELL_INVALID: the index is no cell's. E_DOMAIN: k is below 0. E_PENTAGON: the cell is a
- * pentagon, or k is above 0 and its base cell is one; then nothing is written. While it is walked, whichever comes
- * first: E_MEMORY_BOUNDS: there is no room for the next cell; E_PENTAGON: the step to it meets a pentagon base cell.
- * Then the cells before are written. */
+/** Lists the 3k(k + 1) + 1 cells within k steps of a cell, in the order of the walk: the cell, and then ring by ring.
+ * @param k the number of steps
+ * @param room the length of `out`
+ * @return E_SUCCESS; E_FAILED, as above; E_CELL_INVALID: not a valid cell; E_DOMAIN: k is below 0; E_PENTAGON: the cell
+ * is a pentagon, or k is above 0 and its base cell is one; nothing is written. During the walk, whichever comes first:
+ * E_MEMORY_BOUNDS: no room for the next cell; E_PENTAGON: the step to it meets a pentagon base cell. Then the cells
+ * before are written. */
 H3Error h3w_gridDiskUnsafe(const H3wTable *table, H3Index origin, int k, H3Index *out, size_t room);
 
-/* The same, and at the same place in `distances` the ring of each cell, 0 to k. What has room in both arrays is written
- * to both. Errors as of h3w_gridDiskUnsafe. */
+/** Lists the cells within k steps of a cell, and the ring of each.
+ * @param distances receives the ring, 0 to k, at the place of each cell in `out`
+ * @param distancesRoom the length of `distances`; what has room in both arrays is written to both
+ * @return as h3w_gridDiskUnsafe */
 H3Error h3w_gridDiskDistancesUnsafe(const H3wTable *table, H3Index origin, int k, H3Index *out, size_t room,
                                     int *distances, size_t distancesRoom);
 
-/* The cells at k steps from a cell, in the order in which they are walked: 6k, or for k = 0 the cell itself. Errors as
- * of h3w_gridDiskUnsafe; a pentagon is refused for k above 0 alone, and where the ring does not close it is E_PENTAGON
- * after its cells. */
+/** Lists the 6k cells at k steps from a cell, in the order of the walk; for k = 0 the cell itself.
+ * @param room the length of `out`
+ * @return as h3w_gridDiskUnsafe, but a pentagon is refused for k above 0 alone; and E_PENTAGON after its cells if the
+ * ring does not close */
 H3Error h3w_gridRingUnsafe(const H3wTable *table, H3Index origin, int k, H3Index *out, size_t room);
 
-/* 1 where a step leads from the one cell to the other, else 0. E_CELL_INVALID: an index is no cell's. E_RES_MISMATCH:
- * their resolutions differ. E_PENTAGON: they differ, and the base cell of one is a pentagon. */
+/** Tests whether two cells are neighbors.
+ * @param out receives 1 if a step leads from the one to the other, else 0
+ * @return E_SUCCESS; E_FAILED, as above; E_CELL_INVALID: one is not a valid cell; E_RES_MISMATCH: their resolutions
+ * differ; E_PENTAGON: they differ, and the base cell of one is a pentagon */
 H3Error h3w_areNeighborCells(const H3wTable *table, H3Index origin, H3Index destination, int *out);
 
-/* The edge from a cell to a neighbor. E_CELL_INVALID: an index is no cell's. E_RES_MISMATCH: their resolutions differ.
- * E_NOT_NEIGHBORS: they are the same. E_PENTAGON: the base cell of one is a pentagon. E_NOT_NEIGHBORS: no step leads
- * from the one to the other. */
+/** Finds the edge from a cell to a neighbor.
+ * @param out receives the edge
+ * @return E_SUCCESS; E_FAILED, as above; E_CELL_INVALID: one is not a valid cell; E_RES_MISMATCH: their resolutions
+ * differ; E_NOT_NEIGHBORS: they are the same; E_PENTAGON: the base cell of one is a pentagon; E_NOT_NEIGHBORS: no step
+ * leads from the one to the other */
 H3Error h3w_cellsToDirectedEdge(const H3wTable *table, H3Index origin, H3Index destination, H3Index *out);
 
-/* The cell that an edge leads to. E_DIR_EDGE_INVALID: the index is no edge's. E_PENTAGON: the base cell of the edge's
- * origin, or of that cell, is a pentagon. */
+/** Finds the cell that an edge leads to.
+ * @param out receives the cell
+ * @return E_SUCCESS; E_FAILED, as above; E_DIR_EDGE_INVALID: not a valid directed edge; E_PENTAGON: the base cell of
+ * the edge's origin, or of that cell, is a pentagon */
 H3Error h3w_getDirectedEdgeDestination(const H3wTable *table, H3Index edge, H3Index *out);
 
 /* ---- Sets of cells. Both take memory: 8 bytes for each of the n cells. */
 
-/* The least list of cells that covers the same as the n cells, ascending; `*count` is how many they are, at most n.
- * E_MEMORY_ALLOC: no memory. E_CELL_INVALID: an index is no cell's. E_DUPLICATE_INPUT: a cell is there twice, or
- * together with an ancestor of it. E_MEMORY_BOUNDS: room for fewer; then those that have room are written, and `*count`
- * is how many there are. */
+/** Compacts n cells: writes the shortest list of cells that covers the same, ascending.
+ * @param room the length of `out`
+ * @param count receives the length of the compacted list, at most n
+ * @return E_SUCCESS; E_MEMORY_ALLOC: no memory; E_CELL_INVALID: an index is not a valid cell; E_DUPLICATE_INPUT: a cell
+ * is listed twice, or with an ancestor of it; E_MEMORY_BOUNDS: room for fewer; as many as fit are written, and `*count`
+ * is how many there are */
 H3Error h3w_compactCells(const H3Index *cells, size_t n, H3Index *out, size_t room, size_t *count);
 
-/* The descendants at a resolution of the first cell, ascending, then those of the second, and so on. E_MEMORY_ALLOC: no
- * memory. E_CELL_INVALID: an index is no cell's. E_RES_DOMAIN: no resolution. E_RES_MISMATCH: a cell is finer.
- * E_MEMORY_BOUNDS: room for fewer; then those that have room are written. */
+/** Lists the descendants at a resolution of the first cell, ascending, then those of the second, and so on.
+ * @param room the length of `out`
+ * @param res the descendants' resolution
+ * @return E_SUCCESS; E_MEMORY_ALLOC: no memory; E_CELL_INVALID: an index is not a valid cell; E_RES_DOMAIN: not a
+ * resolution; E_RES_MISMATCH: a cell is finer; E_MEMORY_BOUNDS: room for fewer; as many as fit are written */
 H3Error h3w_uncompactCells(const H3Index *cells, size_t n, H3Index *out, size_t room, int res);
 
-/* ---- Regions: sets of cells, each given by a list of cells, which may repeat and overlap one another. What is
- * returned is the least list of cells that covers the same, ascending: the compacted list. */
+/* ---- Regions: what lists of cells cover. A list may repeat cells, and its cells may overlap. What is written is the
+ * shortest list of cells that covers the same, ascending: the compacted list. */
 
-/* The region of n cells: what they cover. `*count` is how many cells it has, at most n. E_MEMORY_ALLOC: no memory;
- * it takes 8 bytes for each of the n cells. E_CELL_INVALID: an index is no cell's. E_MEMORY_BOUNDS: room for fewer;
- * then those that have room are written, and `*count` is how many there are. */
+/** Writes the region of n cells: what they cover. It takes 8 bytes of memory for each of the n cells.
+ * @param room the length of `out`
+ * @param count receives the length of the compacted list, at most n
+ * @return E_SUCCESS; E_MEMORY_ALLOC: no memory; E_CELL_INVALID: an index is not a valid cell; E_MEMORY_BOUNDS: room for
+ * fewer; as many as fit are written, and `*count` is how many there are */
 H3Error h3w_uniteCells(const H3Index *cells, size_t n, H3Index *out, size_t room, size_t *count);
 
-/* The region of what both lists of cells cover. `*count` is how many cells it has, at most n + m. E_MEMORY_ALLOC: no
- * memory; it takes up to 16 bytes for each cell of both, and 8 for each that is returned. E_CELL_INVALID: an index
- * is no cell's, of the first list and then of the second. E_MEMORY_BOUNDS as of h3w_uniteCells. */
+/** Writes the region of what both lists of cells cover. It takes up to 16 bytes of memory for each cell of both, and 8
+ * for each that is written.
+ * @param room the length of `out`
+ * @param count receives the length of the compacted list, at most n + m
+ * @return E_SUCCESS; E_MEMORY_ALLOC: no memory; E_CELL_INVALID: an index is not a valid cell, of the first list and
+ * then of the second; E_MEMORY_BOUNDS: as h3w_uniteCells */
 H3Error h3w_intersectCells(const H3Index *first, size_t n, const H3Index *second, size_t m, H3Index *out, size_t room,
                            size_t *count);
 
-/* The region of what the first list of cells covers and the second does not. `*count` is how many cells it has, at
- * most n + 90 m. Errors as of h3w_intersectCells; it takes up to 16 bytes for each cell of both, and 24 for each
- * that is returned. */
+/** Writes the region of what the first list of cells covers and the second does not. It takes up to 16 bytes of memory
+ * for each cell of both, and 24 for each that is written.
+ * @param room the length of `out`
+ * @param count receives the length of the compacted list, at most n + 90 m
+ * @return as h3w_intersectCells */
 H3Error h3w_subtractCells(const H3Index *first, size_t n, const H3Index *second, size_t m, H3Index *out, size_t room,
                           size_t *count);
 
@@ -298,16 +358,17 @@ H3Error h3w_countCellsInZonesByTable(const H3Index *zones, size_t zoneCount, con
 
 /* ---- Columns: one call for n indexes. They are named as the plural commands of h3.
  *
- * Of each index the result is written at its place in `out`, and H3_NULL, or -1 where the results are no indexes, where
- * the function of one index returns an error. h3w_arePentagons and h3w_areResClassIII have E_CELL_INVALID and -1 for an
- * index that is no cell's, where the functions of one index return 0. What is returned is the first of these errors,
- * and `*at` is its place; or E_SUCCESS, and `*at` is n. So a column with a few refused indexes is done in one call, and
- * a caller who wants none looks at what is returned. Where `room` is below n it is E_MEMORY_BOUNDS, and nothing is
- * written. What stands in `out` from n on stays. The functions of one index say what is written, and when there is an
- * error.
+ * The result for each index is written at its place in `out`; if the function of one index returns an error, that is
+ * H3_NULL, or -1 if the results are not indexes. h3w_arePentagons and h3w_areResClassIII write -1 and have
+ * E_CELL_INVALID for an index that is not a valid cell, where the functions of one index return 0. The functions of one
+ * index say what is written, and when there is an error.
  *
- * The functions at a resolution judge it first, and also where there are no indexes: E_RES_DOMAIN for a number that is
- * none, before any other error. Then nothing is written, `*at` neither. */
+ * Returned is the first of these errors, and `*at` is its place; or E_SUCCESS, and `*at` is n. So a column with a few
+ * refused indexes takes one call, and a caller who wants none checks the error. If `room` is below n it is
+ * E_MEMORY_BOUNDS, and nothing is written. `out` from n on stays as it was.
+ *
+ * The functions at a resolution judge it first, also if n is 0: E_RES_DOMAIN if it is not a resolution, before any
+ * other error. Then nothing is written, `*at` neither. */
 H3Error h3w_areValidCells(const H3Index *cells, size_t n, int *out, size_t room, size_t *at); /* 1 or 0 */
 H3Error h3w_getResolutions(const H3Index *cells, size_t n, int *out, size_t room, size_t *at);
 H3Error h3w_getBaseCellNumbers(const H3Index *cells, size_t n, int *out, size_t room, size_t *at);
@@ -324,9 +385,9 @@ H3Error h3w_getDirectedEdgeOrigins(const H3Index *edges, size_t n, H3Index *out,
 }
 #endif
 
-/* ---- H3's bare names: its signatures, which pass no lengths. What they are to have room for is what H3 asks. H3's own
- * functions have a table in them: with H3WHOLE_TABLE defined as the name of a `const H3wTable *` that the program has,
- * those that need one are here over it. */
+/* ---- H3's bare names: its signatures, which pass no lengths. The arrays need the room that H3 asks for. H3's own
+ * functions have a table in them: define H3WHOLE_TABLE as the name of a `const H3wTable *` of your program to get those
+ * that need one. */
 #ifdef H3WHOLE_BARE_NAMES
 
 static inline int isValidCell(H3Index h) { return h3w_isValidCell(h); }
@@ -349,7 +410,7 @@ static inline H3Error cellToCenterChild(H3Index cell, int childRes, H3Index *out
 static inline H3Error cellToChildrenSize(H3Index cell, int childRes, int64_t *out) {
     return h3w_cellToChildrenSize(cell, childRes, out);
 }
-/* `children` has room for as many as cellToChildrenSize returns. */
+/** `children` has room for as many as cellToChildrenSize returns. */
 static inline H3Error cellToChildren(H3Index cell, int childRes, H3Index *children) {
     int64_t size;
     H3Error error = h3w_cellToChildrenSize(cell, childRes, &size);
@@ -363,7 +424,7 @@ static inline H3Error childPosToCell(int64_t childPos, H3Index parent, int child
 }
 
 static inline H3Error h3ToString(H3Index h, char *str, size_t sz) { return h3w_h3ToString(h, str, sz); }
-/* `str` ends with a 0 byte. Line feeds at its end are dropped, as of a line that fgets has read. */
+/** `str` ends with a 0 byte. Line feeds at its end are dropped, as of a line that fgets has read. */
 static inline H3Error stringToH3(const char *str, H3Index *out) {
     size_t n = strlen(str);
     while (n > 0 && str[n - 1] == '\n') n--;
@@ -376,7 +437,7 @@ static inline H3Error originToDirectedEdges(H3Index origin, H3Index *edges) {
     return h3w_originToDirectedEdges(origin, edges);
 }
 
-/* What an error is, in words. */
+/** What an error is, in words. */
 static inline const char *describeH3Error(H3Error err) {
     static const char *const texts[] = {
         "Success",
@@ -399,8 +460,8 @@ static inline const char *describeH3Error(H3Error err) {
     return err < sizeof texts / sizeof *texts ? texts[err] : "Invalid error code";
 }
 
-/* The least size, in cells, of an array that has room for any disk of k steps; the number of all cells of resolution 15
- * where that is less. E_DOMAIN: k is below 0. */
+/** Counts the cells for which an array needs room to hold any disk of k steps: at most as many as resolution 15 has.
+ * @return E_SUCCESS; E_DOMAIN: k is below 0 */
 static inline H3Error maxGridDiskSize(int k, int64_t *out) {
     uint64_t size;
     H3Error error;
@@ -411,7 +472,7 @@ static inline H3Error maxGridDiskSize(int k, int64_t *out) {
     return error;
 }
 
-/* A list without its H3_NULLs, in memory that is to be freed; or NULL, where it has none of them or where there is no
+/** A list without its H3_NULLs, in memory that is to be freed; or NULL, where it has none of them or where there is no
  * memory. `*count` is its length. */
 static inline H3Index *h3w_withoutNulls(const H3Index *cells, size_t n, size_t *count) {
     H3Index *kept;
@@ -425,7 +486,7 @@ static inline H3Index *h3w_withoutNulls(const H3Index *cells, size_t n, size_t *
     return kept;
 }
 
-/* The compacted cells, and after them H3_NULL up to n. H3_NULL among the given ones is passed over. E_DOMAIN: n is
+/** The compacted cells, and after them H3_NULL up to n. H3_NULL among the given ones is passed over. E_DOMAIN: n is
  * below 0. Both pointers may be null where n is 0. */
 static inline H3Error compactCells(const H3Index *cells, H3Index *out, const int64_t n) {
     H3Index *kept;
@@ -440,7 +501,7 @@ static inline H3Error compactCells(const H3Index *cells, H3Index *out, const int
     if (!error) memset(out + count, 0, ((size_t)n - count) * sizeof *out);
     return error;
 }
-/* H3_NULL is passed over. E_DOMAIN: a length is below 0. A pointer may be null where its length is 0. */
+/** H3_NULL is passed over. E_DOMAIN: a length is below 0. A pointer may be null where its length is 0. */
 static inline H3Error uncompactCells(const H3Index *cells, const int64_t n, H3Index *out, const int64_t room,
                                      const int res) {
     H3Index none = H3_NULL, *kept = NULL;
@@ -453,7 +514,7 @@ static inline H3Error uncompactCells(const H3Index *cells, const int64_t n, H3In
     free(kept);
     return error;
 }
-/* The number of cells that uncompactCells writes. H3_NULL is passed over. E_DOMAIN: n is below 0. Then the first of
+/** The number of cells that uncompactCells writes. H3_NULL is passed over. E_DOMAIN: n is below 0. Then the first of
  * these: E_CELL_INVALID, E_RES_DOMAIN, E_RES_MISMATCH, as of h3w_uncompactCells; E_MEMORY_BOUNDS: a number of cells
  * that no int64_t holds. */
 static inline H3Error uncompactCellsSize(const H3Index *cells, const int64_t n, const int res, int64_t *out) {
@@ -477,16 +538,16 @@ static inline H3Error uncompactCellsSize(const H3Index *cells, const int64_t n, 
 #ifdef H3WHOLE_TABLE
 extern const H3wTable *H3WHOLE_TABLE;
 
-/* The number of cells of a disk or of a ring, with which k below 0 is not asked for. */
+/** The number of cells of a disk or of a ring, with which k below 0 is not asked for. */
 static inline size_t h3w_diskRoom(int k) { return k < 0 ? 0 : 3 * (size_t)k * ((size_t)k + 1) + 1; }
 static inline size_t h3w_ringRoom(int k) { return k < 1 ? 1 : 6 * (size_t)k; }
 
-/* `out` may be null where k is below 0. */
+/** `out` may be null where k is below 0. */
 static inline H3Error gridDiskUnsafe(H3Index origin, int k, H3Index *out) {
     H3Index none = H3_NULL;
     return h3w_gridDiskUnsafe(H3WHOLE_TABLE, origin, k, k < 0 ? &none : out, h3w_diskRoom(k));
 }
-/* `distances` may be null, and is then left out. */
+/** `distances` may be null, and is then left out. */
 static inline H3Error gridDiskDistancesUnsafe(H3Index origin, int k, H3Index *out, int *distances) {
     if (!distances || k < 0) return gridDiskUnsafe(origin, k, out);
     return h3w_gridDiskDistancesUnsafe(H3WHOLE_TABLE, origin, k, out, h3w_diskRoom(k), distances, h3w_diskRoom(k));
@@ -503,7 +564,7 @@ static inline H3Error cellsToDirectedEdge(H3Index origin, H3Index destination, H
 static inline H3Error getDirectedEdgeDestination(H3Index edge, H3Index *out) {
     return h3w_getDirectedEdgeDestination(H3WHOLE_TABLE, edge, out);
 }
-/* The cell that an edge leaves, and the one that it leads to. */
+/** The cell that an edge leaves, and the one that it leads to. */
 static inline H3Error directedEdgeToCells(H3Index edge, H3Index *originDestination) {
     H3Index destination = H3_NULL;
     H3Error error = h3w_getDirectedEdgeDestination(H3WHOLE_TABLE, edge, &destination);
@@ -511,7 +572,7 @@ static inline H3Error directedEdgeToCells(H3Index edge, H3Index *originDestinati
     if (!error) originDestination[1] = destination;
     return error;
 }
-/* The disks of `length` cells, one after another, each in as many places as maxGridDiskSize returns; the first error
+/** The disks of `length` cells, one after another, each in as many places as maxGridDiskSize returns; the first error
  * ends them. */
 static inline H3Error gridDisksUnsafe(H3Index *cells, int length, int k, H3Index *out) {
     int64_t size = 0;
