@@ -73,27 +73,85 @@ def _parsed(text: Any) -> Optional[_int]:
 
 
 def is_valid_cell(cell: Any) -> bool:
-    """Whether a text is that of a cell. False of anything that is no text, too."""
+    """Return whether a text is that of a valid cell.
+
+    Parameters
+    ----------
+    cell : object
+        Any value; what is not a text is not a cell.
+    """
     return _integers.is_valid_cell(_parsed(cell))
 
 
 def get_resolution(cell: str) -> _int:
-    """The resolution of a cell, 0 to 15."""
+    """Return the resolution of a cell, 0 to 15.
+
+    Parameters
+    ----------
+    cell : str
+        A cell.
+
+    Raises
+    ------
+    H3FailedError
+        If a text does not parse as an index.
+    H3CellInvalidError
+        If it is not a valid cell.
+    """
     return _integers.get_resolution(str_to_int(cell))
 
 
 def get_base_cell_number(cell: str) -> _int:
-    """The base cell of a cell, 0 to 121."""
+    """Return the base cell of a cell, 0 to 121.
+
+    Parameters
+    ----------
+    cell : str
+        A cell.
+
+    Raises
+    ------
+    H3FailedError
+        If a text does not parse as an index.
+    H3CellInvalidError
+        If it is not a valid cell.
+    """
     return _integers.get_base_cell_number(str_to_int(cell))
 
 
 def is_pentagon(cell: str) -> bool:
-    """Whether a cell is a pentagon."""
+    """Return whether a cell is a pentagon.
+
+    Parameters
+    ----------
+    cell : str
+        A cell.
+
+    Raises
+    ------
+    H3FailedError
+        If a text does not parse as an index.
+    H3CellInvalidError
+        If it is not a valid cell.
+    """
     return _integers.is_pentagon(str_to_int(cell))
 
 
 def is_res_class_III(cell: str) -> bool:
-    """Whether the resolution of a cell is Class III, which is odd."""
+    """Return whether the resolution of a cell is Class III, which is odd.
+
+    Parameters
+    ----------
+    cell : str
+        A cell.
+
+    Raises
+    ------
+    H3FailedError
+        If a text does not parse as an index.
+    H3CellInvalidError
+        If it is not a valid cell.
+    """
     return _integers.is_res_class_III(str_to_int(cell))
 
 
@@ -101,7 +159,18 @@ def is_res_class_III(cell: str) -> bool:
 
 
 def get_num_cells(res: SupportsIndex) -> _int:
-    """The number of cells of a resolution."""
+    """Return the number of cells of a resolution.
+
+    Parameters
+    ----------
+    res : int
+        A resolution, 0 to 15.
+
+    Raises
+    ------
+    H3ResDomainError
+        If the resolution is not 0 to 15.
+    """
     return _integers.get_num_cells(res)
 
 
@@ -111,7 +180,18 @@ def get_res0_cells() -> List[str]:
 
 
 def get_pentagons(res: SupportsIndex) -> List[str]:
-    """The texts of the 12 pentagons of a resolution, ascending."""
+    """Return the texts of the 12 pentagons of a resolution, ascending.
+
+    Parameters
+    ----------
+    res : int
+        A resolution, 0 to 15.
+
+    Raises
+    ------
+    H3ResDomainError
+        If the resolution is not 0 to 15.
+    """
     return _texts(_integers.get_pentagons(res))
 
 
@@ -119,34 +199,146 @@ def get_pentagons(res: SupportsIndex) -> List[str]:
 
 
 def cell_to_parent(cell: str, res: Optional[SupportsIndex] = None) -> str:
-    """The text of a cell's ancestor at a resolution, by default the next coarser one."""
+    """Return the text of a cell's ancestor at a resolution.
+
+    Parameters
+    ----------
+    cell : str
+        A cell.
+    res : int, optional
+        The resolution; by default the next coarser one.
+
+    Raises
+    ------
+    H3FailedError
+        If a text does not parse as an index.
+    H3CellInvalidError
+        If it is not a valid cell.
+    H3ResDomainError
+        If the resolution is not 0 to 15.
+    H3ResMismatchError
+        If the resolution is finer than the cell's.
+    """
     wanted = get_resolution(cell) - 1 if res is None else res
     return _integers._text_at_resolution(_integers._cell_to_parent, cell, wanted)
 
 
 def cell_to_center_child(cell: str, res: Optional[SupportsIndex] = None) -> str:
-    """The text of the descendant in a cell's center at a resolution, by default the next finer one."""
+    """Return the text of the descendant in a cell's center at a resolution.
+
+    Parameters
+    ----------
+    cell : str
+        A cell.
+    res : int, optional
+        The resolution; by default the next finer one.
+
+    Raises
+    ------
+    H3FailedError
+        If a text does not parse as an index.
+    H3CellInvalidError
+        If it is not a valid cell.
+    H3ResDomainError
+        If the resolution is not from the cell's own to 15.
+    """
     wanted = get_resolution(cell) + 1 if res is None else res
     return _integers._text_at_resolution(_integers._cell_to_center_child, cell, wanted)
 
 
 def cell_to_children_size(cell: str, res: Optional[SupportsIndex] = None) -> _int:
-    """The number of descendants of a cell at a resolution, by default the next finer one."""
+    """Return the number of descendants of a cell at a resolution.
+
+    Parameters
+    ----------
+    cell : str
+        A cell.
+    res : int, optional
+        The resolution; by default the next finer one.
+
+    Raises
+    ------
+    H3FailedError
+        If a text does not parse as an index.
+    H3CellInvalidError
+        If it is not a valid cell.
+    H3ResDomainError
+        If the resolution is not from the cell's own to 15.
+    """
     return _integers.cell_to_children_size(str_to_int(cell), res)
 
 
 def cell_to_children(cell: str, res: Optional[SupportsIndex] = None) -> List[str]:
-    """The texts of a cell's descendants at a resolution, by default the next finer one, ascending."""
+    """Return the texts of a cell's descendants at a resolution, ascending.
+
+    Parameters
+    ----------
+    cell : str
+        A cell.
+    res : int, optional
+        The resolution; by default the next finer one.
+
+    Raises
+    ------
+    H3FailedError
+        If a text does not parse as an index.
+    H3CellInvalidError
+        If it is not a valid cell.
+    H3ResDomainError
+        If the resolution is not from the cell's own to 15.
+    """
     return _texts(_integers.cell_to_children(str_to_int(cell), res))
 
 
 def cell_to_child_pos(child: str, res_parent: SupportsIndex) -> _int:
-    """The position of a cell, from 0 on, among the descendants of its ancestor at a resolution."""
+    """Return the position of a cell, from 0 on, among the descendants of its ancestor at a resolution.
+
+    Parameters
+    ----------
+    child : str
+        A cell.
+    res_parent : int
+        The ancestor's resolution.
+
+    Raises
+    ------
+    H3FailedError
+        If a text does not parse as an index.
+    H3CellInvalidError
+        If it is not a valid cell.
+    H3ResDomainError
+        If the resolution is not 0 to 15.
+    H3ResMismatchError
+        If the resolution is finer than the cell's.
+    """
     return _integers.cell_to_child_pos(str_to_int(child), res_parent)
 
 
 def child_pos_to_cell(parent: str, res_child: SupportsIndex, child_pos: SupportsIndex) -> str:
-    """The text of the descendant of a cell at a resolution that has this position."""
+    """Return the text of the descendant of a cell at a position.
+
+    Parameters
+    ----------
+    parent : str
+        A cell.
+    res_child : int
+        The descendant's resolution.
+    child_pos : int
+        The position, from 0 on.
+
+    Raises
+    ------
+    H3FailedError
+        If a text does not parse as an index.
+    H3CellInvalidError
+        If it is not a valid cell.
+    H3ResDomainError
+        If the resolution is not 0 to 15.
+    H3ResMismatchError
+        If the resolution is coarser than the cell's.
+    H3DomainError
+        If no descendant has this position.
+    """
     return int_to_str(_integers.child_pos_to_cell(str_to_int(parent), res_child, child_pos))
 
 
@@ -154,17 +346,49 @@ def child_pos_to_cell(parent: str, res_child: SupportsIndex, child_pos: Supports
 
 
 def is_valid_directed_edge(edge: Any) -> bool:
-    """Whether a text is that of a directed edge. False of anything that is no text, too."""
+    """Return whether a text is that of a valid directed edge.
+
+    Parameters
+    ----------
+    edge : object
+        Any value; what is not a text is not an edge.
+    """
     return _integers.is_valid_directed_edge(_parsed(edge))
 
 
 def get_directed_edge_origin(edge: str) -> str:
-    """The text of the cell that an edge leaves."""
+    """Return the text of the cell that an edge leaves.
+
+    Parameters
+    ----------
+    edge : str
+        A directed edge.
+
+    Raises
+    ------
+    H3FailedError
+        If a text does not parse as an index.
+    H3DirEdgeInvalidError
+        If it is not a valid directed edge.
+    """
     return int_to_str(_integers.get_directed_edge_origin(str_to_int(edge)))
 
 
 def origin_to_directed_edges(origin: str) -> List[str]:
-    """The texts of the edges that leave a cell, in ascending direction: six, a pentagon's five."""
+    """Return the texts of the edges that leave a cell, in ascending direction: six, of a pentagon five.
+
+    Parameters
+    ----------
+    origin : str
+        A cell.
+
+    Raises
+    ------
+    H3FailedError
+        If a text does not parse as an index.
+    H3CellInvalidError
+        If it is not a valid cell.
+    """
     return _texts(_integers.origin_to_directed_edges(str_to_int(origin)))
 
 
@@ -183,8 +407,28 @@ def grid_disk_unsafe(origin: str, k: SupportsIndex) -> List[str]:
 
 @over_table
 def grid_disk_unsafe(table, origin, k):  # type: ignore[no-untyped-def]
-    """The texts of the cells within k steps of a cell, in the order in which they are walked: ring by ring.
-    H3PentagonError where a step meets a pentagon base cell."""
+    """Return the texts of the cells within k steps of a cell, in the order of the walk: ring by ring.
+
+    Parameters
+    ----------
+    table : Table
+        A base cell table; may be left out after `use_table`.
+    origin : str
+        A cell.
+    k : int
+        The number of steps.
+
+    Raises
+    ------
+    H3FailedError
+        If a text does not parse as an index.
+    H3CellInvalidError
+        If it is not a valid cell.
+    H3DomainError
+        If `k` is below 0.
+    H3PentagonError
+        If the cell is a pentagon, or a step meets a pentagon base cell.
+    """
     return _texts(_integers.grid_disk_unsafe(table, str_to_int(origin), k))
 
 
@@ -200,7 +444,28 @@ def grid_disk_distances_unsafe(origin: str, k: SupportsIndex) -> List[List[str]]
 
 @over_table
 def grid_disk_distances_unsafe(table, origin, k):  # type: ignore[no-untyped-def]
-    """The same as `grid_disk_unsafe`, ring by ring: a list of texts for each of 0 to k steps."""
+    """Return the cells within k steps of a cell, ring by ring: a list of texts for each of 0 to k steps.
+
+    Parameters
+    ----------
+    table : Table
+        A base cell table; may be left out after `use_table`.
+    origin : str
+        A cell.
+    k : int
+        The number of steps.
+
+    Raises
+    ------
+    H3FailedError
+        If a text does not parse as an index.
+    H3CellInvalidError
+        If it is not a valid cell.
+    H3DomainError
+        If `k` is below 0.
+    H3PentagonError
+        If the cell is a pentagon, or a step meets a pentagon base cell.
+    """
     return [_texts(ring) for ring in _integers.grid_disk_distances_unsafe(table, str_to_int(origin), k)]
 
 
@@ -216,7 +481,28 @@ def grid_ring_unsafe(origin: str, k: SupportsIndex) -> List[str]:
 
 @over_table
 def grid_ring_unsafe(table, origin, k):  # type: ignore[no-untyped-def]
-    """The texts of the cells at k steps from a cell. Errors as of `grid_disk_unsafe`."""
+    """Return the texts of the cells at k steps from a cell.
+
+    Parameters
+    ----------
+    table : Table
+        A base cell table; may be left out after `use_table`.
+    origin : str
+        A cell.
+    k : int
+        The number of steps.
+
+    Raises
+    ------
+    H3FailedError
+        If a text does not parse as an index.
+    H3CellInvalidError
+        If it is not a valid cell.
+    H3DomainError
+        If `k` is below 0.
+    H3PentagonError
+        If a step meets a pentagon base cell, or the ring does not close.
+    """
     return _texts(_integers.grid_ring_unsafe(table, str_to_int(origin), k))
 
 
@@ -232,7 +518,28 @@ def are_neighbor_cells(origin: str, destination: str) -> bool:
 
 @over_table
 def are_neighbor_cells(table, origin, destination):  # type: ignore[no-untyped-def]
-    """Whether a step leads from the one cell to the other."""
+    """Return whether a step leads from the one cell to the other.
+
+    Parameters
+    ----------
+    table : Table
+        A base cell table; may be left out after `use_table`.
+    origin : str
+        A cell.
+    destination : str
+        Another cell.
+
+    Raises
+    ------
+    H3FailedError
+        If a text does not parse as an index.
+    H3CellInvalidError
+        If one is not a valid cell.
+    H3ResMismatchError
+        If their resolutions differ.
+    H3PentagonError
+        If they differ, and the base cell of one is a pentagon.
+    """
     return _integers.are_neighbor_cells(table, str_to_int(origin), str_to_int(destination))
 
 
@@ -248,7 +555,30 @@ def cells_to_directed_edge(origin: str, destination: str) -> str:
 
 @over_table
 def cells_to_directed_edge(table, origin, destination):  # type: ignore[no-untyped-def]
-    """The text of the edge from a cell to a neighbor. H3NotNeighborsError where it is none."""
+    """Return the text of the edge from a cell to a neighbor.
+
+    Parameters
+    ----------
+    table : Table
+        A base cell table; may be left out after `use_table`.
+    origin : str
+        A cell.
+    destination : str
+        Another cell.
+
+    Raises
+    ------
+    H3FailedError
+        If a text does not parse as an index.
+    H3CellInvalidError
+        If one is not a valid cell.
+    H3ResMismatchError
+        If their resolutions differ.
+    H3NotNeighborsError
+        If they are the same, or no step leads from the one to the other.
+    H3PentagonError
+        If they differ, and the base cell of one is a pentagon.
+    """
     return int_to_str(_integers.cells_to_directed_edge(table, str_to_int(origin), str_to_int(destination)))
 
 
@@ -264,7 +594,24 @@ def get_directed_edge_destination(edge: str) -> str:
 
 @over_table
 def get_directed_edge_destination(table, edge):  # type: ignore[no-untyped-def]
-    """The text of the cell that an edge leads to."""
+    """Return the text of the cell that an edge leads to.
+
+    Parameters
+    ----------
+    table : Table
+        A base cell table; may be left out after `use_table`.
+    edge : str
+        A directed edge.
+
+    Raises
+    ------
+    H3FailedError
+        If a text does not parse as an index.
+    H3DirEdgeInvalidError
+        If it is not a valid directed edge.
+    H3PentagonError
+        If the base cell of either end is a pentagon.
+    """
     return int_to_str(_integers.get_directed_edge_destination(table, str_to_int(edge)))
 
 
@@ -272,14 +619,47 @@ def get_directed_edge_destination(table, edge):  # type: ignore[no-untyped-def]
 
 
 def compact_cells(cells: Iterable[str]) -> List[str]:
-    """The texts of the least list of cells that covers what the given ones cover, ascending. H3DuplicateInputError
-    where a cell is given twice, or together with an ancestor of it. They may have different resolutions."""
+    """Return the texts of the shortest list of cells that covers the same, ascending.
+
+    Parameters
+    ----------
+    cells : iterable of str
+        Cells, of one resolution or of several.
+
+    Raises
+    ------
+    H3FailedError
+        If a text does not parse as an index.
+    H3CellInvalidError
+        If one is not a valid cell.
+    H3DuplicateInputError
+        If two overlap: a cell is given twice, or with an ancestor of it.
+    """
     return _texts(_integers.compact_cells(_indexes_of(str_to_int, cells)))
 
 
 def uncompact_cells(cells: Iterable[str], res: SupportsIndex) -> List[str]:
-    """The texts of the descendants at a resolution of the first cell, ascending, then those of the second, and so on.
-    H3ResMismatchError where a cell is finer."""
+    """Return the texts of the descendants at a resolution of the first cell, ascending, then those of the second, and
+    so on.
+
+    Parameters
+    ----------
+    cells : iterable of str
+        Cells.
+    res : int
+        The descendants' resolution.
+
+    Raises
+    ------
+    H3FailedError
+        If a text does not parse as an index.
+    H3CellInvalidError
+        If one is not a valid cell.
+    H3ResDomainError
+        If the resolution is not 0 to 15.
+    H3ResMismatchError
+        If a cell is finer.
+    """
     return _texts(_integers.uncompact_cells(_indexes_of(str_to_int, cells), res))
 
 

@@ -348,57 +348,238 @@ _h3_to_string = _library.number("h3ToString", _index, ctypes.c_char_p, _size)
 
 
 def are_valid_cells(column: _Column, *, missing: bool = False) -> _Column:
-    """Whether each number is the index of a cell."""
+    """Return whether each index is a valid cell.
+
+    Parameters
+    ----------
+    column : array, memoryview, numpy array, Series, Index or list
+        The cells.
+    missing : bool, optional
+        Write 0, -1 or False for what is refused, and raise nothing for it.
+
+    Raises
+    ------
+    H3FailedError
+        If a text does not parse as an index.
+    """
     return _fill(_are_valid_cells, column, "i", missing, is_truth=True)  # type: ignore[no-any-return]
 
 
 def are_valid_directed_edges(column: _Column, *, missing: bool = False) -> _Column:
-    """Whether each number is the index of a directed edge."""
+    """Return whether each index is a valid directed edge.
+
+    Parameters
+    ----------
+    column : array, memoryview, numpy array, Series, Index or list
+        The edges.
+    missing : bool, optional
+        Write 0, -1 or False for what is refused, and raise nothing for it.
+
+    Raises
+    ------
+    H3FailedError
+        If a text does not parse as an index.
+    """
     return _fill(_are_valid_directed_edges, column, "i", missing, is_truth=True)  # type: ignore[no-any-return]
 
 
 def get_resolutions(column: _Column, *, missing: bool = False) -> _Column:
-    """The resolution of each cell."""
+    """Return the resolution of each cell.
+
+    Parameters
+    ----------
+    column : array, memoryview, numpy array, Series, Index or list
+        The cells.
+    missing : bool, optional
+        Write 0, -1 or False for what is refused, and raise nothing for it.
+
+    Raises
+    ------
+    H3FailedError
+        If a text does not parse as an index.
+    H3CellInvalidError
+        If one is not a valid cell.
+    """
     return _fill(_get_resolutions, column, "i", missing)  # type: ignore[no-any-return]
 
 
 def get_base_cell_numbers(column: _Column, *, missing: bool = False) -> _Column:
-    """The base cell of each cell."""
+    """Return the base cell of each cell.
+
+    Parameters
+    ----------
+    column : array, memoryview, numpy array, Series, Index or list
+        The cells.
+    missing : bool, optional
+        Write 0, -1 or False for what is refused, and raise nothing for it.
+
+    Raises
+    ------
+    H3FailedError
+        If a text does not parse as an index.
+    H3CellInvalidError
+        If one is not a valid cell.
+    """
     return _fill(_get_base_cell_numbers, column, "i", missing)  # type: ignore[no-any-return]
 
 
 def are_pentagons(column: _Column, *, missing: bool = False) -> _Column:
-    """Whether each cell is a pentagon."""
+    """Return whether each cell is a pentagon.
+
+    Parameters
+    ----------
+    column : array, memoryview, numpy array, Series, Index or list
+        The cells.
+    missing : bool, optional
+        Write 0, -1 or False for what is refused, and raise nothing for it.
+
+    Raises
+    ------
+    H3FailedError
+        If a text does not parse as an index.
+    H3CellInvalidError
+        If one is not a valid cell.
+    """
     return _fill(_are_pentagons, column, "i", missing, is_truth=True)  # type: ignore[no-any-return]
 
 
 def are_res_class_III(column: _Column, *, missing: bool = False) -> _Column:
-    """Whether the resolution of each cell is Class III, which is odd."""
+    """Return whether the resolution of each cell is Class III, which is odd.
+
+    Parameters
+    ----------
+    column : array, memoryview, numpy array, Series, Index or list
+        The cells.
+    missing : bool, optional
+        Write 0, -1 or False for what is refused, and raise nothing for it.
+
+    Raises
+    ------
+    H3FailedError
+        If a text does not parse as an index.
+    H3CellInvalidError
+        If one is not a valid cell.
+    """
     return _fill(_are_res_class_iii, column, "i", missing, is_truth=True)  # type: ignore[no-any-return]
 
 
 def cells_to_parents(column: _Column, res: SupportsIndex, *, missing: bool = False) -> _Column:
-    """The ancestor of each cell at a resolution."""
+    """Return the ancestor of each cell at a resolution.
+
+    Parameters
+    ----------
+    column : array, memoryview, numpy array, Series, Index or list
+        The cells.
+    res : int
+        A resolution, which is judged first.
+    missing : bool, optional
+        Write 0, -1 or False for what is refused, and raise nothing for it.
+
+    Raises
+    ------
+    H3ResDomainError
+        If the resolution is not 0 to 15.
+    H3FailedError
+        If a text does not parse as an index.
+    H3CellInvalidError
+        If one is not a valid cell.
+    H3ResMismatchError
+        If the resolution is finer than a cell's.
+    """
     return _fill(_cells_to_parents, column, _INDEXES, missing, res=res)  # type: ignore[no-any-return]
 
 
 def cells_to_center_children(column: _Column, res: SupportsIndex, *, missing: bool = False) -> _Column:
-    """The descendant in the center of each cell at a resolution."""
+    """Return the descendant in the center of each cell at a resolution.
+
+    Parameters
+    ----------
+    column : array, memoryview, numpy array, Series, Index or list
+        The cells.
+    res : int
+        A resolution, which is judged first.
+    missing : bool, optional
+        Write 0, -1 or False for what is refused, and raise nothing for it.
+
+    Raises
+    ------
+    H3ResDomainError
+        If the resolution is not 0 to 15, or coarser than a cell's.
+    H3FailedError
+        If a text does not parse as an index.
+    H3CellInvalidError
+        If one is not a valid cell.
+    """
     return _fill(_cells_to_center_children, column, _INDEXES, missing, res=res)  # type: ignore[no-any-return]
 
 
 def cells_to_children_sizes(column: _Column, res: SupportsIndex, *, missing: bool = False) -> _Column:
-    """The number of descendants of each cell at a resolution."""
+    """Return the number of descendants of each cell at a resolution.
+
+    Parameters
+    ----------
+    column : array, memoryview, numpy array, Series, Index or list
+        The cells.
+    res : int
+        A resolution, which is judged first.
+    missing : bool, optional
+        Write 0, -1 or False for what is refused, and raise nothing for it.
+
+    Raises
+    ------
+    H3ResDomainError
+        If the resolution is not 0 to 15, or coarser than a cell's.
+    H3FailedError
+        If a text does not parse as an index.
+    H3CellInvalidError
+        If one is not a valid cell.
+    """
     return _fill(_cells_to_children_sizes, column, "q", missing, res=res)  # type: ignore[no-any-return]
 
 
 def cells_to_child_positions(column: _Column, res: SupportsIndex, *, missing: bool = False) -> _Column:
-    """The position of each cell among the descendants of its ancestor at a resolution."""
+    """Return the position of each cell among the descendants of its ancestor at a resolution.
+
+    Parameters
+    ----------
+    column : array, memoryview, numpy array, Series, Index or list
+        The cells.
+    res : int
+        A resolution, which is judged first.
+    missing : bool, optional
+        Write 0, -1 or False for what is refused, and raise nothing for it.
+
+    Raises
+    ------
+    H3ResDomainError
+        If the resolution is not 0 to 15.
+    H3FailedError
+        If a text does not parse as an index.
+    H3CellInvalidError
+        If one is not a valid cell.
+    H3ResMismatchError
+        If the resolution is finer than a cell's.
+    """
     return _fill(_cells_to_child_positions, column, "q", missing, res=res)  # type: ignore[no-any-return]
 
 
 def get_directed_edge_origins(column: _Column, *, missing: bool = False) -> _Column:
-    """The cell that each edge leaves."""
+    """Return the cell that each edge leaves.
+
+    Parameters
+    ----------
+    column : array, memoryview, numpy array, Series, Index or list
+        The edges.
+    missing : bool, optional
+        Write 0, -1 or False for what is refused, and raise nothing for it.
+
+    Raises
+    ------
+    H3FailedError
+        If a text does not parse as an index.
+    H3DirEdgeInvalidError
+        If one is not a valid directed edge.
+    """
     return _fill(_get_directed_edge_origins, column, _INDEXES, missing)  # type: ignore[no-any-return]
 
 

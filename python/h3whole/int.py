@@ -133,13 +133,29 @@ def _write(index: ctypes.c_uint64) -> str:
 
 
 def str_to_int(text: str) -> int:
-    """The index that a text parses as: 1 to 16 hexadecimal digits, with or without 0x. H3FailedError where it parses
-    as none. It need not be that of a cell."""
+    """Return the index that a text parses as, which need not be that of a cell.
+
+    Parameters
+    ----------
+    text : str
+        1 to 16 hexadecimal digits, with or without 0x.
+
+    Raises
+    ------
+    H3FailedError
+        If it does not parse as an index.
+    """
     return _parse(text).value
 
 
 def int_to_str(index: SupportsIndex) -> str:
-    """The text of an index: lower-case hexadecimal digits."""
+    """Return the text of an index: lower-case hexadecimal digits.
+
+    Parameters
+    ----------
+    index : int
+        An index.
+    """
     return _write(_index(as_cell(index)))
 
 
@@ -156,7 +172,13 @@ def _is(test: Callable[..., int], index: Any) -> bool:
 
 
 def is_valid_cell(cell: Any) -> bool:
-    """Whether a number is the index of a cell. False of anything that is no number, too."""
+    """Return whether a number is that of a valid cell.
+
+    Parameters
+    ----------
+    cell : object
+        Any value; what is not a number is not a cell.
+    """
     return _is(_is_valid_cell, cell)
 
 
@@ -169,23 +191,67 @@ def _known(function: Callable[..., int], cell: SupportsIndex) -> int:
 
 
 def get_resolution(cell: SupportsIndex) -> int:
-    """The resolution of a cell, 0 to 15."""
+    """Return the resolution of a cell, 0 to 15.
+
+    Parameters
+    ----------
+    cell : int
+        A cell.
+
+    Raises
+    ------
+    H3CellInvalidError
+        If it is not a valid cell.
+    """
     return _known(_get_resolution, cell)
 
 
 def get_base_cell_number(cell: SupportsIndex) -> int:
-    """The base cell of a cell, 0 to 121."""
+    """Return the base cell of a cell, 0 to 121.
+
+    Parameters
+    ----------
+    cell : int
+        A cell.
+
+    Raises
+    ------
+    H3CellInvalidError
+        If it is not a valid cell.
+    """
     return _known(_get_base_cell_number, cell)
 
 
 def is_pentagon(cell: SupportsIndex) -> bool:
-    """Whether a cell is a pentagon."""
+    """Return whether a cell is a pentagon.
+
+    Parameters
+    ----------
+    cell : int
+        A cell.
+
+    Raises
+    ------
+    H3CellInvalidError
+        If it is not a valid cell.
+    """
     get_resolution(cell)
     return bool(_is_pentagon(as_cell(cell)) == 1)
 
 
 def is_res_class_III(cell: SupportsIndex) -> bool:
-    """Whether the resolution of a cell is Class III, which is odd."""
+    """Return whether the resolution of a cell is Class III, which is odd.
+
+    Parameters
+    ----------
+    cell : int
+        A cell.
+
+    Raises
+    ------
+    H3CellInvalidError
+        If it is not a valid cell.
+    """
     get_resolution(cell)
     return bool(_is_res_class_iii(as_cell(cell)) == 1)
 
@@ -194,7 +260,18 @@ def is_res_class_III(cell: SupportsIndex) -> bool:
 
 
 def get_num_cells(res: SupportsIndex) -> int:
-    """The number of cells of a resolution."""
+    """Return the number of cells of a resolution.
+
+    Parameters
+    ----------
+    res : int
+        A resolution, 0 to 15.
+
+    Raises
+    ------
+    H3ResDomainError
+        If the resolution is not 0 to 15.
+    """
     found = _number()
     number = _get_num_cells(as_int(res), ctypes.byref(found))
     if number:
@@ -210,7 +287,18 @@ def get_res0_cells() -> List[int]:
 
 
 def get_pentagons(res: SupportsIndex) -> List[int]:
-    """The 12 pentagons of a resolution, ascending."""
+    """Return the 12 pentagons of a resolution, ascending.
+
+    Parameters
+    ----------
+    res : int
+        A resolution, 0 to 15.
+
+    Raises
+    ------
+    H3ResDomainError
+        If the resolution is not 0 to 15.
+    """
     room, at = _indexes(12)
     number = _get_pentagons(as_int(res), at, 12)
     if number:
@@ -245,7 +333,24 @@ def _text_at_resolution(function: Callable[..., int], cell: str, res: SupportsIn
 
 
 def cell_to_parent(cell: SupportsIndex, res: Optional[SupportsIndex] = None) -> int:
-    """The ancestor of a cell at a resolution, by default the next coarser one."""
+    """Return a cell's ancestor at a resolution.
+
+    Parameters
+    ----------
+    cell : int
+        A cell.
+    res : int, optional
+        The resolution; by default the next coarser one.
+
+    Raises
+    ------
+    H3CellInvalidError
+        If it is not a valid cell.
+    H3ResDomainError
+        If the resolution is not 0 to 15.
+    H3ResMismatchError
+        If the resolution is finer than the cell's.
+    """
     return _at_resolution(_cell_to_parent, _index(), cell, get_resolution(cell) - 1 if res is None else res)
 
 
@@ -254,17 +359,62 @@ def _finer(cell: SupportsIndex, res: Optional[SupportsIndex]) -> SupportsIndex:
 
 
 def cell_to_center_child(cell: SupportsIndex, res: Optional[SupportsIndex] = None) -> int:
-    """The descendant in a cell's center at a resolution, by default the next finer one."""
+    """Return the descendant in a cell's center at a resolution.
+
+    Parameters
+    ----------
+    cell : int
+        A cell.
+    res : int, optional
+        The resolution; by default the next finer one.
+
+    Raises
+    ------
+    H3CellInvalidError
+        If it is not a valid cell.
+    H3ResDomainError
+        If the resolution is not from the cell's own to 15.
+    """
     return _at_resolution(_cell_to_center_child, _index(), cell, _finer(cell, res))
 
 
 def cell_to_children_size(cell: SupportsIndex, res: Optional[SupportsIndex] = None) -> int:
-    """The number of descendants of a cell at a resolution, by default the next finer one."""
+    """Return the number of descendants of a cell at a resolution.
+
+    Parameters
+    ----------
+    cell : int
+        A cell.
+    res : int, optional
+        The resolution; by default the next finer one.
+
+    Raises
+    ------
+    H3CellInvalidError
+        If it is not a valid cell.
+    H3ResDomainError
+        If the resolution is not from the cell's own to 15.
+    """
     return _at_resolution(_cell_to_children_size, _number(), cell, _finer(cell, res))
 
 
 def cell_to_children(cell: SupportsIndex, res: Optional[SupportsIndex] = None) -> List[int]:
-    """The descendants of a cell at a resolution, by default the next finer one, ascending."""
+    """Return a cell's descendants at a resolution, ascending.
+
+    Parameters
+    ----------
+    cell : int
+        A cell.
+    res : int, optional
+        The resolution; by default the next finer one.
+
+    Raises
+    ------
+    H3CellInvalidError
+        If it is not a valid cell.
+    H3ResDomainError
+        If the resolution is not from the cell's own to 15.
+    """
     wanted = _finer(cell, res)
     count = cell_to_children_size(cell, wanted)
     room, at = _indexes(count)
@@ -273,12 +423,50 @@ def cell_to_children(cell: SupportsIndex, res: Optional[SupportsIndex] = None) -
 
 
 def cell_to_child_pos(child: SupportsIndex, res_parent: SupportsIndex) -> int:
-    """The position of a cell, from 0 on, among the descendants of its ancestor at a resolution."""
+    """Return the position of a cell, from 0 on, among the descendants of its ancestor at a resolution.
+
+    Parameters
+    ----------
+    child : int
+        A cell.
+    res_parent : int
+        The ancestor's resolution.
+
+    Raises
+    ------
+    H3CellInvalidError
+        If it is not a valid cell.
+    H3ResDomainError
+        If the resolution is not 0 to 15.
+    H3ResMismatchError
+        If the resolution is finer than the cell's.
+    """
     return _at_resolution(_cell_to_child_pos, _number(), child, res_parent)
 
 
 def child_pos_to_cell(parent: SupportsIndex, res_child: SupportsIndex, child_pos: SupportsIndex) -> int:
-    """The descendant of a cell at a resolution that has this position."""
+    """Return the descendant of a cell at a position.
+
+    Parameters
+    ----------
+    parent : int
+        A cell.
+    res_child : int
+        The descendant's resolution.
+    child_pos : int
+        The position, from 0 on.
+
+    Raises
+    ------
+    H3CellInvalidError
+        If it is not a valid cell.
+    H3ResDomainError
+        If the resolution is not 0 to 15.
+    H3ResMismatchError
+        If the resolution is coarser than the cell's.
+    H3DomainError
+        If no descendant has this position.
+    """
     given = as_cell(parent)
     found = _index()
     number = _child_pos_to_cell(as_int64(child_pos), given, as_int(res_child), ctypes.byref(found))
@@ -293,12 +481,29 @@ def child_pos_to_cell(parent: SupportsIndex, res_child: SupportsIndex, child_pos
 
 
 def is_valid_directed_edge(edge: Any) -> bool:
-    """Whether a number is the index of a directed edge. False of anything that is no number, too."""
+    """Return whether a number is that of a valid directed edge.
+
+    Parameters
+    ----------
+    edge : object
+        Any value; what is not a number is not an edge.
+    """
     return _is(_is_valid_directed_edge, edge)
 
 
 def get_directed_edge_origin(edge: SupportsIndex) -> int:
-    """The cell that an edge leaves."""
+    """Return the cell that an edge leaves.
+
+    Parameters
+    ----------
+    edge : int
+        A directed edge.
+
+    Raises
+    ------
+    H3DirEdgeInvalidError
+        If it is not a valid directed edge.
+    """
     given = as_edge(edge)
     found = _index()
     number = _get_directed_edge_origin(given, ctypes.byref(found))
@@ -308,7 +513,18 @@ def get_directed_edge_origin(edge: SupportsIndex) -> int:
 
 
 def origin_to_directed_edges(origin: SupportsIndex) -> List[int]:
-    """The edges that leave a cell, in ascending direction: six, a pentagon's five."""
+    """Return the edges that leave a cell, in ascending direction: six, of a pentagon five.
+
+    Parameters
+    ----------
+    origin : int
+        A cell.
+
+    Raises
+    ------
+    H3CellInvalidError
+        If it is not a valid cell.
+    """
     given = as_cell(origin)
     room, at = _indexes(6)
     number = _origin_to_directed_edges(given, at)
@@ -362,8 +578,26 @@ def grid_disk_unsafe(origin: SupportsIndex, k: SupportsIndex) -> List[int]:
 
 @over_table
 def grid_disk_unsafe(table, origin, k):  # type: ignore[no-untyped-def]
-    """The cells within k steps of a cell, in the order in which they are walked: ring by ring. H3PentagonError where a
-    step meets a pentagon base cell."""
+    """Return the cells within k steps of a cell, in the order of the walk: ring by ring.
+
+    Parameters
+    ----------
+    table : Table
+        A base cell table; may be left out after `use_table`.
+    origin : int
+        A cell.
+    k : int
+        The number of steps.
+
+    Raises
+    ------
+    H3CellInvalidError
+        If it is not a valid cell.
+    H3DomainError
+        If `k` is below 0.
+    H3PentagonError
+        If the cell is a pentagon, or a step meets a pentagon base cell.
+    """
     over, cell, radius = _over(table), as_cell(origin), as_int(k)
     room, at = _walk_room(_grid_disk_unsafe, over, cell, k, _disk_len(radius))
     _check_walk(_grid_disk_unsafe(over, cell, radius, at, len(room)), cell, k)
@@ -382,7 +616,26 @@ def grid_disk_distances_unsafe(origin: SupportsIndex, k: SupportsIndex) -> List[
 
 @over_table
 def grid_disk_distances_unsafe(table, origin, k):  # type: ignore[no-untyped-def]
-    """The same as `grid_disk_unsafe`, ring by ring: a list for each of 0 to k steps."""
+    """Return the cells within k steps of a cell, ring by ring: a list for each of 0 to k steps.
+
+    Parameters
+    ----------
+    table : Table
+        A base cell table; may be left out after `use_table`.
+    origin : int
+        A cell.
+    k : int
+        The number of steps.
+
+    Raises
+    ------
+    H3CellInvalidError
+        If it is not a valid cell.
+    H3DomainError
+        If `k` is below 0.
+    H3PentagonError
+        If the cell is a pentagon, or a step meets a pentagon base cell.
+    """
     over, cell, radius = _over(table), as_cell(origin), as_int(k)
     room, at = _walk_room(_grid_disk_unsafe, over, cell, k, _disk_len(radius))
     rings = _room("i", len(room))
@@ -406,7 +659,26 @@ def grid_ring_unsafe(origin: SupportsIndex, k: SupportsIndex) -> List[int]:
 
 @over_table
 def grid_ring_unsafe(table, origin, k):  # type: ignore[no-untyped-def]
-    """The cells at k steps from a cell. Errors as of `grid_disk_unsafe`."""
+    """Return the cells at k steps from a cell.
+
+    Parameters
+    ----------
+    table : Table
+        A base cell table; may be left out after `use_table`.
+    origin : int
+        A cell.
+    k : int
+        The number of steps.
+
+    Raises
+    ------
+    H3CellInvalidError
+        If it is not a valid cell.
+    H3DomainError
+        If `k` is below 0.
+    H3PentagonError
+        If a step meets a pentagon base cell, or the ring does not close.
+    """
     over, cell, radius = _over(table), as_cell(origin), as_int(k)
     room, at = _walk_room(_grid_ring_unsafe, over, cell, k, 6 * radius)
     _check_walk(_grid_ring_unsafe(over, cell, radius, at, len(room)), cell, k)
@@ -432,7 +704,26 @@ def are_neighbor_cells(origin: SupportsIndex, destination: SupportsIndex) -> boo
 
 @over_table
 def are_neighbor_cells(table, origin, destination):  # type: ignore[no-untyped-def]
-    """Whether a step leads from the one cell to the other."""
+    """Return whether a step leads from the one cell to the other.
+
+    Parameters
+    ----------
+    table : Table
+        A base cell table; may be left out after `use_table`.
+    origin : int
+        A cell.
+    destination : int
+        Another cell.
+
+    Raises
+    ------
+    H3CellInvalidError
+        If one is not a valid cell.
+    H3ResMismatchError
+        If their resolutions differ.
+    H3PentagonError
+        If they differ, and the base cell of one is a pentagon.
+    """
     over, first, second = _over(table), as_cell(origin), as_cell(destination)
     found = _truth()
     _check_pair(_are_neighbor_cells(over, first, second, ctypes.byref(found)), first, second)
@@ -451,7 +742,28 @@ def cells_to_directed_edge(origin: SupportsIndex, destination: SupportsIndex) ->
 
 @over_table
 def cells_to_directed_edge(table, origin, destination):  # type: ignore[no-untyped-def]
-    """The edge from a cell to a neighbor. H3NotNeighborsError where it is none."""
+    """Return the edge from a cell to a neighbor.
+
+    Parameters
+    ----------
+    table : Table
+        A base cell table; may be left out after `use_table`.
+    origin : int
+        A cell.
+    destination : int
+        Another cell.
+
+    Raises
+    ------
+    H3CellInvalidError
+        If one is not a valid cell.
+    H3ResMismatchError
+        If their resolutions differ.
+    H3NotNeighborsError
+        If they are the same, or no step leads from the one to the other.
+    H3PentagonError
+        If they differ, and the base cell of one is a pentagon.
+    """
     over, first, second = _over(table), as_cell(origin), as_cell(destination)
     found = _index()
     _check_pair(_cells_to_directed_edge(over, first, second, ctypes.byref(found)), first, second)
@@ -470,7 +782,22 @@ def get_directed_edge_destination(edge: SupportsIndex) -> int:
 
 @over_table
 def get_directed_edge_destination(table, edge):  # type: ignore[no-untyped-def]
-    """The cell that an edge leads to."""
+    """Return the cell that an edge leads to.
+
+    Parameters
+    ----------
+    table : Table
+        A base cell table; may be left out after `use_table`.
+    edge : int
+        A directed edge.
+
+    Raises
+    ------
+    H3DirEdgeInvalidError
+        If it is not a valid directed edge.
+    H3PentagonError
+        If the base cell of either end is a pentagon.
+    """
     over, given = _over(table), as_edge(edge)
     found = _index()
     number = _get_directed_edge_destination(over, given, ctypes.byref(found))
@@ -498,8 +825,20 @@ def _refused_cell(number: int, column: "array[int]", at: int, count: int) -> str
 
 
 def compact_cells(cells: Iterable[SupportsIndex]) -> List[int]:
-    """The least list of cells that covers what the given ones cover, ascending. H3DuplicateInputError where a cell is
-    given twice, or together with an ancestor of it. They may have different resolutions."""
+    """Return the shortest list of cells that covers the same, ascending.
+
+    Parameters
+    ----------
+    cells : iterable of int
+        Cells, of one resolution or of several.
+
+    Raises
+    ------
+    H3CellInvalidError
+        If one is not a valid cell.
+    H3DuplicateInputError
+        If two overlap: a cell is given twice, or with an ancestor of it.
+    """
     given, at, count = _column(cells)
     room, out = _indexes(count)
     found = _size()
@@ -510,8 +849,24 @@ def compact_cells(cells: Iterable[SupportsIndex]) -> List[int]:
 
 
 def uncompact_cells(cells: Iterable[SupportsIndex], res: SupportsIndex) -> List[int]:
-    """The descendants at a resolution of the first cell, ascending, then those of the second, and so on.
-    H3ResMismatchError where a cell is finer."""
+    """Return the descendants at a resolution of the first cell, ascending, then those of the second, and so on.
+
+    Parameters
+    ----------
+    cells : iterable of int
+        Cells.
+    res : int
+        The descendants' resolution.
+
+    Raises
+    ------
+    H3CellInvalidError
+        If one is not a valid cell.
+    H3ResDomainError
+        If the resolution is not 0 to 15.
+    H3ResMismatchError
+        If a cell is finer.
+    """
     given, at, count = _column(cells)
     wanted = as_int(res)
     size = sum(_size_at(cell, wanted) for cell in given[:count])
