@@ -118,3 +118,50 @@ COMMENT ON FUNCTION h3cell_cmp_bigint(h3cell, bigint) IS '-1, 0 or 1: the order 
 COMMENT ON FUNCTION bigint_cmp_h3cell(bigint, h3cell) IS '-1, 0 or 1: the order of the numbers with a sign';
 COMMENT ON FUNCTION h3cell_cmp_signed(h3cell, h3cell) IS '-1, 0 or 1: the order of the numbers with a sign';
 COMMENT ON FUNCTION bigint_cmp_unsigned(bigint, bigint) IS '-1, 0 or 1: the order of the numbers without a sign';
+
+-- What each function does, with H3's errors, in the order in which they are judged.
+COMMENT ON FUNCTION h3_is_valid_cell(h3cell) IS 'whether an index is a valid cell';
+COMMENT ON FUNCTION h3_get_resolution(h3cell) IS 'the resolution of a cell, 0 to 15; error 5 if not a valid cell';
+COMMENT ON FUNCTION h3_get_base_cell_number(h3cell) IS 'the base cell of a cell, 0 to 121; error 5 if not a valid cell';
+COMMENT ON FUNCTION h3_is_pentagon(h3cell) IS 'whether a cell is a pentagon; error 5 if not a valid cell';
+COMMENT ON FUNCTION h3_is_res_class_iii(h3cell) IS
+    'whether the resolution of a cell is Class III, which is odd; error 5 if not a valid cell';
+COMMENT ON FUNCTION h3_get_num_cells(bigint) IS
+    'the number of cells of a resolution; error 4 if the resolution is not 0 to 15';
+COMMENT ON FUNCTION h3_get_pentagons(bigint) IS
+    'the 12 pentagons of a resolution, ascending; error 4 if the resolution is not 0 to 15';
+COMMENT ON FUNCTION h3_cell_to_parent(h3cell, bigint) IS
+    'the ancestor of a cell at a resolution; error 5 if not a valid cell, 4 if the resolution is not 0 to 15, 12 if finer than the cell''s';
+COMMENT ON FUNCTION h3_cell_to_center_child(h3cell, bigint) IS
+    'the descendant in the center of a cell at a resolution; error 5 if not a valid cell, 4 if the resolution is not from the cell''s own to 15';
+COMMENT ON FUNCTION h3_cell_to_children(h3cell, bigint) IS
+    'the descendants of a cell at a resolution, ascending; error 5 if not a valid cell, 4 if the resolution is not from the cell''s own to 15';
+COMMENT ON FUNCTION h3_cell_to_children_size(h3cell, bigint) IS
+    'the number of descendants of a cell at a resolution; error 5 if not a valid cell, 4 if the resolution is not from the cell''s own to 15';
+COMMENT ON FUNCTION h3_cell_to_child_pos(h3cell, bigint) IS
+    'the position of a cell, from 0 on, among the descendants of its ancestor at a resolution; error 5 if not a valid cell, 4 if the resolution is not 0 to 15, 12 if finer than the cell''s';
+COMMENT ON FUNCTION h3_child_pos_to_cell(bigint, h3cell, bigint) IS
+    'the descendant of a cell at a position, from 0 on; error 5 if not a valid cell, 4 if the resolution is not 0 to 15, 12 if coarser than the cell''s, 2 if there is no such position';
+COMMENT ON FUNCTION h3_is_valid_directed_edge(h3cell) IS 'whether an index is a valid directed edge';
+COMMENT ON FUNCTION h3_get_directed_edge_origin(h3cell) IS
+    'the cell that an edge leaves; error 6 if not a valid directed edge';
+COMMENT ON FUNCTION h3_origin_to_directed_edges(h3cell) IS
+    'the edges that leave a cell, in ascending direction: six, of a pentagon five; error 5 if not a valid cell';
+COMMENT ON FUNCTION h3_compact_cells(h3cell[]) IS
+    'the shortest list of cells that covers the same, ascending; error 5 if one is not a valid cell, 10 if two overlap';
+COMMENT ON FUNCTION h3_uncompact_cells(h3cell[], bigint) IS
+    'the descendants at a resolution of the first cell, ascending, then those of the second, and so on; error 5 if one is not a valid cell, 4 if the resolution is not 0 to 15, 12 if coarser than a cell''s';
+COMMENT ON FUNCTION h3_intersect_cells(h3cell[], h3cell[]) IS
+    'the shortest list of cells that covers what both arrays cover, ascending; error 5 if one is not a valid cell';
+COMMENT ON FUNCTION h3_subtract_cells(h3cell[], h3cell[]) IS
+    'the shortest list of cells that covers what the first array covers and the second does not, ascending; error 5 if one is not a valid cell';
+COMMENT ON FUNCTION h3_is_covered(h3cell, h3cell[]) IS
+    'whether a region covers a cell: one of its cells is the cell or an ancestor of it; error 5 if one is not a valid cell';
+COMMENT ON FUNCTION h3_zone_of(h3cell, h3cell[]) IS
+    'the zone of a cell: the one that is the cell or an ancestor of it, or NULL; error 5 if one is not a valid cell, 10 if two zones overlap';
+COMMENT ON FUNCTION h3_cell_to_ancestors(h3cell) IS
+    'the ancestors of a cell and the cell itself, ascending; error 5 if not a valid cell';
+COMMENT ON AGGREGATE h3_compact_cells(h3cell) IS
+    'the shortest list of cells that covers the same as the rows, ascending, as an array; error 5 if one is not a valid cell, 10 if two overlap';
+COMMENT ON AGGREGATE h3_unite_cells(h3cell) IS
+    'the shortest list of cells that covers the same as the rows, which may repeat and overlap, ascending, as an array; error 5 if one is not a valid cell';
