@@ -42,49 +42,69 @@ public final class H3 {
         return judge(cell, index) == 0 && Native.isValidCell(index[0]);
     }
 
-    /** Returns the resolution of a cell, 0 to 15. */
+    /**
+     * Returns the resolution of a cell, 0 to 15.
+     *
+     * @throws H3Exception {@code E_CELL_INVALID}
+     */
     public static int getResolution(long cell) {
         return field(Native.getResolution(cell), cell);
     }
 
-    /** Returns the resolution of a cell, 0 to 15. */
+    /** Returns the resolution of a cell, 0 to 15. Errors as of {@link #getResolution(long)}. */
     public static int getResolution(String cell) {
         return getResolution(stringToH3(cell));
     }
 
-    /** Returns the base cell of a cell, 0 to 121. */
+    /**
+     * Returns the base cell of a cell, 0 to 121.
+     *
+     * @throws H3Exception {@code E_CELL_INVALID}
+     */
     public static int getBaseCellNumber(long cell) {
         return field(Native.getBaseCellNumber(cell), cell);
     }
 
-    /** Returns the base cell of a cell, 0 to 121. */
+    /** Returns the base cell of a cell, 0 to 121. Errors as of {@link #getBaseCellNumber(long)}. */
     public static int getBaseCellNumber(String cell) {
         return getBaseCellNumber(stringToH3(cell));
     }
 
-    /** Returns whether a cell is a pentagon. */
+    /**
+     * Returns whether a cell is a pentagon.
+     *
+     * @throws H3Exception {@code E_CELL_INVALID}
+     */
     public static boolean isPentagon(long cell) {
         return field(Native.isPentagon(cell), cell) == 1;
     }
 
-    /** Returns whether a cell is a pentagon. */
+    /** Returns whether a cell is a pentagon. Errors as of {@link #isPentagon(long)}. */
     public static boolean isPentagon(String cell) {
         return isPentagon(stringToH3(cell));
     }
 
-    /** Returns whether the resolution of a cell is Class III, which is odd. */
+    /**
+     * Returns whether the resolution of a cell is Class III, which is odd.
+     *
+     * @throws H3Exception {@code E_CELL_INVALID}
+     */
     public static boolean isResClassIII(long cell) {
         return field(Native.isResClassIII(cell), cell) == 1;
     }
 
-    /** Returns whether the resolution of a cell is Class III, which is odd. */
+    /** Returns whether the resolution of a cell is Class III. Errors as of {@link #isResClassIII(long)}. */
     public static boolean isResClassIII(String cell) {
         return isResClassIII(stringToH3(cell));
     }
 
     // ---- Resolutions
 
-    /** Returns the number of cells of a resolution. */
+    /**
+     * Returns the number of cells of a resolution.
+     *
+     * @throws H3Exception {@code E_RES_DOMAIN}: not a resolution
+     */
     public static long getNumCells(int res) {
         long count = Native.getNumCells(res);
         if (count < 0) {
@@ -104,13 +124,17 @@ public final class H3 {
         return textsOf(getRes0Cells());
     }
 
-    /** Returns the 12 pentagons of a resolution, ascending. */
+    /**
+     * Returns the 12 pentagons of a resolution, ascending.
+     *
+     * @throws H3Exception {@code E_RES_DOMAIN}: not a resolution
+     */
     public static List<Long> getPentagons(int res) {
         long[] status = new long[1];
         return listOf(found(Native.getPentagons(res, status), status, "resolution " + res));
     }
 
-    /** Returns the 12 pentagons of a resolution, ascending. */
+    /** Returns the 12 pentagons of a resolution, ascending. Errors as of {@link #getPentagons(int)}. */
     public static List<String> getPentagonAddresses(int res) {
         return textsOf(getPentagons(res));
     }
@@ -120,7 +144,7 @@ public final class H3 {
     /**
      * Returns the ancestor of a cell at a resolution.
      *
-     * @throws H3Exception {@code E_CELL_INVALID}; {@code E_RES_DOMAIN}: not a resolution; {@code E_RES_MISMATCH}: one
+     * @throws H3Exception {@code E_CELL_INVALID}; {@code E_RES_DOMAIN}: not a resolution; {@code E_RES_MISMATCH}:
      *     finer than the cell's
      */
     public static long cellToParent(long cell, int res) {
@@ -135,8 +159,7 @@ public final class H3 {
     /**
      * Returns the descendant of a cell in its center.
      *
-     * @throws H3Exception {@code E_CELL_INVALID}; {@code E_RES_DOMAIN}: not a resolution, or one coarser than the
-     *     cell's
+     * @throws H3Exception {@code E_CELL_INVALID}; {@code E_RES_DOMAIN}: not a resolution, or coarser than the cell's
      */
     public static long cellToCenterChild(long cell, int res) {
         return atResolution(Native.cellToCenterChild(cell, res), cell, res);
@@ -198,7 +221,7 @@ public final class H3 {
     /**
      * Returns the descendant of a cell that has a position.
      *
-     * @throws H3Exception {@code E_CELL_INVALID}; {@code E_RES_DOMAIN}: not a resolution; {@code E_RES_MISMATCH}: one
+     * @throws H3Exception {@code E_CELL_INVALID}; {@code E_RES_DOMAIN}: not a resolution; {@code E_RES_MISMATCH}:
      *     coarser than the cell's; {@code E_DOMAIN}: no descendant has the position
      */
     public static long childPosToCell(long position, long parent, int res) {
@@ -217,10 +240,10 @@ public final class H3 {
     // ---- Lists
 
     /**
-     * Returns the least list of cells that covers the same, ascending.
+     * Returns the shortest list of cells that covers the same, ascending.
      *
-     * @throws H3Exception {@code E_CELL_INVALID}; {@code E_DUPLICATE_INPUT}: a cell is there twice, or with an ancestor
-     *     of it; {@code E_MEMORY_ALLOC}
+     * @throws H3Exception {@code E_CELL_INVALID}; {@code E_DUPLICATE_INPUT}: a cell is listed twice, or with an
+     *     ancestor of it; {@code E_MEMORY_ALLOC}
      */
     public static long[] compactCells(long[] cells) {
         long[] status = new long[1];
