@@ -628,7 +628,22 @@ def _set_of_list(column: Any, function: Callable[[Any], Any]) -> Any:
 
 
 def compact_cells(column: _Column) -> _Column:
-    """The least list of cells that covers what those of a column cover, ascending, as a column."""
+    """Return the shortest list of cells that covers the same, ascending, as a column.
+
+    Parameters
+    ----------
+    column : array, memoryview, numpy array, Series, Index or list
+        The cells, of one resolution or of several.
+
+    Raises
+    ------
+    H3FailedError
+        If a text does not parse as an index.
+    H3CellInvalidError
+        If one is not a valid cell.
+    H3DuplicateInputError
+        If two overlap.
+    """
     if _is_listed(column):
         return _set_of_list(column, compact_cells)  # type: ignore[no-any-return]
     with _Memory(column) as given:
@@ -643,8 +658,26 @@ def compact_cells(column: _Column) -> _Column:
 
 
 def uncompact_cells(column: _Column, res: SupportsIndex) -> _Column:
-    """The descendants at a resolution of the cells of a column, in their order, as a column. A number that is no
-    resolution is refused before any cell."""
+    """Return the descendants at a resolution of the cells of a column, in their order, as a column.
+
+    Parameters
+    ----------
+    column : array, memoryview, numpy array, Series, Index or list
+        The cells.
+    res : int
+        The descendants' resolution, which is judged first.
+
+    Raises
+    ------
+    H3ResDomainError
+        If the resolution is not 0 to 15.
+    H3FailedError
+        If a text does not parse as an index.
+    H3CellInvalidError
+        If one is not a valid cell.
+    H3ResMismatchError
+        If a cell is finer.
+    """
     wanted = as_res(res)
     if _is_listed(column):
         uncompact_cells(array("Q"), res)
@@ -747,9 +780,25 @@ def _to_int(column: Any, missing: bool, integers: "Optional[array[int]]" = None)
 
 
 def str_to_int(column: Any, *, missing: bool = False) -> Any:
-    """The indexes of a column of texts, each as `h3whole.str_to_int` parses it: an array for a list, a numpy array of
-    the same shape for one of texts, bytes or objects, and a Series for a Series. With `missing=True` what parses as no
-    index, or is no text, is 0."""
+    """Return the indexes of a column of texts, each as `h3whole.str_to_int` parses it.
+
+    Parameters
+    ----------
+    column : list, numpy array of texts, bytes or objects, Series or Index
+        The texts.
+    missing : bool, optional
+        Write 0 for what is not a text, or does not parse as an index, and raise nothing for it.
+
+    Returns
+    -------
+    array, numpy array, Series or Index
+        An array for a list, and else the same kind and shape.
+
+    Raises
+    ------
+    H3FailedError
+        If a text does not parse as an index.
+    """
     return _to_int(column, missing)
 
 
@@ -769,8 +818,18 @@ def _write(given: _Memory) -> List[str]:
 
 
 def int_to_str(column: Any) -> Any:
-    """The texts of a column of indexes, each as `h3whole.int_to_str` writes it: a list for an array or a memoryview, a
-    numpy array of the same shape for a numpy array, and a Series for a Series. It takes a list of integers, too."""
+    """Return the texts of a column of indexes, each as `h3whole.int_to_str` writes it.
+
+    Parameters
+    ----------
+    column : array, memoryview, numpy array, Series, Index or list
+        The indexes.
+
+    Returns
+    -------
+    list, numpy array, Series or Index
+        A list for an array, a memoryview or a list, and else the same kind and shape.
+    """
     if isinstance(column, (list, tuple)):
         column = indexes_of(as_cell, column)
     if _is_pandas_index(column):

@@ -56,7 +56,15 @@ class Table:
 
     @classmethod
     def read(cls, path: "Union[str, bytes, PathLike[Any]]") -> "Table":
-        """The table in the file at a path."""
+        """Return the table in the file at a path.
+
+        Raises
+        ------
+        OSError
+            If the file cannot be read.
+        TableError
+            If the file is refused.
+        """
         with open(path, "rb") as file:
             return cls(file.read())
 
@@ -68,7 +76,7 @@ _used: Optional[Table] = None
 
 
 def use_table(table: Table) -> None:
-    """Sets the table of the calls that pass none, as `grid_disk_unsafe(cell, k)`, in this process."""
+    """Set the table of the calls that pass none, as `grid_disk_unsafe(cell, k)`, in this process."""
     global _used
     if not isinstance(table, Table):
         raise TypeError(f"a table is wanted, and not {table!r}")
