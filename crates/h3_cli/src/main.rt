@@ -2,7 +2,7 @@
 #![tactic(auto)]
 
 use h3_index::{H3Error, Sink, Source, StreamFault, Streamed};
-use h3_lines::{Refusal, report, write_all};
+use h3_lines::{AnswerError, Fault, Refusal, report, write_all};
 use h3_program::{NamedFile, Retried, run_words};
 use h3_requests::{CellFunction, Command};
 use h3_words::{CommandFile, Words, WordsFault, read_words};
@@ -18,10 +18,14 @@ use std::{env, fs};
 fn given_words<R: Env + AllocGlobal>(rt: &R) -> Result<Vec<String>, Refusal> {
     let words = match env::args(rt) {
         Ok(words) => words,
-        Err(error) if error.kind() == ErrorKind::OutOfMemory => return Err(Refusal::Memory),
-        Err(_) => return Err(Refusal::Error(H3Error::Failed)),
+        Err(error) if error.kind() == ErrorKind::OutOfMemory => {
+            return Err(Refusal::Fault(Fault::Memory));
+        }
+        Err(_) => return Err(Refusal::Error(AnswerError::Call(H3Error::Failed))),
     };
-    words.collect(rt.alloc()).map_err(|_| Refusal::Memory)
+    words
+        .collect(rt.alloc())
+        .map_err(|_| Refusal::Fault(Fault::Memory))
 }
 
 /// Whether the words may be those of a command over a region or zones. No others are parsed twice.

@@ -8,21 +8,24 @@ use Rattle.h3_lattice.specs.Fields.{records_of}
 use Rattle.h3_lattice.specs.Links.{Links}
 use Rattle.h3_lattice.specs.Table.{RefusesTable, links_of, table_fault}
 use Rattle.h3_directions.specs.declared.error.TableError.{TableError}
-use Rattle.h3_directions.specs.declared.error.TableError.TheVariants as fault
-use Rattle.h3_lines.specs.Answer.{Answer, answer_or_error, out_of_memory}
+use Rattle.h3_directions.specs.declared.error.TableError.TheVariants as in_table
+use Rattle.h3_lines.specs.Answer.{Answer, answer_or_error}
 use Rattle.h3_lines.specs.EachLine.{EndsEach, answer_at, list_answer}
 use Rattle.h3_lines.specs.List.{RefusesList, listed_cells}
 use Rattle.h3_lines.specs.Numbered.{RefusesAt, faulty_line}
 use Rattle.h3_lines.specs.Reads.{IsListWithinReads, IsWithinReads, StopsAtFault}
-use Rattle.h3_lines.specs.Refusal.{table_refusal}
+use Rattle.h3_lines.specs.Refusal.{ending_of, table_refusal}
+use Rattle.h3_lines.specs.declared.refusal.AnswerError.{AnswerError}
+use Rattle.h3_lines.specs.declared.refusal.AnswerError.TheVariants.{Call, At, Table}
 use Rattle.h3_lines.specs.declared.refusal.CellFile.{CellFile}
+use Rattle.h3_lines.specs.declared.refusal.Fault.TheVariants.{Memory, Read, Write}
 use Rattle.h3_lines.specs.declared.refusal.Refusal.{Refusal}
-use Rattle.h3_lines.specs.declared.refusal.Refusal.TheVariants.{Error, At, Memory, Read, Write, Table, TableOpen, FileOpen, FileAt, File}
+use Rattle.h3_lines.specs.declared.refusal.Refusal.TheVariants.{Error, Fault}
 use Rattle.h3_lines.specs.Writing.{IsLeft, Reports, SinkUse, Writes}
 use Rattle.h3_command.specs.Answer.{Request, about_numbered_list, about_table, answer_or_error_at, with_table, unless_faulty}
 use Rattle.h3_command.specs.Files.{file_cells, unless_refused}
 use Rattle.h3_command.specs.Answer.Request.{of_file_and_lines, of_file_and_list, of_lines, of_list, of_numbered_list, of_table, plain}
-use Rattle.h3_command.specs.Run.{Answers, Ends, Gives, IsReadSoFar, IsReadToEnd, IsReadWhole, NoReadFails, ReadFails, RefusesFile, Runs, SourceUse, StopsWithin, Streams, WritesOfNumberedList, WritesReading}
+use Rattle.h3_command.specs.Run.{Answers, Ends, Gives, IsReadSoFar, IsReadToEnd, IsReadWhole, NoReadFails, ReadFails, RefusesFile, Runs, RunsOutOfMemory, SourceUse, StopsWithin, Streams, WritesOfNumberedList, WritesReading}
 use Rattle.h3_command.proofs.Written.{nothing, writes_refused}
 
 -- an answer to what was read is written, and no read failed
@@ -31,15 +34,9 @@ reading_written : (a : Answer) (bytes : List ℕ) (was_read : Type 0) (source : 
 unfolding Writes
 reading_written a bytes was_read source (Ok u) out all sound writes = (all, sound, writes)
 reading_written a bytes was_read source (Err (Error e)) out all sound writes = (all, sound, writes)
-reading_written a bytes was_read source (Err (At n e)) out all sound writes = (all, sound, writes)
-reading_written a bytes was_read source (Err (Table e)) out all sound writes = (all, sound, writes)
-reading_written a bytes was_read source (Err TableOpen) out all sound never = absurd never
-reading_written a bytes was_read source (Err (FileOpen f)) out all sound never = absurd never
-reading_written a bytes was_read source (Err (FileAt f n e)) out all sound writes = (all, sound, writes)
-reading_written a bytes was_read source (Err (File f e)) out all sound writes = (all, sound, writes)
-reading_written a bytes was_read source (Err Memory) out all sound never = absurd never
-reading_written a bytes was_read source (Err Read) out all sound never = absurd never
-reading_written a bytes was_read source (Err Write) out all sound writes = (all, sound, writes)
+reading_written a bytes was_read source (Err (Fault Memory)) out all sound never = absurd never
+reading_written a bytes was_read source (Err (Fault Read)) out all sound never = absurd never
+reading_written a bytes was_read source (Err (Fault Write)) out all sound writes = (all, sound, writes)
 
 -- ---- a list
 
@@ -49,38 +46,31 @@ read_whole : (a : Answer) (list : List ℕ) (cells : List Address) (input : Sour
 unfolding Writes
 read_whole a list cells input (Ok u) out is writes whole = subst (λ l. IsReadSoFar l input (Ok u)) (sym is) whole
 read_whole a list cells input (Err (Error e)) out is writes whole = subst (λ l. IsReadSoFar l input (Err (Error e))) (sym is) whole
-read_whole a list cells input (Err (At n e)) out is writes whole = subst (λ l. IsReadSoFar l input (Err (At n e))) (sym is) whole
-read_whole a list cells input (Err (Table e)) out is writes whole = subst (λ l. IsReadSoFar l input (Err (Table e))) (sym is) whole
-read_whole a list cells input (Err TableOpen) out is never whole = absurd never
-read_whole a list cells input (Err (FileOpen f)) out is never whole = absurd never
-read_whole a list cells input (Err (FileAt f n e)) out is writes whole = subst (λ l. IsReadSoFar l input (Err (FileAt f n e))) (sym is) whole
-read_whole a list cells input (Err (File f e)) out is writes whole = subst (λ l. IsReadSoFar l input (Err (File f e))) (sym is) whole
-read_whole a list cells input (Err Memory) out is never whole = absurd never
-read_whole a list cells input (Err Read) out is never whole = absurd never
-read_whole a list cells input (Err Write) out is writes whole = subst (λ l. IsReadSoFar l input (Err Write)) (sym is) whole
+read_whole a list cells input (Err (Fault Memory)) out is never whole = absurd never
+read_whole a list cells input (Err (Fault Read)) out is never whole = absurd never
+read_whole a list cells input (Err (Fault Write)) out is writes whole = subst (λ l. IsReadSoFar l input (Err (Fault Write))) (sym is) whole
 
 -- where there is no memory, a list may not be read to its end
-read_in_part : (cells : Result (List Address) H3Error) (input : SourceUse) → StopsWithin 65536 input → IsReadSoFar cells input (Err Memory)
+read_in_part : (cells : Result (List Address) H3Error) (input : SourceUse) → StopsWithin 65536 input → IsReadSoFar cells input (Err (Fault Memory))
 read_in_part (Ok cells) input stops = inr stops
 read_in_part (Err e) input stops = stops
 
 -- the list is refused
 pub list_refused : (about : List Address → Answer) (list : List ℕ) (input : SourceUse) (e : Refusal) (out : SinkUse) → RefusesList (ReadFails input list) (listed_cells list) e
-    → ((e ≡ Read → ⊥) → (e ≡ Memory → ⊥) → IsListWithinReads (2 ^ 40) 65536 list) → ((e ≡ Read → ⊥) → NoReadFails input) → StopsWithin 65536 input → (e ≡ Read → StopsWithin 0 input) → IsLeft out
+    → ((e ≡ Fault Read → ⊥) → (e ≡ Fault Memory → ⊥) → IsListWithinReads (2 ^ 40) 65536 list) → ((e ≡ Fault Read → ⊥) → NoReadFails input) → StopsWithin 65536 input → (e ≡ Fault Read → StopsWithin 0 input) → IsLeft out
     → WritesReading (answer_or_error about (listed_cells list)) list (IsListWithinReads (2 ^ 40) 65536 list) input (Err e) out × IsReadSoFar (listed_cells list) input (Err e)
-list_refused about list input (Error d) out is within sound stops faults left = (
-  (within (λ never. cc never) (λ never. cc never), sound (λ never. cc never), subst (λ cells. Writes (answer_or_error about cells) (Err (Error d)) out) (sym is) (writes_refused d out left)),
+list_refused about list input (Error d) out (error, is, call) within sound stops faults left = (
+  (
+    within (λ never. cc never) (λ never. cc never),
+    sound (λ never. cc never),
+    subst (λ c. Writes (answer_or_error about (listed_cells list)) (Err (Error c)) out) (sym call)
+        (subst (λ cells. Writes (answer_or_error about cells) (Err (Error (Call error))) out) (sym is) (writes_refused error out left)),
+  ),
   subst (λ l. IsReadSoFar l input (Err (Error d))) (sym is) stops,
 )
-list_refused about list input (At n d) out never within sound stops faults left = absurd never
-list_refused about list input Memory out is within sound stops faults left = ((sound (λ never. cc never), left), read_in_part (listed_cells list) input stops)
-list_refused about list input Read out fails within sound stops faults left = ((fails, left), faults refl)
-list_refused about list input Write out never within sound stops faults left = absurd never
-list_refused about list input (Table d) out never within sound stops faults left = absurd never
-list_refused about list input TableOpen out never within sound stops faults left = absurd never
-list_refused about list input (FileOpen f) out never within sound stops faults left = absurd never
-list_refused about list input (FileAt f n d) out never within sound stops faults left = absurd never
-list_refused about list input (File f d) out never within sound stops faults left = absurd never
+list_refused about list input (Fault Memory) out is within sound stops faults left = ((sound (λ never. cc never), left), read_in_part (listed_cells list) input stops)
+list_refused about list input (Fault Read) out fails within sound stops faults left = ((fails, left), faults refl)
+list_refused about list input (Fault Write) out never within sound stops faults left = absurd never
 
 -- the list is read, and the answer about its cells is written
 pub list_written : (about : List Address → Answer) (list : List ℕ) (cells : List Address) (input : SourceUse) (ending : Result (Unit {0}) Refusal) (out : SinkUse) → listed_cells list ≡ Ok cells
@@ -93,33 +83,27 @@ list_written about list cells input ending out is short sound whole writes = (
 
 -- ---- a list whose faulty line is told with its number
 
--- an error at a line is written
-writes_refused_at : (line : ℕ) (e : H3Error) (out : SinkUse) → IsLeft out → Writes (record { output = []; ending = Err (At line e) }) (Err (At line e)) out
+-- an error in place of an answer is written
+error_written : (e : AnswerError) (out : SinkUse) → IsLeft out → Writes (record { output = []; ending = Err e }) (Err (Error e)) out
 unfolding Writes
-writes_refused_at line e out left = (refl, (nothing _ _ left.0, left.1))
+error_written e out left = (refl, (nothing _ _ left.0, left.1))
 
 -- the list is refused
 pub numbered_refused : (about : List Address → Answer) (list : List ℕ) (input : SourceUse) (e : Refusal) (out : SinkUse) → RefusesAt (ReadFails input list) (listed_cells list) (faulty_line list) e
-    → ((e ≡ Read → ⊥) → (e ≡ Memory → ⊥) → IsListWithinReads (2 ^ 40) 65536 list) → ((e ≡ Read → ⊥) → NoReadFails input) → StopsWithin 65536 input → (e ≡ Read → StopsWithin 0 input) → IsLeft out
+    → ((e ≡ Fault Read → ⊥) → (e ≡ Fault Memory → ⊥) → IsListWithinReads (2 ^ 40) 65536 list) → ((e ≡ Fault Read → ⊥) → NoReadFails input) → StopsWithin 65536 input → (e ≡ Fault Read → StopsWithin 0 input) → IsLeft out
     → WritesReading (about_numbered_list about list) list (IsListWithinReads (2 ^ 40) 65536 list) input (Err e) out × IsReadSoFar (listed_cells list) input (Err e)
-numbered_refused about list input (Error d) out never within sound stops faults left = absurd never
-numbered_refused about list input (At n d) out (is, number) within sound stops faults left = (
+numbered_refused about list input (Error d) out (error, is, at) within sound stops faults left = (
   (
     within (λ never. cc never) (λ never. cc never),
     sound (λ never. cc never),
-    subst (λ cells. Writes (answer_or_error_at (faulty_line list) about cells) (Err (At n d)) out) (sym is)
-        (subst (λ line. Writes (record { output = []; ending = Err (At line d) }) (Err (At n d)) out) number (writes_refused_at n d out left)),
+    subst (λ c. Writes (about_numbered_list about list) (Err (Error c)) out) (sym at)
+        (subst (λ cells. Writes (answer_or_error_at (faulty_line list) about cells) (Err (Error (At (faulty_line list) error))) out) (sym is) (error_written (At (faulty_line list) error) out left)),
   ),
-  subst (λ l. IsReadSoFar l input (Err (At n d))) (sym is) stops,
+  subst (λ l. IsReadSoFar l input (Err (Error d))) (sym is) stops,
 )
-numbered_refused about list input Memory out is within sound stops faults left = ((sound (λ never. cc never), left), read_in_part (listed_cells list) input stops)
-numbered_refused about list input Read out fails within sound stops faults left = ((fails, left), faults refl)
-numbered_refused about list input Write out never within sound stops faults left = absurd never
-numbered_refused about list input (Table d) out never within sound stops faults left = absurd never
-numbered_refused about list input TableOpen out never within sound stops faults left = absurd never
-numbered_refused about list input (FileOpen f) out never within sound stops faults left = absurd never
-numbered_refused about list input (FileAt f n d) out never within sound stops faults left = absurd never
-numbered_refused about list input (File f d) out never within sound stops faults left = absurd never
+numbered_refused about list input (Fault Memory) out is within sound stops faults left = ((sound (λ never. cc never), left), read_in_part (listed_cells list) input stops)
+numbered_refused about list input (Fault Read) out fails within sound stops faults left = ((fails, left), faults refl)
+numbered_refused about list input (Fault Write) out never within sound stops faults left = absurd never
 
 -- there are some bytes left
 some_left : (left : Option (List ℕ)) → (bytes : List ℕ) × HasLeft left bytes
@@ -132,7 +116,7 @@ unread list =
     record { before = []; last = []; split = refl; within = omega arith; good = record { ended = []; last = []; lines = refl; good = refl; short = omega arith } }
 
 -- there is no memory before any of the list is read
-pub numbered_unread : (about : List Address → Answer) (input : SourceUse) (out : SinkUse) → NoReadFails input → input.left_after ≡ input.left → IsLeft out → WritesOfNumberedList about input (Err Memory) out
+pub numbered_unread : (about : List Address → Answer) (input : SourceUse) (out : SinkUse) → NoReadFails input → input.left_after ≡ input.left → IsLeft out → WritesOfNumberedList about input (Err (Fault Memory)) out
 numbered_unread about input out sound alone left =
     let (bytes, held) = some_left input.left in
     (bytes, held, (sound, left), read_in_part (listed_cells bytes) input (λ list known. (list, alone ∙ known, unread list)))
@@ -150,59 +134,53 @@ numbered_written about list cells input ending out is short sound whole writes =
 
 -- there is an error in place of the value, and the table is not read
 pub value_refused : {A : Type 0} (about : A → Links → Answer) (value : Result A H3Error) (e : H3Error) (input table : SourceUse) (out : SinkUse) → Err e ≡ value → IsLeft out
-    → Ends (with_table about value) input table (Err (Error e)) out
+    → Ends (with_table about value) input table (Err (Error (Call e))) out
 value_refused about value e input table out is left =
-    subst (λ c. Ends (with_table about c) input table (Err (Error e)) out) is (writes_refused e out left)
+    subst (λ c. Ends (with_table about c) input table (Err (Error (Call e))) out) is (writes_refused e out left)
 
 -- an error of the table stands in place of an answer
-table_error : (a : Answer) (first : Option TableError) (e : TableError) (file : List ℕ) (table : SourceUse) (out : SinkUse) → first ≡ Some e → (was_read : Type 0) → ((e ≡ fault.Read → ⊥) → (e ≡ fault.Memory → ⊥) → was_read)
-    → ((e ≡ fault.Read → ⊥) → NoReadFails table) → IsLeft out → (e ≡ fault.Read → ⊥) → (e ≡ fault.Memory → ⊥) → WritesReading (unless_faulty first a) file was_read table (Err (Table e)) out
+table_error : (a : Answer) (first : Option TableError) (e : TableError) (file : List ℕ) (table : SourceUse) (out : SinkUse) → first ≡ Some e → (was_read : Type 0) → ((e ≡ in_table.Read → ⊥) → (e ≡ in_table.Memory → ⊥) → was_read)
+    → ((e ≡ in_table.Read → ⊥) → NoReadFails table) → IsLeft out → (e ≡ in_table.Read → ⊥) → (e ≡ in_table.Memory → ⊥) → WritesReading (unless_faulty first a) file was_read table (Err (Error (Table e))) out
 unfolding Writes
 table_error a first e file table out is was_read all sound left other memory =
-    (all other memory, sound other, subst (λ f. Writes (unless_faulty f a) (Err (Table e)) out) (sym is) (refl, (nothing _ _ left.0, left.1)))
+    (all other memory, sound other, subst (λ f. Writes (unless_faulty f a) (Err (Error (Table e))) out) (sym is) (refl, (nothing _ _ left.0, left.1)))
 
 table_refuses : (a : Answer) (first : Option TableError) (e : TableError) (file : List ℕ) (table : SourceUse) (out : SinkUse) → RefusesTable (ReadFails table file) first e → (was_read : Type 0)
-    → ((e ≡ fault.Read → ⊥) → (e ≡ fault.Memory → ⊥) → was_read) → ((e ≡ fault.Read → ⊥) → NoReadFails table) → IsLeft out → WritesReading (unless_faulty first a) file was_read table (Err (table_refusal e)) out
-table_refuses a first fault.Read file table out fails was_read all sound left = (fails, left)
-table_refuses a first fault.Memory file table out any was_read all sound left = (sound (λ never. cc never), left)
-table_refuses a first (fault.Form row) file table out is was_read all sound left = table_error a first _ file table out is was_read all sound left (λ never. cc never) (λ never. cc never)
-table_refuses a first (fault.Range row) file table out is was_read all sound left = table_error a first _ file table out is was_read all sound left (λ never. cc never) (λ never. cc never)
-table_refuses a first (fault.Repeated row) file table out is was_read all sound left = table_error a first _ file table out is was_read all sound left (λ never. cc never) (λ never. cc never)
-table_refuses a first fault.Missing file table out is was_read all sound left = table_error a first _ file table out is was_read all sound left (λ never. cc never) (λ never. cc never)
-table_refuses a first (fault.Neighbours b) file table out is was_read all sound left = table_error a first _ file table out is was_read all sound left (λ never. cc never) (λ never. cc never)
-table_refuses a first (fault.Reversal b d) file table out is was_read all sound left = table_error a first _ file table out is was_read all sound left (λ never. cc never) (λ never. cc never)
-table_refuses a first (fault.Corner b d) file table out is was_read all sound left = table_error a first _ file table out is was_read all sound left (λ never. cc never) (λ never. cc never)
+    → ((e ≡ in_table.Read → ⊥) → (e ≡ in_table.Memory → ⊥) → was_read) → ((e ≡ in_table.Read → ⊥) → NoReadFails table) → IsLeft out → WritesReading (unless_faulty first a) file was_read table (Err (table_refusal e)) out
+table_refuses a first in_table.Read file table out fails was_read all sound left = (fails, left)
+table_refuses a first in_table.Memory file table out any was_read all sound left = (sound (λ never. cc never), left)
+table_refuses a first (in_table.Form row) file table out is was_read all sound left = table_error a first _ file table out is was_read all sound left (λ never. cc never) (λ never. cc never)
+table_refuses a first (in_table.Range row) file table out is was_read all sound left = table_error a first _ file table out is was_read all sound left (λ never. cc never) (λ never. cc never)
+table_refuses a first (in_table.Repeated row) file table out is was_read all sound left = table_error a first _ file table out is was_read all sound left (λ never. cc never) (λ never. cc never)
+table_refuses a first in_table.Missing file table out is was_read all sound left = table_error a first _ file table out is was_read all sound left (λ never. cc never) (λ never. cc never)
+table_refuses a first (in_table.Neighbours b) file table out is was_read all sound left = table_error a first _ file table out is was_read all sound left (λ never. cc never) (λ never. cc never)
+table_refuses a first (in_table.Reversal b d) file table out is was_read all sound left = table_error a first _ file table out is was_read all sound left (λ never. cc never) (λ never. cc never)
+table_refuses a first (in_table.Corner b d) file table out is was_read all sound left = table_error a first _ file table out is was_read all sound left (λ never. cc never) (λ never. cc never)
 
 -- a table that is refused for what is in it was read to its end
-table_read : (e : TableError) (table : SourceUse) → ((e ≡ fault.Read → ⊥) → (e ≡ fault.Memory → ⊥) → IsReadToEnd table) → IsReadWhole table (Err (table_refusal e))
-table_read fault.Read table whole = tt
-table_read fault.Memory table whole = tt
-table_read (fault.Form row) table whole = whole (λ never. cc never) (λ never. cc never)
-table_read (fault.Range row) table whole = whole (λ never. cc never) (λ never. cc never)
-table_read (fault.Repeated row) table whole = whole (λ never. cc never) (λ never. cc never)
-table_read fault.Missing table whole = whole (λ never. cc never) (λ never. cc never)
-table_read (fault.Neighbours b) table whole = whole (λ never. cc never) (λ never. cc never)
-table_read (fault.Reversal b d) table whole = whole (λ never. cc never) (λ never. cc never)
-table_read (fault.Corner b d) table whole = whole (λ never. cc never) (λ never. cc never)
+table_read : (e : TableError) (table : SourceUse) → ((e ≡ in_table.Read → ⊥) → (e ≡ in_table.Memory → ⊥) → IsReadToEnd table) → IsReadWhole table (Err (table_refusal e))
+table_read in_table.Read table whole = tt
+table_read in_table.Memory table whole = tt
+table_read (in_table.Form row) table whole = whole (λ never. cc never) (λ never. cc never)
+table_read (in_table.Range row) table whole = whole (λ never. cc never) (λ never. cc never)
+table_read (in_table.Repeated row) table whole = whole (λ never. cc never) (λ never. cc never)
+table_read in_table.Missing table whole = whole (λ never. cc never) (λ never. cc never)
+table_read (in_table.Neighbours b) table whole = whole (λ never. cc never) (λ never. cc never)
+table_read (in_table.Reversal b d) table whole = whole (λ never. cc never) (λ never. cc never)
+table_read (in_table.Corner b d) table whole = whole (λ never. cc never) (λ never. cc never)
 
 -- whatever comes after it was read
 whole_anyway : (table : SourceUse) (ending : Result (Unit {0}) Refusal) → IsReadToEnd table → IsReadWhole table ending
 whole_anyway table (Ok u) whole = whole
 whole_anyway table (Err (Error e)) whole = whole
-whole_anyway table (Err (At n e)) whole = whole
-whole_anyway table (Err (Table e)) whole = whole
-whole_anyway table (Err TableOpen) whole = whole
-whole_anyway table (Err (FileOpen f)) whole = whole
-whole_anyway table (Err (FileAt f n e)) whole = whole
-whole_anyway table (Err (File f e)) whole = whole
-whole_anyway table (Err Write) whole = whole
-whole_anyway table (Err Memory) whole = tt
-whole_anyway table (Err Read) whole = tt
+whole_anyway table (Err (Fault Write)) whole = whole
+whole_anyway table (Err (Fault Memory)) whole = tt
+whole_anyway table (Err (Fault Read)) whole = tt
 
 -- the table is refused
 pub table_refused_so : {A : Type 0} (about : A → Links → Answer) (read : Result A H3Error) (value : A) (e : TableError) (input table : SourceUse) (out : SinkUse) → Ok value ≡ read
-    → (file : List ℕ) × HasLeft table.left file × RefusesTable (ReadFails table file) (table_fault (records_of file)) e × ((e ≡ fault.Read → ⊥) → (e ≡ fault.Memory → ⊥) → IsWithinReads (2 ^ 40) 4096 file)
-    → ((e ≡ fault.Read → ⊥) → NoReadFails table) → ((e ≡ fault.Read → ⊥) → (e ≡ fault.Memory → ⊥) → IsReadToEnd table) → IsLeft out
+    → (file : List ℕ) × HasLeft table.left file × RefusesTable (ReadFails table file) (table_fault (records_of file)) e × ((e ≡ in_table.Read → ⊥) → (e ≡ in_table.Memory → ⊥) → IsWithinReads (2 ^ 40) 4096 file)
+    → ((e ≡ in_table.Read → ⊥) → NoReadFails table) → ((e ≡ in_table.Read → ⊥) → (e ≡ in_table.Memory → ⊥) → IsReadToEnd table) → IsLeft out
     → Ends (with_table about read) input table (Err (table_refusal e)) out
 table_refused_so about read value e input table out is (file, held, refuses, all) sound whole left =
     subst (λ c. Ends (with_table about c) input table (Err (table_refusal e)) out) is (file, held, table_refuses _ _ e file table out refuses _ all sound left, table_read e table whole)
@@ -221,51 +199,32 @@ table_answered about read value links ending input table out is file held short 
 -- an answer that was written, where no write failed, is given
 gives_written : (a : Answer) (ending : Result (Unit {0}) Refusal) (status : ℕ) (s : Streams) → Writes a ending s.out → s.out.has_failed ≡ false → Reports ending status s.err → Gives a status s
 unfolding Writes
-gives_written a (Ok u) status s writes w reports = record { output = writes.1; report = subst (λ e. Reports e status s.err) (sym writes.0) reports }
-gives_written a (Err (Error e)) status s writes w reports = record { output = writes.1; report = subst (λ e. Reports e status s.err) (sym writes.0) reports }
-gives_written a (Err (At n e)) status s writes w reports = record { output = writes.1; report = subst (λ e. Reports e status s.err) (sym writes.0) reports }
-gives_written a (Err (Table e)) status s writes w reports = record { output = writes.1; report = subst (λ e. Reports e status s.err) (sym writes.0) reports }
-gives_written a (Err Memory) status s never w reports = absurd never
-gives_written a (Err Read) status s never w reports = absurd never
-gives_written a (Err TableOpen) status s never w reports = absurd never
-gives_written a (Err (FileOpen f)) status s never w reports = absurd never
-gives_written a (Err (FileAt f n e)) status s writes w reports = record { output = writes.1; report = subst (λ e. Reports e status s.err) (sym writes.0) reports }
-gives_written a (Err (File f e)) status s writes w reports = record { output = writes.1; report = subst (λ e. Reports e status s.err) (sym writes.0) reports }
-gives_written a (Err Write) status s writes w reports = let failed : s.out.has_failed ≡ true = writes.1.1 in cc
+gives_written a (Ok u) status s writes w reports = record { output = writes.1; report = subst (λ e. Reports (ending_of e) status s.err) (sym writes.0) reports }
+gives_written a (Err (Error e)) status s writes w reports = record { output = writes.1; report = subst (λ e. Reports (ending_of e) status s.err) (sym writes.0) reports }
+gives_written a (Err (Fault Memory)) status s never w reports = absurd never
+gives_written a (Err (Fault Read)) status s never w reports = absurd never
+gives_written a (Err (Fault Write)) status s writes w reports = let failed : s.out.has_failed ≡ true = writes.1.1 in cc
 
 -- the same of an answer to what was read
 gives_reading : (a : Answer) (bytes : List ℕ) (was_read : Type 0) (source : SourceUse) (ending : Result (Unit {0}) Refusal) (status : ℕ) (s : Streams) → WritesReading a bytes was_read source ending s.out
-    → (ReadFails source bytes → ⊥) → s.out.has_failed ≡ false → Reports ending status s.err → Gives a status s ⊎ Gives out_of_memory status s
+    → (ReadFails source bytes → ⊥) → s.out.has_failed ≡ false → Reports ending status s.err → Gives a status s ⊎ RunsOutOfMemory status s
 gives_reading a bytes was_read source (Ok u) status s writes r w reports = inl (gives_written a (Ok u) status s writes.2 w reports)
 gives_reading a bytes was_read source (Err (Error e)) status s writes r w reports = inl (gives_written a (Err (Error e)) status s writes.2 w reports)
-gives_reading a bytes was_read source (Err (At n e)) status s writes r w reports = inl (gives_written a (Err (At n e)) status s writes.2 w reports)
-gives_reading a bytes was_read source (Err (Table e)) status s writes r w reports = inl (gives_written a (Err (Table e)) status s writes.2 w reports)
-gives_reading a bytes was_read source (Err TableOpen) status s writes r w reports = inl (gives_written a (Err TableOpen) status s writes.2 w reports)
-gives_reading a bytes was_read source (Err (FileOpen f)) status s writes r w reports = inl (gives_written a (Err (FileOpen f)) status s writes.2 w reports)
-gives_reading a bytes was_read source (Err (FileAt f n e)) status s writes r w reports = inl (gives_written a (Err (FileAt f n e)) status s writes.2 w reports)
-gives_reading a bytes was_read source (Err (File f e)) status s writes r w reports = inl (gives_written a (Err (File f e)) status s writes.2 w reports)
-gives_reading a bytes was_read source (Err Memory) status s writes r w reports =
-    inr (record { output = (nothing _ _ writes.1.0, writes.1.1); report = reports })
-gives_reading a bytes was_read source (Err Read) status s writes r w reports = absurd (r writes.0)
-gives_reading a bytes was_read source (Err Write) status s writes r w reports = inl (gives_written a (Err Write) status s writes.2 w reports)
+gives_reading a bytes was_read source (Err (Fault Memory)) status s writes r w reports = inr (record { output = writes.1; report = reports })
+gives_reading a bytes was_read source (Err (Fault Read)) status s writes r w reports = absurd (r writes.0)
+gives_reading a bytes was_read source (Err (Fault Write)) status s writes r w reports = inl (gives_written a (Err (Fault Write)) status s writes.2 w reports)
 
 -- the same of a list whose lines are answered
 gives_each : (about : Option ℕ → Answer) (ending : Result (Unit {0}) Refusal) (status : ℕ) (s : Streams) → EndsEach about s.input.left s.input.left_after s.input.had_failed s.input.has_failed ending s.out → Reports ending status s.err
-    → (list : List ℕ) × HasLeft s.input.left list × ((ReadFails s.input list → ⊥) → s.out.has_failed ≡ false → Gives (list_answer about list) status s ⊎ Gives out_of_memory status s)
+    → (list : List ℕ) × HasLeft s.input.left list × ((ReadFails s.input list → ⊥) → s.out.has_failed ≡ false → Gives (list_answer about list) status s ⊎ RunsOutOfMemory status s)
 gives_each about (Ok u) status s (sound, all) reports = (all.list, all.held, λ r w. inl (gives_written (list_answer about all.list) (Ok u) status s all.writes w reports))
-gives_each about (Err (At n e)) status s (sound, stop, writes) reports =
-    (stop.part ++ stop.last ++ stop.rest, stop.held, λ r w. inl (gives_written (answer_at stop) (Err (At n e)) status s writes w reports))
-gives_each about (Err Write) status s (sound, stop, takes) reports = (stop.part ++ stop.last ++ stop.rest, stop.held, λ r w. absurd (cc (takes.failed, w)))
-gives_each about (Err Read) status s fault reports = (fault.part ++ fault.rest, fault.held, λ r w. absurd (r fault.fails))
-gives_each about (Err Memory) status s (sound, kept, left) reports =
+gives_each about (Err (Error e)) status s (sound, at, stop, writes) reports =
+    (stop.part ++ stop.last ++ stop.rest, stop.held, λ r w. inl (gives_written (answer_at stop) (Err (Error e)) status s writes w reports))
+gives_each about (Err (Fault Write)) status s (sound, stop, takes) reports = (stop.part ++ stop.last ++ stop.rest, stop.held, λ r w. absurd (cc (takes.failed, w)))
+gives_each about (Err (Fault Read)) status s stops reports = (stops.part ++ stops.rest, stops.held, λ r w. absurd (r stops.fails))
+gives_each about (Err (Fault Memory)) status s (sound, kept, left) reports =
     let (list, held) = some_left s.input.left in
-    (list, held, λ r w. inr (record { output = (nothing _ _ left.0, left.1); report = reports }))
-gives_each about (Err (Error e)) status s never reports = absurd never
-gives_each about (Err (Table e)) status s never reports = absurd never
-gives_each about (Err TableOpen) status s never reports = absurd never
-gives_each about (Err (FileOpen f)) status s never reports = absurd never
-gives_each about (Err (FileAt f n d)) status s never reports = absurd never
-gives_each about (Err (File f d)) status s never reports = absurd never
+    (list, held, λ r w. inr (record { output = left; report = reports }))
 
 with_memory : {A B : Type 0} (memory : Bool) → IsTrue memory → A ⊎ B → A ⊎ (IsTrue memory × B)
 with_memory memory takes (inl a) = inl a
@@ -273,18 +232,12 @@ with_memory memory takes (inr b) = inr (takes, b)
 
 -- a file that is refused, or not read to its end
 gives_refused : (f : CellFile) (about : List Address → Answer) (bytes : List ℕ) (ending : Result (Unit {0}) Refusal) (status : ℕ) (s : Streams) → RefusesFile f bytes s.table ending → IsLeft s.out → (ReadFails s.table bytes → ⊥) → Reports ending status s.err
-    → Gives (unless_refused about (file_cells f bytes)) status s ⊎ Gives out_of_memory status s
+    → Gives (unless_refused about (file_cells f bytes)) status s ⊎ RunsOutOfMemory status s
 gives_refused f about bytes (Ok u) status s never left r reports = absurd never
-gives_refused f about bytes (Err Memory) status s told left r reports = inr (record { output = (nothing _ _ left.0, left.1); report = reports })
-gives_refused f about bytes (Err Read) status s (fails, told) left r reports = absurd (r fails)
-gives_refused f about bytes (Err (Error e)) status s (is, within, sound, told) left r reports = inl (subst (λ c. Gives (unless_refused about c) status s) (sym is) (record { output = (nothing _ _ left.0, left.1); report = reports }))
-gives_refused f about bytes (Err (At n e)) status s (is, within, sound, told) left r reports = inl (subst (λ c. Gives (unless_refused about c) status s) (sym is) (record { output = (nothing _ _ left.0, left.1); report = reports }))
-gives_refused f about bytes (Err Write) status s (is, within, sound, told) left r reports = inl (subst (λ c. Gives (unless_refused about c) status s) (sym is) (record { output = (nothing _ _ left.0, left.1); report = reports }))
-gives_refused f about bytes (Err (Table e)) status s (is, within, sound, told) left r reports = inl (subst (λ c. Gives (unless_refused about c) status s) (sym is) (record { output = (nothing _ _ left.0, left.1); report = reports }))
-gives_refused f about bytes (Err TableOpen) status s (is, within, sound, told) left r reports = inl (subst (λ c. Gives (unless_refused about c) status s) (sym is) (record { output = (nothing _ _ left.0, left.1); report = reports }))
-gives_refused f about bytes (Err (FileOpen g)) status s (is, within, sound, told) left r reports = inl (subst (λ c. Gives (unless_refused about c) status s) (sym is) (record { output = (nothing _ _ left.0, left.1); report = reports }))
-gives_refused f about bytes (Err (FileAt g n e)) status s (is, within, sound, told) left r reports = inl (subst (λ c. Gives (unless_refused about c) status s) (sym is) (record { output = (nothing _ _ left.0, left.1); report = reports }))
-gives_refused f about bytes (Err (File g e)) status s (is, within, sound, told) left r reports = inl (subst (λ c. Gives (unless_refused about c) status s) (sym is) (record { output = (nothing _ _ left.0, left.1); report = reports }))
+gives_refused f about bytes (Err (Error e)) status s (is, sound, told) left r reports = inl (subst (λ c. Gives (unless_refused about c) status s) (sym is) (record { output = (nothing _ _ left.0, left.1); report = reports }))
+gives_refused f about bytes (Err (Fault Memory)) status s told left r reports = inr (record { output = left; report = reports })
+gives_refused f about bytes (Err (Fault Read)) status s (fails, told) left r reports = absurd (r fails)
+gives_refused f about bytes (Err (Fault Write)) status s never left r reports = absurd never
 
 -- the list is read after a file that has these cells
 read_after : (f : CellFile) (bytes : List ℕ) (cells : List Address) → file_cells f bytes ≡ Ok cells → IsTrue (is_ok (file_cells f bytes))
@@ -308,7 +261,7 @@ list_answers f about ending status s (bytes, held, inl (cells, gives, ends)) rep
       file = bytes;
       list_is = known;
       file_is = held;
-      given = λ none. subst (λ c. Gives (unless_refused (λ cells. about_numbered_list (about cells) list) c) status s ⊎ (IsTrue true × Gives out_of_memory status s)) (sym gives.is)
+      given = λ none. subst (λ c. Gives (unless_refused (λ cells. about_numbered_list (about cells) list) c) status s ⊎ (IsTrue true × RunsOutOfMemory status s)) (sym gives.is)
           (with_memory true refl (gives_reading _ list _ s.input ending status s writes (none.list_read (read_after f bytes cells gives.is)) none.answer_written reports));
     }
 
@@ -330,7 +283,7 @@ lines_answers f about ending status s (bytes, held, inl (cells, gives, ends)) re
       file = bytes;
       list_is = known;
       file_is = held;
-      given = λ none. subst (λ c. Gives (unless_refused (λ cells. list_answer (about cells) list) c) status s ⊎ (IsTrue true × Gives out_of_memory status s)) (sym gives.is)
+      given = λ none. subst (λ c. Gives (unless_refused (λ cells. list_answer (about cells) list) c) status s ⊎ (IsTrue true × RunsOutOfMemory status s)) (sym gives.is)
           (with_memory true refl (given (none.list_read (read_after f bytes cells gives.is)) none.answer_written));
     }
 

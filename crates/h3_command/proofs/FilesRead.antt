@@ -1,15 +1,17 @@
 -- How a file of cells is read.
-use Rattle.std.proofs.Common.{◌≡◌, ℕ, ◌^◌, List, None, Some, Ok, Err, ap, sym, ◌∙◌, refl}
+use Rattle.std.proofs.Common.{◌≡◌, ℕ, ◌^◌, List, None, Some, Ok, Err, ap, sym, ◌∙◌, refl, subst}
 use Rattle.h3_index.specs.Cell.{Address}
 use Rattle.h3_index.specs.declared.error.H3Error.{H3Error}
 use Rattle.h3_set.specs.Refusals.{compaction_refusal}
 use Rattle.h3_lines.specs.List.{listed_cells}
 use Rattle.h3_lines.specs.Numbered.{RefusesAt, faulty_line}
 use Rattle.h3_lines.specs.Reads.{IsListWithinReads, IsWithinReads}
+use Rattle.h3_lines.specs.declared.refusal.AnswerError.TheVariants.{File}
 use Rattle.h3_lines.specs.declared.refusal.CellFile.{CellFile}
 use Rattle.h3_lines.specs.declared.refusal.CellFile.TheVariants.{Region, Zones}
+use Rattle.h3_lines.specs.declared.refusal.Fault.TheVariants.{Memory, Read, Write}
 use Rattle.h3_lines.specs.declared.refusal.Refusal.{Refusal}
-use Rattle.h3_lines.specs.declared.refusal.Refusal.TheVariants.{Error, At, Memory, Read, Write, Table, TableOpen, FileOpen, FileAt, File}
+use Rattle.h3_lines.specs.declared.refusal.Refusal.TheVariants.{Error, Fault}
 use Rattle.h3_command.specs.Combination.{told_of}
 use Rattle.h3_command.specs.Files.{judged_cells, unless_error}
 use Rattle.h3_command.specs.Run.{GivesFile, IsReadToEnd, NoReadFails, ReadFails, RefusesFile, SourceUse, StopsWithin}
@@ -22,24 +24,18 @@ zones_given bytes cells file is within sound whole apart =
     record { is = ap (judged_cells Zones (faulty_line bytes)) is ∙ ap (λ e. unless_error Zones e cells) (sym apart); within = within; sound = sound; whole = whole }
 
 pub zones_refused : (bytes : List ℕ) (cells : List Address) (e : H3Error) (file : SourceUse) → listed_cells bytes ≡ Ok cells → IsWithinReads (2 ^ 40) 65536 bytes → NoReadFails file → IsReadToEnd file → Some e ≡ compaction_refusal cells
-    → RefusesFile Zones bytes file (Err (File Zones e))
+    → RefusesFile Zones bytes file (Err (Error (File Zones e)))
 zones_refused bytes cells e file is within sound whole overlap =
-    (ap (judged_cells Zones (faulty_line bytes)) is ∙ ap (λ e. unless_error Zones e cells) (sym overlap), within, sound, whole)
+    (ap (judged_cells Zones (faulty_line bytes)) is ∙ ap (λ e. unless_error Zones e cells) (sym overlap), sound, (within, whole))
 
 pub file_refused : (kind : CellFile) (bytes : List ℕ) (file : SourceUse) (e : Refusal) → RefusesAt (ReadFails file bytes) (listed_cells bytes) (faulty_line bytes) e
-    → ((e ≡ Read → ⊥) → (e ≡ Memory → ⊥) → IsListWithinReads (2 ^ 40) 65536 bytes) → ((e ≡ Read → ⊥) → NoReadFails file) → StopsWithin 65536 file → (e ≡ Read → StopsWithin 0 file) → RefusesFile kind bytes file (Err (told_of kind e))
-file_refused kind bytes file (At n d) (is, number) within sound stops faults = (
-  ap (judged_cells kind (faulty_line bytes)) is ∙ ap (λ l. Err (FileAt kind l d)) (sym number),
-  within (λ never. cc never) (λ never. cc never),
-  sound (λ never. cc never),
-  stops,
-)
-file_refused kind bytes file Memory any within sound stops faults = (sound (λ never. cc never), stops)
-file_refused kind bytes file Read fails within sound stops faults = (fails, faults refl)
-file_refused kind bytes file (Error d) never within sound stops faults = absurd never
-file_refused kind bytes file Write never within sound stops faults = absurd never
-file_refused kind bytes file (Table d) never within sound stops faults = absurd never
-file_refused kind bytes file TableOpen never within sound stops faults = absurd never
-file_refused kind bytes file (FileOpen f) never within sound stops faults = absurd never
-file_refused kind bytes file (FileAt f n d) never within sound stops faults = absurd never
-file_refused kind bytes file (File f d) never within sound stops faults = absurd never
+    → ((e ≡ Fault Read → ⊥) → (e ≡ Fault Memory → ⊥) → IsListWithinReads (2 ^ 40) 65536 bytes) → ((e ≡ Fault Read → ⊥) → NoReadFails file) → StopsWithin 65536 file → (e ≡ Fault Read → StopsWithin 0 file) → RefusesFile kind bytes file (Err (told_of kind e))
+file_refused kind bytes file (Error d) (error, is, at) within sound stops faults =
+    subst (λ c. RefusesFile kind bytes file (Err (told_of kind (Error c)))) (sym at) (
+      ap (judged_cells kind (faulty_line bytes)) is,
+      sound (λ never. cc never),
+      (within (λ never. cc never) (λ never. cc never), stops),
+    )
+file_refused kind bytes file (Fault Memory) any within sound stops faults = (sound (λ never. cc never), stops)
+file_refused kind bytes file (Fault Read) fails within sound stops faults = (fails, faults refl)
+file_refused kind bytes file (Fault Write) never within sound stops faults = absurd never

@@ -7,6 +7,7 @@ use Rattle.std.proofs.lemmas.Iterator.Consumers.{YieldsList-from_first}
 use Rattle.h3_index.specs.declared.error.H3Error.{H3Error}
 use Rattle.h3_lines.specs.Answer.{Answer, answer_or_error, refused, walked}
 use Rattle.h3_lines.specs.Writing.{IsLeft, SinkUse, Writes}
+use Rattle.h3_lines.specs.declared.refusal.AnswerError.TheVariants.{Call}
 use Rattle.h3_lines.specs.declared.refusal.Refusal.{Refusal}
 use Rattle.h3_lines.specs.declared.refusal.Refusal.TheVariants.{Error}
 use Rattle.h3_functions.specs.Hierarchy.{unless}
@@ -19,17 +20,17 @@ nothing (Some xs) None kept = absurd kept
 nothing (Some xs) (Some ys) kept = kept ∙ sym (append-nil xs)
 
 -- there is an error, and nothing is written
-pub writes_refused : (e : H3Error) (out : SinkUse) → IsLeft out → Writes (refused e) (Err (Error e)) out
+pub writes_refused : (e : H3Error) (out : SinkUse) → IsLeft out → Writes (refused e) (Err (Error (Call e))) out
 unfolding Writes
 writes_refused e out left = (refl, (nothing _ _ left.0, left.1))
 
 -- ---- a result in place of a value, and of items
 
-pub answered_refused : {A : Type 0} (about : A → Answer) (value : Result A H3Error) (e : H3Error) (out : SinkUse) → value ≡ Err e → IsLeft out → Writes (answer_or_error about value) (Err (Error e)) out
+pub answered_refused : {A : Type 0} (about : A → Answer) (value : Result A H3Error) (e : H3Error) (out : SinkUse) → value ≡ Err e → IsLeft out → Writes (answer_or_error about value) (Err (Error (Call e))) out
 answered_refused about value e out is left = rw is (writes_refused e out left)
 
 -- the value is not there for an error
-pub answered_unless : {A : Type 0} (about : A → Answer) (error : Option H3Error) (value : A) (e : H3Error) (out : SinkUse) → Some e ≡ error → IsLeft out → Writes (answer_or_error about (unless error value)) (Err (Error e)) out
+pub answered_unless : {A : Type 0} (about : A → Answer) (error : Option H3Error) (value : A) (e : H3Error) (out : SinkUse) → Some e ≡ error → IsLeft out → Writes (answer_or_error about (unless error value)) (Err (Error (Call e))) out
 answered_unless about error value e out is left = answered_refused about (unless error value) e out (ap (λ d. unless d value) (sym is)) left
 
 -- the value is there
@@ -40,7 +41,7 @@ answered_value about error value given ending out same fits writes =
 
 -- an error stands in place of the items
 pub answered_error : {S A : Type 0} (about : List A → Answer) (steps : S → Option A → S → Type 0) (given all : Result (List A) H3Error) (e : H3Error) (out : SinkUse) → given ≡ all → Lists steps (Err e) given → IsLeft out
-    → Writes (answer_or_error about all) (Err (Error e)) out
+    → Writes (answer_or_error about all) (Err (Error (Call e))) out
 answered_error about steps (Ok xs) all e out same never left = absurd never
 answered_error about steps (Err d) all e out same is left = answered_refused about all e out (sym same ∙ ap Err (sym is)) left
 
@@ -55,5 +56,5 @@ walk_written line rest error items k read ending out same fits left writes =
 
 -- the walk does not begin
 pub walk_unbegun : {A : Type 0} (line : A → List ℕ) (error : ℤ → Option H3Error) (items : List (Result A H3Error)) (k read : ℤ) (e : H3Error) (out : SinkUse)
-    → read ≡ k → Some e ≡ error read → IsLeft out → Writes (answer_or_error (walked line) (unless (error k) items)) (Err (Error e)) out
+    → read ≡ k → Some e ≡ error read → IsLeft out → Writes (answer_or_error (walked line) (unless (error k) items)) (Err (Error (Call e))) out
 walk_unbegun line error items k read e out same is left = answered_unless (walked line) (error k) items e out (is ∙ ap error same) left

@@ -11,9 +11,9 @@ use Rattle.h3_lines.specs.Answer.{Answer, answer_or_error, cell_line, cell_lines
 use Rattle.h3_lines.specs.EachLine.{list_answer}
 use Rattle.h3_lines.specs.List.{listed_cells}
 use Rattle.h3_lines.specs.Numbered.{faulty_line}
+use Rattle.h3_lines.specs.declared.refusal.AnswerError.TheVariants.{At}
 use Rattle.h3_lines.specs.declared.refusal.CellFile.{CellFile}
 use Rattle.h3_lines.specs.declared.refusal.CellFile.TheVariants.{Region, Zones}
-use Rattle.h3_lines.specs.declared.refusal.Refusal.TheVariants.{At}
 use Rattle.h3_functions.specs.Edges.{are_neighbor_cells, cells_to_directed_edge, get_directed_edge_destination, origin_to_directed_edges, pair_of}
 use Rattle.h3_functions.specs.Hierarchy.{cell_to_children, child_pos_to_cell}
 use Rattle.h3_functions.specs.Inspection.{for_value}

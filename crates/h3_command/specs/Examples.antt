@@ -16,7 +16,7 @@ use Rattle.h3_grid.specs.Moves.{moves, ring_moves}
 use Rattle.h3_grid.specs.Search.{candidates, digit_lists, found_sum, step_of}
 use Rattle.h3_grid.specs.Walks.{disk, followed}
 use Rattle.h3_set.specs.Compacted.{compacted}
-use Rattle.h3_lines.specs.declared.refusal.Refusal.TheVariants.{At}
+use Rattle.h3_lines.specs.declared.refusal.AnswerError.TheVariants.{At}
 use Rattle.h3_lines.specs.Answer.{answer_or_error, before, cell_line, refused, table_refused, walked, written}
 use Rattle.h3_command.specs.Answer.{answer, request}
 use Rattle.h3_command.specs.Answer.Request.{plain}

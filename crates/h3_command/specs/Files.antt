@@ -13,10 +13,10 @@ use Rattle.h3_functions.specs.Inspection.{for_value}
 use Rattle.h3_lines.specs.Answer.{Answer, cell_lines, count_line, printed, truth_line, written, zone_line}
 use Rattle.h3_lines.specs.List.{listed_cells}
 use Rattle.h3_lines.specs.Numbered.{faulty_line}
+use Rattle.h3_lines.specs.declared.refusal.AnswerError.{AnswerError}
+use Rattle.h3_lines.specs.declared.refusal.AnswerError.TheVariants.{File, FileAt}
 use Rattle.h3_lines.specs.declared.refusal.CellFile.{CellFile}
 use Rattle.h3_lines.specs.declared.refusal.CellFile.TheVariants.{Region, Zones}
-use Rattle.h3_lines.specs.declared.refusal.Refusal.{Refusal}
-use Rattle.h3_lines.specs.declared.refusal.Refusal.TheVariants.{File, FileAt}
 use Rattle.h3_command.specs.Given.{cell_given}
 
 -- ---- how a file is judged
@@ -27,24 +27,24 @@ file_error Region cells = None
 file_error Zones cells = compaction_refusal cells
 
 -- the cells, or their error as a whole
-abbrev pub unless_error : CellFile → Option H3Error → List Address → Result (List Address) Refusal
+abbrev pub unless_error : CellFile → Option H3Error → List Address → Result (List Address) AnswerError
 unless_error file None cells = Ok cells
 unless_error file (Some e) cells = Err (File file e)
 
 -- the cells of a list, where they have no error as a whole; that of its first faulty line is told with this number
-abbrev pub judged_cells : CellFile → ℕ → Result (List Address) H3Error → Result (List Address) Refusal
+abbrev pub judged_cells : CellFile → ℕ → Result (List Address) H3Error → Result (List Address) AnswerError
 judged_cells file line (Ok cells) = unless_error file (file_error file cells) cells
 judged_cells file line (Err e) = Err (FileAt file line e)
 
 -- file_cells file bytes: the cells in the bytes of a file, or why it is refused: for its first faulty line, and else for its
 -- cells as a whole
-abbrev pub file_cells : CellFile → List ℕ → Result (List Address) Refusal
+abbrev pub file_cells : CellFile → List ℕ → Result (List Address) AnswerError
 file_cells file bytes = judged_cells file (faulty_line bytes) (listed_cells bytes)
 
--- unless_refused about cells: the answer about the cells of a file; where it is refused, that refusal and no output
-abbrev pub unless_refused : (List Address → Answer) → Result (List Address) Refusal → Answer
+-- unless_refused about cells: the answer about the cells of a file; where it is refused, that error and no output
+abbrev pub unless_refused : (List Address → Answer) → Result (List Address) AnswerError → Answer
 unless_refused about (Ok cells) = about cells
-unless_refused about (Err r) = record { output = []; ending = Err r }
+unless_refused about (Err e) = record { output = []; ending = Err e }
 
 -- ---- the cells of a list and those of a file
 

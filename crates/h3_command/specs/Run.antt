@@ -4,14 +4,18 @@ use Rattle.h3_index.specs.Cell.{Address}
 use Rattle.h3_index.specs.Stream.{HasLeft}
 use Rattle.h3_index.specs.declared.error.H3Error.{H3Error}
 use Rattle.h3_lattice.specs.Links.{Links}
+use Rattle.h3_lines.specs.declared.refusal.AnswerError.{AnswerError}
+use Rattle.h3_lines.specs.declared.refusal.AnswerError.TheVariants.{File}
 use Rattle.h3_lines.specs.declared.refusal.CellFile.{CellFile}
+use Rattle.h3_lines.specs.declared.refusal.Fault.TheVariants.{Memory, Read, Write}
 use Rattle.h3_lines.specs.declared.refusal.Refusal.{Refusal}
-use Rattle.h3_lines.specs.declared.refusal.Refusal.TheVariants.{File, Memory, Read}
-use Rattle.h3_lines.specs.Answer.{Answer, answer_or_error, out_of_memory}
+use Rattle.h3_lines.specs.declared.refusal.Refusal.TheVariants.{Error, Fault}
+use Rattle.h3_lines.specs.Answer.{Answer, answer_or_error}
 use Rattle.h3_lines.specs.Writing.{IsLeft, Reports, SinkUse, Takes, Writes}
 use Rattle.h3_lines.specs.EachLine.{EndsEach}
 use Rattle.h3_lines.specs.List.{listed_cells}
 use Rattle.h3_lines.specs.Reads.{IsListWithinReads, IsWithinReads, StopsAtFault}
+use Rattle.h3_lines.specs.Refusal.{ending_of}
 use Rattle.h3_command.specs.Files.{file_cells}
 use Rattle.h3_command.specs.Answer.{Request, about_numbered_list, about_table, answer_to, reads_list_after, reads_table, takes_memory}
 use Rattle.h3_command.specs.Answer.Request.{plain, of_file_and_lines, of_file_and_list, of_lines, of_list, of_numbered_list, of_table}
@@ -56,8 +60,8 @@ ReadFails source bytes = (source.has_failed ≡ true) ⊎ (2 ^ 40 ≤ length byt
 -- The answer to these bytes of a source is written, no read fails, and `was_read` holds. Or there is no memory, or a
 -- read fails, and then nothing is written.
 abbrev pub WritesReading : Answer → List ℕ → Type 0 → SourceUse → Result (Unit {0}) Refusal → SinkUse → Type 0
-WritesReading a bytes was_read source (Err Memory) out = NoReadFails source × IsLeft out
-WritesReading a bytes was_read source (Err Read) out = ReadFails source bytes × IsLeft out
+WritesReading a bytes was_read source (Err (Fault Memory)) out = NoReadFails source × IsLeft out
+WritesReading a bytes was_read source (Err (Fault Read)) out = ReadFails source bytes × IsLeft out
 WritesReading a bytes was_read source ending out = was_read × NoReadFails source × Writes a ending out
 
 -- IsReadToEnd source: where the bytes left in the source were known, all of them were taken
@@ -73,9 +77,9 @@ StopsWithin n source = (list : List ℕ) → source.left ≡ Some list → (left
 -- one with a first error at most a page further than bytes in which no line is known to be faulty; where a read fails,
 -- no further than these
 abbrev pub IsReadSoFar : Result (List Address) H3Error → SourceUse → Result (Unit {0}) Refusal → Type 0
-IsReadSoFar cells source (Err Read) = StopsWithin 0 source
+IsReadSoFar cells source (Err (Fault Read)) = StopsWithin 0 source
 IsReadSoFar (Err e) source ending = StopsWithin 65536 source
-IsReadSoFar (Ok cells) source (Err Memory) = IsReadToEnd source ⊎ StopsWithin 65536 source
+IsReadSoFar (Ok cells) source (Err (Fault Memory)) = IsReadToEnd source ⊎ StopsWithin 65536 source
 IsReadSoFar (Ok cells) source ending = IsReadToEnd source
 
 -- WritesOfList about input ending out: there are bytes of the list, those left where known, and what is written is the
@@ -96,8 +100,8 @@ WritesOfNumberedList about input ending out =
 
 -- IsReadWhole source ending: the source is read to its end, but where there is no memory or a read fails
 abbrev pub IsReadWhole : SourceUse → Result (Unit {0}) Refusal → Type 0
-IsReadWhole source (Err Read) = ⊤
-IsReadWhole source (Err Memory) = ⊤
+IsReadWhole source (Err (Fault Read)) = ⊤
+IsReadWhole source (Err (Fault Memory)) = ⊤
 IsReadWhole source ending = IsReadToEnd source
 
 -- WritesOfTable about table ending out: the same of a table
@@ -108,15 +112,21 @@ WritesOfTable about table ending out =
     (file : List ℕ) × HasLeft table.left file × WritesReading (about_table about file) file (IsWithinReads (2 ^ 40) 4096 file) table ending out
     × IsReadWhole table ending
 
+-- IsFileReadSoFar e bytes file: how far a file of cells with this error is read: to its end for one of the file as a whole,
+-- and else at most a page further than bytes in which no line is known to be faulty
+abbrev pub IsFileReadSoFar : AnswerError → List ℕ → SourceUse → Type 0
+IsFileReadSoFar (File f e) bytes file = IsWithinReads (2 ^ 40) 65536 bytes × IsReadToEnd file
+IsFileReadSoFar e bytes file = IsListWithinReads (2 ^ 40) 65536 bytes × StopsWithin 65536 file
+
 -- RefusesFile f bytes file ending: the bytes of a file of cells are refused, as a whole and then read to their end, or for
 -- a faulty line, or there is no memory, and then read at most a page further than bytes in which no line is known to be
 -- faulty; or a read fails, and they are read no further than these
 abbrev pub RefusesFile : CellFile → List ℕ → SourceUse → Result (Unit {0}) Refusal → Type 0
 RefusesFile f bytes file (Ok u) = ⊥
-RefusesFile f bytes file (Err Memory) = NoReadFails file × StopsWithin 65536 file
-RefusesFile f bytes file (Err Read) = ReadFails file bytes × StopsWithin 0 file
-RefusesFile f bytes file (Err (File g e)) = (file_cells f bytes ≡ Err (File g e)) × IsWithinReads (2 ^ 40) 65536 bytes × NoReadFails file × IsReadToEnd file
-RefusesFile f bytes file (Err r) = (file_cells f bytes ≡ Err r) × IsListWithinReads (2 ^ 40) 65536 bytes × NoReadFails file × StopsWithin 65536 file
+RefusesFile f bytes file (Err (Fault Memory)) = NoReadFails file × StopsWithin 65536 file
+RefusesFile f bytes file (Err (Fault Read)) = ReadFails file bytes × StopsWithin 0 file
+RefusesFile f bytes file (Err (Fault Write)) = ⊥
+RefusesFile f bytes file (Err (Error e)) = (file_cells f bytes ≡ Err e) × NoReadFails file × IsFileReadSoFar e bytes file
 
 -- GivesFile f bytes file cells: the bytes of a file of cells are read to their end, and have these cells
 pub record GivesFile (f : CellFile) (bytes : List ℕ) (file : SourceUse) (cells : List Address) : Type 0 where
@@ -155,7 +165,12 @@ pub record NothingFails (r : Request) (list file : List ℕ) (s : Streams) : Typ
 -- an answer is given whole
 pub record Gives (a : Answer) (status : ℕ) (s : Streams) : Type 0 where
   pub output : Takes s.out a.output
-  pub report : Reports a.ending status s.err
+  pub report : Reports (ending_of a.ending) status s.err
+
+-- nothing is written, and out of memory is reported
+pub record RunsOutOfMemory (status : ℕ) (s : Streams) : Type 0 where
+  pub output : IsLeft s.out
+  pub report : Reports (Err (Fault Memory)) status s.err
 
 -- Answers r status s: there are bytes of the list and of the table, or of a file of cells in its place, those left where known,
 -- and where nothing fails the answer to them is given, or out of memory where memory is taken
@@ -165,7 +180,7 @@ pub record Answers (r : Request) (status : ℕ) (s : Streams) : Type 0 where
   pub list_is : HasLeft s.input.left list
   pub file_is : HasLeft s.table.left file
   pub given : NothingFails r list file s
-      → Gives (answer_to r list file) status s ⊎ (IsTrue (takes_memory r) × Gives out_of_memory status s)
+      → Gives (answer_to r list file) status s ⊎ (IsTrue (takes_memory r) × RunsOutOfMemory status s)
 
 -- Runs r status s: what a run does with its streams: `Answers`, `Ends`, and the line and status of its ending
 --

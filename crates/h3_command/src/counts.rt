@@ -14,7 +14,7 @@ ghost use Rattle.h3_command.specs.Tallying.{CountsMore, counts_none, counts_then
 use crate::count_lines::CountLines;
 use crate::files::read_zones;
 use h3_index::{Cell, Sink, Source};
-use h3_lines::{CellTaker, Refusal, take_cells, write_lines};
+use h3_lines::{CellTaker, Fault, Refusal, take_cells, write_lines};
 use h3_regions::laws::zones_are_lawful;
 use h3_regions::{Zones, count_next};
 use std::alloc::Global;
@@ -85,7 +85,7 @@ fn answer_counts<R: Source, W: Sink>(
         (sink_use W.taken W.has_failed out.old out.new) }
 {
     zones_are_lawful();
-    let counts = vec![in alloc; 0u64; zones.len()].map_err(|_| Refusal::Memory)?;
+    let counts = vec![in alloc; 0u64; zones.len()].map_err(|_| Refusal::Fault(Fault::Memory))?;
     let tally = Tally {
         zones: Zones::over(zones),
         counts,

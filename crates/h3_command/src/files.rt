@@ -1,9 +1,9 @@
 //! The commands over a file of cells: that of a region, or of zones. The file is read and judged as a
 //! whole before standard input is read.
 //!
-//! For a file of either kind: its first faulty line is `Refusal::FileAt`, zones of which two overlap
-//! are `Refusal::File` with `DuplicateInput`, and `Refusal::Read` and `Refusal::Memory` are as of
-//! `read_numbered_cells`. Then come the errors of standard input.
+//! For a file of either kind: its first faulty line is `AnswerError::FileAt`, zones of which two
+//! overlap are `AnswerError::File` with `DuplicateInput`, and `Fault::Read` and `Fault::Memory` are
+//! as of `read_numbered_cells`. Then come the errors of standard input.
 
 ghost use Rattle.std.specs.Prelude.{◌≡◌, ◌<◌, ◌↔◌, ℕ, List, length, All, None, Err, IfOk, IfErr, IfSome, IsPermutation};
 ghost use Rattle.h3_index.specs.Cell.{Address, IsCell};
@@ -15,8 +15,9 @@ ghost use Rattle.h3_regions.specs.Zones.{IsZones};
 ghost use Rattle.h3_lines.specs.EachLine.{EndsEach};
 ghost use Rattle.h3_lines.specs.Writing.{sink_use};
 ghost use Rattle.h3_lines.specs.declared.refusal.CellFile.TheVariants as kind_of_file;
-ghost use Rattle.h3_lines.specs.declared.refusal.Refusal.TheVariants.{Memory};
-ghost use Rattle.h3_command.specs.Combination.{combined, combined_answer, region_answer, told_of};
+ghost use Rattle.h3_lines.specs.declared.refusal.Fault.TheVariants.{Memory};
+ghost use Rattle.h3_lines.specs.declared.refusal.Refusal.TheVariants as refusal;
+ghost use Rattle.h3_command.specs.Combination.{combined, combined_answer, error_of_file, region_answer, told_of};
 ghost use Rattle.h3_command.specs.Files.{cell_to_zone, covered_answer, is_covered_cell, zone_answer};
 ghost use Rattle.h3_command.specs.Run.{EndsOverFile, GivesFile, RefusesFile, WritesOfNumberedList, source_use};
 
@@ -24,19 +25,30 @@ use crate::given::cell_given;
 use crate::sets::write_united;
 use h3_index::{Cell, CellLines, H3Error, Sink, Source};
 use h3_lines::{
-    BLOCK, CellFile, IndexFunction, Refusal, answer_each, put_result, read_numbered_cells,
+    AnswerError, BLOCK, CellFile, Fault, IndexFunction, Refusal, answer_each, put_result,
+    read_numbered_cells,
 };
 use h3_regions::laws::{coverages_decide_combinations, zones_are_lawful};
 use h3_regions::{Region, Zones, intersect, order_zones, subtract};
 use std::alloc::Global;
+
+/// The error of a list, as that of a file.
+fn error_of_file(file: CellFile, error: AnswerError) -> AnswerError
+    ensures { result ≡ error_of_file file error }
+{
+    match error {
+        AnswerError::At(line, error) => AnswerError::FileAt(file, line, error),
+        other => other,
+    }
+}
 
 /// The refusal of a list, told as that of a file.
 fn told_of(file: CellFile, refusal: Refusal) -> Refusal
     ensures { result ≡ told_of file refusal }
 {
     match refusal {
-        Refusal::At(line, error) => Refusal::FileAt(file, line, error),
-        other => other,
+        Refusal::Error(error) => Refusal::Error(error_of_file(file, error)),
+        fault => fault,
     }
 }
 
@@ -69,7 +81,7 @@ pub(crate) fn read_zones<T: Source>(alloc: Global, file: &mut T) -> Result<Vec<C
             let mut cells = cells;
             match order_zones(&mut cells) {
                 Ok(()) => Ok(cells),
-                Err(error) => Err(Refusal::File(CellFile::Zones, error)),
+                Err(error) => Err(Refusal::Error(AnswerError::File(CellFile::Zones, error))),
             }
         }
         Err(refusal) => Err(told_of(CellFile::Zones, refusal)),
@@ -86,19 +98,21 @@ pub(crate) enum Combination {
     Left,
 }
 
-/// A copy of cells. `Refusal::Memory` where there is none for it.
+/// A copy of cells. `Fault::Memory` where there is none for it.
 pub(crate) fn copied(alloc: Global, cells: &[Cell]) -> Result<Vec<Cell>, Refusal>
     ensures ok { IfOk result (λ copy. copy.items ≡ cells.now) }
-    ensures err { IfErr result (λ e. e ≡ Memory) }
+    ensures err { IfErr result (λ e. e ≡ refusal.Fault Memory) }
 {
-    let mut copy = Vec::with_capacity(alloc, cells.len()).map_err(|_| Refusal::Memory)?;
+    let mut copy = Vec::with_capacity(alloc, cells.len()).map_err(|_| Refusal::Fault(
+        Fault::Memory,
+    ))?;
     for cell in cells {
-        copy.push(*cell).map_err(|_| Refusal::Memory)?;
+        copy.push(*cell).map_err(|_| Refusal::Fault(Fault::Memory))?;
     }
     Ok(copy)
 }
 
-/// A list that compacts to what two lists both cover. `Refusal::Memory` where there is none for it.
+/// A list that compacts to what two lists both cover. `Fault::Memory` where there is none for it.
 fn shared_cells(
     alloc: Global,
     cells: &mut [Cell],
@@ -106,19 +120,21 @@ fn shared_cells(
 ) -> Result<Vec<Cell>, Refusal>
     ensures ok { IfOk result (λ shared.
         compacted shared.items ≡ intersection cells.old others.old) }
-    ensures err { IfErr result (λ e. e ≡ Memory) }
+    ensures err { IfErr result (λ e. e ≡ refusal.Fault Memory) }
 {
     coverages_decide_combinations();
     let cells = Region::of(cells);
     let others = Region::of(others);
     let room = cells.cells().len() + others.cells().len();
-    let mut slots = vec![in alloc; Cell::in_base(0); room].map_err(|_| Refusal::Memory)?;
+    let mut slots = vec![in alloc; Cell::in_base(0); room].map_err(|_| Refusal::Fault(
+        Fault::Memory,
+    ))?;
     let shared = intersect(&cells, &others, &mut slots);
     copied(alloc, shared.cells())
 }
 
 /// A list that covers what one region covers and another does not, where that has at most so many
-/// cells. `Refusal::Memory` where there is none for it.
+/// cells. `Fault::Memory` where there is none for it.
 fn left_within(
     alloc: Global,
     cells: &Region,
@@ -131,11 +147,13 @@ fn left_within(
         ↔ (IsCovered cells.now 15 x × (¬ IsCovered others.now 15 x)))) }
     ensures none { IfOk result (λ left. left ≡ None
         → room < length (difference cells.now others.now)) }
-    ensures err { IfErr result (λ e. e ≡ Memory) }
+    ensures err { IfErr result (λ e. e ≡ refusal.Fault Memory) }
 {
     // for the proof: that its cells are valid
     let _ = others.cells();
-    let mut slots = vec![in alloc; Cell::in_base(0); room].map_err(|_| Refusal::Memory)?;
+    let mut slots = vec![in alloc; Cell::in_base(0); room].map_err(|_| Refusal::Fault(
+        Fault::Memory,
+    ))?;
     match subtract(cells, others, &mut slots) {
         Some(left) => {
             let left = copied(alloc, left.cells())?;
@@ -145,11 +163,11 @@ fn left_within(
     }
 }
 
-/// A list that compacts to what one list covers and another does not. `Refusal::Memory` where there
+/// A list that compacts to what one list covers and another does not. `Fault::Memory` where there
 /// is none for it.
 fn left_cells(alloc: Global, cells: &mut [Cell], others: &mut [Cell]) -> Result<Vec<Cell>, Refusal>
     ensures ok { IfOk result (λ left. compacted left.items ≡ difference cells.old others.old) }
-    ensures err { IfErr result (λ e. e ≡ Memory) }
+    ensures err { IfErr result (λ e. e ≡ refusal.Fault Memory) }
 {
     coverages_decide_combinations();
     let cells = Region::of(cells);
@@ -158,7 +176,10 @@ fn left_cells(alloc: Global, cells: &mut [Cell], others: &mut [Cell]) -> Result<
     loop {
         match left_within(alloc, &cells, &others, room)? {
             Some(left) => return Ok(left),
-            None => room = room.checked_add(room.max(1)).ok_or(Refusal::Memory)?,
+            None => {
+                let more = room.checked_add(room.max(1));
+                room = more.ok_or(Refusal::Fault(Fault::Memory))?;
+            }
         }
     }
 }
@@ -171,7 +192,7 @@ fn combined_cells(
     others: &mut [Cell],
 ) -> Result<Vec<Cell>, Refusal>
     ensures ok { IfOk result (λ made. compacted made.items ≡ combined kind others.old cells.old) }
-    ensures err { IfErr result (λ e. e ≡ Memory) }
+    ensures err { IfErr result (λ e. e ≡ refusal.Fault Memory) }
 {
     match kind {
         Combination::Shared => shared_cells(alloc, cells, others),

@@ -75,7 +75,7 @@ impl IndexFunction for AnswerOf {
 
 /// Writes what a function answers to the index of a word and flushes, or returns its error.
 ///
-/// `Refusal::Write` where a push or the flush fails.
+/// `Fault::Write` where a push or the flush fails.
 // Inlined, its block would take its place on the stack while the caller runs another writer.
 #[inline(never)]
 pub(crate) fn write_answer_for<W: Sink>(

@@ -7,7 +7,7 @@ ghost use Rattle.h3_functions.specs.Sets.{compact_cells, uncompact_cells};
 ghost use Rattle.h3_set.specs.Compacted.{compacted};
 
 use h3_index::{Cell, Sink, Source};
-use h3_lines::{Refusal, read_cells, read_numbered_cells, write_lines};
+use h3_lines::{AnswerError, Refusal, read_cells, read_numbered_cells, write_lines};
 use h3_regions::unite;
 use h3_set::{compact_in_place, uncompact};
 use std::alloc::Global;
@@ -19,7 +19,7 @@ fn write_compacted<W: Sink>(cells: &mut [Cell], out: &mut W) -> Result<(), Refus
 {
     match compact_in_place(cells) {
         Ok(count) => write_lines(out, cells[..count].iter().copied()),
-        Err(error) => Err(Refusal::Error(error)),
+        Err(error) => Err(Refusal::Error(AnswerError::Call(error))),
     }
 }
 
@@ -45,7 +45,7 @@ fn write_uncompacted<W: Sink>(cells: &[Cell], res: i32, out: &mut W) -> Result<(
 {
     match uncompact(cells, res) {
         Ok(items) => write_lines(out, items),
-        Err(error) => Err(Refusal::Error(error)),
+        Err(error) => Err(Refusal::Error(AnswerError::Call(error))),
     }
 }
 

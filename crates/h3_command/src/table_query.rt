@@ -3,9 +3,9 @@
 //! The words come first: where one has no index, or no cell or edge has it, the table is not read.
 //! The cells before a step that is refused are written, and then its error is returned.
 //!
-//! The error of the words comes first; then `Refusal::Read`, `Refusal::Memory` and `Refusal::Table`
-//! as `BaseTable::read` finds them; then that of what is asked; and `Refusal::Write` where a push
-//! or the flush fails.
+//! The error of the words comes first; then `Fault::Read`, `Fault::Memory` and `AnswerError::Table`
+//! as `BaseTable::read` finds them; then that of what is asked; and `Fault::Write` where a push or
+//! the flush fails.
 
 ghost use Rattle.std.specs.Prelude.{◌≡◌, false};
 ghost use Rattle.h3_lattice.specs.BaseTable.{link_of};
@@ -19,7 +19,7 @@ use h3_functions::DiskCells;
 use h3_grid::{Disk, Ring, are_neighbors, edge_between, edge_destination};
 use h3_index::{Cell, Edge, H3Error, Sink, Source};
 use h3_lattice::BaseTable;
-use h3_lines::{Refusal, write_result, write_walk};
+use h3_lines::{AnswerError, Refusal, write_result, write_walk};
 use std::alloc::Global;
 
 /// What is asked of a base cell table.
@@ -56,7 +56,7 @@ fn write_disk<W: Sink>(table: &BaseTable, cell: Cell, k: i32, out: &mut W) -> Re
 {
     match Disk::new(table, cell, k) {
         Ok(disk) => write_walk(out, DiskCells { disk }),
-        Err(error) => Err(Refusal::Error(error)),
+        Err(error) => Err(Refusal::Error(AnswerError::Call(error))),
     }
 }
 
@@ -72,7 +72,7 @@ fn write_disk_distances<W: Sink>(
 {
     match Disk::new(table, cell, k) {
         Ok(walk) => write_walk(out, walk),
-        Err(error) => Err(Refusal::Error(error)),
+        Err(error) => Err(Refusal::Error(AnswerError::Call(error))),
     }
 }
 
@@ -83,7 +83,7 @@ fn write_ring<W: Sink>(table: &BaseTable, cell: Cell, k: i32, out: &mut W) -> Re
 {
     match Ring::new(table, cell, k) {
         Ok(walk) => write_walk(out, walk),
-        Err(error) => Err(Refusal::Error(error)),
+        Err(error) => Err(Refusal::Error(AnswerError::Call(error))),
     }
 }
 

@@ -6,14 +6,15 @@ use Rattle.std.proofs.KnownBytes.{Appends-nil}
 use Rattle.std.specs.Io.KnownBytes.{Appends}
 use Rattle.h3_index.specs.Text.{parsed_index, trimmed}
 use Rattle.h3_index.specs.declared.error.H3Error.{H3Error}
-use Rattle.h3_index.specs.declared.error.H3Error.TheVariants.{Failed}
 use Rattle.h3_lines.specs.Answer.{Answer, before, refused, written}
 use Rattle.h3_lines.specs.Answering.{Answered, EndsBy, Puts, RefusesEach, TakesSome}
 use Rattle.h3_lines.specs.EachLaws.{answered_then, refuses_then}
 use Rattle.h3_lines.specs.EachLine.{followed_by, line_answer, lines_answer}
 use Rattle.h3_lines.specs.Writing.{AppendsPart, SinkUse, Takes, TakesPart, Writes, sink_use}
+use Rattle.h3_lines.specs.declared.refusal.AnswerError.TheVariants.{At}
+use Rattle.h3_lines.specs.declared.refusal.Fault.TheVariants.{Memory, Read, Write}
 use Rattle.h3_lines.specs.declared.refusal.Refusal.{Refusal}
-use Rattle.h3_lines.specs.declared.refusal.Refusal.TheVariants.{At, Error, Memory, Read, Table, TableOpen, FileOpen, FileAt, File, Write}
+use Rattle.h3_lines.specs.declared.refusal.Refusal.TheVariants.{Error, Fault}
 use Rattle.h3_lines.proofs.PlainLines.{nothing_left}
 
 -- a line that parses as an index is not blank
@@ -40,19 +41,13 @@ written_takes bytes out (Ok u) w = w.1
 written_takes bytes out (Err e) w = tt
 
 pub written_fails : (bytes : List ℕ) (out : SinkUse) (r : Result (Unit {0}) Refusal) → 0 < length bytes → Writes (written bytes) r out
-    → IfErr r (λ e. (e ≡ Write) × (0 < length bytes) × TakesSome out bytes)
+    → IfErr r (λ e. (e ≡ Fault Write) × (0 < length bytes) × TakesSome out bytes)
 unfolding Writes
 written_fails bytes out (Ok u) some w = tt
 written_fails bytes out (Err (Error e)) some w = absurd (cc (w.0))
-written_fails bytes out (Err (At n e)) some w = absurd (cc (w.0))
-written_fails bytes out (Err (Table e)) some w = absurd (cc (w.0))
-written_fails bytes out (Err Memory) some never = absurd never
-written_fails bytes out (Err Read) some never = absurd never
-written_fails bytes out (Err TableOpen) some never = absurd never
-written_fails bytes out (Err (FileOpen f)) some never = absurd never
-written_fails bytes out (Err (FileAt f n e)) some w = absurd (cc (w.0))
-written_fails bytes out (Err (File f e)) some w = absurd (cc (w.0))
-written_fails bytes out (Err Write) some w = (refl, some, some_of_whole bytes out w.1)
+written_fails bytes out (Err (Fault Memory)) some never = absurd never
+written_fails bytes out (Err (Fault Read)) some never = absurd never
+written_fails bytes out (Err (Fault Write)) some w = (refl, some, some_of_whole bytes out w.1)
 
 -- ---- the block
 
@@ -101,13 +96,13 @@ module _ {S : Type 0} (taken : S → Option (List ℕ)) (failed : S → Bool) wh
       refuses_then taken failed (λ a. a) u [] lines e refl m (subst (λ h. RefusesEach answer n h lines e (sink_use taken failed t u)) same r)
 
 -- a line is refused after bytes that are written
-pub ends_refused : (answer : Option ℕ → Answer) (n : ℕ) (held : List ℕ) (line : List ℕ) (later : List (List ℕ)) (e : H3Error) (out : SinkUse) → line_answer answer line ≡ refused e → Takes out held → RefusesEach answer n held (line ∷ later) (At n e) out
+pub ends_refused : (answer : Option ℕ → Answer) (n : ℕ) (held : List ℕ) (line : List ℕ) (later : List (List ℕ)) (e : H3Error) (out : SinkUse) → line_answer answer line ≡ refused e → Takes out held → RefusesEach answer n held (line ∷ later) (Error (At n e)) out
 ends_refused answer n held line later e out is takes =
     let own : lines_answer answer n (line ∷ later) ≡ record { output = []; ending = Err (At n e) } = ap (λ b. followed_by n b (lines_answer answer (n + 1) later)) is in
-    subst (λ a. EndsBy (before held a) (At n e) out) (sym own) (refl, subst (Takes out) (sym (append-nil held)) takes)
+    subst (λ a. EndsBy (before held a) (Error (At n e)) out) (sym own) ((n, e, refl), refl, subst (Takes out) (sym (append-nil held)) takes)
 
 -- a write of what is held back fails
-pub ends_unwritten : (a : Answer) (held : List ℕ) (e : Refusal) (out : SinkUse) → (e ≡ Write) × (0 < length held) × TakesSome out held → EndsBy (before held a) e out
+pub ends_unwritten : (a : Answer) (held : List ℕ) (e : Refusal) (out : SinkUse) → (e ≡ Fault Write) × (0 < length held) × TakesSome out held → EndsBy (before held a) e out
 ends_unwritten a held e out (is, some, (b, failed)) =
     let more : 0 < length (held ++ a.output) = omega (arith, length-append held a.output, some) in
     subst (λ r. EndsBy (before held a) r out) (sym is)

@@ -1,14 +1,15 @@
 -- How the answering of the lines of a list ends.
 use Rattle.std.proofs.Common.{◌≡◌, ℕ, ◌^◌, ◌⊎◌, Bool, true, List, [], ◌++◌, Option, Result, Ok, Err, IfErr, OnOk, sym, ap, ◌∙◌, subst, inl, inr, append-nil}
 use Rattle.std.proofs.KnownBytes.{Appends-trans}
-use Rattle.h3_index.specs.declared.error.H3Error.{H3Error}
 use Rattle.h3_lines.specs.Answer.{Answer, before, written}
 use Rattle.h3_lines.specs.Answering.{Answered, EndsBy, RefusesEach}
 use Rattle.h3_lines.specs.EachLine.{AnswersBeforeFault, EndsEach, StopsInPage, TakesBeginning, lines_answer}
 use Rattle.h3_lines.specs.Splitting.{StopsReading, StopsTaking, TakesAll}
 use Rattle.h3_lines.specs.Writing.{Writes, sink_use}
+use Rattle.h3_lines.specs.declared.refusal.AnswerError.{AnswerError}
+use Rattle.h3_lines.specs.declared.refusal.Fault.TheVariants.{Memory, Read, Write}
 use Rattle.h3_lines.specs.declared.refusal.Refusal.{Refusal}
-use Rattle.h3_lines.specs.declared.refusal.Refusal.TheVariants.{At, Error, Memory, Read, Table, TableOpen, FileOpen, FileAt, File, Write}
+use Rattle.h3_lines.specs.declared.refusal.Refusal.TheVariants.{Error, Fault}
 use Rattle.h3_lines.proofs.Written.{writes_after, writes_whole}
 
 module _ {S : Type 0} (taken : S → Option (List ℕ)) (failed : S → Bool) (answer : Option ℕ → Answer) where
@@ -28,22 +29,22 @@ module _ {S : Type 0} (taken : S → Option (List ℕ)) (failed : S → Bool) (a
       let text : a.text ≡ a.part = a.split ∙ ap (λ l. a.part ++ l) none ∙ append-nil a.part in
       a.says later ∙ ap (λ l. before l (lines_answer answer m later)) text
 
-  error_written : {m : ℕ} {s t : S} (u : S) {h : List ℕ} {ls : List (List ℕ)} (later all : List (List ℕ)) (line : ℕ) (e : H3Error) → h ≡ [] → Answered taken failed answer 1 m [] h s t ls → all ≡ ls ++ later
-      → RefusesEach answer m h later (At line e) (sink_use taken failed t u) → Writes (lines_answer answer 1 all) (Err (At line e)) (sink_use taken failed s u)
+  error_written : {m : ℕ} {s t : S} (u : S) {h : List ℕ} {ls : List (List ℕ)} (later all : List (List ℕ)) (e : AnswerError) → h ≡ [] → Answered taken failed answer 1 m [] h s t ls → all ≡ ls ++ later
+      → RefusesEach answer m h later (Error e) (sink_use taken failed t u) → Writes (lines_answer answer 1 all) (Err (Error e)) (sink_use taken failed s u)
   unfolding Writes
-  error_written {m} {s} {t} u {h} later all line e none a split ends =
+  error_written {m} {s} {t} u {h} later all e none a split ends =
       let rest = lines_answer answer m later in
       let same : before h rest ≡ rest = ap (λ l. before l rest) none in
-      let now : EndsBy rest (At line e) (sink_use taken failed t u) = subst (λ b. EndsBy b (At line e) (sink_use taken failed t u)) same ends in
-      subst (λ b. Writes b (Err (At line e)) (sink_use taken failed s u)) (sym (ap (lines_answer answer 1) split ∙ split_answer none a later))
-      (writes_after taken failed s t u rest a.part (Err (At line e)) a.grown a.sound now)
+      let now : EndsBy rest (Error e) (sink_use taken failed t u) = subst (λ b. EndsBy b (Error e) (sink_use taken failed t u)) same ends in
+      subst (λ b. Writes b (Err (Error e)) (sink_use taken failed s u)) (sym (ap (lines_answer answer 1) split ∙ split_answer none a later))
+      (writes_after taken failed s t u rest a.part (Err (Error e)) a.grown a.sound (now.1, now.2))
 
   part_written : {m : ℕ} {s t : S} (u : S) {h : List ℕ} {ls : List (List ℕ)} (later all : List (List ℕ)) → h ≡ [] → Answered taken failed answer 1 m [] h s t ls → all ≡ ls ++ later
-      → RefusesEach answer m h later Write (sink_use taken failed t u) → TakesBeginning (lines_answer answer 1 ls).output (lines_answer answer 1 all).output (sink_use taken failed s u)
+      → RefusesEach answer m h later (Fault Write) (sink_use taken failed t u) → TakesBeginning (lines_answer answer 1 ls).output (lines_answer answer 1 all).output (sink_use taken failed s u)
   part_written {m} {s} {t} u {h} {ls} later all none a split ends =
       let rest = lines_answer answer m later in
       let same : before h rest ≡ rest = ap (λ l. before l rest) none in
-      let (some, (b, fault)) : EndsBy rest Write (sink_use taken failed t u) = subst (λ b. EndsBy b Write (sink_use taken failed t u)) same ends in
+      let (some, (b, fault)) : EndsBy rest (Fault Write) (sink_use taken failed t u) = subst (λ b. EndsBy b (Fault Write) (sink_use taken failed t u)) same ends in
       let first : (lines_answer answer 1 ls).output ≡ a.part = ap (λ b. b.output) (whole_answer none a) in
       rw first (record {
         after = rest.output;
@@ -96,27 +97,23 @@ module _ {S V : Type 0} (taken : S → Option (List ℕ)) (failed : S → Bool) 
   stopped : (v w : V) (e : Refusal) (old new : Option (List ℕ)) (had has : Bool) → number v ≡ 1 → held v ≡ [] → has ≡ had → StopsTaking takes refused settled v w e old new (2 ^ 40) 65536
       → EndsEach (answer_of v) old new had has (Err e) (sink_use taken failed (out v) (out w))
   unfolding stops_in_page
-  stopped v w (At line e) old new had has one none sound s = (
+  stopped v w (Error e) old new had has one none sound s =
+      let refused = refuses_mid v w (Error e) old new s in (
+        sound,
+        refused.0,
+        stops_in_page v w (Error e) old new one none s,
+        error_written taken failed (answer_of v) (out w) s.refuses.later _ e (empty s.mid s.settles) (from_start v s.mid s.ended one none s.takes) s.refuses.lines refused,
+      )
+  stopped v w (Fault Write) old new had has one none sound s = (
     sound,
-    stops_in_page v w (At line e) old new one none s,
-    error_written taken failed (answer_of v) (out w) s.refuses.later _ line e (empty s.mid s.settles) (from_start v s.mid s.ended one none s.takes) s.refuses.lines (refuses_mid v w (At line e) old new s),
+    stops_in_page v w (Fault Write) old new one none s,
+    part_written taken failed (answer_of v) (out w) s.refuses.later _ (empty s.mid s.settles) (from_start v s.mid s.ended one none s.takes) s.refuses.lines (refuses_mid v w (Fault Write) old new s),
   )
-  stopped v w Write old new had has one none sound s = (
-    sound,
-    stops_in_page v w Write old new one none s,
-    part_written taken failed (answer_of v) (out w) s.refuses.later _ (empty s.mid s.settles) (from_start v s.mid s.ended one none s.takes) s.refuses.lines (refuses_mid v w Write old new s),
-  )
-  stopped v w (Error e) old new had has one none sound s = absurd (refuses_mid v w (Error e) old new s)
-  stopped v w Memory old new had has one none sound s = absurd (refuses_mid v w Memory old new s)
-  stopped v w Read old new had has one none sound s = absurd (refuses_mid v w Read old new s)
-  stopped v w (Table e) old new had has one none sound s = absurd (refuses_mid v w (Table e) old new s)
-  stopped v w TableOpen old new had has one none sound s = absurd (refuses_mid v w TableOpen old new s)
-  stopped v w (FileOpen f) old new had has one none sound s = absurd (refuses_mid v w (FileOpen f) old new s)
-  stopped v w (FileAt f n d) old new had has one none sound s = absurd (refuses_mid v w (FileAt f n d) old new s)
-  stopped v w (File f d) old new had has one none sound s = absurd (refuses_mid v w (File f d) old new s)
+  stopped v w (Fault Read) old new had has one none sound s = absurd (refuses_mid v w (Fault Read) old new s)
+  stopped v w (Fault Memory) old new had has one none sound s = absurd (refuses_mid v w (Fault Memory) old new s)
 
-  fault : (v w : V) (old new : Option (List ℕ)) (has : Bool) → number v ≡ 1 → held v ≡ [] → StopsReading takes settled v w old new (has ≡ true) (2 ^ 40) → AnswersBeforeFault (answer_of v) old new has (sink_use taken failed (out v) (out w))
-  fault v w old new has one none s = record {
+  read_failed : (v w : V) (old new : Option (List ℕ)) (has : Bool) → number v ≡ 1 → held v ≡ [] → StopsReading takes settled v w old new (has ≡ true) (2 ^ 40) → AnswersBeforeFault (answer_of v) old new has (sink_use taken failed (out v) (out w))
+  read_failed v w old new has one none s = record {
     part = s.part;
     rest = s.rest;
     held = s.held;
@@ -131,7 +128,7 @@ module _ {S V : Type 0} (taken : S → Option (List ℕ)) (failed : S → Bool) 
 
   -- how it ends, by what is known of the reading
   pub ends_each : (v w : V) (old new : Option (List ℕ)) (had has : Bool) (r : Result (Unit {0}) Refusal) → number v ≡ 1 → held v ≡ [] → OnOk r (TakesAll takes v w old new (2 ^ 40) 65536) → OnOk r (settled w) → OnOk r (has ≡ had)
-      → IfErr r (λ e. ((e ≡ Read) × StopsReading takes settled v w old new (has ≡ true) (2 ^ 40)) ⊎ (StopsTaking takes refused settled v w e old new (2 ^ 40) 65536 × (has ≡ had)))
+      → IfErr r (λ e. ((e ≡ Fault Read) × StopsReading takes settled v w old new (has ≡ true) (2 ^ 40)) ⊎ (StopsTaking takes refused settled v w e old new (2 ^ 40) 65536 × (has ≡ had)))
       → EndsEach (answer_of v) old new had has r (sink_use taken failed (out v) (out w))
   ends_each v w old new had has (Ok u) one none all settles sound stops = (
     sound,
@@ -144,13 +141,7 @@ module _ {S V : Type 0} (taken : S → Option (List ℕ)) (failed : S → Bool) 
     },
   )
   ends_each v w old new had has (Err e) one none all settles sound (inr (s, kept)) = stopped v w e old new had has one none kept s
-  ends_each v w old new had has (Err Read) one none all settles sound (inl (is, s)) = fault v w old new has one none s
-  ends_each v w old new had has (Err (At line e)) one none all settles sound (inl (is, s)) = absurd (cc is)
-  ends_each v w old new had has (Err Write) one none all settles sound (inl (is, s)) = absurd (cc is)
+  ends_each v w old new had has (Err (Fault Read)) one none all settles sound (inl (is, s)) = read_failed v w old new has one none s
+  ends_each v w old new had has (Err (Fault Write)) one none all settles sound (inl (is, s)) = absurd (cc is)
+  ends_each v w old new had has (Err (Fault Memory)) one none all settles sound (inl (is, s)) = absurd (cc is)
   ends_each v w old new had has (Err (Error e)) one none all settles sound (inl (is, s)) = absurd (cc is)
-  ends_each v w old new had has (Err Memory) one none all settles sound (inl (is, s)) = absurd (cc is)
-  ends_each v w old new had has (Err (Table e)) one none all settles sound (inl (is, s)) = absurd (cc is)
-  ends_each v w old new had has (Err TableOpen) one none all settles sound (inl (is, s)) = absurd (cc is)
-  ends_each v w old new had has (Err (FileOpen f)) one none all settles sound (inl (is, s)) = absurd (cc is)
-  ends_each v w old new had has (Err (FileAt f n d)) one none all settles sound (inl (is, s)) = absurd (cc is)
-  ends_each v w old new had has (Err (File f d)) one none all settles sound (inl (is, s)) = absurd (cc is)

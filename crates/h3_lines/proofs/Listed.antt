@@ -11,12 +11,14 @@ use Rattle.h3_lines.proofs.Pages.{left_of, none_left}
 use Rattle.h3_lines.proofs.PlainLines.{said_by_parsed}
 use Rattle.h3_lines.specs.List.{RefusesList, cells_said, lines_of, listed_cells, said_before, said_by, said_by_cell}
 use Rattle.h3_lines.specs.ListLaws.{cells_said-append, refuses_after}
-use Rattle.h3_lines.specs.Numbered.{RefusesAt, faulty_from, faulty_line, number_of_fault, without_number}
+use Rattle.h3_lines.specs.Numbered.{RefusesAt, faulty_from, faulty_line, number_of_fault, without_line, without_number}
 use Rattle.h3_lines.specs.Reading.{CountsLines, RefusesLinesAt, SayCells, cells_before, cells_on}
 use Rattle.h3_lines.specs.Reads.{HasNoFaultYet, IsKnownFaulty, IsListWithinReads, IsWithinReads, StopsAtFault}
 use Rattle.h3_lines.specs.Splitting.{ParsesAs, RefusesAfter, StopsReading, StopsTaking, TakesAll}
+use Rattle.h3_lines.specs.declared.refusal.AnswerError.TheVariants.{At}
+use Rattle.h3_lines.specs.declared.refusal.Fault.TheVariants.{Memory, Read, Write}
 use Rattle.h3_lines.specs.declared.refusal.Refusal.{Refusal}
-use Rattle.h3_lines.specs.declared.refusal.Refusal.TheVariants.{Error, At, Memory, Read, Write, Table, TableOpen, FileOpen, FileAt, File}
+use Rattle.h3_lines.specs.declared.refusal.Refusal.TheVariants.{Error, Fault}
 
 -- ---- a line
 
@@ -47,6 +49,12 @@ pub refuses_said : (n : ℕ) (line : List ℕ) (later : List (List ℕ)) (said :
 refuses_said n line later said e is refuses =
     subst (λ s. RefusesAt ⊥ (said_before s (cells_said later)) (number_of_fault n s (faulty_from (n + 1) later)) e) is (refuses (cells_said later) (faulty_from (n + 1) later))
 
+-- a line that is too long is refused
+pub refuses_long : (n : ℕ) (line : List ℕ) (later : List (List ℕ)) → 64 < length line → RefusesLinesAt n (line ∷ later) (Error (At n Failed))
+refuses_long n line later long =
+    let over : nat_lt 64 (length line) ≡ true = grind (arith, nat_tests) in
+    rw over (Failed, refl, refl)
+
 -- what a line says that parses as an index
 pub said_parsed : (line : List ℕ) (index : ℕ) (said : Result (Option Address) H3Error) → ParsesAs line index → said ≡ said_by_cell (cell_in index) → said ≡ said_by line
 said_parsed line index said p is = is ∙ sym (said_by_parsed line index p.short p.parses)
@@ -55,29 +63,35 @@ said_parsed line index said p is = is ∙ sym (said_by_parsed line index p.short
 
 -- a refusal fits the list, whatever may be said of reads
 fits_any : (reads : Type 0) (list : Result (List Address) H3Error) (n : ℕ) (e : Refusal) → RefusesAt ⊥ list n e → RefusesAt reads list n e
-fits_any reads list n (Error e) h = absurd h
-fits_any reads list n (At line d) h = h
-fits_any reads list n Memory h = h
-fits_any reads list n Read h = absurd h
-fits_any reads list n Write h = absurd h
-fits_any reads list n (Table d) h = absurd h
-fits_any reads list n TableOpen h = absurd h
-fits_any reads list n (FileOpen f) h = absurd h
-fits_any reads list n (FileAt f m d) h = absurd h
-fits_any reads list n (File f d) h = absurd h
+fits_any reads list n (Error e) h = h
+fits_any reads list n (Fault Memory) h = h
+fits_any reads list n (Fault Read) h = absurd h
+fits_any reads list n (Fault Write) h = absurd h
+
+-- the same error stands at a line
+same_error : (n m : ℕ) (d e : H3Error) → At n d ≡ At m e → d ≡ e
+same_error n m d e is = cc
 
 -- an error that is there whatever comes after the bytes
-known_faulty : (bytes : List ℕ) (e : Refusal) → ((after : List ℕ) → RefusesAt ⊥ (listed_cells (bytes ++ after)) (faulty_line (bytes ++ after)) e) → (e ≡ Read → ⊥) → (e ≡ Memory → ⊥) → IsKnownFaulty bytes
-known_faulty bytes (Error d) refused other memory = absurd (refused [])
-known_faulty bytes (At n d) refused other memory = (d, λ after. (refused after).0)
-known_faulty bytes Memory refused other memory = absurd (memory refl)
-known_faulty bytes Read refused other memory = absurd (other refl)
-known_faulty bytes Write refused other memory = absurd (refused [])
-known_faulty bytes (Table d) refused other memory = absurd (refused [])
-known_faulty bytes TableOpen refused other memory = absurd (refused [])
-known_faulty bytes (FileOpen f) refused other memory = absurd (refused [])
-known_faulty bytes (FileAt f n d) refused other memory = absurd (refused [])
-known_faulty bytes (File f d) refused other memory = absurd (refused [])
+known_faulty : (bytes : List ℕ) (e : Refusal) → ((after : List ℕ) → RefusesAt ⊥ (listed_cells (bytes ++ after)) (faulty_line (bytes ++ after)) e) → (e ≡ Fault Read → ⊥) → (e ≡ Fault Memory → ⊥) → IsKnownFaulty bytes
+known_faulty bytes (Error d) refused other memory =
+    let (error, is, at) = refused [] in
+    (error, λ after. let (later, is', at') = refused after in is' ∙ ap Err (same_error _ _ later error (sym at' ∙ at)))
+known_faulty bytes (Fault Memory) refused other memory = absurd (memory refl)
+known_faulty bytes (Fault Read) refused other memory = absurd (other refl)
+known_faulty bytes (Fault Write) refused other memory = absurd (refused [])
+
+-- a refusal that is told without the number of its line fits the list
+pub fits_unnumbered : (reads : Type 0) (list : Result (List Address) H3Error) (n : ℕ) (e : Refusal) → RefusesAt reads list n e → RefusesList reads list (without_number e)
+fits_unnumbered reads list n (Error e) (error, is, at) = (error, is, ap without_line at)
+fits_unnumbered reads list n (Fault Memory) h = h
+fits_unnumbered reads list n (Fault Read) h = h
+fits_unnumbered reads list n (Fault Write) h = absurd h
+
+-- what holds of it unless it is a fault
+pub unless_fault : (P : Type 0) (e : Refusal) → ((e ≡ Fault Read → ⊥) → (e ≡ Fault Memory → ⊥) → P) → (without_number e ≡ Fault Read → ⊥) → (without_number e ≡ Fault Memory → ⊥) → P
+unless_fault P (Error e) holds read memory = holds (λ never. cc never) (λ never. cc never)
+unless_fault P (Fault f) holds read memory = holds read memory
 
 -- where nothing is read
 pub stops_at_start : (page : ℕ) (list : List ℕ) → StopsAtFault page list list
@@ -123,7 +137,7 @@ module _ {V : Type 0} (number : V → ℕ) (taken : V → List Address → V →
   -- how the taking of the lines stops that is not whole
   abbrev Stops : V → V → Refusal → Option (List ℕ) → Option (List ℕ) → Bool → Bool → ℕ → ℕ → Type 0
   Stops v w e old new had has limit size =
-      ((e ≡ Read) × StopsReading Takes Settled v w old new (has ≡ true) limit) ⊎ (StopsTaking Takes Refuses Settled v w e old new limit size × (has ≡ had))
+      ((e ≡ Fault Read) × StopsReading Takes Settled v w old new (has ≡ true) limit) ⊎ (StopsTaking Takes Refuses Settled v w e old new limit size × (has ≡ had))
 
   pub whole_list : (v w : V) (old new : Option (List ℕ)) (limit size : ℕ) → TakesAll Takes v w old new limit size
       → (list : List ℕ) × HasLeft old list × IsWithinReads limit size list × (cells : List Address) × (listed_cells list ≡ Ok cells) × taken v cells w
@@ -133,7 +147,7 @@ module _ {V : Type 0} (number : V → ℕ) (taken : V → List Address → V →
   whole_read v w old new limit size s list is = none_left old new s.bytes list s.held s.told is
 
   pub list_refused : (v w : V) (e : Refusal) (old new : Option (List ℕ)) (had has : Bool) (limit size : ℕ) → number v ≡ 1 → Stops v w e old new had has limit size
-      → (list : List ℕ) × HasLeft old list × RefusesAt ((has ≡ true) ⊎ (limit ≤ length list)) (listed_cells list) (faulty_line list) e × ((e ≡ Read → ⊥) → (e ≡ Memory → ⊥) → IsListWithinReads limit size list)
+      → (list : List ℕ) × HasLeft old list × RefusesAt ((has ≡ true) ⊎ (limit ≤ length list)) (listed_cells list) (faulty_line list) e × ((e ≡ Fault Read → ⊥) → (e ≡ Fault Memory → ⊥) → IsListWithinReads limit size list)
   list_refused v w e old new had has limit size first (inl (is, s)) =
       let list = s.part ++ s.rest in
       (list, s.held, subst (λ r. RefusesAt ((has ≡ true) ⊎ (limit ≤ length list)) (listed_cells list) (faulty_line list) r) (sym is) s.why, λ other memory. absurd (other is))
@@ -166,7 +180,7 @@ module _ {V : Type 0} (number : V → ℕ) (taken : V → List Address → V →
       (left, known', record { before = s.part; last = s.last; split = split; within = s.short; good = no_fault_yet s.part s.unended s.ended s.takes.0 s.takes.1 s.lines s.begun })
 
   -- a read fails only after bytes in which no line is known to be faulty
-  pub list_faults : (v w : V) (e : Refusal) (old new : Option (List ℕ)) (had has : Bool) (limit size : ℕ) → Stops v w e old new had has limit size → e ≡ Read
+  pub list_faults : (v w : V) (e : Refusal) (old new : Option (List ℕ)) (had has : Bool) (limit size : ℕ) → Stops v w e old new had has limit size → e ≡ Fault Read
       → (list : List ℕ) → old ≡ Some list → (left : List ℕ) × (new ≡ Some left) × StopsAtFault 0 list left
   list_faults v w e old new had has limit size (inl (is, s)) read list known =
       let (left, known', split) = left_of old new s.part list s.told known in (
@@ -177,6 +191,6 @@ module _ {V : Type 0} (number : V → ℕ) (taken : V → List Address → V →
   list_faults v w e old new had has limit size (inr (s, kept)) read list known =
       absurd (subst (λ r. RefusesLinesAt (number s.mid) s.refuses.later r) read s.refuses.refuses)
 
-  pub list_sound : (v w : V) (e : Refusal) (old new : Option (List ℕ)) (had has : Bool) (limit size : ℕ) → Stops v w e old new had has limit size → (e ≡ Read → ⊥) → has ≡ had
+  pub list_sound : (v w : V) (e : Refusal) (old new : Option (List ℕ)) (had has : Bool) (limit size : ℕ) → Stops v w e old new had has limit size → (e ≡ Fault Read → ⊥) → has ≡ had
   list_sound v w e old new had has limit size (inl (is, s)) other = absurd (other is)
   list_sound v w e old new had has limit size (inr (s, kept)) other = kept

@@ -7,15 +7,16 @@ use Rattle.h3_index.specs.Edge.{DirectedEdge, edge_number}
 use Rattle.h3_index.specs.Text.{text_of}
 use Rattle.h3_index.specs.declared.error.H3Error.{H3Error}
 use Rattle.h3_directions.specs.declared.error.TableError.{TableError}
-use Rattle.h3_lines.specs.declared.refusal.Refusal.{Refusal}
-use Rattle.h3_lines.specs.declared.refusal.Refusal.TheVariants.{Error, Memory, Table}
+use Rattle.h3_lines.specs.declared.refusal.AnswerError.{AnswerError}
+use Rattle.h3_lines.specs.declared.refusal.AnswerError.TheVariants.{Call, Table}
 
--- Answer: the bytes of the output, and how the command ends
+-- Answer: the bytes of the output, and the error that it ends with, if it has one
 --
--- the bytes of the output, and how the command ends, which fixes the line on standard error and the exit status
+-- the bytes of the output, and the error that it ends with, if it has one, which fixes the line on standard error and the
+-- exit status; a fault is no part of an answer
 pub record Answer : Type 0 where
   pub output : List ℕ
-  pub ending : Result (Unit {0}) Refusal
+  pub ending : Result (Unit {0}) AnswerError
 
 -- written bytes: the answer that is these bytes
 abbrev pub written : List ℕ → Answer
@@ -23,15 +24,11 @@ written bytes = record { output = bytes; ending = Ok tt }
 
 -- refused e: the answer that is an error, with no output
 abbrev pub refused : H3Error → Answer
-refused e = record { output = []; ending = Err (Error e) }
+refused e = record { output = []; ending = Err (Call e) }
 
 -- an error of the base cell table, and no output
 abbrev pub table_refused : TableError → Answer
 table_refused e = record { output = []; ending = Err (Table e) }
-
--- out of memory, and no output
-abbrev pub out_of_memory : Answer
-out_of_memory = record { output = []; ending = Err Memory }
 
 -- ---- lines
 

@@ -3,11 +3,12 @@
 use Rattle.std.specs.Prelude.{◌≡◌, ℕ, ◌<◌, ◌⊎◌, Bool, true, List, [], ◌++◌, length, take, Option, None, Some, Result, Ok, Err}
 use Rattle.std.specs.Io.KnownBytes.{Appends}
 use Rattle.h3_index.specs.declared.error.H3Error.{H3Error}
+use Rattle.h3_lines.specs.declared.refusal.Fault.TheVariants.{Memory, Read, Write}
 use Rattle.h3_lines.specs.declared.refusal.Refusal.{Refusal}
-use Rattle.h3_lines.specs.declared.refusal.Refusal.TheVariants.{At, Error, Memory, Read, Table, TableOpen, FileOpen, FileAt, File, Write}
+use Rattle.h3_lines.specs.declared.refusal.Refusal.TheVariants.{Error, Fault}
 use Rattle.h3_lines.specs.Answer.{Answer, before, refused, written}
 use Rattle.h3_lines.specs.Beginning.{SomeBeginning}
-use Rattle.h3_lines.specs.EachLine.{lines_answer}
+use Rattle.h3_lines.specs.EachLine.{IsAtLine, lines_answer}
 use Rattle.h3_lines.specs.Writing.{SinkUse, Takes}
 
 -- Puts a old new at end: an answer that is bytes alone is put into a block, from one byte on, up to another
@@ -39,16 +40,10 @@ TakesSome sink bytes = SomeBeginning (λ part. Appends sink.before sink.after pa
 
 -- an answer ends by an error at a line, all before it taken, or by a write that fails
 abbrev pub EndsBy : Answer → Refusal → SinkUse → Type 0
-EndsBy a (At line e) out = (a.ending ≡ Err (At line e)) × Takes out a.output
-EndsBy a Write out = (0 < length a.output) × TakesSome out a.output
-EndsBy a (Error e) out = ⊥
-EndsBy a Memory out = ⊥
-EndsBy a Read out = ⊥
-EndsBy a (Table e) out = ⊥
-EndsBy a TableOpen out = ⊥
-EndsBy a (FileOpen f) out = ⊥
-EndsBy a (FileAt f n d) out = ⊥
-EndsBy a (File f d) out = ⊥
+EndsBy a (Error e) out = IsAtLine e × (a.ending ≡ Err e) × Takes out a.output
+EndsBy a (Fault Write) out = (0 < length a.output) × TakesSome out a.output
+EndsBy a (Fault Read) out = ⊥
+EndsBy a (Fault Memory) out = ⊥
 
 -- these bytes and the answer to these lines, of which the first is the line n, end so
 abbrev pub RefusesEach : (Option ℕ → Answer) → ℕ → List ℕ → List (List ℕ) → Refusal → SinkUse → Type 0

@@ -4,9 +4,13 @@ use Rattle.std.specs.Prelude.{◌≡◌, ℕ, ◌+◌, ◌*◌, ◌^◌, ◌<◌
 use Rattle.std.specs.Io.KnownBytes.{Appends, Consumes, Keeps}
 use Rattle.h3_index.specs.Stream.{HasLeft}
 use Rattle.h3_index.specs.Text.{parsed_index, trimmed}
+use Rattle.h3_index.specs.declared.error.H3Error.{H3Error}
 use Rattle.h3_index.specs.declared.error.H3Error.TheVariants.{Failed}
+use Rattle.h3_lines.specs.declared.refusal.AnswerError.{AnswerError}
+use Rattle.h3_lines.specs.declared.refusal.AnswerError.TheVariants.{Call, At}
+use Rattle.h3_lines.specs.declared.refusal.Fault.TheVariants.{Memory, Read, Write}
 use Rattle.h3_lines.specs.declared.refusal.Refusal.{Refusal}
-use Rattle.h3_lines.specs.declared.refusal.Refusal.TheVariants.{At, Error, Memory, Read, Table, TableOpen, FileOpen, FileAt, File, Write}
+use Rattle.h3_lines.specs.declared.refusal.Refusal.TheVariants.{Error, Fault}
 use Rattle.h3_lines.specs.Answer.{Answer, before, refused, written}
 use Rattle.h3_lines.specs.Beginning.{SomeBeginning}
 use Rattle.h3_lines.specs.List.{lines_of}
@@ -14,15 +18,15 @@ use Rattle.h3_lines.specs.Reads.{IsWithinReads}
 use Rattle.h3_lines.specs.Writing.{IsLeft, SinkUse, Writes}
 
 -- how the answer to the line with this number ends: an H3 error is told with the number
-abbrev pub ending_at : ℕ → Result (Unit {0}) Refusal → Result (Unit {0}) Refusal
+abbrev pub ending_at : ℕ → Result (Unit {0}) AnswerError → Result (Unit {0}) AnswerError
 ending_at number (Ok u) = Ok u
-ending_at number (Err (Error e)) = Err (At number e)
-ending_at number (Err r) = Err r
+ending_at number (Err (Call e)) = Err (At number e)
+ending_at number (Err e) = Err e
 
 -- these bytes, and then the next answer where they do not end in an error
-abbrev pub then_answer : List ℕ → Result (Unit {0}) Refusal → Answer → Answer
+abbrev pub then_answer : List ℕ → Result (Unit {0}) AnswerError → Answer → Answer
 then_answer output (Ok u) next = before output next
-then_answer output (Err r) next = record { output = output; ending = Err r }
+then_answer output (Err e) next = record { output = output; ending = Err e }
 
 -- line_answer answer line: the answer to a line: an error where it has more than 64 bytes, nothing where it is blank,
 -- and else the answer to the index that it parses as, or to none
@@ -109,19 +113,18 @@ pub record TakesBeginning (first whole : List ℕ) (out : SinkUse) : Type 0 wher
   pub part : SomeBeginning (λ more. Appends out.before out.after (first ++ more) ⊎ out.may_have_taken (first ++ more)) after
   pub failed : out.has_failed ≡ true
 
+-- IsAtLine e: it is an H3 error at a line of the list
+abbrev pub IsAtLine : AnswerError → Type 0
+IsAtLine e = (line : ℕ) × (error : H3Error) × (e ≡ At line error)
+
 -- EndsEach answer ..: how the answering of a list, line by line, ends
 --
 -- How the answering of a list ends that is read from a source with the bytes old left, and new after it. Where a line has
 -- an error or a write fails, nothing is read beyond the page.
 abbrev pub EndsEach : (Option ℕ → Answer) → Option (List ℕ) → Option (List ℕ) → Bool → Bool → Result (Unit {0}) Refusal → SinkUse → Type 0
 EndsEach answer old new had has (Ok u) out = (has ≡ had) × AnswersAll answer old new (Ok u) out
-EndsEach answer old new had has (Err (At line e)) out = (has ≡ had) × (stop : StopsInPage answer old new) × Writes (answer_at stop) (Err (At line e)) out
-EndsEach answer old new had has (Err Write) out = (has ≡ had) × (stop : StopsInPage answer old new) × TakesBeginning (lines_answer answer 1 stop.ended).output (answer_at stop).output out
-EndsEach answer old new had has (Err Read) out = AnswersBeforeFault answer old new has out
-EndsEach answer old new had has (Err Memory) out = (has ≡ had) × Keeps old new × IsLeft out
-EndsEach answer old new had has (Err (Error e)) out = ⊥
-EndsEach answer old new had has (Err (Table e)) out = ⊥
-EndsEach answer old new had has (Err TableOpen) out = ⊥
-EndsEach answer old new had has (Err (FileOpen f)) out = ⊥
-EndsEach answer old new had has (Err (FileAt f n d)) out = ⊥
-EndsEach answer old new had has (Err (File f d)) out = ⊥
+EndsEach answer old new had has (Err (Error e)) out = (has ≡ had) × IsAtLine e × (stop : StopsInPage answer old new) × Writes (answer_at stop) (Err (Error e)) out
+EndsEach answer old new had has (Err (Fault Write)) out =
+    (has ≡ had) × (stop : StopsInPage answer old new) × TakesBeginning (lines_answer answer 1 stop.ended).output (answer_at stop).output out
+EndsEach answer old new had has (Err (Fault Read)) out = AnswersBeforeFault answer old new has out
+EndsEach answer old new had has (Err (Fault Memory)) out = (has ≡ had) × Keeps old new × IsLeft out

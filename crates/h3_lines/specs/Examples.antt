@@ -7,12 +7,14 @@ use Rattle.h3_index.specs.Count.{base_cell}
 use Rattle.h3_index.specs.Text.{parsed_index, text_of}
 use Rattle.h3_index.specs.declared.error.H3Error.TheVariants.{CellInvalid, DuplicateInput, Failed, Pentagon}
 use Rattle.h3_directions.specs.declared.direction.Direction.TheVariants.{I, K}
-use Rattle.h3_directions.specs.declared.error.TableError.TheVariants as fault
+use Rattle.h3_directions.specs.declared.error.TableError.TheVariants as in_table
 use Rattle.h3_lines.specs.Answer.{before, cell_line, refused, ring_line, walked}
 use Rattle.h3_lines.specs.List.{lines_of, listed_cells, said_by}
 use Rattle.h3_lines.specs.Refusal.{refusal_line, refusal_status}
 use Rattle.h3_lines.specs.declared.refusal.CellFile.TheVariants.{Region, Zones}
-use Rattle.h3_lines.specs.declared.refusal.Refusal.TheVariants.{File, FileAt, FileOpen, Table, TableOpen}
+use Rattle.h3_lines.specs.declared.refusal.AnswerError.TheVariants.{File, FileAt, Table}
+use Rattle.h3_lines.specs.declared.refusal.Fault.TheVariants.{Memory, Read, Write}
+use Rattle.h3_lines.specs.declared.refusal.Refusal.TheVariants.{Error, Fault}
 
 -- ---- lists
 
@@ -50,16 +52,16 @@ cut_short = refl
 
 -- ---- lines on standard error
 
-faults_of_tables : map refusal_line (map Table (fault.Form 5 ∷ fault.Missing ∷ fault.Neighbours 30 ∷ fault.Reversal 30 I ∷ fault.Corner 0 K ∷ []))
+faults_of_tables : map refusal_line (map (λ e. Error (Table e)) (in_table.Form 5 ∷ in_table.Missing ∷ in_table.Neighbours 30 ∷ in_table.Reversal 30 I ∷ in_table.Corner 0 K ∷ []))
     ≡ map line (codes "table: form 5" ∷ codes "table: missing" ∷ codes "table: neighbours 30" ∷ codes "table: reversal 30 4" ∷ codes "table: corner 0 1" ∷ [])
 unfolding digits
 faults_of_tables = refl
 
-errors_of_files : map refusal_line (FileOpen Region ∷ FileOpen Zones ∷ FileAt Region 12 CellInvalid ∷ FileAt Region 3 Failed ∷ File Zones DuplicateInput ∷ [])
-    ≡ map line (codes "region: open" ∷ codes "zones: open" ∷ codes "region: line 12: error 5: E_CELL_INVALID" ∷ codes "region: line 3: error 1: E_FAILED" ∷ codes "zones: error 10: E_DUPLICATE_INPUT" ∷ [])
+errors_of_files : map refusal_line (map Error (FileAt Region 12 CellInvalid ∷ FileAt Region 3 Failed ∷ File Zones DuplicateInput ∷ []))
+    ≡ map line (codes "region: line 12: error 5: E_CELL_INVALID" ∷ codes "region: line 3: error 1: E_FAILED" ∷ codes "zones: error 10: E_DUPLICATE_INPUT" ∷ [])
 unfolding digits
 errors_of_files = refl
 
-statuses : map refusal_status (Table fault.Missing ∷ Table fault.Read ∷ TableOpen ∷ FileOpen Region ∷ FileAt Zones 3 Failed ∷ File Zones DuplicateInput ∷ [])
-    ≡ 3 ∷ 4 ∷ 3 ∷ 3 ∷ 1 ∷ 1 ∷ []
+statuses : map refusal_status (map Error (Table in_table.Missing ∷ Table in_table.Read ∷ FileAt Zones 3 Failed ∷ File Zones DuplicateInput ∷ []) ++ map Fault (Memory ∷ Read ∷ Write ∷ []))
+    ≡ 3 ∷ 4 ∷ 1 ∷ 1 ∷ 1 ∷ 4 ∷ 4 ∷ []
 statuses = refl

@@ -5,8 +5,9 @@ use Rattle.h3_index.specs.declared.error.H3Error.{H3Error}
 use Rattle.h3_lines.specs.List.{cells_said, said_before, said_by}
 use Rattle.h3_lines.specs.Numbered.{RefusesAt, faulty_from}
 use Rattle.h3_lines.specs.Reading.{CountsLines, RefusesLinesAt, SayCells, cells_before, said_lines}
+use Rattle.h3_lines.specs.declared.refusal.Fault.TheVariants.{Memory, Read, Write}
 use Rattle.h3_lines.specs.declared.refusal.Refusal.{Refusal}
-use Rattle.h3_lines.specs.declared.refusal.Refusal.TheVariants.{Error, At, Memory, Read, Write, Table, TableOpen, FileOpen, FileAt, File}
+use Rattle.h3_lines.specs.declared.refusal.Refusal.TheVariants.{Error, Fault}
 
 said_lines-append : (ls ms : List (List ℕ)) (later : Result (List Address) H3Error) → said_lines (ls ++ ms) later ≡ said_lines ls (said_lines ms later)
 said_lines-append [] ms later = refl
@@ -31,16 +32,10 @@ pub counts_then : (n1 n2 n3 : ℕ) (xs ys : List (List ℕ)) → CountsLines n1 
 counts_then n1 n2 n3 xs ys p q more = ap (faulty_from n1) (append_assoc xs ys more) ∙ p (ys ++ more) ∙ q more
 
 refuses_before : (cells : List Address) (list : Result (List Address) H3Error) (n : ℕ) (e : Refusal) → RefusesAt ⊥ list n e → RefusesAt ⊥ (cells_before cells list) n e
-refuses_before cells list n (Error e) h = absurd h
-refuses_before cells list n (At line e) h = (ap (cells_before cells) h.0, h.1)
-refuses_before cells list n Memory h = h
-refuses_before cells list n Read h = absurd h
-refuses_before cells list n Write h = absurd h
-refuses_before cells list n (Table e) h = absurd h
-refuses_before cells list n TableOpen h = absurd h
-refuses_before cells list n (FileOpen f) h = absurd h
-refuses_before cells list n (FileAt f m d) h = absurd h
-refuses_before cells list n (File f d) h = absurd h
+refuses_before cells list n (Error e) (error, is, at) = (error, ap (cells_before cells) is, at)
+refuses_before cells list n (Fault Memory) h = h
+refuses_before cells list n (Fault Read) h = absurd h
+refuses_before cells list n (Fault Write) h = absurd h
 
 pub refuses_after : (n1 n2 : ℕ) (cells : List Address) (xs ys : List (List ℕ)) (e : Refusal) → SayCells xs cells → CountsLines n1 xs n2 → RefusesLinesAt n2 ys e → RefusesLinesAt n1 (xs ++ ys) e
 refuses_after n1 n2 cells xs ys e says counts refuses =

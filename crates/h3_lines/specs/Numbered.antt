@@ -3,8 +3,11 @@ use Rattle.std.specs.Prelude.{◌≡◌, ℕ, ◌+◌, List, [], ◌∷◌, ⊤,
 use Rattle.h3_index.specs.Cell.{Address}
 use Rattle.h3_index.specs.declared.error.H3Error.{H3Error}
 use Rattle.h3_lines.specs.List.{lines_of, said_by}
+use Rattle.h3_lines.specs.declared.refusal.AnswerError.{AnswerError}
+use Rattle.h3_lines.specs.declared.refusal.AnswerError.TheVariants.{Call, At}
+use Rattle.h3_lines.specs.declared.refusal.Fault.TheVariants.{Memory, Read, Write}
 use Rattle.h3_lines.specs.declared.refusal.Refusal.{Refusal}
-use Rattle.h3_lines.specs.declared.refusal.Refusal.TheVariants.{Error, At, Memory, Read, Write, Table, TableOpen, FileOpen, FileAt, File}
+use Rattle.h3_lines.specs.declared.refusal.Refusal.TheVariants.{Error, Fault}
 
 -- this number, where a line says an error; else the later one
 abbrev pub number_of_fault : ℕ → Result (Option Address) H3Error → ℕ → ℕ
@@ -25,26 +28,17 @@ faulty_line bytes = faulty_from 1 (lines_of bytes)
 -- a refusal fits the list: an error is the list's own, told with this number, out of memory says nothing of it, and a
 -- read fault comes only where reads fail
 abbrev pub RefusesAt : Type 0 → Result (List Address) H3Error → ℕ → Refusal → Type 0
-RefusesAt read_fails list number (Error e) = ⊥
-RefusesAt read_fails list number (At line e) = (list ≡ Err e) × (line ≡ number)
-RefusesAt read_fails list number Memory = ⊤
-RefusesAt read_fails list number Read = read_fails
-RefusesAt read_fails list number Write = ⊥
-RefusesAt read_fails list number (Table e) = ⊥
-RefusesAt read_fails list number TableOpen = ⊥
-RefusesAt read_fails list number (FileOpen f) = ⊥
-RefusesAt read_fails list number (FileAt f n d) = ⊥
-RefusesAt read_fails list number (File f d) = ⊥
+RefusesAt read_fails list number (Error e) = (error : H3Error) × (list ≡ Err error) × (e ≡ At number error)
+RefusesAt read_fails list number (Fault Memory) = ⊤
+RefusesAt read_fails list number (Fault Read) = read_fails
+RefusesAt read_fails list number (Fault Write) = ⊥
+
+-- without_line: an error without the number of its line
+abbrev pub without_line : AnswerError → AnswerError
+without_line (At line e) = Call e
+without_line e = e
 
 -- without_number: a refusal told without the number of its line
 abbrev pub without_number : Refusal → Refusal
-without_number (Error e) = Error e
-without_number (At line e) = Error e
-without_number Memory = Memory
-without_number Read = Read
-without_number Write = Write
-without_number (Table e) = Table e
-without_number TableOpen = TableOpen
-without_number (FileOpen f) = FileOpen f
-without_number (FileAt f n d) = FileAt f n d
-without_number (File f d) = File f d
+without_number (Error e) = Error (without_line e)
+without_number (Fault f) = Fault f

@@ -6,11 +6,15 @@ use Rattle.h3_index.specs.declared.error.H3Error.TheVariants.{MemoryAlloc}
 use Rattle.h3_directions.specs.Direction.{digit_of}
 use Rattle.h3_directions.specs.declared.direction.Direction.{Direction}
 use Rattle.h3_directions.specs.declared.error.TableError.{TableError}
-use Rattle.h3_directions.specs.declared.error.TableError.TheVariants as fault
+use Rattle.h3_directions.specs.declared.error.TableError.TheVariants as in_table
+use Rattle.h3_lines.specs.declared.refusal.AnswerError.{AnswerError}
+use Rattle.h3_lines.specs.declared.refusal.AnswerError.TheVariants.{Call, At, Table, FileAt, File}
 use Rattle.h3_lines.specs.declared.refusal.CellFile.{CellFile}
 use Rattle.h3_lines.specs.declared.refusal.CellFile.TheVariants.{Region, Zones}
+use Rattle.h3_lines.specs.declared.refusal.Fault as system
+use Rattle.h3_lines.specs.declared.refusal.Fault.TheVariants.{Memory, Read, Write}
 use Rattle.h3_lines.specs.declared.refusal.Refusal.{Refusal}
-use Rattle.h3_lines.specs.declared.refusal.Refusal.TheVariants.{Error, At, Memory, Read, Write, Table, TableOpen, FileOpen, FileAt, File}
+use Rattle.h3_lines.specs.declared.refusal.Refusal.TheVariants.{Error, Fault}
 
 -- the number of an H3 error and its name, as `error 9: E_PENTAGON`
 abbrev pub error_line : H3Error → List ℕ
@@ -34,15 +38,15 @@ read_fault_line = codes "fault: read" ++ 10 ∷ []
 
 -- table_line e: the line of an error of a base cell table
 abbrev pub table_line : TableError → List ℕ
-table_line fault.Read = read_fault_line
-table_line fault.Memory = error_line MemoryAlloc
-table_line (fault.Form row) = numbered_line (codes "table: form ") row
-table_line (fault.Range row) = numbered_line (codes "table: range ") row
-table_line (fault.Repeated row) = numbered_line (codes "table: repeated ") row
-table_line fault.Missing = codes "table: missing" ++ 10 ∷ []
-table_line (fault.Neighbours base) = numbered_line (codes "table: neighbours ") base
-table_line (fault.Reversal base d) = link_line (codes "table: reversal ") base d
-table_line (fault.Corner base d) = link_line (codes "table: corner ") base d
+table_line in_table.Read = read_fault_line
+table_line in_table.Memory = error_line MemoryAlloc
+table_line (in_table.Form row) = numbered_line (codes "table: form ") row
+table_line (in_table.Range row) = numbered_line (codes "table: range ") row
+table_line (in_table.Repeated row) = numbered_line (codes "table: repeated ") row
+table_line in_table.Missing = codes "table: missing" ++ 10 ∷ []
+table_line (in_table.Neighbours base) = numbered_line (codes "table: neighbours ") base
+table_line (in_table.Reversal base d) = link_line (codes "table: reversal ") base d
+table_line (in_table.Corner base d) = link_line (codes "table: corner ") base d
 
 -- the word by which error lines name a file of cells
 abbrev pub file_word : CellFile → List ℕ
@@ -53,45 +57,59 @@ file_word Zones = codes "zones"
 abbrev pub file_line : CellFile → List ℕ → List ℕ
 file_line file line = file_word file ++ codes ": " ++ line
 
+-- answer_error_line e: the line on standard error of an answer's error
+abbrev pub answer_error_line : AnswerError → List ℕ
+answer_error_line (Call e) = error_line e
+answer_error_line (At line e) = error_line_at line e
+answer_error_line (Table e) = table_line e
+answer_error_line (FileAt file line e) = file_line file (error_line_at line e)
+answer_error_line (File file e) = file_line file (error_line e)
+
+-- fault_line f: that of a fault
+abbrev pub fault_line : system.Fault → List ℕ
+fault_line Memory = error_line MemoryAlloc
+fault_line Read = read_fault_line
+fault_line Write = codes "fault: write" ++ 10 ∷ []
+
 -- refusal_line r: the line on standard error of a refusal
 abbrev pub refusal_line : Refusal → List ℕ
-refusal_line (Error e) = error_line e
-refusal_line (At line e) = error_line_at line e
-refusal_line Memory = error_line MemoryAlloc
-refusal_line Read = read_fault_line
-refusal_line Write = codes "fault: write" ++ 10 ∷ []
-refusal_line (Table e) = table_line e
-refusal_line TableOpen = codes "table: open" ++ 10 ∷ []
-refusal_line (FileOpen file) = file_line file (codes "open" ++ 10 ∷ [])
-refusal_line (FileAt file line e) = file_line file (error_line_at line e)
-refusal_line (File file e) = file_line file (error_line e)
+refusal_line (Error e) = answer_error_line e
+refusal_line (Fault f) = fault_line f
 
--- refusal_status r: its exit status
---
--- 1 for an H3 error, 3 for an error of a base cell table or a file of cells that cannot be opened, and 4 for a fault of a
--- stream
+-- answer_error_status e: the exit status of an answer's error: 1 for an H3 error, and 3 for one of a base cell table that is
+-- neither out of memory nor a read that failed
+abbrev pub answer_error_status : AnswerError → ℕ
+answer_error_status (Call e) = 1
+answer_error_status (At line e) = 1
+answer_error_status (Table in_table.Read) = 4
+answer_error_status (Table in_table.Memory) = 1
+answer_error_status (Table e) = 3
+answer_error_status (FileAt file line e) = 1
+answer_error_status (File file e) = 1
+
+-- fault_status f: that of a fault: 4 for one of a stream, and 1 for out of memory, which is an H3 error
+abbrev pub fault_status : system.Fault → ℕ
+fault_status Memory = 1
+fault_status Read = 4
+fault_status Write = 4
+
+-- refusal_status r: the exit status of a refusal
 abbrev pub refusal_status : Refusal → ℕ
-refusal_status (Error e) = 1
-refusal_status (At line e) = 1
-refusal_status Memory = 1
-refusal_status Read = 4
-refusal_status Write = 4
-refusal_status (Table fault.Read) = 4
-refusal_status (Table fault.Memory) = 1
-refusal_status (Table e) = 3
-refusal_status TableOpen = 3
-refusal_status (FileOpen file) = 3
-refusal_status (FileAt file line e) = 1
-refusal_status (File file e) = 1
+refusal_status (Error e) = answer_error_status e
+refusal_status (Fault f) = fault_status f
 
 -- table_refusal e: the refusal that an error of a table becomes
 --
--- the refusal for an error of a base cell table: a read that failed is `Read` and out of memory is `Memory`, as for a
--- list
+-- the refusal for an error of a base cell table: a read that failed and out of memory are faults, as for a list
 abbrev pub table_refusal : TableError → Refusal
-table_refusal fault.Read = Read
-table_refusal fault.Memory = Memory
-table_refusal e = Table e
+table_refusal in_table.Read = Fault Read
+table_refusal in_table.Memory = Fault Memory
+table_refusal e = Error (Table e)
+
+-- ending_of r: how a run ends whose answer ends so
+abbrev pub ending_of : Result (Unit {0}) AnswerError → Result (Unit {0}) Refusal
+ending_of (Ok u) = Ok u
+ending_of (Err e) = Err (Error e)
 
 -- ending_line r: the line of an ending: that of its refusal, or none
 abbrev pub ending_line : Result (Unit {0}) Refusal → List ℕ

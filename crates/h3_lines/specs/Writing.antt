@@ -5,8 +5,9 @@ use Rattle.h3_index.specs.Stream.{KeepsOrHides}
 use Rattle.h3_lines.specs.Answer.{Answer}
 use Rattle.h3_lines.specs.Beginning.{SomeBeginning}
 use Rattle.h3_lines.specs.Refusal.{ending_line, ending_status}
+use Rattle.h3_lines.specs.declared.refusal.Fault.TheVariants.{Memory, Read, Write}
 use Rattle.h3_lines.specs.declared.refusal.Refusal.{Refusal}
-use Rattle.h3_lines.specs.declared.refusal.Refusal.TheVariants.{Error, At, Memory, Read, Write, Table, TableOpen, FileOpen, FileAt, File}
+use Rattle.h3_lines.specs.declared.refusal.Refusal.TheVariants.{Error, Fault}
 
 -- MayHaveTaken: there is a state of the sink in which it has taken these bytes with no failed call, and in the new one
 -- they are kept or no longer known, as after a flush that failed
@@ -65,16 +66,10 @@ IsErrorAlone a = (a.output ≡ []) × IsErr a.ending
 -- the answer is written: all of its output, and then the run ends as the answer does, or a part of it and a write fault
 unfoldable pub Writes : Answer → Result (Unit {0}) Refusal → SinkUse → Type 0
 Writes a (Ok u) out = (a.ending ≡ Ok u) × Takes out a.output
-Writes a (Err (Error e)) out = (a.ending ≡ Err (Error e)) × Takes out a.output
-Writes a (Err (At line e)) out = (a.ending ≡ Err (At line e)) × Takes out a.output
-Writes a (Err (Table e)) out = (a.ending ≡ Err (Table e)) × Takes out a.output
-Writes a (Err Memory) out = ⊥
-Writes a (Err Read) out = ⊥
-Writes a (Err TableOpen) out = ⊥
-Writes a (Err (FileOpen f)) out = ⊥
-Writes a (Err (FileAt f n e)) out = (a.ending ≡ Err (FileAt f n e)) × Takes out a.output
-Writes a (Err (File f e)) out = (a.ending ≡ Err (File f e)) × Takes out a.output
-Writes a (Err Write) out = (¬ IsErrorAlone a) × TakesPart out a.output
+Writes a (Err (Error e)) out = (a.ending ≡ Err e) × Takes out a.output
+Writes a (Err (Fault Memory)) out = ⊥
+Writes a (Err (Fault Read)) out = ⊥
+Writes a (Err (Fault Write)) out = (¬ IsErrorAlone a) × TakesPart out a.output
 
 -- ---- the line of an error
 

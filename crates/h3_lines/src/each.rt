@@ -8,11 +8,12 @@ ghost use Rattle.h3_lines.specs.EachLaws.{answered_none, answered_then, refuses_
 ghost use Rattle.h3_lines.specs.EachLine.{EndsEach, line_answer};
 ghost use Rattle.h3_lines.specs.Writing.{Takes, sink_use};
 ghost use Rattle.h3_lines.specs.declared.line.TheConstants.{BLOCK};
+ghost use Rattle.h3_lines.specs.declared.refusal.Fault.TheVariants.{Write};
 ghost use Rattle.h3_lines.specs.declared.refusal.Refusal.{Refusal};
-ghost use Rattle.h3_lines.specs.declared.refusal.Refusal.TheVariants.{Write};
+ghost use Rattle.h3_lines.specs.declared.refusal.Refusal.TheVariants as refusal;
 
 use crate::line::{BLOCK, Line};
-use crate::refusal::Refusal;
+use crate::refusal::{AnswerError, Fault, Refusal};
 use crate::splitting::{LONGEST_LINE, LineTaker, PAGE, READS, take_lines};
 use crate::write::{write_all, write_answer};
 use h3_index::{CellLines, CountedReader, H3Error, Sink, Source, is_blank_text, read_index};
@@ -84,7 +85,7 @@ fn index_on(line: &[u8]) -> Result<Option<Option<u64>>, H3Error>
 /// Writes the bytes and flushes, if there are any.
 fn write_held<W: Sink>(out: &mut W, bytes: &[u8]) -> Result<(), Refusal>
     ensures ok { OnOk result (Takes (sink_use W.taken W.has_failed out.old out.new) bytes.now) }
-    ensures err { IfErr result (λ e. (e ≡ Write) × (0 < length bytes.now)
+    ensures err { IfErr result (λ e. (e ≡ refusal.Fault Write) × (0 < length bytes.now)
         × TakesSome (sink_use W.taken W.has_failed out.old out.new) bytes.now) }
 {
     if bytes.is_empty() {
@@ -102,7 +103,7 @@ fn refuse<W: Sink>(out: &mut W, held: &[u8], number: u64, error: H3Error) -> Ref
         (sink_use W.taken W.has_failed out.old out.new) }
 {
     match write_held(out, held) {
-        Ok(()) => Refusal::At(number, error),
+        Ok(()) => Refusal::Error(AnswerError::At(number, error)),
         Err(fault) => fault,
     }
 }
@@ -117,7 +118,7 @@ fn make_room<W: Sink>(out: &mut W, block: &mut [u8; BLOCK], end: usize) -> Resul
     ensures ok { IfOk result (λ at. (answer : Option ℕ → Answer) (n : ℕ) →
         Answered W.taken W.has_failed answer n n (take end block.old) (take at block.new)
         out.old out.new []) }
-    ensures err { IfErr result (λ e. (e ≡ Write) × (0 < length (take end block.old))
+    ensures err { IfErr result (λ e. (e ≡ refusal.Fault Write) × (0 < length (take end block.old))
         × TakesSome (sink_use W.taken W.has_failed out.old out.new) (take end block.old)) }
 {
     if end <= BLOCK - ANSWER {
@@ -291,9 +292,9 @@ fn answer_pages<R: Source, W: Sink, F: IndexFunction>(
 /// line that a read fault cuts is not answered. Nothing is read once a line has an error or a write
 /// fails.
 ///
-/// `Refusal::At` with the line of the first error. `Refusal::Read` where a read fails, or the end
-/// is not found in 2^40 reads. `Refusal::Write` where a push or a flush fails. `Refusal::Memory`
-/// where there is none for the page.
+/// `AnswerError::At` with the line of the first error. `Fault::Read` where a read fails, or the end
+/// is not found in 2^40 reads. `Fault::Write` where a push or a flush fails. `Fault::Memory` where
+/// there is none for the page.
 pub fn answer_each<R: Source, W: Sink, F: IndexFunction>(
     alloc: Global,
     function: &F,
@@ -304,6 +305,6 @@ pub fn answer_each<R: Source, W: Sink, F: IndexFunction>(
         (R.has_failed input.old) (R.has_failed input.new) result
         (sink_use W.taken W.has_failed out.old out.new) }
 {
-    let mut page = vec![in alloc; 0u8; PAGE].map_err(|_| Refusal::Memory)?;
+    let mut page = vec![in alloc; 0u8; PAGE].map_err(|_| Refusal::Fault(Fault::Memory))?;
     answer_pages(function, input, out, &mut page)
 }

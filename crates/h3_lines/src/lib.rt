@@ -16,7 +16,7 @@ pub use each::{ANSWER, IndexFunction, answer_each, put_result};
 pub use ending::report;
 pub use line::{BLOCK, Line, ROOM};
 pub use list::{read_cells, read_list, read_numbered_cells};
-pub use refusal::{CellFile, Refusal};
+pub use refusal::{AnswerError, CellFile, Fault, Refusal};
 pub use splitting::{PAGE, READS};
 pub use taking::{CellTaker, take_cells};
 pub use write::{write_all, write_answer, write_lines, write_result, write_walk};

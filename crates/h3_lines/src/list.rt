@@ -9,8 +9,10 @@ ghost use Rattle.h3_index.specs.declared.error.H3Error.{H3Error};
 ghost use Rattle.h3_lines.specs.List.{RefusesList, listed_cells, said_by, said_by_cell};
 ghost use Rattle.h3_lines.specs.Numbered.{RefusesAt, faulty_line, without_number};
 ghost use Rattle.h3_lines.specs.Reads.{IsListWithinReads, IsWithinReads, StopsAtFault};
+ghost use Rattle.h3_lines.specs.declared.refusal.Fault.TheVariants.{Memory, Read};
+ghost use Rattle.h3_lines.specs.declared.refusal.Refusal.TheVariants as refusal;
 
-use crate::refusal::Refusal;
+use crate::refusal::{AnswerError, Fault, Refusal};
 use crate::splitting::{LONGEST_LINE, PAGE, READS};
 use crate::taking::{CellTaker, take_cells, take_list};
 use h3_index::{Cell, H3Error, Source, is_blank_text, read_index};
@@ -46,7 +48,7 @@ impl CellTaker for Vec<Cell> {
 
     #[inline(always)]
     fn take(&mut self, cell: Cell) -> Result<(), Refusal> {
-        self.push(cell).map_err(|_| Refusal::Memory)
+        self.push(cell).map_err(|_| Refusal::Fault(Fault::Memory))
     }
 
     ghost none_taken = { λ v. sym (append-nil v.items) };
@@ -60,7 +62,7 @@ fn told_without_number(refusal: Refusal) -> Refusal
     ensures { result ≡ without_number refusal }
 {
     match refusal {
-        Refusal::At(_, error) => Refusal::Error(error),
+        Refusal::Error(AnswerError::At(_, error)) => Refusal::Error(AnswerError::Call(error)),
         other => other,
     }
 }
@@ -79,14 +81,15 @@ fn read_numbered_list<R: Source>(
     ensures refused { IfErr result (λ e. (list : List ℕ) × HasLeft (R.left input.old) list ×
         RefusesAt ((R.has_failed input.new ≡ true) ⊎ (limit ≤ length list))
         (listed_cells list) (faulty_line list) e ×
-        (e ≢ Refusal.Read → e ≢ Refusal.Memory → IsListWithinReads limit (length page.old) list)) }
+        (e ≢ refusal.Fault Read → e ≢ refusal.Fault Memory
+        → IsListWithinReads limit (length page.old) list)) }
     ensures whole { IsOk result →
         (list : List ℕ) → R.left input.old ≡ Some list → R.left input.new ≡ Some [] }
     ensures stops { OnErr result ((list : List ℕ) → R.left input.old ≡ Some list →
         (left : List ℕ) × (R.left input.new ≡ Some left) × StopsAtFault (length page.old) list left) }
-    ensures faults { IsErrOf result Refusal.Read → (list : List ℕ) → R.left input.old ≡ Some list →
+    ensures faults { IsErrOf result (refusal.Fault Read) → (list : List ℕ) → R.left input.old ≡ Some list →
         (left : List ℕ) × (R.left input.new ≡ Some left) × StopsAtFault 0 list left }
-    ensures sound { ¬ (IsErrOf result Refusal.Read)
+    ensures sound { ¬ (IsErrOf result (refusal.Fault Read))
         → R.has_failed input.new ≡ R.has_failed input.old }
 {
     take_list(Vec::new(alloc), input, limit, page)
@@ -106,14 +109,15 @@ pub fn read_list<R: Source>(
     ensures refused { IfErr result (λ e. (list : List ℕ) × HasLeft (R.left input.old) list ×
         RefusesList ((R.has_failed input.new ≡ true) ⊎ (limit ≤ length list))
         (listed_cells list) e ×
-        (e ≢ Refusal.Read → e ≢ Refusal.Memory → IsListWithinReads limit (length page.old) list)) }
+        (e ≢ refusal.Fault Read → e ≢ refusal.Fault Memory
+        → IsListWithinReads limit (length page.old) list)) }
     ensures whole { IsOk result →
         (list : List ℕ) → R.left input.old ≡ Some list → R.left input.new ≡ Some [] }
     ensures stops { OnErr result ((list : List ℕ) → R.left input.old ≡ Some list →
         (left : List ℕ) × (R.left input.new ≡ Some left) × StopsAtFault (length page.old) list left) }
-    ensures faults { IsErrOf result Refusal.Read → (list : List ℕ) → R.left input.old ≡ Some list →
+    ensures faults { IsErrOf result (refusal.Fault Read) → (list : List ℕ) → R.left input.old ≡ Some list →
         (left : List ℕ) × (R.left input.new ≡ Some left) × StopsAtFault 0 list left }
-    ensures sound { ¬ (IsErrOf result Refusal.Read)
+    ensures sound { ¬ (IsErrOf result (refusal.Fault Read))
         → R.has_failed input.new ≡ R.has_failed input.old }
 {
     match read_numbered_list(alloc, input, limit, page) {
@@ -130,8 +134,8 @@ pub fn read_list<R: Source>(
 /// refused, and of a line that a read fault cuts nothing is known but that it is too long.
 ///
 /// `Failed` for a line of more than 64 bytes or one that parses as no index, and `CellInvalid` for
-/// the index of no cell, the first faulty line's. `Refusal::Read` where a read fails, or the end is
-/// not found in 2^40 reads. `Refusal::Memory` where there is none for the page or for a cell.
+/// the index of no cell, the first faulty line's. `Fault::Read` where a read fails, or the end is
+/// not found in 2^40 reads. `Fault::Memory` where there is none for the page or for a cell.
 pub fn read_cells<R: Source>(alloc: Global, input: &mut R) -> Result<Vec<Cell>, Refusal>
     // That many reads of a page can find the end of the list, or its first faulty line.
     ensures cells { IfOk result (λ cells. (list : List ℕ) × HasLeft (R.left input.old) list ×
@@ -139,7 +143,8 @@ pub fn read_cells<R: Source>(alloc: Global, input: &mut R) -> Result<Vec<Cell>, 
     ensures refused { IfErr result (λ e. (list : List ℕ) × HasLeft (R.left input.old) list ×
         RefusesList ((R.has_failed input.new ≡ true) ⊎ (READS ≤ length list))
         (listed_cells list) e ×
-        (e ≢ Refusal.Read → e ≢ Refusal.Memory → IsListWithinReads READS PAGE list)) }
+        (e ≢ refusal.Fault Read → e ≢ refusal.Fault Memory
+        → IsListWithinReads READS PAGE list)) }
     // All of a list without a faulty line is read, and of any other at most a page more than bytes
     // in which no line is known to be faulty; so too where memory is refused. Where a read fails, or
     // no read is left, no line is known to be faulty in what was read.
@@ -147,9 +152,9 @@ pub fn read_cells<R: Source>(alloc: Global, input: &mut R) -> Result<Vec<Cell>, 
         (list : List ℕ) → R.left input.old ≡ Some list → R.left input.new ≡ Some [] }
     ensures stops { OnErr result ((list : List ℕ) → R.left input.old ≡ Some list →
         (left : List ℕ) × (R.left input.new ≡ Some left) × StopsAtFault PAGE list left) }
-    ensures faults { IsErrOf result Refusal.Read → (list : List ℕ) → R.left input.old ≡ Some list →
+    ensures faults { IsErrOf result (refusal.Fault Read) → (list : List ℕ) → R.left input.old ≡ Some list →
         (left : List ℕ) × (R.left input.new ≡ Some left) × StopsAtFault 0 list left }
-    ensures sound { ¬ (IsErrOf result Refusal.Read)
+    ensures sound { ¬ (IsErrOf result (refusal.Fault Read))
         → R.has_failed input.new ≡ R.has_failed input.old }
 {
     match read_numbered_cells(alloc, input) {
@@ -161,9 +166,9 @@ pub fn read_cells<R: Source>(alloc: Global, input: &mut R) -> Result<Vec<Cell>, 
 /// As `read_cells`: reads a list of cells, one a line, to its end or its first faulty line. The
 /// error of that is told with the line's number.
 ///
-/// `Refusal::At` with `Failed` for a line of more than 64 bytes or one that parses as no index, and
-/// with `CellInvalid` for the index of no cell, the first faulty line's. `Refusal::Read` where a
-/// read fails, or the end is not found in 2^40 reads. `Refusal::Memory` where there is none for the
+/// `AnswerError::At` with `Failed` for a line of more than 64 bytes or one that parses as no index, and
+/// with `CellInvalid` for the index of no cell, the first faulty line's. `Fault::Read` where a
+/// read fails, or the end is not found in 2^40 reads. `Fault::Memory` where there is none for the
 /// page or for a cell.
 pub fn read_numbered_cells<R: Source>(alloc: Global, input: &mut R) -> Result<Vec<Cell>, Refusal>
     // That many reads of a page can find the end of the list, or its first faulty line.
@@ -172,15 +177,16 @@ pub fn read_numbered_cells<R: Source>(alloc: Global, input: &mut R) -> Result<Ve
     ensures refused { IfErr result (λ e. (list : List ℕ) × HasLeft (R.left input.old) list ×
         RefusesAt ((R.has_failed input.new ≡ true) ⊎ (READS ≤ length list))
         (listed_cells list) (faulty_line list) e ×
-        (e ≢ Refusal.Read → e ≢ Refusal.Memory → IsListWithinReads READS PAGE list)) }
+        (e ≢ refusal.Fault Read → e ≢ refusal.Fault Memory
+        → IsListWithinReads READS PAGE list)) }
     // How much of the list is read, as by `read_cells`.
     ensures whole { IsOk result →
         (list : List ℕ) → R.left input.old ≡ Some list → R.left input.new ≡ Some [] }
     ensures stops { OnErr result ((list : List ℕ) → R.left input.old ≡ Some list →
         (left : List ℕ) × (R.left input.new ≡ Some left) × StopsAtFault PAGE list left) }
-    ensures faults { IsErrOf result Refusal.Read → (list : List ℕ) → R.left input.old ≡ Some list →
+    ensures faults { IsErrOf result (refusal.Fault Read) → (list : List ℕ) → R.left input.old ≡ Some list →
         (left : List ℕ) × (R.left input.new ≡ Some left) × StopsAtFault 0 list left }
-    ensures sound { ¬ (IsErrOf result Refusal.Read)
+    ensures sound { ¬ (IsErrOf result (refusal.Fault Read))
         → R.has_failed input.new ≡ R.has_failed input.old }
 {
     take_cells(alloc, Vec::new(alloc), input)

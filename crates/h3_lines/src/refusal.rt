@@ -1,8 +1,7 @@
 //! The errors that end a run, with the line and the exit status of each.
 
 ghost use Rattle.std.specs.Prelude.{◌≡◌, ◌≤◌, length};
-ghost use Rattle.h3_lines.specs.Refusal.{error_line, error_line_at, file_line, link_line, numbered_line, read_fault_line, refusal_line, table_line};
-ghost use Rattle.h3_lines.specs.declared.refusal.Refusal.TheVariants.{FileOpen};
+ghost use Rattle.h3_lines.specs.Refusal.{error_line, error_line_at, file_line, link_line, numbered_line, read_fault_line, table_line};
 
 use arrayvec::ArrayString;
 use h3_directions::{Direction, TableError};
@@ -37,15 +36,29 @@ impl CellFile {
     }
 }
 
-/// Why a run ends with another status than 0.
-#[derive(Clone, Copy, Debug, PartialEq, Eq)]
-pub enum Refusal {
+/// The error that an answer ends with.
+#[derive(Clone, Copy, Debug, Eq, PartialEq)]
+pub enum AnswerError {
     /// A call gave an H3 error.
-    Error(H3Error),
+    Call(H3Error),
 
     /// A call gave an H3 error at a line of a list. The first line is 1, and blank lines count.
     At(u64, H3Error),
 
+    /// An error of the base cell table: of its records or its checks. A read that failed and out of
+    /// memory are faults.
+    Table(TableError),
+
+    /// A line of a file of cells is faulty. The first line is 1, and blank lines count.
+    FileAt(CellFile, u64, H3Error),
+
+    /// A file of cells gave an H3 error as a whole.
+    File(CellFile, H3Error),
+}
+
+/// What the system refused, whatever the answer is.
+#[derive(Clone, Copy, Debug, Eq, PartialEq)]
+pub enum Fault {
     /// Out of memory, which H3 has an error for.
     Memory,
 
@@ -54,22 +67,73 @@ pub enum Refusal {
 
     /// A write failed.
     Write,
+}
 
-    /// An error of the base cell table: of its records or its checks. A read that failed and out of
-    /// memory are `Read` and `Memory`.
-    Table(TableError),
+/// Why a run ends with another status than 0.
+#[derive(Clone, Copy, Debug, PartialEq, Eq)]
+pub enum Refusal {
+    /// The answer ends with an error.
+    Error(AnswerError),
 
-    /// The file of the base cell table cannot be opened.
-    TableOpen,
+    /// The answer is cut short by a fault.
+    Fault(Fault),
+}
 
-    /// A file of cells cannot be opened.
-    FileOpen(CellFile),
+impl AnswerError {
+    ghost use Rattle.h3_lines.specs.Refusal.{answer_error_line, answer_error_status};
 
-    /// A line of a file of cells is faulty. The first line is 1, and blank lines count.
-    FileAt(CellFile, u64, H3Error),
+    /// The line on standard error.
+    fn line(&self) -> ArrayString<LINE_ROOM>
+        ensures { result.bytes ≡ answer_error_line self.now }
+    {
+        match self {
+            AnswerError::Call(error) => error_line(*error),
+            AnswerError::At(line, error) => error_line_at(*line, *error),
+            AnswerError::Table(error) => table_line(*error),
+            AnswerError::FileAt(file, line, error) => {
+                file_line(*file, error_line_at(*line, *error))
+            }
+            AnswerError::File(file, error) => file_line(*file, error_line(*error)),
+        }
+    }
 
-    /// A file of cells gave an H3 error as a whole.
-    File(CellFile, H3Error),
+    /// The exit status.
+    fn status(&self) -> u8
+        ensures { result ≡ answer_error_status self.now }
+    {
+        match self {
+            AnswerError::Table(TableError::Memory) => 1,
+            AnswerError::Table(TableError::Read) => 4,
+            AnswerError::Table(_) => 3,
+            AnswerError::Call(_) | AnswerError::At(_, _) => 1,
+            AnswerError::FileAt(_, _, _) | AnswerError::File(_, _) => 1,
+        }
+    }
+}
+
+impl Fault {
+    ghost use Rattle.h3_lines.specs.Refusal.{fault_line, fault_status};
+
+    /// The line on standard error.
+    fn line(&self) -> ArrayString<LINE_ROOM>
+        ensures { result.bytes ≡ fault_line self.now }
+    {
+        match self {
+            Fault::Memory => error_line(H3Error::MemoryAlloc),
+            Fault::Read => read_fault_line(),
+            Fault::Write => fixed_line("fault: write\n"),
+        }
+    }
+
+    /// The exit status.
+    fn status(&self) -> u8
+        ensures { result ≡ fault_status self.now }
+    {
+        match self {
+            Fault::Memory => 1,
+            Fault::Read | Fault::Write => 4,
+        }
+    }
 }
 
 impl Refusal {
@@ -80,16 +144,8 @@ impl Refusal {
         ensures { result.bytes ≡ refusal_line self.now }
     {
         match self {
-            Refusal::Error(error) => error_line(*error),
-            Refusal::At(line, error) => error_line_at(*line, *error),
-            Refusal::Memory => error_line(H3Error::MemoryAlloc),
-            Refusal::Read => read_fault_line(),
-            Refusal::Write => fixed_line("fault: write\n"),
-            Refusal::Table(error) => table_line(*error),
-            Refusal::TableOpen => fixed_line("table: open\n"),
-            Refusal::FileOpen(file) => file_open_line(*file),
-            Refusal::FileAt(file, line, error) => file_line(*file, error_line_at(*line, *error)),
-            Refusal::File(file, error) => file_line(*file, error_line(*error)),
+            Refusal::Error(error) => error.line(),
+            Refusal::Fault(fault) => fault.line(),
         }
     }
 
@@ -98,49 +154,47 @@ impl Refusal {
         ensures { result ≡ refusal_status self.now }
     {
         match self {
-            Refusal::Error(_) | Refusal::At(_, _) | Refusal::Memory => 1,
-            Refusal::FileAt(_, _, _) | Refusal::File(_, _) => 1,
-            Refusal::Table(TableError::Memory) => 1,
-            Refusal::Table(TableError::Read) => 4,
-            Refusal::Table(_) | Refusal::TableOpen | Refusal::FileOpen(_) => 3,
-            Refusal::Read | Refusal::Write => 4,
+            Refusal::Error(error) => error.status(),
+            Refusal::Fault(fault) => fault.status(),
         }
     }
 }
 
 impl From<StreamFault> for Refusal {
-    ghost use Rattle.h3_lines.specs.declared.refusal.Refusal.{Refusal};
+    ghost use Rattle.h3_lines.specs.declared.refusal.Fault.TheVariants.{Write};
+    ghost use Rattle.h3_lines.specs.declared.refusal.Refusal.TheVariants as refusal;
 
     /// A write fault: failures of sources are not converted by this.
-    ghost from_gives = { λ _ r. r ≡ Refusal.Write };
+    ghost from_gives = { λ _ r. r ≡ refusal.Fault Write };
 
     fn from(_fault: StreamFault) -> Refusal {
-        Refusal::Write
+        Refusal::Fault(Fault::Write)
     }
 }
 
 impl From<H3Error> for Refusal {
-    ghost use Rattle.h3_lines.specs.declared.refusal.Refusal.{Refusal};
+    ghost use Rattle.h3_lines.specs.declared.refusal.AnswerError.TheVariants.{Call};
+    ghost use Rattle.h3_lines.specs.declared.refusal.Refusal.TheVariants as refusal;
 
     /// The error of a call.
-    ghost from_gives = { λ e r. r ≡ Refusal.Error e };
+    ghost from_gives = { λ e r. r ≡ refusal.Error (Call e) };
 
     fn from(error: H3Error) -> Refusal {
-        Refusal::Error(error)
+        Refusal::Error(AnswerError::Call(error))
     }
 }
 
 impl From<TableError> for Refusal {
     ghost use Rattle.h3_lines.specs.Refusal.{table_refusal};
 
-    /// The error of a table: a read that failed and out of memory become `Read` and `Memory`.
+    /// The error of a table: a read that failed and out of memory become faults.
     ghost from_gives = { λ e r. r ≡ table_refusal e };
 
     fn from(error: TableError) -> Refusal {
         match error {
-            TableError::Read => Refusal::Read,
-            TableError::Memory => Refusal::Memory,
-            _ => Refusal::Table(error),
+            TableError::Read => Refusal::Fault(Fault::Read),
+            TableError::Memory => Refusal::Fault(Fault::Memory),
+            _ => Refusal::Error(AnswerError::Table(error)),
         }
     }
 }
@@ -172,16 +226,6 @@ fn error_line_at(number: u64, error: H3Error) -> ArrayString<LINE_ROOM>
     line.push_str(": ");
     line.push_str(error_line(error).as_str());
     line
-}
-
-/// The line of a file of cells that cannot be opened.
-fn file_open_line(file: CellFile) -> ArrayString<LINE_ROOM>
-    ensures { result.bytes ≡ refusal_line (FileOpen file) }
-{
-    match file {
-        CellFile::Region => fixed_line("region: open\n"),
-        CellFile::Zones => fixed_line("zones: open\n"),
-    }
 }
 
 /// The line of an error of a file of cells: the file's word before the line of the error.

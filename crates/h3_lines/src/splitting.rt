@@ -5,11 +5,12 @@ ghost use Rattle.h3_index.specs.Counted.{KeepsSource, reads_allowed, source_of};
 ghost use Rattle.h3_lines.specs.List.{lines_of};
 ghost use Rattle.h3_lines.specs.Reading.{is_unended};
 ghost use Rattle.h3_lines.specs.Splitting.{BeginsPlain, Goes, ParsesAs, StopsReading, StopsTaking, TakesAll};
+ghost use Rattle.h3_lines.specs.declared.refusal.Fault.TheVariants.{Read};
 ghost use Rattle.h3_lines.specs.declared.refusal.Refusal.{Refusal};
-ghost use Rattle.h3_lines.specs.declared.refusal.Refusal.TheVariants.{Read};
+ghost use Rattle.h3_lines.specs.declared.refusal.Refusal.TheVariants as refusal;
 ghost use Rattle.h3_lines.specs.declared.splitting.TheConstants.{LONGEST_LINE};
 
-use crate::refusal::Refusal;
+use crate::refusal::{Fault, Refusal};
 use arrayvec::ArrayVec;
 use h3_index::{CountedReader, Source, read_plain};
 use memchr::memchr;
@@ -244,7 +245,7 @@ pub(crate) fn take_lines<'a, V: LineTaker, R: Source>(
         (reads_allowed reader.old) (length page.old)) }
     ensures settled { OnOk result (V.settled taker.new) }
     ensures err { IfErr result (λ e. (
-        (e ≡ Read) × StopsReading V.taken V.settled taker.old taker.new
+        (e ≡ refusal.Fault Read) × StopsReading V.taken V.settled taker.old taker.new
         (R.left (source_of reader.old)) (R.left (source_of reader.new))
         (R.has_failed (source_of reader.new) ≡ true) (reads_allowed reader.old))
         ⊎ (StopsTaking V.taken V.refused V.settled taker.old taker.new e
@@ -258,7 +259,7 @@ pub(crate) fn take_lines<'a, V: LineTaker, R: Source>(
     let mut start = LineStart::new();
     loop {
         let Ok(count) = reader.read(page) else {
-            return Err(Refusal::Read);
+            return Err(Refusal::Fault(Fault::Read));
         };
         if count == 0 {
             return start.finish(taker);

@@ -10,10 +10,12 @@ ghost use Rattle.h3_lines.specs.ListLaws.{counts_then, refuses_after, says_nothi
 ghost use Rattle.h3_lines.specs.Numbered.{RefusesAt, faulty_line, number_of_fault};
 ghost use Rattle.h3_lines.specs.Reading.{CountsLines, RefusesLinesAt, SayCells, cells_on};
 ghost use Rattle.h3_lines.specs.Reads.{IsListWithinReads, IsWithinReads, StopsAtFault};
-ghost use Rattle.h3_lines.specs.declared.refusal.Refusal.TheVariants.{Memory};
+ghost use Rattle.h3_lines.specs.declared.refusal.AnswerError.TheVariants.{At};
+ghost use Rattle.h3_lines.specs.declared.refusal.Fault.TheVariants.{Memory, Read};
+ghost use Rattle.h3_lines.specs.declared.refusal.Refusal.TheVariants as refusal;
 
 use crate::list::{cell_with, read_line};
-use crate::refusal::Refusal;
+use crate::refusal::{AnswerError, Fault, Refusal};
 use crate::splitting::{LineTaker, PAGE, READS, take_lines};
 use h3_index::{Cell, CountedReader, H3Error, Source};
 use std::alloc::Global;
@@ -26,12 +28,12 @@ pub trait CellTaker {
     /// From the one to the other these cells were taken, in this order.
     ghost taken: { Self → List Address → Self → Type 0 };
 
-    /// Takes a cell. `Refusal::Memory` where there is none for it.
+    /// Takes a cell. `Fault::Memory` where there is none for it.
     fn take(&mut self, cell: Cell) -> Result<(), Refusal>
         requires few { count self.old < 2 ^ 63 }
         ensures ok { OnOk result (taken self.old (cell ∷ []) self.new) }
         ensures counted { count self.new ≤ count self.old + 1 }
-        ensures err { IfErr result (λ e. e ≡ Memory) };
+        ensures err { IfErr result (λ e. e ≡ refusal.Fault Memory) };
 
     ghost none_taken: { (v : Self) → taken v [] v };
 
@@ -50,14 +52,14 @@ fn take_said<V: CellTaker>(
     ensures ok { OnOk result (V.taken taker.old (cells_on said) taker.new) }
     ensures counted { V.count taker.new ≤ V.count taker.old + 1 }
     ensures said { OnOk result (IsOk said) }
-    ensures faulty { (e : H3Error) → said ≡ Err e → result ≡ Err (Refusal.At number e) }
+    ensures faulty { (e : H3Error) → said ≡ Err e → result ≡ Err (refusal.Error (At number e)) }
     ensures err { IfErr result (λ e. (later : Result (List Address) H3Error) (after : ℕ) →
         RefusesAt ⊥ (said_before said later) (number_of_fault number said after) e) }
 {
     match said {
         Ok(None) => Ok(()),
         Ok(Some(cell)) => taker.take(cell),
-        Err(error) => Err(Refusal::At(number, error)),
+        Err(error) => Err(Refusal::Error(AnswerError::At(number, error))),
     }
 }
 
@@ -93,7 +95,7 @@ impl<V: CellTaker> LineTaker for NumberedLines<V> {
     }
 
     fn refuse_long(&mut self) -> Refusal {
-        Refusal::At(self.number, H3Error::Failed)
+        Refusal::Error(AnswerError::At(self.number, H3Error::Failed))
     }
 
     #[inline(always)]
@@ -130,14 +132,15 @@ pub(crate) fn take_list<V: CellTaker + Drop, R: Source>(
     ensures refused { IfErr result (λ e. (list : List ℕ) × HasLeft (R.left input.old) list ×
         RefusesAt ((R.has_failed input.new ≡ true) ⊎ (limit ≤ length list))
         (listed_cells list) (faulty_line list) e ×
-        (e ≢ Refusal.Read → e ≢ Refusal.Memory → IsListWithinReads limit (length page.old) list)) }
+        (e ≢ refusal.Fault Read → e ≢ refusal.Fault Memory
+        → IsListWithinReads limit (length page.old) list)) }
     ensures whole { IsOk result →
         (list : List ℕ) → R.left input.old ≡ Some list → R.left input.new ≡ Some [] }
     ensures stops { OnErr result ((list : List ℕ) → R.left input.old ≡ Some list →
         (left : List ℕ) × (R.left input.new ≡ Some left) × StopsAtFault (length page.old) list left) }
-    ensures faults { IsErrOf result Refusal.Read → (list : List ℕ) → R.left input.old ≡ Some list →
+    ensures faults { IsErrOf result (refusal.Fault Read) → (list : List ℕ) → R.left input.old ≡ Some list →
         (left : List ℕ) × (R.left input.new ≡ Some left) × StopsAtFault 0 list left }
-    ensures sound { ¬ (IsErrOf result Refusal.Read)
+    ensures sound { ¬ (IsErrOf result (refusal.Fault Read))
         → R.has_failed input.new ≡ R.has_failed input.old }
 {
     let mut lines = NumberedLines { taker, number: 1 };
@@ -153,7 +156,7 @@ pub(crate) fn take_list<V: CellTaker + Drop, R: Source>(
 /// As `read_numbered_cells`, but each cell is taken as its line is read, so the list is not kept:
 /// what has taken the cells is returned, in the order of the lines.
 ///
-/// Nothing may have been taken before. Refusals as of `read_numbered_cells`; `Refusal::Memory` also
+/// Nothing may have been taken before. Refusals as of `read_numbered_cells`; `Fault::Memory` also
 /// where there is none for what takes the cells.
 pub fn take_cells<V: CellTaker + Drop, R: Source>(
     alloc: Global,
@@ -168,17 +171,18 @@ pub fn take_cells<V: CellTaker + Drop, R: Source>(
     ensures refused { IfErr result (λ e. (list : List ℕ) × HasLeft (R.left input.old) list ×
         RefusesAt ((R.has_failed input.new ≡ true) ⊎ (READS ≤ length list))
         (listed_cells list) (faulty_line list) e ×
-        (e ≢ Refusal.Read → e ≢ Refusal.Memory → IsListWithinReads READS PAGE list)) }
+        (e ≢ refusal.Fault Read → e ≢ refusal.Fault Memory
+        → IsListWithinReads READS PAGE list)) }
     // How much of the list is read, as by `read_cells`.
     ensures whole { IsOk result →
         (list : List ℕ) → R.left input.old ≡ Some list → R.left input.new ≡ Some [] }
     ensures stops { OnErr result ((list : List ℕ) → R.left input.old ≡ Some list →
         (left : List ℕ) × (R.left input.new ≡ Some left) × StopsAtFault PAGE list left) }
-    ensures faults { IsErrOf result Refusal.Read → (list : List ℕ) → R.left input.old ≡ Some list →
+    ensures faults { IsErrOf result (refusal.Fault Read) → (list : List ℕ) → R.left input.old ≡ Some list →
         (left : List ℕ) × (R.left input.new ≡ Some left) × StopsAtFault 0 list left }
-    ensures sound { ¬ (IsErrOf result Refusal.Read)
+    ensures sound { ¬ (IsErrOf result (refusal.Fault Read))
         → R.has_failed input.new ≡ R.has_failed input.old }
 {
-    let mut page = vec![in alloc; 0u8; PAGE].map_err(|_| Refusal::Memory)?;
+    let mut page = vec![in alloc; 0u8; PAGE].map_err(|_| Refusal::Fault(Fault::Memory))?;
     take_list(taker, input, READS, &mut page)
 }

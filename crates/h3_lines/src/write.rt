@@ -10,7 +10,7 @@ ghost use Rattle.h3_lines.specs.Answer.{before, printed, refused, walked, writte
 ghost use Rattle.h3_lines.specs.Writing.{AppendsPart, AppendsUpTo, Writes, sink_use};
 
 use crate::line::{BLOCK, Line, ROOM};
-use crate::refusal::Refusal;
+use crate::refusal::{AnswerError, Refusal};
 use h3_index::{CellLines, H3Error, Sink, StreamFault};
 
 /// Writes all of the bytes, in as many pushes as it takes.
@@ -32,7 +32,7 @@ pub fn write_all<W: Sink>(out: &mut W, bytes: &[u8]) -> Result<(), StreamFault>
     Ok(())
 }
 
-/// Writes all of the bytes, and flushes. `Refusal::Write` where a push or the flush fails.
+/// Writes all of the bytes, and flushes. `Fault::Write` where a push or the flush fails.
 pub fn write_answer<W: Sink>(out: &mut W, answer: &[u8]) -> Result<(), Refusal>
     ensures { Writes (written answer.now) result (sink_use W.taken W.has_failed out.old out.new) }
 {
@@ -43,7 +43,7 @@ pub fn write_answer<W: Sink>(out: &mut W, answer: &[u8]) -> Result<(), Refusal>
 
 /// Writes the line of a result's value and flushes, or returns the result's error.
 ///
-/// `Refusal::Write` where a push or the flush fails.
+/// `Fault::Write` where a push or the flush fails.
 // Inlined, its block would take its place on the stack while the caller runs another writer.
 #[inline(never)]
 pub fn write_result<W: Sink, L: Line + Drop>(
@@ -82,7 +82,7 @@ fn make_room<W: Sink>(out: &mut W, block: &[u8; BLOCK], end: usize) -> Result<us
 /// Writes a line for each item of an iterator that ends, and flushes. No item is kept, and no more
 /// lines than a block has.
 ///
-/// `Refusal::Write` where a push or the flush fails.
+/// `Fault::Write` where a push or the flush fails.
 // Inlined, its block would take its place on the stack while the caller runs another writer.
 #[inline(never)]
 pub fn write_lines<W: Sink, L: Line + Drop, I: Iterator<Item = L> + Drop>(
@@ -113,14 +113,14 @@ fn write_refused<W: Sink>(out: &mut W, bytes: &[u8], error: H3Error) -> Result<(
     if !bytes.is_empty() {
         write_answer(out, bytes)?;
     }
-    Err(Refusal::Error(error))
+    Err(Refusal::Error(AnswerError::Call(error)))
 }
 
 /// Writes a line for each item of a walk up to its first error, which it then returns. The walk is
 /// an iterator that ends. No item is kept, and no more lines than a block has. It flushes at the
 /// end, and before an error only where a line was written.
 ///
-/// `Refusal::Write` where a push or the flush fails.
+/// `Fault::Write` where a push or the flush fails.
 // (may be inlined: a step takes fewer instructions so, and no caller runs another writer meanwhile)
 pub fn write_walk<W: Sink, L: Line + Drop, I: Iterator<Item = Result<L, H3Error>> + Drop>(
     out: &mut W,

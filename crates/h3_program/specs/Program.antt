@@ -2,8 +2,8 @@
 use Rattle.std.specs.Prelude.{◌≡◌, ◌⊎◌, ◌++◌, ℕ, false, List, [], ◌∷◌, codes, Option, Some, None, string_bytes, Result, Ok, Err}
 use Rattle.std.specs.Io.KnownBytes.{Appends}
 use Rattle.h3_lines.specs.Answer.{written}
-use Rattle.h3_lines.specs.Writing.{AppendsPart, IsLeft, Reports, Writes}
-use Rattle.h3_lines.specs.declared.refusal.CellFile.TheVariants.{Region, Zones}
+use Rattle.h3_lines.specs.Writing.{AppendsPart, IsLeft, Reports, SinkUse, Writes}
+use Rattle.h3_lines.specs.declared.refusal.Fault.TheVariants as fault
 use Rattle.h3_lines.specs.declared.refusal.Refusal.{Refusal}
 use Rattle.h3_lines.specs.declared.refusal.Refusal.TheVariants as refusal
 use Rattle.h3_command.specs.Answer.{Request, reads_list, reads_table, request}
@@ -36,15 +36,20 @@ pub record RunsOver {R F : Type 0} (r : Request) (status : ℕ) (input : Change 
   pub input_kept : reads_list r ≡ false → IsUntouched input
   pub file_kept : reads_table r ≡ false → IsUntouched file
 
--- the refusal of a file that cannot be opened, by its kind
-abbrev pub open_refusal : CommandFile → Refusal
-open_refusal (named.Table path) = refusal.TableOpen
-open_refusal (named.Region path) = refusal.FileOpen Region
-open_refusal (named.Zones path) = refusal.FileOpen Zones
+-- the line on standard error of a file that cannot be opened, by its kind
+abbrev pub open_line : CommandFile → List ℕ
+open_line (named.Table path) = codes "table: open" ++ 10 ∷ []
+open_line (named.Region path) = codes "region: open" ++ 10 ∷ []
+open_line (named.Zones path) = codes "zones: open" ++ 10 ∷ []
 
--- an error line says that the file cannot be opened, and nothing is run
+-- a line goes to standard error, or a beginning of it where that fails
+abbrev pub WritesLine : List ℕ → SinkUse → Type 0
+WritesLine line err = AppendsPart err.before err.after line × (err.has_failed ≡ false → Appends err.before err.after line)
+
+-- an error line says that the file cannot be opened, the status is 3, and nothing is run
 pub record CannotOpen {R : Type 0} (f : CommandFile) (status : ℕ) (input : Change R) (s : Streams) : Type 0 where
-  pub report : Reports (Err (open_refusal f)) status s.err
+  pub status_is : status ≡ 3
+  pub line : WritesLine (open_line f) s.err
   pub silent : IsLeft s.out
   pub input_kept : IsUntouched input
 
@@ -75,8 +80,6 @@ Follows files (Err Version) status input file s =
     ((ending : Result (Unit {0}) Refusal) × Writes (written version_line) ending s.out × Reports ending status s.err)
     × IsUntouched input × IsUntouched file
 Follows files (Err (Usage text)) status input file s =
-    ((status ≡ 2) × IsLeft s.out × AppendsPart s.err.before s.err.after (string_bytes text)
-    × (s.err.has_failed ≡ false → Appends s.err.before s.err.after (string_bytes text)))
-    × IsUntouched input × IsUntouched file
+    ((status ≡ 2) × IsLeft s.out × WritesLine (string_bytes text) s.err) × IsUntouched input × IsUntouched file
 Follows files (Err Memory) status input file s =
-    (Reports (Err refusal.Memory) status s.err × IsLeft s.out) × IsUntouched input × IsUntouched file
+    (Reports (Err (refusal.Fault fault.Memory)) status s.err × IsLeft s.out) × IsUntouched input × IsUntouched file

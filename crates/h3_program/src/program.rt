@@ -7,26 +7,29 @@ ghost use Rattle.h3_command.specs.Run.{source_use};
 ghost use Rattle.h3_words.specs.Parse.{ParsesAs};
 ghost use Rattle.h3_words.specs.declared.words.Words.{Words};
 ghost use Rattle.h3_words.specs.declared.words.WordsFault.{WordsFault};
-ghost use Rattle.h3_program.specs.Program.{Follows, RunsCommand, open_refusal};
+ghost use Rattle.h3_program.specs.Program.{Follows, RunsCommand, open_line};
 
 use crate::file::OpenFile;
 use h3_command::run::run;
 use h3_index::{Sink, Source};
-use h3_lines::{CellFile, Refusal, report, write_all, write_answer};
+use h3_lines::{Fault, Refusal, report, write_all, write_answer};
 use h3_words::{CommandFile, Words, WordsFault, read_words};
 use std::alloc::Global;
 
 /// What `h3 --version` prints.
 const VERSION_LINE: &str = "h3 1.3.0\n";
 
-/// The refusal of a file that cannot be opened, by its kind.
-fn open_refusal(file: &CommandFile) -> Refusal
-    ensures { result ≡ open_refusal file.now }
+/// The exit status where a file cannot be opened.
+const CANNOT_OPEN: u8 = 3;
+
+/// The line on standard error of a file that cannot be opened, by its kind.
+fn open_line(file: &CommandFile) -> &'static str
+    ensures { result.now ≡ open_line file.now }
 {
     match file {
-        CommandFile::Table(_) => Refusal::TableOpen,
-        CommandFile::Region(_) => Refusal::FileOpen(CellFile::Region),
-        CommandFile::Zones(_) => Refusal::FileOpen(CellFile::Zones),
+        CommandFile::Table(_) => "table: open\n",
+        CommandFile::Region(_) => "region: open\n",
+        CommandFile::Zones(_) => "zones: open\n",
     }
 }
 
@@ -58,7 +61,10 @@ fn run_command<R: Source, F: OpenFile, W: Sink, E: Sink>(
         None => run(alloc, &words.command, input, file, out, err),
         Some(named) => match file.open(named.path()) {
             Ok(()) => run(alloc, &words.command, input, file, out, err),
-            Err(_) => report(err, Err(open_refusal(named))),
+            Err(_) => {
+                let _ = write_all(err, open_line(named).as_bytes());
+                CANNOT_OPEN
+            }
         },
     }
 }
@@ -101,6 +107,6 @@ pub fn run_words<R: Source, F: OpenFile, W: Sink, E: Sink>(
             let _ = write_all(err, text.as_bytes());
             2
         }
-        Err(WordsFault::Memory) => report(err, Err(Refusal::Memory)),
+        Err(WordsFault::Memory) => report(err, Err(Refusal::Fault(Fault::Memory))),
     }
 }

@@ -3,7 +3,7 @@
 use arrayvec::ArrayVec;
 use h3_fakes::{Faults, FaultySource};
 use h3_index::{Cell, H3Error, Streamed};
-use h3_lines::{Refusal, read_cells, read_list};
+use h3_lines::{AnswerError, Fault, Refusal, read_cells, read_list};
 use std::alloc::Global;
 
 /// How many bytes a pull gives at most.
@@ -51,7 +51,13 @@ fn refuses_with(alloc: Global, bytes: &[u8], most: usize, calls: u64, error: Ref
 /// Whether a list is refused with this error, in pieces of each of these sizes.
 fn refuses(alloc: Global, bytes: &[u8], error: H3Error) -> bool {
     for most in &PIECES {
-        if !refuses_with(alloc, bytes, *most, 1000, Refusal::Error(error)) {
+        if !refuses_with(
+            alloc,
+            bytes,
+            *most,
+            1000,
+            Refusal::Error(AnswerError::Call(error)),
+        ) {
             return false;
         }
     }
@@ -186,9 +192,9 @@ fn a_read_fault_counts_before_a_faulty_line(rt: HostRuntime) {
     assert!(&rt; EIGHTS.len() == 65);
     for (row, (text, most, calls, counts)) in CUT.iter().enumerate() {
         let refusal = if *counts {
-            Refusal::Read
+            Refusal::Fault(Fault::Read)
         } else {
-            Refusal::Error(H3Error::Failed)
+            Refusal::Error(AnswerError::Call(H3Error::Failed))
         };
         let refused = refuses_with(rt.alloc(), text.as_bytes(), *most, *calls, refusal);
         assert!(&rt; refused, "row {row}");
@@ -209,10 +215,14 @@ static IN_THREE_READS: [(&str, &str, Option<Refusal>); 4] = [
     // two reads of a line feed, and one that finds the end
     ("\n\n", "", None),
     // the end is not found, also where all bytes were read
-    ("\n\n\n", "", Some(Refusal::Read)),
-    ("\n\n\n\n", "\n", Some(Refusal::Read)),
+    ("\n\n\n", "", Some(Refusal::Fault(Fault::Read))),
+    ("\n\n\n\n", "\n", Some(Refusal::Fault(Fault::Read))),
     // a faulty line that is known by the last read that is allowed
-    ("0x\n\n", "\n", Some(Refusal::Error(H3Error::Failed))),
+    (
+        "0x\n\n",
+        "\n",
+        Some(Refusal::Error(AnswerError::Call(H3Error::Failed))),
+    ),
 ];
 
 #[test]

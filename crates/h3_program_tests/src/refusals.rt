@@ -2,31 +2,28 @@
 
 use h3_directions::TableError;
 use h3_index::H3Error;
-use h3_lines::{CellFile, Refusal};
+use h3_lines::{AnswerError, CellFile, Fault, Refusal};
 
 /// Refusals of each variant.
-static REFUSALS: [Refusal; 21] = [
-    Refusal::Error(H3Error::Failed),
-    Refusal::Error(H3Error::MemoryAlloc),
-    Refusal::At(1, H3Error::Failed),
-    Refusal::At(1, H3Error::MemoryAlloc),
-    Refusal::At(2, H3Error::Failed),
-    Refusal::Memory,
-    Refusal::Read,
-    Refusal::Write,
-    Refusal::Table(TableError::Missing),
-    Refusal::Table(TableError::Form(1)),
-    Refusal::Table(TableError::Form(2)),
-    Refusal::TableOpen,
-    Refusal::FileOpen(CellFile::Region),
-    Refusal::FileOpen(CellFile::Zones),
-    Refusal::FileAt(CellFile::Region, 1, H3Error::Failed),
-    Refusal::FileAt(CellFile::Zones, 1, H3Error::Failed),
-    Refusal::FileAt(CellFile::Zones, 2, H3Error::Failed),
-    Refusal::FileAt(CellFile::Zones, 2, H3Error::CellInvalid),
-    Refusal::File(CellFile::Region, H3Error::DuplicateInput),
-    Refusal::File(CellFile::Zones, H3Error::DuplicateInput),
-    Refusal::File(CellFile::Zones, H3Error::Failed),
+static REFUSALS: [Refusal; 18] = [
+    Refusal::Error(AnswerError::Call(H3Error::Failed)),
+    Refusal::Error(AnswerError::Call(H3Error::MemoryAlloc)),
+    Refusal::Error(AnswerError::At(1, H3Error::Failed)),
+    Refusal::Error(AnswerError::At(1, H3Error::MemoryAlloc)),
+    Refusal::Error(AnswerError::At(2, H3Error::Failed)),
+    Refusal::Fault(Fault::Memory),
+    Refusal::Fault(Fault::Read),
+    Refusal::Fault(Fault::Write),
+    Refusal::Error(AnswerError::Table(TableError::Missing)),
+    Refusal::Error(AnswerError::Table(TableError::Form(1))),
+    Refusal::Error(AnswerError::Table(TableError::Form(2))),
+    Refusal::Error(AnswerError::FileAt(CellFile::Region, 1, H3Error::Failed)),
+    Refusal::Error(AnswerError::FileAt(CellFile::Zones, 1, H3Error::Failed)),
+    Refusal::Error(AnswerError::FileAt(CellFile::Zones, 2, H3Error::Failed)),
+    Refusal::Error(AnswerError::FileAt(CellFile::Zones, 2, H3Error::CellInvalid)),
+    Refusal::Error(AnswerError::File(CellFile::Region, H3Error::DuplicateInput)),
+    Refusal::Error(AnswerError::File(CellFile::Zones, H3Error::DuplicateInput)),
+    Refusal::Error(AnswerError::File(CellFile::Zones, H3Error::Failed)),
 ];
 
 #[test]

@@ -5,9 +5,8 @@ use crate::cases::{
     refuses_table,
 };
 use crate::table_files::without_last;
-use h3_fakes::{Faults, FaultySink, changed_file, open_file, table_file};
+use h3_fakes::{changed_file, open_file, table_file};
 use h3_lattice::vectors::TestTable;
-use h3_lines::{Refusal, report};
 use h3_requests::Command;
 
 /// A cell of resolution 0 without pentagons within 2 steps.
@@ -289,13 +288,6 @@ fn short_tables_are_refused(rt: HostRuntime) {
     for (file, line) in &SHORT_FILES {
         assert!(&rt; refuses_table(rt.alloc(), file, DISK, line), "{line}");
     }
-}
-
-#[test]
-fn a_table_that_cannot_be_opened_is_reported(rt: HostRuntime) {
-    let mut err: FaultySink<64> = FaultySink::new(64, Faults::From(100));
-    assert!(&rt; report(&mut err, Err(Refusal::TableOpen)) == 3);
-    assert!(&rt; err.bytes() == b"table: open\n".as_slice());
 }
 
 /// Walks that are refused before they begin, if their table is not.

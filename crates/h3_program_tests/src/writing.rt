@@ -2,7 +2,7 @@
 
 use h3_fakes::{Faults, FaultySink};
 use h3_index::{Cell, H3Error};
-use h3_lines::{Refusal, write_lines, write_walk};
+use h3_lines::{AnswerError, Fault, Refusal, write_lines, write_walk};
 
 /// The number of decimal digits.
 fn number_of(digits: &[u8]) -> u64 {
@@ -35,14 +35,14 @@ fn many_lines_go_out_by_blocks(rt: HostRuntime) {
     assert!(&rt; write_lines(&mut out, 0..14000u64).is_ok());
     assert!(&rt; out.bytes().len() == 72890 && have_numbers(out.bytes(), 14000));
     let mut out: FaultySink<72890> = FaultySink::new(131072, Faults::From(3));
-    assert!(&rt; write_lines(&mut out, 0..14000u64) == Err(Refusal::Write));
+    assert!(&rt; write_lines(&mut out, 0..14000u64) == Err(Refusal::Fault(Fault::Write)));
 }
 
 #[test]
 fn lines_go_out_while_there_is_room(rt: HostRuntime) {
     // 10 * 2 + 90 * 3 + 900 * 4 + 7222 * 5 bytes
     let mut out: FaultySink<40000> = FaultySink::new(65536, Faults::From(4));
-    assert!(&rt; write_lines(&mut out, 0..14000u64) == Err(Refusal::Write));
+    assert!(&rt; write_lines(&mut out, 0..14000u64) == Err(Refusal::Fault(Fault::Write)));
     assert!(&rt; out.bytes().len() == 40000);
     assert!(&rt; out.bytes().starts_with(b"0\n1\n2\n") && out.bytes().ends_with(b"8221\n"));
 }
@@ -66,14 +66,16 @@ fn walk_ends(calls: u64, refusal: Refusal) -> bool {
 
 #[test]
 fn the_lines_of_a_walk_stand_before_its_error(rt: HostRuntime) {
-    assert!(&rt; walk_ends(2, Refusal::Error(H3Error::Pentagon)));
+    assert!(&rt; walk_ends(2, Refusal::Error(AnswerError::Call(H3Error::Pentagon))));
     // the flush fails, and is reported in place of the error
-    assert!(&rt; walk_ends(1, Refusal::Write));
+    assert!(&rt; walk_ends(1, Refusal::Fault(Fault::Write)));
     // where no line comes before the error, nothing is written or flushed
     let mut out: FaultySink<64> = FaultySink::new(64, Faults::From(0));
     let refused: [Result<Cell, H3Error>; 1] = [Err(H3Error::Pentagon)];
     let written = write_walk(&mut out, refused.iter().copied());
-    assert!(&rt; written == Err(Refusal::Error(H3Error::Pentagon)) && out.calls() == 0);
+    assert!(&rt;
+        written == Err(Refusal::Error(AnswerError::Call(H3Error::Pentagon))) && out.calls() == 0
+    );
 }
 
 /// Whether all bytes are lines of the cell.
@@ -105,7 +107,10 @@ fn a_walk_of_many_lines_goes_out_by_blocks(rt: HostRuntime) {
     steps[2099] = Err(H3Error::Pentagon);
     let mut out: FaultySink<33600> = FaultySink::new(65536, Faults::From(3));
     let written = write_walk(&mut out, steps.iter().copied());
-    assert!(&rt; written == Err(Refusal::Error(H3Error::Pentagon)) && has_lines(&out, 33584, 3));
+    assert!(&rt;
+        written == Err(Refusal::Error(AnswerError::Call(H3Error::Pentagon)))
+            && has_lines(&out, 33584, 3)
+    );
 }
 
 /// The first push, the second one and the flush, each with the calls and the bytes up to it.
@@ -118,6 +123,9 @@ fn a_walk_of_many_lines_ends_at_a_write_fault(rt: HostRuntime) {
         let mut out: FaultySink<33600> = FaultySink::new(65536, Faults::Once(*fault));
         let written = write_walk(&mut out, steps.iter().copied());
         let stopped = out.calls() == *calls && out.bytes().len() == *length;
-        assert!(&rt; written == Err(Refusal::Write) && stopped, "call {fault}");
+        assert!(&rt;
+            written == Err(Refusal::Fault(Fault::Write)) && stopped,
+            "call {fault}"
+        );
     }
 }

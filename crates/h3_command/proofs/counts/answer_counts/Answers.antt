@@ -1,6 +1,7 @@
 use Rattle.std.proofs.Common.{◌≡◌, [], arith, length, refl, replicate, rules, subst, sym}
 use Rattle.std.proofs.lemmas.Grind.{common_steps}
-use Rattle.h3_lines.specs.declared.refusal.Refusal.TheVariants.{Memory}
+use Rattle.h3_lines.specs.declared.refusal.Fault.TheVariants.{Memory}
+use Rattle.h3_lines.specs.declared.refusal.Refusal.TheVariants.{Fault}
 use Rattle.std.proofs.KnownBytes.{Keeps-refl}
 use Rattle.std.proofs.lemmas.Result.{err_from_is_err_and}
 use Rattle.h3_lines.specs.Writing.{sink_use}
@@ -22,7 +23,7 @@ returns-in_err-tally g c =
 pub returns-in_err-counts : goal.returns-in_err-counts
 returns-in_err-counts g c =
     let p = err_from_is_err_and c.from_residual.result c.from_residual.ensures.1 in
-    let out_of_memory : c.in_err-counts.field-0.0 ≡ Memory = search rules in
+    let out_of_memory : c.in_err-counts.field-0.0 ≡ Fault Memory = search rules in
     let input = source_use g.R.Source.left g.R.Source.has_failed c.args.input.now c.args.input.now in
     let out = sink_use g.W.Sink.taken g.W.Sink.has_failed c.args.out.now c.args.out.now in
     rw (p.1, p.2, out_of_memory) (numbered_unread (counts_answer c.args.zones.now) input out refl refl (Keeps-refl _, refl))

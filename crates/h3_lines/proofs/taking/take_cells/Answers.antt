@@ -1,7 +1,8 @@
 use Rattle.std.proofs.Common.{rules, ◌≡◌, length, arith}
 use Rattle.std.proofs.lemmas.Grind.{common_steps}
 use Rattle.std.proofs.lemmas.Result.{err_from_is_err_and, on_err_weaker, IfErr-weaker, IfOk-weaker}
-use Rattle.h3_lines.specs.declared.refusal.Refusal.TheVariants.{Memory}
+use Rattle.h3_lines.specs.declared.refusal.Fault.TheVariants.{Memory}
+use Rattle.h3_lines.specs.declared.refusal.Refusal.TheVariants.{Fault}
 use Rattle.h3_lines.proofs.Listed.{stops_at_start}
 use Rattle.h3_lines.proofs.Pages.{some_held}
 use Rattle.h3_lines.proofs.taking.take_cells.Goals as goal
@@ -10,7 +11,7 @@ pub returns-in_err-page-clause-refused : goal.returns-in_err-page-clause-refused
 returns-in_err-page-clause-refused g c =
     let p = err_from_is_err_and c.from_residual.result c.from_residual.ensures.1 in
     let (bytes, held) = some_held (g.R.Source.left c.args.input.now) in
-    let out_of_memory : c.in_err-page.field-0.0 ≡ Memory = search rules in
+    let out_of_memory : c.in_err-page.field-0.0 ≡ Fault Memory = search rules in
     rw (p.1, p.2) (bytes, held, search rules, λ other memory. absurd (memory out_of_memory))
 
 pub returns-clause-taken : goal.returns-clause-taken

@@ -20,5 +20,5 @@ returns-in-Err-Usage-clause-follows g c =
     let left = rw text at (left_by c.write_all.result _ _ _ _ c.write_all.ensures.written c.write_all.ensures.part c.write_all.ensures.err) in (
       Err (Usage c.in-Err-Usage.text),
       record { read = parsed.read; accepted = parsed.accepted; taken = parsed.taken; version = parsed.version; faults = parsed.faults },
-      ((refl, search rules, left.0, left.1), refl, refl),
+      ((refl, search rules, left), refl, refl),
     )
