@@ -1,8 +1,7 @@
 //! Lists of cells into C's memory.
 
 ghost use Rattle.std.specs.Prelude.{◌≡◌, nat_le, length, List, Result, IfOk};
-ghost use Rattle.std.specs.Iterator.{IsFinite};
-ghost use Rattle.std.proofs.lemmas.Iterator.{YieldsList};
+ghost use Rattle.std.specs.Iterator.{AlwaysYields, IsFinite};
 ghost use Rattle.h3_index.specs.Cell.{Address};
 ghost use Rattle.h3_index.specs.declared.error.H3Error.{H3Error};
 ghost use Rattle.h3_functions.specs.Items.{Lists};
@@ -17,9 +16,9 @@ use h3_index::{Cell, H3Error};
 pub(crate) fn put_cells<I: Iterator<Item = Cell> + Drop>(out: &mut [u64], cells: I) -> bool
     requires can { I.can_next cells }
     requires ends { IsFinite (I.remaining cells) }
-    ensures fits { (all : List Address) → YieldsList I.next_gives (λ x. x) cells all →
+    ensures fits { (all : List Address) → AlwaysYields I.next_gives (λ x. x) cells all →
         result ≡ nat_le (length all) (length out.old) }
-    ensures put { (all : List Address) → YieldsList I.next_gives (λ x. x) cells all →
+    ensures put { (all : List Address) → AlwaysYields I.next_gives (λ x. x) cells all →
         out.new ≡ laid_over (indexes all) out.old }
 {
     let mut i: usize = 0;

@@ -1,8 +1,7 @@
 //! Disks and rings over a table, into C's memory.
 
 ghost use Rattle.std.specs.Prelude.{◌≡◌, ℕ, List, Result, Ok, length, min};
-ghost use Rattle.std.specs.Iterator.{IsFinite};
-ghost use Rattle.std.proofs.lemmas.Iterator.{YieldsList};
+ghost use Rattle.std.specs.Iterator.{AlwaysYields, IsFinite};
 ghost use Rattle.h3_index.specs.Cell.{Address};
 ghost use Rattle.h3_index.specs.declared.error.H3Error.{H3Error};
 ghost use Rattle.h3_lattice.specs.BaseTable.{link_of};
@@ -27,9 +26,9 @@ const FAILED: u32 = 1;
 fn put_walk<I: Iterator<Item = Result<Cell, H3Error>> + Drop>(out: &mut [u64], walk: I) -> u32
     requires can { I.can_next walk }
     requires ends { IsFinite (I.remaining walk) }
-    ensures code { (all : List (Result Address H3Error)) → YieldsList I.next_gives (λ x. x) walk all →
+    ensures code { (all : List (Result Address H3Error)) → AlwaysYields I.next_gives (λ x. x) walk all →
         result ≡ items_code all (length out.old) }
-    ensures put { (all : List (Result Address H3Error)) → YieldsList I.next_gives (λ x. x) walk all →
+    ensures put { (all : List (Result Address H3Error)) → AlwaysYields I.next_gives (λ x. x) walk all →
         out.new ≡ laid_over (indexes (given all)) out.old }
 {
     let mut i: usize = 0;
@@ -59,13 +58,13 @@ fn put_rings<I: Iterator<Item = Result<(Cell, u32), H3Error>> + Drop>(
     requires can { I.can_next walk }
     requires ends { IsFinite (I.remaining walk) }
     ensures code { (all : List (Result (Address × ℕ) H3Error)) →
-        YieldsList I.next_gives (λ x. x) walk all →
+        AlwaysYields I.next_gives (λ x. x) walk all →
         result ≡ items_code all (min (length out.old) (length rings.old)) }
     ensures cells { (all : List (Result (Address × ℕ) H3Error)) →
-        YieldsList I.next_gives (λ x. x) walk all →
+        AlwaysYields I.next_gives (λ x. x) walk all →
         out.new ≡ cells_over (Ok all) (min (length out.old) (length rings.old)) out.old }
     ensures rings { (all : List (Result (Address × ℕ) H3Error)) →
-        YieldsList I.next_gives (λ x. x) walk all →
+        AlwaysYields I.next_gives (λ x. x) walk all →
         rings.new ≡ rings_over (Ok all) (min (length out.old) (length rings.old)) rings.old }
 {
     let mut i: usize = 0;

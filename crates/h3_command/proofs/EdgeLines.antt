@@ -41,7 +41,7 @@ six_of (Ok c) all is = let same : edges_from c ≡ all = cc is in subst (λ l. l
 six_of (Err e) all is = absurd (cc is)
 
 listed : {s : Edges} (found : Result (List DirectedEdge) H3Error) → Lists (YieldsFirst edges_left) (Ok s) found → (all : List DirectedEdge) × (found ≡ Ok all) × YieldsList (YieldsFirst edges_left) (λ x. x) s all
-listed (Ok all) e = (all, refl, e)
+listed (Ok all) e = (all, refl, record { runs = e })
 listed (Err d) never = absurd never
 
 pub at_most_six : {s : Edges} (index : ℕ) → Lists (YieldsFirst edges_left) (Ok s) (origin_to_directed_edges index) → (from : Edges) → from ≡ s → (xs : List DirectedEdge) (t : Edges) → Yields (YieldsFirst edges_left) from xs t

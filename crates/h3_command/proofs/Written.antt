@@ -1,8 +1,7 @@
 -- What a command's writing is where an error stands in place of its answer, or where it has items.
 use Rattle.std.proofs.Common.{◌≡◌, ℕ, ℤ, List, [], Option, None, Some, Result, Ok, Err, sym, ap, ◌∙◌, subst, refl, append-nil}
 use Rattle.std.specs.Io.KnownBytes.{Appends, Keeps}
-use Rattle.std.specs.Iterator.{YieldsFirst}
-use Rattle.std.proofs.lemmas.Iterator.{YieldsList}
+use Rattle.std.specs.Iterator.{AlwaysYields, YieldsFirst}
 use Rattle.std.proofs.lemmas.Iterator.Consumers.{YieldsList-from_first}
 use Rattle.h3_index.specs.declared.error.H3Error.{H3Error}
 use Rattle.h3_lines.specs.Answer.{Answer, answer_or_error, refused, walked}
@@ -49,10 +48,10 @@ answered_error about steps (Err d) all e out same is left = answered_refused abo
 
 -- the walk begins, and what it has left is written
 pub walk_written : {S A : Type 0} (line : A → List ℕ) (rest : S → List (Result A H3Error)) (error : ℤ → Option H3Error) (items : ℤ → List (Result A H3Error)) {s : S} (k read : ℤ) (ending : Result (Unit {0}) Refusal) (out : SinkUse)
-    → read ≡ k → None ≡ error read → rest s ≡ items read → ((all : List (Result A H3Error)) → YieldsList (YieldsFirst rest) (λ x. x) s all → Writes (walked line all) ending out)
+    → read ≡ k → None ≡ error read → rest s ≡ items read → ((all : List (Result A H3Error)) → AlwaysYields (YieldsFirst rest) (λ x. x) s all → Writes (walked line all) ending out)
     → Writes (answer_or_error (walked line) (unless (error k) (items k))) ending out
 walk_written line rest error items k read ending out same fits left writes =
-    answered_value (walked line) (error k) (items k) (items read) ending out (ap items same) (fits ∙ ap error same) (writes (items read) (YieldsList-from_first (λ x. x) rest (items read) left))
+    answered_value (walked line) (error k) (items k) (items read) ending out (ap items same) (fits ∙ ap error same) (writes (items read) (YieldsList-from_first (λ x. x) rest (items read) left).runs)
 
 -- the walk does not begin
 pub walk_unbegun : {A : Type 0} (line : A → List ℕ) (error : ℤ → Option H3Error) (items : List (Result A H3Error)) (k read : ℤ) (e : H3Error) (out : SinkUse)

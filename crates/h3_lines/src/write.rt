@@ -2,9 +2,8 @@
 
 ghost use Rattle.std.specs.Prelude.{◌≡◌, ◌+◌, ◌<◌, ◌≤◌, List, length, take, true, IfOk, OnOk, OnErr, Result};
 ghost use Rattle.std.specs.Io.KnownBytes.{Appends};
-ghost use Rattle.std.specs.Iterator.{IsFinite};
+ghost use Rattle.std.specs.Iterator.{AlwaysYields, IsFinite};
 ghost use Rattle.std.specs.List.{flat_map};
-ghost use Rattle.std.proofs.lemmas.Iterator.{YieldsList};
 ghost use Rattle.h3_index.specs.declared.error.H3Error.{H3Error};
 ghost use Rattle.h3_lines.specs.Answer.{before, printed, refused, walked, written};
 ghost use Rattle.h3_lines.specs.Writing.{AppendsPart, AppendsUpTo, Writes, sink_use};
@@ -91,7 +90,7 @@ pub fn write_lines<W: Sink, L: Line + Drop, I: Iterator<Item = L> + Drop>(
 ) -> Result<(), Refusal>
     requires can { I.can_next items }
     requires ends { IsFinite (I.remaining items) }
-    ensures { (all : List _) → YieldsList I.next_gives (λ x. x) items all →
+    ensures { (all : List _) → AlwaysYields I.next_gives (λ x. x) items all →
         Writes (written (flat_map L.line_of all)) result
         (sink_use W.taken W.has_failed out.old out.new) }
 {
@@ -128,7 +127,7 @@ pub fn write_walk<W: Sink, L: Line + Drop, I: Iterator<Item = Result<L, H3Error>
 ) -> Result<(), Refusal>
     requires can { I.can_next walk }
     requires ends { IsFinite (I.remaining walk) }
-    ensures { (all : List (Result _ H3Error)) → YieldsList I.next_gives (λ x. x) walk all →
+    ensures { (all : List (Result _ H3Error)) → AlwaysYields I.next_gives (λ x. x) walk all →
         Writes (walked L.line_of all) result (sink_use W.taken W.has_failed out.old out.new) }
 {
     let mut lines = CellLines::new();

@@ -17,21 +17,21 @@ answered cells res read same none =
 pub returns-then-put_cells-clause-code : goal.returns-then-put_cells-clause-code
 returns-then-put_cells-clause-code c =
     let is = answered c.args.cells.now c.args.res (to_z w32 (of_z w32 c.args.res)) (to_z-of_z w32 c.args.res (search rules)) c.in-Ok.ensures.refused in
-    ap (λ b. if b then 0 else 14) (c.if-put_cells.ensures.fits _ (YieldsList-from_first (λ x. x) cells_left _ c.in-Ok.ensures.list))
+    ap (λ b. if b then 0 else 14) (c.if-put_cells.ensures.fits _ (YieldsList-from_first (λ x. x) cells_left _ c.in-Ok.ensures.list).runs)
     ∙ ap (λ l. list_code l (length c.args.out.now)) is
 
 pub returns-then-put_cells-clause-list : goal.returns-then-put_cells-clause-list
 returns-then-put_cells-clause-list c =
     let is = answered c.args.cells.now c.args.res (to_z w32 (of_z w32 c.args.res)) (to_z-of_z w32 c.args.res (search rules)) c.in-Ok.ensures.refused in
-    c.put_cells.ensures.put _ (YieldsList-from_first (λ x. x) cells_left _ c.in-Ok.ensures.list) ∙ ap (λ l. list_over l c.args.out.now) is
+    c.put_cells.ensures.put _ (YieldsList-from_first (λ x. x) cells_left _ c.in-Ok.ensures.list).runs ∙ ap (λ l. list_over l c.args.out.now) is
 
 pub returns-else-put_cells-clause-code : goal.returns-else-put_cells-clause-code
 returns-else-put_cells-clause-code c =
     let is = answered c.args.cells.now c.args.res (to_z w32 (of_z w32 c.args.res)) (to_z-of_z w32 c.args.res (search rules)) c.in-Ok.ensures.refused in
-    ap (λ b. if b then 0 else 14) (c.if-put_cells.ensures.fits _ (YieldsList-from_first (λ x. x) cells_left _ c.in-Ok.ensures.list))
+    ap (λ b. if b then 0 else 14) (c.if-put_cells.ensures.fits _ (YieldsList-from_first (λ x. x) cells_left _ c.in-Ok.ensures.list).runs)
     ∙ ap (λ l. list_code l (length c.args.out.now)) is
 
 pub returns-else-put_cells-clause-list : goal.returns-else-put_cells-clause-list
 returns-else-put_cells-clause-list c =
     let is = answered c.args.cells.now c.args.res (to_z w32 (of_z w32 c.args.res)) (to_z-of_z w32 c.args.res (search rules)) c.in-Ok.ensures.refused in
-    c.put_cells.ensures.put _ (YieldsList-from_first (λ x. x) cells_left _ c.in-Ok.ensures.list) ∙ ap (λ l. list_over l c.args.out.now) is
+    c.put_cells.ensures.put _ (YieldsList-from_first (λ x. x) cells_left _ c.in-Ok.ensures.list).runs ∙ ap (λ l. list_over l c.args.out.now) is

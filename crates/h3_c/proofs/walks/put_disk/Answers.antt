@@ -22,9 +22,9 @@ answered link cell k read same none =
 pub returns-in-Ok-clause-code : goal.returns-in-Ok-clause-code
 returns-in-Ok-clause-code c =
     let is = answered (link_of c.args.table.now) c.args.cell c.args.k (to_z w32 (of_z w32 c.args.k)) (to_z-of_z w32 c.args.k (search rules)) c.in-Ok.ensures.refused in
-    c.put_walk.ensures.code _ (YieldsList-from_first (λ x. x) disk_cells_left _ (ap (map without_ring) c.in-Ok.ensures.items)) ∙ ap (λ l. walk_code l (length c.args.out.now)) is
+    c.put_walk.ensures.code _ (YieldsList-from_first (λ x. x) disk_cells_left _ (ap (map without_ring) c.in-Ok.ensures.items)).runs ∙ ap (λ l. walk_code l (length c.args.out.now)) is
 
 pub returns-in-Ok-clause-put : goal.returns-in-Ok-clause-put
 returns-in-Ok-clause-put c =
     let is = answered (link_of c.args.table.now) c.args.cell c.args.k (to_z w32 (of_z w32 c.args.k)) (to_z-of_z w32 c.args.k (search rules)) c.in-Ok.ensures.refused in
-    c.put_walk.ensures.put _ (YieldsList-from_first (λ x. x) disk_cells_left _ (ap (map without_ring) c.in-Ok.ensures.items)) ∙ ap (λ l. walk_over l c.args.out.now) is
+    c.put_walk.ensures.put _ (YieldsList-from_first (λ x. x) disk_cells_left _ (ap (map without_ring) c.in-Ok.ensures.items)).runs ∙ ap (λ l. walk_over l c.args.out.now) is

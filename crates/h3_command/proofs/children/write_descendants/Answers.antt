@@ -11,4 +11,4 @@ returns-then-r-resolution g c = rw (own_line c.args.cell c.args.r (c.if-r-resolu
 pub returns-else-r-resolution : goal.returns-else-r-resolution
 returns-else-r-resolution g c =
     let parents = parents_left c.sibling_groups_at.result in
-    rw (ap cell_lines (sym c.sibling_groups_at.ensures.list) ∙ group_lines parents) (c.write_lines.ensures parents (YieldsList-from_first (λ x. x) parents_left parents refl))
+    rw (ap cell_lines (sym c.sibling_groups_at.ensures.list) ∙ group_lines parents) (c.write_lines.ensures parents (YieldsList-from_first (λ x. x) parents_left parents refl).runs)

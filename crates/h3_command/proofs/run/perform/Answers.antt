@@ -12,7 +12,7 @@ use Rattle.h3_command.proofs.run.perform.Goals as goal
 
 pub returns-in-GetRes0Cells-clause-ends : goal.returns-in-GetRes0Cells-clause-ends
 returns-in-GetRes0Cells-clause-ends g c =
-    rw c.in-GetRes0Cells.is (c.write_lines.ensures _ (YieldsList-from_first (λ x. x) base_cells_left _ c.get_res0_cells.ensures))
+    rw c.in-GetRes0Cells.is (c.write_lines.ensures _ (YieldsList-from_first (λ x. x) base_cells_left _ c.get_res0_cells.ensures).runs)
 
 pub returns-in_err-get_pentagons-in-GetPentagons-clause-ends : goal.returns-in_err-get_pentagons-in-GetPentagons-clause-ends
 returns-in_err-get_pentagons-in-GetPentagons-clause-ends g c =

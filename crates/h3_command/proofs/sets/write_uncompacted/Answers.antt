@@ -16,7 +16,7 @@ returns-in-Ok g c =
     let same : read ≡ c.args.res = to_z-of_z w32 c.args.res (search rules) in
     answered_value (λ cells. written (cell_lines cells)) _ _ (uncompacted cells (unsigned_abs read)) _ _ (ap (λ (z : ℤ). uncompacted cells (unsigned_abs z)) same)
     (c.in-Ok.ensures.refused ∙ ap (uncompact_refusal cells) same)
-    (c.write_lines.ensures _ (YieldsList-from_first (λ x. x) cells_left (uncompacted cells (unsigned_abs read)) c.in-Ok.ensures.list))
+    (c.write_lines.ensures _ (YieldsList-from_first (λ x. x) cells_left (uncompacted cells (unsigned_abs read)) c.in-Ok.ensures.list).runs)
 
 pub returns-in-Err : goal.returns-in-Err
 returns-in-Err g c =

@@ -7,4 +7,4 @@ use Rattle.h3_command.proofs.sets.write_united.Goals as goal
 pub returns : goal.returns
 returns g c =
     let same : c.copied.result.iter.rest.now ≡ compacted c.args.cells.now = search (rules, c.unite-count.ensures.is) in
-    rw (← same) (c.write_lines.ensures _ (YieldsList-from_copied (YieldsList-from_slice _ refl)))
+    rw (← same) (c.write_lines.ensures _ (YieldsList-from_copied (YieldsList-from_slice _ refl)).runs)

@@ -21,7 +21,7 @@ loop-item-preserved g c = record {
 pub returns-in_err-end : goal.returns-in_err-end
 returns-in_err-end g c all e =
     let so_far : Yields g.I.Iterator.next_gives c.into_iter-item-iterator.result c.loop-item.yielded c.loop-item.item-iterator = c.loop-item.yielded_by in
-    let split = split_at e _ c.into_iter-item-iterator.ensures.into_iter_gives _ _ so_far _ _ c.in-Some.ensures.steps in
+    let split = split_at g.I.Iterator.next_gives e _ c.into_iter-item-iterator.ensures.into_iter_gives _ _ so_far _ _ c.in-Some.ensures.steps in
     let p = err_from_is_err_and c.from_residual.result c.from_residual.ensures.1 in
     let out = sink_use g.W.Sink.taken g.W.Sink.has_failed c.loop-item.out c.make_room.new.out in
     rw (p.1, p.2) (held_ends (λ items. written (flat_map g.L.Line.line_of items)) g.W.Sink.taken g.W.Sink.has_failed c.args.out.now c.loop-item.out c.make_room.new.out c.loop-item.invariant.held all _ split c.loop-item.invariant.same _
@@ -30,7 +30,7 @@ returns-in_err-end g c all e =
 pub returns : goal.returns
 returns g c all e =
     let so_far : Yields g.I.Iterator.next_gives c.into_iter-item-iterator.result c.loop-item.yielded c.loop-item.item-iterator = c.loop-item.yielded_by in
-    let split = whole_at e _ c.into_iter-item-iterator.ensures.into_iter_gives _ _ so_far _ c.in-None.ensures.steps in
+    let split = whole_at g.I.Iterator.next_gives e _ c.into_iter-item-iterator.ensures.into_iter_gives _ _ so_far _ c.in-None.ensures.steps in
     let held = take c.loop-item.end c.loop-item.block in
     let out = sink_use g.W.Sink.taken g.W.Sink.has_failed c.loop-item.out c.write_answer.new.out in
     held_ends (λ items. written (flat_map g.L.Line.line_of items)) g.W.Sink.taken g.W.Sink.has_failed c.args.out.now c.loop-item.out c.write_answer.new.out c.loop-item.invariant.held all [] split c.loop-item.invariant.same _
