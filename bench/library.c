@@ -114,6 +114,18 @@ CALL(plain_zones_of_sorted, plain_cellsToZones(plain_ones, ZONES, sorted, N, out
 static uint32_t table[2 * ZONES];
 CALL(zones_by_table, h3w_cellsToZonesByTable(zones, ZONES, cells, N, table, 2 * ZONES, out, N, &at))
 CALL(zones_by_table_sorted, h3w_cellsToZonesByTable(zones, ZONES, sorted, N, table, 2 * ZONES, out, N, &at))
+/* in a table that is written once, in parts */
+static uint64_t zones_in_table(void) {
+    const size_t part = 240000;
+    size_t i;
+    H3Error error = E_SUCCESS;
+    h3w_zonesTable(zones, ZONES, table, 2 * ZONES);
+    for (i = 0; !error && i < N; i += part) {
+        size_t n = N - i < part ? N - i : part;
+        error = h3w_cellsToZonesInTable(zones, ZONES, cells + i, n, table, 2 * ZONES, out + i, n, &at);
+    }
+    return (uint64_t)error;
+}
 
 /* The counts of both sides are in the orders of their zones: the number of those without a zone is compared. */
 enum how { PLAIN, NEAR, BY_TABLE };
@@ -175,6 +187,8 @@ static const struct {
     {"cellsToZones of 10000000 cells in 100000 zones, from C", zones_of, plain_zones_of, NULL},
     {"cellsToZones of 10000000 cells in 100000 zones, ascending, from C", zones_of_sorted, plain_zones_of_sorted, NULL},
     {"cellsToZonesByTable of 10000000 cells in 100000 zones, from C", zones_by_table, plain_zones_of, NULL},
+    {"cellsToZonesInTable of 10000000 cells in 100000 zones, 240000 at a time, from C", zones_in_table, plain_zones_of,
+     NULL},
     {"cellsToZonesByTable of 10000000 cells in 100000 zones, ascending, from C", zones_by_table_sorted,
      plain_zones_of_sorted, NULL},
     {"countCellsInZones of 10000000 cells in 100000 zones, from C", count, plain_count, NULL},

@@ -292,6 +292,13 @@ def measure_columns(_):
     compare(name.format("Zones.of"), lambda: int(numpy.count_nonzero(zones.of(points))), searched)
     compare(name.format("Zones.count"), lambda: len(points) - zones.count(points).others, searched)
 
+    def in_chunks(size):
+        chunks = (points[start : start + size] for start in range(0, len(points), size))
+        return sum(int(numpy.count_nonzero(zones.of(chunk))) for chunk in chunks)
+
+    name = "numpy: Zones.of of 5000000 cells in 1440000, in chunks of 240000 / whole"
+    compare(name, lambda: in_chunks(240_000), lambda: in_chunks(len(points)))
+
 
 def main():
     subprocess.run([os.path.join(ROOT, "h3"), "--help"], stdout=subprocess.DEVNULL, check=True)

@@ -356,6 +356,23 @@ H3Error h3w_countCellsInZonesByTable(const H3Index *zones, size_t zoneCount, con
                                      uint32_t *table, size_t tableRoom, int64_t *counts, size_t room, int64_t *others,
                                      size_t *at);
 
+/* Writes the table of the zones into table[0..tableRoom), once for many calls of the functions below, as of a column
+ * that is looked up in parts. Any room may be given, as above. With room for fewer than two numbers, with no zones or
+ * with more than 2^32 - 1, nothing is written. It has no error. */
+void h3w_zonesTable(const H3Index *zones, size_t zoneCount, uint32_t *table, size_t tableRoom);
+
+/* The same, in the table that h3w_zonesTable has written of these zones with the same `tableRoom`. It is only read, so
+ * threads may share it. A table says where a search begins, and each answer is judged by the zones: with any numbers in
+ * it, as of other zones, of another room, or none that were written, what is returned and written is the same, and
+ * nothing is read or written outside of the arrays, but a cell may be searched for as without a table. */
+H3Error h3w_cellsToZonesInTable(const H3Index *zones, size_t zoneCount, const H3Index *cells, size_t n,
+                                const uint32_t *table, size_t tableRoom, H3Index *out, size_t room, size_t *at);
+H3Error h3w_areCoveredCellsInTable(const H3Index *zones, size_t zoneCount, const H3Index *cells, size_t n,
+                                   const uint32_t *table, size_t tableRoom, int *out, size_t room, size_t *at);
+H3Error h3w_countCellsInZonesInTable(const H3Index *zones, size_t zoneCount, const H3Index *cells, size_t n,
+                                     const uint32_t *table, size_t tableRoom, int64_t *counts, size_t room,
+                                     int64_t *others, size_t *at);
+
 /* ---- Columns: one call for n indexes. They are named as the plural commands of h3.
  *
  * The result for each index is written at its place in `out`; if the function of one index returns an error, that is

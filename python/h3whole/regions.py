@@ -41,20 +41,21 @@ _Cells = Union[Iterable[_Cell], "array[int]", memoryview, "CellSet[Any]"]
 
 _of_two_lists = (_array, _size, _array, _size, _array, _size, ctypes.POINTER(_size))
 _over_zones = (_array, _size, _array, _size, _array, _size, ctypes.POINTER(_size))
-_by_table = (_array, _size, _array, _size, _array, _size, _array, _size, ctypes.POINTER(_size))
+_in_table = (_array, _size, _array, _size, _array, _size, _array, _size, ctypes.POINTER(_size))
 _unite_cells = _library.number("uniteCells", _array, _size, _array, _size, ctypes.POINTER(_size))
 _intersect_cells = _library.number("intersectCells", *_of_two_lists)
 _subtract_cells = _library.number("subtractCells", *_of_two_lists)
 _zones = _library.number("zones", _array, _size, _array, _size)
-_cells_to_zones = _library.number("cellsToZones", *_over_zones), _library.number("cellsToZonesByTable", *_by_table)
+_zones_table = _library.value("zonesTable", None, _array, _size, _array, _size)
+_cells_to_zones = _library.number("cellsToZones", *_over_zones), _library.number("cellsToZonesInTable", *_in_table)
 _are_covered_cells = (
     _library.number("areCoveredCells", *_over_zones),
-    _library.number("areCoveredCellsByTable", *_by_table),
+    _library.number("areCoveredCellsInTable", *_in_table),
 )
 _counted = (_array, _size, ctypes.POINTER(_number), ctypes.POINTER(_size))
 _count_cells_in_zones = (
     _library.number("countCellsInZones", _array, _size, _array, _size, *_counted),
-    _library.number("countCellsInZonesByTable", _array, _size, _array, _size, _array, _size, *_counted),
+    _library.number("countCellsInZonesInTable", _array, _size, _array, _size, _array, _size, *_counted),
 )
 _Lookup = Tuple[Callable[..., int], Callable[..., int]]
 
@@ -67,16 +68,14 @@ def _at(items: "array[int]") -> Tuple[int, int]:
     return items.buffer_info()[0] if items else _NOWHERE.buffer_info()[0], len(items)
 
 
-def _look_up(functions: _Lookup, zones: "array[int]", address: int, count: int, *rest: Any) -> int:
-    """The error of a function over zones for so many cells: by a table where they are enough for it to pay."""
-    plain, by_table = functions
-    if count < 2 or count < len(zones) // 4:
-        return plain(*_at(zones), address, count, *rest)
+def _table_of(zones: "array[int]") -> "Optional[array[int]]":
+    """The table by which cells are looked up in zones; None where there is no memory for it."""
     try:
         table = array("I", bytes(4)) * (2 * len(zones))
     except MemoryError:
-        return plain(*_at(zones), address, count, *rest)
-    return by_table(*_at(zones), address, count, *_at(table), *rest)
+        return None
+    _zones_table(*_at(zones), *_at(table))
+    return table
 
 
 def _is_column(cells: Any) -> bool:
@@ -124,10 +123,16 @@ def _prepared(cells: Any) -> "array[int]":
 class CellSet(Generic[_Cell]):
     """What regions and zones share: cells, which have the form that `_index_of` takes and `_form_of` gives."""
 
-    __slots__ = ("_order",)
+    __slots__ = ("_asked", "_order", "_table")
 
     # the cells in the order in which the library looks cells up
     _order: "Optional[array[int]]"
+    # the table of these, once as many cells were asked about as make it pay; it is not pickled, and never copied
+    _table: "Optional[array[int]]"
+    _asked: int
+
+    def __init__(self, order: "Optional[array[int]]") -> None:
+        self._order, self._table, self._asked = order, None, 0
 
     @staticmethod
     def _index_of(cell: _Cell) -> int:
@@ -199,12 +204,30 @@ class CellSet(Generic[_Cell]):
             self._order = order = _prepared(self._ascending())
         return order
 
+    def _tabled(self, zones: "array[int]", count: int) -> "Optional[array[int]]":
+        """The table of the zones; None while too few cells were looked up for it to pay, with so many more now. Who
+        takes its address keeps it, as of `_looked_up`."""
+        if self._table is None:
+            self._asked += count
+            if self._asked > 1 and self._asked >= len(zones) // 4:
+                self._table = table = _table_of(zones)
+                return table
+        return self._table
+
+    def _look_up(self, functions: _Lookup, address: int, count: int, *rest: Any) -> int:
+        """The error of a function over zones for so many cells."""
+        zones = self._looked_up()
+        table = self._tabled(zones, count)
+        plain, in_table = functions
+        if table is None:
+            return plain(*_at(zones), address, count, *rest)
+        return in_table(*_at(zones), address, count, *_at(table), *rest)
+
     def _fill(self, functions: _Lookup, numbers: Any, typecode: str, missing: bool, is_truth: bool) -> Any:
         """What a function over zones writes for a column."""
-        zones = self._looked_up()
 
         def over_zones(*given: Any) -> int:
-            return _look_up(functions, zones, *given)
+            return self._look_up(functions, *given)
 
         return columns._fill_memory(over_zones, numbers, typecode, missing, is_truth=is_truth)
 
@@ -221,14 +244,15 @@ class CellRegion(CellSet[_Cell]):
     _cells: "array[int]"
 
     def __init__(self, cells: _Cells[_Cell] = ()) -> None:
-        self._order = None
+        super().__init__(None)
         self._cells = cells._cells if isinstance(cells, CellRegion) else _united(self._column_of(cells))
 
     @classmethod
     def _known(cls, cells: "array[int]") -> Any:
         """A region whose list the library has made."""
         region: CellRegion[_Cell] = cls.__new__(cls)
-        region._order, region._cells = None, cells
+        CellSet.__init__(region, None)
+        region._cells = cells
         return region
 
     def _ascending(self) -> "array[int]":
@@ -342,7 +366,7 @@ class CellZones(CellSet[_Cell]):
     _sorted: "Optional[array[int]]"
 
     def __init__(self, cells: _Cells[_Cell] = ()) -> None:
-        self._order = _prepared(self._column_of(cells))
+        super().__init__(_prepared(self._column_of(cells)))
         self._sorted = None
 
     def _ascending(self) -> "array[int]":
@@ -389,10 +413,10 @@ class CellZones(CellSet[_Cell]):
         return self._count(self._numbers_of(cells, missing), missing)
 
     def _count(self, numbers: Any, missing: bool) -> "Counts[_Cell]":
-        zones, counts, others, place = self._looked_up(), _room("q", len(self)), _number(), _size()
+        counts, others, place = _room("q", len(self)), _number(), _size()
         with columns._Memory(numbers) as given:
             rest = _at(counts) + (ctypes.byref(others), ctypes.byref(place))
-            number = _look_up(_count_cells_in_zones, zones, given.address, given.count, *rest)
+            number = self._look_up(_count_cells_in_zones, given.address, given.count, *rest)
             if number and not missing:
                 raise error_of(number, given.named(place.value))
             kept = _cells_among(given) if number else None

@@ -2,6 +2,7 @@
 is refused, want of memory, threads, parts, and speed."""
 
 import concurrent.futures
+import copy
 import gc
 import os
 import pickle
@@ -535,6 +536,69 @@ class Threads(unittest.TestCase):
         self.assertEqual(found, [[True, False, True, True]] * count)
         self.assertEqual(len(freed), count - 1)
         self.assertEqual(region.covers(asked), found[0])
+
+
+class Tables(unittest.TestCase):
+    """The table by which cells are looked up is written once, when enough were asked about, and kept."""
+
+    def setUp(self):
+        cells = integers.cell_to_children(int(CELL, 16), 7)
+        # (every second one, so that no siblings are complete)
+        self.zones, self.region = integers.Zones(cells[::2]), integers.Region(cells[::2])
+        self.column = array("Q", integers.cell_to_children(integers.cell_to_parent(int(CELL, 16), 3), 8)[::5])
+        write = mock.patch.object(regions, "_zones_table", wraps=regions._zones_table)
+        self.written = write.start()
+        self.addCleanup(write.stop)
+
+    def parts(self, length):
+        return [self.column[start : start + length] for start in range(0, len(self.column), length)]
+
+    def test_parts(self):
+        whole, counts = self.zones.of(self.column), self.zones.count(self.column)
+        covered = self.region.covers(self.column)
+        self.assertEqual(self.written.call_count, 2)
+        for length in (1, 10, 200, 2000):
+            zones, region = integers.Zones(self.zones), integers.Region(self.region)
+            before = self.written.call_count
+            self.assertEqual(sum(map(zones.of, self.parts(length)), array("Q")), whole)
+            self.assertEqual(sum(map(zones.count, self.parts(length)), zones.count([])), counts)
+            self.assertEqual(sum(map(region.covers, self.parts(length)), array("b")), covered)
+            self.assertEqual(self.written.call_count, before + 2)
+
+    def test_too_few(self):
+        count = len(self.zones) // 4
+        wanted = self.zones.of(self.column)[: count + 1]
+        zones = integers.Zones(self.zones)
+        self.written.reset_mock()
+        self.assertEqual(zones.of(self.column[: count - 1]), wanted[: count - 1])
+        self.written.assert_not_called()
+        self.assertEqual(zones.of(self.column[count - 1 : count + 1]), wanted[count - 1 :])
+        self.written.assert_called_once()
+
+    def test_pickled_and_copied_without(self):
+        for given in (self.zones, self.region):
+            ask = given.of if given is self.zones else given.covers
+            bare, wanted = pickle.dumps(given), ask(self.column)
+            self.assertIsNotNone(given._table)
+            self.assertEqual(pickle.dumps(given), bare)
+            for other in (pickle.loads(bare), copy.copy(given), copy.deepcopy(given), type(given)(given)):
+                self.assertEqual((other, other._table, other._asked), (given, None, 0))
+                self.assertEqual((other.of if given is self.zones else other.covers)(self.column), wanted)
+
+    def test_no_memory(self):
+        wanted = self.zones.of(self.column)
+        zones = integers.Zones(self.zones)
+        with mock.patch.object(regions, "_table_of", return_value=None):
+            self.assertEqual((zones.of(self.column), zones._table), (wanted, None))
+        self.assertEqual(zones.of(self.column), wanted)
+
+    def test_threads(self):
+        parts = self.parts(100)
+        wanted = list(map(integers.Zones(self.zones).of, parts))
+        with concurrent.futures.ThreadPoolExecutor(8) as threads:
+            for _ in range(5):
+                zones = integers.Zones(self.zones)
+                self.assertEqual(list(threads.map(zones.of, parts)), wanted)
 
 
 class Parts(unittest.TestCase):

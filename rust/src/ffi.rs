@@ -7,7 +7,11 @@
 //! pointer, and all may be called from any thread.
 
 use crate::{Cell, Error};
+use alloc::boxed::Box;
 use alloc::vec::Vec;
+use core::ptr;
+use core::slice;
+use core::sync::atomic::{AtomicPtr, AtomicUsize, Ordering};
 
 // (core has these types from Rust 1.64 on; the library is one for Unix systems of 64 bits)
 #[allow(non_camel_case_types)]
@@ -204,23 +208,24 @@ extern "C" {
         room: usize,
         at: &mut usize,
     ) -> u32;
-    fn h3w_cellsToZonesByTable(
+    fn h3w_zonesTable(zones: *const u64, zone_count: usize, table: *mut u32, table_room: usize);
+    fn h3w_cellsToZonesInTable(
         zones: *const u64,
         zone_count: usize,
         cells: *const u64,
         n: usize,
-        table: *mut u32,
+        table: *const u32,
         table_room: usize,
         out: *mut u64,
         room: usize,
         at: &mut usize,
     ) -> u32;
-    fn h3w_countCellsInZonesByTable(
+    fn h3w_countCellsInZonesInTable(
         zones: *const u64,
         zone_count: usize,
         cells: *const u64,
         n: usize,
-        table: *mut u32,
+        table: *const u32,
         table_room: usize,
         counts: *mut i64,
         room: usize,
@@ -426,8 +431,32 @@ fn over_lists(function: OverLists, first: &[Cell], second: &[Cell]) -> Result<Ve
 
 /// Cells as `h3w_zones` has written them, which the functions over zones take. None is made but
 /// here.
-#[derive(Clone, Default)]
-pub(crate) struct Order(Vec<Cell>);
+#[derive(Default)]
+pub(crate) struct Order {
+    cells: Vec<Cell>,
+    /// Null, or the first of the numbers of the table of these zones, `table_room` of them, which are
+    /// those of a box.
+    table: AtomicPtr<u32>,
+    /// How many cells have been looked up without a table.
+    asked: AtomicUsize,
+}
+
+impl Clone for Order {
+    /// The same zones, with no table yet.
+    fn clone(&self) -> Self {
+        Self::without_table(self.cells.clone())
+    }
+}
+
+impl Drop for Order {
+    fn drop(&mut self) {
+        let table = *self.table.get_mut();
+        if !table.is_null() {
+            // SAFETY: these are the numbers of a box, which nothing else has any more.
+            drop(unsafe { Box::from_raw(ptr::slice_from_raw_parts_mut(table, self.table_room())) });
+        }
+    }
+}
 
 impl Order {
     pub(crate) fn of(cells: &[Cell]) -> Result<Self, Error> {
@@ -437,41 +466,86 @@ impl Order {
             // room for `n` numbers, all of which are written where there is no error.
             (unsafe { h3w_zones(cells.as_ptr().cast(), n, out, n) }, n)
         })?;
-        Ok(Self(order))
+        Ok(Self::without_table(order))
+    }
+
+    fn without_table(cells: Vec<Cell>) -> Self {
+        Self {
+            cells,
+            table: AtomicPtr::default(),
+            asked: AtomicUsize::default(),
+        }
     }
 
     pub(crate) fn cells(&self) -> &[Cell] {
-        &self.0
+        &self.cells
     }
 
-    /// Memory for a table by which so many cells are looked up; none where it would not pay, or
-    /// where there is no memory for it.
-    fn table_for(&self, count: usize) -> Vec<u32> {
-        let mut table = Vec::new();
-        let room = self.0.len().saturating_mul(2);
-        if count > 1 && count >= self.0.len() / 4 && table.try_reserve_exact(room).is_ok() {
-            table.resize(room, 0);
+    /// How many numbers the table has.
+    fn table_room(&self) -> usize {
+        self.cells.len().saturating_mul(2)
+    }
+
+    /// The table, by which so many cells more are looked up: it is written once so many were that it
+    /// pays. None before, or where there is no memory for it.
+    fn table_for(&self, count: usize) -> Option<&[u32]> {
+        let table = self.table.load(Ordering::Acquire);
+        if !table.is_null() {
+            return Some(self.kept(table));
         }
-        table
+        let before = self.asked.fetch_add(count, Ordering::Relaxed);
+        let asked = before.saturating_add(count);
+        if asked < 2 || asked < self.cells.len() / 4 {
+            return None;
+        }
+        self.write_table()
+    }
+
+    /// The table that starts here.
+    fn kept(&self, table: *const u32) -> &[u32] {
+        // SAFETY: what `table` has once had that is not null stays as it is until this is dropped.
+        unsafe { slice::from_raw_parts(table, self.table_room()) }
+    }
+
+    /// Writes the table and keeps it, unless another thread was first.
+    fn write_table(&self) -> Option<&[u32]> {
+        let mut table = Vec::new();
+        table.try_reserve_exact(self.table_room()).ok()?;
+        table.resize(self.table_room(), 0);
+        let (zones, zone_count) = (self.cells.as_ptr().cast(), self.cells.len());
+        // SAFETY: the zones are those of `h3w_zones`, all of them, and the table is passed with its
+        // length.
+        unsafe { h3w_zonesTable(zones, zone_count, table.as_mut_ptr(), table.len()) };
+        let made = Box::into_raw(table.into_boxed_slice());
+        let (empty, new) = (ptr::null_mut(), made.cast::<u32>());
+        match (self.table).compare_exchange(empty, new, Ordering::AcqRel, Ordering::Acquire) {
+            Ok(_) => Some(self.kept(new)),
+            Err(first) => {
+                // SAFETY: this is the box that was made here, which nothing else has.
+                drop(unsafe { Box::from_raw(made) });
+                Some(self.kept(first))
+            }
+        }
     }
 
     /// Writes the zone of each cell at its place. `MemoryBounds` where `out` is shorter.
     pub(crate) fn zones_of(&self, cells: &[Cell], out: &mut [Option<Cell>]) -> Result<(), Error> {
-        let (zones, zone_count) = (self.0.as_ptr().cast(), self.0.len());
+        let (zones, zone_count) = (self.cells.as_ptr().cast(), self.cells.len());
         let (numbers, n) = (cells.as_ptr().cast(), cells.len());
         let (places, room) = (out.as_mut_ptr().cast(), out.len());
-        let (mut table, mut at) = (self.table_for(n), 0);
+        let mut at = 0;
         // SAFETY: the zones are those of `h3w_zones`, all of them. A `Cell` is a number, each slice
         // is passed with its length, and `at` is one place. What is written is the index of a cell,
         // or 0, which is `None`: a `Cell` is a `NonZeroU64`.
         checked(unsafe {
-            if table.is_empty() {
-                h3w_cellsToZones(zones, zone_count, numbers, n, places, room, &mut at)
-            } else {
-                let (table, size) = (table.as_mut_ptr(), table.len());
-                h3w_cellsToZonesByTable(
-                    zones, zone_count, numbers, n, table, size, places, room, &mut at,
-                )
+            match self.table_for(n) {
+                None => h3w_cellsToZones(zones, zone_count, numbers, n, places, room, &mut at),
+                Some(table) => {
+                    let (table, size) = (table.as_ptr(), table.len());
+                    h3w_cellsToZonesInTable(
+                        zones, zone_count, numbers, n, table, size, places, room, &mut at,
+                    )
+                }
             }
         })
     }
@@ -479,14 +553,14 @@ impl Order {
     /// Writes the count of each zone at its place, and returns how many cells have none.
     /// `MemoryBounds` where `counts` is shorter than the zones are many.
     pub(crate) fn count(&self, cells: &[Cell], counts: &mut [i64]) -> Result<i64, Error> {
-        let (zones, zone_count) = (self.0.as_ptr().cast(), self.0.len());
+        let (zones, zone_count) = (self.cells.as_ptr().cast(), self.cells.len());
         let (numbers, n) = (cells.as_ptr().cast(), cells.len());
         let (places, room) = (counts.as_mut_ptr(), counts.len());
-        let (mut table, mut others, mut at) = (self.table_for(n), 0, 0);
+        let (mut others, mut at) = (0, 0);
         // SAFETY: as of `zones_of`; `others` is one place.
         checked(unsafe {
-            if table.is_empty() {
-                h3w_countCellsInZones(
+            match self.table_for(n) {
+                None => h3w_countCellsInZones(
                     zones,
                     zone_count,
                     numbers,
@@ -495,21 +569,19 @@ impl Order {
                     room,
                     &mut others,
                     &mut at,
-                )
-            } else {
-                let (table, size) = (table.as_mut_ptr(), table.len());
-                h3w_countCellsInZonesByTable(
+                ),
+                Some(table) => h3w_countCellsInZonesInTable(
                     zones,
                     zone_count,
                     numbers,
                     n,
-                    table,
-                    size,
+                    table.as_ptr(),
+                    table.len(),
                     places,
                     room,
                     &mut others,
                     &mut at,
-                )
+                ),
             }
         })?;
         Ok(others)

@@ -218,3 +218,45 @@ fn shared() {
         }
     });
 }
+
+/// A column in parts, of one cell and of more, from one thread and from several at once: the answers are
+/// those of the whole, before a table is kept and with it. A clone has its own.
+#[test]
+fn parts_in_zones_that_keep_a_table() {
+    let zones = cell(CELL).children_vec(Resolution::Seven).unwrap();
+    let column: Vec<Cell> = cell(0x832834fffffffff)
+        .children(Resolution::Eight)
+        .unwrap()
+        .step_by(7)
+        .collect();
+    let zones = Zones::new(&zones).unwrap();
+    let at_once = zones.clone();
+    let whole = at_once.zones_of(&column).unwrap();
+    let counts = at_once.count(&column).unwrap();
+    for length in [1, 3, 100] {
+        let zones = zones.clone();
+        let mut found = Vec::new();
+        let (mut others, mut sum) = (0, 0);
+        for part in column.chunks(length) {
+            found.extend(zones.zones_of(part).unwrap());
+            let counts = zones.count(part).unwrap();
+            others += counts.others();
+            sum += counts.iter().map(|(_, count)| count).sum::<u64>();
+        }
+        assert_eq!(found, whole);
+        assert_eq!(
+            (others, others + sum),
+            (counts.others(), column.len() as u64)
+        );
+    }
+    std::thread::scope(|scope| {
+        for _ in 0..4 {
+            scope.spawn(|| assert_eq!(zones.zones_of(&column).unwrap(), whole));
+        }
+    });
+    let region: Region = zones.iter().collect();
+    assert!(column
+        .iter()
+        .zip(&whole)
+        .all(|(cell, zone)| region.contains(*cell) == zone.is_some()));
+}

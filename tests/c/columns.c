@@ -151,6 +151,20 @@ static H3Error zones_by_table(const H3Index *indexes, size_t n, int res, H3Index
     (void)res;
     return h3w_cellsToZonesByTable(zones, zone_count, indexes, n, table, size, out, room, at);
 }
+/* Such a table, with what is written of the zones, or with other numbers. */
+static const uint32_t *written(size_t *size) {
+    uint32_t *table = lent(size);
+    size_t i;
+    for (i = 0; i < *size; i++) table[i] = turn % 2 ? UINT32_MAX - (uint32_t)i : (uint32_t)(turn / 2 * i);
+    if (turn % 3 == 0) h3w_zonesTable(zones, zone_count, table, *size);
+    return table;
+}
+static H3Error zones_in_table(const H3Index *indexes, size_t n, int res, H3Index *out, size_t room, size_t *at) {
+    size_t size;
+    const uint32_t *table = written(&size);
+    (void)res;
+    return h3w_cellsToZonesInTable(zones, zone_count, indexes, n, table, size, out, room, at);
+}
 static int is_covered(H3Index cell) {
     H3Index zone = H3_NULL;
     return zone_of(cell, 0, &zone) == E_SUCCESS && zone != H3_NULL;
@@ -163,17 +177,24 @@ static H3Error are_covered_by_table(const H3Index *indexes, size_t n, int *out, 
     uint32_t *table = lent(&size);
     return h3w_areCoveredCellsByTable(zones, zone_count, indexes, n, table, size, out, room, at);
 }
+static H3Error are_covered_in_table(const H3Index *indexes, size_t n, int *out, size_t room, size_t *at) {
+    size_t size;
+    const uint32_t *table = written(&size);
+    return h3w_areCoveredCellsInTable(zones, zone_count, indexes, n, table, size, out, room, at);
+}
 
 /* The cells of the column. */
 static H3Index valid[N];
 static size_t valid_count;
 
-/* Counts are written where there is room for one of each zone and no error, and only then, with a table and without. */
-static void counted(const H3Index *indexes, size_t n, size_t room, int by_table) {
+/* Counts are written where there is room for one of each zone and no error, and only then, without a table, by
+ * one and in one. */
+enum how { NEAR, BY_TABLE, IN_TABLE };
+static void counted(const H3Index *indexes, size_t n, size_t room, enum how how) {
     int64_t counts[10], others = KEPT, wanted[10], none = 0;
     size_t at = KEPT, place = 0, i, j, size;
-    uint32_t *table = lent(&size);
-    H3Error error;
+    H3Error error, found;
+    uint32_t *table;
     for (i = 0; i < 10; i++) counts[i] = KEPT, wanted[i] = i < zone_count ? 0 : KEPT;
     for (i = 0; i < n; i++) {
         H3Index zone = H3_NULL;
@@ -183,9 +204,22 @@ static void counted(const H3Index *indexes, size_t n, size_t room, int by_table)
     }
     while (place < n && h3w_isValidCell(indexes[place])) place++;
     error = room < zone_count ? E_MEMORY_BOUNDS : place < n ? E_CELL_INVALID : E_SUCCESS;
-    CHECK((by_table
-               ? h3w_countCellsInZonesByTable(zones, zone_count, indexes, n, table, size, counts, room, &others, &at)
-               : h3w_countCellsInZones(zones, zone_count, indexes, n, counts, room, &others, &at)) == error);
+    switch (how) {
+        case NEAR:
+            found = h3w_countCellsInZones(zones, zone_count, indexes, n, counts, room, &others, &at);
+            break;
+        case BY_TABLE:
+            table = lent(&size);
+            found =
+                h3w_countCellsInZonesByTable(zones, zone_count, indexes, n, table, size, counts, room, &others, &at);
+            break;
+        default: {
+            const uint32_t *ready = written(&size);
+            found =
+                h3w_countCellsInZonesInTable(zones, zone_count, indexes, n, ready, size, counts, room, &others, &at);
+        }
+    }
+    CHECK(found == error);
     CHECK(at == (error == E_MEMORY_BOUNDS ? KEPT : place) && others == (error ? KEPT : none));
     for (i = 0; i < 10; i++) CHECK(counts[i] == (error ? KEPT : wanted[i]));
 }
@@ -230,14 +264,17 @@ int main(void) {
         for (j = 0; j <= ROOM(tables); j++) {
             cells(zones_by_table, zone_of, 0, lengths[i]);
             numbers(are_covered_by_table, is_covered, of_cell, lengths[i]);
+            cells(zones_in_table, zone_of, 0, lengths[i]);
+            numbers(are_covered_in_table, is_covered, of_cell, lengths[i]);
         }
         for (j = zone_count - 1; j < zone_count + 2; j++) {
-            counted(column, lengths[i], j, 0);
-            counted(valid, lengths[i] < valid_count ? lengths[i] : valid_count, j, 0);
+            counted(column, lengths[i], j, NEAR);
+            counted(valid, lengths[i] < valid_count ? lengths[i] : valid_count, j, NEAR);
         }
         for (j = 0; j <= 2 * ROOM(tables); j++) {
-            counted(column, lengths[i], zone_count - 1 + j % 3, 1);
-            counted(valid, lengths[i] < valid_count ? lengths[i] : valid_count, zone_count - 1 + j % 3, 1);
+            enum how how = j % 2 ? BY_TABLE : IN_TABLE;
+            counted(column, lengths[i], zone_count - 1 + j % 3, how);
+            counted(valid, lengths[i] < valid_count ? lengths[i] : valid_count, zone_count - 1 + j % 3, how);
         }
         for (j = 0; j < ROOM(no_resolutions); j++) no_resolution(no_resolutions[j], lengths[i]);
         for (j = 0; j < ROOM(resolutions); j++) {

@@ -154,6 +154,13 @@ static void expect_lookups(void) {
           zones[342] == cells[342]);
     CHECK(h3w_countCellsInZonesByTable(out, 343, cells, 343, table, 686, counts, 343, &others, &at) == E_SUCCESS &&
           others == 0 && counts[0] == 1 && counts[342] == 1);
+    h3w_zonesTable(out, 343, table, 686);
+    CHECK(h3w_areCoveredCellsInTable(out, 343, cells, 343, table, 686, truths, 343, &at) == E_SUCCESS &&
+          truths[342] == 1);
+    CHECK(h3w_cellsToZonesInTable(out, 343, cells, 343, table, 686, zones, 343, &at) == E_SUCCESS &&
+          zones[342] == cells[342]);
+    CHECK(h3w_countCellsInZonesInTable(out, 343, cells, 343, table, 686, counts, 343, &others, &at) == E_SUCCESS &&
+          others == 0 && counts[0] == 1 && counts[342] == 1);
     CHECK(made == 0);
 }
 

@@ -207,19 +207,49 @@ static size_t zone_of(const H3Index *zones, size_t n, H3Index cell) {
     return i;
 }
 
-/* The same answers by a table of a random size. */
+/* What the functions over zones write, by a table or in one. */
+static H3Index by_table[CELLS];
+static int covered_by_table[CELLS];
+static int64_t counts_by_table[LIST + 1], others_by_table;
+
+static void expect_same(const H3Index *wanted, const int *wanted_truths, const int64_t *wanted_counts, size_t n) {
+    CHECK(!memcmp(by_table, wanted, sizeof by_table));
+    CHECK(!memcmp(covered_by_table, wanted_truths, sizeof covered_by_table));
+    CHECK(!memcmp(counts_by_table, wanted_counts, n * sizeof *wanted_counts) && others_by_table == wanted_counts[n]);
+}
+
+static void look_up_in(const H3Index *zones, size_t n, const H3Index *column, const uint32_t *table, size_t size) {
+    size_t at = 77;
+    CHECK(!h3w_cellsToZonesInTable(zones, n, column, CELLS, table, size, by_table, CELLS, &at) && at == CELLS);
+    CHECK(!h3w_areCoveredCellsInTable(zones, n, column, CELLS, table, size, covered_by_table, CELLS, &at) &&
+          at == CELLS);
+    CHECK(!h3w_countCellsInZonesInTable(zones, n, column, CELLS, table, size, counts_by_table, n, &others_by_table,
+                                        &at) &&
+          at == CELLS);
+}
+
+/* The same answers by a table of a random size, in it when it is written, and in what is no table of the zones: in
+ * another room, and with random numbers, all of them or some. */
 static void look_up_by_table(const H3Index *zones, size_t n, const H3Index *column, const H3Index *wanted,
                              const int *wanted_truths, const int64_t *wanted_counts) {
-    static uint32_t table[4 * LIST];
-    static H3Index out[CELLS];
-    static int covered[CELLS];
-    int64_t counts[LIST + 1], others = 77;
-    size_t at = 77, size = below(4 * LIST + 1);
-    CHECK(!h3w_cellsToZonesByTable(zones, n, column, CELLS, table, size, out, CELLS, &at) && at == CELLS);
-    CHECK(!h3w_areCoveredCellsByTable(zones, n, column, CELLS, table, size, covered, CELLS, &at) && at == CELLS);
-    CHECK(!h3w_countCellsInZonesByTable(zones, n, column, CELLS, table, size, counts, n, &others, &at) && at == CELLS);
-    CHECK(!memcmp(out, wanted, sizeof out) && !memcmp(covered, wanted_truths, sizeof covered));
-    CHECK(!memcmp(counts, wanted_counts, n * sizeof *counts) && others == wanted_counts[n]);
+    static uint32_t table[4 * LIST], copy[4 * LIST];
+    size_t at = 77, size = below(4 * LIST + 1), i, how;
+    for (i = 0; i < 4 * LIST; i++) table[i] = copy[i] = (uint32_t)i;
+    CHECK(!h3w_cellsToZonesByTable(zones, n, column, CELLS, table, size, by_table, CELLS, &at) && at == CELLS);
+    CHECK(!h3w_areCoveredCellsByTable(zones, n, column, CELLS, table, size, covered_by_table, CELLS, &at));
+    CHECK(!h3w_countCellsInZonesByTable(zones, n, column, CELLS, table, size, counts_by_table, n, &others_by_table,
+                                        &at) &&
+          at == CELLS);
+    expect_same(wanted, wanted_truths, wanted_counts, n);
+    h3w_zonesTable(zones, n, copy, size);
+    CHECK(!memcmp(copy, table, sizeof copy));
+    CHECK(size < 2 || n == 0 || (copy[0] == 0 && copy[1] >= 1));
+    for (how = 0; how < 4; how++) {
+        look_up_in(zones, n, column, copy, how == 1 ? below(4 * LIST + 1) : size);
+        expect_same(wanted, wanted_truths, wanted_counts, n);
+        for (i = 0; how > 0 && i < 4 * LIST; i++)
+            if (how > 1 || below(3) == 0) copy[i] = (uint32_t)(below(2) ? below(LIST) : below(1000) * 4294967U);
+    }
 }
 
 /* All cells are looked up, and counted in two parts and in one, in random order. */

@@ -9,13 +9,16 @@
 
 static H3Index cells[N];
 
-/* every seventh cell, as zones that all threads look cells up in */
+/* every seventh cell, as zones that all threads look cells up in, with one table */
 static H3Index zones[N / 7];
+static uint32_t table[2 * (N / 7)];
 
 static int are_looked_up(H3Index *out) {
     int64_t counts[N / 7], others = 0;
     size_t at = 0, count = 0, i;
     int holds = !h3w_cellsToZones(zones, N / 7, cells, N, out, N, &at) && at == N;
+    for (i = 0; holds && i < N; i++) holds = out[i] == (i % 7 ? H3_NULL : cells[i]);
+    holds = holds && !h3w_cellsToZonesInTable(zones, N / 7, cells, N, table, 2 * (N / 7), out, N, &at) && at == N;
     for (i = 0; holds && i < N; i++) holds = out[i] == (i % 7 ? H3_NULL : cells[i]);
     holds = holds && !h3w_countCellsInZones(zones, N / 7, cells, N, counts, N / 7, &others, &at) &&
             others == N - N / 7 && counts[0] == 1 && counts[N / 7 - 1] == 1;
@@ -49,6 +52,7 @@ int main(void) {
     CHECK(h3w_cellToChildren(0x85283473fffffffU, 9, cells, N) == E_SUCCESS);
     for (i = 0; i < N / 7; i++) chosen[i] = cells[7 * i];
     CHECK(h3w_zones(chosen, N / 7, zones, N / 7) == E_SUCCESS);
+    h3w_zonesTable(zones, N / 7, table, 2 * (N / 7));
     for (i = 0; i < THREADS; i++) CHECK(pthread_create(&threads[i], NULL, calls, cells) == 0);
     for (i = 0; i < THREADS; i++) {
         void *own = NULL;

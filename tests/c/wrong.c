@@ -220,6 +220,31 @@ static void regions(void) {
     free(none);
 }
 
+/* In a table the errors are the same, in their order. */
+static void zones_in_table(const H3Index *ready, const H3Index *none) {
+    H3Index *out = places(2), cells[2] = {HEXAGON, 5};
+    uint32_t *table = (uint32_t *)malloc(4 * sizeof *table), *no_table = (uint32_t *)malloc(1);
+    int64_t counts[2] = {77, 77}, others = 77;
+    int truths[2] = {77, 77};
+    size_t at = 9;
+    if (!table || !no_table) exit(2);
+    h3w_zonesTable(none, 0, no_table, 0);
+    h3w_zonesTable(ready, 2, table, 4);
+    CHECK(h3w_cellsToZonesInTable(ready, 2, cells, 2, table, 4, out, 1, &at) == E_MEMORY_BOUNDS);
+    CHECK(h3w_areCoveredCellsInTable(ready, 2, cells, 2, table, 4, truths, 1, &at) == E_MEMORY_BOUNDS);
+    CHECK(h3w_countCellsInZonesInTable(ready, 2, cells, 2, table, 4, counts, 1, &others, &at) == E_MEMORY_BOUNDS);
+    CHECK(are_kept(out, 2) && truths[0] == 77 && counts[0] == 77 && others == 77 && at == 9);
+    CHECK(h3w_countCellsInZonesInTable(ready, 2, cells, 2, table, 4, counts, 2, &others, &at) == E_CELL_INVALID);
+    CHECK(at == 1 && counts[0] == 77 && counts[1] == 77 && others == 77);
+    CHECK(h3w_cellsToZonesInTable(ready, 2, cells, 2, table, 4, out, 2, &at) == E_CELL_INVALID && at == 1);
+    CHECK(h3w_areCoveredCellsInTable(ready, 2, cells, 2, table, 4, truths, 2, &at) == E_CELL_INVALID && at == 1);
+    CHECK(out[0] == HEXAGON && out[1] == H3_NULL && truths[0] == 1 && truths[1] == -1);
+    CHECK(h3w_cellsToZonesInTable(none, 0, cells, 1, no_table, 0, out, 1, &at) == E_SUCCESS && out[0] == H3_NULL);
+    free(no_table);
+    free(table);
+    free(out);
+}
+
 /* Zones may not overlap; the room is judged first, and an index before an overlap. */
 static void zones(void) {
     static const H3Index overlap[] = {HEXAGON, 0x8428347ffffffffU}, last[] = {HEXAGON, HEXAGON, 5};
@@ -254,6 +279,7 @@ static void zones(void) {
         CHECK(h3w_areCoveredCells(ready, 2, cells, 2, truths, 2, &at) == E_CELL_INVALID && at == 1);
         CHECK(truths[0] == 1 && truths[1] == -1);
     }
+    zones_in_table(ready, none);
     /* no zones, and no cells */
     CHECK(h3w_cellsToZones(none, 0, cells, 1, out, 1, &at) == E_SUCCESS && at == 1 && out[0] == H3_NULL);
     CHECK(h3w_countCellsInZones(none, 0, cells, 1, counts, 0, &others, &at) == E_SUCCESS && others == 1);

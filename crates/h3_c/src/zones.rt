@@ -8,6 +8,7 @@ ghost use Rattle.h3_functions.specs.Hierarchy.{unless};
 ghost use Rattle.h3_set.specs.Coverage.{is_covered};
 ghost use Rattle.h3_set.specs.Refusals.{compaction_refusal};
 ghost use Rattle.h3_regions.specs.Counts.{AreCounts};
+ghost use Rattle.h3_regions.specs.FirstPlaces.{IsTableOf};
 ghost use Rattle.h3_regions.specs.Zones.{IsZones, zone_of};
 ghost use Rattle.h3_c.specs.Columns.{column_code, column_over, first_code, first_place, place_over};
 ghost use Rattle.h3_c.specs.Lists.{indexes, laid_over};
@@ -22,7 +23,10 @@ use h3_functions::cell_from;
 use h3_index::laws::numbers_are_read;
 use h3_index::{Cell, H3Error};
 use h3_regions::laws::zones_are_lawful;
-use h3_regions::{ZoneIndex, Zones, count_next, count_next_indexed, find_overlap, order_zones};
+use h3_regions::{
+    TabledZones, ZoneIndex, Zones, count_next, count_next_indexed, count_next_tabled, find_overlap,
+    order_zones, write_table,
+};
 use std::alloc::Global;
 
 /// Puts the indexes of cells, in the order of zones, into the first slots. Returns 0, or the number
@@ -60,11 +64,22 @@ pub extern "C" fn h3w_zones(alloc: Global, cells: &[u64], zones: &mut [u64]) -> 
     put_zones(zones, &mut cells)
 }
 
-/// Zones in which cells are looked up: each from where the last one was found, or by a table.
+/// Writes the table of zones, by which the functions `..InTable` look cells up.
+#[unsafe(no_mangle)]
+pub extern "C" fn h3w_zonesTable(zones: &[Cell], table: &mut [u32])
+    requires { IsZones zones.now }
+    ensures { IsTableOf zones.now table.old table.new }
+{
+    write_table(&Zones::over(zones), table);
+}
+
+/// Zones in which cells are looked up: each from where the last one was found, by a table that is
+/// written for the call, or in one that was written before.
 #[derive(Drop)]
 enum Lookup<'a> {
     Near(Zones<'a>),
     ByTable(ZoneIndex<'a>),
+    InTable(TabledZones<'a>),
 }
 
 impl<'a> Lookup<'a> {
@@ -76,6 +91,7 @@ impl<'a> Lookup<'a> {
         match self {
             Lookup::Near(zones) => zones.zone_near(cell, place),
             Lookup::ByTable(index) => index.zone_of(cell),
+            Lookup::InTable(tabled) => tabled.zone_of(cell),
         }
     }
 
@@ -98,6 +114,7 @@ impl<'a> Lookup<'a> {
         match self {
             Lookup::Near(zones) => count_next(zones, cell, counts, others, place),
             Lookup::ByTable(index) => count_next_indexed(index, cell, counts, others),
+            Lookup::InTable(tabled) => count_next_tabled(tabled, cell, counts, others),
         }
     }
 }
@@ -164,6 +181,29 @@ pub extern "C" fn h3w_cellsToZonesByTable(
     fill(&ZonesOf { zones }, cells, NULL, out, at)
 }
 
+/// `h3w_cellsToZones` in a table that was written before, whatever it holds.
+#[unsafe(no_mangle)]
+pub extern "C" fn h3w_cellsToZonesInTable(
+    zones: &[Cell],
+    cells: &[u64],
+    table: &[u32],
+    out: &mut [u64],
+    at: &mut usize,
+) -> u32
+    requires { IsZones zones.now }
+    ensures code { result
+        ≡ column_code (map (λ h. cell_to_zone zones.now h) cells.now) (length out.old) }
+    ensures values { out.new
+        ≡ column_over 0 (map (λ h. cell_to_zone zones.now h) cells.now) out.old }
+    ensures place { at.new
+        ≡ place_over (map (λ h. cell_to_zone zones.now h) cells.now) (length out.old) at.old }
+{
+    let in_table = ZonesOf {
+        zones: Lookup::InTable(TabledZones::over(&Zones::over(zones), table)),
+    };
+    fill(&in_table, cells, NULL, out, at)
+}
+
 /// Whether the zones cover a cell, for each index of a column.
 #[derive(Drop)]
 struct CoveredBy<'a> {
@@ -222,6 +262,29 @@ pub extern "C" fn h3w_areCoveredCellsByTable(
 {
     let zones = Lookup::ByTable(ZoneIndex::of(&Zones::over(zones), table));
     fill(&CoveredBy { zones }, cells, NO_NUMBER, out, at)
+}
+
+/// `h3w_areCoveredCells` in a table that was written before, whatever it holds.
+#[unsafe(no_mangle)]
+pub extern "C" fn h3w_areCoveredCellsInTable(
+    zones: &[Cell],
+    cells: &[u64],
+    table: &[u32],
+    out: &mut [i32],
+    at: &mut usize,
+) -> u32
+    requires { IsZones zones.now }
+    ensures code { result ≡ column_code
+        (map (λ h. truth_of (is_covered_cell zones.now h)) cells.now) (length out.old) }
+    ensures values { out.new ≡ column_over (negsuc 0)
+        (map (λ h. truth_of (is_covered_cell zones.now h)) cells.now) out.old }
+    ensures place { at.new ≡ place_over
+        (map (λ h. truth_of (is_covered_cell zones.now h)) cells.now) (length out.old) at.old }
+{
+    let in_table = CoveredBy {
+        zones: Lookup::InTable(TabledZones::over(&Zones::over(zones), table)),
+    };
+    fill(&in_table, cells, NO_NUMBER, out, at)
 }
 
 /// Looks for the first index that is no cell's. Returns the number of its error, and puts its place
@@ -347,6 +410,30 @@ pub extern "C" fn h3w_countCellsInZonesByTable(
 {
     let lookup = Lookup::ByTable(ZoneIndex::of(&Zones::over(zones), table));
     count_judged(&lookup, zones.len(), cells, counts, others, at)
+}
+
+/// `h3w_countCellsInZones` in a table that was written before, whatever it holds.
+#[unsafe(no_mangle)]
+pub extern "C" fn h3w_countCellsInZonesInTable(
+    zones: &[Cell],
+    cells: &[u64],
+    table: &[u32],
+    counts: &mut [u64],
+    others: &mut u64,
+    at: &mut usize,
+) -> u32
+    requires { IsZones zones.now }
+    ensures code { result ≡ counts_code zones.now cells.now (length counts.old) }
+    ensures counts { counts.new ≡ counts_over zones.now cells.now counts.old }
+    ensures others { others.new
+        ≡ others_over zones.now cells.now (length counts.old) others.old }
+    ensures place { at.new ≡ counts_place zones.now cells.now (length counts.old) at.old }
+    ensures cells { result ≡ 0 → cells_in cells.now ≢ None }
+    ensures all { result ≡ 0 →
+        sum (take (length zones.now) counts.new) + others.new ≡ length cells.now }
+{
+    let in_table = Lookup::InTable(TabledZones::over(&Zones::over(zones), table));
+    count_judged(&in_table, zones.len(), cells, counts, others, at)
 }
 
 /// The first cell of a list that overlaps an earlier one, and the first cell that it overlaps, by

@@ -40,10 +40,10 @@ fn may_name_cells(words: &Vec<String>) -> bool {
 
 /// What the words of a command line ask for; `None` where they are not those of a command.
 fn asked_for(alloc: Global, words: &Vec<String>) -> Result<Option<Words>, Refusal> {
-    let words = words.clone().map_err(|_| Refusal::Memory)?;
+    let words = words.clone().map_err(|_| Refusal::Fault(Fault::Memory))?;
     match read_words(alloc, words) {
         Ok(asked) => Ok(Some(asked)),
-        Err(WordsFault::Memory) => Err(Refusal::Memory),
+        Err(WordsFault::Memory) => Err(Refusal::Fault(Fault::Memory)),
         Err(_) => Ok(None),
     }
 }

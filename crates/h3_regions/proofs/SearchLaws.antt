@@ -76,8 +76,8 @@ module _ (cells : List Address) (region : IsZones cells) where
         le-leb k r (omega (arith, le, r_is, ap key is))),
   )
 
-  -- one step of a search: h places on, where the cell there has a key below k
-  pub narrowed : (k first size h passed : ℕ) (a : Address) → h + h ≤ size → h < size → first + size ≤ length cells → a ≡ get_or cells (first + h) a → passed ≡ from_bool (nat_lt (key a) k) → AreBelow cells k first → AreNotBelow cells k (first + size) → (first + h * passed + (size - h) ≤ length cells) × AreBelow cells k (first + h * passed) × AreNotBelow cells k (first + h * passed + (size - h))
+  -- one step of a search: h places on, where the cell there has a key below k; what is sought is between, if it was at first
+  pub narrowed : {A : Type 0} (k first size h passed : ℕ) (a : Address) → h + h ≤ size → h < size → first + size ≤ length cells → a ≡ get_or cells (first + h) a → passed ≡ from_bool (nat_lt (key a) k) → (A → AreBelow cells k first) → (A → AreNotBelow cells k (first + size)) → (first + h * passed + (size - h) ≤ length cells) × (A → AreBelow cells k (first + h * passed)) × (A → AreNotBelow cells k (first + h * passed + (size - h)))
   narrowed k first size h passed a half some room is p below after =
       elim (cases_lt (key a) k) [
         | inl less ↦
@@ -85,13 +85,13 @@ module _ (cells : List Address) (region : IsZones cells) where
             let at : first + h * passed ≡ first + h = rw one (omega arith) in
             let end : first + h * passed + (size - h) ≡ first + size = rw one (omega (arith, some)) in
             let more = below_from_last k (first + h + 1) a (omega arith) (omega (arith, some, room)) (rw (sub_one first h) (omega (arith, less, ap key is))) in
-            (omega (arith, end, room), rw at (λ j d from lt. more j d from (omega (arith, lt))), rw end after)
+            (omega (arith, end, room), λ so. rw at (λ j d from lt. more j d from (omega (arith, lt))), λ so. rw end (after so))
         | inr not ↦
             let none : passed ≡ 0 = p ∙ ap from_bool (less_is_not (key a) k not) in
             let at : first + h * passed ≡ first = rw none (omega arith) in
             let end : first + h * passed + (size - h) ≡ first + (size - h) = rw none (omega arith) in
             let more = not_below_from k (first + h) a (omega (arith, not, ap key is)) in
-            (omega (arith, end, room), rw at below, rw end (λ j d from lt. more j d (omega (arith, from, half)) lt))
+            (omega (arith, end, room), λ so. rw at (below so), λ so. rw end (λ j d from lt. more j d (omega (arith, from, half)) lt))
       ]
 
   -- one more is looked at

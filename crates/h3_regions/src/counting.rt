@@ -7,6 +7,7 @@ ghost use Rattle.h3_regions.specs.Laws.{CountsInParts, ZonesAreOne};
 ghost use Rattle.h3_regions.specs.Zones.{IsZones};
 
 use crate::zone_index::ZoneIndex;
+use crate::zone_table::TabledZones;
 use crate::zones::{Zones, place_above, place_near};
 use h3_index::Cell;
 use h3_set::laws::coverages_decide_lists;
@@ -176,4 +177,17 @@ pub fn count_next_indexed(index: &ZoneIndex, cell: Cell, counts: &mut [u64], out
         }
         None => outside + 1,
     }
+}
+
+/// As `count_next`, over zones with a table that is kept: for cells in any order.
+#[inline(always)]
+pub fn count_next_tabled(tabled: &TabledZones, cell: Cell, counts: &mut [u64], others: u64) -> u64
+    requires size { length counts.old ≡ length tabled.now }
+    requires few { sum counts.old + others < 2 ^ 64 - 1 }
+    ensures next { (cells : List Address) → AreCounts tabled.now cells counts.old others
+        → AreCounts tabled.now (cells ++ cell ∷ []) counts.new result }
+    ensures one { sum counts.new + result ≡ sum counts.old + others + 1 }
+{
+    let mut place = tabled.near(cell);
+    count_next(&tabled.zones(), cell, counts, others, &mut place)
 }

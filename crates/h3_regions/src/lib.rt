@@ -12,9 +12,12 @@ mod overlap;
 mod region;
 mod unions;
 mod zone_index;
+mod zone_table;
 mod zones;
 
-pub use counting::{count, count_indexed, count_next, count_next_indexed, count_of};
+pub use counting::{
+    count, count_indexed, count_next, count_next_indexed, count_next_tabled, count_of,
+};
 pub use difference::subtract;
 pub use intersection::intersect;
 pub use joining::{join, join_indexed};
@@ -22,4 +25,5 @@ pub use overlap::find_overlap;
 pub use region::Region;
 pub use unions::unite;
 pub use zone_index::ZoneIndex;
+pub use zone_table::{TabledZones, write_table};
 pub use zones::{RefusedCells, Zones, order_by_number, order_zones};

@@ -6,7 +6,7 @@ ghost use Rattle.h3_index.specs.Cell.{Address, IsCell, resolution};
 ghost use Rattle.h3_index.specs.Descendants.{IsAncestor};
 ghost use Rattle.h3_tree.specs.PostOrder.{post_order_key};
 ghost use Rattle.h3_set.specs.Coverage.{IsCovered};
-ghost use Rattle.h3_regions.specs.FirstPlaces.{slot_of, IsFirstInSlot, IsFirstPlaces};
+ghost use Rattle.h3_regions.specs.FirstPlaces.{slot_of, IsDivision, IsFirstInSlot, IsFirstPlaces, IsShift};
 ghost use Rattle.h3_regions.specs.Zones.{IsFirstPlace, IsZones, StandsAbove, zone_of};
 
 use crate::zones::{Zones, first_between, place_at};
@@ -18,7 +18,7 @@ use std::marker::Model;
 
 /// The slot of a key: the keys from the lowest on are divided into parts of 2^shift, and those below
 /// it are of the first part.
-fn slot_of(lowest: u64, shift: u32, key: u64) -> u64
+pub(crate) fn slot_of(lowest: u64, shift: u32, key: u64) -> u64
     requires { shift < 64 }
     ensures { result ≡ slot_of lowest shift key }
 {
@@ -45,7 +45,7 @@ fn first_in_slot(cells: &[Cell], lowest: u64, shift: u32, slot: u64, from: usize
 }
 
 /// Writes the first place of each slot.
-fn fill(cells: &[Cell], lowest: u64, shift: u32, firsts: &mut [u32])
+pub(crate) fn fill(cells: &[Cell], lowest: u64, shift: u32, firsts: &mut [u32])
     requires zones { IsZones cells.now }
     requires small { shift < 64 }
     requires few { length cells.now < 2 ^ 32 }
@@ -58,9 +58,10 @@ fn fill(cells: &[Cell], lowest: u64, shift: u32, firsts: &mut [u32])
     }
 }
 
-/// By how many bits a span has to be shifted to be at most this.
+/// The least number of bits by which a span of keys has to be shifted to be at most this.
 fn shift_of(span: u64, most: u64) -> u32
-    ensures { result < 64 }
+    requires { span < 2 ^ 52 }
+    ensures { IsShift span most result }
 {
     for shift in 0..63 {
         if span >> shift <= most {
@@ -68,6 +69,41 @@ fn shift_of(span: u64, most: u64) -> u32
         }
     }
     63
+}
+
+/// How a table divides the keys of zones: from the lowest on into slots of 2^shift keys. With no slot
+/// there is no table.
+#[derive(Drop)]
+pub(crate) struct Division {
+    pub(crate) lowest: u64,
+    pub(crate) shift: u32,
+    pub(crate) slots: usize,
+}
+
+/// How a table with so much room divides the keys of these zones.
+pub(crate) fn divide(cells: &[Cell], room: usize) -> Division
+    requires { IsZones cells.now }
+    ensures is { IsDivision cells.now room result.lowest result.shift result.slots }
+    ensures small { result.shift < 64 }
+    ensures within { result.slots ≤ room }
+    ensures few { 0 < result.slots → length cells.now < 2 ^ 32 }
+{
+    if cells.is_empty() || cells.len() > 0xffff_ffff || room < 2 {
+        return Division {
+            lowest: 0,
+            shift: 0,
+            slots: 0,
+        };
+    }
+    let lowest = post_order_key(cells[0]);
+    let span = post_order_key(cells[cells.len() - 1]).saturating_sub(lowest);
+    let shift = shift_of(span, (room - 2) as u64);
+    let slots = (span >> shift) as usize + 2;
+    Division {
+        lowest,
+        shift,
+        slots,
+    }
 }
 
 /// The first place whose cell's key is not below another, by a table of first places.
@@ -121,16 +157,8 @@ impl<'a> ZoneIndex<'a> {
         ensures { result ≡ zones.now }
     {
         let cells = zones.cells();
-        if cells.is_empty() || cells.len() > 0xffff_ffff || places.len() < 2 {
-            return ZoneIndex::filled(cells, &mut places[..0], 0, 0);
-        }
-        let lowest = post_order_key(cells[0]);
-        let span = post_order_key(cells[cells.len() - 1]).saturating_sub(lowest);
-        let shift = shift_of(span, (places.len() - 2) as u64);
-        let slots = ((span >> shift) as usize)
-            .saturating_add(2)
-            .min(places.len());
-        ZoneIndex::filled(cells, &mut places[..slots], lowest, shift)
+        let parts = divide(cells, places.len());
+        ZoneIndex::filled(cells, &mut places[..parts.slots], parts.lowest, parts.shift)
     }
 
     /// The zones with a table for these parts of the keys, one for each place; with no place it is

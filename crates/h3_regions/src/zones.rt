@@ -28,14 +28,13 @@ const NEAR: usize = 8;
 /// would be taken at random, and a compiler makes one of whatever it knows to be a choice.
 static HALVES: [usize; 2] = [0, 1];
 
-/// The first place whose cell's key is not below another, where that is one from `from` to `to`.
-pub(crate) fn first_between(cells: &[Cell], key: u64, from: usize, to: usize) -> usize
+/// Searches from `from` to `to` for the first place whose cell's key is not below another: the result
+/// is that place if it is there, and else any place.
+pub(crate) fn search_between(cells: &[Cell], key: u64, from: usize, to: usize) -> usize
     requires zones { IsZones cells.now }
-    requires before { AreBelow cells.now key from }
-    requires after { AreNotBelow cells.now key to }
     requires in_order { from ≤ to }
     requires within { to ≤ length cells.now }
-    ensures { IsFirstPlace cells.now key result }
+    ensures { AreBelow cells.now key from → AreNotBelow cells.now key to → IsFirstPlace cells.now key result }
 {
     let mut first = from;
     let mut size = to - from;
@@ -50,6 +49,18 @@ pub(crate) fn first_between(cells: &[Cell], key: u64, from: usize, to: usize) ->
     } else {
         first
     }
+}
+
+/// The first place whose cell's key is not below another, where that is one from `from` to `to`.
+pub(crate) fn first_between(cells: &[Cell], key: u64, from: usize, to: usize) -> usize
+    requires zones { IsZones cells.now }
+    requires before { AreBelow cells.now key from }
+    requires after { AreNotBelow cells.now key to }
+    requires in_order { from ≤ to }
+    requires within { to ≤ length cells.now }
+    ensures { IsFirstPlace cells.now key result }
+{
+    search_between(cells, key, from, to)
 }
 
 /// As `first_between`, where the places are few: the cells there are counted whose keys are below the

@@ -1,0 +1,122 @@
+//! Zones with a table of first places that is kept, and is not trusted.
+
+ghost use Rattle.std.specs.Prelude.{◌≡◌, ◌≤◌, ◌↔◌, length, Some, Contains, IfSome, IsTrue};
+ghost use Rattle.h3_index.specs.Cell.{Address, resolution};
+ghost use Rattle.h3_index.specs.Descendants.{IsAncestor};
+ghost use Rattle.h3_set.specs.Coverage.{IsCovered};
+ghost use Rattle.h3_regions.specs.FirstPlaces.{IsTableOf};
+ghost use Rattle.h3_regions.specs.Zones.{IsZones, zone_of};
+
+use crate::zone_index::{divide, fill, slot_of};
+use crate::zones::{Zones, search_between};
+use h3_index::Cell;
+use h3_tree::post_order_key;
+use std::marker::Model;
+
+/// Writes the table of zones into the places, of which there may be any number: two to four times as
+/// many as zones serve well. With fewer than two, or with no zones or more than 2^32 - 1, nothing is
+/// written, and `TabledZones` searches all zones for each cell.
+pub fn write_table(zones: &Zones, places: &mut [u32])
+    ensures { IsTableOf zones.now places.old places.new }
+{
+    let cells = zones.cells();
+    let parts = divide(cells, places.len());
+    if parts.slots > 0 {
+        fill(cells, parts.lowest, parts.shift, &mut places[..parts.slots]);
+    }
+}
+
+/// Where a search from one place to another ends; these may be any.
+#[inline(always)]
+fn searched(cells: &[Cell], key: u64, from: usize, to: usize) -> usize
+    requires { IsZones cells.now }
+{
+    let end = to.min(cells.len());
+    search_between(cells, key, from.min(end), end)
+}
+
+/// Zones with a table that `write_table` has written of them before. The table says where a search
+/// begins, and `Zones::zone_near` ends it: so whatever the table holds, the answers are those of the
+/// zones. A table of other zones, or one that was written into another number of places, makes the
+/// search longer. Contracts see the list of the zones.
+#[derive(Debug, Drop)]
+pub struct TabledZones<'a> {
+    cells: &'a [Cell],
+    table: &'a [u32],
+    lowest: u64,
+    shift: u32,
+}
+
+impl<'a> Model for TabledZones<'a> {
+    ghost use Rattle.std.specs.Prelude.{List, ◌<◌};
+    ghost use Rattle.h3_index.specs.Cell.{Address};
+    ghost use Rattle.h3_regions.specs.Zones.{IsZones};
+
+    ghost Value = { List Address };
+
+    ghost view = { λ z. z.cells.now };
+
+    ghost invariant = { λ z. IsZones z.cells.now × (z.shift < 64) };
+}
+
+impl<'a> TabledZones<'a> {
+    /// The zones with a table, whatever it holds.
+    pub fn over(zones: &Zones<'a>, table: &'a [u32]) -> TabledZones<'a>
+        ensures { result ≡ zones.now }
+    {
+        let cells = zones.cells();
+        let parts = divide(cells, table.len());
+        TabledZones {
+            cells,
+            table: &table[..parts.slots],
+            lowest: parts.lowest,
+            shift: parts.shift,
+        }
+    }
+
+    /// The zones.
+    #[inline(always)]
+    pub fn zones(&self) -> Zones<'a>
+        ensures { result ≡ self.now }
+    {
+        Zones::over(self.cells)
+    }
+
+    /// Where `Zones::zone_near` has to look for a cell first: at its zone, if the table is that of the
+    /// zones; else anywhere.
+    #[inline(always)]
+    pub(crate) fn near(&self, cell: Cell) -> usize {
+        let key = post_order_key(cell);
+        let count = self.table.len();
+        if count == 0 {
+            return searched(self.cells, key, 0, self.cells.len());
+        }
+        let slot = slot_of(self.lowest, self.shift, key) as usize;
+        if slot < count - 1 {
+            searched(
+                self.cells,
+                key,
+                self.table[slot] as usize,
+                self.table[slot + 1] as usize,
+            )
+        } else {
+            searched(
+                self.cells,
+                key,
+                self.table[count - 1] as usize,
+                self.cells.len(),
+            )
+        }
+    }
+
+    /// The zone of the cell: the one that is the cell or an ancestor of it; `None` where there is none.
+    #[inline(always)]
+    pub fn zone_of(&self, cell: Cell) -> Option<Cell>
+        ensures is { result ≡ zone_of self.now cell }
+        ensures found { IfSome result (λ z. Contains self.now z × IsAncestor z cell) }
+        ensures one { (z : Address) → Contains self.now z → IsAncestor z cell → result ≡ Some z }
+    {
+        let mut place = self.near(cell);
+        self.zones().zone_near(cell, &mut place)
+    }
+}
