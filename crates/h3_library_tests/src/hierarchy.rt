@@ -3,8 +3,8 @@
 use crate::rows::{Expected, cell, clone_of, copy_of, holds, is_cell, same};
 use h3_index::{Cell, H3Error};
 use h3_tree::{
-    Children, center_child, child_at, child_pos, children, children_at, children_size, parent,
-    post_order_key, sibling_groups_at,
+    Children, center_child, child_at, child_pos, children, children_at, children_size, last_child,
+    parent, post_order_key, sibling_groups_at,
 };
 use std::mem::size_of;
 
@@ -201,6 +201,68 @@ fn center_children(rt: HostRuntime) {
     ];
     for (row, (res, expected)) in ROWS.iter().enumerate() {
         assert!(rt; holds(&rt, row, same(center_of(HEXAGON, *res), *expected)));
+    }
+}
+
+fn last_of(cell: u64, res: i32) -> Result<u64, H3Error> {
+    Ok(last_child(Cell::new(cell)?, res)?.raw())
+}
+
+#[test]
+fn last_children(rt: HostRuntime) {
+    static ROWS: [(u64, i32, Expected); 9] = [
+        (HEXAGON, 6, Ok(0x862834737ffffff)),
+        (HEXAGON, 7, Ok(0x872834736ffffff)),
+        (HEXAGON, 15, Ok(0x8f2834736db6db6)),
+        (HEXAGON, 5, Ok(HEXAGON)),
+        (PENTAGON, 1, Ok(0x8109bffffffffff)),
+        (PENTAGON, 15, Ok(0x8f09b6db6db6db6)),
+        (HEXAGON, -1, Err(H3Error::ResDomain)),
+        (HEXAGON, 4, Err(H3Error::ResDomain)),
+        (HEXAGON, 16, Err(H3Error::ResDomain)),
+    ];
+    for (row, (cell, res, expected)) in ROWS.iter().enumerate() {
+        assert!(rt; holds(&rt, row, same(last_of(*cell, *res), *expected)));
+    }
+}
+
+/// The first and the last of a cell's children at a resolution; the cell where it has none there.
+fn ends_of(cell: Cell, res: i32) -> (Cell, Cell) {
+    let mut first = cell;
+    let mut last = cell;
+    if let Ok(items) = children(cell, res) {
+        for (place, child) in items.enumerate() {
+            if place == 0 {
+                first = child;
+            }
+            last = child;
+        }
+    }
+    (first, last)
+}
+
+fn ends_by_digits(cell: Cell, res: i32) -> Result<(Cell, Cell), H3Error> {
+    Ok((center_child(cell, res)?, last_child(cell, res)?))
+}
+
+/// The children of a cell at a resolution begin with the center child and end with the last one.
+#[test]
+fn children_go_from_the_center_to_the_last(rt: HostRuntime) {
+    static ROWS: [(u64, i32); 6] = [
+        (HEXAGON, 5),
+        (HEXAGON, 6),
+        (HEXAGON, 9),
+        (PENTAGON, 0),
+        (PENTAGON, 1),
+        (PENTAGON, 4),
+    ];
+    for (row, (number, res)) in ROWS.iter().enumerate() {
+        let cell = cell(&rt, *number);
+        let right = match ends_by_digits(cell, *res) {
+            Ok(ends) => ends == ends_of(cell, *res),
+            Err(_) => false,
+        };
+        assert!(rt; holds(&rt, row, right));
     }
 }
 

@@ -3,6 +3,7 @@ pub mod BlockLaws
 pub mod AncestorLaws
 pub mod SiblingGroupLaws
 pub mod FollowingLaws
+pub mod LastChildLaws
 pub mod PentagonPositionLaws
 pub mod PositionLaws
 pub mod PostOrderLaws

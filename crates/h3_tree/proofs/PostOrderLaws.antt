@@ -17,7 +17,7 @@ use Rattle.h3_tree.specs.PostOrder.{post_order_key, CellsFormIntervals}
 
 -- ---- numbers of base 8 with a front
 
-abbrev after : ℕ → List ℕ → ℕ
+abbrev pub after : ℕ → List ℕ → ℕ
 after = number_from_digits_after 8
 
 after_is : (n : ℕ) (ds : List ℕ) → after n ds ≡ n * 8 ^ length ds + number_from_digits 8 ds
@@ -52,10 +52,10 @@ below-take zero ds h = tt
 below-take (suc q) [] h = tt
 below-take (suc q) (d ∷ ds) h = (h.0, below-take q ds h.1)
 
-below-drop : (q : ℕ) (ds : List ℕ) → AllBelowBase 8 ds → AllBelowBase 8 (drop q ds)
-below-drop zero ds h = h
-below-drop (suc q) [] h = tt
-below-drop (suc q) (d ∷ ds) h = below-drop q ds h.1
+pub below-drop : (b q : ℕ) (ds : List ℕ) → AllBelowBase b ds → AllBelowBase b (drop q ds)
+below-drop b zero ds h = h
+below-drop b (suc q) [] h = tt
+below-drop b (suc q) (d ∷ ds) h = below-drop b q ds h.1
 
 -- a front without 7 is within the digits
 within_digits : (ds : List ℕ) (q m : ℕ) → q ≤ length ds + m → AllBelowBase 7 (take q (ds ++ replicate m 7)) → q ≤ length ds
@@ -73,15 +73,15 @@ length-padded c h =
 padded_below : (c : Address) → IsCell c → AllBelowBase 8 (padded c.digits)
 padded_below c h = below-padded c.digits (15 - length c.digits) h.digits_small
 
-abbrev whole_key : Address → ℕ
+abbrev pub whole_key : Address → ℕ
 whole_key c = after c.base (padded c.digits)
 
-whole_small : (c : Address) → IsCell c → whole_key c < 2 ^ 52
+pub whole_small : (c : Address) → IsCell c → whole_key c < 2 ^ 52
 whole_small c h =
     let low : whole_key c < (c.base + 1) * 8 ^ 15 = rw (length-padded c h) at (number_after_lt 8 c.base (padded c.digits) (padded_below c h)) in
     omega (arith, low, h.base_small)
 
-number_is : (c : Address) → IsCell c → number_of c ≡ 2 ^ 59 + length c.digits * 2 ^ 52 + whole_key c
+pub number_is : (c : Address) → IsCell c → number_of c ≡ 2 ^ 59 + length c.digits * 2 ^ 52 + whole_key c
 unfolding number_of
 number_is c h =
     let is : whole_key c ≡ c.base * 8 ^ 15 + number_from_digits 8 (padded c.digits) = rw (length-padded c h) at (after_is c.base (padded c.digits)) in
@@ -103,7 +103,7 @@ key_between c q h le =
     let size : length (drop q (padded c.digits)) ≡ 15 - q = omega (arith, length-drop q (padded c.digits), length-padded c h) in
     let split : whole_key c ≡ after (front c q) (drop q (padded c.digits)) =
     ap (after c.base) (sym (take-append-drop q (padded c.digits))) ∙ number_after_append 8 c.base (take q (padded c.digits)) (drop q (padded c.digits)) in
-    rw (split, ← size) (after_between (front c q) (drop q (padded c.digits)) (below-drop q (padded c.digits) (padded_below c h)))
+    rw (split, ← size) (after_between (front c q) (drop q (padded c.digits)) (below-drop 8 q (padded c.digits) (padded_below c h)))
 
 own_digits : (c : Address) → take (length c.digits) (padded c.digits) ≡ c.digits
 own_digits c = take-append_seam c.digits (replicate (15 - length c.digits) 7)
@@ -160,12 +160,12 @@ one_front f g p kx ka low high last le reach =
       ]
     ]
 
-inside : (a x : Address) → IsCell a → IsCell x → (whole_key x ≤ whole_key a) × (whole_key a < whole_key x + 8 ^ (15 - length a.digits)) → IsAncestor a x
+pub inside : (a x : Address) → IsCell a → IsCell x → (whole_key x ≤ whole_key a) × (whole_key a < whole_key x + 8 ^ (15 - length a.digits)) → IsAncestor a x
 inside a x ha hx h =
     let b = key_between x (length a.digits) hx (omega (arith, ha.coarse)) in
     ancestor_from a x ha hx (one_front (front x (length a.digits)) (front a (length a.digits)) (8 ^ (15 - length a.digits)) (whole_key x) (whole_key a) b.0 b.1 (key_last a) h.0 h.1)
 
-within : (a x : Address) → IsCell a → IsCell x → IsAncestor a x → (whole_key x ≤ whole_key a) × (whole_key a < whole_key x + 8 ^ (15 - length a.digits))
+pub within : (a x : Address) → IsCell a → IsCell x → IsAncestor a x → (whole_key x ≤ whole_key a) × (whole_key a < whole_key x + 8 ^ (15 - length a.digits))
 within a x ha hx above =
     let b = rw (front_from a x ha hx above) at (key_between x (length a.digits) hx (omega (arith, ha.coarse))) in
     let last = key_last a in

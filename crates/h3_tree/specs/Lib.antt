@@ -3,6 +3,7 @@ pub mod Examples
 pub mod SiblingGroups
 pub mod Following
 pub mod Known
+pub mod LastChild
 pub mod Positions
 pub mod PostOrder
 pub mod Refusals

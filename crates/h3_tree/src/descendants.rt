@@ -7,6 +7,7 @@ ghost use Rattle.std.specs.Result.{result_err};
 ghost use Rattle.h3_index.specs.Cell.{Address, is_pentagon, IsCell, number_of, resolution};
 ghost use Rattle.h3_index.specs.Descendants.{center_at, children, descendants, IsDescendant};
 ghost use Rattle.h3_tree.specs.Children.{children_left};
+ghost use Rattle.h3_tree.specs.LastChild.{last_at};
 ghost use Rattle.h3_tree.specs.SiblingGroups.{parents_left};
 ghost use Rattle.h3_tree.specs.Refusals.{descent_refusal};
 
@@ -40,6 +41,25 @@ pub fn center_child(cell: Cell, res: i32) -> Result<Cell, H3Error>
 {
     let r = resolution_below(cell, res)?;
     Ok(cell.center_at(r))
+}
+
+/// The last descendant of a cell at a resolution, which is the one with the greatest number: its
+/// further digits are 6. At the cell's own resolution it is the cell.
+///
+/// `ResDomain` where the resolution is outside the cell's own to 15.
+pub fn last_child(cell: Cell, res: i32) -> Result<Cell, H3Error>
+    ensures refused { result_err result ≡ descent_refusal (resolution cell) res }
+    ensures sixes { IfOk result (λ child. child ≡ last_at cell (unsigned_abs res)) }
+    ensures descendant { IfOk result (λ child. IsDescendant cell (unsigned_abs res) child) }
+    ensures greatest { IfOk result (λ child. (x : Address)
+        → IsDescendant cell (unsigned_abs res) x → number_of x ≤ number_of child) }
+{
+    let r = resolution_below(cell, res)?;
+    let mut last = cell;
+    while last.resolution() < r {
+        last = last.child(6);
+    }
+    Ok(last)
 }
 
 /// The number of descendants of a cell at a resolution from its own to 15.

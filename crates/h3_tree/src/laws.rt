@@ -4,6 +4,7 @@
 ghost use Rattle.std.specs.Prelude.{◌≡◌};
 ghost use Rattle.h3_tree.specs.Children.{children_left};
 ghost use Rattle.h3_tree.specs.declared.iter.Children.{Children};
+ghost use Rattle.h3_tree.specs.LastChild.{ChildrenFormRanges};
 ghost use Rattle.h3_tree.specs.Laws.{CellsFormTrees};
 ghost use Rattle.h3_tree.specs.PostOrder.{CellsFormIntervals};
 
@@ -26,6 +27,14 @@ pub fn cells_form_trees()
 pub fn cells_form_intervals()
     ensures { CellsFormIntervals }
 {}
+
+/// A cell's descendants at a resolution are the cells from its center child there to its last one,
+/// by number, and no others: a search between these two numbers finds them.
+pub fn children_form_ranges()
+    ensures { ChildrenFormRanges }
+{
+    cells_form_trees();
+}
 
 /// A clone of `Children` is made, and has the same cells still to come.
 pub fn clones_go_on()

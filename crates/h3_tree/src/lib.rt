@@ -13,7 +13,8 @@ mod sibling_groups;
 
 pub use ancestors::parent;
 pub use descendants::{
-    center_child, children, children_at, children_size, resolution_below, sibling_groups_at,
+    center_child, children, children_at, children_size, last_child, resolution_below,
+    sibling_groups_at,
 };
 pub use iter::Children;
 pub use positions::{child_at, child_pos};
