@@ -152,6 +152,14 @@ H3Error h3w_cellToParent(H3Index cell, int parentRes, H3Index *out);
  * @return E_SUCCESS; E_CELL_INVALID: not a valid cell; E_RES_DOMAIN: not a resolution, or coarser than the cell's */
 H3Error h3w_cellToCenterChild(H3Index cell, int childRes, H3Index *out);
 
+/** Finds the last descendant of a cell at a resolution, which has the greatest index. The cells of the resolution from
+ * the one in the center to the last one, by their numbers, are the cell's descendants there, and no others. Not a
+ * function of H3.
+ * @param childRes the descendant's resolution
+ * @param out receives the descendant
+ * @return E_SUCCESS; E_CELL_INVALID: not a valid cell; E_RES_DOMAIN: not a resolution, or coarser than the cell's */
+H3Error h3w_cellToLastChild(H3Index cell, int childRes, H3Index *out);
+
 /** Counts the descendants of a cell at a resolution.
  * @param childRes the descendants' resolution
  * @param out receives the number
@@ -393,6 +401,7 @@ H3Error h3w_arePentagons(const H3Index *cells, size_t n, int *out, size_t room, 
 H3Error h3w_areResClassIII(const H3Index *cells, size_t n, int *out, size_t room, size_t *at); /* 1 or 0 */
 H3Error h3w_cellsToParents(const H3Index *cells, size_t n, int parentRes, H3Index *out, size_t room, size_t *at);
 H3Error h3w_cellsToCenterChildren(const H3Index *cells, size_t n, int childRes, H3Index *out, size_t room, size_t *at);
+H3Error h3w_cellsToLastChildren(const H3Index *cells, size_t n, int childRes, H3Index *out, size_t room, size_t *at);
 H3Error h3w_cellsToChildrenSizes(const H3Index *cells, size_t n, int childRes, int64_t *out, size_t room, size_t *at);
 H3Error h3w_cellsToChildPositions(const H3Index *cells, size_t n, int parentRes, int64_t *out, size_t room, size_t *at);
 H3Error h3w_areValidDirectedEdges(const H3Index *edges, size_t n, int *out, size_t room, size_t *at); /* 1 or 0 */

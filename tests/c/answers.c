@@ -157,12 +157,13 @@ static int is_child(H3Index cell, int64_t position, H3Index child, int res) {
 
 /* Whether a list begins with the descendants of a cell; how many they are. */
 static int begins_with_children(H3Index cell, int res, const H3Index *list, size_t n, int64_t *size) {
-    H3Index center = 0;
+    H3Index center = 0, last = 0;
     int64_t position = 0;
     *size = 0;
     if (h3w_cellToChildrenSize(cell, res, size) || (uint64_t)*size > n) return 0;
     while (position < *size && is_child(cell, position, list[position], res)) position++;
-    return position == *size && h3w_cellToCenterChild(cell, res, &center) == E_SUCCESS && center == list[0];
+    return position == *size && h3w_cellToCenterChild(cell, res, &center) == E_SUCCESS && center == list[0] &&
+           h3w_cellToLastChild(cell, res, &last) == E_SUCCESS && last == list[*size - 1];
 }
 
 static int compare(int res, const char *path) {
@@ -233,6 +234,7 @@ static const struct {
     {"isResClassIII", h3w_areResClassIII, NULL, NULL, 1},
     {"cellToParent", NULL, h3w_cellsToParents, NULL, 0},
     {"cellToCenterChild", NULL, h3w_cellsToCenterChildren, NULL, 0},
+    {"cellToLastChild", NULL, h3w_cellsToLastChildren, NULL, 0},
     {"cellToChildrenSize", NULL, NULL, h3w_cellsToChildrenSizes, 0},
     {"cellToChildPos", NULL, NULL, h3w_cellsToChildPositions, 0},
     {"getDirectedEdgeOrigin", NULL, origins, NULL, 0},
@@ -267,6 +269,7 @@ static H3Error error_of(const char *name, H3Index index, int res) {
     int64_t count;
     return !strcmp(name, "cellToParent")         ? h3w_cellToParent(index, res, &cell)
            : !strcmp(name, "cellToCenterChild")  ? h3w_cellToCenterChild(index, res, &cell)
+           : !strcmp(name, "cellToLastChild")    ? h3w_cellToLastChild(index, res, &cell)
            : !strcmp(name, "cellToChildrenSize") ? h3w_cellToChildrenSize(index, res, &count)
                                                  : h3w_cellToChildPos(index, res, &count);
 }

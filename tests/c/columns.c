@@ -234,6 +234,7 @@ static void no_resolution(int res, size_t n) {
     for (room = n ? n - 1 : 0; room <= n; room++) {
         CHECK(h3w_cellsToParents(column, n, res, out, room, &at) == E_RES_DOMAIN);
         CHECK(h3w_cellsToCenterChildren(column, n, res, out, room, &at) == E_RES_DOMAIN);
+        CHECK(h3w_cellsToLastChildren(column, n, res, out, room, &at) == E_RES_DOMAIN);
         CHECK(h3w_cellsToChildrenSizes(column, n, res, numbers, room, &at) == E_RES_DOMAIN);
         CHECK(h3w_cellsToChildPositions(column, n, res, numbers, room, &at) == E_RES_DOMAIN);
     }
@@ -280,6 +281,7 @@ int main(void) {
         for (j = 0; j < ROOM(resolutions); j++) {
             cells(h3w_cellsToParents, h3w_cellToParent, resolutions[j], lengths[i]);
             cells(h3w_cellsToCenterChildren, h3w_cellToCenterChild, resolutions[j], lengths[i]);
+            cells(h3w_cellsToLastChildren, h3w_cellToLastChild, resolutions[j], lengths[i]);
             sizes(h3w_cellsToChildrenSizes, h3w_cellToChildrenSize, resolutions[j], lengths[i]);
             sizes(h3w_cellsToChildPositions, h3w_cellToChildPos, resolutions[j], lengths[i]);
         }

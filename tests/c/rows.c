@@ -49,6 +49,9 @@ static void hierarchy(void) {
     CHECK(h3w_cellToParent(HEXAGON, 4, cells) == E_SUCCESS && cells[0] == 0x8428347ffffffffU);
     CHECK(h3w_cellToParent(HEXAGON, 5, cells) == E_SUCCESS && cells[0] == HEXAGON);
     CHECK(h3w_cellToCenterChild(HEXAGON, 15, cells) == E_SUCCESS && cells[0] == 0x8f2834700000000U);
+    CHECK(h3w_cellToLastChild(HEXAGON, 7, cells) == E_SUCCESS && cells[0] == 0x872834736ffffffU);
+    CHECK(h3w_cellToLastChild(HEXAGON, 5, cells) == E_SUCCESS && cells[0] == HEXAGON);
+    CHECK(h3w_cellToLastChild(PENTAGON, 1, cells) == E_SUCCESS && cells[0] == 0x8109bffffffffffU);
     CHECK(h3w_cellToChildren(HEXAGON, 6, cells, 7) == E_SUCCESS && are_same(cells, children, 7));
     CHECK(h3w_cellToChildren(PENTAGON, 1, cells, 6) == E_SUCCESS && are_same(cells, pentagon_children, 6));
     CHECK(h3w_cellToChildrenSize(0x8029fffffffffffU, 15, &size) == E_SUCCESS && size == 4747561509943);

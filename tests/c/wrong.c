@@ -57,6 +57,7 @@ static void expect_of_cell(H3Index cell, int res, H3Error parent, H3Error child)
     int64_t number = 77;
     CHECK(h3w_cellToParent(cell, res, out) == parent && h3w_cellToChildPos(cell, res, &number) == parent);
     CHECK(h3w_cellToCenterChild(cell, res, out) == child && h3w_cellToChildren(cell, res, out, 1) == child);
+    CHECK(h3w_cellToLastChild(cell, res, out) == child);
     CHECK(h3w_cellToChildrenSize(cell, res, &number) == child);
     CHECK(are_kept(out, 1) && number == 77);
     free(out);

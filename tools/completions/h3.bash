@@ -1,11 +1,11 @@
 # Completions of the command h3 for bash.
 # made from h3 --help (tools/pages)
-_h3_commands='isValidCell getResolution getBaseCellNumber isPentagon isResClassIII getNumCells getRes0Cells getPentagons cellToParent cellToCenterChild cellToChildren cellToChildrenSize cellToChildPos childPosToCell gridDiskUnsafe gridDiskDistancesUnsafe gridRingUnsafe areNeighborCells cellsToDirectedEdge getDirectedEdgeDestination isValidDirectedEdge getDirectedEdgeOrigin originToDirectedEdges compactCells uncompactCells uncompactCellsSize uniteCells intersectCells subtractCells areCoveredCells cellsToZones countCellsInZones areValidCells areValidDirectedEdges getResolutions getBaseCellNumbers arePentagons areResClassIII cellsToParents cellsToCenterChildren cellsToChildrenSizes cellsToChildPositions getDirectedEdgeOrigins originsToDirectedEdges'
+_h3_commands='isValidCell getResolution getBaseCellNumber isPentagon isResClassIII getNumCells getRes0Cells getPentagons cellToParent cellToCenterChild cellToLastChild cellToChildren cellToChildrenSize cellToChildPos childPosToCell gridDiskUnsafe gridDiskDistancesUnsafe gridRingUnsafe areNeighborCells cellsToDirectedEdge getDirectedEdgeDestination isValidDirectedEdge getDirectedEdgeOrigin originToDirectedEdges compactCells uncompactCells uncompactCellsSize uniteCells intersectCells subtractCells areCoveredCells cellsToZones countCellsInZones areValidCells areValidDirectedEdges getResolutions getBaseCellNumbers arePentagons areResClassIII cellsToParents cellsToCenterChildren cellsToLastChildren cellsToChildrenSizes cellsToChildPositions getDirectedEdgeOrigins originsToDirectedEdges'
 _h3_options() {
     case $1 in
         isValidCell | getResolution | getBaseCellNumber | isPentagon | isResClassIII | originToDirectedEdges) echo --cell ;;
-        getNumCells | getPentagons | uncompactCells | uncompactCellsSize | cellsToParents | cellsToCenterChildren | cellsToChildrenSizes | cellsToChildPositions) echo --resolution ;;
-        cellToParent | cellToCenterChild | cellToChildren | cellToChildrenSize | cellToChildPos) echo --cell --resolution ;;
+        getNumCells | getPentagons | uncompactCells | uncompactCellsSize | cellsToParents | cellsToCenterChildren | cellsToLastChildren | cellsToChildrenSizes | cellsToChildPositions) echo --resolution ;;
+        cellToParent | cellToCenterChild | cellToLastChild | cellToChildren | cellToChildrenSize | cellToChildPos) echo --cell --resolution ;;
         childPosToCell) echo --position --cell --resolution ;;
         gridDiskUnsafe | gridDiskDistancesUnsafe | gridRingUnsafe) echo --cell -k --table ;;
         areNeighborCells | cellsToDirectedEdge) echo --cell --to --table ;;

@@ -2,7 +2,7 @@
 
 ghost use Rattle.std.specs.Prelude.{◌≡◌, ◌-◌, ◌^◌, map, length};
 ghost use Rattle.std.specs.Result.{result_unwrap_or};
-ghost use Rattle.h3_functions.specs.Hierarchy.{cell_to_center_child, cell_to_child_pos, cell_to_children, cell_to_children_size, cell_to_parent, child_pos_to_cell};
+ghost use Rattle.h3_functions.specs.Hierarchy.{cell_to_center_child, cell_to_child_pos, cell_to_children, cell_to_children_size, cell_to_last_child, cell_to_parent, child_pos_to_cell};
 ghost use Rattle.h3_c.specs.Columns.{column_code_at, column_over_at, place_over_at};
 ghost use Rattle.h3_c.specs.Lists.{list_code, list_over};
 ghost use Rattle.h3_c.specs.Outcome.{code_of, index_of};
@@ -71,6 +71,36 @@ pub extern "C" fn h3w_cellsToCenterChildren(
         (length out.old) at.old }
 {
     fill_at(res, &CellToCenterChild { res }, cells, NULL, out, at)
+}
+
+/// The last child, as [`h3w_cellToCenterChild`] gives the first.
+#[unsafe(no_mangle)]
+pub extern "C" fn h3w_cellToLastChild(h: u64, res: i32, out: &mut u64) -> u32
+    ensures code { result ≡ code_of (index_of (cell_to_last_child h res)) }
+    ensures value { out.new ≡ result_unwrap_or (index_of (cell_to_last_child h res)) out.old }
+{
+    put(out, word(CellToLastChild { res }, h))
+}
+
+/// [`h3w_cellToLastChild`] of each index, once the resolution is judged.
+#[unsafe(no_mangle)]
+pub extern "C" fn h3w_cellsToLastChildren(
+    cells: &[u64],
+    res: i32,
+    out: &mut [u64],
+    at: &mut usize,
+) -> u32
+    ensures code { result
+        ≡ column_code_at res (map (λ h. index_of (cell_to_last_child h res)) cells.now)
+        (length out.old) }
+    ensures values { out.new
+        ≡ column_over_at res 0 (map (λ h. index_of (cell_to_last_child h res)) cells.now)
+        out.old }
+    ensures place { at.new
+        ≡ place_over_at res (map (λ h. index_of (cell_to_last_child h res)) cells.now)
+        (length out.old) at.old }
+{
+    fill_at(res, &CellToLastChild { res }, cells, NULL, out, at)
 }
 
 /// H3's `cellToChildrenSize`.

@@ -52,6 +52,9 @@ fn perform<R: Source, T: Source, W: Sink>(
         CellToCenterChild { cell, res } => {
             write_answer_for(CellFunction::CellToCenterChild { res }, cell, out)
         }
+        CellToLastChild { cell, res } => {
+            write_answer_for(CellFunction::CellToLastChild { res }, cell, out)
+        }
         CellToChildren { cell, res } => cell_to_children(cell, res, out),
         CellToChildrenSize { cell, res } => {
             write_answer_for(CellFunction::CellToChildrenSize { res }, cell, out)

@@ -3,6 +3,7 @@ use Rattle.std.specs.Prelude.{ℕ, ℤ, List, length, slice_get, unsigned_abs, u
 use Rattle.h3_index.specs.Cell.{Address, resolution}
 use Rattle.h3_index.specs.Descendants.{center_at, cut, descendants}
 use Rattle.h3_index.specs.declared.error.H3Error.{H3Error}
+use Rattle.h3_tree.specs.LastChild.{last_at}
 use Rattle.h3_tree.specs.Positions.{position_under}
 use Rattle.h3_tree.specs.Refusals.{descent_refusal, parent_refusal, position_refusal}
 use Rattle.h3_functions.specs.Inspection.{cell_from, for_value}
@@ -21,6 +22,11 @@ cell_to_parent index res =
 abbrev pub cell_to_center_child : ℕ → ℤ → Result Address H3Error
 cell_to_center_child index res =
     for_value (λ c. unless (descent_refusal (resolution c) res) (center_at c (unsigned_abs res))) (cell_from index)
+
+-- cell_to_last_child index r: the descendant whose further digits are 6, or the error
+abbrev pub cell_to_last_child : ℕ → ℤ → Result Address H3Error
+cell_to_last_child index res =
+    for_value (λ c. unless (descent_refusal (resolution c) res) (last_at c (unsigned_abs res))) (cell_from index)
 
 -- cell_to_children index r: the descendants, or the error
 abbrev pub cell_to_children : ℕ → ℤ → Result (List Address) H3Error

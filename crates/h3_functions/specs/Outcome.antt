@@ -3,7 +3,7 @@ use Rattle.std.specs.Prelude.{ℕ, Ok}
 use Rattle.h3_requests.specs.declared.command.CellFunction.{CellFunction}
 use Rattle.h3_requests.specs.declared.command.CellFunction.TheVariants as each
 use Rattle.h3_functions.specs.Edges.{get_directed_edge_origin, is_valid_directed_edge}
-use Rattle.h3_functions.specs.Hierarchy.{cell_to_center_child, cell_to_child_pos, cell_to_children_size, cell_to_parent}
+use Rattle.h3_functions.specs.Hierarchy.{cell_to_center_child, cell_to_child_pos, cell_to_children_size, cell_to_last_child, cell_to_parent}
 use Rattle.h3_functions.specs.Inspection.{get_base_cell_number, get_resolution, is_pentagon, is_res_class_iii, is_valid_cell}
 use Rattle.h3_functions.specs.declared.outcome.Outcome.{Outcome}
 use Rattle.h3_functions.specs.declared.outcome.Outcome.TheVariants.{Cell, Count, Edges, Number, Truth}
@@ -19,6 +19,7 @@ outcome_of each.IsPentagon index = Truth (is_pentagon index)
 outcome_of each.IsResClassIII index = Truth (is_res_class_iii index)
 outcome_of (each.CellToParent res) index = Cell (cell_to_parent index res)
 outcome_of (each.CellToCenterChild res) index = Cell (cell_to_center_child index res)
+outcome_of (each.CellToLastChild res) index = Cell (cell_to_last_child index res)
 outcome_of (each.CellToChildrenSize res) index = Count (cell_to_children_size index res)
 outcome_of (each.CellToChildPos res) index = Count (cell_to_child_pos index res)
 outcome_of each.GetDirectedEdgeOrigin index = Cell (get_directed_edge_origin index)

@@ -6,12 +6,14 @@
 ghost use Rattle.std.specs.Prelude.{◌≡◌};
 ghost use Rattle.std.specs.Iterator.{YieldsFirst};
 ghost use Rattle.h3_tree.specs.Children.{children_left};
-ghost use Rattle.h3_functions.specs.Hierarchy.{cell_to_center_child, cell_to_child_pos, cell_to_children, cell_to_children_size, cell_to_parent, child_pos_to_cell};
+ghost use Rattle.h3_functions.specs.Hierarchy.{cell_to_center_child, cell_to_child_pos, cell_to_children, cell_to_children_size, cell_to_last_child, cell_to_parent, child_pos_to_cell};
 ghost use Rattle.h3_functions.specs.Items.{Lists};
 
 use crate::inspection::cell_from;
 use h3_index::{Cell, H3Error};
-use h3_tree::{Children, center_child, child_at, child_pos, children, children_size, parent};
+use h3_tree::{
+    Children, center_child, child_at, child_pos, children, children_size, last_child, parent,
+};
 
 /// The ancestor of a cell at a resolution, as H3's `cellToParent` returns it.
 #[inline(always)]
@@ -29,6 +31,15 @@ pub fn cell_to_center_child(index: u64, res: i32) -> Result<Cell, H3Error>
 {
     let cell = cell_from(index)?;
     center_child(cell, res)
+}
+
+/// The last descendant of a cell at a resolution, which is the one with the greatest number.
+/// Errors are those of [`cell_to_center_child`].
+pub fn cell_to_last_child(index: u64, res: i32) -> Result<Cell, H3Error>
+    ensures { result ≡ cell_to_last_child index res }
+{
+    let cell = cell_from(index)?;
+    last_child(cell, res)
 }
 
 /// The descendants of a cell at a resolution, in ascending order, as H3's `cellToChildren` lists

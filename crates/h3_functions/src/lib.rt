@@ -18,7 +18,7 @@ pub use edges::{
 };
 pub use hierarchy::{
     cell_to_center_child, cell_to_child_pos, cell_to_children, cell_to_children_size,
-    cell_to_parent, child_pos_to_cell,
+    cell_to_last_child, cell_to_parent, child_pos_to_cell,
 };
 pub use inspection::{
     cell_from, get_base_cell_number, get_resolution, is_pentagon, is_res_class_iii, is_valid_cell,

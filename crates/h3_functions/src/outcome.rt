@@ -5,7 +5,8 @@ ghost use Rattle.h3_functions.specs.Outcome.{outcome_of};
 
 use crate::edges::{get_directed_edge_origin, is_valid_directed_edge};
 use crate::hierarchy::{
-    cell_to_center_child, cell_to_child_pos, cell_to_children_size, cell_to_parent,
+    cell_to_center_child, cell_to_child_pos, cell_to_children_size, cell_to_last_child,
+    cell_to_parent,
 };
 use crate::inspection::{
     get_base_cell_number, get_resolution, is_pentagon, is_res_class_iii, is_valid_cell,
@@ -46,6 +47,7 @@ pub fn outcome_of(function: CellFunction, index: u64) -> Outcome
         IsResClassIII => Outcome::Truth(is_res_class_iii(index)),
         CellToParent { res } => Outcome::Cell(cell_to_parent(index, res)),
         CellToCenterChild { res } => Outcome::Cell(cell_to_center_child(index, res)),
+        CellToLastChild { res } => Outcome::Cell(cell_to_last_child(index, res)),
         CellToChildrenSize { res } => Outcome::Count(cell_to_children_size(index, res)),
         CellToChildPos { res } => Outcome::Count(cell_to_child_pos(index, res)),
         GetDirectedEdgeOrigin => Outcome::Cell(get_directed_edge_origin(index)),

@@ -3,7 +3,7 @@
 use h3_requests::{CellFunction, Command};
 
 /// A command of each variant, of these words, with each function of one index.
-fn commands(cell: Option<u64>, to: Option<u64>, position: u64, res: i32) -> [Command; 44] {
+fn commands(cell: Option<u64>, to: Option<u64>, position: u64, res: i32) -> [Command; 46] {
     let edge = cell;
     let k = res;
     [
@@ -17,6 +17,7 @@ fn commands(cell: Option<u64>, to: Option<u64>, position: u64, res: i32) -> [Com
         Command::GetPentagons { res },
         Command::CellToParent { cell, res },
         Command::CellToCenterChild { cell, res },
+        Command::CellToLastChild { cell, res },
         Command::CellToChildren { cell, res },
         Command::CellToChildrenSize { cell, res },
         Command::CellToChildPos { cell, res },
@@ -51,6 +52,7 @@ fn commands(cell: Option<u64>, to: Option<u64>, position: u64, res: i32) -> [Com
         Command::ForEach(CellFunction::IsResClassIII),
         Command::ForEach(CellFunction::CellToParent { res }),
         Command::ForEach(CellFunction::CellToCenterChild { res }),
+        Command::ForEach(CellFunction::CellToLastChild { res }),
         Command::ForEach(CellFunction::CellToChildrenSize { res }),
         Command::ForEach(CellFunction::CellToChildPos { res }),
         Command::ForEach(CellFunction::GetDirectedEdgeOrigin),
@@ -80,16 +82,16 @@ fn only_the_same_commands_are_equal(rt: HostRuntime) {
     }
 }
 
-/// Words of commands, and how many commands differ by them from those of 1, 2, 3 and 4: 17 commands
-/// have a cell and 3 an edge, 2 another cell, 1 a position, 14 a resolution and 3 a radius.
+/// Words of commands, and how many commands differ by them from those of 1, 2, 3 and 4: 18 commands
+/// have a cell and 3 an edge, 2 another cell, 1 a position, 16 a resolution and 3 a radius.
 static OTHER_WORDS: [(Option<u64>, Option<u64>, u64, i32, usize); 7] = [
     (Some(1), Some(2), 3, 4, 0),
-    (None, Some(2), 3, 4, 20),
-    (Some(5), Some(2), 3, 4, 20),
+    (None, Some(2), 3, 4, 21),
+    (Some(5), Some(2), 3, 4, 21),
     (Some(1), None, 3, 4, 2),
     (Some(1), Some(5), 3, 4, 2),
     (Some(1), Some(2), 5, 4, 1),
-    (Some(1), Some(2), 3, 5, 17),
+    (Some(1), Some(2), 3, 5, 19),
 ];
 
 #[test]

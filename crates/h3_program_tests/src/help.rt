@@ -96,7 +96,7 @@ fn refuses_the_version_elsewhere(rt: HostRuntime) {
 }
 
 /// The words that name the commands.
-static COMMAND_WORDS: [&str; 44] = [
+static COMMAND_WORDS: [&str; 46] = [
     "isValidCell",
     "getResolution",
     "getBaseCellNumber",
@@ -107,6 +107,7 @@ static COMMAND_WORDS: [&str; 44] = [
     "getPentagons",
     "cellToParent",
     "cellToCenterChild",
+    "cellToLastChild",
     "cellToChildren",
     "cellToChildrenSize",
     "cellToChildPos",
@@ -137,6 +138,7 @@ static COMMAND_WORDS: [&str; 44] = [
     "areResClassIII",
     "cellsToParents",
     "cellsToCenterChildren",
+    "cellsToLastChildren",
     "cellsToChildrenSizes",
     "cellsToChildPositions",
     "getDirectedEdgeOrigins",
@@ -230,7 +232,7 @@ fn help_says_what_a_file_may_be_refused_for(rt: HostRuntime) {
 }
 
 /// How a list is given to each command that reads one.
-static LIST_USAGES: [(&str, &str); 21] = [
+static LIST_USAGES: [(&str, &str); 22] = [
     ("h3 compactCells -h", "Usage: h3 compactCells < cells\n"),
     (
         "h3 uncompactCells -h",
@@ -282,6 +284,10 @@ static LIST_USAGES: [(&str, &str); 21] = [
         "Usage: h3 cellsToCenterChildren --resolution <resolution> < cells\n",
     ),
     (
+        "h3 cellsToLastChildren -h",
+        "Usage: h3 cellsToLastChildren --resolution <resolution> < cells\n",
+    ),
+    (
         "h3 cellsToChildrenSizes -h",
         "Usage: h3 cellsToChildrenSizes --resolution <resolution> < cells\n",
     ),
@@ -331,7 +337,7 @@ fn help_says_that_an_error_of_a_list_is_told_with_its_line(rt: HostRuntime) {
 }
 
 /// What each command answers, as the list of commands says it, and as its own help does.
-static ABOUT: [(&str, &str, &str); 44] = [
+static ABOUT: [(&str, &str, &str); 46] = [
     (
         "isValidCell",
         "Whether an index is a valid cell",
@@ -381,6 +387,11 @@ static ABOUT: [(&str, &str, &str); 44] = [
         "cellToCenterChild",
         "The center descendant of a cell at a resolution",
         "The center descendant of a cell at a resolution",
+    ),
+    (
+        "cellToLastChild",
+        "The last descendant of a cell at a resolution",
+        "The last descendant of a cell at a resolution, which has the greatest number",
     ),
     (
         "cellToChildren",
@@ -531,6 +542,11 @@ static ABOUT: [(&str, &str, &str); 44] = [
         "cellsToCenterChildren",
         "The center descendant of each cell",
         "The center descendant at a resolution of each cell listed on standard input",
+    ),
+    (
+        "cellsToLastChildren",
+        "The last descendant of each cell",
+        "The last descendant at a resolution of each cell listed on standard input",
     ),
     (
         "cellsToChildrenSizes",

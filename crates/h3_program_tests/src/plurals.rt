@@ -10,7 +10,7 @@ use std::alloc::Global;
 static PIECES: [usize; 4] = [1, 15, 16, 65536];
 
 /// Each function; those of a resolution with this one.
-fn functions(res: i32) -> [CellFunction; 12] {
+fn functions(res: i32) -> [CellFunction; 13] {
     [
         CellFunction::IsValidCell,
         CellFunction::IsValidDirectedEdge,
@@ -20,6 +20,7 @@ fn functions(res: i32) -> [CellFunction; 12] {
         CellFunction::IsResClassIII,
         CellFunction::CellToParent { res },
         CellFunction::CellToCenterChild { res },
+        CellFunction::CellToLastChild { res },
         CellFunction::CellToChildrenSize { res },
         CellFunction::CellToChildPos { res },
         CellFunction::GetDirectedEdgeOrigin,
@@ -40,6 +41,7 @@ fn singular(function: CellFunction, index: Option<u64>) -> Command {
         CellFunction::IsResClassIII => Command::IsResClassIII { cell },
         CellFunction::CellToParent { res } => Command::CellToParent { cell, res },
         CellFunction::CellToCenterChild { res } => Command::CellToCenterChild { cell, res },
+        CellFunction::CellToLastChild { res } => Command::CellToLastChild { cell, res },
         CellFunction::CellToChildrenSize { res } => Command::CellToChildrenSize { cell, res },
         CellFunction::CellToChildPos { res } => Command::CellToChildPos { cell, res },
         CellFunction::GetDirectedEdgeOrigin => Command::GetDirectedEdgeOrigin { edge },
@@ -238,7 +240,7 @@ fn is_answered(
 const TWO: &str = "85283473fffffff\n8009fffffffffff";
 
 /// Functions, lists and the answers.
-static ANSWERS: [(CellFunction, &str, &str); 12] = [
+static ANSWERS: [(CellFunction, &str, &str); 13] = [
     (
         CellFunction::IsValidCell,
         "85283473fffffff\n0X85283473FFFFFFF\n81087ffffffffff\n80f5fffffffffff\n\
@@ -263,6 +265,11 @@ static ANSWERS: [(CellFunction, &str, &str); 12] = [
         CellFunction::CellToCenterChild { res: 15 },
         "85283473fffffff\n8f2834700000000\n",
         "8f2834700000000\n8f2834700000000\n",
+    ),
+    (
+        CellFunction::CellToLastChild { res: 7 },
+        "85283473fffffff\n8009fffffffffff\n872834736ffffff\n",
+        "872834736ffffff\n8709b6db6ffffff\n872834736ffffff\n",
     ),
     (
         CellFunction::CellToChildrenSize { res: 15 },
@@ -363,9 +370,10 @@ fn the_first_line_that_is_refused_ends_the_answer(rt: HostRuntime) {
 }
 
 /// Functions of a resolution, with one out of range.
-static OUT_OF_RANGE: [CellFunction; 4] = [
+static OUT_OF_RANGE: [CellFunction; 5] = [
     CellFunction::CellToParent { res: 16 },
     CellFunction::CellToCenterChild { res: 16 },
+    CellFunction::CellToLastChild { res: 16 },
     CellFunction::CellToChildrenSize { res: 16 },
     CellFunction::CellToChildPos { res: 16 },
 ];

@@ -156,7 +156,7 @@ fn refuses_other_words_of_edges(rt: HostRuntime) {
 }
 
 /// Invalid lines of functions of each index of a list.
-static OTHER_WORDS_OF_FUNCTIONS: [&str; 28] = [
+static OTHER_WORDS_OF_FUNCTIONS: [&str; 30] = [
     "h3 areValidCells -c 85283473fffffff",
     "h3 areValidCells -r 4",
     "h3 areValidCells 85283473fffffff",
@@ -181,6 +181,8 @@ static OTHER_WORDS_OF_FUNCTIONS: [&str; 28] = [
     "h3 cellsToParents -r 4 list",
     "h3 cellsToCenterChildren",
     "h3 cellsToCenterChildren -r=-1",
+    "h3 cellsToLastChildren",
+    "h3 cellsToLastChildren -r 4 -c 0",
     "h3 cellsToChildrenSizes",
     "h3 cellsToChildrenSizes -r 4 --table t",
     "h3 cellsToChildPositions",

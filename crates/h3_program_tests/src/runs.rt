@@ -172,13 +172,37 @@ fn ancestors_are_written(rt: HostRuntime) {
 }
 
 /// Descendants, and numbers of them.
-static DESCENDANTS: [Row; 12] = [
+static DESCENDANTS: [Row; 17] = [
     (
         Command::CellToCenterChild {
             cell: HEXAGON,
             res: 15,
         },
         "8f2834700000000\n",
+        "",
+    ),
+    (
+        Command::CellToLastChild {
+            cell: HEXAGON,
+            res: 7,
+        },
+        "872834736ffffff\n",
+        "",
+    ),
+    (
+        Command::CellToLastChild {
+            cell: HEXAGON,
+            res: 5,
+        },
+        "85283473fffffff\n",
+        "",
+    ),
+    (
+        Command::CellToLastChild {
+            cell: PENTAGON,
+            res: 1,
+        },
+        "8109bffffffffff\n",
         "",
     ),
     (
@@ -231,6 +255,14 @@ static DESCENDANTS: [Row; 12] = [
         RES_DOMAIN,
     ),
     (
+        Command::CellToLastChild {
+            cell: HEXAGON,
+            res: 4,
+        },
+        "",
+        RES_DOMAIN,
+    ),
+    (
         Command::CellToChildren {
             cell: HEXAGON,
             res: 4,
@@ -248,6 +280,14 @@ static DESCENDANTS: [Row; 12] = [
     ),
     (
         Command::CellToCenterChild {
+            cell: HEXAGON,
+            res: 16,
+        },
+        "",
+        RES_DOMAIN,
+    ),
+    (
+        Command::CellToLastChild {
             cell: HEXAGON,
             res: 16,
         },

@@ -109,7 +109,7 @@ fn reads_resolutions(rt: HostRuntime) {
 }
 
 /// Lines of commands on a cell with a resolution.
-static OF_A_CELL_AND_A_RESOLUTION: [(&str, Command); 6] = [
+static OF_A_CELL_AND_A_RESOLUTION: [(&str, Command); 7] = [
     (
         "h3 cellToParent -r 4 -c 85283473fffffff",
         Command::CellToParent { cell: CELL, res: 4 },
@@ -117,6 +117,10 @@ static OF_A_CELL_AND_A_RESOLUTION: [(&str, Command); 6] = [
     (
         "h3 cellToCenterChild -c 85283473fffffff -r +6",
         Command::CellToCenterChild { cell: CELL, res: 6 },
+    ),
+    (
+        "h3 cellToLastChild -r 7 -c 85283473fffffff",
+        Command::CellToLastChild { cell: CELL, res: 7 },
     ),
     (
         "h3 cellToChildren --cell 85283473fffffff -r6",
@@ -179,7 +183,7 @@ fn reads_functions_of_each_index_of_a_list(rt: HostRuntime) {
 }
 
 /// Lines of functions of each cell of a list with a resolution.
-static FUNCTIONS_WITH_A_RESOLUTION: [(&str, CellFunction); 5] = [
+static FUNCTIONS_WITH_A_RESOLUTION: [(&str, CellFunction); 6] = [
     (
         "h3 cellsToParents -r 4",
         CellFunction::CellToParent { res: 4 },
@@ -191,6 +195,10 @@ static FUNCTIONS_WITH_A_RESOLUTION: [(&str, CellFunction); 5] = [
     (
         "h3 cellsToCenterChildren -r +6",
         CellFunction::CellToCenterChild { res: 6 },
+    ),
+    (
+        "h3 cellsToLastChildren --resolution 6",
+        CellFunction::CellToLastChild { res: 6 },
     ),
     (
         "h3 cellsToChildrenSizes -r16",

@@ -28,6 +28,9 @@ pub enum CellFunction {
     /// `cellToCenterChild`
     CellToCenterChild { res: i32 },
 
+    /// `cellToLastChild`
+    CellToLastChild { res: i32 },
+
     /// `cellToChildrenSize`
     CellToChildrenSize { res: i32 },
 
@@ -92,6 +95,12 @@ pub enum Command {
 
     /// The descendant of a cell at a resolution whose further digits are 0.
     CellToCenterChild {
+        cell: Option<u64>,
+        res: i32,
+    },
+
+    /// The last descendant of a cell at a resolution, whose further digits are 6.
+    CellToLastChild {
         cell: Option<u64>,
         res: i32,
     },

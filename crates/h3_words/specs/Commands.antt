@@ -17,14 +17,14 @@ use Rattle.h3_words.specs.declared.commands.CommandName.TheVariants as name
 abbrev pub command_names : List CommandName
 command_names =
     name.IsValidCell ∷ name.GetResolution ∷ name.GetBaseCellNumber ∷ name.IsPentagon ∷ name.IsResClassIII ∷
-    name.GetNumCells ∷ name.GetRes0Cells ∷ name.GetPentagons ∷ name.CellToParent ∷ name.CellToCenterChild ∷
+    name.GetNumCells ∷ name.GetRes0Cells ∷ name.GetPentagons ∷ name.CellToParent ∷ name.CellToCenterChild ∷ name.CellToLastChild ∷
     name.CellToChildren ∷ name.CellToChildrenSize ∷ name.CellToChildPos ∷ name.ChildPosToCell ∷ name.CompactCells ∷
     name.UncompactCells ∷ name.UncompactCellsSize ∷ name.UniteCells ∷ name.IntersectCells ∷ name.SubtractCells ∷ name.AreCoveredCells ∷
     name.CellsToZones ∷ name.CountCellsInZones ∷ name.GridDiskUnsafe ∷ name.GridDiskDistancesUnsafe ∷ name.GridRingUnsafe ∷
     name.AreNeighborCells ∷ name.CellsToDirectedEdge ∷ name.IsValidDirectedEdge ∷ name.GetDirectedEdgeOrigin ∷
     name.GetDirectedEdgeDestination ∷ name.OriginToDirectedEdges ∷
     name.AreValidCells ∷ name.AreValidDirectedEdges ∷ name.GetResolutions ∷ name.GetBaseCellNumbers ∷ name.ArePentagons ∷ name.AreResClassIII ∷
-    name.CellsToParents ∷ name.CellsToCenterChildren ∷ name.CellsToChildrenSizes ∷ name.CellsToChildPositions ∷ name.GetDirectedEdgeOrigins ∷ name.OriginsToDirectedEdges ∷ []
+    name.CellsToParents ∷ name.CellsToCenterChildren ∷ name.CellsToLastChildren ∷ name.CellsToChildrenSizes ∷ name.CellsToChildPositions ∷ name.GetDirectedEdgeOrigins ∷ name.OriginsToDirectedEdges ∷ []
 
 -- a command's word and its options
 pub record Entry : Type 0 where
@@ -43,6 +43,7 @@ entry_of name.GetRes0Cells = record { word = codes "getRes0Cells"; options = [] 
 entry_of name.GetPentagons = record { word = codes "getPentagons"; options = Resolution ∷ [] }
 entry_of name.CellToParent = record { word = codes "cellToParent"; options = Cell ∷ Resolution ∷ [] }
 entry_of name.CellToCenterChild = record { word = codes "cellToCenterChild"; options = Cell ∷ Resolution ∷ [] }
+entry_of name.CellToLastChild = record { word = codes "cellToLastChild"; options = Cell ∷ Resolution ∷ [] }
 entry_of name.CellToChildren = record { word = codes "cellToChildren"; options = Cell ∷ Resolution ∷ [] }
 entry_of name.CellToChildrenSize = record { word = codes "cellToChildrenSize"; options = Cell ∷ Resolution ∷ [] }
 entry_of name.CellToChildPos = record { word = codes "cellToChildPos"; options = Cell ∷ Resolution ∷ [] }
@@ -73,6 +74,7 @@ entry_of name.ArePentagons = record { word = codes "arePentagons"; options = [] 
 entry_of name.AreResClassIII = record { word = codes "areResClassIII"; options = [] }
 entry_of name.CellsToParents = record { word = codes "cellsToParents"; options = Resolution ∷ [] }
 entry_of name.CellsToCenterChildren = record { word = codes "cellsToCenterChildren"; options = Resolution ∷ [] }
+entry_of name.CellsToLastChildren = record { word = codes "cellsToLastChildren"; options = Resolution ∷ [] }
 entry_of name.CellsToChildrenSizes = record { word = codes "cellsToChildrenSizes"; options = Resolution ∷ [] }
 entry_of name.CellsToChildPositions = record { word = codes "cellsToChildPositions"; options = Resolution ∷ [] }
 entry_of name.GetDirectedEdgeOrigins = record { word = codes "getDirectedEdgeOrigins"; options = [] }
@@ -107,6 +109,7 @@ call_of command.GetRes0Cells = (name.GetRes0Cells, [])
 call_of (command.GetPentagons res) = (name.GetPentagons, Number Resolution res ∷ [])
 call_of (command.CellToParent cell res) = (name.CellToParent, Index Cell cell ∷ Number Resolution res ∷ [])
 call_of (command.CellToCenterChild cell res) = (name.CellToCenterChild, Index Cell cell ∷ Number Resolution res ∷ [])
+call_of (command.CellToLastChild cell res) = (name.CellToLastChild, Index Cell cell ∷ Number Resolution res ∷ [])
 call_of (command.CellToChildren cell res) = (name.CellToChildren, Index Cell cell ∷ Number Resolution res ∷ [])
 call_of (command.CellToChildrenSize cell res) = (name.CellToChildrenSize, Index Cell cell ∷ Number Resolution res ∷ [])
 call_of (command.CellToChildPos cell res) = (name.CellToChildPos, Index Cell cell ∷ Number Resolution res ∷ [])
@@ -138,6 +141,7 @@ call_of (command.ForEach each.IsPentagon) = (name.ArePentagons, [])
 call_of (command.ForEach each.IsResClassIII) = (name.AreResClassIII, [])
 call_of (command.ForEach (each.CellToParent res)) = (name.CellsToParents, Number Resolution res ∷ [])
 call_of (command.ForEach (each.CellToCenterChild res)) = (name.CellsToCenterChildren, Number Resolution res ∷ [])
+call_of (command.ForEach (each.CellToLastChild res)) = (name.CellsToLastChildren, Number Resolution res ∷ [])
 call_of (command.ForEach (each.CellToChildrenSize res)) = (name.CellsToChildrenSizes, Number Resolution res ∷ [])
 call_of (command.ForEach (each.CellToChildPos res)) = (name.CellsToChildPositions, Number Resolution res ∷ [])
 call_of (command.ForEach each.GetDirectedEdgeOrigin) = (name.GetDirectedEdgeOrigins, [])

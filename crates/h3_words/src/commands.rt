@@ -31,6 +31,7 @@ pub enum CommandName {
     GetPentagons,
     CellToParent,
     CellToCenterChild,
+    CellToLastChild,
     CellToChildren,
     CellToChildrenSize,
     CellToChildPos,
@@ -61,13 +62,14 @@ pub enum CommandName {
     AreResClassIII,
     CellsToParents,
     CellsToCenterChildren,
+    CellsToLastChildren,
     CellsToChildrenSizes,
     CellsToChildPositions,
     GetDirectedEdgeOrigins,
     OriginsToDirectedEdges,
 }
 
-static COMMAND_NAMES: [CommandName; 44] = [
+static COMMAND_NAMES: [CommandName; 46] = [
     CommandName::IsValidCell,
     CommandName::GetResolution,
     CommandName::GetBaseCellNumber,
@@ -78,6 +80,7 @@ static COMMAND_NAMES: [CommandName; 44] = [
     CommandName::GetPentagons,
     CommandName::CellToParent,
     CommandName::CellToCenterChild,
+    CommandName::CellToLastChild,
     CommandName::CellToChildren,
     CommandName::CellToChildrenSize,
     CommandName::CellToChildPos,
@@ -108,6 +111,7 @@ static COMMAND_NAMES: [CommandName; 44] = [
     CommandName::AreResClassIII,
     CommandName::CellsToParents,
     CommandName::CellsToCenterChildren,
+    CommandName::CellsToLastChildren,
     CommandName::CellsToChildrenSizes,
     CommandName::CellsToChildPositions,
     CommandName::GetDirectedEdgeOrigins,
@@ -176,6 +180,10 @@ impl CommandName {
             },
             CommandName::CellToCenterChild => Entry {
                 word: "cellToCenterChild",
+                options: &[Cell, Resolution],
+            },
+            CommandName::CellToLastChild => Entry {
+                word: "cellToLastChild",
                 options: &[Cell, Resolution],
             },
             CommandName::CellToChildren => Entry {
@@ -298,6 +306,10 @@ impl CommandName {
                 word: "cellsToCenterChildren",
                 options: &[Resolution],
             },
+            CommandName::CellsToLastChildren => Entry {
+                word: "cellsToLastChildren",
+                options: &[Resolution],
+            },
             CommandName::CellsToChildrenSizes => Entry {
                 word: "cellsToChildrenSizes",
                 options: &[Resolution],
@@ -381,6 +393,7 @@ impl CommandName {
             CommandName::GetPentagons => asked!(GetPentagons, res),
             CommandName::CellToParent => asked!(CellToParent, cell, res),
             CommandName::CellToCenterChild => asked!(CellToCenterChild, cell, res),
+            CommandName::CellToLastChild => asked!(CellToLastChild, cell, res),
             CommandName::CellToChildren => asked!(CellToChildren, cell, res),
             CommandName::CellToChildrenSize => asked!(CellToChildrenSize, cell, res),
             CommandName::CellToChildPos => asked!(CellToChildPos, cell, res),
@@ -415,6 +428,9 @@ impl CommandName {
                 res: res(),
             }),
             CommandName::CellsToCenterChildren => Command::ForEach(CellFunction::CellToCenterChild {
+                res: res(),
+            }),
+            CommandName::CellsToLastChildren => Command::ForEach(CellFunction::CellToLastChild {
                 res: res(),
             }),
             CommandName::CellsToChildrenSizes => Command::ForEach(CellFunction::CellToChildrenSize {

@@ -24,6 +24,7 @@ pub(crate) const HELP: &str = "Inspect, traverse and compact H3 cells\n\n\
     Hierarchy:\n\
     \x20 cellToParent                The ancestor of a cell at a resolution\n\
     \x20 cellToCenterChild           The center descendant of a cell at a resolution\n\
+    \x20 cellToLastChild             The last descendant of a cell at a resolution\n\
     \x20 cellToChildren              The descendants of a cell at a resolution\n\
     \x20 cellToChildrenSize          How many descendants a cell has at a resolution\n\
     \x20 cellToChildPos              The position of a cell below an ancestor\n\
@@ -57,6 +58,7 @@ pub(crate) const HELP: &str = "Inspect, traverse and compact H3 cells\n\n\
     \x20 areResClassIII              Whether the resolution of each cell is Class III\n\
     \x20 cellsToParents              The ancestor of each cell at a resolution\n\
     \x20 cellsToCenterChildren       The center descendant of each cell\n\
+    \x20 cellsToLastChildren         The last descendant of each cell\n\
     \x20 cellsToChildrenSizes        How many descendants each cell has\n\
     \x20 cellsToChildPositions       The position of each cell below an ancestor\n\
     \x20 getDirectedEdgeOrigins      The cell that each directed edge leaves\n\
@@ -188,6 +190,8 @@ impl CommandName {
             CommandName::GetPentagons => "The twelve pentagons of a resolution",
             CommandName::CellToParent => "The ancestor of a cell at a resolution",
             CommandName::CellToCenterChild => "The center descendant of a cell at a resolution",
+            CommandName::CellToLastChild =>
+                "The last descendant of a cell at a resolution, which has the greatest number",
             CommandName::CellToChildren => "The descendants of a cell at a resolution, ascending",
             CommandName::CellToChildrenSize => "How many descendants a cell has at a resolution",
             CommandName::CellToChildPos =>
@@ -236,6 +240,8 @@ impl CommandName {
                 "The ancestor at a resolution of each cell listed on standard input",
             CommandName::CellsToCenterChildren =>
                 "The center descendant at a resolution of each cell listed on standard input",
+            CommandName::CellsToLastChildren =>
+                "The last descendant at a resolution of each cell listed on standard input",
             CommandName::CellsToChildrenSizes =>
                 "How many descendants at a resolution each cell listed on standard input has",
             CommandName::CellsToChildPositions =>
@@ -269,6 +275,11 @@ impl CommandName {
             CommandName::CellToCenterChild => notes!(
                 descendants,
                 "h3 cellToCenterChild -c 85283473fffffff -r 6"
+            ),
+            CommandName::CellToLastChild => notes!(
+                descendants "The cells of the resolution from the center descendant to the last one, by\n\
+                number, are the cell's descendants there, and no others.\n",
+                "h3 cellToLastChild -c 85283473fffffff -r 6"
             ),
             CommandName::CellToChildren => notes!(
                 descendants,
@@ -370,6 +381,10 @@ impl CommandName {
                 list descendants,
                 "h3 cellsToCenterChildren -r 6 < cells"
             ),
+            CommandName::CellsToLastChildren => notes!(
+                list descendants,
+                "h3 cellsToLastChildren -r 6 < cells"
+            ),
             CommandName::CellsToChildrenSizes => notes!(
                 list descendants,
                 "h3 cellsToChildrenSizes -r 6 < cells"
@@ -417,6 +432,9 @@ impl CommandName {
             ),
             CommandName::CellsToCenterChildren => Some(
                 "h3 cellsToCenterChildren --resolution <resolution> < cells",
+            ),
+            CommandName::CellsToLastChildren => Some(
+                "h3 cellsToLastChildren --resolution <resolution> < cells",
             ),
             CommandName::CellsToChildrenSizes => Some(
                 "h3 cellsToChildrenSizes --resolution <resolution> < cells",
