@@ -17,7 +17,7 @@ typedef uint32_t NumberAt(uint64_t, int, int64_t *);
 /* The library's functions. */
 static struct {
     OfIndex *is_valid_cell, *get_resolution, *get_base_cell_number, *is_pentagon, *is_res_class_iii, *is_valid_edge;
-    IndexAt *to_parent, *to_center_child;
+    IndexAt *to_parent, *to_center_child, *to_last_child;
     NumberAt *to_children_size, *to_child_pos;
     uint32_t (*edge_origin)(uint64_t, uint64_t *);
     uint32_t (*string_to_h3)(const char *, size_t, uint64_t *);
@@ -36,6 +36,7 @@ static const struct {
     {"h3w_isValidDirectedEdge", &library.is_valid_edge},
     {"h3w_cellToParent", &library.to_parent},
     {"h3w_cellToCenterChild", &library.to_center_child},
+    {"h3w_cellToLastChild", &library.to_last_child},
     {"h3w_cellToChildrenSize", &library.to_children_size},
     {"h3w_cellToChildPos", &library.to_child_pos},
     {"h3w_getDirectedEdgeOrigin", &library.edge_origin},
@@ -164,6 +165,7 @@ static int wanted_res(uint64_t index, PyObject *given, int step, int *res) {
     }
 INDEX_AT(cell_to_parent, to_parent, -1)
 INDEX_AT(cell_to_center_child, to_center_child, 1)
+INDEX_AT(cell_to_last_child, to_last_child, 1)
 
 #define NUMBER_AT(name, function, step)                                                                                \
     static int name(uint64_t index, PyObject *given, Give *give, PyObject **result) {                                  \
@@ -208,9 +210,10 @@ static int int_to_str(uint64_t index, PyObject *res, Give *give, PyObject **resu
     FUNCTION(kind, 5, is_valid_directed_edge, 1, 1)                                                                    \
     FUNCTION(kind, 6, cell_to_parent, 1, 2)                                                                            \
     FUNCTION(kind, 7, cell_to_center_child, 1, 2)                                                                      \
-    FUNCTION(kind, 8, cell_to_children_size, 1, 2)                                                                     \
-    FUNCTION(kind, 9, cell_to_child_pos, 2, 2)                                                                         \
-    FUNCTION(kind, 10, get_directed_edge_origin, 1, 1)
+    FUNCTION(kind, 8, cell_to_last_child, 1, 2)                                                                        \
+    FUNCTION(kind, 9, cell_to_children_size, 1, 2)                                                                     \
+    FUNCTION(kind, 10, cell_to_child_pos, 2, 2)                                                                        \
+    FUNCTION(kind, 11, get_directed_edge_origin, 1, 1)
 OF_ONE_INDEX(text)
 OF_ONE_INDEX(integer)
 
@@ -220,17 +223,17 @@ static PyObject *text_str_to_int(PyObject *self, PyObject *const *given, Py_ssiz
     PyObject *result = NULL;
     (void)self;
     if (!names && count == 1 && take_text(given[0], &index) && str_to_int(index, NULL, NULL, &result)) return result;
-    return pass_on(integers_in_python[11], given, count, names);
+    return pass_on(integers_in_python[12], given, count, names);
 }
-FUNCTION(integer, 12, int_to_str, 1, 1)
+FUNCTION(integer, 13, int_to_str, 1, 1)
 
 #define METHOD(kind, name)                                                                                             \
     { #name, (PyCFunction)(void (*)(void))kind##_##name, METH_FASTCALL | METH_KEYWORDS, NULL }
 #define METHODS(kind)                                                                                                  \
     METHOD(kind, is_valid_cell), METHOD(kind, get_resolution), METHOD(kind, get_base_cell_number),                     \
         METHOD(kind, is_pentagon), METHOD(kind, is_res_class_III), METHOD(kind, is_valid_directed_edge),               \
-        METHOD(kind, cell_to_parent), METHOD(kind, cell_to_center_child), METHOD(kind, cell_to_children_size),         \
-        METHOD(kind, cell_to_child_pos), METHOD(kind, get_directed_edge_origin)
+        METHOD(kind, cell_to_parent), METHOD(kind, cell_to_center_child), METHOD(kind, cell_to_last_child),            \
+        METHOD(kind, cell_to_children_size), METHOD(kind, cell_to_child_pos), METHOD(kind, get_directed_edge_origin)
 static PyMethodDef of_texts[] = {METHODS(text), {NULL, NULL, 0, NULL}};
 static PyMethodDef of_integers[] = {
     METHODS(integer), METHOD(text, str_to_int), METHOD(integer, int_to_str), {NULL, NULL, 0, NULL}};

@@ -32,6 +32,7 @@ __all__ = [
     "cell_to_child_pos",
     "cell_to_children",
     "cell_to_children_size",
+    "cell_to_last_child",
     "cell_to_parent",
     "cells_to_directed_edge",
     "child_pos_to_cell",
@@ -244,6 +245,13 @@ def cell_to_center_child(cell: str, res: Optional[SupportsIndex] = None) -> str:
     """
     wanted = get_resolution(cell) + 1 if res is None else res
     return _integers._text_at_resolution(_integers._cell_to_center_child, cell, wanted)
+
+
+def cell_to_last_child(cell: str, res: Optional[SupportsIndex] = None) -> str:
+    """The text of a cell's last descendant at a resolution, by default the next finer one: the one with the greatest
+    number."""
+    wanted = get_resolution(cell) + 1 if res is None else res
+    return _integers._text_at_resolution(_integers._cell_to_last_child, cell, wanted)
 
 
 def cell_to_children_size(cell: str, res: Optional[SupportsIndex] = None) -> _int:

@@ -37,6 +37,7 @@ __all__ = [
     "cells_to_center_children",
     "cells_to_child_positions",
     "cells_to_children_sizes",
+    "cells_to_last_children",
     "cells_to_parents",
     "compact_cells",
     "get_base_cell_numbers",
@@ -338,6 +339,7 @@ _are_pentagons = _function("arePentagons")
 _are_res_class_iii = _function("areResClassIII")
 _cells_to_parents = _function("cellsToParents", _resolution)
 _cells_to_center_children = _function("cellsToCenterChildren", _resolution)
+_cells_to_last_children = _function("cellsToLastChildren", _resolution)
 _cells_to_children_sizes = _function("cellsToChildrenSizes", _resolution)
 _cells_to_child_positions = _function("cellsToChildPositions", _resolution)
 _get_directed_edge_origins = _function("getDirectedEdgeOrigins")
@@ -511,6 +513,11 @@ def cells_to_center_children(column: _Column, res: SupportsIndex, *, missing: bo
         If one is not a valid cell.
     """
     return _fill(_cells_to_center_children, column, _INDEXES, missing, res=res)  # type: ignore[no-any-return]
+
+
+def cells_to_last_children(column: _Column, res: SupportsIndex, *, missing: bool = False) -> _Column:
+    """The last descendant of each cell at a resolution, which has the greatest number."""
+    return _fill(_cells_to_last_children, column, _INDEXES, missing, res=res)  # type: ignore[no-any-return]
 
 
 def cells_to_children_sizes(column: _Column, res: SupportsIndex, *, missing: bool = False) -> _Column:

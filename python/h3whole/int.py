@@ -26,6 +26,7 @@ __all__ = [
     "cell_to_child_pos",
     "cell_to_children",
     "cell_to_children_size",
+    "cell_to_last_child",
     "cell_to_parent",
     "cells_to_directed_edge",
     "child_pos_to_cell",
@@ -62,6 +63,7 @@ _get_res0_cells = _library.raising("getRes0Cells", _array, _size)
 _get_pentagons = _library.number("getPentagons", _resolution, _array, _size)
 _cell_to_parent = _library.number("cellToParent", _index, _resolution, _out_index)
 _cell_to_center_child = _library.number("cellToCenterChild", _index, _resolution, _out_index)
+_cell_to_last_child = _library.number("cellToLastChild", _index, _resolution, _out_index)
 _cell_to_children_size = _library.number("cellToChildrenSize", _index, _resolution, _out_number)
 _cell_to_children = _library.raising("cellToChildren", _index, _resolution, _array, _size)
 _cell_to_child_pos = _library.number("cellToChildPos", _index, _resolution, _out_number)
@@ -376,6 +378,12 @@ def cell_to_center_child(cell: SupportsIndex, res: Optional[SupportsIndex] = Non
         If the resolution is not from the cell's own to 15.
     """
     return _at_resolution(_cell_to_center_child, _index(), cell, _finer(cell, res))
+
+
+def cell_to_last_child(cell: SupportsIndex, res: Optional[SupportsIndex] = None) -> int:
+    """The last descendant of a cell at a resolution, by default the next finer one: the one with the greatest number.
+    The cells of the resolution from the one in the center to it are the cell's descendants there, and no others."""
+    return _at_resolution(_cell_to_last_child, _index(), cell, _finer(cell, res))
 
 
 def cell_to_children_size(cell: SupportsIndex, res: Optional[SupportsIndex] = None) -> int:

@@ -49,6 +49,7 @@ FUNCTIONS = [
     (columns.get_base_cell_numbers, integers.get_base_cell_number, (), -1),
     (columns.cells_to_parents, integers.cell_to_parent, (4,), 0),
     (columns.cells_to_center_children, integers.cell_to_center_child, (9,), 0),
+    (columns.cells_to_last_children, integers.cell_to_last_child, (9,), 0),
     (columns.cells_to_children_sizes, integers.cell_to_children_size, (15,), -1),
     (columns.cells_to_child_positions, integers.cell_to_child_pos, (3,), -1),
 ]

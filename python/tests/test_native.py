@@ -27,6 +27,7 @@ NAMES = [
     "is_valid_directed_edge",
     "cell_to_parent",
     "cell_to_center_child",
+    "cell_to_last_child",
     "cell_to_children_size",
     "cell_to_child_pos",
     "get_directed_edge_origin",

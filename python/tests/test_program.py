@@ -49,6 +49,7 @@ class Program(unittest.TestCase):
         for words, found in (
             (["cellsToParents", "-r", "4"], columns.cells_to_parents(cells, 4)),
             (["cellsToCenterChildren", "-r", "12"], columns.cells_to_center_children(cells, 12)),
+            (["cellsToLastChildren", "-r", "12"], columns.cells_to_last_children(cells, 12)),
         ):
             self.assertEqual(answers(words, cells), [h3whole.int_to_str(index) for index in found], words)
         for words, found in (

@@ -87,6 +87,12 @@ class Hierarchy(unittest.TestCase):
         self.assertEqual(h3whole.cell_to_children_size("8029fffffffffff", 15), 4747561509943)
         self.assertEqual(h3whole.cell_to_children_size("8009fffffffffff", 15), 3956301258286)
         self.assertEqual(h3whole.cell_to_center_child(CELL, 15), "8f2834700000000")
+        self.assertEqual(h3whole.cell_to_last_child(CELL, 7), "872834736ffffff")
+        self.assertEqual(h3whole.cell_to_last_child(CELL), "862834737ffffff")
+        self.assertEqual(h3whole.cell_to_last_child(CELL, 5), CELL)
+        self.assertEqual(h3whole.cell_to_last_child("8009fffffffffff", 1), "8109bffffffffff")
+        with self.assertRaisesRegex(h3whole.H3ResDomainError, "E_RES_DOMAIN: 85283473fffffff at resolution 4"):
+            h3whole.cell_to_last_child(CELL, 4)
 
     def test_positions(self):
         self.assertEqual(h3whole.cell_to_child_pos(CELL, 0), 2279)

@@ -93,6 +93,7 @@ class OwnType(unittest.TestCase):
     OVER_INDEXES = [
         lambda column: columns.cells_to_parents(column, 4),
         lambda column: columns.cells_to_center_children(column, 9),
+        lambda column: columns.cells_to_last_children(column, 9),
         columns.compact_cells,
         lambda column: columns.uncompact_cells(column, 8),
     ]
@@ -159,6 +160,7 @@ class Missing(unittest.TestCase):
     OVER_RESOLUTIONS = [
         columns.cells_to_parents,
         columns.cells_to_center_children,
+        columns.cells_to_last_children,
         columns.cells_to_children_sizes,
         columns.cells_to_child_positions,
     ]
