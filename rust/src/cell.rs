@@ -69,6 +69,26 @@ impl Cell {
         ffi::center_child(self.raw(), resolution.into()).map(Self::known)
     }
 
+    /// The last descendant at a resolution, which is the greatest one; not a function of H3.
+    /// `ResDomain` where the resolution is coarser than the cell's.
+    ///
+    /// Cells are ordered by their numbers. From the center child to the last child, the cells of
+    /// that resolution are the descendants of this cell, and no others: a slice in that order has
+    /// them side by side.
+    ///
+    /// ```
+    /// use h3whole::{Cell, Error, Resolution};
+    ///
+    /// let cell = Cell::try_from(0x85283473fffffff)?;
+    /// let below = cell.center_child(Resolution::Six)?..=cell.last_child(Resolution::Six)?;
+    /// assert!(below.contains(&Cell::try_from(0x86283471fffffff)?));
+    /// assert!(!below.contains(&Cell::try_from(0x862834747ffffff)?));
+    /// # Ok::<(), Error>(())
+    /// ```
+    pub fn last_child(self, resolution: Resolution) -> Result<Cell, Error> {
+        ffi::last_child(self.raw(), resolution.into()).map(Self::known)
+    }
+
     /// How many descendants there are at a resolution: H3's `cellToChildrenSize`. `ResDomain` where
     /// the resolution is coarser than the cell's.
     pub fn children_count(self, resolution: Resolution) -> Result<u64, Error> {

@@ -88,6 +88,8 @@ columns! {
     /// The descendants of cells in their centers. See
     /// [`Cell::center_child`](crate::Cell::center_child).
     center_children = h3w_cellsToCenterChildren(resolution) -> u64;
+    /// The last descendants of cells. See [`Cell::last_child`](crate::Cell::last_child).
+    last_children = h3w_cellsToLastChildren(resolution) -> u64;
     /// How many descendants cells have. See [`Cell::children_count`](crate::Cell::children_count).
     children_counts = h3w_cellsToChildrenSizes(resolution) -> i64;
     /// The positions of cells below their ancestors. See

@@ -72,6 +72,7 @@ columns! {
     h3w_areResClassIII() -> c_int;
     h3w_cellsToParents(res) -> u64;
     h3w_cellsToCenterChildren(res) -> u64;
+    h3w_cellsToLastChildren(res) -> u64;
     h3w_cellsToChildrenSizes(res) -> i64;
     h3w_cellsToChildPositions(res) -> i64;
     h3w_areValidDirectedEdges() -> c_int;
@@ -142,6 +143,7 @@ extern "C" {
     fn h3w_getPentagons(res: c_int, out: *mut u64, room: usize) -> u32;
     fn h3w_cellToParent(cell: u64, res: c_int, out: &mut u64) -> u32;
     fn h3w_cellToCenterChild(cell: u64, res: c_int, out: &mut u64) -> u32;
+    fn h3w_cellToLastChild(cell: u64, res: c_int, out: &mut u64) -> u32;
     fn h3w_cellToChildrenSize(cell: u64, res: c_int, out: &mut i64) -> u32;
     fn h3w_cellToChildren(cell: u64, res: c_int, out: *mut u64, room: usize) -> u32;
     fn h3w_cellToChildPos(child: u64, res: c_int, out: &mut i64) -> u32;
@@ -278,6 +280,7 @@ macro_rules! of_index_and_resolution {
 of_index_and_resolution! {
     parent = h3w_cellToParent -> u64;
     center_child = h3w_cellToCenterChild -> u64;
+    last_child = h3w_cellToLastChild -> u64;
     children_size = h3w_cellToChildrenSize -> i64;
     child_position = h3w_cellToChildPos -> i64;
 }

@@ -164,6 +164,12 @@ fn hierarchy() {
         hexagon.center_child(Resolution::Four),
         Err(Error::ResDomain)
     );
+    assert_eq!(
+        hexagon.last_child(Resolution::Seven),
+        Ok(cell(0x872834736ffffff))
+    );
+    assert_eq!(hexagon.last_child(Resolution::Five), Ok(hexagon));
+    assert_eq!(hexagon.last_child(Resolution::Four), Err(Error::ResDomain));
     assert_eq!(hexagon.children_vec(Resolution::Six), Ok(cells(&CHILDREN)));
     assert_eq!(
         hexagon.children_vec(Resolution::Four),
@@ -177,6 +183,10 @@ fn hierarchy() {
     assert_eq!(
         pentagon.children_vec(Resolution::One),
         Ok(cells(&PENTAGON_CHILDREN))
+    );
+    assert_eq!(
+        pentagon.last_child(Resolution::One),
+        Ok(cell(0x8109bffffffffff))
     );
     assert_eq!(
         pentagon.children_count(Resolution::Fifteen),
@@ -370,6 +380,9 @@ fn columns_of_all_kinds() {
         columns::center_children(&indexes, Resolution::Fifteen, &mut parents).unwrap_err();
     assert_eq!((refused.error, refused.at), (Error::CellInvalid, 2));
     assert_eq!(parents[1], 0x8f2834700000000);
+    let refused = columns::last_children(&indexes, Resolution::Seven, &mut parents).unwrap_err();
+    assert_eq!((refused.error, refused.at), (Error::CellInvalid, 2));
+    assert_eq!(parents[..3], [0x8709b6db6ffffff, 0x872834736ffffff, 0]);
     let mut counts = vec![1; n];
     columns::children_counts(&indexes[..2], Resolution::Fifteen, &mut counts).unwrap();
     assert_eq!(counts[..3], [3_956_301_258_286, 282_475_249, 1]);
