@@ -1,13 +1,15 @@
 /* The functions of one index, over texts and over integers, and columns of texts: the calls of libh3whole that ctypes
- * makes slowly, by the stable ABI of Python 3.10. The package is whole without it.
+ * makes slowly, by the stable ABI of Python 3.10; and columns for Arrow. All else of the package works without it.
  *
- * Each function here takes the place of one in Python, and calls it for all that is not plain: another type of
+ * Each function of an index takes the place of one in Python, and calls it for all that is not plain: another type of
  * argument, one passed by its name, an error. So errors are made in Python alone. */
 #define Py_LIMITED_API 0x030a0000
 #define PY_SSIZE_T_CLEAN
 #include <Python.h>
 #include <dlfcn.h>
+#include <errno.h>
 #include <stdint.h>
+#include <stdlib.h>
 #include <string.h>
 
 typedef int OfIndex(uint64_t);
@@ -277,6 +279,205 @@ static PyObject *write_texts(PyObject *self, PyObject *given) {
     return list;
 }
 
+/* ---- Columns in Arrow's C data interface. What lets them go is here, and not in Python: it is also called while an
+ * exception is set, with which no callback of ctypes may run. */
+
+struct ArrowSchema {
+    const char *format, *name, *metadata;
+    int64_t flags, n_children;
+    struct ArrowSchema **children, *dictionary;
+    void (*release)(struct ArrowSchema *);
+    void *private_data;
+};
+
+struct ArrowArray {
+    int64_t length, null_count, offset, n_buffers, n_children;
+    const void **buffers;
+    struct ArrowArray **children, *dictionary;
+    void (*release)(struct ArrowArray *);
+    void *private_data;
+};
+
+struct ArrowArrayStream {
+    int (*get_schema)(struct ArrowArrayStream *, struct ArrowSchema *);
+    int (*get_next)(struct ArrowArrayStream *, struct ArrowArray *);
+    const char *(*get_last_error)(struct ArrowArrayStream *);
+    void (*release)(struct ArrowArrayStream *);
+    void *private_data;
+};
+
+enum { NULLABLE = 2, BUFFERS = 3 };
+
+/* What an array has: its buffers, which `owner` keeps. */
+typedef struct {
+    PyObject *owner;
+    const void *buffers[BUFFERS];
+} Buffers;
+
+/* What a stream has: one array, until it is handed on. */
+typedef struct {
+    char format[2];
+    struct ArrowArray array;
+} Stream;
+
+static void release_schema(struct ArrowSchema *schema) {
+    free(schema->private_data);
+    schema->release = NULL;
+}
+
+/* (by any thread, which may have an exception; after the end of Python there is nothing to let go) */
+static void release_array(struct ArrowArray *array) {
+    Buffers *buffers = array->private_data;
+    if (Py_IsInitialized()) {
+        PyGILState_STATE state = PyGILState_Ensure();
+        PyObject *type, *value, *traceback;
+        PyErr_Fetch(&type, &value, &traceback);
+        Py_DECREF(buffers->owner);
+        PyErr_Restore(type, value, traceback);
+        PyGILState_Release(state);
+    }
+    free(buffers);
+    array->release = NULL;
+}
+
+/* 0 where there is no memory. */
+static int fill_schema(struct ArrowSchema *schema, const char *format) {
+    char *own = malloc(2);
+    memset(schema, 0, sizeof *schema);
+    if (!own) return 0;
+    own[0] = format[0];
+    own[1] = 0;
+    schema->format = own;
+    schema->name = "";
+    schema->flags = NULLABLE;
+    schema->release = release_schema;
+    schema->private_data = own;
+    return 1;
+}
+
+/* A column as it comes from Python: (owner, format, length, null count, addresses of buffers). */
+typedef struct {
+    PyObject *owner;
+    const char *format;
+    long long length, nulls;
+    unsigned long long addresses[BUFFERS];
+    int count;
+} Given;
+
+static int take_column(PyObject *arguments, Given *given) {
+    memset(given, 0, sizeof *given);
+    if (!PyArg_ParseTuple(arguments, "OsLL(KKK)i", &given->owner, &given->format, &given->length, &given->nulls,
+                          &given->addresses[0], &given->addresses[1], &given->addresses[2], &given->count))
+        return 0;
+    return 1;
+}
+
+static int fill_array(struct ArrowArray *array, const Given *given) {
+    Buffers *buffers = malloc(sizeof *buffers);
+    int i;
+    memset(array, 0, sizeof *array);
+    if (!buffers) return 0;
+    for (i = 0; i < BUFFERS; i++) buffers->buffers[i] = (const void *)(uintptr_t)given->addresses[i];
+    Py_INCREF(given->owner);
+    buffers->owner = given->owner;
+    array->length = given->length;
+    array->null_count = given->nulls;
+    array->n_buffers = given->count;
+    array->buffers = buffers->buffers;
+    array->release = release_array;
+    array->private_data = buffers;
+    return 1;
+}
+
+static int get_schema(struct ArrowArrayStream *stream, struct ArrowSchema *out) {
+    return fill_schema(out, ((Stream *)stream->private_data)->format) ? 0 : ENOMEM;
+}
+
+static int get_next(struct ArrowArrayStream *stream, struct ArrowArray *out) {
+    Stream *own = stream->private_data;
+    *out = own->array;
+    own->array.release = NULL;
+    return 0;
+}
+
+static const char *get_last_error(struct ArrowArrayStream *stream) {
+    (void)stream;
+    return NULL;
+}
+
+static void release_stream(struct ArrowArrayStream *stream) {
+    Stream *own = stream->private_data;
+    if (own->array.release) own->array.release(&own->array);
+    free(own);
+    stream->release = NULL;
+}
+
+/* What a capsule's end does: it releases what nobody has taken over. */
+#define CAPSULE(name, kind, text)                                                                                      \
+    static void end_##name(PyObject *capsule) {                                                                        \
+        struct kind *held = PyCapsule_GetPointer(capsule, text);                                                       \
+        if (held->release) held->release(held);                                                                        \
+        free(held);                                                                                                    \
+    }                                                                                                                  \
+    static PyObject *capsule_of_##name(struct kind *held) {                                                            \
+        PyObject *capsule = PyCapsule_New(held, text, end_##name);                                                     \
+        if (capsule) return capsule;                                                                                   \
+        held->release(held);                                                                                           \
+        free(held);                                                                                                    \
+        return NULL;                                                                                                   \
+    }
+CAPSULE(schema, ArrowSchema, "arrow_schema")
+CAPSULE(array, ArrowArray, "arrow_array")
+CAPSULE(stream, ArrowArrayStream, "arrow_array_stream")
+
+/* arrow_schema(format) */
+static PyObject *arrow_schema(PyObject *self, PyObject *given) {
+    const char *format;
+    struct ArrowSchema *schema;
+    (void)self;
+    if (!PyArg_ParseTuple(given, "s", &format)) return NULL;
+    schema = malloc(sizeof *schema);
+    if (schema && fill_schema(schema, format)) return capsule_of_schema(schema);
+    free(schema);
+    return PyErr_NoMemory();
+}
+
+/* arrow_array(owner, format, length, null count, addresses, count of buffers) */
+static PyObject *arrow_array(PyObject *self, PyObject *arguments) {
+    Given given;
+    struct ArrowArray *array;
+    (void)self;
+    if (!take_column(arguments, &given)) return NULL;
+    array = malloc(sizeof *array);
+    if (array && fill_array(array, &given)) return capsule_of_array(array);
+    free(array);
+    return PyErr_NoMemory();
+}
+
+/* arrow_stream(..): the same, as a stream of this one array. */
+static PyObject *arrow_stream(PyObject *self, PyObject *arguments) {
+    Given given;
+    Stream *own;
+    struct ArrowArrayStream *stream;
+    (void)self;
+    if (!take_column(arguments, &given)) return NULL;
+    own = malloc(sizeof *own);
+    stream = malloc(sizeof *stream);
+    if (own && stream && fill_array(&own->array, &given)) {
+        own->format[0] = given.format[0];
+        own->format[1] = 0;
+        stream->get_schema = get_schema;
+        stream->get_next = get_next;
+        stream->get_last_error = get_last_error;
+        stream->release = release_stream;
+        stream->private_data = own;
+        return capsule_of_stream(stream);
+    }
+    free(own);
+    free(stream);
+    return PyErr_NoMemory();
+}
+
 /* ---- The module */
 
 /* Puts the functions of a table into the place of those in Python, which are kept. */
@@ -339,6 +540,9 @@ static PyMethodDef methods[] = {
     {"replace", replace, METH_VARARGS, NULL},
     {"read_texts", read_texts, METH_VARARGS, NULL},
     {"write_texts", write_texts, METH_VARARGS, NULL},
+    {"arrow_schema", arrow_schema, METH_VARARGS, NULL},
+    {"arrow_array", arrow_array, METH_VARARGS, NULL},
+    {"arrow_stream", arrow_stream, METH_VARARGS, NULL},
     {NULL, NULL, 0, NULL},
 };
 

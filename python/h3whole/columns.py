@@ -10,6 +10,9 @@ which in an array and a memoryview are 1 or 0 in a byte.
 A list of texts or of integers gives a list, a column of texts, of numpy or pandas, one of texts and None, and an Index
 of pandas an Index. These are copied, and a text that parses as no index is an error before any other.
 
+What has `__arrow_c_array__` or `__arrow_c_stream__`, as a column of polars, DuckDB or pyarrow, gives an `ArrowColumn`,
+with a null for each null; `to_arrow` makes one of a column of another kind.
+
 Where an index is refused, an exception says which error it is, which index, and at which place, the first one's; with
 `missing=True` there is none, and what is refused has 0 in place of an index, -1 in place of a number, and False in
 place of a truth value. A value that pandas marks as missing (NA) is refused as the index 0 is. A number that is no
@@ -20,16 +23,18 @@ import sys
 from array import array
 from typing import Any, Callable, Iterable, List, Optional, SupportsIndex, Tuple, TypeVar
 
-from . import _fast, _library
+from . import _arrow, _fast, _library
 from ._arguments import as_cell, as_res, indexes_of
+from ._arrow import ArrowColumn
 from ._library import _array, _index, _resolution, _size
-from ._memory import numpy_room
+from ._memory import View, numpy_room
 from ._memory import room as _room
 from ._memory import room_at
 from ._overlap import overlap_named
 from .errors import H3CellInvalidError, H3FailedError, error_of
 
 __all__ = [
+    "ArrowColumn",
     "are_pentagons",
     "are_res_class_III",
     "are_valid_cells",
@@ -45,34 +50,11 @@ __all__ = [
     "get_resolutions",
     "int_to_str",
     "str_to_int",
+    "to_arrow",
     "uncompact_cells",
 ]
 
 _Column = TypeVar("_Column")
-
-
-class _View(ctypes.Structure):
-    """The Py_buffer of Python's C API, by which the memory of read-only columns has an address too."""
-
-    _fields_ = [
-        ("buf", ctypes.c_void_p),
-        ("obj", ctypes.c_void_p),
-        ("len", ctypes.c_ssize_t),
-        ("itemsize", ctypes.c_ssize_t),
-        ("readonly", ctypes.c_int),
-        ("ndim", ctypes.c_int),
-        ("format", ctypes.c_char_p),
-        ("shape", ctypes.POINTER(ctypes.c_ssize_t)),
-        ("strides", ctypes.POINTER(ctypes.c_ssize_t)),
-        ("suboffsets", ctypes.POINTER(ctypes.c_ssize_t)),
-        ("internal", ctypes.c_void_p),
-    ]
-
-
-ctypes.pythonapi.PyObject_GetBuffer.argtypes = [ctypes.py_object, ctypes.POINTER(_View), ctypes.c_int]
-ctypes.pythonapi.PyBuffer_Release.argtypes = [ctypes.POINTER(_View)]
-ctypes.pythonapi.PyBuffer_Release.restype = None
-_CONTIGUOUS = 0x0038  # PyBUF_C_CONTIGUOUS
 
 
 def _is_of(column: Any, module: str, name: str) -> bool:
@@ -91,6 +73,8 @@ def _is_numpy(column: Any) -> bool:
 
 def _memory_of(column: Any) -> Any:
     """What has the memory of a column's integers."""
+    if _is_arrow(column):
+        return _cells_of_arrow(column)
     if _is_series(column):
         # (the nullable types of pandas have their integers beside a mask)
         own = getattr(column.dtype, "numpy_dtype", None)
@@ -153,17 +137,17 @@ class _Memory:
         self.count = seen.nbytes // 8
         self.shape: Tuple[int, ...] = tuple(seen.shape or ())
         self.dtype = getattr(memory, "dtype", None)
-        self._seen = seen
-        self._view = _View()
+        self.seen = seen
+        self._view = View()
 
     def __enter__(self) -> "_Memory":
-        ctypes.pythonapi.PyObject_GetBuffer(ctypes.py_object(self._seen), ctypes.byref(self._view), _CONTIGUOUS)
+        self._view.take(self.seen)
         # (the library wants an address for no indexes too)
         self.address = self._view.buf or ctypes.addressof(self._view)
         return self
 
     def __exit__(self, *_: Any) -> None:
-        ctypes.pythonapi.PyBuffer_Release(ctypes.byref(self._view))
+        self._view.give_back()
 
     def named(self, place: int) -> str:
         """The index at a place, and the place, as an exception names them."""
@@ -225,8 +209,9 @@ def _fill_memory(
     *,
     res: SupportsIndex = _NONE,
     is_truth: bool = False,
+    first: int = 0,
 ) -> Any:
-    """What a function for columns writes for one of integers."""
+    """What a function for columns writes for one of integers. Those before the place `first` are as the one there."""
     resolution = () if res is _NONE else (as_res(res),)
     with _Memory(column) as given:
         place = _size(0)
@@ -237,12 +222,16 @@ def _fill_memory(
         if resolution and number == 4 and not 0 <= resolution[0] <= 15:
             raise error_of(number, f"resolution {res}")
         if number and not missing:
-            raise error_of(number, given.named(place.value) + (f", at resolution {res}" if number in (4, 12) else ""))
+            raise error_of(
+                number, given.named(max(place.value, first)) + (f", at resolution {res}" if number in (4, 12) else "")
+            )
     return _as_kind_of(column, given, room, typecode, is_truth)
 
 
 def _fill(function: Callable[..., int], column: Any, typecode: str, missing: bool, **how: Any) -> Any:
     """What a function for columns writes."""
+    if _is_arrow(column):
+        return _fill_arrow(function, column, typecode, missing, **how)
     if not _is_listed(column):
         return _fill_memory(function, column, typecode, missing, **how)
     # (a number that is no resolution is an error before any text)
@@ -250,6 +239,78 @@ def _fill(function: Callable[..., int], column: Any, typecode: str, missing: boo
     numbers, integers = _numbers_of(column, missing)
     found = _fill_memory(function, numbers, typecode, missing, **how)
     return _as_list_of(column, found, integers, typecode == _INDEXES, missing)
+
+
+# ---- columns of other programs, in Arrow's memory
+
+_FORMATS = {"i": "i", "q": "l"}
+
+
+def _is_arrow(column: Any) -> bool:
+    # (numpy's and pandas's own memory has a way of its own)
+    return not (_is_series(column) or _is_numpy(column) or _is_pandas_index(column)) and _arrow.is_arrow(column)
+
+
+def _arrow_numbers(column: Any, missing: bool) -> "Tuple[ArrowColumn, ArrowColumn]":
+    """A column, and its indexes: of texts, those that they parse as. Nulls stay."""
+    given = _arrow.read(column)
+    if not given.is_of_texts:
+        return given, given
+    return given, given.answered("L", memoryview(_parse(given.filled("0"), missing)), lambda _: None)
+
+
+def _not_zero(items: Any) -> Optional[int]:
+    """Which items are not 0, as bits; None where all are not."""
+    numpy = sys.modules.get("numpy")
+    if bytes(8) not in bytes(items):
+        return None
+    if numpy is not None:
+        return int.from_bytes(numpy.packbits(numpy.frombuffer(items, "uint64") != 0, bitorder="little"), "little")
+    return int.from_bytes(_arrow.packed(bytes(map(bool, items))), "little")
+
+
+def _fill_arrow(function: Callable[..., int], column: Any, typecode: str, missing: bool, **how: Any) -> ArrowColumn:
+    """What a function for columns writes, with a null for each null, and where an index has no result."""
+    # (a number that is no resolution is an error before any item)
+    _fill_memory(function, memoryview(array("Q")), typecode, missing, **how)
+    given, numbers = _arrow_numbers(column, missing)
+    is_missing, first = missing or numbers.null_count == len(numbers), numbers.first()
+    found = _fill_memory(function, memoryview(numbers.with_first()), typecode, is_missing, first=first, **how)
+    if typecode != _INDEXES:
+        return numbers.answered("b" if how.get("is_truth") else _FORMATS[typecode], found, lambda _: None)
+    answer = numbers.answered(given.format if given.format == "l" else "L", found, _not_zero)
+    return _arrow_texts(answer) if given.is_of_texts else answer
+
+
+def _arrow_texts(numbers: ArrowColumn) -> ArrowColumn:
+    with _Memory(numbers.filled(0)) as given:
+        texts = _write(given)
+    return numbers.answered("U", texts, lambda _: None)
+
+
+def _cells_of_arrow(column: Any, missing: bool = False) -> Any:
+    """The indexes of a column as a set's cells: a null is 0, which is no cell."""
+    return memoryview(_arrow_numbers(column, missing)[1].filled(0))
+
+
+def _set_of_arrow(column: Any, function: Callable[[Any], Any]) -> ArrowColumn:
+    """The cells that a function of a column finds, in the form of those that are given."""
+    given = _arrow.read(column)
+    found = ArrowColumn("l" if given.format == "l" else "L", function(_cells_of_arrow(given)), None)
+    return _arrow_texts(found) if given.is_of_texts else found
+
+
+def to_arrow(column: Any) -> ArrowColumn:
+    """A column of integers, or one of texts, as one that programs take by Arrow's C data interface: an array, a
+    memoryview or a numpy array without a copy, whose items must not change any more; lists and columns of texts with
+    a copy; and what has `__arrow_c_array__` or `__arrow_c_stream__` as it is."""
+    if _is_arrow(column):
+        return _arrow.read(column)
+    if _is_listed(column):
+        return _arrow_texts(to_arrow(_numbers_of(column, False)[0]))
+    with _Memory(column) as given:
+        signed = given.typecode in ("q", "l")
+        return ArrowColumn("l" if signed else "L", given.seen.cast("B").cast("Q"), None)
 
 
 # ---- lists, and columns of texts
@@ -651,6 +712,8 @@ def compact_cells(column: _Column) -> _Column:
     H3DuplicateInputError
         If two overlap.
     """
+    if _is_arrow(column):
+        return _set_of_arrow(column, compact_cells)  # type: ignore[return-value]
     if _is_listed(column):
         return _set_of_list(column, compact_cells)  # type: ignore[no-any-return]
     with _Memory(column) as given:
@@ -686,6 +749,9 @@ def uncompact_cells(column: _Column, res: SupportsIndex) -> _Column:
         If a cell is finer.
     """
     wanted = as_res(res)
+    if _is_arrow(column):
+        uncompact_cells(array("Q"), res)
+        return _set_of_arrow(column, lambda cells: uncompact_cells(cells, res))  # type: ignore[return-value]
     if _is_listed(column):
         uncompact_cells(array("Q"), res)
         return _set_of_list(column, lambda cells: uncompact_cells(cells, res))  # type: ignore[no-any-return]
@@ -772,6 +838,8 @@ def _items_of(column: Any) -> Any:
 def _to_int(column: Any, missing: bool, integers: "Optional[array[int]]" = None) -> Any:
     """The indexes of a column of texts; with room for the places of integers, those of a column of objects, texts and
     integers."""
+    if _is_arrow(column):
+        return _arrow_parsed(column, missing)
     if _is_series(column):
         numbers = _parse(_items_of(column).tolist(), missing, integers)
         found = sys.modules["numpy"].frombuffer(numbers or b"", dtype="uint64")
@@ -784,6 +852,13 @@ def _to_int(column: Any, missing: bool, integers: "Optional[array[int]]" = None)
     if isinstance(column, (str, bytes)):
         raise TypeError(f"a column of texts is wanted, and not {column!r}")
     return _parse(column, missing, integers)
+
+
+def _arrow_parsed(column: Any, missing: bool) -> ArrowColumn:
+    given, numbers = _arrow_numbers(column, missing)
+    if not given.is_of_texts:
+        raise TypeError("a column of texts is wanted, and not one of integers")
+    return numbers
 
 
 def str_to_int(column: Any, *, missing: bool = False) -> Any:
@@ -824,6 +899,12 @@ def _write(given: _Memory) -> List[str]:
     return found
 
 
+def _arrow_written(numbers: ArrowColumn) -> ArrowColumn:
+    if numbers.is_of_texts:
+        raise TypeError("a column of integers is wanted, and not one of texts")
+    return _arrow_texts(numbers)
+
+
 def int_to_str(column: Any) -> Any:
     """Return the texts of a column of indexes, each as `h3whole.int_to_str` writes it.
 
@@ -837,6 +918,8 @@ def int_to_str(column: Any) -> Any:
     list, numpy array, Series or Index
         A list for an array, a memoryview or a list, and else the same kind and shape.
     """
+    if _is_arrow(column):
+        return _arrow_written(_arrow.read(column))
     if isinstance(column, (list, tuple)):
         column = indexes_of(as_cell, column)
     if _is_pandas_index(column):

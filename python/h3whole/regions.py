@@ -79,7 +79,8 @@ def _table_of(zones: "array[int]") -> "Optional[array[int]]":
 
 
 def _is_column(cells: Any) -> bool:
-    return isinstance(cells, (array, memoryview)) or columns._is_series(cells) or columns._is_numpy(cells)
+    is_own = isinstance(cells, (array, memoryview)) or columns._is_series(cells) or columns._is_numpy(cells)
+    return is_own or (columns._is_arrow(cells) and not isinstance(cells, CellSet))
 
 
 def _is_of_objects(column: Any) -> bool:
@@ -177,6 +178,8 @@ class CellSet(Generic[_Cell]):
             return cells._ascending()
         if not _is_column(cells):
             return indexes_of(cls._index_of, cells)
+        if columns._is_arrow(cells):
+            return columns._cells_of_arrow(cells)
         return columns._to_int(cells, False, array("q")) if _is_of_objects(cells) else cells
 
     @classmethod
@@ -185,6 +188,8 @@ class CellSet(Generic[_Cell]):
         objects, the places of integers are added to those in `integers`."""
         if _is_column(cells) and _is_of_objects(cells):
             return columns._to_int(cells, missing, array("q") if integers is None else integers)
+        if _is_column(cells) and columns._is_arrow(cells):
+            return cells
         if not missing or _is_column(cells) or isinstance(cells, (CellSet, str, bytes)):
             return cls._column_of(cells)
         return array("Q", map(cls._index_or_null, cells))
@@ -229,7 +234,24 @@ class CellSet(Generic[_Cell]):
         def over_zones(*given: Any) -> int:
             return self._look_up(functions, *given)
 
+        if columns._is_arrow(numbers):
+            return columns._fill_arrow(over_zones, numbers, typecode, missing, is_truth=is_truth)
         return columns._fill_memory(over_zones, numbers, typecode, missing, is_truth=is_truth)
+
+    def _as_arrow(self) -> columns.ArrowColumn:
+        return columns.to_arrow(self._ascending())
+
+    def __arrow_c_schema__(self) -> Any:
+        """A capsule of Arrow's type of the cells: integers."""
+        return self._as_arrow().__arrow_c_schema__()
+
+    def __arrow_c_array__(self, requested_schema: Any = None) -> Tuple[Any, Any]:
+        """Arrow's capsules of the cells, ascending, as integers, without a copy."""
+        return self._as_arrow().__arrow_c_array__(requested_schema)
+
+    def __arrow_c_stream__(self, requested_schema: Any = None) -> Any:
+        """A capsule of a stream of the same."""
+        return self._as_arrow().__arrow_c_stream__(requested_schema)
 
 
 class CellRegion(CellSet[_Cell]):
@@ -410,6 +432,8 @@ class CellZones(CellSet[_Cell]):
     def count(self, cells: _Cells[_Cell], *, missing: bool = False) -> "Counts[_Cell]":
         """How many cells of a column, or of any other cells, lie in each zone, and in none. With `missing=True` what
         is no cell is counted by itself."""
+        if columns._is_arrow(cells):
+            return self._count(columns._cells_of_arrow(cells, missing), missing)
         return self._count(self._numbers_of(cells, missing), missing)
 
     def _count(self, numbers: Any, missing: bool) -> "Counts[_Cell]":
