@@ -119,6 +119,33 @@ COMMENT ON FUNCTION bigint_cmp_h3cell(bigint, h3cell) IS '-1, 0 or 1: the order 
 COMMENT ON FUNCTION h3cell_cmp_signed(h3cell, h3cell) IS '-1, 0 or 1: the order of the numbers with a sign';
 COMMENT ON FUNCTION bigint_cmp_unsigned(bigint, bigint) IS '-1, 0 or 1: the order of the numbers without a sign';
 
+-- Counts by zones, of rows. Zones and counts come as rows of an array, which unnest takes apart.
+CREATE TYPE h3_zone_count AS (zone h3cell, cells bigint);
+CREATE FUNCTION h3_count_step(internal, h3cell, h3cell[]) RETURNS internal
+    AS 'MODULE_PATHNAME', 'h3whole_count_step' LANGUAGE C IMMUTABLE PARALLEL SAFE;
+CREATE FUNCTION h3_count_combine(internal, internal) RETURNS internal
+    AS 'MODULE_PATHNAME', 'h3whole_count_combine' LANGUAGE C IMMUTABLE PARALLEL SAFE;
+CREATE FUNCTION h3_count_serial(internal) RETURNS bytea
+    AS 'MODULE_PATHNAME', 'h3whole_count_serial' LANGUAGE C IMMUTABLE STRICT PARALLEL SAFE;
+CREATE FUNCTION h3_count_deserial(bytea, internal) RETURNS internal
+    AS 'MODULE_PATHNAME', 'h3whole_count_deserial' LANGUAGE C IMMUTABLE STRICT PARALLEL SAFE;
+CREATE FUNCTION h3_count_final(internal) RETURNS h3_zone_count[]
+    AS 'MODULE_PATHNAME', 'h3whole_count_final' LANGUAGE C IMMUTABLE PARALLEL SAFE;
+CREATE AGGREGATE h3_count_cells_in_zones(cell h3cell, zones h3cell[]) (
+    SFUNC = h3_count_step, STYPE = internal, FINALFUNC = h3_count_final, COMBINEFUNC = h3_count_combine,
+    SERIALFUNC = h3_count_serial, DESERIALFUNC = h3_count_deserial, PARALLEL = SAFE
+);
+
+COMMENT ON TYPE h3_zone_count IS 'a zone, or NULL in place of none, and how many cells lie in it';
+COMMENT ON FUNCTION h3_count_step(internal, h3cell, h3cell[]) IS 'takes a cell of h3_count_cells_in_zones';
+COMMENT ON FUNCTION h3_count_combine(internal, internal) IS 'joins two groups of h3_count_cells_in_zones';
+COMMENT ON FUNCTION h3_count_serial(internal) IS 'what a parallel worker hands on of h3_count_cells_in_zones';
+COMMENT ON FUNCTION h3_count_deserial(bytea, internal) IS
+    'takes what a parallel worker has handed on of h3_count_cells_in_zones';
+COMMENT ON FUNCTION h3_count_final(internal) IS 'the result of h3_count_cells_in_zones';
+COMMENT ON AGGREGATE h3_count_cells_in_zones(h3cell, h3cell[]) IS
+    'how many cells of the rows lie in each zone, ascending, and, with NULL, in none';
+
 -- What each function does, with H3's errors, in the order in which they are judged.
 COMMENT ON FUNCTION h3_is_valid_cell(h3cell) IS 'whether an index is a valid cell';
 COMMENT ON FUNCTION h3_get_resolution(h3cell) IS 'the resolution of a cell, 0 to 15; error 5 if not a valid cell';

@@ -23,6 +23,7 @@
 #include "utils/lsyscache.h"
 #include "utils/memutils.h"
 #include "utils/syscache.h"
+#include "utils/typcache.h"
 #if PG_VERSION_NUM >= 160000
 #include "varatt.h"
 #endif
@@ -1448,6 +1449,267 @@ Datum h3whole_cell_to_ancestors(PG_FUNCTION_ARGS)
 
 	check(h3sql_ancestors(GET_INDEX(0), ancestors, &count), GET_INDEX(0));
 	PG_RETURN_ARRAYTYPE_P(array_of(ancestors, count, item_type(fcinfo)));
+}
+
+/* ---- The aggregate h3_count_cells_in_zones. A worker hands on its zones with their counts, which add up. */
+
+/* The state: the zones as they were passed, and as others are looked up in them; how many cells lie in each, and in
+ * none; and cells that wait to be counted together, once they are as many that a pass over the zones pays. */
+typedef struct
+{
+	struct varlena *given;
+	h3sql_List zones;
+	h3sql_List waiting;
+	/* with room for three numbers for each zone */
+	int64_t *counts;
+	int64_t others;
+} Counted;
+
+/* A zone and its count. */
+typedef struct
+{
+	H3Index zone;
+	int64_t count;
+} ZoneCount;
+
+/* The state of zones that are prepared, which it takes. */
+static Counted *no_counts(const h3sql_List *zones, MemoryContext memory)
+{
+	Counted *group = MemoryContextAllocZero(memory, sizeof *group);
+
+	group->zones = *zones;
+	group->counts = MemoryContextAllocHuge(memory, (3 * zones->count + 1) * sizeof(int64_t));
+	memset(group->counts, 0, zones->count * sizeof(int64_t));
+	return group;
+}
+
+/* Counts the cells that wait. */
+static void count_waiting(Counted *group)
+{
+	size_t count = group->zones.count;
+	int64_t *found = group->counts + count;
+	/* (of no zones there is room for one number still) */
+	uint32_t *table = (uint32_t *) (count ? found + count : found);
+	int64_t others;
+	size_t at;
+	H3Error error;
+
+	CHECK_FOR_INTERRUPTS();
+	if (group->waiting.count == 0)
+		return;
+	error = h3w_countCellsInZonesByTable(group->zones.cells, count, group->waiting.cells, group->waiting.count, table,
+										 2 * count, found, count, &others, &at);
+	if (error)
+		check(error, group->waiting.cells[at]);
+	for (size_t i = 0; i < count; i++)
+		group->counts[i] += found[i];
+	group->others += others;
+	group->waiting.count = 0;
+}
+
+/* Whether the zones are the same for each row of a group: a constant of the query, or a parameter. */
+static bool has_one_value(FunctionCallInfo fcinfo, int place)
+{
+	Aggref *call = AggGetAggref(fcinfo);
+	Node *value = call ? (Node *) ((TargetEntry *) list_nth(call->args, place))->expr : NULL;
+
+	while (value && (IsA(value, RelabelType) || IsA(value, ArrayCoerceExpr)))
+		value =
+			IsA(value, RelabelType) ? (Node *) ((RelabelType *) value)->arg : (Node *) ((ArrayCoerceExpr *) value)->arg;
+	return value && (IsA(value, Const) || IsA(value, Param));
+}
+
+static void keep_given(Counted *group, struct varlena *given, MemoryContext memory)
+{
+	if (group->given)
+		pfree(group->given);
+	group->given = MemoryContextAllocHuge(memory, VARSIZE_ANY(given));
+	memcpy(group->given, given, VARSIZE_ANY(given));
+}
+
+/* The zones of an array, prepared in a memory. */
+static h3sql_List zones_in(struct varlena *given, MemoryContext memory)
+{
+	h3sql_List cells = cells_of(DatumGetArrayTypeP(PointerGetDatum(given)));
+	MemoryContext before = MemoryContextSwitchTo(memory);
+	h3sql_List zones = zones_of(&cells, false);
+
+	MemoryContextSwitchTo(before);
+	return zones;
+}
+
+/* Refuses other zones than those of the group. */
+static void check_zones(const Counted *group, const h3sql_List *zones)
+{
+	size_t size = zones->count * sizeof(H3Index);
+
+	if (group->zones.count != zones->count || (size > 0 && memcmp(group->zones.cells, zones->cells, size) != 0))
+		ereport(ERROR, (errcode(ERRCODE_INVALID_PARAMETER_VALUE),
+						errmsg("h3_count_cells_in_zones takes the same zones in all rows of a group")));
+}
+
+/* The group with the zones of a row. Those of a later row have to be the same, if in another array. */
+static Counted *with_zones(FunctionCallInfo fcinfo, Counted *group, MemoryContext memory)
+{
+	struct varlena *given;
+	h3sql_List zones;
+
+	if (group && has_one_value(fcinfo, 1))
+		return group;
+	given = value_of((struct varlena *) PG_GETARG_POINTER(2));
+	if (group && group->given && is_same(group->given, given))
+		return group;
+	zones = zones_in(given, group ? CurrentMemoryContext : memory);
+	if (group)
+	{
+		check_zones(group, &zones);
+		pfree(zones.cells);
+	}
+	else
+		group = no_counts(&zones, memory);
+	keep_given(group, given, memory);
+	return group;
+}
+
+/* Takes a row: none whose zones are NULL. A cell that is NULL is not counted. */
+PG_FUNCTION_INFO_V1(h3whole_count_step);
+Datum h3whole_count_step(PG_FUNCTION_ARGS)
+{
+	MemoryContext memory = aggregate_memory(fcinfo);
+	Counted *group = PG_ARGISNULL(0) ? NULL : (Counted *) PG_GETARG_POINTER(0);
+
+	if (!PG_ARGISNULL(2))
+		group = with_zones(fcinfo, group, memory);
+	if (!PG_ARGISNULL(1) && !PG_ARGISNULL(2))
+	{
+		check(h3sql_push(&group->waiting, GET_INDEX(1), resize, memory), GET_INDEX(1));
+		if (group->waiting.count >= 4096 && group->waiting.count / 4 >= group->zones.count)
+			count_waiting(group);
+	}
+	if (!group)
+		PG_RETURN_NULL();
+	PG_RETURN_POINTER(group);
+}
+
+PG_FUNCTION_INFO_V1(h3whole_count_combine);
+Datum h3whole_count_combine(PG_FUNCTION_ARGS)
+{
+	MemoryContext memory = aggregate_memory(fcinfo);
+	Counted *group = PG_ARGISNULL(0) ? NULL : (Counted *) PG_GETARG_POINTER(0);
+	const Counted *other = PG_ARGISNULL(1) ? NULL : (const Counted *) PG_GETARG_POINTER(1);
+	h3sql_List zones = {NULL, 0, 0};
+
+	if (other && !group)
+	{
+		append(&zones, other->zones.cells, other->zones.count, memory);
+		group = no_counts(&zones, memory);
+	}
+	if (other)
+	{
+		check_zones(group, &other->zones);
+		for (size_t i = 0; i < other->zones.count; i++)
+			group->counts[i] += other->counts[i];
+		group->others += other->others;
+	}
+	if (!group)
+		PG_RETURN_NULL();
+	PG_RETURN_POINTER(group);
+}
+
+/* What a worker hands on: the number of others, the zones, and their counts. */
+PG_FUNCTION_INFO_V1(h3whole_count_serial);
+Datum h3whole_count_serial(PG_FUNCTION_ARGS)
+{
+	Counted *group = (Counted *) PG_GETARG_POINTER(0);
+	size_t size = group->zones.count * sizeof(H3Index);
+	bytea *out;
+	char *at;
+
+	aggregate_memory(fcinfo);
+	count_waiting(group);
+	if (size > (MaxAllocSize - VARHDRSZ) / 2 - sizeof(int64))
+		ereport(ERROR,
+				(errcode(ERRCODE_PROGRAM_LIMIT_EXCEEDED), errmsg("the counts of a worker take more than a gigabyte")));
+	out = palloc(VARHDRSZ + sizeof(int64) + 2 * size);
+	SET_VARSIZE(out, VARHDRSZ + sizeof(int64) + 2 * size);
+	at = VARDATA(out);
+	memcpy(at, &group->others, sizeof(int64));
+	memcpy(at + sizeof(int64), group->zones.cells, size);
+	memcpy(at + sizeof(int64) + size, group->counts, size);
+	PG_RETURN_BYTEA_P(out);
+}
+
+PG_FUNCTION_INFO_V1(h3whole_count_deserial);
+Datum h3whole_count_deserial(PG_FUNCTION_ARGS)
+{
+	bytea *given = PG_GETARG_BYTEA_PP(0);
+	const char *at = VARDATA_ANY(given);
+	size_t size = (VARSIZE_ANY_EXHDR(given) - sizeof(int64)) / 2;
+	h3sql_List zones = {NULL, 0, 0};
+	Counted *group;
+
+	aggregate_memory(fcinfo);
+	append(&zones, at + sizeof(int64), size / sizeof(H3Index), CurrentMemoryContext);
+	group = no_counts(&zones, CurrentMemoryContext);
+	memcpy(&group->others, at, sizeof(int64));
+	memcpy(group->counts, at + sizeof(int64) + size, size);
+	PG_RETURN_POINTER(group);
+}
+
+static int compare_zones(const void *a, const void *b)
+{
+	H3Index first = ((const ZoneCount *) a)->zone;
+	H3Index second = ((const ZoneCount *) b)->zone;
+
+	return (first > second) - (first < second);
+}
+
+/* The zones of a group, ascending, with their counts, and behind them that of the others. */
+static ZoneCount *sorted_counts(const Counted *group)
+{
+	size_t count = group->zones.count;
+	ZoneCount *counts = MemoryContextAllocHuge(CurrentMemoryContext, (count + 1) * sizeof *counts);
+
+	for (size_t i = 0; i < count; i++)
+	{
+		counts[i].zone = group->zones.cells[i];
+		counts[i].count = group->counts[i];
+	}
+	qsort(counts, count, sizeof *counts, compare_zones);
+	counts[count].zone = H3_NULL;
+	counts[count].count = group->others;
+	return counts;
+}
+
+/* The counts as an array of rows; in that of the others the zone is NULL. */
+PG_FUNCTION_INFO_V1(h3whole_count_final);
+Datum h3whole_count_final(PG_FUNCTION_ARGS)
+{
+	Oid type = get_element_type(get_fn_expr_rettype(fcinfo->flinfo));
+	Counted *group = PG_ARGISNULL(0) ? NULL : (Counted *) PG_GETARG_POINTER(0);
+	ZoneCount *counts;
+	Datum *rows;
+	TupleDesc kind;
+
+	aggregate_memory(fcinfo);
+	if (!group)
+		PG_RETURN_NULL();
+	count_waiting(group);
+	if (group->zones.count >= MaxAllocSize / sizeof(Datum))
+		ereport(ERROR, (errcode(ERRCODE_PROGRAM_LIMIT_EXCEEDED), errmsg("the counts take more than a gigabyte")));
+	counts = sorted_counts(group);
+	rows = palloc((group->zones.count + 1) * sizeof *rows);
+	kind = lookup_rowtype_tupdesc(type, -1);
+	for (size_t i = 0; i <= group->zones.count; i++)
+	{
+		Datum values[2] = {INDEX_DATUM(counts[i].zone), Int64GetDatum(counts[i].count)};
+		bool nulls[2] = {i == group->zones.count, false};
+
+		rows[i] = HeapTupleGetDatum(heap_form_tuple(kind, values, nulls));
+	}
+	ReleaseTupleDesc(kind);
+	pfree(counts);
+	PG_RETURN_ARRAYTYPE_P(construct_array(rows, (int) group->zones.count + 1, type, -1, false, TYPALIGN_DOUBLE));
 }
 
 /* ---- The operators @>, <@ and &&, of which each is false of what is no cell */
