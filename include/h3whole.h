@@ -316,46 +316,56 @@ H3Error h3w_subtractCells(const H3Index *first, size_t n, const H3Index *second,
  * has none. So to look up what a list of cells covers as a whole, prepare the region that h3w_uniteCells returns for
  * it. */
 
-/* Puts n cells as zones into the first n places of `zones`: the same cells, in an order in which others are looked
- * up. E_MEMORY_BOUNDS: room for fewer than n. E_MEMORY_ALLOC: no memory; it takes 8 bytes for each of the n cells.
- * E_CELL_INVALID: an index is no cell's. E_DUPLICATE_INPUT: a cell is there twice, or together with an ancestor of
- * it. */
+/** Puts n cells as zones into the first n places of `zones`: the same cells, in an order in which others are looked up.
+ * It takes 8 bytes of memory for each of the n cells.
+ * @param room the length of `zones`
+ * @return E_SUCCESS; E_MEMORY_BOUNDS: room for fewer than n; E_MEMORY_ALLOC: no memory; E_CELL_INVALID: an index is not
+ * a valid cell; E_DUPLICATE_INPUT: a cell is listed twice, or with an ancestor of it */
 H3Error h3w_zones(const H3Index *cells, size_t n, H3Index *zones, size_t room);
 
-/* Finds the first of n cells that overlaps an earlier one: the same cell, or an ancestor or a descendant of it. So it
- * says why h3w_zones or h3w_compactCells returned E_DUPLICATE_INPUT. `*at` is the place of that cell, and `*earlier`
- * the first place whose cell it overlaps; both are n if no two overlap. E_CELL_INVALID: an index is no cell's; then
- * `*at` is the place of the first such, and `*earlier` stays. E_MEMORY_ALLOC: no memory; it takes 16 bytes for each of
- * the n cells. */
+/** Finds the first of n cells that overlaps an earlier one: the same cell, or an ancestor or a descendant of it. So it
+ * says why h3w_zones or h3w_compactCells returned E_DUPLICATE_INPUT. It takes 16 bytes of memory for each of the n
+ * cells.
+ * @param at receives the place of that cell; n if no two overlap; with E_CELL_INVALID the place of the first such index
+ * @param earlier receives the first place whose cell it overlaps; n if no two overlap; not written with an error
+ * @return E_SUCCESS; E_MEMORY_ALLOC: no memory; E_CELL_INVALID: an index is not a valid cell */
 H3Error h3w_findOverlap(const H3Index *cells, size_t n, size_t *at, size_t *earlier);
 
-/* Of each function below, the `zoneCount` zones are all that h3w_zones has written for as many cells, or a copy of
- * it. With any others the behavior is undefined: memory outside of the arrays may be read or written. As of other
- * arrays, the pointer is not null where there are no zones. None of the functions takes memory. */
+/* The `zoneCount` zones of each function below are all that h3w_zones has written for as many cells, or a copy of it.
+ * With any others the behavior is undefined: memory outside of the arrays may be read or written. As of other arrays,
+ * the pointer is not null if there are no zones. None of the functions takes memory. */
 
-/* The zone of each of n cells, and H3_NULL where it has none, also where there is an error. E_CELL_INVALID: an index
- * is no cell's. `room`, `*at` and E_MEMORY_BOUNDS as of the columns below. */
+/** Finds the zone of each of n cells.
+ * @param out receives the zones; H3_NULL for a cell that has none, or where there is an error
+ * @param at, room as those of the columns below
+ * @return E_SUCCESS; E_CELL_INVALID: an index is not a valid cell; E_MEMORY_BOUNDS: room for fewer than n */
 H3Error h3w_cellsToZones(const H3Index *zones, size_t zoneCount, const H3Index *cells, size_t n, H3Index *out,
                          size_t room, size_t *at);
 
-/* 1 where a cell has a zone, else 0, and -1 where there is an error, of each of n cells. Errors, `room` and `*at` as
- * of h3w_cellsToZones. */
+/** Says of each of n cells whether it has a zone.
+ * @param out receives 1 if a cell has a zone, 0 if not, and -1 where there is an error
+ * @param at, room as those of the columns below
+ * @return as h3w_cellsToZones */
 H3Error h3w_areCoveredCells(const H3Index *zones, size_t zoneCount, const H3Index *cells, size_t n, int *out,
                             size_t room, size_t *at);
 
-/* Counts n cells by zones: at the place of each zone in counts[0..zoneCount) how many have it, and in `*others` how
- * many have none. These add up to n, and what is counted of the parts of a list to what is counted of the whole.
- * E_MEMORY_BOUNDS: `room` is below zoneCount; then nothing is written, `*at` neither. E_CELL_INVALID: an index is no
- * cell's; then `*at` is the place of the first such, and nothing else is written. On E_SUCCESS `*at` is n. */
+/** Counts n cells by zones. The counts and `*others` add up to n, and those of the parts of a list to those of the
+ * whole.
+ * @param counts receives at the place of each zone how many of the cells have it
+ * @param room the length of `counts`
+ * @param others receives how many of the cells have none
+ * @param at receives n, or the place of the first index that is not a valid cell
+ * @return E_SUCCESS; E_MEMORY_BOUNDS: `room` is below zoneCount; nothing is written, `*at` neither; E_CELL_INVALID: an
+ * index is not a valid cell; nothing but `*at` is written */
 H3Error h3w_countCellsInZones(const H3Index *zones, size_t zoneCount, const H3Index *cells, size_t n, int64_t *counts,
                               size_t room, int64_t *others, size_t *at);
 
-/* The same, by a table of the zones, for many cells in any order, in many zones: where the zones are spread evenly, a
- * cell is looked up in a few steps, however many they are. It is written into `table`, memory that is lent for the
- * call, of any size: room for two to four numbers for each zone serves well; with room for fewer than two in all, or
+/* The same, by a table of the zones, for many cells in any order, in many zones: if the zones are spread evenly, a cell
+ * is looked up in a few steps, however many they are. The table is written into `table`, memory that is lent for the
+ * call, of any size: room for two to four numbers for each zone serves well. With room for fewer than two in all, or
  * with more than 2^32 - 1 zones, each cell is searched for as without a table. What it holds afterwards is not said,
- * also where an error is returned. To write it takes a pass over the zones and over the table, so it pays where there
- * are a fourth as many cells as zones, or more. */
+ * also if an error is returned. To write it takes a pass over the zones and over the table, so it pays if there are a
+ * fourth as many cells as zones, or more. */
 H3Error h3w_cellsToZonesByTable(const H3Index *zones, size_t zoneCount, const H3Index *cells, size_t n, uint32_t *table,
                                 size_t tableRoom, H3Index *out, size_t room, size_t *at);
 H3Error h3w_areCoveredCellsByTable(const H3Index *zones, size_t zoneCount, const H3Index *cells, size_t n,
@@ -364,15 +374,16 @@ H3Error h3w_countCellsInZonesByTable(const H3Index *zones, size_t zoneCount, con
                                      uint32_t *table, size_t tableRoom, int64_t *counts, size_t room, int64_t *others,
                                      size_t *at);
 
-/* Writes the table of the zones into table[0..tableRoom), once for many calls of the functions below, as of a column
- * that is looked up in parts. Any room may be given, as above. With room for fewer than two numbers, with no zones or
- * with more than 2^32 - 1, nothing is written. It has no error. */
+/** Writes the table of the zones, once for many calls of the functions below: for a column that is looked up in parts.
+ * It has no error. With room for fewer than two numbers, with no zones, or with more than 2^32 - 1, nothing is written.
+ * @param table receives the table
+ * @param tableRoom the length of `table`, as above */
 void h3w_zonesTable(const H3Index *zones, size_t zoneCount, uint32_t *table, size_t tableRoom);
 
 /* The same, in the table that h3w_zonesTable has written of these zones with the same `tableRoom`. It is only read, so
- * threads may share it. A table says where a search begins, and each answer is judged by the zones: with any numbers in
- * it, as of other zones, of another room, or none that were written, what is returned and written is the same, and
- * nothing is read or written outside of the arrays, but a cell may be searched for as without a table. */
+ * threads may share it. A table says where a search begins, and each answer is judged by the zones. With any other
+ * numbers in it, as of other zones or another room, what is returned and written is the same, and nothing is read or
+ * written outside of the arrays; but a search may take as long as without a table. */
 H3Error h3w_cellsToZonesInTable(const H3Index *zones, size_t zoneCount, const H3Index *cells, size_t n,
                                 const uint32_t *table, size_t tableRoom, H3Index *out, size_t room, size_t *at);
 H3Error h3w_areCoveredCellsInTable(const H3Index *zones, size_t zoneCount, const H3Index *cells, size_t n,
