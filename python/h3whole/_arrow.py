@@ -71,7 +71,8 @@ class _Owned:
 
     def __init__(self, kind: Any) -> None:
         self.of = kind()
-        weakref.finalize(self, _release, self.of)
+        # (at the end of the process others may still have the memory)
+        weakref.finalize(self, _release, self.of).atexit = False
 
 
 def _taken(kind: Any, capsule: Any, name: bytes) -> _Owned:

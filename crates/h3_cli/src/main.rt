@@ -3,7 +3,7 @@
 
 use h3_index::{H3Error, Sink, Source, StreamFault, Streamed};
 use h3_lines::{AnswerError, Fault, Refusal, report, write_all};
-use h3_program::{NamedFile, Retried, run_words};
+use h3_program::{NamedFile, Retried, SystemFiles, run_words};
 use h3_requests::{CellFunction, Command};
 use h3_words::{CommandFile, Words, WordsFault, read_words};
 use std::alloc::Global;
@@ -171,7 +171,8 @@ fn start<S: Env + Files<File = File> + AllocGlobal, R: Source + Drop, W: Sink, E
     }
     // (a missing file may be standard input itself, closed: the folder would then be opened for it)
     let _kept = if is_missing { None } else { closed_input(rt) };
-    let mut file = NamedFile::new(rt);
+    let files = SystemFiles(rt);
+    let mut file = NamedFile::new(&files);
     run_words(rt.alloc(), words, &mut input, &mut file, out, err)
 }
 

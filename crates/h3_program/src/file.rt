@@ -1,18 +1,33 @@
 //! The file that a command names, which is opened by its path.
 
-ghost use Rattle.std.specs.Prelude.{◌≡◌, ◌≤◌, List, ℕ, None, true, false, length, IsSome, IsErr, IfOk, OnOk, OnErr};
+ghost use Rattle.std.specs.Prelude.{◌≡◌, ◌≤◌, List, ℕ, Option, None, true, false, length, IsErr, IfOk, OnOk, OnErr};
 ghost use Rattle.std.specs.Io.KnownBytes.{Keeps};
 ghost use Rattle.h3_index.specs.Stream.{Pulls};
 
-use crate::retried::Retried;
 use h3_index::{Source, StreamFault};
-use std::io::{ErrorKind, Read};
-use std::rt::Files;
-use std::{fs, io};
 
 /// A file cannot be opened.
 #[derive(Debug, Drop)]
 pub struct OpenFault;
+
+/// Files that are opened by their paths, in memory or of the system.
+pub trait OpenFiles {
+    /// A file that is open.
+    type File: Source + Drop;
+
+    /// A file is at this path, and has these bytes, where they are known.
+    ghost bytes_at: { Self → List ℕ → Option (List ℕ) → Type 0 };
+
+    /// The file at this path may be one that cannot be opened.
+    ghost fails_at: { Self → List ℕ → Type 0 };
+
+    /// Opens the file at a path, of which nothing is read yet.
+    ///
+    /// An error where it cannot be opened, for whatever cause.
+    fn open(&self, path: &str) -> Result<Self::File, OpenFault>
+        ensures ok { IfOk result (λ file. bytes_at self.now path.now (Self.File.left file)) }
+        ensures err { OnErr result (fails_at self.now path.now) };
+}
 
 /// A file that is opened by its path. From then on it is the source of the file's bytes.
 pub trait OpenFile: Source {
@@ -30,21 +45,19 @@ pub trait OpenFile: Source {
         ensures err { OnErr result (fails_to_open self.old path.now self.new) };
 }
 
-/// A file of the system. To read it before it is opened is a failure.
-///
-/// No clause says which file is open, or which bytes it has.
+/// One of these files, once it is opened. To read it before is a failure.
 #[derive(Drop)]
-pub struct NamedFile<'a, R: Files> {
-    files: &'a R,
-    file: Option<Retried<R::File>>,
+pub struct NamedFile<'a, O: OpenFiles> {
+    files: &'a O,
+    file: Option<O::File>,
     failed: bool,
 }
 
-impl<'a, R: Files> NamedFile<'a, R> {
+impl<'a, O: OpenFiles> NamedFile<'a, O> {
     ghost use Rattle.h3_program.specs.NamedFile.{named_failed, named_file, named_files};
 
-    /// A file of this file system. It is not opened yet, and has not failed.
-    pub fn new(files: &'a R) -> Self
+    /// A file among these. It is not opened yet, and has not failed.
+    pub fn new(files: &'a O) -> Self
         ensures files { named_files result ≡ files.now }
         ensures unopened { named_file result ≡ None }
         ensures failed { named_failed result ≡ false }
@@ -57,49 +70,51 @@ impl<'a, R: Files> NamedFile<'a, R> {
     }
 }
 
-impl<'a, R: Files> Source for NamedFile<'a, R> {
-    ghost use Rattle.h3_program.specs.NamedFile.{named_failed, named_file};
+impl<'a, O: OpenFiles> Source for NamedFile<'a, O> {
+    ghost use Rattle.h3_program.specs.NamedFile.{named_failed, named_file, named_left};
 
-    ghost left = { λ _. None };
+    ghost left = { λ file. named_left O.File.left file };
 
     ghost has_failed = { λ file. named_failed file };
 
     fn pull(&mut self, buf: &mut [u8]) -> Result<usize, StreamFault>
         ensures bound { IfOk result (λ n. n ≤ length buf.new) }
-        ensures bytes { IfOk result (λ n. Pulls None None buf.new n) }
+        ensures bytes { IfOk result (λ n.
+            Pulls (named_left O.File.left self.old) (named_left O.File.left self.new) buf.new n) }
         ensures ok { OnOk result (named_failed self.new ≡ named_failed self.old) }
-        ensures refused { OnErr result (Keeps None None) }
+        ensures refused { OnErr result
+            (Keeps (named_left O.File.left self.old) (named_left O.File.left self.new)) }
         ensures err { OnErr result (named_failed self.new ≡ true) }
         ensures unopened { named_file self.old ≡ None → IsErr result }
     {
         let read = match &mut self.file {
-            Some(file) => file.read(buf),
-            None => Err(io::Error::from(ErrorKind::NotFound)),
+            Some(file) => file.pull(buf),
+            None => Err(StreamFault),
         };
         match read {
             Ok(n) => Ok(n),
-            Err(_) => {
+            Err(fault) => {
                 self.failed = true;
-                Err(StreamFault)
+                Err(fault)
             }
         }
     }
 }
 
-impl<'a, R: Files> OpenFile for NamedFile<'a, R> {
-    ghost use Rattle.h3_program.specs.NamedFile.{named_failed, named_file};
+impl<'a, O: OpenFiles> OpenFile for NamedFile<'a, O> {
+    ghost use Rattle.h3_program.specs.NamedFile.{IsOpenedAt, named_files};
 
-    ghost opens = { λ old _ new. IsSome (named_file new) × (named_failed new ≡ named_failed old) };
+    ghost opens = { λ old path new. IsOpenedAt O.File.left O.bytes_at old path new };
 
-    ghost fails_to_open = { λ old _ new. new ≡ old };
+    ghost fails_to_open = { λ old path new. (new ≡ old) × O.fails_at (named_files old) path };
 
     fn open(&mut self, path: &str) -> Result<(), OpenFault> {
-        match fs::open(self.files, path) {
+        match self.files.open(path) {
             Ok(file) => {
-                self.file = Some(Retried::new(file));
+                self.file = Some(file);
                 Ok(())
             }
-            Err(_) => Err(OpenFault),
+            Err(fault) => Err(fault),
         }
     }
 }

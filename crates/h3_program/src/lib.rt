@@ -4,7 +4,9 @@
 mod file;
 mod program;
 mod retried;
+mod system;
 
-pub use file::{NamedFile, OpenFault, OpenFile};
+pub use file::{NamedFile, OpenFault, OpenFile, OpenFiles};
 pub use program::run_words;
 pub use retried::Retried;
+pub use system::SystemFiles;

@@ -3,64 +3,75 @@
 use crate::words::words_of;
 use arrayvec::ArrayVec;
 use h3_fakes::table_file;
-use h3_index::{Sink, Source, StreamFault, Streamed};
+use h3_index::{Sink, Source, Streamed};
 use h3_lattice::vectors::TestTable;
-use h3_program::{OpenFault, OpenFile, run_words};
+use h3_program::{NamedFile, OpenFault, OpenFile, OpenFiles, run_words};
 use std::alloc::Global;
+use std::cell::Cell;
 use std::io;
 use std::io::Write;
 
 /// A file in memory, at one path.
 #[derive(Drop)]
-struct MemoryFile<'a> {
+struct MemoryFiles<'a> {
     path: &'a str,
     bytes: &'a [u8],
-    source: Streamed<&'a [u8]>,
     /// How often `open` was called.
-    opened: u8,
+    opened: Cell<u8>,
 }
 
-impl<'a> MemoryFile<'a> {
+impl<'a> MemoryFiles<'a> {
     fn new(path: &'a str, text: &'a str) -> Self {
-        MemoryFile {
+        MemoryFiles {
             path,
             bytes: text.as_bytes(),
-            source: Streamed::new(b"".as_slice()),
-            opened: 0,
+            opened: Cell::new(0),
         }
     }
 }
 
-impl<'a> Source for MemoryFile<'a> {
-    ghost use Rattle.std.specs.Prelude.{Some};
-    ghost use Rattle.h3_index.specs.Streamed.{streamed_failed, streamed_inner};
+impl<'a> OpenFiles for MemoryFiles<'a> {
+    type File = Streamed<&'a [u8]>;
 
-    ghost left = { λ file. Some (streamed_inner file.source).now };
+    ghost use Rattle.std.specs.Prelude.{◌≡◌, ◌≢◌, Some};
 
-    ghost has_failed = { λ file. streamed_failed file.source };
+    ghost bytes_at = { λ files path bytes. (files.path.now ≡ path)
+        × (bytes ≡ Some files.bytes.now) };
 
-    fn pull(&mut self, buf: &mut [u8]) -> Result<usize, StreamFault> {
-        self.source.pull(buf)
-    }
-}
+    ghost fails_at = { λ files path. files.path.now ≢ path };
 
-impl<'a> OpenFile for MemoryFile<'a> {
-    ghost use Rattle.std.specs.Prelude.{◌≡◌, ◌≢◌, false};
-    ghost use Rattle.h3_index.specs.Streamed.{streamed_failed, streamed_inner};
-
-    ghost opens = { λ old path new. (old.path.now ≡ path)
-        × ((streamed_inner new.source).now ≡ old.bytes.now) × (streamed_failed new.source ≡ false) };
-
-    ghost fails_to_open = { λ old path new. old.path.now ≢ path };
-
-    fn open(&mut self, path: &str) -> Result<(), OpenFault> {
-        self.opened = self.opened.saturating_add(1);
+    fn open(&self, path: &str) -> Result<Self::File, OpenFault> {
+        self.opened.set(self.opened.get().saturating_add(1));
         if self.path != path {
             return Err(OpenFault);
         }
-        self.source = Streamed::new(self.bytes);
-        Ok(())
+        Ok(Streamed::new(self.bytes))
     }
+}
+
+/// Whether a pull gives these bytes, and does not fail.
+fn pulls<F: Source>(file: &mut F, bytes: &[u8]) -> bool {
+    let mut page = [0; 8];
+    match file.pull(&mut page) {
+        Ok(n) => page[..n] == bytes[..],
+        Err(_) => false,
+    }
+}
+
+#[test]
+fn a_named_file_has_the_bytes_at_its_path(rt: HostRuntime) {
+    let files = MemoryFiles::new("cells", "abc");
+    let mut file = NamedFile::new(&files);
+    assert!(&rt; !pulls(&mut file, b"".as_slice()));
+    assert!(&rt; file.open(" cells").is_err());
+    assert!(&rt; !pulls(&mut file, b"".as_slice()));
+    for _ in 0..2 {
+        assert!(&rt; file.open("cells").is_ok());
+        assert!(&rt; pulls(&mut file, b"abc".as_slice()));
+        assert!(&rt; pulls(&mut file, b"".as_slice()));
+    }
+    assert!(&rt; file.open("cells ").is_err());
+    assert!(&rt; pulls(&mut file, b"".as_slice()));
 }
 
 /// A writer that counts its flushes.
@@ -108,31 +119,32 @@ impl Ended {
     }
 }
 
-/// The status of a command line, run over a list, a file and these streams, or nothing where
+/// The status of a command line, run over a list, files and these streams, or nothing where
 /// memory runs out for its words.
 fn status_of<W: Sink, E: Sink>(
     alloc: Global,
     line: &str,
     list: &str,
-    file: &mut MemoryFile<'_>,
+    files: &MemoryFiles<'_>,
     out: &mut W,
     err: &mut E,
 ) -> Option<u8> {
     let words = words_of(alloc, line).ok()?;
     let mut input = Streamed::new(list.as_bytes());
-    Some(run_words(alloc, words, &mut input, file, out, err))
+    let mut file = NamedFile::new(files);
+    Some(run_words(alloc, words, &mut input, &mut file, out, err))
 }
 
 /// Runs a command line over a list, and a file at a path.
 fn run_of(alloc: Global, line: &str, list: &str, path: &str, text: &str) -> Option<Ended> {
-    let mut file = MemoryFile::new(path, text);
+    let files = MemoryFiles::new(path, text);
     let (mut out, mut err) = (flush_counter(), flush_counter());
-    let status = status_of(alloc, line, list, &mut file, &mut out, &mut err)?;
+    let status = status_of(alloc, line, list, &files, &mut out, &mut err)?;
     Some(Ended {
         status,
         out: out.into_inner(),
         err: err.into_inner(),
-        opened: file.opened,
+        opened: files.opened.get(),
     })
 }
 
@@ -216,21 +228,21 @@ fn the_version_is_written_to_standard_output(rt: HostRuntime) {
 
 #[test]
 fn a_version_that_cannot_be_written_is_a_write_fault(rt: HostRuntime) {
-    let mut file = MemoryFile::new("", "");
+    let files = MemoryFiles::new("", "");
     let mut out = Streamed::new(ArrayVec::<u8, 8>::new());
     let mut err = Streamed::new(ArrayVec::<u8, 64>::new());
     let line = "h3 --version";
-    let status = status_of(rt.alloc(), line, "", &mut file, &mut out, &mut err);
+    let status = status_of(rt.alloc(), line, "", &files, &mut out, &mut err);
     assert!(&rt; status == Some(4));
     assert!(&rt; err.into_inner().as_slice() == b"fault: write\n".as_slice());
 }
 
 #[test]
 fn help_that_cannot_be_written_is_a_write_fault(rt: HostRuntime) {
-    let mut file = MemoryFile::new("", "");
+    let files = MemoryFiles::new("", "");
     let mut out = Streamed::new(ArrayVec::<u8, 8>::new());
     let mut err = Streamed::new(ArrayVec::<u8, 64>::new());
-    let status = status_of(rt.alloc(), "h3 --help", "", &mut file, &mut out, &mut err);
+    let status = status_of(rt.alloc(), "h3 --help", "", &files, &mut out, &mut err);
     assert!(&rt; status == Some(4));
     assert!(&rt; err.into_inner().as_slice() == b"fault: write\n".as_slice());
 }

@@ -2,7 +2,7 @@
 
 use crate::words::words_of;
 use h3_index::Streamed;
-use h3_program::{NamedFile, Retried, run_words};
+use h3_program::{NamedFile, Retried, SystemFiles, run_words};
 use std::alloc::Global;
 use std::io;
 use std::io::{ErrorKind, Read, Write};
@@ -170,7 +170,8 @@ fn ends<R: AllocGlobal + Files>(rt: &R, line: &str, status: u8, output: &str, te
     let mut written = Vec::new(rt.alloc());
     let mut reported = Vec::new(rt.alloc());
     let mut input = Streamed::new(Retried::new(interrupted(LIST.as_bytes(), 3)));
-    let mut file = NamedFile::new(rt);
+    let files = SystemFiles(rt);
+    let mut file = NamedFile::new(&files);
     let mut out = Streamed::new(Retried::new(interrupted(&mut written, 3)));
     let mut err = Streamed::new(Retried::new(interrupted(&mut reported, 3)));
     let alloc = rt.alloc();
