@@ -6,8 +6,8 @@ use crate::rows::{cell, holds};
 use h3_index::Cell;
 use h3_regions::laws::zones_are_lawful;
 use h3_regions::{
-    TabledZones, ZoneIndex, Zones, count, count_indexed, count_next, count_of, join, join_indexed,
-    order_by_number, order_zones, write_table,
+    ZoneIndex, Zones, count, count_indexed, count_next, count_of, join, join_indexed,
+    order_by_number, order_zones,
 };
 use std::process::Abort;
 
@@ -286,48 +286,6 @@ fn zones_are_found_by_tables(rt: HostRuntime) {
             for step in STEPS {
                 let rows = rows_of(&rt, list, step);
                 assert!(rt; holds(&rt, row, are_indexed(&rt, list, table, &rows)));
-            }
-        }
-    }
-}
-
-/// Whether the rows' zones are found in a table.
-fn are_in_table(rt: &HostRuntime, tabled: &TabledZones, rows: &[Row; SIZE]) -> bool {
-    for (row, (seen, zone)) in rows.iter().enumerate() {
-        if !holds(rt, row, number(tabled.zone_of(*seen)) == *zone) {
-            return false;
-        }
-    }
-    true
-}
-
-/// Whether the rows' zones are found in a table that is written, in one with other numbers, and in a
-/// part of the one that is written.
-fn are_tabled(rt: &HostRuntime, list: &[u64], table: usize, rows: &[Row; SIZE]) -> bool {
-    let mut slots = [Cell::in_base(0); MOST];
-    let mut places = [u32::MAX; ROOM];
-    let given = put(&mut slots, list);
-    let Ok(zones) = Zones::of(&mut slots[..given]) else {
-        return false;
-    };
-    let size = table.min(ROOM);
-    if !are_in_table(rt, &TabledZones::over(&zones, &places[..size]), rows) {
-        return false;
-    }
-    write_table(&zones, &mut places[..size]);
-    let is_kept = places[size..].iter().all(|place| *place == u32::MAX);
-    is_kept
-        && are_in_table(rt, &TabledZones::over(&zones, &places[..size]), rows)
-        && are_in_table(rt, &TabledZones::over(&zones, &places[..size / 2]), rows)
-}
-
-#[test]
-fn zones_are_found_in_kept_tables(rt: HostRuntime) {
-    for (row, list) in LISTS.iter().enumerate() {
-        for table in TABLES {
-            for step in STEPS {
-                let rows = rows_of(&rt, list, step);
-                assert!(rt; holds(&rt, row, are_tabled(&rt, list, table, &rows)));
             }
         }
     }
