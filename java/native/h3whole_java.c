@@ -61,6 +61,7 @@ FIELD(getBaseCellNumber)
     }
 AT_RESOLUTION(cellToParent, H3Index)
 AT_RESOLUTION(cellToCenterChild, H3Index)
+AT_RESOLUTION(cellToLastChild, H3Index)
 AT_RESOLUTION(cellToChildrenSize, int64_t)
 AT_RESOLUTION(cellToChildPos, int64_t)
 
@@ -443,6 +444,7 @@ FILL(areValidDirectedEdges, int)
 FILL(getDirectedEdgeOrigins, H3Index)
 FILL_AT(cellsToParents, H3Index)
 FILL_AT(cellsToCenterChildren, H3Index)
+FILL_AT(cellsToLastChildren, H3Index)
 FILL_AT(cellsToChildrenSizes, int64_t)
 FILL_AT(cellsToChildPositions, int64_t)
 FILL_OVER(cellsToZones, H3Index)
@@ -460,7 +462,7 @@ static const struct {
     {getDirectedEdgeOrigins, sizeof(jlong), 0}, {cellsToParents, sizeof(jlong), 1},
     {cellsToCenterChildren, sizeof(jlong), 1},  {cellsToChildrenSizes, sizeof(jlong), 1},
     {cellsToChildPositions, sizeof(jlong), 1},  {cellsToZones, sizeof(jlong), 0},
-    {areCoveredCells, sizeof(jboolean), 0},
+    {areCoveredCells, sizeof(jboolean), 0},     {cellsToLastChildren, sizeof(jlong), 1},
 };
 
 /* (-1, at the place of an error, is false) */

@@ -106,6 +106,8 @@ final class Answers {
         }
         write(folder, "cellsToCenterChildren-15", texts, 15, H3::cellToCenterChild, H3::cellToCenterChild,
                 Columns::cellsToCenterChildren);
+        write(folder, "cellsToLastChildren-15", texts, 15, H3::cellToLastChild, H3::cellToLastChild,
+                Columns::cellsToLastChildren);
         write(folder, "cellsToChildrenSizes-15", texts, 15, H3::cellToChildrenSize, H3::cellToChildrenSize,
                 Columns::cellsToChildrenSizes);
         edges(folder, texts);

@@ -163,6 +163,10 @@ final class Rows {
         Check.same("center", H3.cellToCenterChild(CELL, 15), "8f2834700000000");
         Check.same("center", H3.cellToCenterChild(INDEX, 15), 0x8f2834700000000L);
         Check.refused("error 4: E_RES_DOMAIN: 85283473fffffff at resolution 4", () -> H3.cellToCenterChild(CELL, 4));
+        Check.same("last", H3.cellToLastChild(CELL, 7), "872834736ffffff");
+        Check.same("last", H3.cellToLastChild(INDEX, 5), INDEX);
+        Check.same("last", H3.cellToLastChild("8009fffffffffff", 1), "8109bffffffffff");
+        Check.refused("error 4: E_RES_DOMAIN: 85283473fffffff at resolution 4", () -> H3.cellToLastChild(CELL, 4));
     }
 
     private static void lists() {
@@ -366,6 +370,8 @@ final class Rows {
         Check.same("parents", Columns.cellsToParents(valid, 0), new long[] {0x8029fffffffffffL, PENTAGON});
         Check.same("centers", Columns.cellsToCenterChildren(valid, 15),
                 new long[] {0x8f2834700000000L, 0x8f0800000000000L});
+        Check.same("lasts", Columns.cellsToLastChildren(valid, 7),
+                new long[] {0x872834736ffffffL, 0x8709b6db6ffffffL});
         Check.same("sizes", Columns.cellsToChildrenSizes(valid, 6), new long[] {7, 1 + 5 * (117649 - 1) / 6});
         Check.same("positions", Columns.cellsToChildPositions(valid, 0), new long[] {2279, 0});
         Check.same("origins", Columns.getDirectedEdgeOrigins(new long[] {EDGE}), new long[] {INDEX});
@@ -376,6 +382,7 @@ final class Rows {
         Check.refused(at, () -> Columns.getBaseCellNumbers(cells));
         Check.refused(at, () -> Columns.cellsToParents(cells, 0));
         Check.refused(at, () -> Columns.cellsToCenterChildren(cells, 15));
+        Check.refused(at, () -> Columns.cellsToLastChildren(cells, 15));
         Check.refused(at, () -> Columns.cellsToChildrenSizes(cells, 15));
         Check.refused(at, () -> Columns.cellsToChildPositions(cells, 0));
         Check.refused("error 6: E_DIR_EDGE_INVALID: 85283473fffffff at place 0",
@@ -404,6 +411,8 @@ final class Rows {
         Check.same("parents", longs, new long[] {INDEX, 0, 0, 0});
         Check.same("centers", Columns.cellsToCenterChildren(cells, 4, longs), BitSet.valueOf(new long[] {13}));
         Check.same("centers", longs, new long[] {0, 0x840800000000000L | 0x1ffffffffL, 0, 0});
+        Check.same("lasts", Columns.cellsToLastChildren(cells, 4, longs), BitSet.valueOf(new long[] {13}));
+        Check.same("lasts", longs, new long[] {0, 0x8409b6dffffffffL, 0, 0});
         Check.same("sizes", Columns.cellsToChildrenSizes(cells, 5, longs), two);
         Check.same("sizes", longs, new long[] {1, 1 + 5 * (16807 - 1) / 6, -1, -1});
         Check.same("positions", Columns.cellsToChildPositions(cells, 0, longs), two);

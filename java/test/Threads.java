@@ -48,6 +48,7 @@ final class Threads {
         calls.add(() -> H3.getPentagonAddresses(9));
         calls.add(() -> H3.cellToParentAddress(text, 3));
         calls.add(() -> H3.cellToCenterChild(text, 13));
+        calls.add(() -> H3.cellToLastChild(text, 13));
         calls.add(() -> H3.cellToChildrenSize(text, 13));
         calls.add(() -> H3.cellToChildren(CELL, 8));
         calls.add(() -> H3.cellToChildPos(CELL, 2));
@@ -84,6 +85,7 @@ final class Threads {
         calls.add(() -> Arrays.hashCode(Columns.getBaseCellNumbers(column)));
         calls.add(() -> Arrays.hashCode(Columns.cellsToParents(column, 1)));
         calls.add(() -> Arrays.hashCode(Columns.cellsToCenterChildren(column, 15)));
+        calls.add(() -> Arrays.hashCode(Columns.cellsToLastChildren(column, 15)));
         calls.add(() -> Arrays.hashCode(Columns.cellsToChildrenSizes(column, 15)));
         calls.add(() -> Arrays.hashCode(Columns.cellsToChildPositions(column, 1)));
         calls.add(() -> Arrays.hashCode(Columns.areValidDirectedEdges(edges)));

@@ -96,6 +96,16 @@ public final class Columns {
         return fillLongs(Native.CELLS_TO_CENTER_CHILDREN, cells, res, out, H3.NULL);
     }
 
+    /** Returns the last descendant of each cell. */
+    public static long[] cellsToLastChildren(long[] cells, int res) {
+        return longs(Native.CELLS_TO_LAST_CHILDREN, cells, res);
+    }
+
+    /** Fills an array with the last children, and returns the places of refused cells, where it is 0. */
+    public static BitSet cellsToLastChildren(long[] cells, int res, long[] out) {
+        return fillLongs(Native.CELLS_TO_LAST_CHILDREN, cells, res, out, H3.NULL);
+    }
+
     /** Returns the number of descendants of each cell. */
     public static long[] cellsToChildrenSizes(long[] cells, int res) {
         return longs(Native.CELLS_TO_CHILDREN_SIZES, cells, res);

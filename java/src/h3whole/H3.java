@@ -170,6 +170,20 @@ public final class H3 {
         return h3ToString(cellToCenterChild(stringToH3(cell), res));
     }
 
+    /**
+     * Returns the last descendant of a cell, which has the greatest number. The cells of the resolution from the one
+     * in the center to the last one are the descendants of the cell, and no others. Errors as of
+     * {@link #cellToCenterChild(long, int)}.
+     */
+    public static long cellToLastChild(long cell, int res) {
+        return atResolution(Native.cellToLastChild(cell, res), cell, res);
+    }
+
+    /** Returns the last descendant of a cell. Errors as of {@link #cellToCenterChild(long, int)}. */
+    public static String cellToLastChild(String cell, int res) {
+        return h3ToString(cellToLastChild(stringToH3(cell), res));
+    }
+
     /** Returns the number of descendants of a cell. Errors as of {@link #cellToCenterChild(long, int)}. */
     public static long cellToChildrenSize(long cell, int res) {
         return atResolution(Native.cellToChildrenSize(cell, res), cell, res);

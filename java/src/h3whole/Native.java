@@ -25,6 +25,7 @@ final class Native {
     static final int CELLS_TO_CHILD_POSITIONS = 10;
     static final int CELLS_TO_ZONES = 11;
     static final int ARE_COVERED_CELLS = 12;
+    static final int CELLS_TO_LAST_CHILDREN = 13;
 
     private Native() {}
 
@@ -46,6 +47,8 @@ final class Native {
     static native long cellToParent(long cell, int res);
 
     static native long cellToCenterChild(long cell, int res);
+
+    static native long cellToLastChild(long cell, int res);
 
     static native long cellToChildrenSize(long cell, int res);
 
