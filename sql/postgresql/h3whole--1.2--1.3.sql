@@ -26,6 +26,15 @@ COMMENT ON FUNCTION h3_prepare_zones(h3cell[]) IS 'what h3_zone_of prepares of a
 COMMENT ON FUNCTION h3_prepared_covers(h3cell, h3_prepared) IS 'h3_is_covered over the region of a subquery';
 COMMENT ON FUNCTION h3_prepared_zone_of(h3cell, h3_prepared) IS 'h3_zone_of over the zones of a subquery';
 
+-- The greatest descendant: the cells of a resolution from the one in the center to it are the descendants there.
+CREATE FUNCTION h3_cell_to_last_child(cell h3cell, resolution bigint) RETURNS h3cell
+    AS 'MODULE_PATHNAME', 'h3whole_cell_to_last_child' LANGUAGE C IMMUTABLE STRICT PARALLEL SAFE;
+CREATE FUNCTION h3_cell_to_last_child(cell h3cell) RETURNS h3cell
+    AS 'MODULE_PATHNAME', 'h3whole_cell_to_last_child_next' LANGUAGE C IMMUTABLE STRICT PARALLEL SAFE;
+COMMENT ON FUNCTION h3_cell_to_last_child(h3cell, bigint) IS
+    'the last descendant of a cell at a resolution, which is the greatest';
+COMMENT ON FUNCTION h3_cell_to_last_child(h3cell) IS 'the last descendant of a cell at the next finer resolution';
+
 -- Hierarchy: whether a cell covers another. What is no cell covers nothing, and is covered by nothing.
 CREATE FUNCTION h3cell_contains(h3cell, h3cell) RETURNS boolean
     AS 'MODULE_PATHNAME', 'h3whole_contains' LANGUAGE C IMMUTABLE STRICT PARALLEL SAFE;

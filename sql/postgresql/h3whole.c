@@ -298,6 +298,22 @@ static Datum h3whole_cell_to_center_child_of(FunctionCallInfo fcinfo, int64 res)
 AT_RESOLUTION(h3whole_cell_to_center_child, 1)
 AT_NEXT(h3whole_cell_to_center_child, 1)
 
+static Datum h3whole_cell_to_last_child_of(FunctionCallInfo fcinfo, int64 res)
+{
+	H3Index out = H3_NULL;
+
+	check_at(h3w_cellToLastChild(GET_INDEX(0), as_int(res), &out), GET_INDEX(0), res);
+	PG_RETURN_DATUM(INDEX_DATUM(out));
+}
+
+PG_FUNCTION_INFO_V1(h3whole_cell_to_last_child);
+Datum h3whole_cell_to_last_child(PG_FUNCTION_ARGS)
+{
+	return h3whole_cell_to_last_child_of(fcinfo, PG_GETARG_INT64(1));
+}
+
+AT_NEXT(h3whole_cell_to_last_child, 1)
+
 static Datum h3whole_cell_to_children_size_of(FunctionCallInfo fcinfo, int64 res)
 {
 	int64_t out = 0;

@@ -33,6 +33,9 @@ ROWS = {
     "SELECT h3_cell_to_parent('85283473fffffff', 4)": ["8428347ffffffff"],
     "SELECT h3_cell_to_parent(' 0X85283473FFFFFFF', 5)": ["85283473fffffff"],
     "SELECT h3_cell_to_center_child('85283473fffffff', 15)": ["8f2834700000000"],
+    "SELECT h3_cell_to_last_child('85283473fffffff', 7)": ["872834736ffffff"],
+    "SELECT h3_cell_to_last_child('85283473fffffff', 5)": ["85283473fffffff"],
+    "SELECT h3_cell_to_last_child('8009fffffffffff', 1)": ["8109bffffffffff"],
     "SELECT h3_cell_to_children_size('8029fffffffffff', 15)": ["4747561509943"],
     "SELECT h3_cell_to_children_size('8009fffffffffff', 15)": ["3956301258286"],
     "SELECT value FROM h3_cell_to_children('85283473fffffff', 6) AS value": [
@@ -90,6 +93,8 @@ ERRORS = {
     ),
     "SELECT h3_cell_to_parent('85283473fffffff', 6)": "error 12: E_RES_MISMATCH: 85283473fffffff at resolution 6",
     "SELECT h3_cell_to_center_child('85283473fffffff', 4)": "error 4: E_RES_DOMAIN: 85283473fffffff at resolution 4",
+    "SELECT h3_cell_to_last_child('85283473fffffff', 4)": "error 4: E_RES_DOMAIN: 85283473fffffff at resolution 4",
+    "SELECT h3_cell_to_last_child('81087ffffffffff', 16)": "error 5: E_CELL_INVALID: 81087ffffffffff",
     "SELECT h3_cell_to_children_size('85283473fffffff', 4)": "error 4: E_RES_DOMAIN: 85283473fffffff at resolution 4",
     "SELECT h3_cell_to_child_pos('85283473fffffff', 6)": "error 12: E_RES_MISMATCH: 85283473fffffff at resolution 6",
     "SELECT h3_child_pos_to_cell(-1, '8029fffffffffff', 5)": (
@@ -225,6 +230,7 @@ COLUMNS = {
     "h3_is_res_class_iii({})": ["areResClassIII"],
     "h3_cell_to_parent({}, 0)": ["cellsToParents", "-r", "0"],
     "h3_cell_to_center_child({}, 15)": ["cellsToCenterChildren", "-r", "15"],
+    "h3_cell_to_last_child({}, 15)": ["cellsToLastChildren", "-r", "15"],
     "h3_cell_to_children_size({}, 15)": ["cellsToChildrenSizes", "-r", "15"],
     "h3_cell_to_child_pos({}, 0)": ["cellsToChildPositions", "-r", "0"],
 }
