@@ -15,9 +15,9 @@
  * Memory. An array is passed as its first element and its length. Each pointer points to that many elements
  * (an `int64_t *out` or the like: to one). It is never null, also if the length is 0. What a function writes to
  * overlaps nothing else that it is passed. If an array is too short for what is to be written, the error is
- * E_MEMORY_BOUNDS. No function keeps what it is passed. compactCells, uncompactCells,
- * uniteCells, intersectCells, subtractCells, zones, findOverlap and readTable alone take memory, by malloc, and free it
- * before they return: E_MEMORY_ALLOC, or H3W_TABLE_MEMORY, if they get none.
+ * E_MEMORY_BOUNDS. No function keeps what it is passed. compactCells, uncompactCells, uniteCells, intersectCells,
+ * subtractCells, zones, findOverlap and readTable alone take memory, by malloc, and free it before they return:
+ * E_MEMORY_ALLOC, or H3W_TABLE_MEMORY, if they get none.
  *
  * Threads. Each function may be called from any number of threads at once: the library has no variable that
  * changes. Two calls at once may read the same memory, and must not write to the same.
@@ -361,11 +361,11 @@ H3Error h3w_countCellsInZones(const H3Index *zones, size_t zoneCount, const H3In
                               size_t room, int64_t *others, size_t *at);
 
 /* The same, by a table of the zones, for many cells in any order, in many zones: if the zones are spread evenly, a cell
- * is looked up in a few steps, however many they are. The table is written into `table`, memory that is lent for the
- * call, of any size: room for two to four numbers for each zone serves well. With room for fewer than two in all, or
- * with more than 2^32 - 1 zones, each cell is searched for as without a table. What it holds afterwards is not said,
- * also if an error is returned. To write it takes a pass over the zones and over the table, so it pays if there are a
- * fourth as many cells as zones, or more. */
+ * is looked up in a few steps, however many they are. `table` is caller-provided memory of any size: two to four
+ * numbers for each zone serve well. With room for fewer than two in all, or with more than 2^32 - 1 zones, each cell is
+ * searched for as without a table. Its contents afterwards are unspecified, also if an error is returned. Writing the
+ * table takes a pass over the zones and over the table, so it pays if there are at least a fourth as many cells as
+ * zones. */
 H3Error h3w_cellsToZonesByTable(const H3Index *zones, size_t zoneCount, const H3Index *cells, size_t n, uint32_t *table,
                                 size_t tableRoom, H3Index *out, size_t room, size_t *at);
 H3Error h3w_areCoveredCellsByTable(const H3Index *zones, size_t zoneCount, const H3Index *cells, size_t n,
@@ -509,7 +509,7 @@ static inline H3Error maxGridDiskSize(int k, int64_t *out) {
     return error;
 }
 
-/** A list without its H3_NULLs, in memory that is to be freed; or NULL, where it has none of them or where there is no
+/** A list without its H3_NULLs, in memory that the caller frees; NULL if it has none of them, or if there is no
  * memory. `*count` is its length. */
 static inline H3Index *h3w_withoutNulls(const H3Index *cells, size_t n, size_t *count) {
     H3Index *kept;

@@ -248,8 +248,24 @@ def cell_to_center_child(cell: str, res: Optional[SupportsIndex] = None) -> str:
 
 
 def cell_to_last_child(cell: str, res: Optional[SupportsIndex] = None) -> str:
-    """The text of a cell's last descendant at a resolution, by default the next finer one: the one with the greatest
-    number."""
+    """Return the text of a cell's last descendant at a resolution: the one with the greatest number.
+
+    Parameters
+    ----------
+    cell : str
+        A cell.
+    res : int, optional
+        The resolution; by default the next finer one.
+
+    Raises
+    ------
+    H3FailedError
+        If a text does not parse as an index.
+    H3CellInvalidError
+        If it is not a valid cell.
+    H3ResDomainError
+        If the resolution is not from the cell's own to 15.
+    """
     wanted = get_resolution(cell) + 1 if res is None else res
     return _integers._text_at_resolution(_integers._cell_to_last_child, cell, wanted)
 

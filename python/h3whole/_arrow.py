@@ -1,5 +1,5 @@
-"""Columns of other programs by Arrow's C data interface: what has `__arrow_c_array__` or `__arrow_c_stream__`, as those
-of polars, DuckDB and pyarrow, is read where it is, and an ArrowColumn hands its memory on in the same way."""
+"""Columns of other programs by Arrow's C data interface: what has `__arrow_c_array__` or `__arrow_c_stream__` is read
+where it is, and an ArrowColumn hands its memory on in the same way."""
 
 import ctypes
 import sys

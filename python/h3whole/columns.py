@@ -8,15 +8,15 @@ column of categories, that of the categories. Else they are integers of 32 or 64
 which in an array and a memoryview are 1 or 0 in a byte.
 
 A list of texts or of integers gives a list, a column of texts, of numpy or pandas, one of texts and None, and an Index
-of pandas an Index. These are copied, and a text that parses as no index is an error before any other.
+of pandas an Index. These are copied, and a text that does not parse as an index is an error before any other.
 
-What has `__arrow_c_array__` or `__arrow_c_stream__`, as a column of polars, DuckDB or pyarrow, gives an `ArrowColumn`,
-with a null for each null; `to_arrow` makes one of a column of another kind.
+What has `__arrow_c_array__` or `__arrow_c_stream__` gives an `ArrowColumn`, with a null for each null; `to_arrow`
+makes one of a column of another kind.
 
 Where an index is refused, an exception says which error it is, which index, and at which place, the first one's; with
 `missing=True` there is none, and what is refused has 0 in place of an index, -1 in place of a number, and False in
-place of a truth value. A value that pandas marks as missing (NA) is refused as the index 0 is. A number that is no
-resolution is an error always, before any index. An array of numpy with a mask is refused."""
+place of a truth value. A value that pandas marks as missing (NA) is refused as the index 0 is. A number that is
+not a resolution is an error always, before any index. An array of numpy with a mask is refused."""
 
 import ctypes
 import sys
@@ -577,7 +577,26 @@ def cells_to_center_children(column: _Column, res: SupportsIndex, *, missing: bo
 
 
 def cells_to_last_children(column: _Column, res: SupportsIndex, *, missing: bool = False) -> _Column:
-    """The last descendant of each cell at a resolution, which has the greatest number."""
+    """Return the last descendant of each cell at a resolution: the one with the greatest number.
+
+    Parameters
+    ----------
+    column : array, memoryview, numpy array, Series, Index or list
+        The cells.
+    res : int
+        A resolution, which is judged first.
+    missing : bool, optional
+        Write 0 for what is refused, and raise nothing for it.
+
+    Raises
+    ------
+    H3ResDomainError
+        If the resolution is not 0 to 15, or coarser than a cell's.
+    H3FailedError
+        If a text does not parse as an index.
+    H3CellInvalidError
+        If one is not a valid cell.
+    """
     return _fill(_cells_to_last_children, column, _INDEXES, missing, res=res)  # type: ignore[no-any-return]
 
 

@@ -46,7 +46,7 @@ class UnknownH3ErrorCode(H3BaseException):
 
 
 class H3FailedError(H3GridNavigationError, ValueError):
-    """A text parses as no index, or a table was refused. h3-py has it among the errors of the grid."""
+    """A text does not parse as an index, or a table was refused. h3-py has it among the errors of the grid."""
 
     number, name = 1, "E_FAILED"
 

@@ -1,7 +1,8 @@
 """H3's functions over indexes as integers, with h3-py's names. The package itself has the same over texts.
 
 A cell or an edge is an integer from 0 to 2^64 - 1, of Python or of numpy. Errors are exceptions of `h3whole.errors`:
-H3CellInvalidError where the index is no cell's and H3DirEdgeInvalidError where it is no edge's, before any other."""
+H3CellInvalidError if the index is not a valid cell, and H3DirEdgeInvalidError if it is not a valid edge, before any
+other."""
 
 import ctypes
 from array import array
@@ -381,8 +382,24 @@ def cell_to_center_child(cell: SupportsIndex, res: Optional[SupportsIndex] = Non
 
 
 def cell_to_last_child(cell: SupportsIndex, res: Optional[SupportsIndex] = None) -> int:
-    """The last descendant of a cell at a resolution, by default the next finer one: the one with the greatest number.
-    The cells of the resolution from the one in the center to it are the cell's descendants there, and no others."""
+    """Return the last descendant of a cell at a resolution: the one with the greatest number.
+
+    The cells of the resolution from the center child to it are the cell's descendants there, and no others.
+
+    Parameters
+    ----------
+    cell : int
+        A cell.
+    res : int, optional
+        The resolution; by default the next finer one.
+
+    Raises
+    ------
+    H3CellInvalidError
+        If it is not a valid cell.
+    H3ResDomainError
+        If the resolution is not from the cell's own to 15.
+    """
     return _at_resolution(_cell_to_last_child, _index(), cell, _finer(cell, res))
 
 

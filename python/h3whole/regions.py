@@ -366,19 +366,19 @@ class CellRegion(CellSet[_Cell]):
         return self._cells[:]
 
     def __contains__(self, cell: _Cell) -> bool:
-        """Whether the region covers a cell. H3CellInvalidError where it is none, H3FailedError where it is a text that
-        parses as no index."""
+        """Return whether the region covers a cell. H3CellInvalidError if it is not a valid cell, H3FailedError if a
+        text does not parse as an index."""
         return bool(self.covers(array("Q", [self._index_of(cell)]))[0])
 
     def covers(self, cells: _Cells[_Cell], *, missing: bool = False) -> Any:
         """Whether the region covers each cell of a column: a column of the same kind, or a list of truth values for any
-        other cells. With `missing=True` what is no cell is False."""
+        other cells. With `missing=True` what is not a valid cell is False."""
         found = self._fill(_are_covered_cells, self._numbers_of(cells, missing), "i", missing, True)
         return found if _is_column(cells) else list(map(bool, found))
 
 
 class CellZones(CellSet[_Cell]):
-    """Cells of which no two overlap, compacted or not. H3DuplicateInputError where two do.
+    """Cells of which no two overlap, compacted or not. H3DuplicateInputError if two do.
 
     Each cell lies in one zone at most: the one that is the cell or an ancestor of it. The zones come ascending; `in`
     says whether a cell is one of them."""
@@ -400,14 +400,14 @@ class CellZones(CellSet[_Cell]):
         return len(self._order or ())
 
     def __contains__(self, cell: _Cell) -> bool:
-        """Whether a cell is one of the zones. H3CellInvalidError where it is none, H3FailedError where it is a text
-        that parses as no index."""
+        """Return whether a cell is one of the zones. H3CellInvalidError if it is not a valid cell, H3FailedError if a
+        text does not parse as an index."""
         index = self._index_of(cell)
         return self._number_of(index) == index
 
     def zone_of(self, cell: _Cell) -> Optional[_Cell]:
-        """The zone in which a cell lies; None where it lies in none. H3CellInvalidError where it is no cell,
-        H3FailedError where it is a text that parses as no index."""
+        """Return the zone of a cell, or None if it has none. H3CellInvalidError if it is not a valid cell,
+        H3FailedError if a text does not parse as an index."""
         return self._form_or_none(self._number_of(self._index_of(cell)))
 
     def _number_of(self, index: int) -> int:
@@ -421,7 +421,7 @@ class CellZones(CellSet[_Cell]):
         """The zone in which each cell of a column lies: a column of the same kind, with 0 where it lies in none. Of a
         column of texts, of numpy or pandas, it is one of texts and None, of one of objects it has a text for a text,
         an integer for an integer, and None, and of any other cells it is a list of zones and None. With `missing=True`
-        what is no cell is as one without a zone."""
+        what is not a valid cell has none."""
         integers = array("q")
         numbers = self._numbers_of(cells, missing, integers)
         found = self._fill(_cells_to_zones, numbers, columns._INDEXES, missing, False)
@@ -431,7 +431,7 @@ class CellZones(CellSet[_Cell]):
 
     def count(self, cells: _Cells[_Cell], *, missing: bool = False) -> "Counts[_Cell]":
         """How many cells of a column, or of any other cells, lie in each zone, and in none. With `missing=True` what
-        is no cell is counted by itself."""
+        is not a valid cell is counted by itself."""
         if columns._is_arrow(cells):
             return self._count(columns._cells_of_arrow(cells, missing), missing)
         return self._count(self._numbers_of(cells, missing), missing)

@@ -32,8 +32,9 @@ CREATE FUNCTION h3_cell_to_last_child(cell h3cell, resolution bigint) RETURNS h3
 CREATE FUNCTION h3_cell_to_last_child(cell h3cell) RETURNS h3cell
     AS 'MODULE_PATHNAME', 'h3whole_cell_to_last_child_next' LANGUAGE C IMMUTABLE STRICT PARALLEL SAFE;
 COMMENT ON FUNCTION h3_cell_to_last_child(h3cell, bigint) IS
-    'the last descendant of a cell at a resolution, which is the greatest';
-COMMENT ON FUNCTION h3_cell_to_last_child(h3cell) IS 'the last descendant of a cell at the next finer resolution';
+    'the last descendant of a cell at a resolution, which is the greatest; error 5 if not a valid cell, 4 if the resolution is not from the cell''s own to 15';
+COMMENT ON FUNCTION h3_cell_to_last_child(h3cell) IS
+    'the last descendant of a cell at the next finer resolution; error 5 if not a valid cell, 4 if it is of resolution 15';
 
 -- Hierarchy: whether a cell covers another. What is no cell covers nothing, and is covered by nothing.
 CREATE FUNCTION h3cell_contains(h3cell, h3cell) RETURNS boolean
@@ -153,7 +154,7 @@ COMMENT ON FUNCTION h3_count_deserial(bytea, internal) IS
     'takes what a parallel worker has handed on of h3_count_cells_in_zones';
 COMMENT ON FUNCTION h3_count_final(internal) IS 'the result of h3_count_cells_in_zones';
 COMMENT ON AGGREGATE h3_count_cells_in_zones(h3cell, h3cell[]) IS
-    'how many cells of the rows lie in each zone, ascending, and, with NULL, in none';
+    'how many cells of the rows lie in each zone, ascending, and, with NULL, in none; error 5 if one is not a valid cell, 10 if two zones overlap';
 
 -- What each function does, with H3's errors, in the order in which they are judged.
 COMMENT ON FUNCTION h3_is_valid_cell(h3cell) IS 'whether an index is a valid cell';
