@@ -143,7 +143,9 @@ def measure_points(engine, ask):
         query = f"SELECT (count(*) > 0)::int FROM ({BY_ZONE.format(name, once.format(name))}) x"
         compare(f"PostgreSQL: zones of 2000000 points in {count} / a sum of remainders", ask(query, 0), ask(number, 0))
         zones = once.format(name)
-        counted = f"SELECT count(*) FROM unnest((SELECT h3_count_cells_in_zones(cell, {zones}) FROM points)) WHERE cells > 0"
+        counted = (
+            f"SELECT count(*) FROM unnest((SELECT h3_count_cells_in_zones(cell, {zones}) FROM points)) WHERE cells > 0"
+        )
         grouped = f"SELECT count(*) FROM (SELECT h3_zone_of(cell, {zones}), count(*) FROM points GROUP BY 1) x"
         name = f"PostgreSQL: h3_count_cells_in_zones of 2000000 points in {count} / GROUP BY h3_zone_of"
         compare(name, ask(counted, 0), ask(grouped, 0))
