@@ -226,19 +226,16 @@ fn last_children(rt: HostRuntime) {
     }
 }
 
-/// The first and the last of a cell's children at a resolution; the cell where it has none there.
-fn ends_of(cell: Cell, res: i32) -> (Cell, Cell) {
-    let mut first = cell;
-    let mut last = cell;
-    if let Ok(items) = children(cell, res) {
-        for (place, child) in items.enumerate() {
-            if place == 0 {
-                first = child;
-            }
-            last = child;
-        }
+/// The first and the last of a cell's children at a resolution; `None` where it has none there.
+fn ends_of(cell: Cell, res: i32) -> Option<(Cell, Cell)> {
+    let mut ends = None;
+    for child in children(cell, res).ok()? {
+        ends = match ends {
+            Some((first, _)) => Some((first, child)),
+            None => Some((child, child)),
+        };
     }
-    (first, last)
+    ends
 }
 
 fn ends_by_digits(cell: Cell, res: i32) -> Result<(Cell, Cell), H3Error> {
@@ -259,7 +256,7 @@ fn children_go_from_the_center_to_the_last(rt: HostRuntime) {
     for (row, (number, res)) in ROWS.iter().enumerate() {
         let cell = cell(&rt, *number);
         let right = match ends_by_digits(cell, *res) {
-            Ok(ends) => ends == ends_of(cell, *res),
+            Ok(ends) => ends_of(cell, *res) == Some(ends),
             Err(_) => false,
         };
         assert!(rt; holds(&rt, row, right));
