@@ -433,7 +433,7 @@ typedef H3Error Fill(const Over *over, const H3Index *cells, size_t n, void *out
     static H3Error name(const Over *over, const H3Index *cells, size_t n, void *out, size_t *at) {                     \
         const Zones *zones = over->zones;                                                                              \
         if (!over->table) return h3w_##name(zones->cells, zones->count, cells, n, (type *)out, n, at);                 \
-        return h3w_##name##InTable(zones->cells, zones->count, cells, n, over->table, over->room, (type *)out, n, at); \
+        return h3w_##name##ByTable(zones->cells, zones->count, cells, n, over->table, over->room, (type *)out, n, at); \
     }
 FILL(areValidCells, int)
 FILL(getResolutions, int)
@@ -589,8 +589,8 @@ typedef struct {
     size_t length;
 } Pieces;
 
-/* How long pieces by a table are: so many cells that to write the counts of all zones anew, as each piece does, takes
- * little of the time, but for very many zones, where the memory counts. */
+/* How long pieces by a table are, which each of them writes anew: so many cells that this takes little of the time,
+ * but for very many zones, where the memory counts. */
 static size_t length_by_table(size_t zones) {
     size_t length = 16 * zones;
     if (length < PIECE) return PIECE;
@@ -598,8 +598,8 @@ static size_t length_by_table(size_t zones) {
     return 4 * zones < LONG_PIECE ? LONG_PIECE : 4 * zones;
 }
 
-/* Memory for n cells by a table of the zones, which is written here, where they are enough for it to pay. It is to be
- * freed. Where there is none, all stays as it was. */
+/* Memory for n cells by a table of the zones, where they are enough for it to pay. It is to be freed. Where there is
+ * none, all stays as it was. */
 static void *take_table(size_t n, size_t out_size, Over *over, Pieces *pieces) {
     size_t count = over->zones->count, length = length_by_table(count), cells_size;
     char *memory;
@@ -613,7 +613,6 @@ static void *take_table(size_t n, size_t out_size, Over *over, Pieces *pieces) {
     if (out_size) pieces->out = memory + cells_size;
     over->table = (uint32_t *)(void *)(memory + cells_size + length * out_size);
     over->room = 2 * count;
-    h3w_zonesTable(over->zones->cells, count, over->table, over->room);
     return memory;
 }
 
@@ -668,7 +667,7 @@ static H3Error count_piece(const Over *over, const H3Index *cells, size_t n, int
     const Zones *zones = over->zones;
     if (!over->table)
         return h3w_countCellsInZones(zones->cells, zones->count, cells, n, counts, zones->count, others, at);
-    return h3w_countCellsInZonesInTable(zones->cells, zones->count, cells, n, over->table, over->room, counts,
+    return h3w_countCellsInZonesByTable(zones->cells, zones->count, cells, n, over->table, over->room, counts,
                                         zones->count, others, at);
 }
 

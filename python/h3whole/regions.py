@@ -41,23 +41,30 @@ _Cells = Union[Iterable[_Cell], "array[int]", memoryview, "CellSet[Any]"]
 
 _of_two_lists = (_array, _size, _array, _size, _array, _size, ctypes.POINTER(_size))
 _over_zones = (_array, _size, _array, _size, _array, _size, ctypes.POINTER(_size))
-_in_table = (_array, _size, _array, _size, _array, _size, _array, _size, ctypes.POINTER(_size))
+_with_table = (_array, _size, _array, _size, _array, _size, _array, _size, ctypes.POINTER(_size))
 _unite_cells = _library.number("uniteCells", _array, _size, _array, _size, ctypes.POINTER(_size))
 _intersect_cells = _library.number("intersectCells", *_of_two_lists)
 _subtract_cells = _library.number("subtractCells", *_of_two_lists)
 _zones = _library.number("zones", _array, _size, _array, _size)
 _zones_table = _library.value("zonesTable", None, _array, _size, _array, _size)
-_cells_to_zones = _library.number("cellsToZones", *_over_zones), _library.number("cellsToZonesInTable", *_in_table)
+_cells_to_zones = (
+    _library.number("cellsToZones", *_over_zones),
+    _library.number("cellsToZonesByTable", *_with_table),
+    _library.number("cellsToZonesInTable", *_with_table),
+)
 _are_covered_cells = (
     _library.number("areCoveredCells", *_over_zones),
-    _library.number("areCoveredCellsInTable", *_in_table),
+    _library.number("areCoveredCellsByTable", *_with_table),
+    _library.number("areCoveredCellsInTable", *_with_table),
 )
 _counted = (_array, _size, ctypes.POINTER(_number), ctypes.POINTER(_size))
 _count_cells_in_zones = (
     _library.number("countCellsInZones", _array, _size, _array, _size, *_counted),
+    _library.number("countCellsInZonesByTable", _array, _size, _array, _size, _array, _size, *_counted),
     _library.number("countCellsInZonesInTable", _array, _size, _array, _size, _array, _size, *_counted),
 )
-_Lookup = Tuple[Callable[..., int], Callable[..., int]]
+# (without a table, by one that the call writes, and in one that is kept)
+_Lookup = Tuple[Callable[..., int], Callable[..., int], Callable[..., int]]
 
 # (the library wants an address for no cells too)
 _NOWHERE = array("Q", [0])
@@ -68,13 +75,19 @@ def _at(items: "array[int]") -> Tuple[int, int]:
     return items.buffer_info()[0] if items else _NOWHERE.buffer_info()[0], len(items)
 
 
-def _table_of(zones: "array[int]") -> "Optional[array[int]]":
-    """The table by which cells are looked up in zones; None where there is no memory for it."""
+def _room_of_table(zones: "array[int]") -> "Optional[array[int]]":
+    """Memory for the table by which cells are looked up in zones; None where there is none."""
     try:
-        table = array("I", bytes(4)) * (2 * len(zones))
+        return array("I", bytes(4)) * (2 * len(zones))
     except MemoryError:
         return None
-    _zones_table(*_at(zones), *_at(table))
+
+
+def _table_of(zones: "array[int]") -> "Optional[array[int]]":
+    """The table by which cells are looked up in zones; None where there is no memory for it."""
+    table = _room_of_table(zones)
+    if table is not None:
+        _zones_table(*_at(zones), *_at(table))
     return table
 
 
@@ -220,10 +233,14 @@ class CellSet(Generic[_Cell]):
         return self._table
 
     def _look_up(self, functions: _Lookup, address: int, count: int, *rest: Any) -> int:
-        """The error of a function over zones for so many cells."""
+        """The error of a function over zones for so many cells. A table that the call writes is faster to look up in
+        than one that is kept, so it pays for as many cells as there are zones, or more."""
         zones = self._looked_up()
+        plain, by_table, in_table = functions
+        own = _room_of_table(zones) if count >= len(zones) > 1 else None
+        if own is not None:
+            return by_table(*_at(zones), address, count, *_at(own), *rest)
         table = self._tabled(zones, count)
-        plain, in_table = functions
         if table is None:
             return plain(*_at(zones), address, count, *rest)
         return in_table(*_at(zones), address, count, *_at(table), *rest)

@@ -556,14 +556,15 @@ class Tables(unittest.TestCase):
     def test_parts(self):
         whole, counts = self.zones.of(self.column), self.zones.count(self.column)
         covered = self.region.covers(self.column)
-        self.assertEqual(self.written.call_count, 2)
-        for length in (1, 10, 200, 2000):
+        self.assertEqual(self.written.call_count, 0)
+        for length in (1, 10, 100, 2000):
             zones, region = integers.Zones(self.zones), integers.Region(self.region)
             before = self.written.call_count
             self.assertEqual(sum(map(zones.of, self.parts(length)), array("Q")), whole)
             self.assertEqual(sum(map(zones.count, self.parts(length)), zones.count([])), counts)
             self.assertEqual(sum(map(region.covers, self.parts(length)), array("b")), covered)
-            self.assertEqual(self.written.call_count, before + 2)
+            # (a part as long as the zones are many has a table of its own)
+            self.assertEqual(self.written.call_count, before + (2 if length < len(zones) else 0))
 
     def test_too_few(self):
         count = len(self.zones) // 4
@@ -579,6 +580,8 @@ class Tables(unittest.TestCase):
         for given in (self.zones, self.region):
             ask = given.of if given is self.zones else given.covers
             bare, wanted = pickle.dumps(given), ask(self.column)
+            self.assertIsNone(given._table)
+            self.assertEqual(ask(self.column[:50]), wanted[:50])
             self.assertIsNotNone(given._table)
             self.assertEqual(pickle.dumps(given), bare)
             for other in (pickle.loads(bare), copy.copy(given), copy.deepcopy(given), type(given)(given)):
@@ -588,12 +591,13 @@ class Tables(unittest.TestCase):
     def test_no_memory(self):
         wanted = self.zones.of(self.column)
         zones = integers.Zones(self.zones)
-        with mock.patch.object(regions, "_table_of", return_value=None):
+        with mock.patch.object(regions, "_room_of_table", return_value=None):
             self.assertEqual((zones.of(self.column), zones._table), (wanted, None))
+            self.assertEqual((zones.of(self.column[:50]), zones._table), (wanted[:50], None))
         self.assertEqual(zones.of(self.column), wanted)
 
     def test_threads(self):
-        parts = self.parts(100)
+        parts = self.parts(100) + self.parts(1000)
         wanted = list(map(integers.Zones(self.zones).of, parts))
         with concurrent.futures.ThreadPoolExecutor(8) as threads:
             for _ in range(5):

@@ -210,6 +210,29 @@ extern "C" {
         room: usize,
         at: &mut usize,
     ) -> u32;
+    fn h3w_cellsToZonesByTable(
+        zones: *const u64,
+        zone_count: usize,
+        cells: *const u64,
+        n: usize,
+        table: *mut u32,
+        table_room: usize,
+        out: *mut u64,
+        room: usize,
+        at: &mut usize,
+    ) -> u32;
+    fn h3w_countCellsInZonesByTable(
+        zones: *const u64,
+        zone_count: usize,
+        cells: *const u64,
+        n: usize,
+        table: *mut u32,
+        table_room: usize,
+        counts: *mut i64,
+        room: usize,
+        others: &mut i64,
+        at: &mut usize,
+    ) -> u32;
     fn h3w_zonesTable(zones: *const u64, zone_count: usize, table: *mut u32, table_room: usize);
     fn h3w_cellsToZonesInTable(
         zones: *const u64,
@@ -432,6 +455,18 @@ fn over_lists(function: OverLists, first: &[Cell], second: &[Cell]) -> Result<Ve
     }
 }
 
+/// By what cells are looked up in zones.
+enum By<'a> {
+    /// A search for each.
+    Search,
+
+    /// A table that the call writes into this memory.
+    Own(Vec<u32>),
+
+    /// The table that is kept.
+    Kept(&'a [u32]),
+}
+
 /// Cells as `h3w_zones` has written them, which the functions over zones take. None is made but
 /// here.
 #[derive(Default)]
@@ -489,6 +524,28 @@ impl Order {
         self.cells.len().saturating_mul(2)
     }
 
+    /// By what so many cells are looked up. A table that the call writes is faster to look up in than
+    /// one that is kept, so it pays for as many cells as there are zones, or more.
+    fn by(&self, count: usize) -> By<'_> {
+        let own = if count > 1 && count >= self.cells.len() {
+            self.room_of_table()
+        } else {
+            None
+        };
+        match own {
+            Some(table) => By::Own(table),
+            None => self.table_for(count).map_or(By::Search, By::Kept),
+        }
+    }
+
+    /// Memory for a table, where there is any.
+    fn room_of_table(&self) -> Option<Vec<u32>> {
+        let mut table = Vec::new();
+        table.try_reserve_exact(self.table_room()).ok()?;
+        table.resize(self.table_room(), 0);
+        Some(table)
+    }
+
     /// The table, by which so many cells more are looked up: it is written once so many were that it
     /// pays. None before, or where there is no memory for it.
     fn table_for(&self, count: usize) -> Option<&[u32]> {
@@ -512,9 +569,7 @@ impl Order {
 
     /// Writes the table and keeps it, unless another thread was first.
     fn write_table(&self) -> Option<&[u32]> {
-        let mut table = Vec::new();
-        table.try_reserve_exact(self.table_room()).ok()?;
-        table.resize(self.table_room(), 0);
+        let mut table = self.room_of_table()?;
         let (zones, zone_count) = (self.cells.as_ptr().cast(), self.cells.len());
         // SAFETY: the zones are those of `h3w_zones`, all of them, and the table is passed with its
         // length.
@@ -541,9 +596,17 @@ impl Order {
         // is passed with its length, and `at` is one place. What is written is the index of a cell,
         // or 0, which is `None`: a `Cell` is a `NonZeroU64`.
         checked(unsafe {
-            match self.table_for(n) {
-                None => h3w_cellsToZones(zones, zone_count, numbers, n, places, room, &mut at),
-                Some(table) => {
+            match self.by(n) {
+                By::Search => {
+                    h3w_cellsToZones(zones, zone_count, numbers, n, places, room, &mut at)
+                }
+                By::Own(mut table) => {
+                    let (table, size) = (table.as_mut_ptr(), table.len());
+                    h3w_cellsToZonesByTable(
+                        zones, zone_count, numbers, n, table, size, places, room, &mut at,
+                    )
+                }
+                By::Kept(table) => {
                     let (table, size) = (table.as_ptr(), table.len());
                     h3w_cellsToZonesInTable(
                         zones, zone_count, numbers, n, table, size, places, room, &mut at,
@@ -562,8 +625,8 @@ impl Order {
         let (mut others, mut at) = (0, 0);
         // SAFETY: as of `zones_of`; `others` is one place.
         checked(unsafe {
-            match self.table_for(n) {
-                None => h3w_countCellsInZones(
+            match self.by(n) {
+                By::Search => h3w_countCellsInZones(
                     zones,
                     zone_count,
                     numbers,
@@ -573,7 +636,19 @@ impl Order {
                     &mut others,
                     &mut at,
                 ),
-                Some(table) => h3w_countCellsInZonesInTable(
+                By::Own(mut table) => h3w_countCellsInZonesByTable(
+                    zones,
+                    zone_count,
+                    numbers,
+                    n,
+                    table.as_mut_ptr(),
+                    table.len(),
+                    places,
+                    room,
+                    &mut others,
+                    &mut at,
+                ),
+                By::Kept(table) => h3w_countCellsInZonesInTable(
                     zones,
                     zone_count,
                     numbers,

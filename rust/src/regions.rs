@@ -9,6 +9,7 @@ use core::slice;
 
 /// What cells cover: the least list of cells that covers the same. It takes 16 bytes of memory for
 /// each of these cells, and 8 more once a fourth as many cells were looked up: a table, which is kept.
+/// A call with as many cells as these, or more, takes 8 more while it lasts.
 ///
 /// `&a | &b`, `&a & &b` and `&a - &b` are the regions of what either covers, both do, and the first
 /// does and the second does not; they panic where there is no memory, for which
@@ -164,6 +165,7 @@ impl Sub for &Region {
 /// Cells of which no two overlap, of any resolutions, by which other cells are joined and counted:
 /// each lies in one of them at most, its zone. They take 8 bytes of memory for each zone, and 8 more
 /// once a fourth as many cells were looked up: a table, which is kept, so a column can come in parts.
+/// A call with as many cells as zones, or more, takes 8 more for each zone while it lasts.
 ///
 /// ```
 /// use h3whole::{Cell, Error, Zones};
