@@ -289,7 +289,7 @@ def _arrow_texts(numbers: ArrowColumn) -> ArrowColumn:
 
 
 def _cells_of_arrow(column: Any, missing: bool = False) -> Any:
-    """The indexes of a column as a set's cells: a null is 0, which is no cell."""
+    """The indexes of a column as a set's cells: a null is 0, which is not a valid cell."""
     return memoryview(_arrow_numbers(column, missing)[1].filled(0))
 
 
