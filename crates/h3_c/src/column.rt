@@ -7,6 +7,7 @@ ghost use Rattle.h3_c.specs.Columns.{column_code, column_code_at, column_over, c
 ghost use Rattle.h3_c.specs.Lists.{laid_over};
 
 use h3_index::{H3Error, resolution_from};
+use h3_regions::AHEAD;
 
 /// H3's number for an array with too little room.
 pub(crate) const MEMORY_BOUNDS: u32 = 14;
@@ -29,6 +30,13 @@ pub(crate) trait Question<T> {
     /// was found, for the next index; the place may be any. All else passes it over.
     fn ask(&self, index: u64, place: &mut usize) -> Result<T, H3Error>
         ensures { result ≡ Self.outcome self.now index };
+
+    /// Where the next indexes, at most `AHEAD` of them, are looked for: a place for each; `None` if
+    /// each is asked for at the place that the one before it left.
+    #[inline(always)]
+    fn look_ahead(&self, _indexes: &[u64], _place: usize) -> Option<[usize; AHEAD]> {
+        None
+    }
 }
 
 /// Puts what is asked of each index at its place in a column, and `missing` where there is an
@@ -52,7 +60,14 @@ fn fill_values<T: Copy, Q: Question<T>>(
 {
     let mut missed: usize = 0;
     let mut place: usize = 0;
+    let mut ahead = None;
     for i in 0..indexes.len() {
+        if i % AHEAD == 0 {
+            ahead = question.look_ahead(&indexes[i..], place);
+        }
+        if let Some(places) = &ahead {
+            place = places[i % AHEAD];
+        }
         let answer = question.ask(indexes[i], &mut place);
         missed += usize::from(answer.is_err());
         out[i] = match answer {

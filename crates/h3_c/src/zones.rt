@@ -24,8 +24,8 @@ use h3_index::laws::numbers_are_read;
 use h3_index::{Cell, H3Error};
 use h3_regions::laws::zones_are_lawful;
 use h3_regions::{
-    TabledZones, ZoneIndex, Zones, count_next, count_next_indexed, count_next_tabled, find_overlap,
-    order_zones, write_table,
+    AHEAD, TabledZones, ZoneIndex, Zones, count_next, count_next_indexed, count_next_tabled,
+    find_overlap, order_zones, write_table,
 };
 use std::alloc::Global;
 
@@ -95,6 +95,18 @@ impl<'a> Lookup<'a> {
         }
     }
 
+    /// Where the next indexes are looked for, as `Zones::look_ahead` has it; `None` if the first one's
+    /// zone is near the last place, or a table has a place of its own for each.
+    #[inline(always)]
+    fn look_ahead(&self, indexes: &[u64], place: usize) -> Option<[usize; AHEAD]> {
+        match (self, indexes.first()) {
+            (Lookup::Near(zones), Some(first)) if !zones.is_near(*first, place) => {
+                Some(zones.look_ahead(indexes))
+            }
+            _ => None,
+        }
+    }
+
     /// Whether a cell has a zone.
     #[inline(always)]
     fn covers(&self, cell: Cell, place: &mut usize) -> bool
@@ -135,6 +147,11 @@ impl<'a> Question<u64> for ZonesOf<'a> {
             Some(zone) => Ok(zone.raw()),
             None => Ok(NULL),
         }
+    }
+
+    #[inline(always)]
+    fn look_ahead(&self, indexes: &[u64], place: usize) -> Option<[usize; AHEAD]> {
+        self.zones.look_ahead(indexes, place)
     }
 }
 
@@ -218,6 +235,11 @@ impl<'a> Question<i32> for CoveredBy<'a> {
         let cell = cell_from(index)?;
         let is = self.zones.covers(cell, place);
         Ok(truth(is))
+    }
+
+    #[inline(always)]
+    fn look_ahead(&self, indexes: &[u64], place: usize) -> Option<[usize; AHEAD]> {
+        self.zones.look_ahead(indexes, place)
     }
 }
 
@@ -325,8 +347,15 @@ fn count_all(zones: &Lookup, indexes: &[u64], counts: &mut [u64]) -> u64
     clear(counts);
     let mut others: u64 = 0;
     let mut place: usize = 0;
-    for index in indexes {
-        match Cell::new(*index) {
+    let mut ahead = None;
+    for i in 0..indexes.len() {
+        if i % AHEAD == 0 {
+            ahead = zones.look_ahead(&indexes[i..], place);
+        }
+        if let Some(places) = &ahead {
+            place = places[i % AHEAD];
+        }
+        match Cell::new(indexes[i]) {
             Ok(cell) => others = zones.count_next(cell, counts, others, &mut place),
             Err(_) => unreachable!(),
         }

@@ -2,6 +2,7 @@
 //! Nothing here allocates.
 #![tactic(auto)]
 
+mod ahead;
 mod counting;
 mod difference;
 mod intersection;
@@ -15,6 +16,7 @@ mod zone_index;
 mod zone_table;
 mod zones;
 
+pub use ahead::AHEAD;
 pub use counting::{
     count, count_indexed, count_next, count_next_indexed, count_next_tabled, count_of,
 };

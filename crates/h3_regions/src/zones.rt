@@ -22,11 +22,11 @@ use h3_tree::post_order_key;
 use std::marker::Model;
 
 /// How many zones after the last one are looked at before a search of all.
-const NEAR: usize = 8;
+pub(crate) const NEAR: usize = 8;
 
 /// How many halves a step of a search goes on: none or one. They are read from here since a jump
 /// would be taken at random, and a compiler makes one of whatever it knows to be a choice.
-static HALVES: [usize; 2] = [0, 1];
+pub(crate) static HALVES: [usize; 2] = [0, 1];
 
 /// Searches from `from` to `to` for the first place whose cell's key is not below another: the result
 /// is that place if it is there, and else any place.
@@ -81,7 +81,7 @@ fn first_of_few(cells: &[Cell], key: u64, from: usize, to: usize) -> usize
 }
 
 /// Whether the cells before a place have keys below another.
-fn are_below(cells: &[Cell], key: u64, place: usize) -> bool
+pub(crate) fn are_below(cells: &[Cell], key: u64, place: usize) -> bool
     requires zones { IsZones cells.now }
     requires within { place ≤ length cells.now }
     ensures { IsTrue result ↔ AreBelow cells.now key place }
@@ -90,7 +90,7 @@ fn are_below(cells: &[Cell], key: u64, place: usize) -> bool
 }
 
 /// Whether the cells from a place on have keys that are not below another.
-fn are_not_below(cells: &[Cell], key: u64, place: usize) -> bool
+pub(crate) fn are_not_below(cells: &[Cell], key: u64, place: usize) -> bool
     requires zones { IsZones cells.now }
     requires within { place ≤ length cells.now }
     ensures { IsTrue result ↔ AreNotBelow cells.now key place }

@@ -2,5 +2,5 @@ use Rattle.h3_c.specs.Zones.{zones_in}
 use Rattle.h3_c.proofs.ZoneLaws.{IsCounting}
 use Rattle.h3_c.proofs.zones.count_all.Given as goal
 
-abbrev pub invariant-loop-index : goal.invariant-loop-index
-invariant-loop-index l = IsCounting (zones_in l.zones) l.indexes l.counts l.others l.index-index
+abbrev pub invariant-loop-i : goal.invariant-loop-i
+invariant-loop-i l = IsCounting (zones_in l.zones) l.indexes l.counts l.others l.i

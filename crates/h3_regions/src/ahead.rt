@@ -1,0 +1,83 @@
+//! Where cells are looked for in zones, many of them at once.
+
+ghost use Rattle.std.specs.Prelude.{◌+◌, ◌-◌, ◌/◌, ◌<◌, ◌≤◌, All, length};
+ghost use Rattle.h3_regions.specs.Zones.{IsZones};
+
+use crate::zones::{HALVES, NEAR, Zones, are_below, are_not_below};
+use h3_index::Cell;
+use h3_tree::post_order_key;
+
+/// How many cells are looked for side by side: a processor waits for the memory of all of these at
+/// once.
+pub const AHEAD: usize = 16;
+
+/// The bits of a cell's number that are its key.
+const KEY_BITS: u64 = (1 << 52) - 1;
+
+/// Takes a step of each search: one whose key is above that of the cell half of its cells on goes on
+/// there.
+#[inline(always)]
+fn step_each(cells: &[Cell], keys: &[u64; AHEAD], size: usize, places: &mut [usize; AHEAD])
+    requires some { 1 < size }
+    requires within { All (λ p. p + size ≤ length cells.now) places.old }
+    ensures { All (λ p. p + (size - size / 2) ≤ length cells.now) places.new }
+{
+    let half = size / 2;
+    for i in 0..AHEAD {
+        let place = places[i];
+        let passed = post_order_key(cells[place + half]) < keys[i];
+        places[i] = place + half * HALVES[usize::from(passed)];
+    }
+}
+
+/// Whether a place, which may be any, is the first one whose cell's key is not below another, or that
+/// is one of the next few.
+#[inline(always)]
+fn is_near(cells: &[Cell], key: u64, place: usize) -> bool
+    requires { IsZones cells.now }
+{
+    let from = place.min(cells.len());
+    let to = from.saturating_add(NEAR).min(cells.len());
+    are_below(cells, key, from) & are_not_below(cells, key, to)
+}
+
+/// Searches for the cells with these keys side by side, each in all of the cells.
+fn search_each(cells: &[Cell], keys: &[u64; AHEAD]) -> [usize; AHEAD] {
+    let mut places = [0; AHEAD];
+    let mut size = cells.len();
+    while size > 1 {
+        step_each(cells, keys, size, &mut places);
+        size -= size / 2;
+    }
+    places
+}
+
+/// The keys of the first indexes, and 0 for those that are missing.
+#[inline(always)]
+fn keys_of(indexes: &[u64]) -> [u64; AHEAD] {
+    let mut keys = [0; AHEAD];
+    for i in 0..AHEAD.min(indexes.len()) {
+        keys[i] = indexes[i] & KEY_BITS;
+    }
+    keys
+}
+
+impl<'a> Zones<'a> {
+    /// Whether the zone of the cell with an index is near a place, which may be any: `zone_near` then
+    /// finds it in a step or two, as it does of cells that ascend.
+    ///
+    /// This is a hint: `zone_near` returns the same zone in either case. The index need not be a cell's.
+    #[inline(always)]
+    pub fn is_near(&self, index: u64, place: usize) -> bool {
+        is_near(self.cells(), index & KEY_BITS, place)
+    }
+
+    /// Places for `zone_near` to look for the cells with the first 16 of these indexes, which are
+    /// searched for side by side.
+    ///
+    /// The places are hints: `zone_near` returns the same zones from any others, only later. An index
+    /// need not be a cell's.
+    pub fn look_ahead(&self, indexes: &[u64]) -> [usize; AHEAD] {
+        search_each(self.cells(), &keys_of(indexes))
+    }
+}
