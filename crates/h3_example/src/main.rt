@@ -2,9 +2,7 @@
 #![tactic(auto)]
 
 use anyhow::Error;
-use h3_index::{Cell, write_index};
-use h3_set::compact_cells;
-use h3_tree::{children, parent};
+use h3::{Cell, children, compact_cells, parent, write_index};
 
 fn main(rt: HostRuntime) -> Result<(), Error> {
     let cell = Cell::new(0x85283473fffffff)?;

@@ -2,9 +2,7 @@
 #![tactic(auto)]
 
 use anyhow::Error;
-use h3_index::Streamed;
-use h3_lines::read_cells;
-use h3_tree::parent;
+use h3::{Streamed, parent, read_cells};
 
 fn main(rt: HostRuntime) -> Result<(), Error> {
     let mut input = Streamed::new(rt.stdin());
