@@ -12,7 +12,8 @@ use Rattle.h3_lines.specs.Answer.{before, cell_line, refused, ring_line, walked}
 use Rattle.h3_lines.specs.List.{lines_of, listed_cells, said_by}
 use Rattle.h3_lines.specs.Refusal.{refusal_line, refusal_status}
 use Rattle.h3_lines.specs.declared.refusal.CellFile.TheVariants.{Region, Zones}
-use Rattle.h3_lines.specs.declared.refusal.AnswerError.TheVariants.{File, FileAt, Table}
+use Rattle.h3_lines.specs.declared.refusal.AnswerError.TheVariants.{AtAndMore, Column, File, FileAt, Table}
+use Rattle.h3_lines.specs.declared.refusal.ColumnError.TheVariants.{NotFound, NotUnique}
 use Rattle.h3_lines.specs.declared.refusal.Fault.TheVariants.{Memory, Read, Write}
 use Rattle.h3_lines.specs.declared.refusal.Refusal.TheVariants.{Error, Fault}
 
@@ -61,6 +62,14 @@ errors_of_files : map refusal_line (map Error (FileAt Region 12 CellInvalid ∷ 
     ≡ map line (codes "region: line 12: error 5: E_CELL_INVALID" ∷ codes "region: line 3: error 1: E_FAILED" ∷ codes "zones: error 10: E_DUPLICATE_INPUT" ∷ [])
 unfolding digits
 errors_of_files = refl
+
+errors_of_rows : map refusal_line (map Error (AtAndMore 12 CellInvalid 6 ∷ AtAndMore 2 Failed 0 ∷ Column NotFound ∷ Column NotUnique ∷ []))
+    ≡ map line (codes "line 12: error 5: E_CELL_INVALID and 6 more" ∷ codes "line 2: error 1: E_FAILED" ∷ codes "column: not found" ∷ codes "column: not unique" ∷ [])
+unfolding digits
+errors_of_rows = refl
+
+statuses_of_rows : map refusal_status (map Error (AtAndMore 12 CellInvalid 6 ∷ AtAndMore 2 Failed 0 ∷ Column NotFound ∷ Column NotUnique ∷ [])) ≡ 1 ∷ 1 ∷ 3 ∷ 3 ∷ []
+statuses_of_rows = refl
 
 statuses : map refusal_status (map Error (Table in_table.Missing ∷ Table in_table.Read ∷ FileAt Zones 3 Failed ∷ File Zones DuplicateInput ∷ []) ++ map Fault (Memory ∷ Read ∷ Write ∷ []))
     ≡ 3 ∷ 4 ∷ 1 ∷ 1 ∷ 1 ∷ 4 ∷ 4 ∷ []

@@ -1,5 +1,5 @@
 -- The line and the exit status of a refusal.
-use Rattle.std.specs.Prelude.{ℕ, List, [], ◌∷◌, ◌++◌, codes, decimal, Result, Ok, Err}
+use Rattle.std.specs.Prelude.{ℕ, ◌==◌, List, [], ◌∷◌, ◌++◌, codes, decimal, Result, Ok, Err, if◌then◌else◌}
 use Rattle.h3_index.specs.Error.{error_name, error_number}
 use Rattle.h3_index.specs.declared.error.H3Error.{H3Error}
 use Rattle.h3_index.specs.declared.error.H3Error.TheVariants.{MemoryAlloc}
@@ -8,9 +8,11 @@ use Rattle.h3_directions.specs.declared.direction.Direction.{Direction}
 use Rattle.h3_directions.specs.declared.error.TableError.{TableError}
 use Rattle.h3_directions.specs.declared.error.TableError.TheVariants as in_table
 use Rattle.h3_lines.specs.declared.refusal.AnswerError.{AnswerError}
-use Rattle.h3_lines.specs.declared.refusal.AnswerError.TheVariants.{Call, At, Table, FileAt, File}
+use Rattle.h3_lines.specs.declared.refusal.AnswerError.TheVariants.{Call, At, AtAndMore, Column, Table, FileAt, File}
 use Rattle.h3_lines.specs.declared.refusal.CellFile.{CellFile}
 use Rattle.h3_lines.specs.declared.refusal.CellFile.TheVariants.{Region, Zones}
+use Rattle.h3_lines.specs.declared.refusal.ColumnError.{ColumnError}
+use Rattle.h3_lines.specs.declared.refusal.ColumnError.TheVariants.{NotFound, NotUnique}
 use Rattle.h3_lines.specs.declared.refusal.Fault as system
 use Rattle.h3_lines.specs.declared.refusal.Fault.TheVariants.{Memory, Read, Write}
 use Rattle.h3_lines.specs.declared.refusal.Refusal.{Refusal}
@@ -23,6 +25,21 @@ error_line e = codes "error " ++ decimal (error_number e) ++ codes ": " ++ error
 -- error_line_at line e: the line of an H3 error at a line of a list
 abbrev pub error_line_at : ℕ → H3Error → List ℕ
 error_line_at line e = codes "line " ++ decimal line ++ codes ": " ++ error_line e
+
+-- more_words more: how many errors more followed the first, as ` and 6 more`; no words where none did
+abbrev pub more_words : ℕ → List ℕ
+more_words more = if more == 0 then [] else codes " and " ++ decimal more ++ codes " more"
+
+-- kept_line row e more: the line of a run that went on after an error at a row, and after so many more: that of the first
+-- one, with their number, as `line 12: error 5: E_CELL_INVALID and 6 more`
+abbrev pub kept_line : ℕ → H3Error → ℕ → List ℕ
+kept_line row e more =
+    codes "line " ++ decimal row ++ codes ": error " ++ decimal (error_number e) ++ codes ": " ++ error_name e ++ more_words more ++ 10 ∷ []
+
+-- column_line e: the line of a column that is not one field of the header
+abbrev pub column_line : ColumnError → List ℕ
+column_line NotFound = codes "column: not found" ++ 10 ∷ []
+column_line NotUnique = codes "column: not unique" ++ 10 ∷ []
 
 -- words and a number, as `table: form 5`
 abbrev pub numbered_line : List ℕ → ℕ → List ℕ
@@ -61,6 +78,8 @@ file_line file line = file_word file ++ codes ": " ++ line
 abbrev pub answer_error_line : AnswerError → List ℕ
 answer_error_line (Call e) = error_line e
 answer_error_line (At line e) = error_line_at line e
+answer_error_line (AtAndMore row e more) = kept_line row e more
+answer_error_line (Column e) = column_line e
 answer_error_line (Table e) = table_line e
 answer_error_line (FileAt file line e) = file_line file (error_line_at line e)
 answer_error_line (File file e) = file_line file (error_line e)
@@ -76,11 +95,13 @@ abbrev pub refusal_line : Refusal → List ℕ
 refusal_line (Error e) = answer_error_line e
 refusal_line (Fault f) = fault_line f
 
--- answer_error_status e: the exit status of an answer's error: 1 for an H3 error, and 3 for one of a base cell table that is
--- neither out of memory nor a read that failed
+-- answer_error_status e: the exit status of an answer's error: 1 for an H3 error, 3 for a column that is not in the header
+-- once, and 3 for an error of a base cell table that is neither out of memory nor a read that failed
 abbrev pub answer_error_status : AnswerError → ℕ
 answer_error_status (Call e) = 1
 answer_error_status (At line e) = 1
+answer_error_status (AtAndMore row e more) = 1
+answer_error_status (Column e) = 3
 answer_error_status (Table in_table.Read) = 4
 answer_error_status (Table in_table.Memory) = 1
 answer_error_status (Table e) = 3

@@ -12,6 +12,7 @@ ghost use Rattle.h3_lines.specs.declared.refusal.Fault.TheVariants.{Write};
 ghost use Rattle.h3_lines.specs.declared.refusal.Refusal.{Refusal};
 ghost use Rattle.h3_lines.specs.declared.refusal.Refusal.TheVariants as refusal;
 
+use crate::hints::Hints;
 use crate::line::{BLOCK, Line};
 use crate::refusal::{AnswerError, Fault, Refusal};
 use crate::splitting::{LONGEST_LINE, LineTaker, PAGE, READS, take_lines};
@@ -45,6 +46,11 @@ pub trait IndexFunction {
             Puts (answer_of self.now index) block.old block.new at end) }
         ensures err { IfErr result (λ e. answer_of self.now index ≡ refused e) }
         ensures kept { IfErr result (λ e. take at block.new ≡ take at block.old) };
+
+    /// Sets the place at which `put` looks for the next index, that of a plain line, which is
+    /// followed by these bytes in its page. What looks for nothing leaves the place as it is.
+    #[inline(always)]
+    fn aim(&self, _index: u64, _after: &[u8], _hints: &mut Hints, _place: &mut usize) {}
 }
 
 /// Puts the line of a result's value into a block from the byte `at` on, and returns where it ends;
@@ -137,6 +143,7 @@ struct Answers<'a, 'f, W, F> {
     function: &'f F,
     number: u64,
     place: usize,
+    hints: Hints,
     lines: CellLines,
     block: [u8; BLOCK],
     end: usize,
@@ -209,7 +216,9 @@ impl<'a, 'f, W: Sink, F: IndexFunction> LineTaker for Answers<'a, 'f, W, F> {
     }
 
     #[inline(always)]
-    fn take_index(&mut self, index: u64) -> Result<(), Refusal> {
+    fn take_index(&mut self, index: u64, after: &[u8]) -> Result<(), Refusal> {
+        self.function
+            .aim(index, after, &mut self.hints, &mut self.place);
         self.answer(Some(index))
     }
 
@@ -275,6 +284,7 @@ fn answer_pages<R: Source, W: Sink, F: IndexFunction>(
         function,
         number: 1,
         place: 0,
+        hints: Hints::new(),
         lines: CellLines::new(),
         block: [0; BLOCK],
         end: 0,

@@ -4,6 +4,7 @@
 
 mod each;
 mod ending;
+mod hints;
 pub mod laws;
 mod line;
 mod list;
@@ -14,9 +15,10 @@ mod write;
 
 pub use each::{ANSWER, IndexFunction, answer_each, put_result};
 pub use ending::report;
+pub use hints::{Hints, indexes_ahead};
 pub use line::{BLOCK, Line, ROOM};
 pub use list::{read_cells, read_list, read_numbered_cells};
-pub use refusal::{AnswerError, CellFile, Fault, Refusal};
+pub use refusal::{AnswerError, CellFile, ColumnError, Fault, Refusal};
 pub use splitting::{PAGE, READS};
 pub use taking::{CellTaker, take_cells};
 pub use write::{write_all, write_answer, write_lines, write_result, write_walk};

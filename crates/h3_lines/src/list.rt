@@ -47,7 +47,7 @@ impl CellTaker for Vec<Cell> {
     ghost taken = { λ v cells w. w.items ≡ v.items ++ cells };
 
     #[inline(always)]
-    fn take(&mut self, cell: Cell) -> Result<(), Refusal> {
+    fn take(&mut self, cell: Cell, _after: &[u8]) -> Result<(), Refusal> {
         self.push(cell).map_err(|_| Refusal::Fault(Fault::Memory))
     }
 

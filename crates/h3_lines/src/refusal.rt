@@ -1,7 +1,7 @@
 //! The errors that end a run, with the line and the exit status of each.
 
 ghost use Rattle.std.specs.Prelude.{◌≡◌, ◌≤◌, length};
-ghost use Rattle.h3_lines.specs.Refusal.{error_line, error_line_at, file_line, link_line, numbered_line, read_fault_line, table_line};
+ghost use Rattle.h3_lines.specs.Refusal.{error_line, error_line_at, file_line, kept_line, link_line, more_words, numbered_line, read_fault_line, table_line};
 
 use arrayvec::ArrayString;
 use h3_directions::{Direction, TableError};
@@ -9,7 +9,7 @@ use h3_index::{H3Error, StreamFault};
 use itoa::Buffer;
 
 /// The room for a line on standard error.
-const LINE_ROOM: usize = 80;
+const LINE_ROOM: usize = 96;
 
 /// Which file of cells an error is about.
 #[derive(Clone, Copy, Debug, Eq, PartialEq)]
@@ -36,6 +36,30 @@ impl CellFile {
     }
 }
 
+/// Why no field of a header is the column that was asked for by its name.
+#[derive(Clone, Copy, Debug, Eq, PartialEq)]
+pub enum ColumnError {
+    /// No field has the name, or there is no header.
+    NotFound,
+
+    /// More than one field has the name.
+    NotUnique,
+}
+
+impl ColumnError {
+    ghost use Rattle.h3_lines.specs.Refusal.{column_line};
+
+    /// The line on standard error.
+    fn line(&self) -> ArrayString<LINE_ROOM>
+        ensures { result.bytes ≡ column_line self.now }
+    {
+        match self {
+            ColumnError::NotFound => fixed_line("column: not found\n"),
+            ColumnError::NotUnique => fixed_line("column: not unique\n"),
+        }
+    }
+}
+
 /// The error that an answer ends with.
 #[derive(Clone, Copy, Debug, Eq, PartialEq)]
 pub enum AnswerError {
@@ -44,6 +68,13 @@ pub enum AnswerError {
 
     /// A call gave an H3 error at a line of a list. The first line is 1, and blank lines count.
     At(u64, H3Error),
+
+    /// Calls gave H3 errors at rows of a list, and the run went on: the number of the first such
+    /// row, its error, and how many more rows followed that had one.
+    AtAndMore(u64, H3Error, u64),
+
+    /// A column that was asked for by its name is not one field of the header.
+    Column(ColumnError),
 
     /// An error of the base cell table: of its records or its checks. A read that failed and out of
     /// memory are faults.
@@ -89,6 +120,8 @@ impl AnswerError {
         match self {
             AnswerError::Call(error) => error_line(*error),
             AnswerError::At(line, error) => error_line_at(*line, *error),
+            AnswerError::AtAndMore(row, error, more) => kept_line(*row, *error, *more),
+            AnswerError::Column(error) => error.line(),
             AnswerError::Table(error) => table_line(*error),
             AnswerError::FileAt(file, line, error) => {
                 file_line(*file, error_line_at(*line, *error))
@@ -104,8 +137,8 @@ impl AnswerError {
         match self {
             AnswerError::Table(TableError::Memory) => 1,
             AnswerError::Table(TableError::Read) => 4,
-            AnswerError::Table(_) => 3,
-            AnswerError::Call(_) | AnswerError::At(_, _) => 1,
+            AnswerError::Table(_) | AnswerError::Column(_) => 3,
+            AnswerError::Call(_) | AnswerError::At(_, _) | AnswerError::AtAndMore(_, _, _) => 1,
             AnswerError::FileAt(_, _, _) | AnswerError::File(_, _) => 1,
         }
     }
@@ -225,6 +258,39 @@ fn error_line_at(number: u64, error: H3Error) -> ArrayString<LINE_ROOM>
     line.push_str(decimal.format(number));
     line.push_str(": ");
     line.push_str(error_line(error).as_str());
+    line
+}
+
+/// How many errors more followed the first: no words if none did.
+fn more_words(more: u64) -> ArrayString<LINE_ROOM>
+    ensures words { result.bytes ≡ more_words more }
+    ensures short { length result.bytes ≤ 30 }
+{
+    let mut decimal = Buffer::new();
+    let mut words = ArrayString::new();
+    if more > 0 {
+        words.push_str(" and ");
+        words.push_str(decimal.format(more));
+        words.push_str(" more");
+    }
+    words
+}
+
+/// The line of a run that went on after an error: the first one, and how many more followed.
+fn kept_line(number: u64, error: H3Error, more: u64) -> ArrayString<LINE_ROOM>
+    ensures { result.bytes ≡ kept_line number error more }
+{
+    let mut decimal = Buffer::new();
+    let mut code = Buffer::new();
+    let mut line = ArrayString::new();
+    line.push_str("line ");
+    line.push_str(decimal.format(number));
+    line.push_str(": error ");
+    line.push_str(code.format(error.number()));
+    line.push_str(": ");
+    line.push_str(error.name());
+    line.push_str(more_words(more).as_str());
+    line.push_str("\n");
     line
 }
 

@@ -49,8 +49,8 @@ pub(crate) trait LineTaker {
         ensures err { IfErr result (λ e. (later : List (List ℕ)) →
             refused self.old (line.now ∷ later) self.new e) };
 
-    /// Takes a line that parses as an index.
-    fn take_index(&mut self, index: u64) -> Result<(), Refusal>
+    /// Takes a line that parses as an index, and is followed by these bytes in its page.
+    fn take_index(&mut self, index: u64, after: &[u8]) -> Result<(), Refusal>
         requires few { count self.old < 2 ^ 63 }
         ensures ok { OnOk result ((line : List ℕ) → ParsesAs line index →
             taken self.old (line ∷ []) self.new) }
@@ -83,7 +83,7 @@ pub(crate) trait LineTaker {
 /// The index of the plain line that bytes begin with, fifteen digits in lower case and a line feed,
 /// and the bytes after it.
 #[inline(always)]
-fn plain_line(bytes: &[u8]) -> Option<(u64, &[u8])>
+pub(crate) fn plain_line(bytes: &[u8]) -> Option<(u64, &[u8])>
     ensures { IfSome result (λ p. BeginsPlain bytes.now p.0 p.1.now) }
 {
     if bytes.len() <= PLAIN || bytes[PLAIN] != b'\n' {
@@ -178,7 +178,7 @@ impl LineStart {
         let at_start = self.bytes.is_empty();
         if at_start {
             while let Some((index, after)) = plain_line(bytes) {
-                taker.take_index(index)?;
+                taker.take_index(index, after)?;
                 bytes = after;
             }
         }

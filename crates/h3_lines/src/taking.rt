@@ -28,8 +28,9 @@ pub trait CellTaker {
     /// From the one to the other these cells were taken, in this order.
     ghost taken: { Self → List Address → Self → Type 0 };
 
-    /// Takes a cell. `Fault::Memory` where there is none for it.
-    fn take(&mut self, cell: Cell) -> Result<(), Refusal>
+    /// Takes a cell, whose line is followed by these bytes in its page: by none if it is not plain.
+    /// `Fault::Memory` where there is none for it.
+    fn take(&mut self, cell: Cell, after: &[u8]) -> Result<(), Refusal>
         requires few { count self.old < 2 ^ 63 }
         ensures ok { OnOk result (taken self.old (cell ∷ []) self.new) }
         ensures counted { count self.new ≤ count self.old + 1 }
@@ -47,6 +48,7 @@ fn take_said<V: CellTaker>(
     taker: &mut V,
     number: u64,
     said: Result<Option<Cell>, H3Error>,
+    after: &[u8],
 ) -> Result<(), Refusal>
     requires few { V.count taker.old < 2 ^ 63 }
     ensures ok { OnOk result (V.taken taker.old (cells_on said) taker.new) }
@@ -58,7 +60,7 @@ fn take_said<V: CellTaker>(
 {
     match said {
         Ok(None) => Ok(()),
-        Ok(Some(cell)) => taker.take(cell),
+        Ok(Some(cell)) => taker.take(cell, after),
         Err(error) => Err(Refusal::Error(AnswerError::At(number, error))),
     }
 }
@@ -84,14 +86,14 @@ impl<V: CellTaker> LineTaker for NumberedLines<V> {
     fn take(&mut self, line: &[u8]) -> Result<(), Refusal> {
         let number = self.number;
         self.number += 1;
-        take_said(&mut self.taker, number, read_line(line))
+        take_said(&mut self.taker, number, read_line(line), &[])
     }
 
     #[inline(always)]
-    fn take_index(&mut self, index: u64) -> Result<(), Refusal> {
+    fn take_index(&mut self, index: u64, after: &[u8]) -> Result<(), Refusal> {
         let number = self.number;
         self.number += 1;
-        take_said(&mut self.taker, number, cell_with(index))
+        take_said(&mut self.taker, number, cell_with(index), after)
     }
 
     fn refuse_long(&mut self) -> Refusal {

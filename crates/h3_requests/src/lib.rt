@@ -3,5 +3,7 @@
 
 mod command;
 pub mod laws;
+mod rows;
 
 pub use command::{CellFunction, Command};
+pub use rows::{CellField, RowOptions, is_separator};

@@ -1,0 +1,50 @@
+//! How the rows of a list are read, and written with the answers to their cells.
+
+ghost use Rattle.std.specs.Prelude.{◌≡◌, true};
+ghost use Rattle.h3_requests.specs.Rows.{is_counted, is_separator};
+
+/// Which field of a row has its cell.
+#[derive(Debug, Drop)]
+pub enum CellField {
+    /// `--field`: the one with this number, counted from 1.
+    Number(u16),
+
+    /// `--column`: the one whose text in the header is this name.
+    Column(String),
+}
+
+/// How the rows of a list are read, and written with the answers to their cells.
+#[derive(Debug, Drop)]
+pub struct RowOptions {
+    /// Which field of a row has its cell: `--field` or `--column`.
+    pub field: CellField,
+
+    /// Whether the first row that is not empty is a header: with `--header` or `--column`.
+    pub has_header: bool,
+
+    /// The byte between two fields: `--separator`.
+    pub separator: u8,
+
+    /// Whether quotes count: `--csv`.
+    pub quotes: bool,
+
+    /// The name of the new column in the header: `--as`.
+    pub name: Option<String>,
+
+    /// Whether a row with an error is written with an empty answer, and the run goes on:
+    /// `--keep-going`.
+    pub keeps_going: bool,
+
+    ghost counted: { is_counted field ≡ true },
+    ghost separates: { is_separator separator ≡ true },
+}
+
+/// Whether a byte may separate fields: one of ASCII that is not in an answer, and ends no row and
+/// no quote.
+pub fn is_separator(byte: u8) -> bool
+    ensures { result ≡ is_separator byte }
+{
+    byte.is_ascii()
+        && !byte.is_ascii_alphanumeric()
+        && !matches!(byte, 0 | b'"' | b'\n' | b'\r' | b'-')
+}

@@ -1,0 +1,43 @@
+-- Bytes that are put into a block.
+use Rattle.std.proofs.Common.{◌≡◌, ℕ, suc, ◌+◌, ◌<◌, ◌≤◌, List, [], ◌∷◌, ◌++◌, length, take, take_all, drop, set, sym, ap, ◌∙◌, refl, arith, append_assoc, length-append, length-drop, length-take, length-take-le}
+use Rattle.std.proofs.lemmas.List.{take-append-le, take_more_set}
+use Rattle.std.proofs.Math.Seq.{take-append-add}
+
+pub take_none : (l : List ℕ) (n : ℕ) → n ≡ 0 → take n l ≡ []
+take_none l n is = rw is refl
+
+take_front : (xs ys : List ℕ) → take (length xs) (xs ++ ys) ≡ xs
+take_front [] ys = refl
+take_front (x ∷ xs) ys = ap (λ l. x ∷ l) (take_front xs ys)
+
+pub take_put : (block more copied after : List ℕ) (held : ℕ) → copied ≡ more → held ≤ length block → take (held + length more) (take held block ++ (copied ++ after)) ≡ take held block ++ more
+take_put block more copied after held is within =
+    let front : length (take held block) ≡ held = length-take-le held block within in
+    rw is (ap (λ n. take (n + length more) (take held block ++ (more ++ after))) (sym front) ∙ take-append-add (take held block) (more ++ after) (length more) ∙ ap (λ l. take held block ++ l) (take_front more after))
+
+pub short_take : (l : List ℕ) (n : ℕ) → n ≤ 65536 → length (take n l) ≤ 65536
+short_take l n within = omega (arith, length-take {A = ℕ})
+
+take_past : (xs ys : List ℕ) (n : ℕ) → take (length xs + n) (xs ++ ys) ≡ xs ++ take n ys
+take_past [] ys n = let same : 0 + n ≡ n = omega arith in rw same refl
+take_past (x ∷ xs) ys n = let next : suc (length xs) + n ≡ suc (length xs + n) = omega arith in rw next (ap (λ l. x ∷ l) (take_past xs ys n))
+
+-- bytes put at a place of a block, and one more after the first of them
+pub bytes_put : (block put bytes : List ℕ) (at count k last : ℕ) → put ≡ bytes → count ≤ length bytes → k ≡ length bytes → at + length bytes < length block
+    → take (at + count + 1) (set (take at block ++ (put ++ drop k (drop at block))) (at + count) last) ≡ take at block ++ (take count bytes ++ last ∷ [])
+bytes_put block put bytes at count k last is within size room =
+    let rest = drop k (drop at block) in
+    let whole = take at block ++ (bytes ++ rest) in
+    let before : length (take at block) ≡ at = length-take-le at block (omega (arith, room)) in
+    let after : length rest + k + at ≡ length block = omega (arith, length-drop {A = ℕ}, room, size) in
+    let all : at + count < length whole = omega (arith, length-append (take at block) (bytes ++ rest), length-append bytes rest, before, after, room, size, within) in
+    let front : take (at + count) whole ≡ take at block ++ take count bytes =
+    ap (λ n. take (n + count) whole) (sym before) ∙ take_past (take at block) (bytes ++ rest) count ∙ ap (λ l. take at block ++ l) (take-append-le count bytes rest within) in
+    rw is (take_more_set whole (at + count) last all ∙ ap (λ l. l ++ last ∷ []) front ∙ append_assoc (take at block) (take count bytes) (last ∷ []))
+
+-- all of the bytes are put, and one more
+pub all_put : (block put bytes : List ℕ) (at k last : ℕ) → put ≡ bytes → k ≡ length bytes → at + length bytes < length block
+    → take (at + length bytes + 1) (set (take at block ++ (put ++ drop k (drop at block))) (at + length bytes) last) ≡ take at block ++ (bytes ++ last ∷ [])
+all_put block put bytes at k last is size room =
+    let front : take (length bytes) bytes ≡ bytes = take_all (length bytes) bytes (omega arith) in
+    bytes_put block put bytes at (length bytes) k last is (omega arith) size room ∙ ap (λ l. take at block ++ (l ++ last ∷ [])) front

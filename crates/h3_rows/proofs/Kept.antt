@@ -1,0 +1,70 @@
+-- Rows with answers, cut again.
+use Rattle.std.proofs.Common.{◌≡◌, ℕ, ◌+◌, ◌-◌, ◌==◌, Bool, true, false, not, ◌&&◌, List, [], ◌∷◌, ◌++◌, length, take, get_or, if◌then◌else◌, sym, ap, ◌∙◌, refl, append_assoc, eqb-true, take_all, arith}
+use Rattle.std.proofs.lemmas.Bool.Decides.{nat_tests}
+use Rattle.std.proofs.lemmas.List.{take_more}
+use Rattle.h3_rows.specs.Laws.{FieldsAreKept, RowsAreWhole}
+use Rattle.h3_rows.specs.Row.{Piece, cut, ends_in_return, inside_after, turned, with_first}
+use Rattle.h3_rows.proofs.Finding.{same_mark}
+use Rattle.h3_rows.proofs.Pieces.{cut_at_end, first_piece}
+
+with_first-append : (b : ℕ) (ps qs : List Piece) (p : Piece) (more : List Piece) → ps ≡ p ∷ more → with_first b (ps ++ qs) ≡ with_first b ps ++ qs
+with_first-append b ps qs p more is = rw is refl
+
+both_true : (x y : Bool) → (x && y) ≡ true → (x ≡ true) × (y ≡ true)
+both_true true y h = (refl, h)
+both_true false y h = absurd (cc)
+
+not_true : (x : Bool) → not x ≡ true → x ≡ false
+not_true true h = absurd (cc)
+not_true false h = refl
+
+pub and_false : (x : Bool) → (x && false) ≡ false
+and_false true = refl
+and_false false = refl
+
+module _ (mark : ℕ) (quotes : Bool) (unquoted : (34 == mark) ≡ false) where
+  -- a mark turns nothing
+  mark_turns : (inside : Bool) (b : ℕ) → (b == mark) ≡ true → turned quotes inside b ≡ inside
+  mark_turns inside b is =
+      let other : (b == 34) ≡ false = grind (arith, nat_tests) in
+      rw (other, and_false quotes) refl
+
+  cut-append : (inside : Bool) (xs ys : List ℕ) → inside_after quotes inside xs ≡ false → cut mark quotes inside (xs ++ mark ∷ ys) ≡ cut mark quotes inside xs ++ cut mark quotes false ys
+  cut-append inside [] ys closed = rw (closed, same_mark mark) refl
+  cut-append inside (b ∷ bs) ys closed =
+      let (p, more, first) = first_piece mark quotes (turned quotes inside b) bs in
+      let go : (t : Bool) → ((b == mark) && not inside) ≡ t
+      → (if t then ([], false) ∷ cut mark quotes false (bs ++ mark ∷ ys) else with_first b (cut mark quotes (turned quotes inside b) (bs ++ mark ∷ ys)))
+      ≡ (if t then ([], false) ∷ cut mark quotes false bs else with_first b (cut mark quotes (turned quotes inside b) bs)) ++ cut mark quotes false ys =
+      λ t. elim t as (λ t. ((b == mark) && not inside) ≡ t
+      → (if t then ([], false) ∷ cut mark quotes false (bs ++ mark ∷ ys) else with_first b (cut mark quotes (turned quotes inside b) (bs ++ mark ∷ ys)))
+      ≡ (if t then ([], false) ∷ cut mark quotes false bs else with_first b (cut mark quotes (turned quotes inside b) bs)) ++ cut mark quotes false ys) [
+        | true ↦ λ is. (
+            let (marked, outside) = both_true (b == mark) (not inside) is in
+            let now : turned quotes inside b ≡ false = mark_turns inside b marked ∙ not_true inside outside in
+            ap (λ l. ([], false) ∷ l) (cut-append false bs ys (ap (λ o. inside_after quotes o bs) (sym now) ∙ closed)))
+        | false ↦ λ is. ap (with_first b) (cut-append (turned quotes inside b) bs ys closed) ∙ with_first-append b (cut mark quotes (turned quotes inside b) bs) (cut mark quotes false ys) p more first
+      ] in
+      go ((b == mark) && not inside) refl
+
+pub fields_are_kept : FieldsAreKept
+fields_are_kept separator quotes row a other closed uncut outside =
+    cut-append separator quotes other false row a closed ∙ ap (λ l. cut separator quotes false row ++ l) (cut_at_end separator quotes false a uncut ∙ ap (λ o. (a, o) ∷ []) outside)
+
+pub return_last : (line : List ℕ) → (get_or line (length line - 1) 0 == 13) ≡ true → line ≡ take (length line - 1) line ++ 13 ∷ []
+return_last [] is = absurd (cc)
+return_last (x ∷ xs) is =
+    let line = x ∷ xs in
+    let same : get_or line (length line - 1) 0 ≡ 13 = eqb-true (get_or line (length line - 1) 0) 13 is in
+    let on : length line - 1 + 1 ≡ length line = omega arith in
+    let last : take (length line - 1 + 1) line ≡ take (length line - 1) line ++ get_or line (length line - 1) 0 ∷ [] = take_more line (length line - 1) 0 (omega arith) in
+    sym (take_all (length line) line (omega arith)) ∙ ap (λ n. take n line) (sym on) ∙ last ∙ ap (λ b. take (length line - 1) line ++ b ∷ []) same
+
+pub rows_are_whole : RowsAreWhole
+rows_are_whole line =
+    let go : (t : Bool) → ends_in_return line ≡ t → (if t then take (length line - 1) line else line) ++ ((if t then 13 ∷ [] else []) ++ 10 ∷ []) ≡ line ++ 10 ∷ [] =
+    λ t. elim t as (λ t. ends_in_return line ≡ t → (if t then take (length line - 1) line else line) ++ ((if t then 13 ∷ [] else []) ++ 10 ∷ []) ≡ line ++ 10 ∷ []) [
+      | true ↦ λ is. sym (append_assoc (take (length line - 1) line) (13 ∷ []) (10 ∷ [])) ∙ ap (λ l. l ++ 10 ∷ []) (sym (return_last line is))
+      | false ↦ λ is. refl
+    ] in
+    go (ends_in_return line) refl

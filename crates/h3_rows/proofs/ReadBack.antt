@@ -1,0 +1,66 @@
+-- Rows with answers, read again.
+use Rattle.std.proofs.Common.{◌≡◌, ℕ, ◌-◌, ◌==◌, Bool, true, false, not, ◌&&◌, List, [], ◌∷◌, ◌++◌, length, take, if◌then◌else◌, sym, ap, ◌∙◌, refl, subst, append_assoc, arith}
+use Rattle.std.proofs.lemmas.Bool.Decides.{nat_tests}
+use Rattle.h3_rows.specs.Laws.{OutputReadsBack, RowsReadBack, all_with}
+use Rattle.h3_rows.specs.Row.{ends_in_return, inside_after, is_uncut, return_of, row_body, pieces_of, turned}
+use Rattle.h3_rows.specs.RowsAnswer.{row_with}
+use Rattle.h3_rows.specs.Splitting.{Uncut}
+use Rattle.h3_rows.proofs.Kept.{and_false, return_last}
+use Rattle.h3_rows.proofs.Split.{rows_go}
+use Rattle.h3_rows.proofs.Pieces.{both, cut_at_mark, inside_after-append, uncut_then}
+
+-- a beginning of uncut bytes is uncut
+uncut_front : (mark : ℕ) (quotes inside : Bool) (xs ys : List ℕ) → is_uncut mark quotes inside (xs ++ ys) ≡ true → is_uncut mark quotes inside xs ≡ true
+uncut_front mark quotes inside [] ys h = refl
+uncut_front mark quotes inside (b ∷ bs) ys h =
+    let (other, more) = both ((b == mark) && not inside) (is_uncut mark quotes (turned quotes inside b) (bs ++ ys)) h in
+    rw other (uncut_front mark quotes (turned quotes inside b) bs ys more)
+
+-- a byte that is no quote and no line feed changes nothing
+one : (quotes inside : Bool) (b : ℕ) → (b == 34) ≡ false → (b == 10) ≡ false → Uncut 10 quotes inside (b ∷ []) inside
+one quotes inside b q f =
+    let calm : (quotes && (b == 34)) ≡ false = ap (λ x. quotes && x) q ∙ and_false quotes in
+    record { uncut = rw f refl; inside_is = rw calm refl }
+
+-- the body of a row is uncut as the row is
+body_uncut : (quotes : Bool) (line : List ℕ) → Uncut 10 quotes false line false → Uncut 10 quotes false (row_body line) false
+body_uncut quotes line u =
+    let go : (t : Bool) → ends_in_return line ≡ t → Uncut 10 quotes false (if t then take (length line - 1) line else line) false =
+    λ t. elim t as (λ t. ends_in_return line ≡ t → Uncut 10 quotes false (if t then take (length line - 1) line else line) false) [
+      | true ↦ λ is. (
+          let front = take (length line - 1) line in
+          let whole = return_last line is in
+          let calm : (quotes && (13 == 34)) ≡ false = and_false quotes in
+          let same : inside_after quotes (inside_after quotes false front) (13 ∷ []) ≡ inside_after quotes false front = rw calm refl in
+          record {
+            uncut = uncut_front 10 quotes false front (13 ∷ []) (subst (λ l. is_uncut 10 quotes false l ≡ true) whole u.uncut);
+            inside_is = sym same ∙ sym (inside_after-append 10 quotes false front (13 ∷ [])) ∙ ap (inside_after quotes false) (sym whole) ∙ u.inside_is;
+          })
+      | false ↦ λ is. u
+    ] in
+    go (ends_in_return line) refl
+
+return_uncut : (quotes : Bool) (line : List ℕ) → Uncut 10 quotes false (return_of line) false
+return_uncut quotes line =
+    let go : (t : Bool) → Uncut 10 quotes false (if t then 13 ∷ [] else []) false =
+    λ t. elim t as (λ t. Uncut 10 quotes false (if t then 13 ∷ [] else []) false) [ true ↦ one quotes false 13 refl refl | false ↦ record { uncut = refl; inside_is = refl } ] in
+    go (ends_in_return line)
+
+flipped : (a b : ℕ) → (a == b) ≡ false → (b == a) ≡ false
+flipped a b h = grind (arith, nat_tests)
+
+pub rows_read_back : RowsReadBack
+rows_read_back separator quotes line a rest q f uncut closed a_uncut a_closed =
+    let body = row_body line in
+    let last = return_of line in
+    let u = body_uncut quotes line (record { uncut = uncut; inside_is = closed }) in
+    let s = one quotes false separator (flipped 34 separator q) (flipped 10 separator f) in
+    let all = uncut_then 10 quotes body (separator ∷ (a ++ last)) u (uncut_then 10 quotes (separator ∷ []) (a ++ last) s (uncut_then 10 quotes a last (record { uncut = a_uncut; inside_is = a_closed }) (return_uncut quotes line))) in
+    let bytes : row_with separator line a ++ rest ≡ (body ++ (separator ∷ (a ++ last))) ++ 10 ∷ rest =
+    append_assoc body (separator ∷ (a ++ (last ++ 10 ∷ []))) rest ∙ ap (λ l. body ++ (separator ∷ l)) (append_assoc a (last ++ 10 ∷ []) rest ∙ ap (λ l. a ++ l) (append_assoc last (10 ∷ []) rest) ∙ sym (append_assoc a last (10 ∷ rest))) ∙ sym (append_assoc body (separator ∷ (a ++ last)) (10 ∷ rest)) in
+    rows_go quotes (row_with separator line a ++ rest) rest ((body ++ (separator ∷ (a ++ last)), false) ∷ []) (ap (pieces_of quotes) bytes ∙ cut_at_mark 10 quotes false (body ++ (separator ∷ (a ++ last))) rest all.uncut all.inside_is refl)
+
+pub output_reads_back : OutputReadsBack
+output_reads_back separator quotes [] q f are = refl
+output_reads_back separator quotes (r ∷ rs) q f (uncut, closed, a_uncut, a_closed, more) =
+    rows_read_back separator quotes r.0 r.1 (all_with separator rs) q f uncut closed a_uncut a_closed ∙ ap (λ l. (row_body r.0 ++ (separator ∷ (r.1 ++ return_of r.0)), false) ∷ l) (output_reads_back separator quotes rs q f more)

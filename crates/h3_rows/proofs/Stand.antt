@@ -1,0 +1,131 @@
+-- Each row stands in the output.
+use Rattle.std.proofs.Common.{◌≡◌, ℕ, ◌==◌, ◌⊎◌, Bool, true, false, not, ◌&&◌, List, [], ◌∷◌, ◌++◌, length, Option, Some, Result, Ok, Err, if◌then◌else◌, sym, ap, ◌∙◌, refl, subst, inl, inr, append_assoc, eqb-true}
+use Rattle.std.proofs.Common.{arith}
+use Rattle.std.proofs.lemmas.Bool.Decides.{nat_tests}
+use Rattle.std.proofs.lemmas.List.{append_cancel_right}
+use Rattle.std.specs.List.{flat_map}
+use Rattle.h3_index.specs.declared.error.H3Error.{H3Error}
+use Rattle.h3_index.specs.declared.error.H3Error.TheVariants.{Failed}
+use Rattle.h3_lines.specs.Answer.{Answer, written}
+use Rattle.h3_lines.specs.EachLine.{then_answer}
+use Rattle.h3_lines.specs.declared.refusal.AnswerError.{AnswerError}
+use Rattle.h3_lines.specs.declared.refusal.AnswerError.TheVariants as ending_by
+use Rattle.h3_rows.specs.Laws.{RowsGiveBack, RowsStand, answered_so, numbered, own_lines, with_own}
+use Rattle.h3_rows.specs.Row.{Piece, cut, next_number, row_body, rows_of, turned, with_first, without_last_nothing}
+use Rattle.h3_rows.specs.RowsAnswer.{Form, State, Step, answer_said, beside, ends, faulty, goes_on, is_malformed, row_said, row_step, row_with, rows_then}
+use Rattle.h3_rows.specs.declared.said.Said.{Said}
+use Rattle.h3_rows.specs.declared.said.Said.TheVariants.{Index, Missing}
+use Rattle.h3_rows.proofs.Pieces.{first_piece}
+
+-- a step that ends nothing: its text, the number after it, and that the fields before the cell's are the same
+record StepStands (step : Step) (s : State) (line text : List ℕ) : Type 0 where
+  pub ending : step.answer.ending ≡ Ok tt
+  pub output : step.answer.output ≡ text
+  pub number : step.after.number ≡ next_number s.number line
+  pub before : step.after.before ≡ s.before
+
+ended : {A : Type 0} (e : AnswerError) → (let r : Result (Unit {0}) AnswerError = Err e in r) ≡ Ok tt → A
+ended e is = absurd (cc)
+
+faulty_stands : (form : Form) (s : State) (line : List ℕ) (e : H3Error) (b : Bool) → form.keeps_going ≡ b → (faulty form s line e).answer.ending ≡ Ok tt → StepStands (faulty form s line e) s line (row_with form.separator line [])
+faulty_stands form s line e true goes good = rw goes (record { ending = refl; output = refl; number = refl; before = refl })
+faulty_stands form s line e false goes good = absurd (let stops : (ends s e).answer.ending ≡ Ok tt = rw goes at good in cc)
+
+beside_stands : (form : Form) (s : State) (line output : List ℕ) (r : Result (Unit {0}) AnswerError) → (beside form s line output r).answer.ending ≡ Ok tt → StepStands (beside form s line output r) s line (answered_so form.separator line output r)
+beside_stands form s line output (Ok u) good = record { ending = refl; output = refl; number = refl; before = refl }
+beside_stands form s line output (Err (ending_by.Call e)) good = faulty_stands form s line e form.keeps_going refl good
+beside_stands form s line output (Err (ending_by.At n e)) good = absurd (cc)
+beside_stands form s line output (Err (ending_by.AtAndMore n e more)) good = absurd (cc)
+beside_stands form s line output (Err (ending_by.Column e)) good = absurd (cc)
+beside_stands form s line output (Err (ending_by.Table e)) good = absurd (cc)
+beside_stands form s line output (Err (ending_by.FileAt f n e)) good = absurd (cc)
+beside_stands form s line output (Err (ending_by.File f e)) good = absurd (cc)
+
+said_stands : (form : Form) (answer : Option ℕ → Answer) (s : State) (line : List ℕ) (said : Result Said H3Error) → (answer_said form answer s line said).answer.ending ≡ Ok tt → StepStands (answer_said form answer s line said) s line (with_own form.separator answer line said)
+said_stands form answer s line (Err e) good = faulty_stands form s line e form.keeps_going refl good
+said_stands form answer s line (Ok Missing) good = record { ending = refl; output = refl; number = refl; before = refl }
+said_stands form answer s line (Ok (Index index)) good = beside_stands form s line (answer index).output (answer index).ending good
+
+-- a row after a header
+row_stands : (form : Form) (answer : Option ℕ → Answer) (k : ℕ) (s : State) (p : Piece) (m e : Bool) → s.before ≡ Some k → is_malformed form s.number p ≡ m → (length (row_body p.0) == 0) ≡ e → (row_step form answer s p).answer.ending ≡ Ok tt
+    → StepStands (row_step form answer s p) s p.0 (own_lines form answer k (s.number, p))
+row_stands form answer k s p true e known malformed empty good = absurd (let stops : (ends s Failed).answer.ending ≡ Ok tt = rw malformed at good in cc)
+row_stands form answer k s p false true known malformed empty good =
+    let is : row_step form answer s p ≡ goes_on s p.0 (p.0 ++ 10 ∷ []) = rw (malformed, empty, known) refl in
+    let text : own_lines form answer k (s.number, p) ≡ p.0 ++ 10 ∷ [] = rw empty refl in
+    subst (λ x. StepStands x s p.0 (own_lines form answer k (s.number, p))) (sym is) (subst (λ l. StepStands (goes_on s p.0 (p.0 ++ 10 ∷ [])) s p.0 l) (sym text) (record { ending = refl; output = refl; number = refl; before = refl }))
+row_stands form answer k s p false false known malformed empty good =
+    let said = row_said form s.number k (row_body p.0) in
+    let is : row_step form answer s p ≡ answer_said form answer s p.0 said = rw (malformed, empty, known) refl in
+    let text : own_lines form answer k (s.number, p) ≡ with_own form.separator answer p.0 said = rw empty refl in
+    subst (λ x. StepStands x s p.0 (own_lines form answer k (s.number, p))) (sym is) (subst (λ l. StepStands (answer_said form answer s p.0 said) s p.0 l) (sym text) (said_stands form answer s p.0 said (subst (λ x. x.answer.ending ≡ Ok tt) is good)))
+
+-- the error of the first answer is that of both
+first_good : (output : List ℕ) (r : Result (Unit {0}) AnswerError) (next : Answer) → (then_answer output r next).ending ≡ Ok tt → (r ≡ Ok tt) × (next.ending ≡ Ok tt)
+first_good output (Ok tt) next good = (refl, good)
+first_good output (Err e) next good = absurd (cc)
+
+pub rows_stand : RowsStand
+rows_stand form answer k s [] known good = refl
+rows_stand form answer k s (p ∷ ps) known good =
+    let step = row_step form answer s p in
+    let later = rows_then (λ t. written []) form answer step.after ps in
+    let (first, more) = first_good step.answer.output step.answer.ending later good in
+    let stands = row_stands form answer k s p (is_malformed form s.number p) (length (row_body p.0) == 0) known refl refl first in
+    let rest = rows_stand form answer k step.after ps (stands.before ∙ known) more in
+    let joined : (then_answer step.answer.output step.answer.ending later).output ≡ step.answer.output ++ later.output = rw first refl in
+    joined ∙ ap (λ l. l ++ later.output) stands.output ∙ ap (λ l. own_lines form answer k (s.number, p) ++ l) (rest ∙ ap (λ n. flat_map (own_lines form answer k) (numbered n ps)) stands.number)
+
+-- ---- the rows are the list
+
+both_hold : (x y : Bool) → (x && y) ≡ true → x ≡ true
+both_hold true y h = refl
+both_hold false y h = absurd (cc)
+
+first_fed : (b : ℕ) (ps more : List Piece) (p : Piece) → ps ≡ p ∷ more → flat_map (λ r. r.0 ++ 10 ∷ []) (with_first b ps) ≡ b ∷ flat_map (λ r. r.0 ++ 10 ∷ []) ps
+first_fed b ps more p is = rw is refl
+
+pieces_give : (quotes inside : Bool) (bytes : List ℕ) → flat_map (λ r. r.0 ++ 10 ∷ []) (cut 10 quotes inside bytes) ≡ bytes ++ 10 ∷ []
+pieces_give quotes inside [] = refl
+pieces_give quotes inside (b ∷ bs) =
+    let (p, more, first) = first_piece 10 quotes (turned quotes inside b) bs in
+    let go : (t : Bool) → ((b == 10) && not inside) ≡ t
+    → flat_map (λ r. r.0 ++ 10 ∷ []) (if t then ([], false) ∷ cut 10 quotes false bs else with_first b (cut 10 quotes (turned quotes inside b) bs)) ≡ b ∷ (bs ++ 10 ∷ []) =
+    λ t. elim t as (λ t. ((b == 10) && not inside) ≡ t
+    → flat_map (λ r. r.0 ++ 10 ∷ []) (if t then ([], false) ∷ cut 10 quotes false bs else with_first b (cut 10 quotes (turned quotes inside b) bs)) ≡ b ∷ (bs ++ 10 ∷ [])) [
+      | true ↦ λ is. (
+          let feed : b ≡ 10 = eqb-true b 10 (both_hold (b == 10) (not inside) is) in
+          ap (λ l. 10 ∷ l) (pieces_give quotes false bs) ∙ ap (λ x. x ∷ (bs ++ 10 ∷ [])) (sym feed))
+      | false ↦ λ is. first_fed b (cut 10 quotes (turned quotes inside b) bs) more p first ∙ ap (λ l. b ∷ l) (pieces_give quotes (turned quotes inside b) bs)
+    ] in
+    go ((b == 10) && not inside) refl
+
+no_bytes : (l : List ℕ) → (length l == 0) ≡ true → l ≡ []
+no_bytes [] h = refl
+no_bytes (x ∷ xs) h = absurd (grind (arith, nat_tests))
+
+last_dropped : (p : Piece) (ps : List Piece)
+    → (flat_map (λ r. r.0 ++ 10 ∷ []) (without_last_nothing (p ∷ ps)) ≡ flat_map (λ r. r.0 ++ 10 ∷ []) (p ∷ ps)) ⊎ (flat_map (λ r. r.0 ++ 10 ∷ []) (without_last_nothing (p ∷ ps)) ++ 10 ∷ [] ≡ flat_map (λ r. r.0 ++ 10 ∷ []) (p ∷ ps))
+last_dropped p [] =
+    let go : (t : Bool) → (length p.0 == 0) ≡ t
+    → (flat_map (λ r. r.0 ++ 10 ∷ []) (if t then [] else p ∷ []) ≡ (p.0 ++ 10 ∷ []) ++ []) ⊎ (flat_map (λ r. r.0 ++ 10 ∷ []) (if t then [] else p ∷ []) ++ 10 ∷ [] ≡ (p.0 ++ 10 ∷ []) ++ []) =
+    λ t. elim t as (λ t. (length p.0 == 0) ≡ t
+    → (flat_map (λ r. r.0 ++ 10 ∷ []) (if t then [] else p ∷ []) ≡ (p.0 ++ 10 ∷ []) ++ []) ⊎ (flat_map (λ r. r.0 ++ 10 ∷ []) (if t then [] else p ∷ []) ++ 10 ∷ [] ≡ (p.0 ++ 10 ∷ []) ++ [])) [
+      | true ↦ λ is. inr (ap (λ l. (l ++ 10 ∷ []) ++ []) (sym (no_bytes p.0 is)))
+      | false ↦ λ is. inl refl
+    ] in
+    go (length p.0 == 0) refl
+last_dropped p (q ∷ ps) = elim (last_dropped q ps) [
+  | inl e ↦ inl (ap (λ l. (p.0 ++ 10 ∷ []) ++ l) e)
+  | inr e ↦ inr (append_assoc (p.0 ++ 10 ∷ []) (flat_map (λ r. r.0 ++ 10 ∷ []) (without_last_nothing (q ∷ ps))) (10 ∷ []) ∙ ap (λ l. (p.0 ++ 10 ∷ []) ++ l) e)
+]
+
+pub rows_give_back : RowsGiveBack
+rows_give_back quotes bytes =
+    let (p, ps, first) = first_piece 10 quotes false bytes in
+    let rows : rows_of quotes bytes ≡ without_last_nothing (p ∷ ps) = ap without_last_nothing first in
+    let all : flat_map (λ r. r.0 ++ 10 ∷ []) (p ∷ ps) ≡ bytes ++ 10 ∷ [] = ap (flat_map (λ r. r.0 ++ 10 ∷ [])) (sym first) ∙ pieces_give quotes false bytes in
+    elim (last_dropped p ps) [
+      | inl e ↦ inr (ap (flat_map (λ r. r.0 ++ 10 ∷ [])) rows ∙ e ∙ all)
+      | inr e ↦ inl (ap (flat_map (λ r. r.0 ++ 10 ∷ [])) rows ∙ append_cancel_right (flat_map (λ r. r.0 ++ 10 ∷ []) (without_last_nothing (p ∷ ps))) bytes (10 ∷ []) (e ∙ all))
+    ]

@@ -1,0 +1,13 @@
+use Rattle.h3_rows.proofs.AnsweredRows.{written_fails, written_takes}
+use Rattle.h3_rows.proofs.Lengths.{empty_from_test, some_from_test}
+use Rattle.h3_rows.proofs.Written.{nothing_whole}
+use Rattle.h3_rows.proofs.each.write_held.Goals as goal
+
+pub returns-then-is_empty-clause-whole : goal.returns-then-is_empty-clause-whole
+returns-then-is_empty-clause-whole g c = nothing_whole g.W.Sink.taken g.W.Sink.has_failed c.args.out.now c.args.bytes.now (empty_from_test _ _ c.is_empty.ensures c.if-is_empty.true)
+
+pub returns-clause-ok : goal.returns-clause-ok
+returns-clause-ok g c = written_takes c.args.bytes.now _ c.write_answer.result c.write_answer.ensures
+
+pub returns-clause-err : goal.returns-clause-err
+returns-clause-err g c = written_fails c.args.bytes.now _ c.write_answer.result (some_from_test _ _ c.is_empty.ensures c.if-is_empty.false) c.write_answer.ensures

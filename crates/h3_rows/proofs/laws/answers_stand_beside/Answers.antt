@@ -1,0 +1,22 @@
+use Rattle.h3_rows.proofs.Kept.{fields_are_kept, rows_are_whole}
+use Rattle.h3_rows.proofs.ReadBack.{output_reads_back, rows_read_back}
+use Rattle.h3_rows.proofs.Stand.{rows_give_back, rows_stand}
+use Rattle.h3_rows.proofs.laws.answers_stand_beside.Goals as goal
+
+pub returns-clause-stand : goal.returns-clause-stand
+returns-clause-stand c = rows_stand
+
+pub returns-clause-give : goal.returns-clause-give
+returns-clause-give c = rows_give_back
+
+pub returns-clause-whole : goal.returns-clause-whole
+returns-clause-whole c = rows_are_whole
+
+pub returns-clause-kept : goal.returns-clause-kept
+returns-clause-kept c = fields_are_kept
+
+pub returns-clause-back : goal.returns-clause-back
+returns-clause-back c = rows_read_back
+
+pub returns-clause-output : goal.returns-clause-output
+returns-clause-output c = output_reads_back

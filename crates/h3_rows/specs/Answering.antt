@@ -1,0 +1,99 @@
+-- Rows that are answered one after another, with answers held back in a block. Private contracts and proofs alone cite
+-- this file.
+use Rattle.std.specs.Prelude.{◌≡◌, ℕ, ◌<◌, ◌⊎◌, ◌+◌, Bool, true, false, List, [], ◌∷◌, ◌++◌, length, Option, None, Some, Err}
+use Rattle.std.specs.Io.KnownBytes.{Appends}
+use Rattle.h3_lines.specs.Answer.{Answer, before, written}
+use Rattle.h3_lines.specs.Beginning.{SomeBeginning}
+use Rattle.h3_lines.specs.EachLine.{then_answer}
+use Rattle.h3_lines.specs.Writing.{SinkUse, Takes}
+use Rattle.h3_lines.specs.declared.refusal.Fault.TheVariants.{Memory, Read, Write}
+use Rattle.h3_lines.specs.declared.refusal.Refusal.{Refusal}
+use Rattle.h3_lines.specs.declared.refusal.Refusal.TheVariants.{Error, Fault}
+use Rattle.h3_rows.specs.Row.{Piece, cut}
+use Rattle.h3_rows.specs.RowsAnswer.{State, Step, row_with, rows_with}
+use Rattle.h3_rows.specs.declared.state.RowState.{RowState}
+
+-- ---- fields that are looked through
+
+-- the fields that bytes are cut into; none where no bytes are left
+abbrev pub fields_left : ℕ → Bool → Option (List ℕ) → List Piece
+fields_left separator quotes None = []
+fields_left separator quotes (Some bytes) = cut separator quotes false bytes
+
+-- how many bytes are left, and one more
+abbrev pub bytes_left : Option (List ℕ) → ℕ
+bytes_left None = 0
+bytes_left (Some bytes) = length bytes + 1
+
+-- the place that was found, if one was
+abbrev pub place_found : Option ℕ → List ℕ
+place_found None = []
+place_found (Some k) = k ∷ []
+
+-- ---- the bytes in the block: before a header the empty rows, and after it answers that are held back
+
+abbrev pub pending_of : Option ℕ → List ℕ → List ℕ
+pending_of None bytes = bytes
+pending_of (Some k) bytes = []
+
+abbrev pub held_of : Option ℕ → List ℕ → List ℕ
+held_of None bytes = []
+held_of (Some k) bytes = bytes
+
+-- the state, with these bytes in the block
+abbrev pub state_of : RowState → List ℕ → State
+state_of s bytes = record { number = s.number; before = s.before; pending = pending_of s.before bytes; kept = s.kept }
+
+-- the row once for each line of an answer's text, or with an empty answer where there is none
+abbrev pub text_beside : ℕ → List ℕ → Option (List ℕ) → List ℕ
+text_beside separator line None = row_with separator line []
+text_beside separator line (Some text) = rows_with separator line text
+
+-- ---- rows that are answered
+
+module _ {S : Type 0} (taken : S → Option (List ℕ)) (failed : S → Bool) where
+  -- From one moment to a later one these rows are answered, from the one state to the other: some of the answers is taken
+  -- by the sink, and the rest held back.
+  pub record Answered (answer : (State → Answer) → State → List Piece → Answer) (v w : State) (held held' : List ℕ) (old new : S) (rows : List Piece) : Type 0 where
+    pub text : List ℕ
+    pub part : List ℕ
+    pub says : (last : State → Answer) (more : List Piece) → answer last v (rows ++ more) ≡ before text (answer last w more)
+    pub split : held ++ text ≡ part ++ held'
+    pub grown : Appends (taken old) (taken new) part
+    pub sound : failed new ≡ failed old
+
+-- a call of the sink failed: it took a beginning of the bytes, or it took one, and then a flush failed
+abbrev pub TakesSome : SinkUse → List ℕ → Type 0
+TakesSome sink bytes = SomeBeginning (λ part. Appends sink.before sink.after part ⊎ sink.may_have_taken part) bytes × (sink.has_failed ≡ true)
+
+-- an answer ends by its error, all before it taken, or by a write that fails
+abbrev pub EndsBy : Answer → Refusal → SinkUse → Type 0
+EndsBy a (Error e) out = (a.ending ≡ Err e) × Takes out a.output
+EndsBy a (Fault Write) out = (0 < length a.output) × TakesSome out a.output
+EndsBy a (Fault Read) out = ⊥
+EndsBy a (Fault Memory) out = ⊥
+
+-- these bytes and the answer to these rows, in this state, end so, whatever is last
+abbrev pub RefusesEach : ((State → Answer) → State → List Piece → Answer) → State → List ℕ → List Piece → Refusal → SinkUse → Type 0
+RefusesEach answer s held rows e out = (last : State → Answer) → EndsBy (before held (answer last s rows)) e out
+
+-- from one moment to a later one, of these bytes some are taken, and these are still held back
+pub record Moves {S : Type 0} (taken : S → Option (List ℕ)) (failed : S → Bool) (all held : List ℕ) (s t : S) : Type 0 where
+  pub part : List ℕ
+  pub split : all ≡ part ++ held
+  pub grown : Appends (taken s) (taken t) part
+  pub sound : failed t ≡ failed s
+
+-- a write fails, and a beginning of these bytes is taken
+abbrev pub Breaks : List ℕ → SinkUse → Refusal → Type 0
+Breaks all sink e = (e ≡ Fault Write) × (0 < length all) × TakesSome sink all
+
+-- a row is answered by bytes alone, which are put after what is held back, and the state after it is this
+pub record StepsTo {S : Type 0} (taken : S → Option (List ℕ)) (failed : S → Bool) (step : Step) (w : State) (held held' : List ℕ) (s t : S) : Type 0 where
+  pub text : List ℕ
+  pub is : step ≡ record { answer = written text; after = w }
+  pub moves : Moves taken failed (held ++ text) held' s t
+
+-- a row ends the answer so, or a write fails, whatever comes after the row
+abbrev pub StepEnds : Step → List ℕ → Refusal → SinkUse → Type 0
+StepEnds step held e out = (next : Answer) → EndsBy (before held (then_answer step.answer.output step.answer.ending next)) e out

@@ -1,0 +1,144 @@
+-- The definitions at worked values, by computation.
+use Rattle.std.specs.Prelude.{map, ◌≡◌, ℕ, true, false, List, [], ◌∷◌, ◌++◌, codes, Option, None, Some, Err, Ok, refl}
+use Rattle.h3_index.specs.Text.{parsed_index}
+use Rattle.h3_index.specs.declared.error.H3Error.TheVariants.{Failed}
+use Rattle.h3_lines.specs.Answer.{Answer, refused, written}
+use Rattle.h3_lines.specs.declared.refusal.AnswerError.TheVariants.{At, AtAndMore, Column}
+use Rattle.h3_lines.specs.declared.refusal.ColumnError.TheVariants.{NotFound, NotUnique}
+use Rattle.h3_rows.specs.RowsAnswer.{After, Form, Named, column_of, list_answer}
+
+-- a function that answers any index by a word, and refuses a text that is none
+abbrev name : Option ℕ → Answer
+name None = refused Failed
+name (Some n) = written (codes "five" ++ 10 ∷ [])
+
+-- a function that says whether a text is an index
+abbrev truth : Option ℕ → Answer
+truth None = written (codes "false" ++ 10 ∷ [])
+truth (Some n) = written (codes "true" ++ 10 ∷ [])
+
+-- a function with two answers
+abbrev twice : Option ℕ → Answer
+twice index = written (codes "x" ++ 10 ∷ codes "y" ++ 10 ∷ [])
+
+-- tabs between fields, with the cell after so many others
+abbrev tabs : ℕ → Form
+tabs before = record { separator = 9; quotes = false; choice = After before; has_header = false; name = codes "new"; keeps_going = false }
+
+abbrev commas : ℕ → Form
+commas before = record { separator = 44; quotes = true; choice = After before; has_header = false; name = codes "new"; keeps_going = false }
+
+-- quotes count, and the cell is in a column
+abbrev column : List ℕ → Form
+column cell = record { separator = 44; quotes = true; choice = Named cell; has_header = true; name = codes "cellToParent"; keeps_going = false }
+
+-- a header, and the cell in the first field
+abbrev headed : Form
+headed = record { separator = 9; quotes = false; choice = After 0; has_header = true; name = codes "new"; keeps_going = false }
+
+-- runs that go on
+abbrev going_on : Form
+going_on = record { separator = 9; quotes = false; choice = After 0; has_header = false; name = codes "new"; keeps_going = true }
+
+abbrev quoted_going_on : Form
+quoted_going_on = record { separator = 44; quotes = true; choice = After 0; has_header = false; name = codes "new"; keeps_going = true }
+
+-- ---- rows with their answers
+
+-- an empty row is written as it is, and one whose cell is missing has an empty answer
+missing_and_empty : list_answer (tabs 1) name (codes "a" ++ 9 ∷ codes "85283473fffffff" ++ 9 ∷ codes "x" ++ 10 ∷ 10 ∷ codes "b" ++ 9 ∷ 9 ∷ codes "y" ++ 10 ∷ codes "c" ++ 9 ∷ codes "8528340ffffffff" ++ 10 ∷ [])
+    ≡ written (codes "a" ++ 9 ∷ codes "85283473fffffff" ++ 9 ∷ codes "x" ++ 9 ∷ codes "five" ++ 10 ∷ 10 ∷ codes "b" ++ 9 ∷ 9 ∷ codes "y" ++ 9 ∷ 10 ∷ codes "c" ++ 9 ∷ codes "8528340ffffffff" ++ 9 ∷ codes "five" ++ 10 ∷ [])
+unfolding parsed_index
+missing_and_empty = refl
+
+-- an empty last row without its line feed gets it; nothing at all has no row
+empty_rows : map (list_answer (tabs 0) name) ([] ∷ (10 ∷ 13 ∷ []) ∷ []) ≡ written [] ∷ written (10 ∷ 13 ∷ 10 ∷ []) ∷ []
+empty_rows = refl
+
+-- a column that has a name: quotes, a line feed inside them, carriage returns, a last row without its line feed
+quoted : list_answer (column (codes "cell")) name (codes "id,cell" ++ 13 ∷ 10 ∷ 34 ∷ codes "a, " ++ 34 ∷ 34 ∷ codes "b" ++ 34 ∷ 34 ∷ 10 ∷ codes "c" ++ 34 ∷ 44 ∷ 34 ∷ codes " 85283473FFFFFFF " ++ 34 ∷ 13 ∷ 10 ∷ codes "d," ++ 34 ∷ codes "0x85283473fffffff" ++ 34 ∷ [])
+    ≡ written (codes "id,cell,cellToParent" ++ 13 ∷ 10 ∷ 34 ∷ codes "a, " ++ 34 ∷ 34 ∷ codes "b" ++ 34 ∷ 34 ∷ 10 ∷ codes "c" ++ 34 ∷ 44 ∷ 34 ∷ codes " 85283473FFFFFFF " ++ 34 ∷ codes ",five" ++ 13 ∷ 10 ∷ codes "d," ++ 34 ∷ codes "0x85283473fffffff" ++ 34 ∷ codes ",five" ++ 10 ∷ [])
+unfolding parsed_index
+quoted = refl
+
+-- the first faulty row ends the answer; where the run goes on it has an empty one
+faulty_row : list_answer (tabs 0) name (codes "85283473fffffff" ++ 10 ∷ codes "xyz" ++ 10 ∷ []) ≡ record { output = codes "85283473fffffff" ++ 9 ∷ codes "five" ++ 10 ∷ []; ending = Err (At 2 Failed) }
+unfolding parsed_index
+faulty_row = refl
+
+kept_row : list_answer going_on name (codes "85283473fffffff" ++ 10 ∷ codes "xyz" ++ 10 ∷ []) ≡ record { output = codes "85283473fffffff" ++ 9 ∷ codes "five" ++ 10 ∷ codes "xyz" ++ 9 ∷ 10 ∷ []; ending = Err (AtAndMore 2 Failed 0) }
+unfolding parsed_index
+kept_row = refl
+
+kept_rows : list_answer going_on name (codes "xyz" ++ 10 ∷ codes "8" ++ 10 ∷ 10 ∷ codes "-" ++ 10 ∷ codes "-" ++ 10 ∷ []) ≡ record { output = codes "xyz" ++ 9 ∷ 10 ∷ codes "8" ++ 9 ∷ codes "five" ++ 10 ∷ 10 ∷ codes "-" ++ 9 ∷ 10 ∷ codes "-" ++ 9 ∷ 10 ∷ []; ending = Err (AtAndMore 1 Failed 2) }
+unfolding parsed_index
+kept_rows = refl
+
+-- a malformed row ends also a run that goes on, and its own line is told
+malformed_kept : list_answer quoted_going_on name (codes "x" ++ 10 ∷ codes "5" ++ 34 ∷ codes " pipe" ++ 10 ∷ []) ≡ record { output = codes "x," ++ 10 ∷ []; ending = Err (At 2 Failed) }
+unfolding parsed_index
+malformed_kept = refl
+
+-- a function decides what it answers to a text that is no index; a missing cell has an empty answer
+validity : list_answer (record { separator = 44; quotes = false; choice = After 0; has_header = false; name = []; keeps_going = false }) truth (codes "85283473fffffff,1" ++ 10 ∷ codes "xyz,2" ++ 10 ∷ codes ",3" ++ 10 ∷ [])
+    ≡ written (codes "85283473fffffff,1,true" ++ 10 ∷ codes "xyz,2,false" ++ 10 ∷ codes ",3," ++ 10 ∷ [])
+unfolding parsed_index
+validity = refl
+
+-- a row once for each of its answers
+two_answers : list_answer (tabs 0) twice (codes "5" ++ 9 ∷ codes "p" ++ 13 ∷ 10 ∷ []) ≡ written (codes "5" ++ 9 ∷ codes "p" ++ 9 ∷ codes "x" ++ 13 ∷ 10 ∷ codes "5" ++ 9 ∷ codes "p" ++ 9 ∷ codes "y" ++ 13 ∷ 10 ∷ [])
+unfolding parsed_index
+two_answers = refl
+
+-- ---- rows that are malformed or faulty
+
+-- a quote that stays open; a stray quote; a field that is not there
+open_quote : list_answer (commas 0) name (34 ∷ codes "85283473fffffff" ++ 10 ∷ []) ≡ record { output = []; ending = Err (At 1 Failed) }
+open_quote = refl
+
+stray_quote : list_answer (commas 1) name (codes "5" ++ 34 ∷ codes " pipe,85283473fffffff" ++ 10 ∷ codes "6" ++ 34 ∷ codes " pipe,8528340ffffffff" ++ 10 ∷ []) ≡ record { output = []; ending = Err (At 1 Failed) }
+stray_quote = refl
+
+no_field : list_answer (tabs 2) name (codes "a" ++ 9 ∷ codes "b" ++ 10 ∷ []) ≡ record { output = []; ending = Err (At 1 Failed) }
+no_field = refl
+
+-- a line feed inside quotes counts in the number of a row
+numbers : list_answer (commas 1) name (34 ∷ 10 ∷ 34 ∷ codes ",1" ++ 10 ∷ codes "a,x" ++ 10 ∷ []) ≡ record { output = 34 ∷ 10 ∷ 34 ∷ codes ",1,five" ++ 10 ∷ []; ending = Err (At 3 Failed) }
+unfolding parsed_index
+numbers = refl
+
+-- a quote without `quotes` is a byte like others; blanks in quotes are a missing cell
+plain_quotes : list_answer (tabs 1) name (codes "5" ++ 34 ∷ 9 ∷ codes "8" ++ 10 ∷ []) ≡ written (codes "5" ++ 34 ∷ 9 ∷ codes "8" ++ 9 ∷ codes "five" ++ 10 ∷ [])
+unfolding parsed_index
+plain_quotes = refl
+
+blank_cell : list_answer (commas 0) name (34 ∷ codes " " ++ 34 ∷ codes ",1") ≡ written (34 ∷ codes " " ++ 34 ∷ codes ",1," ++ 10 ∷ [])
+blank_cell = refl
+
+-- ---- headers
+
+columns : map (column_of 44 true (codes "cell")) (codes "cell,cell" ∷ codes "id" ∷ (codes "id, " ++ 34 ∷ codes "cell" ++ 34 ∷ codes " ") ∷ []) ≡ Err NotUnique ∷ Err NotFound ∷ Ok 1 ∷ []
+columns = refl
+
+-- where a column is not one field, nothing is written, not even the empty rows before the header
+no_column : map (list_answer (column (codes "cell")) name) ((codes "cell,cell" ++ 10 ∷ []) ∷ [] ∷ (10 ∷ codes "id" ++ 10 ∷ []) ∷ (10 ∷ 10 ∷ []) ∷ [])
+    ≡ map (λ e. record { output = []; ending = Err (Column e) }) (NotUnique ∷ NotFound ∷ NotFound ∷ NotFound ∷ [])
+no_column = refl
+
+-- the empty rows before a header are written before it, and count in numbers
+after_empty_rows : list_answer headed name (10 ∷ 13 ∷ 10 ∷ codes "id" ++ 10 ∷ codes "x" ++ 10 ∷ []) ≡ record { output = 10 ∷ 13 ∷ 10 ∷ codes "id" ++ 9 ∷ codes "new" ++ 10 ∷ []; ending = Err (At 4 Failed) }
+unfolding parsed_index
+after_empty_rows = refl
+
+-- a malformed header ends the answer as a row does
+malformed_header : list_answer (column (codes "cell")) name (10 ∷ codes "c" ++ 34 ∷ codes "ell" ++ 34 ∷ 10 ∷ []) ≡ record { output = 10 ∷ []; ending = Err (At 2 Failed) }
+malformed_header = refl
+
+-- a byte order mark is in the row, and not in the text of its first field
+order_mark : list_answer (column (codes "cell")) name (239 ∷ 187 ∷ 191 ∷ codes "cell" ++ 10 ∷ codes "8" ++ 10 ∷ []) ≡ written (239 ∷ 187 ∷ 191 ∷ codes "cell,cellToParent" ++ 10 ∷ codes "8,five" ++ 10 ∷ [])
+unfolding parsed_index
+order_mark = refl
+
+order_mark_of_rows : list_answer (tabs 0) name (239 ∷ 187 ∷ 191 ∷ codes "8" ++ 10 ∷ []) ≡ written (239 ∷ 187 ∷ 191 ∷ codes "8" ++ 9 ∷ codes "five" ++ 10 ∷ [])
+unfolding parsed_index
+order_mark_of_rows = refl

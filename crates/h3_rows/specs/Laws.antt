@@ -1,0 +1,85 @@
+-- Laws of rows with answers.
+use Rattle.std.specs.Prelude.{◌≡◌, ℕ, ◌==◌, ◌⊎◌, Bool, true, false, List, [], ◌∷◌, ◌++◌, length, Option, Some, Result, Ok, Err, ⊤, if◌then◌else◌}
+use Rattle.std.specs.List.{flat_map}
+use Rattle.h3_index.specs.declared.error.H3Error.{H3Error}
+use Rattle.h3_lines.specs.Answer.{Answer, written}
+use Rattle.h3_lines.specs.declared.refusal.AnswerError.{AnswerError}
+use Rattle.h3_rows.specs.Row.{Piece, cut, inside_after, is_uncut, next_number, return_of, row_body, row_ending, rows_of}
+use Rattle.h3_rows.specs.RowsAnswer.{Form, State, row_said, row_with, rows_then, rows_with}
+use Rattle.h3_rows.specs.declared.said.Said.{Said}
+use Rattle.h3_rows.specs.declared.said.Said.TheVariants.{Index, Missing}
+
+-- ---- each row stands in the output
+
+-- numbered n rows: the rows, each with its number, where the first has the number n
+abbrev pub numbered : ℕ → List Piece → List (ℕ × Piece)
+numbered n [] = []
+numbered n (p ∷ ps) = (n, p) ∷ numbered (next_number n p.0) ps
+
+-- answered_so separator line output ending: the row with each of the answers of a function, or with an empty one where it
+-- has an error
+abbrev pub answered_so : ℕ → List ℕ → List ℕ → Result (Unit {0}) AnswerError → List ℕ
+answered_so separator line output (Ok u) = rows_with separator line output
+answered_so separator line output (Err e) = row_with separator line []
+
+-- with_own separator answer line said: the row with the answers to what it says of its cell; with an empty one where it says
+-- nothing, and where it is faulty
+abbrev pub with_own : ℕ → (Option ℕ → Answer) → List ℕ → Result Said H3Error → List ℕ
+with_own separator answer line (Err e) = row_with separator line []
+with_own separator answer line (Ok Missing) = row_with separator line []
+with_own separator answer line (Ok (Index index)) = answered_so separator line (answer index).output (answer index).ending
+
+-- own_lines form answer before r: what stands in the output for a row, which has a number: an empty row as it is, and any
+-- other with the answers to its own cell, in the field after so many others
+abbrev pub own_lines : Form → (Option ℕ → Answer) → ℕ → ℕ × Piece → List ℕ
+own_lines form answer before r =
+    if length (row_body r.1.0) == 0 then r.1.0 ++ 10 ∷ [] else with_own form.separator answer r.1.0 (row_said form r.0 before (row_body r.1.0))
+
+-- RowsStand: where no row ends the answer, what is written for rows after a header, or without one, is what stands for each
+-- of them by its own cell alone, in order, and nothing else
+abbrev pub RowsStand : Type 0
+RowsStand = (form : Form) (answer : Option ℕ → Answer) (before : ℕ) (s : State) (rows : List Piece) → s.before ≡ Some before → (rows_then (λ t. written []) form answer s rows).ending ≡ Ok tt
+    → (rows_then (λ t. written []) form answer s rows).output ≡ flat_map (own_lines form answer before) (numbered s.number rows)
+
+-- RowsGiveBack: the rows of a list, each with a line feed, are the list, but for a last line feed that it lacked
+abbrev pub RowsGiveBack : Type 0
+RowsGiveBack = (quotes : Bool) (bytes : List ℕ) →
+    let whole : List ℕ = flat_map (λ p. p.0 ++ 10 ∷ []) (rows_of quotes bytes) in (whole ≡ bytes) ⊎ (whole ≡ bytes ++ 10 ∷ [])
+
+-- ---- a row with its answer
+
+-- RowsAreWhole: a row and its ending are what was cut off, and its line feed
+abbrev pub RowsAreWhole : Type 0
+RowsAreWhole = (line : List ℕ) → row_body line ++ row_ending line ≡ line ++ 10 ∷ []
+
+-- FieldsAreKept: the fields of a row with an answer are those of the row, and then the answer; so taking the column away
+-- gives the row back
+abbrev pub FieldsAreKept : Type 0
+FieldsAreKept = (separator : ℕ) (quotes : Bool) (row a : List ℕ) → (34 == separator) ≡ false → inside_after quotes false row ≡ false → is_uncut separator quotes false a ≡ true → inside_after quotes false a ≡ false
+    → cut separator quotes false (row ++ separator ∷ a) ≡ cut separator quotes false row ++ (a, false) ∷ []
+
+-- RowsReadBack: what is read of the output is, row for row, the row with its answer: a row's bytes, without their line feed,
+-- with an answer that has no line feed and no quote, are one row of the output
+abbrev pub RowsReadBack : Type 0
+RowsReadBack = (separator : ℕ) (quotes : Bool) (line a rest : List ℕ) → (34 == separator) ≡ false → (10 == separator) ≡ false → is_uncut 10 quotes false line ≡ true → inside_after quotes false line ≡ false → is_uncut 10 quotes false a ≡ true → inside_after quotes false a ≡ false
+    → rows_of quotes (row_with separator line a ++ rest) ≡ (row_body line ++ (separator ∷ (a ++ return_of line)), false) ∷ rows_of quotes rest
+
+-- rows and answers of which none has a line feed outside quotes, or a quote that stays open
+abbrev pub AreRows : Bool → List (List ℕ × List ℕ) → Type 0
+AreRows quotes [] = ⊤
+AreRows quotes (r ∷ rs) = (is_uncut 10 quotes false r.0 ≡ true) × (inside_after quotes false r.0 ≡ false) × (is_uncut 10 quotes false r.1 ≡ true) × (inside_after quotes false r.1 ≡ false) × AreRows quotes rs
+
+-- the rows, each with its answer, one after another
+abbrev pub all_with : ℕ → List (List ℕ × List ℕ) → List ℕ
+all_with separator [] = []
+all_with separator (r ∷ rs) = row_with separator r.0 r.1 ++ all_with separator rs
+
+-- what each of them is, read again
+abbrev pub read_again : ℕ → List (List ℕ × List ℕ) → List Piece
+read_again separator [] = []
+read_again separator (r ∷ rs) = (row_body r.0 ++ (separator ∷ (r.1 ++ return_of r.0)), false) ∷ read_again separator rs
+
+-- OutputReadsBack: rows with their answers are, read again, as many rows, each with its answer; taking that away gives the
+-- rows back
+abbrev pub OutputReadsBack : Type 0
+OutputReadsBack = (separator : ℕ) (quotes : Bool) (rows : List (List ℕ × List ℕ)) → (34 == separator) ≡ false → (10 == separator) ≡ false → AreRows quotes rows → rows_of quotes (all_with separator rows) ≡ read_again separator rows

@@ -1,0 +1,11 @@
+pub mod Answering
+pub mod EachLaws
+pub mod EndsRows
+pub mod Examples
+pub mod Laws
+pub mod Row
+pub mod RowCells
+pub mod RowCellsLaws
+pub mod RowForm
+pub mod RowsAnswer
+pub mod Splitting

@@ -1,0 +1,217 @@
+//! The cells of the rows of a list.
+
+ghost use Rattle.std.proofs.Common.{◌∙◌, refl};
+ghost use Rattle.std.specs.Prelude.{◌≡◌, ◌+◌, ◌*◌, ◌<◌, ◌≤◌, ◌++◌, ◌∷◌, ◌^◌, ⊤, ℕ, List, [], length, Ok, Err, IfOk, IfErr, OnOk};
+ghost use Rattle.h3_index.specs.Cell.{Address};
+ghost use Rattle.h3_rows.specs.Row.{next_number};
+ghost use Rattle.h3_rows.specs.RowCells.{AllRowsRead, RefusesRows, cell_list, cell_said, cells_end, row_found};
+ghost use Rattle.h3_rows.specs.RowCellsLaws.{HaveCells, RefusesCells, have_none, have_then, refuses_after};
+ghost use Rattle.h3_rows.specs.RowForm.{form_of};
+ghost use Rattle.h3_rows.specs.RowsAnswer.{choice_of, row_said};
+
+use crate::fields::{read_of, row_body};
+use crate::header::chosen_field;
+use crate::reading::{is_malformed, read_row};
+use crate::said::Said;
+use crate::splitting::{RowStart, RowTaker, take_rows};
+use crate::state::{RowState, first_state};
+use h3_index::{Cell, CountedReader, H3Error, Source};
+use h3_lines::{AnswerError, CellTaker, ColumnError, Fault, PAGE, READS, Refusal};
+use h3_requests::{CellField, RowOptions};
+use std::alloc::Global;
+
+/// The cell of a row, `None` if it is missing.
+fn read_cell(
+    options: &RowOptions,
+    number: u64,
+    before: usize,
+    row: &[u8],
+) -> Result<Option<Cell>, H3Error>
+    ensures { result ≡ cell_said (row_said (form_of options.now []) number before row.now) }
+{
+    match read_row(options, b"", number, before, row) {
+        Ok(Said::Missing) => Ok(None),
+        Ok(Said::Index(None)) => Err(H3Error::Failed),
+        Ok(Said::Index(Some(index))) => {
+            let cell = Cell::new(index)?;
+            Ok(Some(cell))
+        }
+        Err(error) => Err(error),
+    }
+}
+
+/// The cell of a row, if it has one, and the state after it; or the error that ends the list.
+fn find_cell(
+    options: &RowOptions,
+    state: RowState,
+    row: &[u8],
+    inside: bool,
+) -> Result<(Option<Cell>, RowState), AnswerError>
+    requires few { state.number + length row.now < 2 ^ 63 }
+    ensures few { IfOk result (λ r. r.1.number ≤ state.number + length row.now + 1) }
+    ensures more { IfOk result (λ r. state.number + 1 ≤ r.1.number) }
+    ensures number { IfOk result (λ r. r.1.number ≡ next_number state.number row.now) }
+    ensures ok { IfOk result (λ r.
+        row_found (form_of options.now []) state.number state.before (row.now, inside)
+        ≡ record { cells = Ok (cell_list r.0); before = r.1.before }) }
+    ensures err { IfErr result (λ e.
+        (row_found (form_of options.now []) state.number state.before (row.now, inside)).cells
+        ≡ Err e) }
+{
+    if is_malformed(options, b"", state.number, row, inside) {
+        return Err(AnswerError::At(state.number, H3Error::Failed));
+    }
+    let body = row_body(row);
+    if body.is_empty() {
+        return Ok((None, state.passed(row)));
+    }
+    match state.before {
+        None => match chosen_field(options, b"", read_of(state.number, body)) {
+            Ok(before) => Ok((None, state.headed(row, before))),
+            Err(error) => Err(AnswerError::Column(error)),
+        },
+        Some(before) => match read_cell(options, state.number, before, body) {
+            Ok(cell) => Ok((cell, state.passed(row))),
+            Err(error) => Err(AnswerError::At(state.number, error)),
+        },
+    }
+}
+
+/// What takes the cells of rows.
+#[derive(Drop)]
+struct RowCells<'f, V: CellTaker> {
+    taker: V,
+    options: &'f RowOptions,
+    state: RowState,
+    ghost few: { V.count taker ≤ state.number },
+}
+
+impl<'f, V: CellTaker> RowTaker for RowCells<'f, V> {
+    ghost count = { λ v. v.state.number };
+
+    ghost settled = { λ v. ⊤ };
+
+    ghost taken = { λ v rows w. (cells : List Address)
+        × HaveCells (form_of v.options.now []) v.state.number v.state.before rows cells
+        w.state.number w.state.before
+        × V.taken v.taker cells w.taker × (w.options ≡ v.options) };
+
+    ghost refused = { λ v rows w e.
+        RefusesCells (form_of v.options.now []) v.state.number v.state.before rows e };
+
+    fn take(&mut self, row: &[u8], inside: bool) -> Result<(), Refusal> {
+        match find_cell(self.options, self.state, row, inside) {
+            Ok((None, state)) => {
+                self.state = state;
+                Ok(())
+            }
+            Ok((Some(cell), state)) => {
+                self.state = state;
+                self.taker.take(cell, &[])
+            }
+            Err(error) => Err(Refusal::Error(error)),
+        }
+    }
+
+    fn refuse_long(&mut self) -> Refusal {
+        Refusal::Error(AnswerError::At(self.state.number, H3Error::Failed))
+    }
+
+    fn settle(&mut self) -> Result<(), Refusal> {
+        Ok(())
+    }
+
+    ghost none_taken = { λ v. ([], have_none (form_of v.options.now []) v.state.number v.state.before, V.none_taken v.taker, refl) };
+
+    ghost taken_then = { λ u v w xs ys p q. (
+      p.0 ++ q.0,
+      have_then (λ o. form_of o.now []) u.state.number v.state.number w.state.number
+          u.state.before v.state.before w.state.before xs ys p.0 q.0 p.3 p.1 q.1,
+      V.taken_then _ _ _ _ _ p.2 q.2,
+      q.3 ∙ p.3,
+    ) };
+
+    ghost refused_then = { λ u v w xs ys e p q.
+        refuses_after (λ o. form_of o.now []) u.state.number v.state.number u.state.before
+        v.state.before xs ys p.0 e p.3 p.1 q };
+}
+
+/// Ends the rows of a list, all of which are read.
+fn end_rows(options: &RowOptions, state: RowState) -> Result<(), AnswerError>
+    ensures ok { OnOk result (cells_end (choice_of options.now.field) state.before ≡ Ok []) }
+    ensures err { IfErr result (λ e.
+        cells_end (choice_of options.now.field) state.before ≡ Err e) }
+{
+    match (state.before, &options.field) {
+        (None, CellField::Column(_)) => Err(AnswerError::Column(ColumnError::NotFound)),
+        _ => Ok(()),
+    }
+}
+
+/// Has the cells of rows taken, read in pages.
+fn take_pages<V: CellTaker + Drop, R: Source>(
+    taker: V,
+    options: &RowOptions,
+    input: &mut R,
+    begun: RowStart,
+    page: &mut [u8],
+) -> Result<V, Refusal>
+    requires first { V.count taker ≡ 0 }
+    requires begun { begun.held ≡ 0 }
+    requires quotes { begun.quotes ≡ options.now.quotes }
+    requires page { length page.old ≡ PAGE }
+    ensures taken { IfOk result (λ after. (cells : List Address)
+        × AllRowsRead (form_of options.now []) (Ok cells) (R.left input.old) (R.left input.new)
+        × V.taken taker cells after) }
+    ensures sound { IfOk result (λ after. R.has_failed input.new ≡ R.has_failed input.old) }
+    ensures refused { IfErr result (λ e. RefusesRows (form_of options.now [])
+        (R.left input.old) (R.left input.new) (R.has_failed input.old) (R.has_failed input.new) e) }
+{
+    let mut rows = RowCells {
+        taker,
+        options,
+        state: first_state(options),
+    };
+    let mut reader = CountedReader::new(&mut *input, READS);
+    let reading = take_rows(&mut rows, &mut reader, begun, page);
+    // The proof reads what the source is after the reads from this use of it.
+    let _ = &*input;
+    reading?;
+    match end_rows(options, rows.state) {
+        Ok(()) => {
+            let RowCells {
+                taker,
+                options: _,
+                state: _,
+            } = rows;
+            Ok(taker)
+        }
+        Err(error) => Err(Refusal::Error(error)),
+    }
+}
+
+/// Has the cells of the rows of a list taken, one after another, in their order. Empty rows, those
+/// whose cell is missing, and a header have none.
+///
+/// `AnswerError::At` with the number of the first row that is malformed or faulty: `Failed`, or
+/// `CellInvalid` for the index of no cell; `AnswerError::Column` where a column that the options
+/// name is not one field of the header. `Fault::Read` where a read fails, or the end is not found in
+/// 2^40 reads. `Fault::Memory` where there is none for the page, a row, or what takes the cells.
+pub fn take_row_cells<V: CellTaker + Drop, R: Source>(
+    alloc: Global,
+    taker: V,
+    options: &RowOptions,
+    input: &mut R,
+) -> Result<V, Refusal>
+    requires { V.count taker ≡ 0 }
+    ensures taken { IfOk result (λ after. (cells : List Address)
+        × AllRowsRead (form_of options.now []) (Ok cells) (R.left input.old) (R.left input.new)
+        × V.taken taker cells after) }
+    ensures sound { IfOk result (λ after. R.has_failed input.new ≡ R.has_failed input.old) }
+    ensures refused { IfErr result (λ e. RefusesRows (form_of options.now [])
+        (R.left input.old) (R.left input.new) (R.has_failed input.old) (R.has_failed input.new) e) }
+{
+    let begun = RowStart::new(alloc, options.quotes)?;
+    let mut page = vec![in alloc; 0u8; PAGE].map_err(|_| Refusal::Fault(Fault::Memory))?;
+    take_pages(taker, options, input, begun, &mut page)
+}

@@ -1,0 +1,524 @@
+//! Rows of which each is written with the answer to its cell beside it.
+
+ghost use Rattle.std.proofs.Common.{◌∙◌, refl};
+ghost use Rattle.std.specs.Prelude.{◌≡◌, ◌+◌, ◌<◌, ◌≤◌, ◌++◌, ◌∷◌, ◌^◌, [], ℕ, List, length, Option, None, Some, Err, option_map, take, IfOk, IfErr, IfSome, OnOk};
+ghost use Rattle.h3_lines.specs.Answer.{Answer, written};
+ghost use Rattle.h3_lines.specs.Writing.{Takes, Writes, sink_use};
+ghost use Rattle.h3_lines.specs.declared.line.TheConstants.{BLOCK};
+ghost use Rattle.h3_lines.specs.declared.refusal.AnswerError.TheVariants.{At};
+ghost use Rattle.h3_lines.specs.declared.refusal.Refusal.{Refusal};
+ghost use Rattle.h3_rows.specs.Answering.{Answered, Breaks, EndsBy, RefusesEach, StepEnds, StepsTo, held_of, state_of, text_beside};
+ghost use Rattle.h3_rows.specs.EachLaws.{answered_none, answered_then, refuses_then};
+ghost use Rattle.h3_rows.specs.EndsRows.{EndsRows};
+ghost use Rattle.h3_rows.specs.Row.{read_of, row_body};
+ghost use Rattle.h3_rows.specs.RowForm.{form_of};
+ghost use Rattle.h3_rows.specs.RowsAnswer.{State, answer_said, begun_answer, choice_of, chosen_in, empty_step, end_of, faulty, goes_on, header_step, row_said, row_step, rows_answer, rows_then, start};
+
+use crate::fields::{read_of, row_body, row_ending};
+use crate::header::{chosen_field, column_name};
+use crate::reading::{is_malformed, read_row};
+use crate::said::Said;
+use crate::splitting::{RowStart, RowTaker, take_rows};
+use crate::state::{RowState, first_state};
+use crate::write::{put_bytes, put_row, put_rows};
+use h3_index::{CellLines, CountedReader, H3Error, Sink, Source};
+use h3_lines::{
+    AnswerError, BLOCK, ColumnError, Fault, IndexFunction, PAGE, READS, Refusal, write_answer,
+};
+use h3_requests::{CellField, RowOptions};
+use std::alloc::Global;
+
+/// How rows are answered: in which form, and by which function.
+#[derive(Drop)]
+struct RowJob<'f, F> {
+    options: &'f RowOptions,
+    name: &'f [u8],
+    function: &'f F,
+}
+
+/// What a function of one index works with.
+#[derive(Drop)]
+struct Workspace {
+    place: usize,
+    lines: CellLines,
+    text: [u8; BLOCK],
+}
+
+/// Writes the bytes and flushes, if there are any.
+fn write_held<W: Sink>(out: &mut W, bytes: &[u8]) -> Result<(), Refusal>
+    ensures whole { Writes (written bytes.now) result
+        (sink_use W.taken W.has_failed out.old out.new) }
+    ensures ok { OnOk result (Takes (sink_use W.taken W.has_failed out.old out.new) bytes.now) }
+    ensures err { IfErr result (λ e.
+        Breaks bytes.now (sink_use W.taken W.has_failed out.old out.new) e) }
+{
+    if bytes.is_empty() {
+        return Ok(());
+    }
+    write_answer(out, bytes)
+}
+
+/// Writes what is held back, and refuses the row with this number.
+#[cold]
+fn refuse<W: Sink>(out: &mut W, held: &[u8], number: u64, error: H3Error) -> Refusal
+    ensures { EndsBy (record { output = held.now; ending = Err (At number error) })
+        result (sink_use W.taken W.has_failed out.old out.new) }
+{
+    match write_held(out, held) {
+        Ok(()) => Refusal::Error(AnswerError::At(number, error)),
+        Err(fault) => fault,
+    }
+}
+
+/// Puts a row and a line feed into a block from the byte `at` on, and returns where they end.
+fn hold_row(block: &mut [u8; BLOCK], at: usize, row: &[u8]) -> usize
+    requires { at + length row.now + 1 ≤ BLOCK }
+    ensures within { result ≤ BLOCK }
+    ensures held { take result block.new ≡ take at block.old ++ (row.now ++ 10 ∷ []) }
+{
+    let end = at + row.len();
+    block[at..end].copy_from_slice(row);
+    block[end] = b'\n';
+    end + 1
+}
+
+/// Puts an empty row, or holds it back where a header is awaited. Returns where the bytes in the
+/// block end, and the state after the row.
+fn put_empty<W: Sink>(
+    out: &mut W,
+    block: &mut [u8; BLOCK],
+    end: usize,
+    state: RowState,
+    row: &[u8],
+) -> Result<(usize, RowState), Refusal>
+    requires within { end ≤ BLOCK }
+    requires few { state.number + length row.now < 2 ^ 63 }
+    ensures within { IfOk result (λ r. r.0 ≤ BLOCK) }
+    ensures few { IfOk result (λ r. r.1.number ≤ state.number + length row.now + 1) }
+    ensures ok { IfOk result (λ r. StepsTo W.taken W.has_failed
+        (empty_step (state_of state (take end block.old)) row.now state.before)
+        (state_of r.1 (take r.0 block.new)) (held_of state.before (take end block.old))
+        (held_of r.1.before (take r.0 block.new)) out.old out.new) }
+    ensures err { IfErr result (λ e. StepEnds
+        (empty_step (state_of state (take end block.old)) row.now state.before)
+        (held_of state.before (take end block.old)) e
+        (sink_use W.taken W.has_failed out.old out.new)) }
+{
+    if let None = state.before {
+        if row.len() >= BLOCK - end {
+            return Err(refuse(out, &block[..end], state.number, H3Error::Failed));
+        }
+        return Ok((hold_row(block, end, row), state.passed(row)));
+    }
+    let after_row = put_bytes(out, block, end, row)?;
+    let last = put_bytes(out, block, after_row, b"\n")?;
+    Ok((last, state.passed(row)))
+}
+
+/// Puts a header with the name of the new column, after the empty rows before it.
+fn put_header<'f, W: Sink, F>(
+    out: &mut W,
+    block: &mut [u8; BLOCK],
+    end: usize,
+    job: &RowJob<'f, F>,
+    state: RowState,
+    row: &[u8],
+) -> Result<(usize, RowState), Refusal>
+    requires within { end ≤ BLOCK }
+    requires awaited { state.before ≡ None }
+    requires few { state.number + length row.now < 2 ^ 63 }
+    ensures within { IfOk result (λ r. r.0 ≤ BLOCK) }
+    ensures few { IfOk result (λ r. r.1.number ≤ state.number + length row.now + 1) }
+    ensures ok { IfOk result (λ r. StepsTo W.taken W.has_failed
+        (header_step (form_of job.now.options.now job.now.name.now)
+        (state_of state (take end block.old)) row.now
+        (chosen_in (form_of job.now.options.now job.now.name.now)
+        (form_of job.now.options.now job.now.name.now).choice
+        (read_of state.number (row_body row.now))))
+        (state_of r.1 (take r.0 block.new)) (held_of state.before (take end block.old))
+        (held_of r.1.before (take r.0 block.new)) out.old out.new) }
+    ensures err { IfErr result (λ e. StepEnds
+        (header_step (form_of job.now.options.now job.now.name.now)
+        (state_of state (take end block.old)) row.now
+        (chosen_in (form_of job.now.options.now job.now.name.now)
+        (form_of job.now.options.now job.now.name.now).choice
+        (read_of state.number (row_body row.now))))
+        (held_of state.before (take end block.old)) e
+        (sink_use W.taken W.has_failed out.old out.new)) }
+{
+    let read = read_of(state.number, row_body(row));
+    let before = match chosen_field(job.options, job.name, read) {
+        Ok(before) => before,
+        Err(error) => return Err(Refusal::Error(AnswerError::Column(error))),
+    };
+    let name = column_name(job.options, job.name);
+    let separator = job.options.separator;
+    let last = put_row(
+        out,
+        block,
+        end,
+        separator,
+        row_body(row),
+        name,
+        row_ending(row),
+    )?;
+    Ok((last, state.headed(row, before)))
+}
+
+/// Works out the answer to a row's cell: where its text ends in the workspace, `None` if the cell is
+/// missing.
+fn answer_cell<'f, F: IndexFunction>(
+    job: &RowJob<'f, F>,
+    work: &mut Workspace,
+    number: u64,
+    before: usize,
+    row: &[u8],
+) -> Result<Option<usize>, H3Error>
+    ensures within { IfOk result (λ o. IfSome o (λ last. last ≤ BLOCK)) }
+    ensures ok { IfOk result (λ o. (s : State) → answer_said
+        (form_of job.now.options.now job.now.name.now) (F.answer_of job.now.function.now) s row.now
+        (row_said (form_of job.now.options.now job.now.name.now) number before (row_body row.now))
+        ≡ goes_on s row.now (text_beside job.now.options.now.separator row.now
+        (option_map (λ last. take last work.new.text) o))) }
+    ensures err { IfErr result (λ e. (s : State) → answer_said
+        (form_of job.now.options.now job.now.name.now) (F.answer_of job.now.function.now) s row.now
+        (row_said (form_of job.now.options.now job.now.name.now) number before (row_body row.now))
+        ≡ faulty (form_of job.now.options.now job.now.name.now) s row.now e) }
+{
+    match read_row(job.options, job.name, number, before, row_body(row)) {
+        Ok(Said::Index(index)) => {
+            let text = &mut work.text;
+            match job
+                .function
+                .put(index, &mut work.place, &mut work.lines, text, 0)
+            {
+                Ok(last) => Ok(Some(last)),
+                Err(error) => Err(error),
+            }
+        }
+        Ok(Said::Missing) => Ok(None),
+        Err(error) => Err(error),
+    }
+}
+
+/// Puts a row with the answers to its cell.
+fn put_cell<'f, W: Sink, F: IndexFunction>(
+    out: &mut W,
+    block: &mut [u8; BLOCK],
+    end: usize,
+    job: &RowJob<'f, F>,
+    work: &mut Workspace,
+    state: RowState,
+    before: usize,
+    row: &[u8],
+) -> Result<(usize, RowState), Refusal>
+    requires within { end ≤ BLOCK }
+    requires known { state.before ≡ Some before }
+    requires few { state.number + length row.now < 2 ^ 63 }
+    ensures within { IfOk result (λ r. r.0 ≤ BLOCK) }
+    ensures few { IfOk result (λ r. r.1.number ≤ state.number + length row.now + 1) }
+    ensures ok { IfOk result (λ r. StepsTo W.taken W.has_failed
+        (answer_said (form_of job.now.options.now job.now.name.now)
+        (F.answer_of job.now.function.now) (state_of state (take end block.old)) row.now
+        (row_said (form_of job.now.options.now job.now.name.now) state.number before
+        (row_body row.now)))
+        (state_of r.1 (take r.0 block.new)) (held_of state.before (take end block.old))
+        (held_of r.1.before (take r.0 block.new)) out.old out.new) }
+    ensures err { IfErr result (λ e. StepEnds
+        (answer_said (form_of job.now.options.now job.now.name.now)
+        (F.answer_of job.now.function.now) (state_of state (take end block.old)) row.now
+        (row_said (form_of job.now.options.now job.now.name.now) state.number before
+        (row_body row.now)))
+        (held_of state.before (take end block.old)) e
+        (sink_use W.taken W.has_failed out.old out.new)) }
+{
+    let separator = job.options.separator;
+    match answer_cell(job, work, state.number, before, row) {
+        Ok(Some(last)) => {
+            let text = &work.text[..last];
+            let last = put_rows(out, block, end, separator, row, text)?;
+            Ok((last, state.passed(row)))
+        }
+        Ok(None) => {
+            let last = put_row(
+                out,
+                block,
+                end,
+                separator,
+                row_body(row),
+                b"",
+                row_ending(row),
+            )?;
+            Ok((last, state.passed(row)))
+        }
+        Err(error) if job.options.keeps_going => {
+            let last = put_row(
+                out,
+                block,
+                end,
+                separator,
+                row_body(row),
+                b"",
+                row_ending(row),
+            )?;
+            Ok((last, state.with_error(row, error)))
+        }
+        Err(error) => Err(refuse(out, &block[..end], state.number, error)),
+    }
+}
+
+/// Puts the answer to a row.
+fn put_answer<'f, W: Sink, F: IndexFunction>(
+    out: &mut W,
+    block: &mut [u8; BLOCK],
+    end: usize,
+    job: &RowJob<'f, F>,
+    work: &mut Workspace,
+    state: RowState,
+    row: &[u8],
+    inside: bool,
+) -> Result<(usize, RowState), Refusal>
+    requires within { end ≤ BLOCK }
+    requires few { state.number + length row.now < 2 ^ 63 }
+    ensures within { IfOk result (λ r. r.0 ≤ BLOCK) }
+    ensures few { IfOk result (λ r. r.1.number ≤ state.number + length row.now + 1) }
+    ensures ok { IfOk result (λ r. StepsTo W.taken W.has_failed
+        (row_step (form_of job.now.options.now job.now.name.now) (F.answer_of job.now.function.now)
+        (state_of state (take end block.old)) (row.now, inside))
+        (state_of r.1 (take r.0 block.new)) (held_of state.before (take end block.old))
+        (held_of r.1.before (take r.0 block.new)) out.old out.new) }
+    ensures err { IfErr result (λ e. StepEnds
+        (row_step (form_of job.now.options.now job.now.name.now) (F.answer_of job.now.function.now)
+        (state_of state (take end block.old)) (row.now, inside))
+        (held_of state.before (take end block.old)) e
+        (sink_use W.taken W.has_failed out.old out.new)) }
+{
+    if is_malformed(job.options, job.name, state.number, row, inside) {
+        return Err(refuse(out, &block[..end], state.number, H3Error::Failed));
+    }
+    if row_body(row).is_empty() {
+        return put_empty(out, block, end, state, row);
+    }
+    match state.before {
+        None => put_header(out, block, end, job, state, row),
+        Some(before) => put_cell(out, block, end, job, work, state, before, row),
+    }
+}
+
+/// Ends the answer to a list, all of whose rows are answered.
+fn end_answer<W: Sink>(
+    out: &mut W,
+    held: &[u8],
+    options: &RowOptions,
+    state: RowState,
+) -> Result<(), Refusal>
+    ensures { Writes (end_of (choice_of options.now.field) (state_of state held.now) state.before)
+        result (sink_use W.taken W.has_failed out.old out.new) }
+{
+    match (state.before, &options.field) {
+        (Some(_), _) => match state.kept {
+            None => Ok(()),
+            Some(kept) => {
+                let error = AnswerError::AtAndMore(kept.number, kept.error, kept.more);
+                Err(Refusal::Error(error))
+            }
+        },
+        (None, CellField::Number(_)) => write_held(out, held),
+        (None, CellField::Column(_)) => {
+            Err(Refusal::Error(AnswerError::Column(ColumnError::NotFound)))
+        }
+    }
+}
+
+/// The rows of an input with their answers, in a block that is written when it is full.
+#[derive(Drop)]
+struct RowAnswers<'a, 'f, W, F> {
+    out: &'a mut W,
+    job: &'f RowJob<'f, F>,
+    work: Workspace,
+    state: RowState,
+    block: [u8; BLOCK],
+    end: usize,
+    ghost within: { end ≤ BLOCK },
+}
+
+impl<'a, 'f, W: Sink, F: IndexFunction> RowTaker for RowAnswers<'a, 'f, W, F> {
+    ghost count = { λ v. v.state.number };
+
+    ghost settled = { λ v. held_of v.state.before (take v.end v.block) ≡ [] };
+
+    ghost taken = { λ v rows w.
+        Answered W.taken W.has_failed
+        (λ last. rows_then last (form_of v.job.now.options.now v.job.now.name.now)
+        (F.answer_of v.job.now.function.now))
+        (state_of v.state (take v.end v.block)) (state_of w.state (take w.end w.block))
+        (held_of v.state.before (take v.end v.block))
+        (held_of w.state.before (take w.end w.block)) v.out.now w.out.now rows
+        × (w.job ≡ v.job) × (w.out.ghost_name ≡ v.out.ghost_name) };
+
+    ghost refused = { λ v rows w e.
+        RefusesEach
+        (λ last. rows_then last (form_of v.job.now.options.now v.job.now.name.now)
+        (F.answer_of v.job.now.function.now))
+        (state_of v.state (take v.end v.block)) (held_of v.state.before (take v.end v.block))
+        rows e (sink_use W.taken W.has_failed v.out.now w.out.now)
+        × (w.out.ghost_name ≡ v.out.ghost_name) };
+
+    fn take(&mut self, row: &[u8], inside: bool) -> Result<(), Refusal> {
+        let (end, state) = put_answer(
+            self.out,
+            &mut self.block,
+            self.end,
+            self.job,
+            &mut self.work,
+            self.state,
+            row,
+            inside,
+        )?;
+        self.end = end;
+        self.state = state;
+        Ok(())
+    }
+
+    fn refuse_long(&mut self) -> Refusal {
+        let held = &self.block[..self.end];
+        refuse(self.out, held, self.state.number, H3Error::Failed)
+    }
+
+    fn settle(&mut self) -> Result<(), Refusal> {
+        if let None = self.state.before {
+            return Ok(());
+        }
+        let held = &self.block[..self.end];
+        write_held(self.out, held)?;
+        self.end = 0;
+        Ok(())
+    }
+
+    ghost none_taken = { λ v. (answered_none _ _ _ _ _ _, refl, refl) };
+
+    ghost taken_then = { λ u v w xs ys p q. (
+      answered_then _ _ (λ j last. rows_then last (form_of j.now.options.now j.now.name.now)
+          (F.answer_of j.now.function.now)) xs ys p.1 p.0 q.0,
+      q.1 ∙ p.1,
+      q.2 ∙ p.2,
+    ) };
+
+    ghost refused_then = { λ u v w xs ys e p q. (
+      refuses_then _ _ (λ j last. rows_then last (form_of j.now.options.now j.now.name.now)
+          (F.answer_of j.now.function.now)) _ xs ys e p.1 p.0 q.0,
+      q.1 ∙ p.2,
+    ) };
+}
+
+/// Answers the rows of an input, read in pages, and ends the answer.
+fn answer_input<'a, 'f, R: Source, W: Sink, F: IndexFunction>(
+    answers: &mut RowAnswers<'a, 'f, W, F>,
+    input: &mut R,
+    begun: RowStart,
+    page: &mut [u8],
+) -> Result<(), Refusal>
+    requires first { state_of answers.old.state (take answers.old.end answers.old.block)
+        ≡ start (form_of answers.old.job.now.options.now answers.old.job.now.name.now) }
+    requires empty { answers.old.end ≡ 0 }
+    requires few { answers.old.state.number ≡ 1 }
+    requires begun { begun.held ≡ 0 }
+    requires quotes { begun.quotes ≡ answers.old.job.now.options.now.quotes }
+    requires page { length page.old ≡ PAGE }
+    ensures ends { EndsRows answers.old.job.now.options.now.quotes
+        (rows_answer (form_of answers.old.job.now.options.now answers.old.job.now.name.now)
+        (F.answer_of answers.old.job.now.function.now))
+        (begun_answer (form_of answers.old.job.now.options.now answers.old.job.now.name.now)
+        (F.answer_of answers.old.job.now.function.now))
+        (R.left input.old) (R.left input.new)
+        (R.has_failed input.old) (R.has_failed input.new) result
+        (sink_use W.taken W.has_failed answers.old.out.now answers.new.out.now) }
+    ensures same { answers.new.out.ghost_name ≡ answers.old.out.ghost_name }
+{
+    let mut reader = CountedReader::new(&mut *input, READS);
+    let reading = take_rows(answers, &mut reader, begun, page);
+    // The proof reads what the source is after the reads from this use of it.
+    let _ = &*input;
+    reading?;
+    let held = &answers.block[..answers.end];
+    end_answer(answers.out, held, answers.job.options, answers.state)
+}
+
+/// The same to a sink.
+// Inlined, its blocks would take their place on the stack while the caller runs a writer.
+#[inline(never)]
+fn answer_pages<'f, R: Source, W: Sink, F: IndexFunction>(
+    job: &'f RowJob<'f, F>,
+    input: &mut R,
+    out: &mut W,
+    begun: RowStart,
+    page: &mut [u8],
+) -> Result<(), Refusal>
+    requires begun { begun.held ≡ 0 }
+    requires quotes { begun.quotes ≡ job.now.options.now.quotes }
+    requires page { length page.old ≡ PAGE }
+    ensures { EndsRows job.now.options.now.quotes
+        (rows_answer (form_of job.now.options.now job.now.name.now)
+        (F.answer_of job.now.function.now))
+        (begun_answer (form_of job.now.options.now job.now.name.now)
+        (F.answer_of job.now.function.now))
+        (R.left input.old) (R.left input.new)
+        (R.has_failed input.old) (R.has_failed input.new) result
+        (sink_use W.taken W.has_failed out.old out.new) }
+{
+    let mut answers = RowAnswers {
+        out: &mut *out,
+        job,
+        work: Workspace {
+            place: 0,
+            lines: CellLines::new(),
+            text: [0; BLOCK],
+        },
+        state: first_state(job.options),
+        block: [0; BLOCK],
+        end: 0,
+    };
+    let ending = answer_input(&mut answers, input, begun, page);
+    // The proof reads what the sink is after the writes from this use of it.
+    let _ = &*out;
+    ending
+}
+
+/// Writes each row of an input with the answer to its own cell beside it, in order, up to the end or
+/// the first error that ends the run.
+///
+/// A row is written as it is, then the separator, the answer, and the row's ending; once for each of
+/// the answers that the function has. Where its cell is missing the answer is empty. An empty row is
+/// written as it is. A header is written with the name of the new column: `name`, unless the options
+/// have another. Answers are written page by page; a row that a read fault cuts is not answered.
+///
+/// `AnswerError::At` with the number of the first row that is malformed, or faulty, where the run
+/// does not go on; `AnswerError::AtAndMore` at the end of a run that went on after an error;
+/// `AnswerError::Column` where a column that the options name is not one field of the header, with
+/// nothing written. `Fault::Read` where a read fails, or the end is not found in 2^40 reads.
+/// `Fault::Write` where a push or a flush fails. `Fault::Memory` where there is none for the page
+/// and a row.
+pub fn answer_rows<R: Source, W: Sink, F: IndexFunction>(
+    alloc: Global,
+    options: &RowOptions,
+    name: &[u8],
+    function: &F,
+    input: &mut R,
+    out: &mut W,
+) -> Result<(), Refusal>
+    ensures { EndsRows options.now.quotes
+        (rows_answer (form_of options.now name.now) (F.answer_of function.now))
+        (begun_answer (form_of options.now name.now) (F.answer_of function.now))
+        (R.left input.old) (R.left input.new)
+        (R.has_failed input.old) (R.has_failed input.new) result
+        (sink_use W.taken W.has_failed out.old out.new) }
+{
+    let begun = RowStart::new(alloc, options.quotes)?;
+    let mut page = vec![in alloc; 0u8; PAGE].map_err(|_| Refusal::Fault(Fault::Memory))?;
+    let job = RowJob {
+        options,
+        name,
+        function,
+    };
+    answer_pages(&job, input, out, begun, &mut page)
+}

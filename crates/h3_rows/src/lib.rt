@@ -1,0 +1,17 @@
+//! Rows of a table, in which one field is a cell: each is written whole, with the answer to its own
+//! cell beside it.
+#![tactic(auto)]
+
+mod cells;
+mod each;
+mod fields;
+mod header;
+pub mod laws;
+mod reading;
+mod said;
+mod splitting;
+mod state;
+mod write;
+
+pub use cells::take_row_cells;
+pub use each::answer_rows;

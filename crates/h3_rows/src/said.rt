@@ -1,0 +1,11 @@
+//! What a row says of its cell.
+
+/// What a row says of its cell.
+#[derive(Clone, Copy, Drop)]
+pub enum Said {
+    /// Its text is blank.
+    Missing,
+
+    /// The index that its text parses as, if it parses as one.
+    Index(Option<u64>),
+}
