@@ -25,7 +25,12 @@ use Rattle.h3_lines.specs.Writing.{IsLeft, Reports, SinkUse, Writes}
 use Rattle.h3_command.specs.Answer.{Request, about_numbered_list, about_table, answer_or_error_at, with_table, unless_faulty}
 use Rattle.h3_command.specs.Files.{file_cells, unless_refused}
 use Rattle.h3_command.specs.Answer.Request.{of_file_and_lines, of_file_and_list, of_lines, of_list, of_numbered_list, of_table, plain}
-use Rattle.h3_command.specs.Run.{Answers, Ends, Gives, IsReadSoFar, IsReadToEnd, IsReadWhole, NoReadFails, ReadFails, RefusesFile, Runs, RunsOutOfMemory, SourceUse, StopsWithin, Streams, WritesOfNumberedList, WritesReading}
+use Rattle.h3_command.specs.Run.{Answers, Ends, EndsLines, Gives, IsReadSoFar, IsReadToEnd, IsReadWhole, NoReadFails, ReadFails, RefusesFile, Runs, RunsOutOfMemory, SourceUse, StopsWithin, Streams, WritesOfNumberedList, WritesReading}
+use Rattle.h3_rows.specs.EndsRows.{EndsRows}
+use Rattle.h3_rows.specs.EndsRows.{answer_at as rows_at}
+use Rattle.h3_rows.specs.RowsAnswer.{Form, begun_answer, rows_answer}
+use Rattle.h3_rows.specs.RowsAnswer.{list_answer as row_answers}
+use Rattle.h3_command.specs.Rows.{listed_answer}
 use Rattle.h3_command.proofs.Written.{nothing, writes_refused}
 
 -- an answer to what was read is written, and no read failed
@@ -226,6 +231,27 @@ gives_each about (Err (Fault Memory)) status s (sound, kept, left) reports =
     let (list, held) = some_left s.input.left in
     (list, held, λ r w. inr (record { output = left; report = reports }))
 
+-- the same of a list whose rows are answered
+gives_rows : (form : Form) (about : Option ℕ → Answer) (ending : Result (Unit {0}) Refusal) (status : ℕ) (s : Streams)
+    → EndsRows form.quotes (rows_answer form about) (begun_answer form about) s.input.left s.input.left_after s.input.had_failed s.input.has_failed ending s.out → Reports ending status s.err
+    → (list : List ℕ) × HasLeft s.input.left list × ((ReadFails s.input list → ⊥) → s.out.has_failed ≡ false → Gives (row_answers form about list) status s ⊎ RunsOutOfMemory status s)
+gives_rows form about (Ok u) status s (sound, all) reports = (all.list, all.held, λ r w. inl (gives_written (row_answers form about all.list) (Ok u) status s all.writes w reports))
+gives_rows form about (Err (Error e)) status s (sound, inl all) reports = (all.list, all.held, λ r w. inl (gives_written (row_answers form about all.list) (Err (Error e)) status s all.writes w reports))
+gives_rows form about (Err (Error e)) status s (sound, inr (stop, writes)) reports =
+    (stop.part ++ stop.last ++ stop.rest, stop.held, λ r w. inl (gives_written (rows_at (rows_answer form about) stop) (Err (Error e)) status s writes w reports))
+gives_rows form about (Err (Fault Write)) status s (sound, inl all) reports = (all.list, all.held, λ r w. inl (gives_written (row_answers form about all.list) (Err (Fault Write)) status s all.writes w reports))
+gives_rows form about (Err (Fault Write)) status s (sound, inr (stop, takes)) reports = (stop.part ++ stop.last ++ stop.rest, stop.held, λ r w. absurd (cc (takes.failed, w)))
+gives_rows form about (Err (Fault Read)) status s stops reports = (stops.part ++ stops.rest, stops.held, λ r w. absurd (r stops.fails))
+gives_rows form about (Err (Fault Memory)) status s (sound, kept, left) reports =
+    let (list, held) = some_left s.input.left in
+    (list, held, λ r w. inr (record { output = left; report = reports }))
+
+-- the same of either
+gives_lines : (form : Option Form) (about : Option ℕ → Answer) (ending : Result (Unit {0}) Refusal) (status : ℕ) (s : Streams) → EndsLines form about s.input ending s.out → Reports ending status s.err
+    → (list : List ℕ) × HasLeft s.input.left list × ((ReadFails s.input list → ⊥) → s.out.has_failed ≡ false → Gives (listed_answer form about list) status s ⊎ RunsOutOfMemory status s)
+gives_lines None about ending status s ends reports = gives_each about ending status s ends reports
+gives_lines (Some form) about ending status s ends reports = gives_rows form about ending status s ends reports
+
 with_memory : {A B : Type 0} (memory : Bool) → IsTrue memory → A ⊎ B → A ⊎ (IsTrue memory × B)
 with_memory memory takes (inl a) = inl a
 with_memory memory takes (inr b) = inr (takes, b)
@@ -265,25 +291,25 @@ list_answers f about ending status s (bytes, held, inl (cells, gives, ends)) rep
           (with_memory true refl (gives_reading _ list _ s.input ending status s writes (none.list_read (read_after f bytes cells gives.is)) none.answer_written reports));
     }
 
-lines_answers : (f : CellFile) (about : List Address → Option ℕ → Answer) (ending : Result (Unit {0}) Refusal) (status : ℕ) (s : Streams) → Ends (of_file_and_lines f about) s.input s.table ending s.out → Reports ending status s.err
-    → Answers (of_file_and_lines f about) status s
-lines_answers f about ending status s (bytes, held, inr (refuses, alone, left)) reports =
+lines_answers : (f : CellFile) (form : Option Form) (about : List Address → Option ℕ → Answer) (ending : Result (Unit {0}) Refusal) (status : ℕ) (s : Streams) → Ends (of_file_and_lines f form about) s.input s.table ending s.out → Reports ending status s.err
+    → Answers (of_file_and_lines f form about) status s
+lines_answers f form about ending status s (bytes, held, inr (refuses, alone, left)) reports =
     let (list, known) = some_left s.input.left in
     record {
       list = list;
       file = bytes;
       list_is = known;
       file_is = held;
-      given = λ none. with_memory true refl (gives_refused f (λ cells. list_answer (about cells) list) bytes ending status s refuses left (none.table_read refl) reports);
+      given = λ none. with_memory true refl (gives_refused f (λ cells. listed_answer form (about cells) list) bytes ending status s refuses left (none.table_read refl) reports);
     }
-lines_answers f about ending status s (bytes, held, inl (cells, gives, ends)) reports =
-    let (list, known, given) = gives_each (about cells) ending status s ends reports in
+lines_answers f form about ending status s (bytes, held, inl (cells, gives, ends)) reports =
+    let (list, known, given) = gives_lines form (about cells) ending status s ends reports in
     record {
       list = list;
       file = bytes;
       list_is = known;
       file_is = held;
-      given = λ none. subst (λ c. Gives (unless_refused (λ cells. list_answer (about cells) list) c) status s ⊎ (IsTrue true × RunsOutOfMemory status s)) (sym gives.is)
+      given = λ none. subst (λ c. Gives (unless_refused (λ cells. listed_answer form (about cells) list) c) status s ⊎ (IsTrue true × RunsOutOfMemory status s)) (sym gives.is)
           (with_memory true refl (given (none.list_read (read_after f bytes cells gives.is)) none.answer_written));
     }
 
@@ -310,8 +336,8 @@ answers (of_numbered_list about) ending status s (list, held, writes, so_far) re
       file_is = kept;
       given = λ none. with_memory true refl (gives_reading _ list _ s.input ending status s writes (none.list_read refl) none.answer_written reports);
     }
-answers (of_lines about) ending status s ends reports =
-    let (list, held, given) = gives_each about ending status s ends reports in
+answers (of_lines form about) ending status s ends reports =
+    let (list, held, given) = gives_lines form about ending status s ends reports in
     let (file, kept) = some_left s.table.left in
     record { list = list; file = file; list_is = held; file_is = kept; given = λ none. with_memory true refl (given (none.list_read refl) none.answer_written) }
 answers (of_table about) ending status s (file, held, writes, whole) reports =
@@ -324,7 +350,7 @@ answers (of_table about) ending status s (file, held, writes, whole) reports =
       given = λ none. with_memory true refl (gives_reading _ file _ s.table ending status s writes (none.table_read refl) none.answer_written reports);
     }
 answers (of_file_and_list f about) ending status s ends reports = list_answers f about ending status s ends reports
-answers (of_file_and_lines f about) ending status s ends reports = lines_answers f about ending status s ends reports
+answers (of_file_and_lines f form about) ending status s ends reports = lines_answers f form about ending status s ends reports
 
 -- a run ends so, and reports it
 pub runs_so : (r : Request) (ending : Result (Unit {0}) Refusal) (status : ℕ) (s : Streams) → Ends r s.input s.table ending s.out → Reports ending status s.err → Runs r status s

@@ -1,5 +1,5 @@
 -- The request of a command, and the answer to it.
-use Rattle.std.specs.Prelude.{ℕ, Bool, true, false, List, [], Option, None, Some, Result, Ok, Err}
+use Rattle.std.specs.Prelude.{ℕ, Bool, true, false, List, [], Option, None, Some, Result, Ok, Err, codes}
 use Rattle.std.specs.Result.{is_ok}
 use Rattle.h3_index.specs.Cell.{Address}
 use Rattle.h3_index.specs.declared.error.H3Error.{H3Error}
@@ -8,7 +8,6 @@ use Rattle.h3_lattice.specs.Links.{Links}
 use Rattle.h3_lattice.specs.Table.{links_of, table_fault}
 use Rattle.h3_directions.specs.declared.error.TableError.{TableError}
 use Rattle.h3_lines.specs.Answer.{Answer, answer_or_error, cell_line, cell_lines, edge_line, edge_lines, number_line, printed, refused, ring_line, table_refused, truth_line, walked, written}
-use Rattle.h3_lines.specs.EachLine.{list_answer}
 use Rattle.h3_lines.specs.List.{listed_cells}
 use Rattle.h3_lines.specs.Numbered.{faulty_line}
 use Rattle.h3_lines.specs.declared.refusal.AnswerError.TheVariants.{At}
@@ -30,18 +29,22 @@ use Rattle.h3_requests.specs.declared.command.CellFunction.{CellFunction}
 use Rattle.h3_requests.specs.declared.command.CellFunction.TheVariants as each
 use Rattle.h3_requests.specs.declared.command.Command.{Command}
 use Rattle.h3_requests.specs.declared.command.Command.TheVariants as command
+use Rattle.h3_requests.specs.declared.rows.RowOptions.{RowOptions}
+use Rattle.h3_rows.specs.RowsAnswer.{Form}
+use Rattle.h3_command.specs.Rows.{function_name, listed_answer, rows_form}
 
 -- Request: what a command reads and writes: an answer that its words alone fix, one about the cells listed on standard input,
 -- also with the number of a faulty line, one for each line of it, or one about the links of a base cell table; or one about
--- the cells of a file, and then the cells listed on standard input, or for each line of it
+-- the cells of a file, and then the cells listed on standard input, or for each line of it. Where lines are answered one by
+-- one, the list may have rows in a form.
 pub data Request : Type 0 where
   plain : Answer → Request
   of_list : (List Address → Answer) → Request
   of_numbered_list : (List Address → Answer) → Request
-  of_lines : (Option ℕ → Answer) → Request
+  of_lines : Option Form → (Option ℕ → Answer) → Request
   of_table : (Links → Answer) → Request
   of_file_and_list : CellFile → (List Address → List Address → Answer) → Request
-  of_file_and_lines : CellFile → (List Address → Option ℕ → Answer) → Request
+  of_file_and_lines : CellFile → Option Form → (List Address → Option ℕ → Answer) → Request
 
 -- with_table about r: the request about a value and a table; where there is an error in place of the value, the answer
 -- is that error, and the table is not read
@@ -61,69 +64,74 @@ shown (Edges index) = printed edge_lines (origin_to_directed_edges index)
 abbrev pub answer_for : CellFunction → Option ℕ → Answer
 answer_for function word = answer_or_error (λ h. shown (outcome_of function h)) (index_given word)
 
--- request command: what a command reads and writes: an answer that its words alone fix, one about the cells listed on
--- standard input, the same with the number of a faulty line, one line by line about the indexes listed there, one about
--- the links of a table, or one about the cells of a file and then about the list, or about each of its lines
+-- request_of rows command: what a command reads and writes, of which the list has rows, or bare lines: an answer that its words
+-- alone fix, one about the cells listed on standard input, the same with the number of a faulty line, one line by line about
+-- the indexes listed there, or row by row, one about the links of a table, or one about the cells of a file and then about the
+-- list, or about each of its lines or rows
+abbrev pub request_of : Option RowOptions → Command → Request
+request_of rows (command.IsValidCell cell) = plain (answer_for each.IsValidCell cell)
+request_of rows (command.GetResolution cell) = plain (answer_for each.GetResolution cell)
+request_of rows (command.GetBaseCellNumber cell) = plain (answer_for each.GetBaseCellNumber cell)
+request_of rows (command.IsPentagon cell) = plain (answer_for each.IsPentagon cell)
+request_of rows (command.IsResClassIII cell) = plain (answer_for each.IsResClassIII cell)
+request_of rows (command.GetNumCells res) = plain (printed number_line (get_num_cells res))
+request_of rows command.GetRes0Cells = plain (written (cell_lines get_res0_cells))
+request_of rows (command.GetPentagons res) = plain (printed cell_lines (get_pentagons res))
+request_of rows (command.CellToParent cell res) = plain (answer_for (each.CellToParent res) cell)
+request_of rows (command.CellToCenterChild cell res) = plain (answer_for (each.CellToCenterChild res) cell)
+request_of rows (command.CellToLastChild cell res) = plain (answer_for (each.CellToLastChild res) cell)
+request_of rows (command.CellToChildren cell res) = plain (printed cell_lines (for_value (λ h. cell_to_children h res) (index_given cell)))
+request_of rows (command.CellToChildrenSize cell res) = plain (answer_for (each.CellToChildrenSize res) cell)
+request_of rows (command.CellToChildPos cell res) = plain (answer_for (each.CellToChildPos res) cell)
+request_of rows (command.ChildPosToCell position cell res) = plain (printed cell_line (for_value (λ h. child_pos_to_cell position h res) (index_given cell)))
+request_of rows command.CompactCells = of_list (λ cells. printed cell_lines (compact_cells cells))
+request_of rows (command.UncompactCells res) = of_list (λ cells. printed cell_lines (uncompact_cells res cells))
+request_of rows (command.UncompactCellsSize res) = of_numbered_list (λ cells. printed number_line (uncompact_cells_size res cells))
+request_of rows command.UniteCells = of_numbered_list (λ cells. written (cell_lines (compacted cells)))
+request_of rows command.IntersectCells = of_file_and_list Region shared_answer
+request_of rows command.SubtractCells = of_file_and_list Region left_answer
+request_of rows command.AreCoveredCells = of_file_and_lines Region (rows_form rows (codes "isCovered")) covered_answer
+request_of rows command.CellsToZones = of_file_and_lines Zones (rows_form rows (codes "zone")) zone_answer
+request_of rows command.CountCellsInZones = of_file_and_list Zones counts_answer
+request_of rows (command.GridDiskUnsafe cell k) = with_table (λ c link. answer_or_error (walked cell_line) (grid_disk_unsafe link c k)) (cell_given cell)
+request_of rows (command.GridDiskDistancesUnsafe cell k) = with_table (λ c link. answer_or_error (walked ring_line) (grid_disk_distances_unsafe link c k)) (cell_given cell)
+request_of rows (command.GridRingUnsafe cell k) = with_table (λ c link. answer_or_error (walked cell_line) (grid_ring_unsafe link c k)) (cell_given cell)
+request_of rows (command.AreNeighborCells cell to) = with_table (λ cells link. printed truth_line (are_neighbor_cells link cells)) (pair_of (cell_given cell) (cell_given to))
+request_of rows (command.CellsToDirectedEdge cell to) = with_table (λ cells link. printed edge_line (cells_to_directed_edge link cells)) (pair_of (cell_given cell) (cell_given to))
+request_of rows (command.IsValidDirectedEdge edge) = plain (answer_for each.IsValidDirectedEdge edge)
+request_of rows (command.GetDirectedEdgeOrigin edge) = plain (answer_for each.GetDirectedEdgeOrigin edge)
+request_of rows (command.GetDirectedEdgeDestination edge) = with_table (λ e link. printed cell_line (get_directed_edge_destination link e)) (edge_given edge)
+request_of rows (command.OriginToDirectedEdges cell) = plain (answer_for each.OriginToDirectedEdges cell)
+request_of rows (command.ForEach function) = of_lines (rows_form rows (function_name function)) (answer_for function)
+
+-- request command: the same of a command whose list has bare lines
 abbrev pub request : Command → Request
-request (command.IsValidCell cell) = plain (answer_for each.IsValidCell cell)
-request (command.GetResolution cell) = plain (answer_for each.GetResolution cell)
-request (command.GetBaseCellNumber cell) = plain (answer_for each.GetBaseCellNumber cell)
-request (command.IsPentagon cell) = plain (answer_for each.IsPentagon cell)
-request (command.IsResClassIII cell) = plain (answer_for each.IsResClassIII cell)
-request (command.GetNumCells res) = plain (printed number_line (get_num_cells res))
-request command.GetRes0Cells = plain (written (cell_lines get_res0_cells))
-request (command.GetPentagons res) = plain (printed cell_lines (get_pentagons res))
-request (command.CellToParent cell res) = plain (answer_for (each.CellToParent res) cell)
-request (command.CellToCenterChild cell res) = plain (answer_for (each.CellToCenterChild res) cell)
-request (command.CellToLastChild cell res) = plain (answer_for (each.CellToLastChild res) cell)
-request (command.CellToChildren cell res) = plain (printed cell_lines (for_value (λ h. cell_to_children h res) (index_given cell)))
-request (command.CellToChildrenSize cell res) = plain (answer_for (each.CellToChildrenSize res) cell)
-request (command.CellToChildPos cell res) = plain (answer_for (each.CellToChildPos res) cell)
-request (command.ChildPosToCell position cell res) = plain (printed cell_line (for_value (λ h. child_pos_to_cell position h res) (index_given cell)))
-request command.CompactCells = of_list (λ cells. printed cell_lines (compact_cells cells))
-request (command.UncompactCells res) = of_list (λ cells. printed cell_lines (uncompact_cells res cells))
-request (command.UncompactCellsSize res) = of_numbered_list (λ cells. printed number_line (uncompact_cells_size res cells))
-request command.UniteCells = of_numbered_list (λ cells. written (cell_lines (compacted cells)))
-request command.IntersectCells = of_file_and_list Region shared_answer
-request command.SubtractCells = of_file_and_list Region left_answer
-request command.AreCoveredCells = of_file_and_lines Region covered_answer
-request command.CellsToZones = of_file_and_lines Zones zone_answer
-request command.CountCellsInZones = of_file_and_list Zones counts_answer
-request (command.GridDiskUnsafe cell k) = with_table (λ c link. answer_or_error (walked cell_line) (grid_disk_unsafe link c k)) (cell_given cell)
-request (command.GridDiskDistancesUnsafe cell k) = with_table (λ c link. answer_or_error (walked ring_line) (grid_disk_distances_unsafe link c k)) (cell_given cell)
-request (command.GridRingUnsafe cell k) = with_table (λ c link. answer_or_error (walked cell_line) (grid_ring_unsafe link c k)) (cell_given cell)
-request (command.AreNeighborCells cell to) = with_table (λ cells link. printed truth_line (are_neighbor_cells link cells)) (pair_of (cell_given cell) (cell_given to))
-request (command.CellsToDirectedEdge cell to) = with_table (λ cells link. printed edge_line (cells_to_directed_edge link cells)) (pair_of (cell_given cell) (cell_given to))
-request (command.IsValidDirectedEdge edge) = plain (answer_for each.IsValidDirectedEdge edge)
-request (command.GetDirectedEdgeOrigin edge) = plain (answer_for each.GetDirectedEdgeOrigin edge)
-request (command.GetDirectedEdgeDestination edge) = with_table (λ e link. printed cell_line (get_directed_edge_destination link e)) (edge_given edge)
-request (command.OriginToDirectedEdges cell) = plain (answer_for each.OriginToDirectedEdges cell)
-request (command.ForEach function) = of_lines (answer_for function)
+request c = request_of None c
 
 -- reads_list r: the request reads the list
 abbrev pub reads_list : Request → Bool
 reads_list (plain a) = false
 reads_list (of_list about) = true
 reads_list (of_numbered_list about) = true
-reads_list (of_lines about) = true
+reads_list (of_lines form about) = true
 reads_list (of_table about) = false
 reads_list (of_file_and_list file about) = true
-reads_list (of_file_and_lines file about) = true
+reads_list (of_file_and_lines file form about) = true
 
 -- reads_table r: it reads the table, or a file of cells in its place
 abbrev pub reads_table : Request → Bool
 reads_table (plain a) = false
 reads_table (of_list about) = false
 reads_table (of_numbered_list about) = false
-reads_table (of_lines about) = false
+reads_table (of_lines form about) = false
 reads_table (of_table about) = true
 reads_table (of_file_and_list file about) = true
-reads_table (of_file_and_lines file about) = true
+reads_table (of_file_and_lines file form about) = true
 
 -- the list is read where the bytes of the table, or of the file of cells, are these: not where such a file is refused
 abbrev pub reads_list_after : Request → List ℕ → Bool
 reads_list_after (of_file_and_list f about) file = is_ok (file_cells f file)
-reads_list_after (of_file_and_lines f about) file = is_ok (file_cells f file)
+reads_list_after (of_file_and_lines f form about) file = is_ok (file_cells f file)
 reads_list_after r file = reads_list r
 
 -- takes_memory r: it takes memory
@@ -131,10 +139,10 @@ abbrev pub takes_memory : Request → Bool
 takes_memory (plain a) = false
 takes_memory (of_list about) = true
 takes_memory (of_numbered_list about) = true
-takes_memory (of_lines about) = true
+takes_memory (of_lines form about) = true
 takes_memory (of_table about) = true
 takes_memory (of_file_and_list file about) = true
-takes_memory (of_file_and_lines file about) = true
+takes_memory (of_file_and_lines file form about) = true
 
 -- ---- the answer
 
@@ -163,10 +171,10 @@ abbrev pub answer_to : Request → List ℕ → List ℕ → Answer
 answer_to (plain a) list file = a
 answer_to (of_list about) list file = answer_or_error about (listed_cells list)
 answer_to (of_numbered_list about) list file = about_numbered_list about list
-answer_to (of_lines about) list file = list_answer about list
+answer_to (of_lines form about) list file = listed_answer form about list
 answer_to (of_table about) list file = about_table about file
 answer_to (of_file_and_list f about) list file = unless_refused (λ cells. about_numbered_list (about cells) list) (file_cells f file)
-answer_to (of_file_and_lines f about) list file = unless_refused (λ cells. list_answer (about cells) list) (file_cells f file)
+answer_to (of_file_and_lines f form about) list file = unless_refused (λ cells. listed_answer form (about cells) list) (file_cells f file)
 
 -- the answer to a command. Examples alone cite it.
 abbrev pub answer : Command → List ℕ → List ℕ → Answer

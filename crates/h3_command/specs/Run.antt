@@ -1,5 +1,5 @@
 -- What a run does with its streams.
-use Rattle.std.specs.Prelude.{◌≡◌, ⊤, ℕ, ◌≤◌, ◌^◌, ◌⊎◌, Bool, true, false, List, [], length, Option, Some, Result, Ok, Err, IsTrue}
+use Rattle.std.specs.Prelude.{◌≡◌, ⊤, ℕ, ◌≤◌, ◌^◌, ◌⊎◌, Bool, true, false, List, [], length, Option, None, Some, Result, Ok, Err, IsTrue}
 use Rattle.h3_index.specs.Cell.{Address}
 use Rattle.h3_index.specs.Stream.{HasLeft}
 use Rattle.h3_index.specs.declared.error.H3Error.{H3Error}
@@ -16,6 +16,8 @@ use Rattle.h3_lines.specs.EachLine.{EndsEach}
 use Rattle.h3_lines.specs.List.{listed_cells}
 use Rattle.h3_lines.specs.Reads.{IsListWithinReads, IsWithinReads, StopsAtFault}
 use Rattle.h3_lines.specs.Refusal.{ending_of}
+use Rattle.h3_rows.specs.EndsRows.{EndsRows}
+use Rattle.h3_rows.specs.RowsAnswer.{Form, begun_answer, rows_answer}
 use Rattle.h3_command.specs.Files.{file_cells}
 use Rattle.h3_command.specs.Answer.{Request, about_numbered_list, about_table, answer_to, reads_list_after, reads_table, takes_memory}
 use Rattle.h3_command.specs.Answer.Request.{plain, of_file_and_lines, of_file_and_list, of_lines, of_list, of_numbered_list, of_table}
@@ -112,6 +114,12 @@ WritesOfTable about table ending out =
     (file : List ℕ) × HasLeft table.left file × WritesReading (about_table about file) file (IsWithinReads (2 ^ 40) 4096 file) table ending out
     × IsReadWhole table ending
 
+-- EndsLines form about input ending out: how the answering of a list ends, line by line, or row by row in a form
+abbrev pub EndsLines : Option Form → (Option ℕ → Answer) → SourceUse → Result (Unit {0}) Refusal → SinkUse → Type 0
+EndsLines None about input ending out = EndsEach about input.left input.left_after input.had_failed input.has_failed ending out
+EndsLines (Some form) about input ending out =
+    EndsRows form.quotes (rows_answer form about) (begun_answer form about) input.left input.left_after input.had_failed input.has_failed ending out
+
 -- IsFileReadSoFar e bytes file: how far a file of cells with this error is read: to its end for one of the file as a whole,
 -- and else at most a page further than bytes in which no line is known to be faulty
 abbrev pub IsFileReadSoFar : AnswerError → List ℕ → SourceUse → Type 0
@@ -148,11 +156,11 @@ abbrev pub Ends : Request → SourceUse → SourceUse → Result (Unit {0}) Refu
 Ends (plain a) input table ending out = Writes a ending out
 Ends (of_list about) input table ending out = WritesOfList about input ending out
 Ends (of_numbered_list about) input table ending out = WritesOfNumberedList about input ending out
-Ends (of_lines about) input table ending out = EndsEach about input.left input.left_after input.had_failed input.has_failed ending out
+Ends (of_lines form about) input table ending out = EndsLines form about input ending out
 Ends (of_table about) input table ending out = WritesOfTable about table ending out
 Ends (of_file_and_list f about) input file ending out = EndsOverFile f (λ cells. WritesOfNumberedList (about cells) input ending out) input file ending out
-Ends (of_file_and_lines f about) input file ending out =
-    EndsOverFile f (λ cells. EndsEach (about cells) input.left input.left_after input.had_failed input.has_failed ending out) input file ending out
+Ends (of_file_and_lines f form about) input file ending out =
+    EndsOverFile f (λ cells. EndsLines form (about cells) input ending out) input file ending out
 
 -- ---- where nothing fails
 

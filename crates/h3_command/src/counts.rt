@@ -12,9 +12,9 @@ ghost use Rattle.h3_command.specs.Run.{EndsOverFile, WritesOfNumberedList, sourc
 ghost use Rattle.h3_command.specs.Tallying.{CountsMore, counts_none, counts_then};
 
 use crate::count_lines::CountLines;
-use crate::files::read_zones;
+use crate::files::{look_ahead, read_zones};
 use h3_index::{Cell, Sink, Source};
-use h3_lines::{CellTaker, Fault, Refusal, take_cells, write_lines};
+use h3_lines::{CellTaker, Fault, Hints, Refusal, take_cells, write_lines};
 use h3_regions::laws::zones_are_lawful;
 use h3_regions::{Zones, count_next};
 use std::alloc::Global;
@@ -26,6 +26,7 @@ struct Tally<'z> {
     counts: Vec<u64>,
     others: u64,
     place: usize,
+    hints: Hints,
     ghost size: { length counts.items ≡ length zones },
 }
 
@@ -36,7 +37,14 @@ impl<'z> CellTaker for Tally<'z> {
         CountsMore t.zones t.counts.items t.others cells u.counts.items u.others };
 
     #[inline(always)]
-    fn take(&mut self, cell: Cell) -> Result<(), Refusal> {
+    fn take(&mut self, cell: Cell, after: &[u8]) -> Result<(), Refusal> {
+        look_ahead(
+            &self.zones,
+            cell.raw(),
+            after,
+            &mut self.hints,
+            &mut self.place,
+        );
         self.others = count_next(
             &self.zones,
             cell,
@@ -91,6 +99,7 @@ fn answer_counts<R: Source, W: Sink>(
         counts,
         others: 0,
         place: 0,
+        hints: Hints::new(),
     };
     let tally = take_cells(alloc, tally, input)?;
     write_counts(&Zones::over(zones), &tally.counts, tally.others, out)

@@ -5,31 +5,33 @@
 //! overlap are `AnswerError::File` with `DuplicateInput`, and `Fault::Read` and `Fault::Memory` are
 //! as of `read_numbered_cells`. Then come the errors of standard input.
 
-ghost use Rattle.std.specs.Prelude.{◌≡◌, ◌<◌, ◌↔◌, ℕ, List, length, All, None, Err, IfOk, IfErr, IfSome, IsPermutation};
+ghost use Rattle.std.specs.Prelude.{◌≡◌, ◌<◌, ◌↔◌, ℕ, List, length, All, None, Err, IfOk, IfErr, IfSome, IsPermutation, codes};
 ghost use Rattle.h3_index.specs.Cell.{Address, IsCell};
 ghost use Rattle.h3_index.specs.Stream.{HasLeft};
 ghost use Rattle.h3_set.specs.Compacted.{compacted};
 ghost use Rattle.h3_set.specs.Coverage.{IsCovered};
 ghost use Rattle.h3_regions.specs.Algebra.{difference, intersection};
 ghost use Rattle.h3_regions.specs.Zones.{IsZones};
-ghost use Rattle.h3_lines.specs.EachLine.{EndsEach};
 ghost use Rattle.h3_lines.specs.Writing.{sink_use};
 ghost use Rattle.h3_lines.specs.declared.refusal.CellFile.TheVariants as kind_of_file;
 ghost use Rattle.h3_lines.specs.declared.refusal.Fault.TheVariants.{Memory};
 ghost use Rattle.h3_lines.specs.declared.refusal.Refusal.TheVariants as refusal;
 ghost use Rattle.h3_command.specs.Combination.{combined, combined_answer, error_of_file, region_answer, told_of};
 ghost use Rattle.h3_command.specs.Files.{cell_to_zone, covered_answer, is_covered_cell, zone_answer};
-ghost use Rattle.h3_command.specs.Run.{EndsOverFile, GivesFile, RefusesFile, WritesOfNumberedList, source_use};
+ghost use Rattle.h3_command.specs.Rows.{rows_form};
+ghost use Rattle.h3_command.specs.Run.{EndsLines, EndsOverFile, GivesFile, RefusesFile, WritesOfNumberedList, source_use};
 
 use crate::given::cell_given;
+use crate::rows::answer_listed;
 use crate::sets::write_united;
 use h3_index::{Cell, CellLines, H3Error, Sink, Source};
 use h3_lines::{
-    AnswerError, BLOCK, CellFile, Fault, IndexFunction, Refusal, answer_each, put_result,
+    AnswerError, BLOCK, CellFile, Fault, Hints, IndexFunction, Refusal, indexes_ahead, put_result,
     read_numbered_cells,
 };
 use h3_regions::laws::{coverages_decide_combinations, zones_are_lawful};
-use h3_regions::{Region, Zones, intersect, order_zones, subtract};
+use h3_regions::{AHEAD, Region, Zones, intersect, order_zones, subtract};
+use h3_requests::RowOptions;
 use std::alloc::Global;
 
 /// The error of a list, as that of a file.
@@ -260,6 +262,38 @@ fn cell_to_zone(
     Ok(zones.zone_near(cell, place))
 }
 
+/// Sets the place at which the zone of the cell with an index is looked for, whose line is followed
+/// by these bytes in its page: the zones of the cells on the next lines are looked for with it. At the
+/// end of a page the place stays as it is.
+#[inline(always)]
+pub(crate) fn look_ahead(
+    zones: &Zones,
+    index: u64,
+    after: &[u8],
+    hints: &mut Hints,
+    place: &mut usize,
+) {
+    if hints.are_used() {
+        refill(zones, index, after, hints, *place);
+    }
+    hints.advance(place);
+}
+
+/// Finds the places of the zones of the cells on a line and on the next ones. Where the first is near
+/// the last place, or no line is after it, there are none: cells then mostly ascend.
+#[inline(never)]
+fn refill(zones: &Zones, index: u64, after: &[u8], hints: &mut Hints, place: usize) {
+    if after.is_empty() {
+        hints.set(None, 1);
+    } else if zones.is_near(index, place) {
+        hints.set(None, AHEAD);
+    } else {
+        let mut indexes = [0; AHEAD];
+        let count = indexes_ahead(index, after, &mut indexes);
+        hints.set(Some(zones.look_ahead(&indexes[..count])), count);
+    }
+}
+
 /// Whether a region covers a cell, of which `answer_each` writes the answers.
 #[derive(Drop)]
 struct CoveredBy<'r> {
@@ -285,6 +319,11 @@ impl<'r> IndexFunction for CoveredBy<'r> {
             at,
         )
     }
+
+    #[inline(always)]
+    fn aim(&self, index: u64, after: &[u8], hints: &mut Hints, place: &mut usize) {
+        look_ahead(&self.region.zones(), index, after, hints, place);
+    }
 }
 
 /// The zone of a cell, of which `answer_each` writes the answers.
@@ -307,69 +346,80 @@ impl<'z> IndexFunction for ZoneOf<'z> {
     ) -> Result<usize, H3Error> {
         put_result(cell_to_zone(&self.zones, index, place), lines, block, at)
     }
+
+    #[inline(always)]
+    fn aim(&self, index: u64, after: &[u8], hints: &mut Hints, place: &mut usize) {
+        look_ahead(&self.zones, index, after, hints, place);
+    }
 }
 
-/// Writes for each cell listed on the input whether the region of some cells covers it.
+/// Writes for each cell listed on the input, or with each row, whether the region of some cells
+/// covers it.
 fn answer_covered<R: Source, W: Sink>(
     alloc: Global,
+    rows: &Option<RowOptions>,
     cells: &mut [Cell],
     input: &mut R,
     out: &mut W,
 ) -> Result<(), Refusal>
-    ensures { EndsEach (covered_answer cells.old) (R.left input.old) (R.left input.new)
-        (R.has_failed input.old) (R.has_failed input.new) result
+    ensures { EndsLines (rows_form rows.now (codes "isCovered"))
+        (covered_answer cells.old) (source_use R.left R.has_failed input.old input.new) result
         (sink_use W.taken W.has_failed out.old out.new) }
 {
     zones_are_lawful();
     let region = Region::of(cells);
-    answer_each(alloc, &CoveredBy { region }, input, out)
+    answer_listed(alloc, rows, "isCovered", &CoveredBy { region }, input, out)
 }
 
-/// Writes for each cell listed on the input whether the region of a file covers it.
+/// Writes for each cell listed on the input, or with each row, whether the region of a file covers
+/// it.
 pub(crate) fn are_covered_cells<R: Source, T: Source, W: Sink>(
     alloc: Global,
+    rows: &Option<RowOptions>,
     input: &mut R,
     file: &mut T,
     out: &mut W,
 ) -> Result<(), Refusal>
     ensures { EndsOverFile kind_of_file.Region
-        (λ cells. EndsEach (covered_answer cells) (R.left input.old) (R.left input.new)
-        (R.has_failed input.old) (R.has_failed input.new) result
+        (λ cells. EndsLines (rows_form rows.now (codes "isCovered"))
+        (covered_answer cells) (source_use R.left R.has_failed input.old input.new) result
         (sink_use W.taken W.has_failed out.old out.new))
         (source_use R.left R.has_failed input.old input.new)
         (source_use T.left T.has_failed file.old file.new) result
         (sink_use W.taken W.has_failed out.old out.new) }
 {
     let mut cells = read_region(alloc, file)?;
-    answer_covered(alloc, &mut cells, input, out)
+    answer_covered(alloc, rows, &mut cells, input, out)
 }
 
-/// Writes the zone of each cell listed on the input, of zones in order.
+/// Writes the zone of each cell listed on the input, or with each row, of zones in order.
 fn answer_zones<R: Source, W: Sink>(
     alloc: Global,
+    rows: &Option<RowOptions>,
     zones: &[Cell],
     input: &mut R,
     out: &mut W,
 ) -> Result<(), Refusal>
     requires { IsZones zones.now }
-    ensures { EndsEach (zone_answer zones.now) (R.left input.old) (R.left input.new)
-        (R.has_failed input.old) (R.has_failed input.new) result
+    ensures { EndsLines (rows_form rows.now (codes "zone"))
+        (zone_answer zones.now) (source_use R.left R.has_failed input.old input.new) result
         (sink_use W.taken W.has_failed out.old out.new) }
 {
     let zones = Zones::over(zones);
-    answer_each(alloc, &ZoneOf { zones }, input, out)
+    answer_listed(alloc, rows, "zone", &ZoneOf { zones }, input, out)
 }
 
-/// Writes the zone of each cell listed on the input, of the zones of a file.
+/// Writes the zone of each cell listed on the input, or with each row, of the zones of a file.
 pub(crate) fn cells_to_zones<R: Source, T: Source, W: Sink>(
     alloc: Global,
+    rows: &Option<RowOptions>,
     input: &mut R,
     file: &mut T,
     out: &mut W,
 ) -> Result<(), Refusal>
     ensures { EndsOverFile kind_of_file.Zones
-        (λ zones. EndsEach (zone_answer zones) (R.left input.old) (R.left input.new)
-        (R.has_failed input.old) (R.has_failed input.new) result
+        (λ zones. EndsLines (rows_form rows.now (codes "zone"))
+        (zone_answer zones) (source_use R.left R.has_failed input.old input.new) result
         (sink_use W.taken W.has_failed out.old out.new))
         (source_use R.left R.has_failed input.old input.new)
         (source_use T.left T.has_failed file.old file.new) result
@@ -377,5 +427,5 @@ pub(crate) fn cells_to_zones<R: Source, T: Source, W: Sink>(
 {
     zones_are_lawful();
     let zones = read_zones(alloc, file)?;
-    answer_zones(alloc, &zones, input, out)
+    answer_zones(alloc, rows, &zones, input, out)
 }

@@ -2,7 +2,8 @@
 
 ghost use Rattle.std.specs.Prelude.{◌≡◌, false};
 ghost use Rattle.h3_lines.specs.Writing.{Reports, sink_use};
-ghost use Rattle.h3_command.specs.Answer.{reads_list, reads_table, request};
+ghost use Rattle.h3_rows.specs.Laws.{FieldsAreKept, RowsGiveBack, RowsStand};
+ghost use Rattle.h3_command.specs.Answer.{reads_list, reads_table, request, request_of};
 ghost use Rattle.h3_command.specs.Files.{CountsPrintedAddUp};
 ghost use Rattle.h3_command.specs.Run.{Ends, Runs, source_use};
 
@@ -10,32 +11,35 @@ use crate::children::{cell_to_children, child_pos_to_cell};
 use crate::counts::count_cells_in_zones;
 use crate::edges::{are_neighbor_cells, cells_to_directed_edge, get_directed_edge_destination};
 use crate::files::{Combination, are_covered_cells, cells_to_zones, combine_cells};
-use crate::for_each::{AnswerOf, write_answer_for};
+use crate::for_each::write_answer_for;
+use crate::rows::answer_function;
 use crate::sets::{compact_cells, uncompact_cells, unite_cells};
 use crate::sizes::uncompact_cells_size;
 use crate::table_query::over_table;
 use crate::walks::{grid_disk_distances_unsafe, grid_disk_unsafe, grid_ring_unsafe};
 use h3_functions::{get_num_cells, get_pentagons, get_res0_cells};
 use h3_index::{Sink, Source};
-use h3_lines::{Refusal, answer_each, report, write_lines, write_result};
+use h3_lines::{Refusal, report, write_lines, write_result};
 use h3_regions::laws::counts_add_up;
 use h3_requests::Command::*;
-use h3_requests::{CellFunction, Command};
+use h3_requests::{CellFunction, Command, RowOptions};
+use h3_rows::laws::answers_stand_beside;
 use std::alloc::Global;
 
 /// Does the work of a command, up to the line on standard error.
 fn perform<R: Source, T: Source, W: Sink>(
     alloc: Global,
     command: &Command,
+    rows: &Option<RowOptions>,
     input: &mut R,
     table: &mut T,
     out: &mut W,
 ) -> Result<(), Refusal>
-    ensures ends { Ends (request command.now) (source_use R.left R.has_failed input.old input.new)
+    ensures ends { Ends (request_of rows.now command.now) (source_use R.left R.has_failed input.old input.new)
         (source_use T.left T.has_failed table.old table.new) result
         (sink_use W.taken W.has_failed out.old out.new) }
-    ensures input_kept { reads_list (request command.now) ≡ false → input.new ≡ input.old }
-    ensures table_kept { reads_table (request command.now) ≡ false → table.new ≡ table.old }
+    ensures input_kept { reads_list (request_of rows.now command.now) ≡ false → input.new ≡ input.old }
+    ensures table_kept { reads_table (request_of rows.now command.now) ≡ false → table.new ≡ table.old }
 {
     match *command {
         IsValidCell { cell } => write_answer_for(CellFunction::IsValidCell, cell, out),
@@ -73,8 +77,8 @@ fn perform<R: Source, T: Source, W: Sink>(
         UniteCells => unite_cells(alloc, input, out),
         IntersectCells => combine_cells(alloc, Combination::Shared, input, table, out),
         SubtractCells => combine_cells(alloc, Combination::Left, input, table, out),
-        AreCoveredCells => are_covered_cells(alloc, input, table, out),
-        CellsToZones => cells_to_zones(alloc, input, table, out),
+        AreCoveredCells => are_covered_cells(alloc, rows, input, table, out),
+        CellsToZones => cells_to_zones(alloc, rows, input, table, out),
         CountCellsInZones => count_cells_in_zones(alloc, input, table, out),
         GridDiskUnsafe { cell, k } => over_table(alloc, grid_disk_unsafe(cell, k), table, out),
         GridDiskDistancesUnsafe { cell, k } => {
@@ -99,8 +103,48 @@ fn perform<R: Source, T: Source, W: Sink>(
         OriginToDirectedEdges { cell } => {
             write_answer_for(CellFunction::OriginToDirectedEdges, cell, out)
         }
-        ForEach(function) => answer_each(alloc, &AnswerOf(function), input, out),
+        ForEach(function) => answer_function(alloc, rows, function, input, out),
     }
+}
+
+/// Runs a command, as `run` does, over a list that has rows, if it is said how they are read and
+/// written. A command that answers line by line then writes each row with the answer to its own cell
+/// beside it. The others read no rows.
+pub fn run_over<R: Source, T: Source, W: Sink, E: Sink>(
+    alloc: Global,
+    command: &Command,
+    rows: &Option<RowOptions>,
+    input: &mut R,
+    table: &mut T,
+    out: &mut W,
+    err: &mut E,
+) -> u8
+    // What it writes where nothing fails, and how else it may end.
+    ensures runs { Runs (request_of rows.now command.now) result (record {
+      input = source_use R.left R.has_failed input.old input.new;
+      table = source_use T.left T.has_failed table.old table.new;
+      out = sink_use W.taken W.has_failed out.old out.new;
+      err = sink_use E.taken E.has_failed err.old err.new;
+    }) }
+
+    // What is left alone: a source that the command does not read, and `err` where the status is 0.
+    ensures input_kept { reads_list (request_of rows.now command.now) ≡ false → input.new ≡ input.old }
+    ensures table_kept { reads_table (request_of rows.now command.now) ≡ false → table.new ≡ table.old }
+    ensures err_kept { result ≡ 0 → err.new ≡ err.old }
+
+    // A law, whatever the command: what is printed of the counts of zones adds up to the list.
+    ensures counts { CountsPrintedAddUp }
+
+    // Laws, whatever the rows: each stands in the output with the answers to its own cell, and the rows
+    // are the list again, as are the fields of a row without the new one.
+    ensures stand { RowsStand }
+    ensures give { RowsGiveBack }
+    ensures kept { FieldsAreKept }
+{
+    counts_add_up();
+    answers_stand_beside();
+    let ending = perform(alloc, command, rows, input, table, out);
+    report(err, ending)
 }
 
 /// Runs a command: writes its answer to `out`, or an error line to `err`, and returns the exit
@@ -141,7 +185,5 @@ pub fn run<R: Source, T: Source, W: Sink, E: Sink>(
     // A law, whatever the command: what is printed of the counts of zones adds up to the list.
     ensures counts { CountsPrintedAddUp }
 {
-    counts_add_up();
-    let ending = perform(alloc, command, input, table, out);
-    report(err, ending)
+    run_over(alloc, command, &None, input, table, out, err)
 }

@@ -9,8 +9,8 @@ use Rattle.std.proofs.lemmas.Bool.Decides.{nat_tests}
 use Rattle.clap.specs.Lexer.{has_byte, long_of, long_of_rest, short_of, short_of_rest, strip_byte}
 use Rattle.clap.specs.Walk.{Text, attached_value}
 use Rattle.h3_words.specs.Given as own
-use Rattle.h3_words.specs.Given.{after, by_character, given_by, long_value, short_value}
-use Rattle.h3_words.specs.Options.{long_name, short_name}
+use Rattle.h3_words.specs.Given.{after, by_character, given_by, long_value, short_value, with_true}
+use Rattle.h3_words.specs.Options.{is_flag, long_name, short_name}
 use Rattle.h3_words.specs.declared.options.CommandOption.{CommandOption}
 use Rattle.h3_words.specs.declared.options.CommandOption.TheVariants.{Cell, Radius}
 
@@ -51,8 +51,12 @@ abbrev pub named_by : CommandOption → Option (Text × Option Text) → Option 
 named_by o = parts (long_name o) (short_name o)
 
 -- the word names the option: the value in it, if any
+abbrev pub spelled : CommandOption → Text → Option (Option Text)
+spelled o word = named_by o (long_of word) (short_of word)
+
+-- so it does where a flag has the text `true`
 abbrev pub named : CommandOption → Text → Option (Option Text)
-named o word = named_by o (long_of word) (short_of word)
+named o word = with_true (is_flag o) (spelled o word)
 
 -- the option's value by the first word that names the option
 abbrev pub given : CommandOption → List Text → Option Text
@@ -214,4 +218,5 @@ plain_short o = refl
 -- what the words give, cut so, is what they give
 pub given_same : (o : CommandOption) (words : List Text) → own.given o words ≡ given o words
 given_same o [] = refl
-given_same o (word ∷ rest) = ap₂ (λ n later. given_by n rest later) (parts_same (long_name o) (short_name o) word (plain_long o) (plain_short o)) (given_same o rest)
+given_same o (word ∷ rest) = ap₂ (λ n later. given_by n rest later)
+    (ap (with_true (is_flag o)) (parts_same (long_name o) (short_name o) word (plain_long o) (plain_short o))) (given_same o rest)

@@ -1,7 +1,7 @@
 -- A plain call passes: no step of the parse fails.
 use Rattle.std.proofs.Common.{◌≡◌, ◌⊎◌, ◌∙◌, ◌≤◌, ◌+◌, ◌&&◌, ◌||◌, ◌==◌, ◌++◌, ℕ, ℤ, Bool, cond, true, false, not, refl, sym, ap, ap₂, subst, arith, List, [], ◌∷◌, map, length, drop, Option, Some, None, is_some, inl, inr, true≢false, codes}
 use Rattle.std.specs.Char.{encode_utf8}
-use Rattle.std.specs.Prelude.{slice_get, slice_index, option_and_then, option_map, unwrap_or, pos, find, fold}
+use Rattle.std.specs.Prelude.{slice_get, slice_index, option_and_then, option_map, unwrap_or, find, fold}
 use Rattle.std.specs.List.{list_any}
 use Rattle.std.specs.Option.{option_map_or}
 use Rattle.std.specs.Str.{bytes_eq, chars}
@@ -10,8 +10,8 @@ use Rattle.clap.specs.Lexer.{long_of, long_of_rest, short_of, short_of_rest, str
 use Rattle.std.proofs.lemmas.Bool.{ne_eqb}
 use Rattle.clap.specs.ValueTests.{accepts}
 use Rattle.clap.proofs.ValueTestLemmas.{Accepts-accepts}
-use Rattle.clap.specs.Walk.{Names, answers_to, finished, nothing_held, walk, Outcome, trailing, attached_value, after_flag, bundle_step, done, long_met, long_or_other, option_met, plain, plain_word, short_met, short_or_plain, Held, Row, Rule, Step, Text, Waiting, Walk, after_step, arg_by_id, arg_by_long, arg_by_short, bundle_met, has_long, has_row, has_short, idle, next, option, settled, used_by_id, walked, word_met}
-use Rattle.clap.specs.Kinds.{or_else}
+use Rattle.clap.specs.Walk.{Names, answers_to, finished, nothing_held, walk, Outcome, trailing, attached_value, after_flag, bundle_step, done, flag_met, reacted, used, long_met, long_or_other, option_met, plain, plain_word, short_met, short_or_plain, Held, Row, Rule, Step, Text, Waiting, Walk, after_step, arg_by_id, arg_by_long, arg_by_short, bundle_met, has_long, has_row, has_short, idle, next, option, settled, used_by_id, walked, word_met}
+use Rattle.clap.specs.Kinds.{Kinds, or_else}
 use Rattle.clap.specs.Values.{refused_kind}
 use Rattle.clap.specs.Takes.{is_given}
 use Rattle.clap.specs.Facts.{explicit_source}
@@ -22,15 +22,17 @@ use Rattle.h3_words.specs.Commands.{command_names, app, word_of, options_of}
 use Rattle.h3_words.specs.declared.commands.CommandName.{CommandName}
 use Rattle.h3_words.proofs.Names.{word_named}
 use Rattle.h3_words.proofs.Top.{app_done, first_met, first_state, keeps_stop, leaf, stopped_at, top_done}
-use Rattle.clap.specs.Faults.{check_fault, defaults_fault, entered_fault, fault_of, given_default_fault, level_fault, other_fault, bundle_fault, bundle_step_fault, flag_word_fault, long_fault, option_fault, short_fault, flags_fault, settle_fault, step_fault, turn_fault, use_fault, walk_fault, word_fault}
-use Rattle.h3_words.specs.Call.{IsPlainCall, IsPlainValue, Use, names_for, words_of}
+use Rattle.clap.specs.Faults.{react_fault, check_fault, defaults_fault, entered_fault, fault_of, given_default_fault, level_fault, other_fault, bundle_fault, bundle_step_fault, flag_word_fault, long_fault, option_fault, short_fault, flags_fault, settle_fault, step_fault, turn_fault, use_fault, walk_fault, word_fault}
+use Rattle.h3_words.specs.Call.{IsPlainCall, IsPlainValue, Use, names_for, value_words, words_of}
 use Rattle.h3_words.proofs.Uses.{AreUses, IsListed, are_uses, contains, uses_in, uses_in-uses_of}
-use Rattle.h3_words.proofs.Lexed.{given, is_long, is_short, named, named_by}
+use Rattle.h3_words.proofs.Lexed.{given, is_long, is_short, named, named_by, spelled}
+use Rattle.h3_words.specs.Given as own
 use Rattle.h3_words.specs.Given.{given_by}
-use Rattle.h3_words.specs.Options.{IsUpTo, number_up_to, id_of, long_name, parser_done, short_name}
+use Rattle.h3_words.specs.Rows.{rows_agree}
+use Rattle.h3_words.specs.Options.{IsWithin, number_from, number_up_to, id_of, is_flag, is_required, long_name, parser_done, short_name}
 use Rattle.h3_words.specs.declared.options.CommandOption.{CommandOption}
-use Rattle.h3_words.specs.declared.options.CommandOption.TheVariants.{Cell, Resolution, Radius, To, Position, Edge, Table, Region, Zones}
-use Rattle.h3_words.proofs.Leaf.{Holds, long_is, mine, no_default, short_is, walks, Differs, Which, at_word, bytes_same, differ, done_rule, done_rules, help_done, idle_held, leaf_done, longs_differ, or_false, row_of_option, shorts_differ, used_fresh, value_state, walk_end}
+use Rattle.h3_words.specs.declared.options.CommandOption.TheVariants.{Cell, Resolution, Radius, To, Position, Edge, Table, Region, Zones, Field, Column, Header, Separator, Csv, As, KeepGoing}
+use Rattle.h3_words.proofs.Leaf.{Holds, by_flag, flag_is, rule_as, short_plain, takes_no_value, takes_value, unnamed, value_is, written_used, long_is, mine, no_default, short_is, walks, Differs, Which, at_word, bytes_same, differ, done_rule, done_rules, help_done, idle_held, leaf_done, longs_differ, or_false, row_of_option, shorts_differ, used_fresh, value_state, walk_end}
 
 -- how a word names an option
 data NameForm (q : CommandOption) (word : Text) : Type 0 where
@@ -60,6 +62,20 @@ name_form Region word (inl e) = subst (NameForm Region) e (long_form (codes "reg
 name_form Region word (inr e) = absurd e
 name_form Zones word (inl e) = subst (NameForm Zones) e (long_form (codes "zones") refl refl refl refl)
 name_form Zones word (inr e) = absurd e
+name_form Field word (inl e) = subst (NameForm Field) e (long_form (codes "field") refl refl refl refl)
+name_form Field word (inr e) = absurd e
+name_form Column word (inl e) = subst (NameForm Column) e (long_form (codes "column") refl refl refl refl)
+name_form Column word (inr e) = absurd e
+name_form Header word (inl e) = subst (NameForm Header) e (long_form (codes "header") refl refl refl refl)
+name_form Header word (inr e) = absurd e
+name_form Separator word (inl e) = subst (NameForm Separator) e (long_form (codes "separator") refl refl refl refl)
+name_form Separator word (inr e) = absurd e
+name_form Csv word (inl e) = subst (NameForm Csv) e (long_form (codes "csv") refl refl refl refl)
+name_form Csv word (inr e) = absurd e
+name_form As word (inl e) = subst (NameForm As) e (long_form (codes "as") refl refl refl refl)
+name_form As word (inr e) = absurd e
+name_form KeepGoing word (inl e) = subst (NameForm KeepGoing) e (long_form (codes "keep-going") refl refl refl refl)
+name_form KeepGoing word (inr e) = absurd e
 
 -- a search that only q passes finds it
 only_found : (p : Rule → Bool) (q : CommandOption) (os : List CommandOption) → IsListed q os → p (done_rule q) ≡ true → ((x : CommandOption) → Differs q x → p (done_rule x) ≡ false)
@@ -96,34 +112,72 @@ by_short_of q y os is hit = only_found (λ a. not (is_some a.index) && has_short
 abbrev waiting_held : List CommandOption → CommandOption → List Row → Option (Text × List Text) → Held
 waiting_held os q rows p = record (settled (done_rules os) (idle_held rows p)) { pending = Some (id_of q, []) }
 
-name_fault : (name : Text) (os : List CommandOption) (q : CommandOption) (word : Text) (rows : List Row) (p : Option (Text × List Text)) → IsListed q os → NameForm q word
+name_fault : (name : Text) (os : List CommandOption) (q : CommandOption) (word : Text) (rows : List Row) (p : Option (Text × List Text)) → is_flag q ≡ false → IsListed q os → NameForm q word
     → settle_fault (done_rules os) false (idle_held rows p) ≡ [] → word_fault (leaf_done name os) [] false idle word (idle_held rows p) ≡ []
 unfolding flags_fault
-name_fault name os q word rows p is (long_form n e hit none no_dash) settles =
+name_fault name os q word rows p takes is (long_form n e hit none no_dash) settles =
     ap₂ (λ b l. cond b [] (flag_word_fault (done_rules os) false l word (idle_held rows p))) no_dash e
-    ∙ ap (λ r. long_fault (done_rules os) false r None (idle_held rows p)) (by_long_of q n os is hit) ∙ settles
-name_fault name os q word rows p is (short_form y no_long flags first rest hit none no_dash) settles =
+    ∙ ap (λ r. long_fault (done_rules os) false r None (idle_held rows p)) (by_long_of q n os is hit)
+    ∙ ap (λ t. cond t (settle_fault (done_rules os) false (idle_held rows p)) (react_fault (done_rules os) false (done_rule q) [] (idle_held rows p))) (takes_value q takes)
+    ∙ settles
+name_fault name os q word rows p takes is (short_form y no_long flags first rest hit none no_dash) settles =
+    let left : Text = drop (length (encode_utf8 y)) (y ∷ []) in
+    let later : Held → Kinds = flags_fault (done_rules os) false 0 left 0 in
     ap₂ (λ b l. cond b [] (flag_word_fault (done_rules os) false l word (idle_held rows p))) no_dash no_long
     ∙ ap (λ o. option_map_or (λ fs. bundle_fault (done_rules os) false fs (idle_held rows p)) o []) flags
     ∙ ap (λ o. bundle_step_fault (done_rules os) false o (y ∷ []) 0 (idle_held rows p) (flags_fault (done_rules os) false 0)) first
-    ∙ ap (λ r. short_fault (done_rules os) false r (drop (length (encode_utf8 y)) (y ∷ [])) (idle_held rows p) (flags_fault (done_rules os) false 0 (drop (length (encode_utf8 y)) (y ∷ [])) 0)) (by_short_of q y os is hit)
+    ∙ ap (λ r. short_fault (done_rules os) false r left (idle_held rows p) later) (by_short_of q y os is hit)
+    ∙ ap (λ t. cond t (option_fault (done_rules os) false (done_rule q) (attached_value left) (idle_held rows p))
+    (or_else (react_fault (done_rules os) false (done_rule q) [] (idle_held rows p)) (later (reacted (done_rules os) (done_rule q) [] (idle_held rows p))))) (takes_value q takes)
     ∙ ap (λ t. option_fault (done_rules os) false (done_rule q) (attached_value t) (idle_held rows p)) rest ∙ settles
 
-name_met : (os : List CommandOption) (q : CommandOption) (word : Text) (rows : List Row) (p : Option (Text × List Text)) → IsListed q os → NameForm q word
+name_met : (os : List CommandOption) (q : CommandOption) (word : Text) (rows : List Row) (p : Option (Text × List Text)) → is_flag q ≡ false → IsListed q os → NameForm q word
     → word_met (done_rules os) [] false idle 1 word (idle_held rows p) ≡ (waiting_held os q rows p, next (option (id_of q)))
 unfolding bundle_met
-name_met os q word rows p is (long_form n e hit none no_dash) =
-    ap₂ (λ b l. cond b (idle_held rows p, trailing 1) (long_or_other (done_rules os) idle word l (idle_held rows p))) no_dash e
-    ∙ ap (λ r. after_flag (done_rules os) idle word (long_met (done_rules os) r None (idle_held rows p)).0 (long_met (done_rules os) r None (idle_held rows p)).1) (by_long_of q n os is hit)
-name_met os q word rows p is (short_form y no_long flags first rest hit none no_dash) =
-    let step : Option ℕ → Held × Outcome = λ o. bundle_step (done_rules os) o (y ∷ []) 0 plain (idle_held rows p) (bundle_met (done_rules os) 0) in
-    let short : Option Rule → Held × Outcome = λ r. short_met (done_rules os) r (drop (length (encode_utf8 y)) (y ∷ [])) (idle_held rows p) (bundle_met (done_rules os) 0 (drop (length (encode_utf8 y)) (y ∷ [])) 0 done) in
-    let met : Text → Held × Outcome = λ t. option_met (done_rules os) (done_rule q) (attached_value t) (idle_held rows p) in
-    ap₂ (λ b l. cond b (idle_held rows p, trailing 1) (long_or_other (done_rules os) idle word l (idle_held rows p))) no_dash no_long
-    ∙ ap (λ o. short_or_plain (done_rules os) idle word o (idle_held rows p)) flags
-    ∙ ap (λ o. after_flag (done_rules os) idle word (step o).0 (step o).1) first
-    ∙ ap (λ r. after_flag (done_rules os) idle word (short r).0 (short r).1) (by_short_of q y os is hit)
-    ∙ ap (λ t. after_flag (done_rules os) idle word (met t).0 (met t).1) rest
+name_met os q word rows p takes is (long_form n e hit none no_dash) =
+    let c = done_rules os in
+    let h = idle_held rows p in
+    let step : Held × Outcome → Held × Step = λ m. after_flag c idle word m.0 m.1 in
+    ap₂ (λ b l. cond b (h, trailing 1) (long_or_other c idle word l h)) no_dash e
+    ∙ ap (λ r. step (long_met c r None h)) (by_long_of q n os is hit)
+    ∙ ap (λ t. step (cond t (option_met c (done_rule q) None h) (flag_met c (done_rule q) None h))) (takes_value q takes)
+name_met os q word rows p takes is (short_form y no_long flags first rest hit none no_dash) =
+    let c = done_rules os in
+    let h = idle_held rows p in
+    let left : Text = drop (length (encode_utf8 y)) (y ∷ []) in
+    let later : Held → Held × Outcome = bundle_met c 0 left 0 done in
+    let after : Held × Outcome → Held × Step = λ m. after_flag c idle word m.0 m.1 in
+    ap₂ (λ b l. cond b (h, trailing 1) (long_or_other c idle word l h)) no_dash no_long
+    ∙ ap (λ o. short_or_plain c idle word o h) flags
+    ∙ ap (λ o. after (bundle_step c o (y ∷ []) 0 plain h (bundle_met c 0))) first
+    ∙ ap (λ r. after (short_met c r left h later)) (by_short_of q y os is hit)
+    ∙ ap (λ t. after (cond t (option_met c (done_rule q) (attached_value left) h) (later (reacted c (done_rule q) [] h)))) (takes_value q takes)
+    ∙ ap (λ t. after (option_met c (done_rule q) (attached_value t) h)) rest
+
+-- ---- the word of a flag
+
+flag_word_passes : (name : Text) (os : List CommandOption) (q : CommandOption) (word : Text) (rows : List Row) (p : Option (Text × List Text)) → is_flag q ≡ true → IsListed q os → NameForm q word
+    → settle_fault (done_rules os) false (idle_held rows p) ≡ [] → use_fault false (done_rule q) [] (settled (done_rules os) (idle_held rows p)).rows ≡ []
+    → word_fault (leaf_done name os) [] false idle word (idle_held rows p) ≡ []
+flag_word_passes name os q word rows p flag is (long_form n e hit none no_dash) settles fine =
+    ap₂ (λ b l. cond b [] (flag_word_fault (done_rules os) false l word (idle_held rows p))) no_dash e
+    ∙ ap (λ r. long_fault (done_rules os) false r None (idle_held rows p)) (by_long_of q n os is hit)
+    ∙ ap (λ t. cond t (settle_fault (done_rules os) false (idle_held rows p)) (react_fault (done_rules os) false (done_rule q) [] (idle_held rows p))) (takes_no_value q flag)
+    ∙ ap₂ or_else settles fine
+flag_word_passes name os q word rows p flag is (short_form y no_long flags first rest hit none no_dash) settles fine =
+    absurd (true≢false (sym flag ∙ short_plain q y hit))
+
+flag_word_met : (os : List CommandOption) (q : CommandOption) (word : Text) (rows : List Row) (p : Option (Text × List Text)) → is_flag q ≡ true → IsListed q os → NameForm q word
+    → word_met (done_rules os) [] false idle 1 word (idle_held rows p) ≡ (reacted (done_rules os) (done_rule q) [] (idle_held rows p), next idle)
+flag_word_met os q word rows p flag is (long_form n e hit none no_dash) =
+    let c = done_rules os in
+    let h = idle_held rows p in
+    let step : Held × Outcome → Held × Step = λ m. after_flag c idle word m.0 m.1 in
+    ap₂ (λ b l. cond b (h, trailing 1) (long_or_other c idle word l h)) no_dash e
+    ∙ ap (λ r. step (long_met c r None h)) (by_long_of q n os is hit)
+    ∙ ap (λ t. step (cond t (option_met c (done_rule q) None h) (flag_met c (done_rule q) None h))) (takes_no_value q flag)
+flag_word_met os q word rows p flag is (short_form y no_long flags first rest hit none no_dash) =
+    absurd (true≢false (sym flag ∙ short_plain q y hit))
 
 -- ---- its value
 
@@ -190,46 +244,89 @@ has_row_added id (x ∷ rows) r = go (bytes_eq x.id id) (has_row_added id rows r
     go true e = refl
     go false e = e
 
-fresh_after : (rows : List Row) (u : Use) (us : List Use) → Fresh rows (u ∷ us) → Fresh (rows ++ row_of_option u.option u.value ∷ []) us
-fresh_after rows u us fresh o = go (bytes_eq (id_of u.option) (id_of o)) (has_row (id_of o) rows) (fresh o) (has_row_added (id_of o) rows (row_of_option u.option u.value))
+fresh_after : (rows : List Row) (u : Use) (us : List Use) (v : Text) → Fresh rows (u ∷ us) → Fresh (rows ++ row_of_option u.option v ∷ []) us
+fresh_after rows u us v fresh o = go (bytes_eq (id_of u.option) (id_of o)) (has_row (id_of o) rows) (fresh o) (has_row_added (id_of o) rows (row_of_option u.option v))
   where
     go : (b r : Bool) → (r ≡ true → cond b 1 0 + uses_in o us ≡ 0) × (cond b 1 0 + uses_in o us ≤ 1)
-        → has_row (id_of o) (rows ++ row_of_option u.option u.value ∷ []) ≡ (r || b)
-        → (has_row (id_of o) (rows ++ row_of_option u.option u.value ∷ []) ≡ true → uses_in o us ≡ 0) × (uses_in o us ≤ 1)
+        → has_row (id_of o) (rows ++ row_of_option u.option v ∷ []) ≡ (r || b)
+        → (has_row (id_of o) (rows ++ row_of_option u.option v ∷ []) ≡ true → uses_in o us ≡ 0) × (uses_in o us ≤ 1)
     go true r f e = let le : 1 + uses_in o us ≤ 1 = f.1 in (λ _. omega arith, omega arith)
     go false true f e = let none : 0 + uses_in o us ≡ 0 = f.0 refl in (λ _. omega arith, omega arith)
     go false false f e = let le : 0 + uses_in o us ≤ 1 = f.1 in (λ t. absurd (true≢false (sym t ∙ e)), omega arith)
 
 -- a value in the range passes the parser
-in_range : (most : Option ℤ) (v : Text) → IsUpTo most v → accepts false (unwrap_or (option_map (Signed (pos 0)) most) String) v ≡ true
-in_range None v h = refl
-in_range (Some most) v h = Accepts-accepts false (Signed (pos 0) most) v h
+in_range : (least : ℤ) (most : Option ℤ) (v : Text) → IsWithin least most v → accepts false (unwrap_or (option_map (Signed least) most) String) v ≡ true
+in_range least None v h = refl
+in_range least (Some most) v h = Accepts-accepts false (Signed least most) v h
+
+-- a flag has no number, so that any text passes its parser
+flag_accepts : (q : CommandOption) (v : Text) → is_flag q ≡ true → accepts false (parser_done q) v ≡ true
+flag_accepts Header v e = refl
+flag_accepts Csv v e = refl
+flag_accepts KeepGoing v e = refl
+flag_accepts q v e = cc
 
 -- a use of an option that was not used yet, with a value in its range
-use_passes : (q : CommandOption) (v : Text) (rows : List Row) → has_row (id_of q) rows ≡ false → accepts false (parser_done q) v ≡ true → use_fault false (done_rule q) (v ∷ []) rows ≡ []
-use_passes q v rows fresh fits = ap₂ (λ a b. or_else (cond (a && true) (kind.ArgumentConflict ∷ []) []) (or_else (cond b [] (refused_kind (parser_done q) ∷ [])) [])) fresh fits
+use_passes : (q : CommandOption) (v : Text) (rows : List Row) → is_flag q ≡ false → has_row (id_of q) rows ≡ false → accepts false (parser_done q) v ≡ true → use_fault false (done_rule q) (v ∷ []) rows ≡ []
+use_passes q v rows takes fresh fits = ap (λ b. use_fault false (rule_as b q) (v ∷ []) rs) takes
+    ∙ ap₂ (λ a b. or_else (cond (a && true) (kind.ArgumentConflict ∷ []) []) (or_else (cond b [] (refused_kind (parser_done q) ∷ [])) [])) fresh fits
+  where
+    rs : List Row
+    rs = rows
 
-uses_walk : (name : Text) (os : List CommandOption) (us : List Use) (rows : List Row) (p : Option (Text × List Text)) → settle_fault (done_rules os) false (idle_held rows p) ≡ []
+-- a use of a flag that was not used yet
+flag_passes : (q : CommandOption) (rows : List Row) → is_flag q ≡ true → has_row (id_of q) rows ≡ false → use_fault false (done_rule q) [] rows ≡ []
+flag_passes q rows flag fresh = ap (λ b. use_fault false (rule_as b q) [] rows) flag
+    ∙ ap₂ (λ a b. or_else (cond (a && true) (kind.ArgumentConflict ∷ []) []) (or_else (cond b [] (refused_kind (parser_done q) ∷ [])) [])) fresh (flag_accepts q (codes "true") flag)
+
+-- what uses do from any state of the walk that nothing waits in
+abbrev Walks : Text → List CommandOption → List Use → Type 0
+Walks name os us = (rows : List Row) (p : Option (Text × List Text)) → settle_fault (done_rules os) false (idle_held rows p) ≡ []
     → Fresh (settled (done_rules os) (idle_held rows p)).rows us → AreUses os us → Passing name os (at_word (idle_held rows p) idle) (words_of us)
+
+-- one use, of an option that takes a value or of a flag
+use_walks : (name : Text) (os : List CommandOption) (u : Use) (us : List Use) → Walks name os us → Walks name os (u ∷ us)
+use_walks name os u us later rows p settles fresh fits = go (is_flag u.option) refl
+  where
+    now : List Row
+    now = (settled (done_rules os) (idle_held rows p)).rows
+
+    form : NameForm u.option u.name
+    form = name_form u.option u.name fits.0.named
+
+    by_id : arg_by_id (done_rules os) (id_of u.option) ≡ Some (done_rule u.option)
+    by_id = by_id_of u.option os fits.0.listed
+
+    new : has_row (id_of u.option) now ≡ false
+    new = not_yet now u us fresh
+
+    go : (b : Bool) → is_flag u.option ≡ b → Passing name os (at_word (idle_held rows p) idle) (u.name ∷ value_words b u.value (words_of us))
+    go true flag =
+        let fine = flag_passes u.option now flag new in
+        let first = one_word name os (idle_held rows p) idle u.name _ (flag_word_passes name os u.option u.name rows p flag fits.0.listed form settles fine)
+        (flag_word_met os u.option u.name rows p flag fits.0.listed form) refl in
+        let rows2 : now ++ row_of_option u.option (codes "true") ∷ [] ≡ used (done_rule u.option) [] now =
+        sym (written_used u.option (codes "true") [] (by_flag flag) now ∙ used_fresh u.option (codes "true") now new) in
+        let fresh2 = subst (λ r. Fresh r us) rows2 (fresh_after now u us (codes "true") fresh) in
+        passes_on name os _ _ u.name (words_of us) first.0 first.1 (later (used (done_rule u.option) [] now) None refl fresh2 fits.1)
+    go false takes =
+        let fine = use_passes u.option u.value now takes new (in_range (number_from u.option) (number_up_to u.option) u.value fits.0.in_range) in
+        let first = one_word name os (idle_held rows p) idle u.name _ (name_fault name os u.option u.name rows p takes fits.0.listed form settles) (name_met os u.option u.name rows p takes fits.0.listed form) refl in
+        let h = idle_held now (Some (id_of u.option, [])) in
+        let second = one_word name os h (option (id_of u.option)) u.value _ (value_fault name os (id_of u.option) u.value h fits.0.plain) (value_met os (id_of u.option) u.value h fits.0.plain) refl in
+        let settles2 : settle_fault (done_rules os) false (idle_held now (Some (id_of u.option, u.value ∷ []))) ≡ [] =
+        ap (λ r. option_map_or (λ a. use_fault false a (u.value ∷ []) now) r []) by_id ∙ fine in
+        let rows2 : now ++ row_of_option u.option u.value ∷ [] ≡ used_by_id (arg_by_id (done_rules os) (id_of u.option)) (u.value ∷ []) now =
+        sym (ap (λ r. used_by_id r (u.value ∷ []) now) by_id ∙ used_fresh u.option u.value now new) in
+        let fresh2 = subst (λ r. Fresh r us) rows2 (fresh_after now u us u.value fresh) in
+        passes_on name os _ _ u.name (u.value ∷ words_of us) first.0 first.1
+        (passes_on name os _ _ u.value (words_of us) second.0 (second.1 ∙ value_state os u.option now u.value takes by_id)
+        (later now (Some (id_of u.option, u.value ∷ [])) settles2 fresh2 fits.1))
+
+uses_walk : (name : Text) (os : List CommandOption) (us : List Use) → Walks name os us
 unfolding walk_fault
 uses_walk name os [] rows p settles fresh fits = (refl, settles)
-uses_walk name os (u ∷ us) rows p settles fresh fits =
-    let now = (settled (done_rules os) (idle_held rows p)).rows in
-    let form = name_form u.option u.name fits.0.named in
-    let by_id = by_id_of u.option os fits.0.listed in
-    let new = not_yet now u us fresh in
-    let fine = use_passes u.option u.value now new (in_range (number_up_to u.option) u.value fits.0.in_range) in
-    let first = one_word name os (idle_held rows p) idle u.name _ (name_fault name os u.option u.name rows p fits.0.listed form settles) (name_met os u.option u.name rows p fits.0.listed form) refl in
-    let h = idle_held now (Some (id_of u.option, [])) in
-    let second = one_word name os h (option (id_of u.option)) u.value _ (value_fault name os (id_of u.option) u.value h fits.0.plain) (value_met os (id_of u.option) u.value h fits.0.plain) refl in
-    let settles2 : settle_fault (done_rules os) false (idle_held now (Some (id_of u.option, u.value ∷ []))) ≡ [] =
-    ap (λ r. option_map_or (λ a. use_fault false a (u.value ∷ []) now) r []) by_id ∙ fine in
-    let rows2 : now ++ row_of_option u.option u.value ∷ [] ≡ used_by_id (arg_by_id (done_rules os) (id_of u.option)) (u.value ∷ []) now =
-    sym (ap (λ r. used_by_id r (u.value ∷ []) now) by_id ∙ used_fresh u.option u.value now new) in
-    let fresh2 = subst (λ r. Fresh r us) rows2 (fresh_after now u us fresh) in
-    passes_on name os _ _ u.name (u.value ∷ words_of us) first.0 first.1
-    (passes_on name os _ _ u.value (words_of us) second.0 (second.1 ∙ value_state os u.option now u.value by_id)
-    (uses_walk name os us now (Some (id_of u.option, u.value ∷ [])) settles2 fresh2 fits.1))
+uses_walk name os (u ∷ us) rows p settles fresh fits = use_walks name os u us (uses_walk name os us) rows p settles fresh fits
 
 -- ---- after the walk
 
@@ -248,35 +345,59 @@ no_default_fault (x ∷ os) rs =
     ap₂ (λ b r. or_else (cond b [] (given_default_fault (done_rule x) [])) (defaults_fault r (done_rules os))) (or_true (has_row (id_of x) rs)) (same_rows (has_row (id_of x) rs) rs)
     ∙ no_default_fault os rs
 
-none_missing : (os : List CommandOption) (rs : List Row) → ((o : CommandOption) → IsListed o os → is_given (id_of o) rs ≡ true) → list_any (λ a. a.required && not (is_given a.id rs)) (done_rules os) ≡ false
+none_missing : (os : List CommandOption) (rs : List Row) → ((o : CommandOption) → IsListed o os → is_required o ≡ true → is_given (id_of o) rs ≡ true)
+    → list_any (λ a. a.required && not (is_given a.id rs)) (done_rules os) ≡ false
 none_missing [] rs given_all = refl
-none_missing (x ∷ os) rs given_all = ap (λ b. not b || list_any (λ a. a.required && not (is_given a.id rs)) (done_rules os)) (given_all x (inl refl))
+none_missing (x ∷ os) rs given_all =
+    ap (λ b. b || list_any (λ a. a.required && not (is_given a.id rs)) (done_rules os)) (go (is_required x) refl)
     ∙ none_missing os rs (λ o is. given_all o (inr is))
+  where
+    go : (b : Bool) → is_required x ≡ b → (b && not (is_given (id_of x) rs)) ≡ false
+    go true needed = ap not (given_all x (inl refl) needed)
+    go false needed = refl
 
-form_named : (o q : CommandOption) (d : Which q o) (word : Text) → NameForm q word → named o word ≡ mine d None
-form_named o q d word (long_form n e hit none no_dash) = long_is o q d word n None e hit
-form_named o q d word (short_form y no_long flags first rest hit none no_dash) =
+-- what a word that names q gives o
+abbrev alone_for : {q o : CommandOption} → Bool → Which q o → Option (Option Text)
+alone_for true d = mine d (Some (codes "true"))
+alone_for false d = mine d None
+
+form_spelled : (o q : CommandOption) (d : Which q o) (word : Text) → NameForm q word → spelled o word ≡ mine d None
+form_spelled o q d word (long_form n e hit none no_dash) = long_is o q d word n None e hit
+form_spelled o q d word (short_form y no_long flags first rest hit none no_dash) =
     short_is o q d word (y ∷ []) y no_long flags first hit ∙ ap (λ t. mine d (attached_value t)) rest
 
+form_named : (o q : CommandOption) (d : Which q o) (word : Text) → NameForm q word → (b : Bool) → is_flag q ≡ b → named o word ≡ alone_for b d
+form_named o q d word form true flag = flag_is o q d word flag (form_spelled o q d word form)
+form_named o q d word form false takes = value_is o q d word None takes (form_spelled o q d word form)
+
 plain_named : (o : CommandOption) (v : Text) → IsPlainValue v → named o v ≡ None
-plain_named o v is = let e = no_dashes v is in ap₂ (named_by o) e.0 e.1
+plain_named o v is = let e = no_dashes v is in unnamed o v (ap₂ (named_by o) e.0 e.1)
 
 given_once : (os : List CommandOption) (o : CommandOption) (us : List Use) → AreUses os us → uses_in o us ≡ 1 → is_some (given o (words_of us)) ≡ true
 given_once os o [] fits once = cc
-given_once os o (u ∷ us) fits once = go (differ u.option o) (form_named o u.option (differ u.option o) u.name (name_form u.option u.name fits.0.named)) (given_once os o us fits.1)
+given_once os o (u ∷ us) fits once =
+    go (is_flag u.option) (differ u.option o) (form_named o u.option (differ u.option o) u.name (name_form u.option u.name fits.0.named) (is_flag u.option) refl) (given_once os o us fits.1)
   where
-    go : (d : Which u.option o) → named o u.name ≡ mine d None → (uses_in o us ≡ 1 → is_some (given o (words_of us)) ≡ true) → is_some (given o (words_of (u ∷ us))) ≡ true
-    go (inl same) is later = ap (λ n. is_some (given_by n (u.value ∷ words_of us) (given o (u.value ∷ words_of us)))) is
-    go (inr d) is later = ap (λ n. is_some (given_by n (u.value ∷ words_of us) (given o (u.value ∷ words_of us)))) is
-        ∙ ap (λ n. is_some (given_by n (words_of us) (given o (words_of us)))) (plain_named o u.value fits.0.plain)
-        ∙ (let e : 0 + uses_in o us ≡ 1 = sym (ap (λ b. cond b 1 0 + uses_in o us) d.0) ∙ once in later (omega arith))
+    here : (rest : List Text) (later : Option Text) (n : Option (Option Text)) → named o u.name ≡ n → is_some (given_by n rest later) ≡ true → is_some (given_by (named o u.name) rest later) ≡ true
+    here rest later n e some = ap (λ m. is_some (given_by m rest later)) e ∙ some
+
+    count : (d : Differs u.option o) → uses_in o us ≡ 1
+    count d = let e : 0 + uses_in o us ≡ 1 = sym (ap (λ b. cond b 1 0 + uses_in o us) d.0) ∙ once in omega arith
+
+    go : (b : Bool) (d : Which u.option o) → named o u.name ≡ alone_for b d → (uses_in o us ≡ 1 → is_some (given o (words_of us)) ≡ true)
+        → is_some (given o (u.name ∷ value_words b u.value (words_of us))) ≡ true
+    go true (inl same) is later = here (words_of us) (given o (words_of us)) _ is refl
+    go false (inl same) is later = here (u.value ∷ words_of us) (given o (u.value ∷ words_of us)) _ is refl
+    go true (inr d) is later = here (words_of us) (given o (words_of us)) _ is (later (count d))
+    go false (inr d) is later = here (u.value ∷ words_of us) (given o (u.value ∷ words_of us)) _ is (ap (λ n. is_some (given_by n (words_of us) (given o (words_of us)))) (plain_named o u.value fits.0.plain) ∙ later (count d))
 
 some_given : (o : CommandOption) (rs : List Row) (s : Option Text) → is_some s ≡ true → Holds o rs s → is_given (id_of o) rs ≡ true
 some_given o rs None e h = absurd (true≢false (sym e))
 some_given o rs (Some v) e h = ap (λ r. option_map_or (λ (x : Row). explicit_source x.source) r false) h.0
 
 -- the words of a plain call pass their command
-pub leaf_passes : (name : Text) (os : List CommandOption) (us : List Use) → AreUses os us → ((o : CommandOption) → IsListed o os → uses_in o us ≡ 1) → ((o : CommandOption) → uses_in o us ≤ 1)
+pub leaf_passes : (name : Text) (os : List CommandOption) (us : List Use) → AreUses os us
+    → ((o : CommandOption) → IsListed o os → is_required o ≡ true → uses_in o us ≡ 1) → ((o : CommandOption) → uses_in o us ≤ 1)
     → level_fault (leaf_done name os) [] nothing_held (words_of us) false [] ≡ []
 leaf_passes name os us fits once most =
     let words = words_of us in
@@ -286,36 +407,9 @@ leaf_passes name os us fits once most =
     let holds : (o : CommandOption) → Holds o (settled (done_rules os) end).rows (given o words) = λ o. (walks name os o words).0 [] None None (λ _. (refl, tt)) pass.0 pass.1 in
     let done : (o : CommandOption) → Holds o (finished (done_rules os) end) (given o words) = λ o. subst (λ rs. Holds o rs (given o words)) (sym (no_default os (settled (done_rules os) end).rows)) (holds o) in
     let all_given : list_any (λ a. a.required && not (is_given a.id (finished (done_rules os) end))) (done_rules os) ≡ false =
-    none_missing os (finished (done_rules os) end) (λ o is. some_given o (finished (done_rules os) end) (given o words) (given_once os o us fits (once o is)) (done o)) in
+    none_missing os (finished (done_rules os) end) (λ o is needed. some_given o (finished (done_rules os) end) (given o words) (given_once os o us fits (once o is needed)) (done o)) in
     ap₂ or_else pass.0 (ap₂ or_else pass.1 (ap₂ or_else (no_default_fault os (settled (done_rules os) end).rows)
     (ap (λ b. cond b (kind.MissingRequiredArgument ∷ []) []) all_given)))
-
--- an option that the command lacks is not used
-pub used_in : (os : List CommandOption) (o : CommandOption) (us : List Use) → AreUses os us → (IsListed o os → ⊥) → uses_in o us ≡ 0
-used_in os o [] fits not_in = refl
-used_in os o (u ∷ us) fits not_in = go (differ u.option o) (used_in os o us fits.1 not_in)
-  where
-    go : Which u.option o → uses_in o us ≡ 0 → uses_in o (u ∷ us) ≡ 0
-    go (inl same) later = absurd (not_in (subst (λ x. IsListed x os) same fits.0.listed))
-    go (inr d) later = let e : uses_in o (u ∷ us) ≡ 0 + uses_in o us = ap (λ b. cond b 1 0 + uses_in o us) d.0 in e ∙ omega (arith, later)
-
-is_in_or_not : (o : CommandOption) (os : List CommandOption) → IsListed o os ⊎ (IsListed o os → ⊥)
-is_in_or_not o [] = inr (λ none. none)
-is_in_or_not o (x ∷ os) = go (differ x o) (is_in_or_not o os)
-  where
-    go : Which x o → IsListed o os ⊎ (IsListed o os → ⊥) → ((x ≡ o) ⊎ IsListed o os) ⊎ (((x ≡ o) ⊎ IsListed o os) → ⊥)
-    go (inl same) later = inl (inl same)
-    go (inr d) (inl is) = inl (inr is)
-    go (inr d) (inr not_in) = inr (λ either. elim either [
-      | inl same ↦ true≢false (sym (ap (λ y. bytes_eq (id_of y) (id_of o)) same ∙ bytes_same (id_of o)) ∙ d.0)
-      | inr is ↦ not_in is
-    ])
-
-pub at_most_once : (os : List CommandOption) (us : List Use) → AreUses os us → ((o : CommandOption) → IsListed o os → uses_in o us ≡ 1) → (o : CommandOption) → uses_in o us ≤ 1
-at_most_once os us fits once o = elim (is_in_or_not o os) [
-  | inl is ↦ let e = once o is in omega arith
-  | inr not_in ↦ let e = used_in os o us fits not_in in omega arith
-]
 
 -- ---- the whole command line
 
@@ -372,6 +466,11 @@ pub call_passes : (words : List Text) → IsPlainCall words → fault_of app wor
 call_passes words h =
     let os = options_of h.name in
     let uses = are_uses os h.uses h.uses_options in
-    let once : (o : CommandOption) → IsListed o os → uses_in o h.uses ≡ 1 = λ o is. uses_in-uses_of o h.uses ∙ h.once o (contains os o is) in
+    let once : (o : CommandOption) → IsListed o os → is_required o ≡ true → uses_in o h.uses ≡ 1 = λ o is needed. uses_in-uses_of o h.uses ∙ h.required o (contains os o is) needed in
+    let most : (o : CommandOption) → uses_in o h.uses ≤ 1 = λ o. subst (λ n. n ≤ 1) (sym (uses_in-uses_of o h.uses)) (h.once o) in
     ap (fault_of app) h.words_are
-    ∙ app_passes h.program h.name (words_of h.uses) (leaf_passes (word_of h.name) os h.uses uses once (at_most_once os h.uses uses once))
+    ∙ app_passes h.program h.name (words_of h.uses) (leaf_passes (word_of h.name) os h.uses uses once most)
+
+-- and the options of rows in it agree
+pub call_agrees : (words : List Text) → IsPlainCall words → rows_agree (λ o. own.given o (drop 2 words)) ≡ true
+call_agrees words h = ap (λ w. rows_agree (λ o. own.given o (drop 2 w))) h.words_are ∙ h.agree

@@ -1,5 +1,5 @@
 -- From a parse that succeeds to what the words ask for.
-use Rattle.std.proofs.Common.{◌≡◌, ◌∙◌, true, false, refl, sym, ap, ap₂, subst, List, [], ◌∷◌, drop, Option, Some, None, inl, inr}
+use Rattle.std.proofs.Common.{◌≡◌, ◌∙◌, true, false, refl, sym, ap, ap₂, subst, List, [], ◌∷◌, ◌||◌, drop, is_some, Option, Some, None, inl, inr}
 use Rattle.std.specs.Prelude.{Box, option_map, option_and_then, slice_get}
 use Rattle.std.specs.Box.{box_value}
 use Rattle.clap.specs.Kinds.{HasKind, IsAmong}
@@ -17,18 +17,25 @@ use Rattle.clap.specs.declared.parser.matches.ArgMatches.TheViews.{out-ArgMatche
 use Rattle.clap.specs.declared.parser.matches.Found.{Found}
 use Rattle.clap.specs.declared.parser.matches.SubCommand.{SubCommand}
 use Rattle.h3_words.specs.Commands.{app, name_of_command, word_of, options_of}
-use Rattle.h3_words.specs.Faults.{IsFaultOf, IsReportedAs}
+use Rattle.h3_words.specs.Faults.{IsFaultOf, IsRefusalOf, IsReportedAs}
 use Rattle.h3_words.specs.Given.{given}
-use Rattle.h3_words.proofs.Uses.{IsListed, listed_of}
+use Rattle.h3_words.proofs.Uses.{listed_of}
 use Rattle.h3_words.specs.Options.{id_of, parser_done}
-use Rattle.h3_words.specs.Values.{AreFound, HasFile, HasValues, AsksFor}
+use Rattle.h3_words.specs.Values.{AreFound, IsAccepted, HasFile, HasValues, AsksFor}
 use Rattle.h3_words.specs.declared.words.Words.{Words}
 use Rattle.h3_words.specs.declared.words.WordsFault.{WordsFault}
 use Rattle.h3_words.specs.declared.words.WordsFault.TheVariants.{Help, Version, Usage, Memory}
 use Rattle.h3_words.specs.declared.options.CommandOption.{CommandOption}
 use Rattle.h3_words.specs.declared.commands.CommandName.{CommandName}
+use Rattle.h3_words.proofs.Lexed as lexed
 use Rattle.h3_words.proofs.Lexed.{given_same}
-use Rattle.h3_words.proofs.Leaf.{Reads, leaf_reads}
+use Rattle.h3_words.proofs.Leaf.{Passes, Reads, leaf_reads, row_of_option}
+use Rattle.h3_words.specs.Rows.{HasRows, IsCellField, Texts, default_separator, found_texts, named_separator, rows_agree}
+use Rattle.h3_words.specs.declared.options.CommandOption.TheVariants.{Field, Column, Header, Separator, Csv, As, KeepGoing}
+use Rattle.h3_requests.specs.declared.rows.CellField.{CellField}
+use Rattle.h3_requests.specs.declared.rows.CellField.TheVariants as field
+use Rattle.h3_requests.specs.declared.rows.RowOptions.{RowOptions}
+use Rattle.std.specs.Option.{option_map_or}
 use Rattle.h3_words.proofs.Top.{app_enters, app_is_simple}
 
 is_simple_app : is_simple app ≡ true
@@ -78,15 +85,22 @@ module _ {Z : Type 0} where
 name_by_rows : (m : ArgMatches) (name : Text) (rows : List Row) → subcommand_rows_of m ≡ Some (name, rows) → subcommand_name_of m ≡ Some name
 name_by_rows m name rows e = name_rows (out-ArgMatches m).subcommand name rows e
 
+accepted_by : (o : CommandOption) (s : Option Text) → Passes o s → IsAccepted o s
+accepted_by o None passes = tt
+accepted_by o (Some v) passes = accepts-Accepts false (parser_done o) v passes
+
+first_in : (o : CommandOption) (s : Option Text) → option_and_then (λ (x : Row). slice_get x.values 0) (option_map (row_of_option o) s) ≡ s
+first_in o None = refl
+first_in o (Some v) = refl
+
 reads_found : (k : CommandName) (rest : List Text) (found : Found) (rows : List Row) → rows_of found ≡ rows
-    → ((o : CommandOption) → IsListed o (options_of k) → Reads o rest rows) → AreFound k (λ o. given o rest) found
-reads_found k rest found rows same reads o is =
-    let r = reads o (listed_of (options_of k) o is) in (
-      r.0,
-      given_same o rest ∙ r.1,
-      first_value-rows found (id_of o) ∙ ap (first_of (id_of o)) same ∙ ap (option_and_then (λ (x : Row). slice_get x.values 0)) r.3,
-      accepts-Accepts false (parser_done o) r.0 r.2,
-    )
+    → ((o : CommandOption) → Reads (options_of k) o rest rows) → AreFound k (λ o. given o rest) found
+reads_found k rest found rows same reads o = record {
+  same = first_value-rows found (id_of o) ∙ ap (first_of (id_of o)) same ∙ ap (option_and_then (λ (x : Row). slice_get x.values 0)) (reads o).holds.0
+      ∙ first_in o (lexed.given o rest) ∙ sym (given_same o rest);
+  accepted = subst (IsAccepted o) (sym (given_same o rest)) (accepted_by o (lexed.given o rest) (reads o).holds.1);
+  wanted = λ is needed. ap is_some (given_same o rest) ∙ (reads o).wanted (listed_of (options_of k) o is) needed;
+}
 
 pub met : (a : App) (ws given_words : List Text) (m : ArgMatches) (name : Text) (found : Found) → a ≡ app → given_words ≡ ws
     → (is_simple_and_free a ≡ true → fault_of a given_words ≡ []) → HasMatchesOf a given_words m
@@ -111,12 +125,59 @@ second (program ∷ ws) name rest e = (ap (λ t. slice_get t 0) e, ap (drop 1) e
 -- the command that the parse met, with its values, is what the words ask for
 pub asks_for : (ws : List Text) (name : Text) (found : Found) (m : Met ws name found) {k : CommandName} → m.0 ≡ k → (asked : Words) → name_of_command asked.command ≡ k
     → ((text : CommandOption → Option Text) → AreFound k text found → HasValues text asked.command)
-    → ((text : CommandOption → Option Text) → AreFound k text found → HasFile text k asked.file) → AsksFor ws asked
-asks_for ws name found m {k} same asked is has names =
+    → ((text : CommandOption → Option Text) → AreFound k text found → HasFile text k asked.file)
+    → ((text : CommandOption → Option Text) → AreFound k text found → HasRows text asked.rows) → AsksFor ws asked
+asks_for ws name found m {k} same asked is has names rows_are =
     let two = second ws (word_of m.0) m.1 m.2 in
     let are_found = subst (λ x. AreFound x (λ o. given o m.1) found) same m.4 in record {
       command = two.0 ∙ ap (λ x. Some (word_of x)) (same ∙ sym is);
       values = subst (λ rest. HasValues (λ o. given o rest) asked.command) (sym two.1) (has (λ o. given o m.1) are_found);
       file = subst (λ rest. HasFile (λ o. given o rest) (name_of_command asked.command) asked.file) (sym two.1)
           (subst (λ x. HasFile (λ o. given o m.1) x asked.file) (sym is) (names (λ o. given o m.1) are_found));
+      rows = subst (λ rest. HasRows (λ o. given o rest) asked.rows) (sym two.1) (rows_are (λ o. given o m.1) are_found);
     }
+
+-- ---- the options of rows
+
+-- two readings of the texts that give each option of rows the same
+abbrev pub Alike : Texts → Texts → Type 0
+Alike f g = (o : CommandOption) → f o ≡ g o
+
+pub agree_alike : (f g : Texts) → Alike f g → rows_agree f ≡ rows_agree g
+agree_alike f g e = rw (e Field, e Column, e Header, e Separator, e Csv, e As, e KeepGoing) refl
+
+pub rows_alike : (f g : Texts) → Alike f g → (rows : Option RowOptions) → HasRows f rows → HasRows g rows
+rows_alike f g e None has = (sym (e Field) ∙ has.0, sym (e Column) ∙ has.1)
+rows_alike f g e (Some rows) has = record {
+  field = cell (rows.field) has.field;
+  header = has.header ∙ ap₂ (λ a b. is_some a || is_some b) (e Column) (e Header);
+  separator = has.separator ∙ ap₂ (λ s c. option_map_or named_separator s (Some (default_separator (is_some c)))) (e Separator) (e Csv);
+  quotes = has.quotes ∙ ap is_some (e Csv);
+  name = has.name ∙ e As;
+  keeps_going = has.keeps_going ∙ ap is_some (e KeepGoing);
+}
+  where
+    cell : (c : CellField) → IsCellField f c → IsCellField g c
+    cell (field.Number n) is = (is.0, sym (e Field) ∙ is.1, is.2, is.3)
+    cell (field.Column name) is = sym (e Column) ∙ is
+
+-- what a parse that met a command found is what the words give
+texts_alike : (ws : List Text) (name : Text) (found : Found) (m : Met ws name found) → Alike (found_texts found) (λ o. given o (drop 2 ws))
+texts_alike ws name found m o = (m.4 o).same ∙ ap (given o) (sym (second ws (word_of m.0) m.1 m.2).1)
+
+pub agree_found : (ws : List Text) (name : Text) (found : Found) (m : Met ws name found) → rows_agree (found_texts found) ≡ rows_agree (λ o. given o (drop 2 ws))
+agree_found ws name found m = agree_alike (found_texts found) (λ o. given o (drop 2 ws)) (texts_alike ws name found m)
+
+-- options of rows that are what a parse found are what each text says that it found
+pub rows_are : (k : CommandName) (found : Found) (rows : Option RowOptions) → rows_agree (found_texts found) ≡ true
+    → (rows_agree (found_texts found) ≡ true → IsAccepted Field (found_texts found Field) → HasRows (found_texts found) rows)
+    → (text : CommandOption → Option Text) → AreFound k text found → HasRows text rows
+rows_are k found rows agree has text are = rows_alike (found_texts found) text (λ o. (are o).same) rows
+    (has agree (subst (IsAccepted Field) (sym (are Field).same) (are Field).accepted))
+
+-- what is reported of the parse is a refusal of the words
+pub refused : (ws : List Text) (f : WordsFault) → IsFaultOf (fault_of app ws) f → IsRefusalOf ws f
+refused ws (Help text) fault = fault
+refused ws (Usage text) fault = inl fault
+refused ws Version fault = fault
+refused ws Memory fault = fault

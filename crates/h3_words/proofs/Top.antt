@@ -95,8 +95,8 @@ none_case : (ks : List CommandName) (word : Text) (rest : List Text) (m : Held �
     → step_fault top_done 1 m.0 m.1 ≡ []
     → walk_fault top_done (names_of (app_done ks)) (after_step (done_rules []) word (at_word (idle_held [] None) idle) m.0 m.1) rest ≡ []
     → ((fold (walked (done_rules []) (names_of (app_done ks))) (after_step (done_rules []) word (at_word (idle_held [] None) idle) m.0 m.1) rest).stopped ≡ None → ⊥) → ⊥
-none_case ks word rest _ (attached q v by_id settles uses is) step f enters = no_option_at_top q by_id
-none_case ks word rest _ (alone q by_id settles is) step f enters = no_option_at_top q by_id
+none_case ks word rest _ (attached q v vs written by_id settles uses is) step f enters = no_option_at_top q by_id
+none_case ks word rest _ (alone q plain by_id settles is) step f enters = no_option_at_top q by_id
 none_case ks word [] _ (dashes is) step f enters = enters refl
 none_case ks word (x ∷ rest) _ (dashes is) step f enters = trailing_top ks x rest f
 none_case ks word rest _ (other is) step f enters = cons_nil kind.UnknownArgument (kind.InvalidSubcommand ∷ []) step

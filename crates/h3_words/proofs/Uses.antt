@@ -6,7 +6,7 @@ use Rattle.std.specs.Str.{bytes_eq}
 use Rattle.std.proofs.lemmas.List.Elements.{All-nil, All-cons, All-head, All-tail, All-weaker, All-contains, Contains-append_right, Contains-get_or}
 use Rattle.std.proofs.lemmas.List.Recursion.{is_count_by}
 use Rattle.h3_words.specs.Call.{IsUse, IsPlainValue, Use, names_for, uses_of}
-use Rattle.h3_words.specs.Options.{IsUpTo, id_of, number_up_to}
+use Rattle.h3_words.specs.Options.{IsInRange, id_of}
 use Rattle.h3_words.specs.declared.options.CommandOption.{CommandOption}
 
 -- x is in the list
@@ -32,7 +32,7 @@ pub record Fits (os : List CommandOption) (u : Use) : Type 0 where
   pub listed : IsListed u.option os
   pub named : IsListed u.name (names_for u.option)
   pub plain : IsPlainValue u.value
-  pub in_range : IsUpTo (number_up_to u.option) u.value
+  pub in_range : IsInRange u.option u.value
 
 abbrev pub AreUses : List CommandOption → List Use → Type 0
 AreUses os [] = ⊤

@@ -1,10 +1,13 @@
--- A plain call: the program's name, a command's name, and then each option of the command once, in any order,
--- its name and its value in two words.
-use Rattle.std.specs.Prelude.{◌≡◌, ◌≢◌, ◌++◌, ◌∷◌, ℕ, List, [], codes, All, Contains, count_by, filter_map, option_map}
+-- A plain call: the program's name, a command's name, and then options of the command in any order, none twice: each
+-- that it requires, and of the others such as go together. Each has its name and its value in two words, and a flag its
+-- name alone.
+use Rattle.std.specs.Prelude.{◌≡◌, ◌≢◌, ◌≤◌, ◌++◌, ◌∷◌, ℕ, Bool, true, false, List, [], codes, All, Contains, count_by, filter_map, option_map}
 use Rattle.std.specs.Str.{bytes_eq}
 use Rattle.clap.specs.Words.{Text}
 use Rattle.h3_words.specs.Commands.{options_of, word_of}
-use Rattle.h3_words.specs.Options.{IsUpTo, id_of, long_name, number_up_to, short_name}
+use Rattle.h3_words.specs.Options.{IsInRange, id_of, is_flag, is_required, long_name, short_name}
+use Rattle.h3_words.specs.Given.{given}
+use Rattle.h3_words.specs.Rows.{rows_agree}
 use Rattle.h3_words.specs.declared.options.CommandOption.{CommandOption}
 use Rattle.h3_words.specs.declared.commands.CommandName.{CommandName}
 
@@ -18,16 +21,21 @@ abbrev pub IsPlainValue : Text → Type 0
 IsPlainValue [] = ⊥
 IsPlainValue (b ∷ bs) = b ≢ 45
 
--- an option, the word that names it, and its value
+-- an option, the word that names it, and its value, which is not written for a flag
 pub record Use : Type 0 where
   pub option : CommandOption
   pub name : Text
   pub value : Text
 
--- the words of the uses, two for each
+-- the value's word, and none for a flag, before further words
+abbrev pub value_words : Bool → Text → List Text → List Text
+value_words true value rest = rest
+value_words false value rest = value ∷ rest
+
+-- the words of the uses: two for each, and one for a flag
 abbrev pub words_of : List Use → List Text
 words_of [] = []
-words_of (u ∷ us) = u.name ∷ u.value ∷ words_of us
+words_of (u ∷ us) = u.name ∷ value_words (is_flag u.option) u.value (words_of us)
 
 -- how often the option is used; options are compared by their ids
 abbrev pub uses_of : CommandOption → List Use → ℕ
@@ -38,13 +46,16 @@ pub record IsUse (os : List CommandOption) (u : Use) : Type 0 where
   pub listed : Contains os u.option
   pub named : Contains (names_for u.option) u.name
   pub plain : IsPlainValue u.value
-  pub in_range : IsUpTo (number_up_to u.option) u.value
+  pub in_range : IsInRange u.option u.value
 
--- IsPlainCall words: a command and its options, each once, each name and value in two words, each value in range
+-- IsPlainCall words: a command and some of its options, those that it requires among them, none twice, each value in
+-- range, and those of rows such as agree
 pub record IsPlainCall (words : List Text) : Type 0 where
   pub program : Text
   pub name : CommandName
   pub uses : List Use
   pub words_are : words ≡ program ∷ word_of name ∷ words_of uses
   pub uses_options : All (IsUse (options_of name)) uses
-  pub once : (o : CommandOption) → Contains (options_of name) o → uses_of o uses ≡ 1
+  pub required : (o : CommandOption) → Contains (options_of name) o → is_required o ≡ true → uses_of o uses ≡ 1
+  pub once : (o : CommandOption) → uses_of o uses ≤ 1
+  pub agree : rows_agree (λ o. given o (words_of uses)) ≡ true

@@ -9,7 +9,7 @@ use Rattle.h3_requests.specs.declared.command.CellFunction.TheVariants as each
 use Rattle.h3_requests.specs.declared.command.Command.{Command}
 use Rattle.h3_requests.specs.declared.command.Command.TheVariants as command
 use Rattle.h3_words.specs.declared.options.CommandOption.{CommandOption}
-use Rattle.h3_words.specs.declared.options.CommandOption.TheVariants.{Cell, Resolution, Radius, To, Position, Edge, Table, Region, Zones}
+use Rattle.h3_words.specs.declared.options.CommandOption.TheVariants.{Cell, Resolution, Radius, To, Position, Edge, Table, Region, Zones, Field, Column, Header, Separator, Csv, As, KeepGoing}
 use Rattle.h3_words.specs.declared.commands.CommandName.{CommandName}
 use Rattle.h3_words.specs.declared.commands.CommandName.TheVariants as name
 
@@ -30,6 +30,10 @@ command_names =
 pub record Entry : Type 0 where
   pub word : Text
   pub options : List CommandOption
+
+-- the options of each command that answers its list line by line: how its rows are read and written
+abbrev pub line_options : List CommandOption
+line_options = Field ∷ Column ∷ Header ∷ Separator ∷ Csv ∷ As ∷ KeepGoing ∷ []
 
 -- entry_of name: the word that names a command, and its options
 abbrev pub entry_of : CommandName → Entry
@@ -54,8 +58,8 @@ entry_of name.UncompactCellsSize = record { word = codes "uncompactCellsSize"; o
 entry_of name.UniteCells = record { word = codes "uniteCells"; options = [] }
 entry_of name.IntersectCells = record { word = codes "intersectCells"; options = Region ∷ [] }
 entry_of name.SubtractCells = record { word = codes "subtractCells"; options = Region ∷ [] }
-entry_of name.AreCoveredCells = record { word = codes "areCoveredCells"; options = Region ∷ [] }
-entry_of name.CellsToZones = record { word = codes "cellsToZones"; options = Zones ∷ [] }
+entry_of name.AreCoveredCells = record { word = codes "areCoveredCells"; options = Region ∷ line_options }
+entry_of name.CellsToZones = record { word = codes "cellsToZones"; options = Zones ∷ line_options }
 entry_of name.CountCellsInZones = record { word = codes "countCellsInZones"; options = Zones ∷ [] }
 entry_of name.GridDiskUnsafe = record { word = codes "gridDiskUnsafe"; options = Cell ∷ Radius ∷ Table ∷ [] }
 entry_of name.GridDiskDistancesUnsafe = record { word = codes "gridDiskDistancesUnsafe"; options = Cell ∷ Radius ∷ Table ∷ [] }
@@ -66,19 +70,19 @@ entry_of name.IsValidDirectedEdge = record { word = codes "isValidDirectedEdge";
 entry_of name.GetDirectedEdgeOrigin = record { word = codes "getDirectedEdgeOrigin"; options = Edge ∷ [] }
 entry_of name.GetDirectedEdgeDestination = record { word = codes "getDirectedEdgeDestination"; options = Edge ∷ Table ∷ [] }
 entry_of name.OriginToDirectedEdges = record { word = codes "originToDirectedEdges"; options = Cell ∷ [] }
-entry_of name.AreValidCells = record { word = codes "areValidCells"; options = [] }
-entry_of name.AreValidDirectedEdges = record { word = codes "areValidDirectedEdges"; options = [] }
-entry_of name.GetResolutions = record { word = codes "getResolutions"; options = [] }
-entry_of name.GetBaseCellNumbers = record { word = codes "getBaseCellNumbers"; options = [] }
-entry_of name.ArePentagons = record { word = codes "arePentagons"; options = [] }
-entry_of name.AreResClassIII = record { word = codes "areResClassIII"; options = [] }
-entry_of name.CellsToParents = record { word = codes "cellsToParents"; options = Resolution ∷ [] }
-entry_of name.CellsToCenterChildren = record { word = codes "cellsToCenterChildren"; options = Resolution ∷ [] }
-entry_of name.CellsToLastChildren = record { word = codes "cellsToLastChildren"; options = Resolution ∷ [] }
-entry_of name.CellsToChildrenSizes = record { word = codes "cellsToChildrenSizes"; options = Resolution ∷ [] }
-entry_of name.CellsToChildPositions = record { word = codes "cellsToChildPositions"; options = Resolution ∷ [] }
-entry_of name.GetDirectedEdgeOrigins = record { word = codes "getDirectedEdgeOrigins"; options = [] }
-entry_of name.OriginsToDirectedEdges = record { word = codes "originsToDirectedEdges"; options = [] }
+entry_of name.AreValidCells = record { word = codes "areValidCells"; options = line_options }
+entry_of name.AreValidDirectedEdges = record { word = codes "areValidDirectedEdges"; options = line_options }
+entry_of name.GetResolutions = record { word = codes "getResolutions"; options = line_options }
+entry_of name.GetBaseCellNumbers = record { word = codes "getBaseCellNumbers"; options = line_options }
+entry_of name.ArePentagons = record { word = codes "arePentagons"; options = line_options }
+entry_of name.AreResClassIII = record { word = codes "areResClassIII"; options = line_options }
+entry_of name.CellsToParents = record { word = codes "cellsToParents"; options = Resolution ∷ line_options }
+entry_of name.CellsToCenterChildren = record { word = codes "cellsToCenterChildren"; options = Resolution ∷ line_options }
+entry_of name.CellsToLastChildren = record { word = codes "cellsToLastChildren"; options = Resolution ∷ line_options }
+entry_of name.CellsToChildrenSizes = record { word = codes "cellsToChildrenSizes"; options = Resolution ∷ line_options }
+entry_of name.CellsToChildPositions = record { word = codes "cellsToChildPositions"; options = Resolution ∷ line_options }
+entry_of name.GetDirectedEdgeOrigins = record { word = codes "getDirectedEdgeOrigins"; options = line_options }
+entry_of name.OriginsToDirectedEdges = record { word = codes "originsToDirectedEdges"; options = line_options }
 
 -- the word that names the command
 abbrev pub word_of : CommandName → Text

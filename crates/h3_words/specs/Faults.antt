@@ -1,8 +1,11 @@
 -- The errors of parsing the words.
-use Rattle.std.specs.Prelude.{⊤, ◌≡◌, ◌≢◌}
-use Rattle.clap.specs.Words.{IsAmong, Kinds}
+use Rattle.std.specs.Prelude.{⊤, ◌≡◌, ◌≢◌, ◌⊎◌, false, List, [], drop}
+use Rattle.clap.specs.Words.{IsAmong, Kinds, Text, fault_of}
 use Rattle.clap.specs.declared.error.kind.ErrorKind.{ErrorKind}
 use Rattle.clap.specs.declared.error.kind.ErrorKind.TheVariants.{DisplayHelp, OutOfMemory}
+use Rattle.h3_words.specs.Commands.{app}
+use Rattle.h3_words.specs.Given.{given}
+use Rattle.h3_words.specs.Rows.{rows_agree}
 use Rattle.h3_words.specs.declared.words.WordsFault.{WordsFault}
 use Rattle.h3_words.specs.declared.words.WordsFault.TheVariants.{Help, Version, Usage, Memory}
 
@@ -24,3 +27,12 @@ IsFaultOf kinds (Help text) = IsAmong DisplayHelp kinds
 IsFaultOf kinds Version = ⊥
 IsFaultOf kinds (Usage text) = (kind : ErrorKind) × IsAmong kind kinds × (kind ≢ DisplayHelp)
 IsFaultOf kinds Memory = ⊤
+
+-- IsRefusalOf words fault: what is reported fits the words
+--
+-- it fits the errors that the first step that fails of the parse may give; or it is an invalid command line, no step
+-- fails, and the options of rows do not agree
+abbrev pub IsRefusalOf : List Text → WordsFault → Type 0
+IsRefusalOf words (Usage text) = IsFaultOf (fault_of app words) (Usage text)
+    ⊎ ((fault_of app words ≡ []) × (rows_agree (λ o. given o (drop 2 words)) ≡ false))
+IsRefusalOf words fault = IsFaultOf (fault_of app words) fault

@@ -1,9 +1,9 @@
 -- What the words after a command's name give an option.
-use Rattle.std.specs.Prelude.{◌==◌, ◌++◌, ℕ, List, [], ◌∷◌, Option, Some, None, drop, slice_get, option_and_then, codes, if◌then◌else◌}
+use Rattle.std.specs.Prelude.{◌==◌, ◌++◌, ℕ, Bool, true, false, List, [], ◌∷◌, Option, Some, None, drop, slice_get, option_and_then, codes, if◌then◌else◌}
 use Rattle.std.specs.Option.{option_map_or, option_or}
 use Rattle.std.specs.Str.{chars}
 use Rattle.clap.specs.Words.{Text}
-use Rattle.h3_words.specs.Options.{long_name, short_name}
+use Rattle.h3_words.specs.Options.{is_flag, long_name, short_name}
 use Rattle.h3_words.specs.declared.options.CommandOption.{CommandOption}
 
 -- the rest of the word after a prefix, if it has that prefix
@@ -37,8 +37,18 @@ by_short None word = None
 by_short (Some c) word = option_and_then (by_character c) (after (codes "-") word)
 
 -- the word names the option by its long name or by its short one: the value in the word, if any
+abbrev pub by_name : CommandOption → Text → Option (Option Text)
+by_name o word = option_or (by_long (long_name o) word) (by_short (short_name o) word)
+
+-- a flag takes no value: where a word names it alone, it has the text `true`, and no other word names it
+abbrev pub with_true : Bool → Option (Option Text) → Option (Option Text)
+with_true true (Some None) = Some (Some (codes "true"))
+with_true true value = None
+with_true false value = value
+
+-- the word names the option: the value in the word, if any, and that of a flag
 abbrev pub named : CommandOption → Text → Option (Option Text)
-named o word = option_or (by_long (long_name o) word) (by_short (short_name o) word)
+named o word = with_true (is_flag o) (by_name o word)
 
 -- the value in a word that names the option, or else the next word; where the word does not name it, what the later
 -- words give
@@ -47,7 +57,7 @@ given_by None rest later = later
 given_by (Some None) rest later = slice_get rest 0
 given_by (Some (Some v)) rest later = Some v
 
--- given o words: the word that an option is given
+-- given o words: the word that an option is given, and `true` for a flag that is given
 abbrev pub given : CommandOption → List Text → Option Text
 given o [] = None
 given o (word ∷ rest) = given_by (named o word) rest (given o rest)

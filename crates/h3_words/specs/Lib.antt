@@ -4,5 +4,6 @@ pub mod Faults
 pub mod Given
 pub mod Options
 pub mod Parse
+pub mod Rows
 pub mod Values
 pub mod Version

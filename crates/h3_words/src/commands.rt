@@ -12,7 +12,8 @@ ghost use Rattle.h3_words.specs.declared.options.CommandOption.TheVariants.{Posi
 use crate::help::HELP;
 use crate::options::CommandFile;
 use crate::options::CommandOption::{
-    self, Cell, Edge, Position, Radius, Region, Resolution, Table, To, Zones,
+    self, As, Cell, Column, Csv, Edge, Field, Header, KeepGoing, Position, Radius, Region,
+    Resolution, Separator, Table, To, Zones,
 };
 use clap::{ArgMatches, Command as Parser};
 use h3_requests::{CellFunction, Command};
@@ -128,6 +129,13 @@ struct Entry {
     options: &'static [CommandOption],
 }
 
+// These options, and those of a command that answers its list line by line.
+macro_rules! with_line_options {
+    ($($own:ident)?) => {
+        &[$($own,)? Field, Column, Header, Separator, Csv, As, KeepGoing]
+    };
+}
+
 // A command with the values of these options, each asked for by what has the name of its field.
 macro_rules! asked {
     ($command:ident, $($field:ident),+) => {
@@ -228,11 +236,11 @@ impl CommandName {
             },
             CommandName::AreCoveredCells => Entry {
                 word: "areCoveredCells",
-                options: &[Region],
+                options: with_line_options!(Region),
             },
             CommandName::CellsToZones => Entry {
                 word: "cellsToZones",
-                options: &[Zones],
+                options: with_line_options!(Zones),
             },
             CommandName::CountCellsInZones => Entry {
                 word: "countCellsInZones",
@@ -276,55 +284,55 @@ impl CommandName {
             },
             CommandName::AreValidCells => Entry {
                 word: "areValidCells",
-                options: &[],
+                options: with_line_options!(),
             },
             CommandName::AreValidDirectedEdges => Entry {
                 word: "areValidDirectedEdges",
-                options: &[],
+                options: with_line_options!(),
             },
             CommandName::GetResolutions => Entry {
                 word: "getResolutions",
-                options: &[],
+                options: with_line_options!(),
             },
             CommandName::GetBaseCellNumbers => Entry {
                 word: "getBaseCellNumbers",
-                options: &[],
+                options: with_line_options!(),
             },
             CommandName::ArePentagons => Entry {
                 word: "arePentagons",
-                options: &[],
+                options: with_line_options!(),
             },
             CommandName::AreResClassIII => Entry {
                 word: "areResClassIII",
-                options: &[],
+                options: with_line_options!(),
             },
             CommandName::CellsToParents => Entry {
                 word: "cellsToParents",
-                options: &[Resolution],
+                options: with_line_options!(Resolution),
             },
             CommandName::CellsToCenterChildren => Entry {
                 word: "cellsToCenterChildren",
-                options: &[Resolution],
+                options: with_line_options!(Resolution),
             },
             CommandName::CellsToLastChildren => Entry {
                 word: "cellsToLastChildren",
-                options: &[Resolution],
+                options: with_line_options!(Resolution),
             },
             CommandName::CellsToChildrenSizes => Entry {
                 word: "cellsToChildrenSizes",
-                options: &[Resolution],
+                options: with_line_options!(Resolution),
             },
             CommandName::CellsToChildPositions => Entry {
                 word: "cellsToChildPositions",
-                options: &[Resolution],
+                options: with_line_options!(Resolution),
             },
             CommandName::GetDirectedEdgeOrigins => Entry {
                 word: "getDirectedEdgeOrigins",
-                options: &[],
+                options: with_line_options!(),
             },
             CommandName::OriginsToDirectedEdges => Entry {
                 word: "originsToDirectedEdges",
-                options: &[],
+                options: with_line_options!(),
             },
         }
     }

@@ -376,7 +376,11 @@ impl CommandName {
             CommandName::GetBaseCellNumbers => notes!(list cell, "h3 getBaseCellNumbers < cells"),
             CommandName::ArePentagons => notes!(list cell, "h3 arePentagons < cells"),
             CommandName::AreResClassIII => notes!(list cell, "h3 areResClassIII < cells"),
-            CommandName::CellsToParents => notes!(list ancestor, "h3 cellsToParents -r 4 < cells"),
+            CommandName::CellsToParents => notes!(
+                list ancestor,
+                "h3 cellsToParents -r 4 < cells\n\
+                Of a CSV file: h3 cellsToParents -r 4 --csv --column cell < trips.csv"
+            ),
             CommandName::CellsToCenterChildren => notes!(
                 list descendants,
                 "h3 cellsToCenterChildren -r 6 < cells"
@@ -446,6 +450,11 @@ impl CommandName {
             CommandName::OriginsToDirectedEdges => Some("h3 originsToDirectedEdges < cells"),
             _ => None,
         }
+    }
+
+    /// The usage of a command that reads a list, and of any other its word.
+    pub(crate) fn list_usage<'a>(self) -> &'a str {
+        self.usage().unwrap_or(self.word())
     }
 
     /// The command with its texts of help, and without its options.

@@ -5,6 +5,7 @@
 mod commands;
 mod help;
 mod options;
+mod rows;
 mod words;
 
 pub use options::CommandFile;

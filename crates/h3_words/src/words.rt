@@ -1,18 +1,21 @@
 //! The words of a command line.
 
-ghost use Rattle.std.specs.Prelude.{◌≡◌, [], true, false, Err, IfOk, IfErr, OnOk, map, string_bytes};
+ghost use Rattle.std.specs.Prelude.{◌≡◌, [], true, false, drop, Err, IfOk, IfErr, OnOk, map, string_bytes};
 ghost use Rattle.clap.specs.Words.{fault_of, kind_of};
 ghost use Rattle.h3_words.specs.Call.{IsPlainCall};
 ghost use Rattle.h3_words.specs.Commands.{app};
-ghost use Rattle.h3_words.specs.Faults.{IsFaultOf, IsReportedAs};
+ghost use Rattle.h3_words.specs.Faults.{IsRefusalOf, IsReportedAs};
+ghost use Rattle.h3_words.specs.Given.{given};
+ghost use Rattle.h3_words.specs.Rows.{rows_agree};
 ghost use Rattle.h3_words.specs.Values.{AsksFor};
 ghost use Rattle.h3_words.specs.Version.{asks_version};
 ghost use Rattle.h3_words.specs.declared.words.WordsFault.TheVariants.{Memory, Version};
 
 use crate::commands::{CommandName, command_line};
 use crate::options::CommandFile;
+use crate::rows::{row_options, rows_agree, rows_fault};
 use clap::error::ErrorKind;
-use h3_requests::Command;
+use h3_requests::{Command, RowOptions};
 use std::alloc::{AllocError, Global};
 
 /// What the words of a command line parse as.
@@ -23,6 +26,9 @@ pub struct Words {
 
     /// The file that the command names, where it has an option for one.
     pub file: Option<CommandFile>,
+
+    /// How the rows of the list are read and written; `None` where the list is bare.
+    pub rows: Option<RowOptions>,
 }
 
 /// Why there is no command to run.
@@ -77,7 +83,10 @@ fn is_negative(word: &str) -> bool {
 
 /// Whether a word is the name of an option that takes a number.
 fn names_a_number(word: &str) -> bool {
-    matches!(word, "-r" | "--resolution" | "-k" | "--position")
+    matches!(
+        word,
+        "-r" | "--resolution" | "-k" | "--position" | "--field"
+    )
 }
 
 /// The words, with each negative number that follows the name of an option that takes a number put
@@ -127,9 +136,11 @@ fn asks_for_version(words: &[String]) -> bool
 fn parse_words(alloc: Global, words: Vec<String>) -> Result<Words, WordsFault>
     ensures read { IfOk result (AsksFor (map string_bytes words.items)) }
     ensures accepted { OnOk result (fault_of app (map string_bytes words.items) ≡ []) }
+    ensures agreed { OnOk result
+        (rows_agree (λ option. given option (drop 2 (map string_bytes words.items))) ≡ true) }
     ensures taken { IsPlainCall (map string_bytes words.items)
         → IfErr result (λ fault. fault ≡ Memory) }
-    ensures faults { IfErr result (IsFaultOf (fault_of app (map string_bytes words.items))) }
+    ensures faults { IfErr result (IsRefusalOf (map string_bytes words.items)) }
 {
     let parser = command_line(alloc)?;
     let matches = match parser.try_get_matches_from(words.as_slice()) {
@@ -142,9 +153,13 @@ fn parse_words(alloc: Global, words: Vec<String>) -> Result<Words, WordsFault>
     let Some(name) = CommandName::named_by(word) else {
         unreachable!()
     };
+    if !rows_agree(inner) {
+        return Err(WordsFault::Usage(rows_fault(alloc, name.list_usage(), inner)?));
+    }
     Ok(Words {
         command: name.command(inner),
         file: name.file(alloc, inner)?,
+        rows: row_options(alloc, inner)?,
     })
 }
 
@@ -152,16 +167,19 @@ fn parse_words(alloc: Global, words: Vec<String>) -> Result<Words, WordsFault>
 ///
 /// [`WordsFault::Version`] where the second word is `-V` or `--version`, whatever follows;
 /// [`WordsFault::Help`] where they ask for help, [`WordsFault::Usage`] where the command line is
-/// invalid: it is not a command with each of its options once, each value in range; and
+/// invalid: it is not a command with each option that it requires, none twice, each value in range,
+/// and those of rows with what they go with; and
 /// [`WordsFault::Memory`] where there is no memory for the parse.
 pub fn read_words(alloc: Global, words: Vec<String>) -> Result<Words, WordsFault>
     ensures read { IfOk result (AsksFor (map string_bytes words.items)) }
     ensures accepted { OnOk result (fault_of app (map string_bytes words.items) ≡ []) }
+    ensures agreed { OnOk result
+        (rows_agree (λ option. given option (drop 2 (map string_bytes words.items))) ≡ true) }
     ensures taken { IsPlainCall (map string_bytes words.items)
         → IfErr result (λ fault. fault ≡ Memory) }
     ensures version { asks_version (map string_bytes words.items) ≡ true → result ≡ Err Version }
     ensures faults { asks_version (map string_bytes words.items) ≡ false
-        → IfErr result (IsFaultOf (fault_of app (map string_bytes words.items))) }
+        → IfErr result (IsRefusalOf (map string_bytes words.items)) }
 {
     if asks_for_version(words.as_slice()) {
         return Err(WordsFault::Version);

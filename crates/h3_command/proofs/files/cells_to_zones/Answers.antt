@@ -1,9 +1,10 @@
-use Rattle.std.proofs.Common.{refl, inl, inr, subst}
+use Rattle.std.proofs.Common.{codes, refl, inl, inr, subst}
 use Rattle.std.proofs.KnownBytes.{Keeps-refl}
 use Rattle.std.proofs.lemmas.Result.{err_from_is_err_and}
 use Rattle.std.proofs.lemmas.List.Sorted.{IsPermutation-sym}
-use Rattle.h3_lines.specs.EachLine.{EndsEach}
 use Rattle.h3_lines.specs.Writing.{sink_use}
+use Rattle.h3_command.specs.Rows.{rows_form}
+use Rattle.h3_command.specs.Run.{EndsLines, source_use}
 use Rattle.h3_command.proofs.Combined.{zones_alike}
 use Rattle.h3_command.proofs.files.cells_to_zones.Goals as goal
 
@@ -17,9 +18,9 @@ pub returns : goal.returns
 returns g c =
     let (bytes, held, listed, gives, same, zones) = c.in_ok-zones.ensures.zones in
     let items = c.in_ok-zones.zones.items in
-    let old = c.args.input.now in
-    let new = c.answer_zones.new.input in
+    let form = rows_form c.args.rows.now (codes "zone") in
+    let input = source_use g.R.Source.left g.R.Source.has_failed c.args.input.now c.answer_zones.new.input in
     let out = sink_use g.W.Sink.taken g.W.Sink.has_failed c.args.out.now c.answer_zones.new.out in
     let alike = zones_alike items listed (λ x. c.zones_are_lawful.ensures.in_any_order.zone items listed x zones.apart (IsPermutation-sym listed items same)) in
     let ends = rw c.deref.ensures.value at c.answer_zones.ensures in
-    (bytes, held, inl (listed, gives, subst (λ answer. EndsEach answer (g.R.Source.left old) (g.R.Source.left new) (g.R.Source.has_failed old) (g.R.Source.has_failed new) c.answer_zones.result out) alike ends))
+    (bytes, held, inl (listed, gives, subst (λ answer. EndsLines form answer input c.answer_zones.result out) alike ends))

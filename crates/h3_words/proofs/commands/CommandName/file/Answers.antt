@@ -20,7 +20,7 @@ returns-in-Some-3 c = λ text found. named_by_path _ _ _ (subst (λ o. HasPath t
 
 pub returns-in-None : goal.returns-in-None
 returns-in-None c = λ text found. (
-  no_path _ _ _ (ap (option_map string_bytes) (none _ c.in_default.not-Some)) (c.in_ok-path.ensures text found),
-  no_path _ _ _ (ap (option_map string_bytes) (none _ c.in_default-2.not-Some)) (c.in_ok-path-2.ensures text found),
-  no_path _ _ _ (ap (option_map string_bytes) c.in-None.is) (c.in_ok-path-3.ensures text found),
+  no_path _ Table text _ _ refl found (ap (option_map string_bytes) (none _ c.in_default.not-Some)) (c.in_ok-path.ensures text found),
+  no_path _ Region text _ _ refl found (ap (option_map string_bytes) (none _ c.in_default-2.not-Some)) (c.in_ok-path-2.ensures text found),
+  no_path _ Zones text _ _ refl found (ap (option_map string_bytes) c.in-None.is) (c.in_ok-path-3.ensures text found),
 )

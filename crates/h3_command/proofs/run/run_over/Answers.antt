@@ -1,6 +1,6 @@
 use Rattle.h3_command.proofs.Endings.{runs_so}
 use Rattle.h3_command.proofs.PrintedCounts.{printed_counts}
-use Rattle.h3_command.proofs.run.run.Goals as goal
+use Rattle.h3_command.proofs.run.run_over.Goals as goal
 
 pub returns-clause-runs : goal.returns-clause-runs
 returns-clause-runs g c = runs_so _ _ _ _ c.perform-ending.ensures.ends c.report.ensures.reported

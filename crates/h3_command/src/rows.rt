@@ -1,0 +1,78 @@
+//! Lists that are answered line by line: bare, or as rows, each of which is written with the answer to
+//! its own cell beside it.
+
+ghost use Rattle.std.specs.Prelude.{◌≡◌};
+ghost use Rattle.h3_lines.specs.Writing.{sink_use};
+ghost use Rattle.h3_command.specs.Answer.{answer_for};
+ghost use Rattle.h3_command.specs.Rows.{function_name, rows_form};
+ghost use Rattle.h3_command.specs.Run.{EndsLines, source_use};
+
+use crate::for_each::AnswerOf;
+use h3_index::{Sink, Source};
+use h3_lines::{IndexFunction, Refusal, answer_each};
+use h3_requests::{CellFunction, RowOptions};
+use h3_rows::answer_rows;
+use std::alloc::Global;
+
+/// The name of H3's function, which the new column of rows has in a header.
+fn function_name(function: CellFunction) -> &'static str
+    ensures { result.now ≡ function_name function }
+{
+    match function {
+        CellFunction::IsValidCell => "isValidCell",
+        CellFunction::IsValidDirectedEdge => "isValidDirectedEdge",
+        CellFunction::GetResolution => "getResolution",
+        CellFunction::GetBaseCellNumber => "getBaseCellNumber",
+        CellFunction::IsPentagon => "isPentagon",
+        CellFunction::IsResClassIII => "isResClassIII",
+        CellFunction::CellToParent { res: _ } => "cellToParent",
+        CellFunction::CellToCenterChild { res: _ } => "cellToCenterChild",
+        CellFunction::CellToLastChild { res: _ } => "cellToLastChild",
+        CellFunction::CellToChildrenSize { res: _ } => "cellToChildrenSize",
+        CellFunction::CellToChildPos { res: _ } => "cellToChildPos",
+        CellFunction::GetDirectedEdgeOrigin => "getDirectedEdgeOrigin",
+        CellFunction::OriginToDirectedEdges => "originToDirectedEdges",
+    }
+}
+
+/// Writes what a function answers to each line of a list, or each row with what it answers to its
+/// cell, if the list has rows. The new column has this name, unless another is given.
+pub(crate) fn answer_listed<R: Source, W: Sink, F: IndexFunction>(
+    alloc: Global,
+    rows: &Option<RowOptions>,
+    name: &str,
+    function: &F,
+    input: &mut R,
+    out: &mut W,
+) -> Result<(), Refusal>
+    ensures { EndsLines (rows_form rows.now name.now)
+        (F.answer_of function.now) (source_use R.left R.has_failed input.old input.new) result
+        (sink_use W.taken W.has_failed out.old out.new) }
+{
+    match rows {
+        None => answer_each(alloc, function, input, out),
+        Some(options) => answer_rows(alloc, options, name.as_bytes(), function, input, out),
+    }
+}
+
+/// The same of a function of one index.
+pub(crate) fn answer_function<R: Source, W: Sink>(
+    alloc: Global,
+    rows: &Option<RowOptions>,
+    function: CellFunction,
+    input: &mut R,
+    out: &mut W,
+) -> Result<(), Refusal>
+    ensures { EndsLines (rows_form rows.now (function_name function))
+        (answer_for function) (source_use R.left R.has_failed input.old input.new) result
+        (sink_use W.taken W.has_failed out.old out.new) }
+{
+    answer_listed(
+        alloc,
+        rows,
+        function_name(function),
+        &AnswerOf(function),
+        input,
+        out,
+    )
+}

@@ -1,0 +1,222 @@
+//! The options of rows: what a parse found for them.
+
+ghost use Rattle.std.specs.Prelude.{◌≡◌, IfOk, IfSome, option_map, string_bytes, true};
+ghost use Rattle.std.specs.List.{list_any};
+ghost use Rattle.clap.specs.Words.{found_of};
+ghost use Rattle.h3_requests.specs.Rows.{is_counted, is_separator};
+ghost use Rattle.h3_words.specs.Rows.{HasCellField, HasRows, found_texts, has_company, is_column_name, is_in_no_name, named_separator, names_fit, rows_agree, separator_of};
+ghost use Rattle.h3_words.specs.Values.{IsAccepted};
+ghost use Rattle.h3_words.specs.declared.options.CommandOption.TheVariants.{As, Field};
+
+use crate::options::CommandOption::{self, As, Column, Csv, Field, Header, KeepGoing, Separator};
+use clap::ArgMatches;
+use h3_requests::{CellField, RowOptions, is_separator};
+use std::alloc::{AllocError, Global};
+
+/// The options that go with either of `--field` and `--column`, as a usage shows them.
+static OF_ROWS: [(CommandOption, &str); 3] = [
+    (Separator, "--separator <separator>"),
+    (Csv, "--csv"),
+    (KeepGoing, "--keep-going"),
+];
+
+/// Why a text is no separator.
+const NO_SEPARATOR: &str =
+    "a separator is \\t or one ASCII character, and no letter, digit, hyphen, double quote or line end";
+
+/// Why a text is not the name of a column.
+const NO_NAME: &str = "a name has no separator, double quote or line end";
+
+/// The separator that the text of `--separator` names, if it names one.
+fn named_separator(text: &[u8]) -> Option<u8>
+    ensures named { result ≡ named_separator text.now }
+    ensures separates { IfSome result (λ byte. is_separator byte ≡ true) }
+{
+    match text {
+        b"\\t" => Some(b'\t'),
+        [byte] if is_separator(*byte) => Some(*byte),
+        _ => None,
+    }
+}
+
+/// The separator that the options ask for; `None` where `--separator` names none.
+fn separator(matches: &ArgMatches<'_>) -> Option<u8>
+    ensures named { result ≡ separator_of (found_texts (found_of matches.now)) }
+    ensures separates { IfSome result (λ byte. is_separator byte ≡ true) }
+{
+    match Separator.text(matches) {
+        Some(text) => named_separator(text.as_bytes()),
+        None => Some(if Csv.is_given(matches) { b',' } else { b'\t' }),
+    }
+}
+
+/// Whether a byte is in the name of no column, beside this separator.
+fn is_in_no_name(byte: u8, separator: u8) -> bool
+    ensures { result ≡ is_in_no_name separator byte }
+{
+    byte == separator || matches!(byte, b'"' | b'\n' | b'\r')
+}
+
+/// Whether a text has a byte that is in the name of no column, beside this separator.
+fn has_such_a_byte(name: &[u8], separator: u8) -> bool
+    ensures { result ≡ list_any (λ byte. is_in_no_name separator byte) name.now }
+{
+    name.iter().any(|byte| is_in_no_name(*byte, separator))
+}
+
+/// Whether a text may be the name of a column, beside this separator.
+fn is_column_name(name: &[u8], separator: u8) -> bool
+    ensures { result ≡ is_column_name separator name.now }
+{
+    !has_such_a_byte(name, separator)
+}
+
+/// Whether `--separator` names a separator, and `--as` the name of a column.
+fn names_fit(matches: &ArgMatches<'_>) -> bool
+    ensures { result ≡ names_fit (found_texts (found_of matches.now)) }
+{
+    match separator(matches) {
+        Some(byte) => match As.text(matches) {
+            Some(name) => is_column_name(name.as_bytes(), byte),
+            None => true,
+        },
+        None => false,
+    }
+}
+
+/// Whether each option of rows has what it goes with.
+fn has_company(matches: &ArgMatches<'_>) -> bool
+    ensures { result ≡ has_company (found_texts (found_of matches.now)) }
+{
+    let field = Field.is_given(matches);
+    let column = Column.is_given(matches);
+    let header = Header.is_given(matches);
+    let separator = Separator.is_given(matches);
+    let csv = Csv.is_given(matches);
+    let name = As.is_given(matches);
+    let keep_going = KeepGoing.is_given(matches);
+    !(field && column)
+        && (!header || field)
+        && (!(separator || csv || keep_going) || field || column)
+        && (!name || column || header)
+}
+
+/// Whether each option of rows has what it goes with, and names what it may.
+pub(crate) fn rows_agree(matches: &ArgMatches<'_>) -> bool
+    ensures { result ≡ rows_agree (found_texts (found_of matches.now)) }
+{
+    has_company(matches) && names_fit(matches)
+}
+
+/// That an option lacks what it goes with.
+fn lacking(alloc: Global, option: &str, wanted: &str) -> Result<String, AllocError> {
+    format!(in alloc; "the argument '{option}' cannot be used without {wanted}")
+}
+
+/// That the value of an option is invalid.
+fn invalid(
+    alloc: Global,
+    value: Option<&str>,
+    option: &str,
+    reason: &str,
+) -> Result<String, AllocError> {
+    let value = value.unwrap_or("");
+    format!(in alloc; "invalid value '{value}' for '{option}': {reason}")
+}
+
+/// What is wrong with the options of rows, where they do not agree: the first rule that is broken.
+fn broken_rule(alloc: Global, matches: &ArgMatches<'_>) -> Result<String, AllocError> {
+    let is_of_rows = Field.is_given(matches) || Column.is_given(matches);
+    if Field.is_given(matches) && Column.is_given(matches) {
+        return format!(in alloc;
+            "the argument '--field <number>' cannot be used with '--column <column>'"
+        );
+    }
+    if Header.is_given(matches) && !Field.is_given(matches) {
+        return lacking(alloc, "--header", "'--field <number>'");
+    }
+    if !is_of_rows {
+        for (option, shown) in &OF_ROWS {
+            if option.is_given(matches) {
+                return lacking(alloc, shown, "'--field <number>' or '--column <column>'");
+            }
+        }
+    }
+    if As.is_given(matches) && !Column.is_given(matches) && !Header.is_given(matches) {
+        return lacking(alloc, "--as <name>", "'--column <column>' or '--header'");
+    }
+    if separator(matches).is_none() {
+        return invalid(
+            alloc,
+            Separator.text(matches),
+            "--separator <separator>",
+            NO_SEPARATOR,
+        );
+    }
+    invalid(alloc, As.text(matches), "--as <name>", NO_NAME)
+}
+
+/// The text of an invalid command line whose options of rows do not agree, in the form of `clap`'s.
+pub(crate) fn rows_fault(
+    alloc: Global,
+    usage: &str,
+    matches: &ArgMatches<'_>,
+) -> Result<String, AllocError> {
+    let broken = broken_rule(alloc, matches)?;
+    format!(in alloc; "error: {broken}\n\nUsage: {usage}\n\nFor more information, try '--help'.\n")
+}
+
+/// The field that has the cell, if one is asked for.
+///
+/// [`AllocError`] where there is no memory for its name.
+fn cell_field(alloc: Global, matches: &ArgMatches<'_>) -> Result<Option<CellField>, AllocError>
+    ensures counted { IfOk result (λ field. IfSome field (λ field. is_counted field ≡ true)) }
+    ensures read { IfOk result (λ field.
+        IsAccepted Field (found_texts (found_of matches.now) Field)
+        → HasCellField (found_texts (found_of matches.now)) field) }
+{
+    if Field.is_given(matches) {
+        return Ok(Some(CellField::Number(Field.number(matches) as u16)));
+    }
+    match Column.text(matches) {
+        Some(name) => Ok(Some(CellField::Column(String::from_str(alloc, name)?))),
+        None => Ok(None),
+    }
+}
+
+/// The name of the new column, if one is given.
+///
+/// [`AllocError`] where there is no memory for it.
+fn column_name(alloc: Global, matches: &ArgMatches<'_>) -> Result<Option<String>, AllocError>
+    ensures { IfOk result (λ name.
+        option_map string_bytes name ≡ found_texts (found_of matches.now) As) }
+{
+    match As.text(matches) {
+        Some(name) => Ok(Some(String::from_str(alloc, name)?)),
+        None => Ok(None),
+    }
+}
+
+/// How rows are read and written, if they are to be read; for options that agree.
+///
+/// [`AllocError`] where there is no memory for a name.
+pub(crate) fn row_options(
+    alloc: Global,
+    matches: &ArgMatches<'_>,
+) -> Result<Option<RowOptions>, AllocError>
+    ensures { IfOk result (λ rows. rows_agree (found_texts (found_of matches.now)) ≡ true
+        → IsAccepted Field (found_texts (found_of matches.now) Field)
+        → HasRows (found_texts (found_of matches.now)) rows) }
+{
+    let Some(field) = cell_field(alloc, matches)? else {
+        return Ok(None);
+    };
+    Ok(Some(RowOptions {
+        field,
+        has_header: Column.is_given(matches) || Header.is_given(matches),
+        separator: separator(matches).unwrap_or(b'\t'),
+        quotes: Csv.is_given(matches),
+        name: column_name(alloc, matches)?,
+        keeps_going: KeepGoing.is_given(matches),
+    }))
+}
