@@ -6,7 +6,7 @@ use Rattle.h3_lines.specs.Writing.{AppendsPart, IsLeft, Reports, SinkUse, Writes
 use Rattle.h3_lines.specs.declared.refusal.Fault.TheVariants as fault
 use Rattle.h3_lines.specs.declared.refusal.Refusal.{Refusal}
 use Rattle.h3_lines.specs.declared.refusal.Refusal.TheVariants as refusal
-use Rattle.h3_command.specs.Answer.{Request, reads_list, reads_table, request}
+use Rattle.h3_command.specs.Answer.{Request, reads_list, reads_table, request_of}
 use Rattle.h3_command.specs.Run.{Runs, SourceUse, Streams}
 use Rattle.h3_words.specs.Options.{path_of}
 use Rattle.h3_words.specs.declared.options.CommandFile.{CommandFile}
@@ -72,7 +72,7 @@ version_line = codes "h3 1.3.0" ++ 10 ∷ []
 -- line goes to standard error, with status 2; out of memory is an error line; where no command is run, nothing is opened
 -- or read
 abbrev pub Follows : {R F : Type 0} → Files F → Result Words WordsFault → ℕ → Change R → Change F → Streams → Type 0
-Follows files (Ok words) status input file s = RunsCommand files words.file (request words.command) status input file s
+Follows files (Ok words) status input file s = RunsCommand files words.file (request_of words.rows words.command) status input file s
 Follows files (Err (Help text)) status input file s =
     ((ending : Result (Unit {0}) Refusal) × Writes (written (string_bytes text)) ending s.out × Reports ending status s.err)
     × IsUntouched input × IsUntouched file

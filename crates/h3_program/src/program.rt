@@ -2,7 +2,7 @@
 
 ghost use Rattle.std.specs.Prelude.{◌≡◌, map, string_bytes, Result};
 ghost use Rattle.h3_lines.specs.Writing.{sink_use};
-ghost use Rattle.h3_command.specs.Answer.{request};
+ghost use Rattle.h3_command.specs.Answer.{request_of};
 ghost use Rattle.h3_command.specs.Run.{source_use};
 ghost use Rattle.h3_words.specs.Parse.{ParsesAs};
 ghost use Rattle.h3_words.specs.declared.words.Words.{Words};
@@ -10,7 +10,7 @@ ghost use Rattle.h3_words.specs.declared.words.WordsFault.{WordsFault};
 ghost use Rattle.h3_program.specs.Program.{Follows, RunsCommand, open_line};
 
 use crate::file::OpenFile;
-use h3_command::run::run;
+use h3_command::run::run_over;
 use h3_index::{Sink, Source};
 use h3_lines::{Fault, Refusal, report, write_all, write_answer};
 use h3_words::{CommandFile, Words, WordsFault, read_words};
@@ -48,7 +48,7 @@ fn run_command<R: Source, F: OpenFile, W: Sink, E: Sink>(
       opens = F.opens;
       fails_to_open = F.fails_to_open;
       as_source = source_use F.left F.has_failed;
-    }) words.now.file (request words.now.command) result
+    }) words.now.file (request_of words.now.rows words.now.command) result
         (record { old = input.old; new = input.new })
         (record { old = file.old; new = file.new }) (record {
           input = source_use R.left R.has_failed input.old input.new;
@@ -58,9 +58,9 @@ fn run_command<R: Source, F: OpenFile, W: Sink, E: Sink>(
         }) }
 {
     match &words.file {
-        None => run(alloc, &words.command, input, file, out, err),
+        None => run_over(alloc, &words.command, &words.rows, input, file, out, err),
         Some(named) => match file.open(named.path()) {
-            Ok(()) => run(alloc, &words.command, input, file, out, err),
+            Ok(()) => run_over(alloc, &words.command, &words.rows, input, file, out, err),
             Err(_) => {
                 let _ = write_all(err, open_line(named).as_bytes());
                 CANNOT_OPEN

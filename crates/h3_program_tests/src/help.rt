@@ -305,6 +305,32 @@ static LIST_USAGES: [(&str, &str); 22] = [
     ),
 ];
 
+/// Lines that ask for help of a command that reads rows, and what it says of them.
+static ROWS_HELP: [(&str, &str); 12] = [
+    ("h3 cellsToParents --help", "\nRows:\n"),
+    ("h3 cellsToParents --help", "--field <number>"),
+    ("h3 cellsToParents --help", "--column <column>"),
+    ("h3 cellsToParents --help", "--header "),
+    ("h3 cellsToParents --help", "--separator <separator>"),
+    ("h3 cellsToParents --help", "--csv "),
+    ("h3 cellsToParents --help", "--as <name>"),
+    ("h3 cellsToParents --help", "--keep-going "),
+    (
+        "h3 cellsToParents --help",
+        "\nOf a CSV file: h3 cellsToParents -r 4 --csv --column cell < trips.csv\n",
+    ),
+    ("h3 getResolutions --help", "\nRows:\n"),
+    ("h3 areCoveredCells --help", "--keep-going "),
+    ("h3 cellsToZones --help", "--csv "),
+];
+
+#[test]
+fn help_says_how_rows_are_read(rt: HostRuntime) {
+    for (line, said) in &ROWS_HELP {
+        assert!(&rt; narrow_help_says(rt.alloc(), line, said), "{line}");
+    }
+}
+
 /// Whether a line asks for help that has a text.
 fn help_says(alloc: Global, line: &str, said: &str) -> bool {
     match read(alloc, line) {

@@ -39,6 +39,8 @@ mod refused_words;
 #[cfg(test)]
 mod retried;
 #[cfg(test)]
+mod rows_words;
+#[cfg(test)]
 mod runs;
 #[cfg(test)]
 mod table_files;

@@ -2,15 +2,20 @@
 
 use h3_directions::TableError;
 use h3_index::H3Error;
-use h3_lines::{AnswerError, CellFile, Fault, Refusal};
+use h3_lines::{AnswerError, CellFile, ColumnError, Fault, Refusal};
 
 /// Refusals of each variant.
-static REFUSALS: [Refusal; 18] = [
+static REFUSALS: [Refusal; 23] = [
     Refusal::Error(AnswerError::Call(H3Error::Failed)),
     Refusal::Error(AnswerError::Call(H3Error::MemoryAlloc)),
     Refusal::Error(AnswerError::At(1, H3Error::Failed)),
     Refusal::Error(AnswerError::At(1, H3Error::MemoryAlloc)),
     Refusal::Error(AnswerError::At(2, H3Error::Failed)),
+    Refusal::Error(AnswerError::AtAndMore(1, H3Error::Failed, 0)),
+    Refusal::Error(AnswerError::AtAndMore(1, H3Error::Failed, 1)),
+    Refusal::Error(AnswerError::AtAndMore(2, H3Error::Failed, 0)),
+    Refusal::Error(AnswerError::Column(ColumnError::NotFound)),
+    Refusal::Error(AnswerError::Column(ColumnError::NotUnique)),
     Refusal::Fault(Fault::Memory),
     Refusal::Fault(Fault::Read),
     Refusal::Fault(Fault::Write),

@@ -242,7 +242,7 @@ static SAID: [(&str, &str); 14] = [
 ];
 
 /// Whether a line is invalid, and a text is said of it.
-fn is_said(alloc: Global, line: &str, said: &str) -> bool {
+pub fn is_said(alloc: Global, line: &str, said: &str) -> bool {
     match read(alloc, line) {
         Err(WordsFault::Usage(text)) => text.contains(said),
         _ => false,

@@ -19,6 +19,6 @@ returns-in-Err-Usage-clause-follows g c =
     let text : c.as_bytes-in-Err-Usage.result.now ≡ string_bytes c.in-Err-Usage.text = c.as_bytes-in-Err-Usage.ensures.value ∙ ap string_bytes c.in-Err-Usage.text-is in
     let left = rw text at (left_by c.write_all.result _ _ _ _ c.write_all.ensures.written c.write_all.ensures.part c.write_all.ensures.err) in (
       Err (Usage c.in-Err-Usage.text),
-      record { read = parsed.read; accepted = parsed.accepted; taken = parsed.taken; version = parsed.version; faults = parsed.faults },
+      record { read = parsed.read; accepted = parsed.accepted; agreed = parsed.agreed; taken = parsed.taken; version = parsed.version; faults = parsed.faults },
       ((refl, search rules, left), refl, refl),
     )
