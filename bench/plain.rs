@@ -6,13 +6,15 @@
 //! input), `plain disk CELL K TABLE` and `plain ring CELL K TABLE`. Of each index on standard input: `plain valid`,
 //! `plain resolutions`, `plain parents RES` and `plain places RES` (its position below its ancestor). `plain zones COUNT
 //! PERCENT ORDER` looks a million cells, `sorted` or `random`, up COUNT times in so many in a hundred of the cells of
-//! resolution 5.
+//! resolution 5. `plain trips COUNT` writes a table of so many rows, and `plain rows FIELD RES` each row of one with the
+//! parent of the cell in that field.
 //!
 //! Lists to be compacted: `plain first COUNT CELL RES` (the first children), `plain shuffled CELL RES` (all children in a
 //! random order, always the same), `plain lone CELL RES` (one child of each parent) and `plain mixed CELL RES` (the
 //! compacted list of the children but one of 160, in a random way that is always the same, with the children one level
 //! down in place of every tenth cell).
 
+pub mod rows;
 pub mod texts;
 pub mod walks;
 
@@ -517,6 +519,14 @@ fn main() -> io::Result<()> {
         ["parents", res] => {
             let res = res.parse().expect("a resolution");
             for_indexes(|index| out.put(parent_at(cell_of(index), res)))?
+        }
+        ["trips", count] => {
+            let cells = children("8001fffffffffff", "9").step_by(7);
+            rows::write_trips(&mut out, cells.take(count.parse().expect("a number")))?
+        }
+        ["rows", field, res] => {
+            let (field, level) = (field.parse().expect("a number"), res.parse().expect("a resolution"));
+            rows::answer(&mut out, b'\t', level, |bytes| rows::find(bytes, field, b'\t'))?
         }
         ["places", res] => {
             let res = res.parse().expect("a resolution");

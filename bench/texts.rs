@@ -89,6 +89,18 @@ impl<W: Write> Page<W> {
         Ok(())
     }
 
+    /// Puts a row of at most 65,000 bytes, a separator, and the line of an index.
+    #[inline(always)]
+    pub fn put_row(&mut self, row: &[u8], separator: u8, index: u64) -> io::Result<()> {
+        if self.end + row.len() > 65536 - 33 {
+            self.hand_on()?;
+        }
+        self.bytes[self.end..self.end + row.len()].copy_from_slice(row);
+        self.bytes[self.end + row.len()] = separator;
+        self.end += row.len() + 1;
+        self.put(index)
+    }
+
     /// Puts the line of a number in decimal.
     #[inline(always)]
     pub fn put_number(&mut self, number: u64) -> io::Result<()> {
