@@ -15,6 +15,11 @@ _h3_options() {
         cellsToZones | countCellsInZones) echo --zones ;;
     esac
 }
+_h3_rows() {
+    case $1 in
+        areCoveredCells | cellsToZones | areValidCells | areValidDirectedEdges | getResolutions | getBaseCellNumbers | arePentagons | areResClassIII | cellsToParents | cellsToCenterChildren | cellsToLastChildren | cellsToChildrenSizes | cellsToChildPositions | getDirectedEdgeOrigins | originsToDirectedEdges) echo --field --column --header --separator --csv --as --keep-going ;;
+    esac
+}
 # end of what is made (tools/pages)
 
 _h3() {
@@ -45,12 +50,12 @@ _h3() {
             mapfile -t COMPREPLY < <(compgen -W "$(echo {0..15})" -- "$word")
             return
             ;;
-        -c | --cell | -k | --to | --position | --edge) return ;;
+        -c | --cell | -k | --to | --position | --edge | --field | --column | --separator | --as) return ;;
     esac
     options=$(_h3_options "$command")
-    # (a command that has no options awaits nothing)
+    # (a command that requires no options awaits nothing)
     if [ -n "$word$options" ]; then
-        mapfile -t COMPREPLY < <(compgen -W "$options --help" -- "$word")
+        mapfile -t COMPREPLY < <(compgen -W "$options $(_h3_rows "$command") --help" -- "$word")
     fi
 }
 complete -F _h3 h3
