@@ -79,11 +79,6 @@ pub fields_order : NumbersFollowFields
 fields_order a b p q =
     rw (number_of_is a p, number_of_is b q, ← above_first (2 ^ 45) (head_of a) (head_of b) (number_from_digits 8 (padded a.digits)) (number_from_digits 8 (padded b.digits)) (low_small a p) (low_small b q), ← heads_order a b p q) (by (nat_cmp (length a.digits) (length b.digits)) (ranked (length a.digits) (length b.digits) (nat_cmp (length a.digits) (length b.digits)) refl))
   where
-    then_then : (o s t : Ordering) → ordering_then (ordering_then o s) t ≡ ordering_then o (ordering_then s t)
-    then_then Less s t = refl
-    then_then Equal s t = refl
-    then_then Greater s t = refl
-
     by : (o : Ordering) → MatchOrdering o (length a.digits < length b.digits) (length a.digits ≡ length b.digits) (length b.digits < length a.digits) → ordering_then (ordering_then o (nat_cmp a.base b.base)) (nat_cmp (number_from_digits 8 (padded a.digits)) (number_from_digits 8 (padded b.digits))) ≡ ordering_then o (ordering_then (nat_cmp a.base b.base) (slice_cmp nat_cmp a.digits b.digits))
     by Less h = refl
     by Equal h = ap (ordering_then (nat_cmp a.base b.base)) (sym (padded_order a b p q h))

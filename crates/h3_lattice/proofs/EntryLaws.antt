@@ -1,5 +1,5 @@
 -- The carry tables, entry by entry.
-use Rattle.std.proofs.Common.{◌≡◌, ℕ, zero, suc, ◌-◌, ◌%◌, ◌≤◌, ◌<◌, nat_lt, true, ltb-true, arith, sym, ap, ◌∙◌, refl, inl, inr, Option, Some, None, [], slice_index_or}
+use Rattle.std.proofs.Common.{◌≡◌, ℕ, zero, suc, ◌-◌, ◌%◌, ◌≤◌, nat_lt, true, ltb-true, arith, sym, ap, ◌∙◌, refl, inl, inr, Option, Some, None, [], slice_index_or}
 use Rattle.std.proofs.lemmas.Bool.{cases_eq}
 use Rattle.h3_lattice.specs.declared.carries.TheConstants.{CARRIES}
 use Rattle.h3_directions.specs.declared.direction.Direction.{Direction}
@@ -105,10 +105,6 @@ sum_only c digit d carried left h is other rest small e =
     one_digit c other carried rest left (omega (arith, small)) (omega (arith, h)) (sym e ∙ is)
 
 -- ---- rows
-
-pub row_small : (c : Class) (d : Direction) → (1 ≤ row_of c d) × (row_of c d < 13)
-row_small Two d = at_direction (λ d. (1 ≤ row_of Two d) × (row_of Two d < 13)) ((omega arith, omega arith), (omega arith, omega arith), (omega arith, omega arith), (omega arith, omega arith), (omega arith, omega arith), (omega arith, omega arith)) d
-row_small Three d = at_direction (λ d. (1 ≤ row_of Three d) × (row_of Three d < 13)) ((omega arith, omega arith), (omega arith, omega arith), (omega arith, omega arith), (omega arith, omega arith), (omega arith, omega arith), (omega arith, omega arith)) d
 
 -- the row 0 is that of nothing
 pub none_carried : (c : Class) (row : ℕ) → row ≡ 0 → carried_to c row ≡ None

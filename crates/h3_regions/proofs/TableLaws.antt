@@ -1,9 +1,7 @@
 -- The tables of first places, and the search by them.
 use Rattle.std.specs.List.{AllWithin}
-use Rattle.std.proofs.Common.{ℕ, ◌≡◌, ◌+◌, ◌-◌, ◌/◌, ◌^◌, ◌<◌, ◌≤◌, List, [], length, set, arith, ◌∙◌, ap, inl, inr, get_or}
-use Rattle.std.proofs.Math.ListN.{length-set}
-use Rattle.std.proofs.lemmas.Bool.{cases_eq, cases_lt}
-use Rattle.std.proofs.lemmas.List.{get_or-set_same, get_or-set_other}
+use Rattle.std.proofs.Common.{ℕ, ◌≡◌, ◌+◌, ◌-◌, ◌/◌, ◌^◌, ◌<◌, ◌≤◌, List, [], length, arith, ◌∙◌, ap, inl, inr, get_or}
+use Rattle.std.proofs.lemmas.Bool.{cases_lt}
 use Rattle.std.proofs.lemmas.Nat.{div-add-mod', le-div, pow_pos}
 use Rattle.h3_index.specs.Cell.{Address}
 use Rattle.h3_tree.specs.PostOrder.{post_order_key as key}
@@ -36,17 +34,6 @@ module _ (cells : List Address) (region : IsZones cells) (lowest shift : ℕ) wh
         let same = ap key (is ∙ any_default cells i a d lt) in
         let up = rises lowest shift (key a) (key (get_or cells j d)) (omega (arith, h, same)) in
         omega (arith, le, up);
-  }
-
-  pub filled_one : (firsts : List ℕ) (size place k first : ℕ) → k < length firsts → IsFirstInSlot cells lowest shift k first → IsFilling cells lowest shift firsts size place k → IsFilling cells lowest shift (set firsts k first) size first (k + 1)
-  filled_one firsts size place k first lt is inv = record {
-    size_is = length-set firsts k first ∙ inv.size_is;
-    each = λ t d less. elim (cases_eq t k) [
-      | inl same ↦ rw (same, get_or-set_same firsts k first d lt) is
-      | inr ne ↦ rw (get_or-set_other firsts k t first d ne) (inv.each t d (omega (arith, less, ne)))
-    ];
-    within = is.within;
-    before = λ j d from lj. let h = is.before j d from lj in omega (arith, h);
   }
 
   module _ (firsts : List ℕ) (table : IsFirstPlaces cells lowest shift firsts) where

@@ -4,7 +4,7 @@ use Rattle.std.proofs.Common.{ℕ, zero, suc, ◌≡◌, ◌≢◌, ◌+◌, ◌
 use Rattle.std.proofs.Math.ListN.{length-replicate}
 use Rattle.std.proofs.Math.Seq.{take-append_seam}
 use Rattle.std.proofs.lemmas.Int.Digits.{number_after_append}
-use Rattle.std.proofs.lemmas.List.{append-nil, append_assoc, length-drop, take-append-drop}
+use Rattle.std.proofs.lemmas.List.{append_assoc, length-drop, take-append-drop}
 use Rattle.h3_index.specs.Cell.{Address, IsCell, leading, number_of}
 use Rattle.h3_index.specs.Descendants.{along, center_at, child, cut, IsDescendant}
 use Rattle.h3_tree.specs.LastChild.{last_at, ChildrenFormRanges}
@@ -23,15 +23,6 @@ pub record IsOnWay (c : Address) (s : ℕ) (x : Address) : Type 0 where
   pub is : x ≡ last_at c (length x.digits)
   pub not_coarser : length c.digits ≤ length x.digits
   pub not_finer : length x.digits ≤ s
-
-pub way_start : (c : Address) (s : ℕ) → length c.digits ≤ s → IsOnWay c s c
-way_start c s le =
-    let none : length c.digits - length c.digits ≡ 0 = omega arith in
-    record {
-      is = sym (address_same (last_at c (length c.digits)) c refl (rw (none, append-nil) refl));
-      not_coarser = omega arith;
-      not_finer = le;
-    }
 
 pub way_more : (c : Address) (s : ℕ) (x y : Address) → IsOnWay c s x → length x.digits < s → y ≡ child x 6 → IsOnWay c s y
 way_more c s x y h lt e = subst (IsOnWay c s) (sym e) (made (length x.digits - length c.digits) refl)
