@@ -1,5 +1,5 @@
 -- What is made of the cells of a list and those of a file, by their regions.
-use Rattle.std.proofs.Common.{◌<◌, ◌+◌, length, take, get_or, Some, ◌≡◌, ℕ, suc, ◌≤◌, ◌↔◌, List, [], ◌∷◌, All, Option, arith, ap, sym, ◌∙◌}
+use Rattle.std.proofs.Common.{◌≡◌, suc, ◌≤◌, ◌↔◌, List, [], ◌∷◌, All, arith, ap, ◌∙◌}
 use Rattle.std.proofs.Math.Path.{fun_ext}
 use Rattle.h3_index.specs.Cell.{Address, IsCell}
 use Rattle.h3_set.specs.Compacted.{compacted}
@@ -14,7 +14,7 @@ use Rattle.h3_command.specs.Combination.{region_answer}
 use Rattle.h3_command.specs.Files.{counts_answer, zone_answer, zone_counts}
 use Rattle.std.specs.Prelude.{Ok, None, not, count_by, ◌++◌}
 use Rattle.std.specs.List.{flat_map}
-use Rattle.h3_regions.specs.Counts.{count_in, count_outside}
+use Rattle.h3_regions.specs.Counts.{count_outside}
 
 -- no valid cell is finer than resolution 15
 pub fine : (cells : List Address) → All IsCell cells → finest cells ≤ 15

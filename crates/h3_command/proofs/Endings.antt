@@ -22,15 +22,18 @@ use Rattle.h3_lines.specs.declared.refusal.Fault.TheVariants.{Memory, Read, Writ
 use Rattle.h3_lines.specs.declared.refusal.Refusal.{Refusal}
 use Rattle.h3_lines.specs.declared.refusal.Refusal.TheVariants.{Error, Fault}
 use Rattle.h3_lines.specs.Writing.{IsLeft, Reports, SinkUse, Writes}
-use Rattle.h3_command.specs.Answer.{Request, about_numbered_list, about_table, answer_or_error_at, with_table, unless_faulty}
+use Rattle.h3_command.specs.Answer.{Request, about_list, about_numbered_list, about_rows, about_table, answer_or_error_at, with_table, unless_faulty}
 use Rattle.h3_command.specs.Files.{file_cells, unless_refused}
 use Rattle.h3_command.specs.Answer.Request.{of_file_and_lines, of_file_and_list, of_lines, of_list, of_numbered_list, of_table, plain}
-use Rattle.h3_command.specs.Run.{Answers, Ends, EndsLines, Gives, IsReadSoFar, IsReadToEnd, IsReadWhole, NoReadFails, ReadFails, RefusesFile, Runs, RunsOutOfMemory, SourceUse, StopsWithin, Streams, WritesOfNumberedList, WritesReading}
+use Rattle.h3_command.specs.Run.{Answers, Ends, EndsLines, EndsList, EndsNumberedList, Gives, IsReadSoFar, IsReadToEnd, IsReadWhole, NoReadFails, ReadFails, RefusesFile, RefusesInput, Runs, RunsOutOfMemory, SourceUse, StopsWithin, Streams, WritesOfNumberedList, WritesOfRows, WritesReading}
 use Rattle.h3_rows.specs.EndsRows.{EndsRows}
+use Rattle.h3_rows.specs.RowCells.{RefusesRows}
 use Rattle.h3_rows.specs.EndsRows.{answer_at as rows_at}
 use Rattle.h3_rows.specs.RowsAnswer.{Form, begun_answer, rows_answer}
 use Rattle.h3_rows.specs.RowsAnswer.{list_answer as row_answers}
 use Rattle.h3_command.specs.Rows.{listed_answer}
+use Rattle.std.proofs.KnownBytes.{Consumes-nil}
+use Rattle.std.specs.Io.KnownBytes.{Consumes}
 use Rattle.h3_command.proofs.Written.{nothing, writes_refused}
 
 -- an answer to what was read is written, and no read failed
@@ -96,12 +99,12 @@ error_written e out left = (refl, (nothing _ _ left.0, left.1))
 -- the list is refused
 pub numbered_refused : (about : List Address → Answer) (list : List ℕ) (input : SourceUse) (e : Refusal) (out : SinkUse) → RefusesAt (ReadFails input list) (listed_cells list) (faulty_line list) e
     → ((e ≡ Fault Read → ⊥) → (e ≡ Fault Memory → ⊥) → IsListWithinReads (2 ^ 40) 65536 list) → ((e ≡ Fault Read → ⊥) → NoReadFails input) → StopsWithin 65536 input → (e ≡ Fault Read → StopsWithin 0 input) → IsLeft out
-    → WritesReading (about_numbered_list about list) list (IsListWithinReads (2 ^ 40) 65536 list) input (Err e) out × IsReadSoFar (listed_cells list) input (Err e)
+    → WritesReading (about_numbered_list None about list) list (IsListWithinReads (2 ^ 40) 65536 list) input (Err e) out × IsReadSoFar (listed_cells list) input (Err e)
 numbered_refused about list input (Error d) out (error, is, at) within sound stops faults left = (
   (
     within (λ never. cc never) (λ never. cc never),
     sound (λ never. cc never),
-    subst (λ c. Writes (about_numbered_list about list) (Err (Error c)) out) (sym at)
+    subst (λ c. Writes (about_numbered_list None about list) (Err (Error c)) out) (sym at)
         (subst (λ cells. Writes (answer_or_error_at (faulty_line list) about cells) (Err (Error (At (faulty_line list) error))) out) (sym is) (error_written (At (faulty_line list) error) out left)),
   ),
   subst (λ l. IsReadSoFar l input (Err (Error d))) (sym is) stops,
@@ -121,7 +124,7 @@ unread list =
     record { before = []; last = []; split = refl; within = omega arith; good = record { ended = []; last = []; lines = refl; good = refl; short = omega arith } }
 
 -- there is no memory before any of the list is read
-pub numbered_unread : (about : List Address → Answer) (input : SourceUse) (out : SinkUse) → NoReadFails input → input.left_after ≡ input.left → IsLeft out → WritesOfNumberedList about input (Err (Fault Memory)) out
+numbered_unread : (about : List Address → Answer) (input : SourceUse) (out : SinkUse) → NoReadFails input → input.left_after ≡ input.left → IsLeft out → WritesOfNumberedList about input (Err (Fault Memory)) out
 numbered_unread about input out sound alone left =
     let (bytes, held) = some_left input.left in
     (bytes, held, (sound, left), read_in_part (listed_cells bytes) input (λ list known. (list, alone ∙ known, unread list)))
@@ -129,11 +132,23 @@ numbered_unread about input out sound alone left =
 -- the list is read, and the answer about its cells is written
 pub numbered_written : (about : List Address → Answer) (list : List ℕ) (cells : List Address) (input : SourceUse) (ending : Result (Unit {0}) Refusal) (out : SinkUse) → listed_cells list ≡ Ok cells
     → IsWithinReads (2 ^ 40) 65536 list → NoReadFails input → IsReadToEnd input → Writes (about cells) ending out
-    → WritesReading (about_numbered_list about list) list (IsListWithinReads (2 ^ 40) 65536 list) input ending out × IsReadSoFar (listed_cells list) input ending
+    → WritesReading (about_numbered_list None about list) list (IsListWithinReads (2 ^ 40) 65536 list) input ending out × IsReadSoFar (listed_cells list) input ending
 numbered_written about list cells input ending out is short sound whole writes = (
   reading_written _ list _ input ending out (inl short) sound (subst (λ read. Writes (answer_or_error_at (faulty_line list) about read) ending out) (sym is) writes),
   read_whole _ list cells input ending out is writes whole,
 )
+
+-- there is no memory before any of the rows is read
+rows_unread : (form : Form) (input : SourceUse) → NoReadFails input → input.left_after ≡ input.left → RefusesRows form input.left input.left_after input.had_failed input.has_failed (Fault Memory)
+rows_unread form input sound alone =
+    let (bytes, held) = some_left input.left in
+    let told = subst (λ after. Consumes input.left after []) (sym alone) (Consumes-nil input.left) in
+    (sound, record { part = []; last = []; rest = bytes; held = held; told = told; short = omega arith; ended = []; unended = ([], false); rows = refl; cells = []; good = refl })
+
+-- there is no memory before any of a list is read, bare or of rows
+pub list_unread : (form : Option Form) (about : List Address → Answer) (input : SourceUse) (out : SinkUse) → NoReadFails input → input.left_after ≡ input.left → IsLeft out → EndsNumberedList form about input (Err (Fault Memory)) out
+list_unread None about input out sound alone left = numbered_unread about input out sound alone left
+list_unread (Some form) about input out sound alone left = inr (rows_unread form input sound alone, left)
 
 -- ---- a table
 
@@ -252,6 +267,41 @@ gives_lines : (form : Option Form) (about : Option ℕ → Answer) (ending : Res
 gives_lines None about ending status s ends reports = gives_each about ending status s ends reports
 gives_lines (Some form) about ending status s ends reports = gives_rows form about ending status s ends reports
 
+-- the cells of rows are refused, or not read to their end
+gives_refused_rows : (form : Form) (about : List Address → Answer) (ending : Result (Unit {0}) Refusal) (status : ℕ) (s : Streams) → RefusesInput form s.input ending → IsLeft s.out → Reports ending status s.err
+    → (list : List ℕ) × HasLeft s.input.left list × ((ReadFails s.input list → ⊥) → Gives (about_rows form about list) status s ⊎ RunsOutOfMemory status s)
+gives_refused_rows form about (Ok u) status s never left reports = absurd never
+gives_refused_rows form about (Err (Error e)) status s (sound, inl all) left reports =
+    (all.list, all.held, λ r. inl (subst (λ c. Gives (unless_refused about c) status s) (sym all.is) (record { output = (nothing _ _ left.0, left.1); report = reports })))
+gives_refused_rows form about (Err (Error e)) status s (sound, inr (stop, is)) left reports =
+    (stop.part ++ stop.last ++ stop.rest, stop.held, λ r. inl (subst (λ c. Gives (unless_refused about c) status s) (sym is) (record { output = (nothing _ _ left.0, left.1); report = reports })))
+gives_refused_rows form about (Err (Fault Memory)) status s (sound, stop) left reports = (stop.part ++ stop.last ++ stop.rest, stop.held, λ r. inr (record { output = left; report = reports }))
+gives_refused_rows form about (Err (Fault Read)) status s (stop, fails) left reports = (stop.part ++ stop.last ++ stop.rest, stop.held, λ r. absurd (r fails))
+gives_refused_rows form about (Err (Fault Write)) status s never left reports = absurd never
+
+-- the same of rows about whose cells is answered
+gives_cells : (form : Form) (about : List Address → Answer) (ending : Result (Unit {0}) Refusal) (status : ℕ) (s : Streams) → WritesOfRows form about s.input ending s.out → Reports ending status s.err
+    → (list : List ℕ) × HasLeft s.input.left list × ((ReadFails s.input list → ⊥) → s.out.has_failed ≡ false → Gives (about_rows form about list) status s ⊎ RunsOutOfMemory status s)
+gives_cells form about ending status s (inl (cells, (sound, all), inr (is, left))) reports =
+    (all.list, all.held, λ r w. inr (record { output = left; report = subst (λ e. Reports e status s.err) is reports }))
+gives_cells form about ending status s (inl (cells, (sound, all), inl writes)) reports =
+    (all.list, all.held, λ r w. inl (subst (λ c. Gives (unless_refused about c) status s) (sym all.is) (gives_written (about cells) ending status s writes w reports)))
+gives_cells form about ending status s (inr (refuses, left)) reports =
+    let (list, held, given) = gives_refused_rows form about ending status s refuses left reports in
+    (list, held, λ r w. given r)
+
+-- the same of a list about whose cells is answered, bare or of rows
+gives_list : (form : Option Form) (about : List Address → Answer) (ending : Result (Unit {0}) Refusal) (status : ℕ) (s : Streams) → EndsList form about s.input ending s.out → Reports ending status s.err
+    → (list : List ℕ) × HasLeft s.input.left list × ((ReadFails s.input list → ⊥) → s.out.has_failed ≡ false → Gives (about_list form about list) status s ⊎ RunsOutOfMemory status s)
+gives_list None about ending status s (list, held, writes, so_far) reports = (list, held, λ r w. gives_reading _ list _ s.input ending status s writes r w reports)
+gives_list (Some form) about ending status s ends reports = gives_cells form about ending status s ends reports
+
+-- the same, where the error of a faulty line is told with its number
+gives_numbered_list : (form : Option Form) (about : List Address → Answer) (ending : Result (Unit {0}) Refusal) (status : ℕ) (s : Streams) → EndsNumberedList form about s.input ending s.out → Reports ending status s.err
+    → (list : List ℕ) × HasLeft s.input.left list × ((ReadFails s.input list → ⊥) → s.out.has_failed ≡ false → Gives (about_numbered_list form about list) status s ⊎ RunsOutOfMemory status s)
+gives_numbered_list None about ending status s (list, held, writes, so_far) reports = (list, held, λ r w. gives_reading _ list _ s.input ending status s writes r w reports)
+gives_numbered_list (Some form) about ending status s ends reports = gives_cells form about ending status s ends reports
+
 with_memory : {A B : Type 0} (memory : Bool) → IsTrue memory → A ⊎ B → A ⊎ (IsTrue memory × B)
 with_memory memory takes (inl a) = inl a
 with_memory memory takes (inr b) = inr (takes, b)
@@ -269,26 +319,26 @@ gives_refused f about bytes (Err (Fault Write)) status s never left r reports = 
 read_after : (f : CellFile) (bytes : List ℕ) (cells : List Address) → file_cells f bytes ≡ Ok cells → IsTrue (is_ok (file_cells f bytes))
 read_after f bytes cells is = ap is_ok is
 
-list_answers : (f : CellFile) (about : List Address → List Address → Answer) (ending : Result (Unit {0}) Refusal) (status : ℕ) (s : Streams) → Ends (of_file_and_list f about) s.input s.table ending s.out → Reports ending status s.err
-    → Answers (of_file_and_list f about) status s
-list_answers f about ending status s (bytes, held, inr (refuses, alone, left)) reports =
+list_answers : (f : CellFile) (form : Option Form) (about : List Address → List Address → Answer) (ending : Result (Unit {0}) Refusal) (status : ℕ) (s : Streams) → Ends (of_file_and_list f form about) s.input s.table ending s.out → Reports ending status s.err
+    → Answers (of_file_and_list f form about) status s
+list_answers f form about ending status s (bytes, held, inr (refuses, alone, left)) reports =
     let (list, known) = some_left s.input.left in
     record {
       list = list;
       file = bytes;
       list_is = known;
       file_is = held;
-      given = λ none. with_memory true refl (gives_refused f (λ cells. about_numbered_list (about cells) list) bytes ending status s refuses left (none.table_read refl) reports);
+      given = λ none. with_memory true refl (gives_refused f (λ cells. about_numbered_list form (about cells) list) bytes ending status s refuses left (none.table_read refl) reports);
     }
-list_answers f about ending status s (bytes, held, inl (cells, gives, ends)) reports =
-    let (list, known, writes, so_far) = ends in
+list_answers f form about ending status s (bytes, held, inl (cells, gives, ends)) reports =
+    let (list, known, given) = gives_numbered_list form (about cells) ending status s ends reports in
     record {
       list = list;
       file = bytes;
       list_is = known;
       file_is = held;
-      given = λ none. subst (λ c. Gives (unless_refused (λ cells. about_numbered_list (about cells) list) c) status s ⊎ (IsTrue true × RunsOutOfMemory status s)) (sym gives.is)
-          (with_memory true refl (gives_reading _ list _ s.input ending status s writes (none.list_read (read_after f bytes cells gives.is)) none.answer_written reports));
+      given = λ none. subst (λ c. Gives (unless_refused (λ cells. about_numbered_list form (about cells) list) c) status s ⊎ (IsTrue true × RunsOutOfMemory status s)) (sym gives.is)
+          (with_memory true refl (given (none.list_read (read_after f bytes cells gives.is)) none.answer_written));
     }
 
 lines_answers : (f : CellFile) (form : Option Form) (about : List Address → Option ℕ → Answer) (ending : Result (Unit {0}) Refusal) (status : ℕ) (s : Streams) → Ends (of_file_and_lines f form about) s.input s.table ending s.out → Reports ending status s.err
@@ -318,24 +368,14 @@ answers (plain a) ending status s writes reports =
     let (list, held) = some_left s.input.left in
     let (file, kept) = some_left s.table.left in
     record { list = list; file = file; list_is = held; file_is = kept; given = λ none. inl (gives_written a ending status s writes none.answer_written reports) }
-answers (of_list about) ending status s (list, held, writes, so_far) reports =
+answers (of_list form about) ending status s ends reports =
+    let (list, held, given) = gives_list form about ending status s ends reports in
     let (file, kept) = some_left s.table.left in
-    record {
-      list = list;
-      file = file;
-      list_is = held;
-      file_is = kept;
-      given = λ none. with_memory true refl (gives_reading _ list _ s.input ending status s writes (none.list_read refl) none.answer_written reports);
-    }
-answers (of_numbered_list about) ending status s (list, held, writes, so_far) reports =
+    record { list = list; file = file; list_is = held; file_is = kept; given = λ none. with_memory true refl (given (none.list_read refl) none.answer_written) }
+answers (of_numbered_list form about) ending status s ends reports =
+    let (list, held, given) = gives_numbered_list form about ending status s ends reports in
     let (file, kept) = some_left s.table.left in
-    record {
-      list = list;
-      file = file;
-      list_is = held;
-      file_is = kept;
-      given = λ none. with_memory true refl (gives_reading _ list _ s.input ending status s writes (none.list_read refl) none.answer_written reports);
-    }
+    record { list = list; file = file; list_is = held; file_is = kept; given = λ none. with_memory true refl (given (none.list_read refl) none.answer_written) }
 answers (of_lines form about) ending status s ends reports =
     let (list, held, given) = gives_lines form about ending status s ends reports in
     let (file, kept) = some_left s.table.left in
@@ -349,7 +389,7 @@ answers (of_table about) ending status s (file, held, writes, whole) reports =
       file_is = held;
       given = λ none. with_memory true refl (gives_reading _ file _ s.table ending status s writes (none.table_read refl) none.answer_written reports);
     }
-answers (of_file_and_list f about) ending status s ends reports = list_answers f about ending status s ends reports
+answers (of_file_and_list f form about) ending status s ends reports = list_answers f form about ending status s ends reports
 answers (of_file_and_lines f form about) ending status s ends reports = lines_answers f form about ending status s ends reports
 
 -- a run ends so, and reports it

@@ -3,6 +3,7 @@ pub mod CountPasses
 pub mod EdgeLines
 pub mod Endings
 pub mod FilesRead
+pub mod ListedCells
 pub mod PrintedCounts
 pub mod SiblingGroups
 pub mod Written

@@ -30,20 +30,22 @@ use Rattle.h3_requests.specs.declared.command.CellFunction.TheVariants as each
 use Rattle.h3_requests.specs.declared.command.Command.{Command}
 use Rattle.h3_requests.specs.declared.command.Command.TheVariants as command
 use Rattle.h3_requests.specs.declared.rows.RowOptions.{RowOptions}
+use Rattle.h3_rows.specs.Row.{rows_of}
+use Rattle.h3_rows.specs.RowCells.{cells_of}
 use Rattle.h3_rows.specs.RowsAnswer.{Form}
-use Rattle.h3_command.specs.Rows.{function_name, listed_answer, rows_form}
+use Rattle.h3_command.specs.Rows.{function_name, list_form, listed_answer, rows_form}
 
 -- Request: what a command reads and writes: an answer that its words alone fix, one about the cells listed on standard input,
 -- also with the number of a faulty line, one for each line of it, or one about the links of a base cell table; or one about
--- the cells of a file, and then the cells listed on standard input, or for each line of it. Where lines are answered one by
--- one, the list may have rows in a form.
+-- the cells of a file, and then the cells listed on standard input, or for each line of it. The list may have rows in a form,
+-- in place of bare lines.
 pub data Request : Type 0 where
   plain : Answer → Request
-  of_list : (List Address → Answer) → Request
-  of_numbered_list : (List Address → Answer) → Request
+  of_list : Option Form → (List Address → Answer) → Request
+  of_numbered_list : Option Form → (List Address → Answer) → Request
   of_lines : Option Form → (Option ℕ → Answer) → Request
   of_table : (Links → Answer) → Request
-  of_file_and_list : CellFile → (List Address → List Address → Answer) → Request
+  of_file_and_list : CellFile → Option Form → (List Address → List Address → Answer) → Request
   of_file_and_lines : CellFile → Option Form → (List Address → Option ℕ → Answer) → Request
 
 -- with_table about r: the request about a value and a table; where there is an error in place of the value, the answer
@@ -65,9 +67,9 @@ abbrev pub answer_for : CellFunction → Option ℕ → Answer
 answer_for function word = answer_or_error (λ h. shown (outcome_of function h)) (index_given word)
 
 -- request_of rows command: what a command reads and writes, of which the list has rows, or bare lines: an answer that its words
--- alone fix, one about the cells listed on standard input, the same with the number of a faulty line, one line by line about
--- the indexes listed there, or row by row, one about the links of a table, or one about the cells of a file and then about the
--- list, or about each of its lines or rows
+-- alone fix, one about the cells listed on standard input, or those of rows, the same with the number of a faulty line, one
+-- line by line about the indexes listed there, or row by row, one about the links of a table, or one about the cells of a file
+-- and then about the list, or about each of its lines or rows
 abbrev pub request_of : Option RowOptions → Command → Request
 request_of rows (command.IsValidCell cell) = plain (answer_for each.IsValidCell cell)
 request_of rows (command.GetResolution cell) = plain (answer_for each.GetResolution cell)
@@ -84,15 +86,15 @@ request_of rows (command.CellToChildren cell res) = plain (printed cell_lines (f
 request_of rows (command.CellToChildrenSize cell res) = plain (answer_for (each.CellToChildrenSize res) cell)
 request_of rows (command.CellToChildPos cell res) = plain (answer_for (each.CellToChildPos res) cell)
 request_of rows (command.ChildPosToCell position cell res) = plain (printed cell_line (for_value (λ h. child_pos_to_cell position h res) (index_given cell)))
-request_of rows command.CompactCells = of_list (λ cells. printed cell_lines (compact_cells cells))
-request_of rows (command.UncompactCells res) = of_list (λ cells. printed cell_lines (uncompact_cells res cells))
-request_of rows (command.UncompactCellsSize res) = of_numbered_list (λ cells. printed number_line (uncompact_cells_size res cells))
-request_of rows command.UniteCells = of_numbered_list (λ cells. written (cell_lines (compacted cells)))
-request_of rows command.IntersectCells = of_file_and_list Region shared_answer
-request_of rows command.SubtractCells = of_file_and_list Region left_answer
+request_of rows command.CompactCells = of_list (list_form rows) (λ cells. printed cell_lines (compact_cells cells))
+request_of rows (command.UncompactCells res) = of_list (list_form rows) (λ cells. printed cell_lines (uncompact_cells res cells))
+request_of rows (command.UncompactCellsSize res) = of_numbered_list (list_form rows) (λ cells. printed number_line (uncompact_cells_size res cells))
+request_of rows command.UniteCells = of_numbered_list (list_form rows) (λ cells. written (cell_lines (compacted cells)))
+request_of rows command.IntersectCells = of_file_and_list Region (list_form rows) shared_answer
+request_of rows command.SubtractCells = of_file_and_list Region (list_form rows) left_answer
 request_of rows command.AreCoveredCells = of_file_and_lines Region (rows_form rows (codes "isCovered")) covered_answer
 request_of rows command.CellsToZones = of_file_and_lines Zones (rows_form rows (codes "zone")) zone_answer
-request_of rows command.CountCellsInZones = of_file_and_list Zones counts_answer
+request_of rows command.CountCellsInZones = of_file_and_list Zones (list_form rows) counts_answer
 request_of rows (command.GridDiskUnsafe cell k) = with_table (λ c link. answer_or_error (walked cell_line) (grid_disk_unsafe link c k)) (cell_given cell)
 request_of rows (command.GridDiskDistancesUnsafe cell k) = with_table (λ c link. answer_or_error (walked ring_line) (grid_disk_distances_unsafe link c k)) (cell_given cell)
 request_of rows (command.GridRingUnsafe cell k) = with_table (λ c link. answer_or_error (walked cell_line) (grid_ring_unsafe link c k)) (cell_given cell)
@@ -111,37 +113,37 @@ request c = request_of None c
 -- reads_list r: the request reads the list
 abbrev pub reads_list : Request → Bool
 reads_list (plain a) = false
-reads_list (of_list about) = true
-reads_list (of_numbered_list about) = true
+reads_list (of_list form about) = true
+reads_list (of_numbered_list form about) = true
 reads_list (of_lines form about) = true
 reads_list (of_table about) = false
-reads_list (of_file_and_list file about) = true
+reads_list (of_file_and_list file form about) = true
 reads_list (of_file_and_lines file form about) = true
 
 -- reads_table r: it reads the table, or a file of cells in its place
 abbrev pub reads_table : Request → Bool
 reads_table (plain a) = false
-reads_table (of_list about) = false
-reads_table (of_numbered_list about) = false
+reads_table (of_list form about) = false
+reads_table (of_numbered_list form about) = false
 reads_table (of_lines form about) = false
 reads_table (of_table about) = true
-reads_table (of_file_and_list file about) = true
+reads_table (of_file_and_list file form about) = true
 reads_table (of_file_and_lines file form about) = true
 
 -- the list is read where the bytes of the table, or of the file of cells, are these: not where such a file is refused
 abbrev pub reads_list_after : Request → List ℕ → Bool
-reads_list_after (of_file_and_list f about) file = is_ok (file_cells f file)
+reads_list_after (of_file_and_list f form about) file = is_ok (file_cells f file)
 reads_list_after (of_file_and_lines f form about) file = is_ok (file_cells f file)
 reads_list_after r file = reads_list r
 
 -- takes_memory r: it takes memory
 abbrev pub takes_memory : Request → Bool
 takes_memory (plain a) = false
-takes_memory (of_list about) = true
-takes_memory (of_numbered_list about) = true
+takes_memory (of_list form about) = true
+takes_memory (of_numbered_list form about) = true
 takes_memory (of_lines form about) = true
 takes_memory (of_table about) = true
-takes_memory (of_file_and_list file about) = true
+takes_memory (of_file_and_list file form about) = true
 takes_memory (of_file_and_lines file form about) = true
 
 -- ---- the answer
@@ -160,20 +162,31 @@ unless_faulty (Some e) a = table_refused e
 abbrev pub about_table : (Links → Answer) → List ℕ → Answer
 about_table about file = unless_faulty (table_fault (records_of file)) (about (links_of (records_of file)))
 
--- about_numbered_list about list: the answer about the cells in a list of bytes, or the error of the first faulty
--- line, told with its number
-abbrev pub about_numbered_list : (List Address → Answer) → List ℕ → Answer
-about_numbered_list about list = answer_or_error_at (faulty_line list) about (listed_cells list)
+-- about_rows form about list: the answer about the cells of the rows in a list of bytes, or the error of the first row that
+-- ends the list, told with its number, or of the column that a header lacks
+abbrev pub about_rows : Form → (List Address → Answer) → List ℕ → Answer
+about_rows form about list = unless_refused about (cells_of form (rows_of form.quotes list))
+
+-- about_list form about list: the answer about the cells in a list of bytes, or the error of the first faulty line; or about
+-- those of its rows
+abbrev pub about_list : Option Form → (List Address → Answer) → List ℕ → Answer
+about_list None about list = answer_or_error about (listed_cells list)
+about_list (Some form) about list = about_rows form about list
+
+-- about_numbered_list form about list: the same, where the error of a faulty line is told with its number
+abbrev pub about_numbered_list : Option Form → (List Address → Answer) → List ℕ → Answer
+about_numbered_list None about list = answer_or_error_at (faulty_line list) about (listed_cells list)
+about_numbered_list (Some form) about list = about_rows form about list
 
 -- answer_to r list file: the answer to a request, for the bytes of its list and those of its table, or of a file of cells in its
 -- place: where that file is refused, the list has no part in the answer
 abbrev pub answer_to : Request → List ℕ → List ℕ → Answer
 answer_to (plain a) list file = a
-answer_to (of_list about) list file = answer_or_error about (listed_cells list)
-answer_to (of_numbered_list about) list file = about_numbered_list about list
+answer_to (of_list form about) list file = about_list form about list
+answer_to (of_numbered_list form about) list file = about_numbered_list form about list
 answer_to (of_lines form about) list file = listed_answer form about list
 answer_to (of_table about) list file = about_table about file
-answer_to (of_file_and_list f about) list file = unless_refused (λ cells. about_numbered_list (about cells) list) (file_cells f file)
+answer_to (of_file_and_list f form about) list file = unless_refused (λ cells. about_numbered_list form (about cells) list) (file_cells f file)
 answer_to (of_file_and_lines f form about) list file = unless_refused (λ cells. listed_answer form (about cells) list) (file_cells f file)
 
 -- the answer to a command. Examples alone cite it.

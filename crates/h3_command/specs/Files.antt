@@ -41,7 +41,8 @@ judged_cells file line (Err e) = Err (FileAt file line e)
 abbrev pub file_cells : CellFile → List ℕ → Result (List Address) AnswerError
 file_cells file bytes = judged_cells file (faulty_line bytes) (listed_cells bytes)
 
--- unless_refused about cells: the answer about the cells of a file; where it is refused, that error and no output
+-- unless_refused about cells: the answer about the cells of a file, or of rows; where these are refused, that error and no
+-- output
 abbrev pub unless_refused : (List Address → Answer) → Result (List Address) AnswerError → Answer
 unless_refused about (Ok cells) = about cells
 unless_refused about (Err e) = record { output = []; ending = Err e }

@@ -5,6 +5,7 @@ pub mod EdgeExamples
 pub mod Examples
 pub mod Files
 pub mod Given
+pub mod Listed
 pub mod Rows
 pub mod Run
 pub mod Sizing

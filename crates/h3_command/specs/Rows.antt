@@ -1,5 +1,6 @@
--- Lists that are answered line by line: bare, or as rows, each of which is written with the answer to its own cell beside it.
-use Rattle.std.specs.Prelude.{ℕ, List, Option, None, Some, codes, option_map}
+-- Lists, bare or of rows: answered line by line, where each row is written with the answer to its own cell beside it, or by
+-- their cells as a whole.
+use Rattle.std.specs.Prelude.{ℕ, List, [], Option, None, Some, codes, option_map}
 use Rattle.h3_lines.specs.Answer.{Answer}
 use Rattle.h3_lines.specs.EachLine.{list_answer}
 use Rattle.h3_requests.specs.declared.command.CellFunction.{CellFunction}
@@ -28,6 +29,10 @@ function_name each.OriginToDirectedEdges = codes "originToDirectedEdges"
 -- rows_form rows name: the form of a list's rows, if it has rows, where the new column has this name unless another is given
 abbrev pub rows_form : Option RowOptions → List ℕ → Option Form
 rows_form rows name = option_map (λ options. form_of options name) rows
+
+-- list_form rows: the form of a list's rows, if it has rows, of which the cells alone are read: no column is added
+abbrev pub list_form : Option RowOptions → Option Form
+list_form rows = rows_form rows []
 
 -- listed_answer form about list: the answer to the list in these bytes, line by line, or row by row in a form
 abbrev pub listed_answer : Option Form → (Option ℕ → Answer) → List ℕ → Answer

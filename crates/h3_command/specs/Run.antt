@@ -10,16 +10,17 @@ use Rattle.h3_lines.specs.declared.refusal.CellFile.{CellFile}
 use Rattle.h3_lines.specs.declared.refusal.Fault.TheVariants.{Memory, Read, Write}
 use Rattle.h3_lines.specs.declared.refusal.Refusal.{Refusal}
 use Rattle.h3_lines.specs.declared.refusal.Refusal.TheVariants.{Error, Fault}
-use Rattle.h3_lines.specs.Answer.{Answer, answer_or_error}
+use Rattle.h3_lines.specs.Answer.{Answer}
 use Rattle.h3_lines.specs.Writing.{IsLeft, Reports, SinkUse, Takes, Writes}
 use Rattle.h3_lines.specs.EachLine.{EndsEach}
 use Rattle.h3_lines.specs.List.{listed_cells}
 use Rattle.h3_lines.specs.Reads.{IsListWithinReads, IsWithinReads, StopsAtFault}
 use Rattle.h3_lines.specs.Refusal.{ending_of}
 use Rattle.h3_rows.specs.EndsRows.{EndsRows}
+use Rattle.h3_rows.specs.RowCells.{AllRowsRead, RefusesRows}
 use Rattle.h3_rows.specs.RowsAnswer.{Form, begun_answer, rows_answer}
 use Rattle.h3_command.specs.Files.{file_cells}
-use Rattle.h3_command.specs.Answer.{Request, about_numbered_list, about_table, answer_to, reads_list_after, reads_table, takes_memory}
+use Rattle.h3_command.specs.Answer.{Request, about_list, about_numbered_list, about_table, answer_to, reads_list_after, reads_table, takes_memory}
 use Rattle.h3_command.specs.Answer.Request.{plain, of_file_and_lines, of_file_and_list, of_lines, of_list, of_numbered_list, of_table}
 
 -- ---- streams
@@ -91,14 +92,43 @@ IsReadSoFar (Ok cells) source ending = IsReadToEnd source
 -- is written, and 2^40 reads can find the end of the list or a faulty line
 abbrev pub WritesOfList : (List Address → Answer) → SourceUse → Result (Unit {0}) Refusal → SinkUse → Type 0
 WritesOfList about input ending out =
-    (list : List ℕ) × HasLeft input.left list × WritesReading (answer_or_error about (listed_cells list)) list (IsListWithinReads (2 ^ 40) 65536 list) input ending out
+    (list : List ℕ) × HasLeft input.left list × WritesReading (about_list None about list) list (IsListWithinReads (2 ^ 40) 65536 list) input ending out
     × IsReadSoFar (listed_cells list) input ending
 
 -- WritesOfNumberedList about input ending out: the same, where the error of a faulty line is told with its number
 abbrev pub WritesOfNumberedList : (List Address → Answer) → SourceUse → Result (Unit {0}) Refusal → SinkUse → Type 0
 WritesOfNumberedList about input ending out =
-    (list : List ℕ) × HasLeft input.left list × WritesReading (about_numbered_list about list) list (IsListWithinReads (2 ^ 40) 65536 list) input ending out
+    (list : List ℕ) × HasLeft input.left list × WritesReading (about_numbered_list None about list) list (IsListWithinReads (2 ^ 40) 65536 list) input ending out
     × IsReadSoFar (listed_cells list) input ending
+
+-- GivesRows form input cells: the rows of a list are read to their end, no read fails, and these are their cells
+abbrev pub GivesRows : Form → SourceUse → List Address → Type 0
+GivesRows form input cells = NoReadFails input × AllRowsRead form (Ok cells) input.left input.left_after
+
+-- RefusesInput form input ending: the reading of the cells of rows is refused, as `RefusesRows` says
+abbrev pub RefusesInput : Form → SourceUse → Result (Unit {0}) Refusal → Type 0
+RefusesInput form input (Ok u) = ⊥
+RefusesInput form input (Err e) = RefusesRows form input.left input.left_after input.had_failed input.has_failed e
+
+-- WritesUnlessMemory a ending out: the answer is written; or there is no memory, and nothing is
+abbrev pub WritesUnlessMemory : Answer → Result (Unit {0}) Refusal → SinkUse → Type 0
+WritesUnlessMemory a ending out = Writes a ending out ⊎ ((ending ≡ Err (Fault Memory)) × IsLeft out)
+
+-- WritesOfRows form about input ending out: the rows of a list are read, and the answer about their cells is written, or there
+-- is no memory for it; or they are refused, and nothing is written
+abbrev pub WritesOfRows : Form → (List Address → Answer) → SourceUse → Result (Unit {0}) Refusal → SinkUse → Type 0
+WritesOfRows form about input ending out =
+    ((cells : List Address) × GivesRows form input cells × WritesUnlessMemory (about cells) ending out) ⊎ (RefusesInput form input ending × IsLeft out)
+
+-- EndsList form about input ending out: how a command ends that answers about the cells of a list, bare or of rows in a form
+abbrev pub EndsList : Option Form → (List Address → Answer) → SourceUse → Result (Unit {0}) Refusal → SinkUse → Type 0
+EndsList None about input ending out = WritesOfList about input ending out
+EndsList (Some form) about input ending out = WritesOfRows form about input ending out
+
+-- EndsNumberedList form about input ending out: the same, where the error of a faulty line is told with its number
+abbrev pub EndsNumberedList : Option Form → (List Address → Answer) → SourceUse → Result (Unit {0}) Refusal → SinkUse → Type 0
+EndsNumberedList None about input ending out = WritesOfNumberedList about input ending out
+EndsNumberedList (Some form) about input ending out = WritesOfRows form about input ending out
 
 -- IsReadWhole source ending: the source is read to its end, but where there is no memory or a read fails
 abbrev pub IsReadWhole : SourceUse → Result (Unit {0}) Refusal → Type 0
@@ -154,11 +184,12 @@ EndsOverFile f then_ends input file ending out =
 -- Ends r input table ending out: how a run may end, by its request
 abbrev pub Ends : Request → SourceUse → SourceUse → Result (Unit {0}) Refusal → SinkUse → Type 0
 Ends (plain a) input table ending out = Writes a ending out
-Ends (of_list about) input table ending out = WritesOfList about input ending out
-Ends (of_numbered_list about) input table ending out = WritesOfNumberedList about input ending out
+Ends (of_list form about) input table ending out = EndsList form about input ending out
+Ends (of_numbered_list form about) input table ending out = EndsNumberedList form about input ending out
 Ends (of_lines form about) input table ending out = EndsLines form about input ending out
 Ends (of_table about) input table ending out = WritesOfTable about table ending out
-Ends (of_file_and_list f about) input file ending out = EndsOverFile f (λ cells. WritesOfNumberedList (about cells) input ending out) input file ending out
+Ends (of_file_and_list f form about) input file ending out =
+    EndsOverFile f (λ cells. EndsNumberedList form (about cells) input ending out) input file ending out
 Ends (of_file_and_lines f form about) input file ending out =
     EndsOverFile f (λ cells. EndsLines form (about cells) input ending out) input file ending out
 

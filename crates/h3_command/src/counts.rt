@@ -8,15 +8,18 @@ ghost use Rattle.h3_regions.specs.Zones.{IsZones};
 ghost use Rattle.h3_lines.specs.Writing.{Writes, sink_use};
 ghost use Rattle.h3_lines.specs.declared.refusal.CellFile.TheVariants as kind_of_file;
 ghost use Rattle.h3_command.specs.Files.{counts_answer};
-ghost use Rattle.h3_command.specs.Run.{EndsOverFile, WritesOfNumberedList, source_use};
+ghost use Rattle.h3_command.specs.Rows.{list_form};
+ghost use Rattle.h3_command.specs.Run.{EndsNumberedList, EndsOverFile, source_use};
 ghost use Rattle.h3_command.specs.Tallying.{CountsMore, counts_none, counts_then};
 
 use crate::count_lines::CountLines;
 use crate::files::{look_ahead, read_zones};
+use crate::listed::take_listed;
 use h3_index::{Cell, Sink, Source};
-use h3_lines::{CellTaker, Fault, Hints, Refusal, take_cells, write_lines};
+use h3_lines::{CellTaker, Fault, Hints, Refusal, write_lines};
 use h3_regions::laws::zones_are_lawful;
 use h3_regions::{Zones, count_next};
+use h3_requests::RowOptions;
 use std::alloc::Global;
 
 /// How many of the cells taken so far lie in each zone, and how many in none.
@@ -79,16 +82,17 @@ fn write_counts<W: Sink>(
     write_lines(out, CountLines::new(zones, counts, others))
 }
 
-/// Writes how many of the cells listed on the input lie in each of zones in order, and how many in
-/// none.
+/// Writes how many of the cells listed on the input, or of those of its rows, lie in each of zones in
+/// order, and how many in none.
 fn answer_counts<R: Source, W: Sink>(
     alloc: Global,
+    rows: &Option<RowOptions>,
     zones: &[Cell],
     input: &mut R,
     out: &mut W,
 ) -> Result<(), Refusal>
     requires { IsZones zones.now }
-    ensures { WritesOfNumberedList (counts_answer zones.now)
+    ensures { EndsNumberedList (list_form rows.now) (counts_answer zones.now)
         (source_use R.left R.has_failed input.old input.new) result
         (sink_use W.taken W.has_failed out.old out.new) }
 {
@@ -101,19 +105,21 @@ fn answer_counts<R: Source, W: Sink>(
         place: 0,
         hints: Hints::new(),
     };
-    let tally = take_cells(alloc, tally, input)?;
+    let tally = take_listed(alloc, tally, rows, input)?;
     write_counts(&Zones::over(zones), &tally.counts, tally.others, out)
 }
 
-/// Writes how many of the cells listed on the input lie in each zone of a file, and how many in none.
+/// Writes how many of the cells listed on the input, or of those of its rows, lie in each zone of a
+/// file, and how many in none.
 pub(crate) fn count_cells_in_zones<R: Source, T: Source, W: Sink>(
     alloc: Global,
+    rows: &Option<RowOptions>,
     input: &mut R,
     file: &mut T,
     out: &mut W,
 ) -> Result<(), Refusal>
     ensures { EndsOverFile kind_of_file.Zones
-        (λ zones. WritesOfNumberedList (counts_answer zones)
+        (λ zones. EndsNumberedList (list_form rows.now) (counts_answer zones)
         (source_use R.left R.has_failed input.old input.new) result
         (sink_use W.taken W.has_failed out.old out.new))
         (source_use R.left R.has_failed input.old input.new)
@@ -122,5 +128,5 @@ pub(crate) fn count_cells_in_zones<R: Source, T: Source, W: Sink>(
 {
     zones_are_lawful();
     let zones = read_zones(alloc, file)?;
-    answer_counts(alloc, &zones, input, out)
+    answer_counts(alloc, rows, &zones, input, out)
 }

@@ -18,10 +18,11 @@ ghost use Rattle.h3_lines.specs.declared.refusal.Fault.TheVariants.{Memory};
 ghost use Rattle.h3_lines.specs.declared.refusal.Refusal.TheVariants as refusal;
 ghost use Rattle.h3_command.specs.Combination.{combined, combined_answer, error_of_file, region_answer, told_of};
 ghost use Rattle.h3_command.specs.Files.{cell_to_zone, covered_answer, is_covered_cell, zone_answer};
-ghost use Rattle.h3_command.specs.Rows.{rows_form};
-ghost use Rattle.h3_command.specs.Run.{EndsLines, EndsOverFile, GivesFile, RefusesFile, WritesOfNumberedList, source_use};
+ghost use Rattle.h3_command.specs.Rows.{list_form, rows_form};
+ghost use Rattle.h3_command.specs.Run.{EndsLines, EndsNumberedList, EndsOverFile, GivesFile, RefusesFile, source_use};
 
 use crate::given::cell_given;
+use crate::listed::read_numbered;
 use crate::rows::answer_listed;
 use crate::sets::write_united;
 use h3_index::{Cell, CellLines, H3Error, Sink, Source};
@@ -202,33 +203,36 @@ fn combined_cells(
     }
 }
 
-/// Writes what is made of the cells listed on the input and those of a file.
+/// Writes what is made of the cells listed on the input, or of those of its rows, and those of a file.
 fn combine_listed<R: Source, W: Sink>(
     alloc: Global,
     kind: Combination,
+    rows: &Option<RowOptions>,
     others: &mut [Cell],
     input: &mut R,
     out: &mut W,
 ) -> Result<(), Refusal>
-    ensures { WritesOfNumberedList (combined_answer kind others.old)
+    ensures { EndsNumberedList (list_form rows.now) (combined_answer kind others.old)
         (source_use R.left R.has_failed input.old input.new) result
         (sink_use W.taken W.has_failed out.old out.new) }
 {
-    let mut cells = read_numbered_cells(alloc, input)?;
+    let mut cells = read_numbered(alloc, rows, input)?;
     let mut made = combined_cells(alloc, kind, &mut cells, others)?;
     write_united(&mut made, out)
 }
 
-/// Writes what is made of the cells listed on the input and those of the file of a region.
+/// Writes what is made of the cells listed on the input, or of those of its rows, and those of the
+/// file of a region.
 pub(crate) fn combine_cells<R: Source, T: Source, W: Sink>(
     alloc: Global,
     kind: Combination,
+    rows: &Option<RowOptions>,
     input: &mut R,
     file: &mut T,
     out: &mut W,
 ) -> Result<(), Refusal>
     ensures { EndsOverFile kind_of_file.Region
-        (λ cells. WritesOfNumberedList (combined_answer kind cells)
+        (λ cells. EndsNumberedList (list_form rows.now) (combined_answer kind cells)
         (source_use R.left R.has_failed input.old input.new) result
         (sink_use W.taken W.has_failed out.old out.new))
         (source_use R.left R.has_failed input.old input.new)
@@ -236,7 +240,7 @@ pub(crate) fn combine_cells<R: Source, T: Source, W: Sink>(
         (sink_use W.taken W.has_failed out.old out.new) }
 {
     let mut others = read_region(alloc, file)?;
-    combine_listed(alloc, kind, &mut others, input, out)
+    combine_listed(alloc, kind, rows, &mut others, input, out)
 }
 
 /// Whether a region covers the cell with an index, looked for from where the last cell's member of

@@ -8,6 +8,7 @@ mod edges;
 mod files;
 mod for_each;
 mod given;
+mod listed;
 mod rows;
 pub mod run;
 mod sets;

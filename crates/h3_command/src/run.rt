@@ -71,15 +71,15 @@ fn perform<R: Source, T: Source, W: Sink>(
             cell,
             res,
         } => write_result(out, child_pos_to_cell(position, cell, res)),
-        CompactCells => compact_cells(alloc, input, out),
-        UncompactCells { res } => uncompact_cells(alloc, res, input, out),
-        UncompactCellsSize { res } => uncompact_cells_size(alloc, res, input, out),
-        UniteCells => unite_cells(alloc, input, out),
-        IntersectCells => combine_cells(alloc, Combination::Shared, input, table, out),
-        SubtractCells => combine_cells(alloc, Combination::Left, input, table, out),
+        CompactCells => compact_cells(alloc, rows, input, out),
+        UncompactCells { res } => uncompact_cells(alloc, res, rows, input, out),
+        UncompactCellsSize { res } => uncompact_cells_size(alloc, res, rows, input, out),
+        UniteCells => unite_cells(alloc, rows, input, out),
+        IntersectCells => combine_cells(alloc, Combination::Shared, rows, input, table, out),
+        SubtractCells => combine_cells(alloc, Combination::Left, rows, input, table, out),
         AreCoveredCells => are_covered_cells(alloc, rows, input, table, out),
         CellsToZones => cells_to_zones(alloc, rows, input, table, out),
-        CountCellsInZones => count_cells_in_zones(alloc, input, table, out),
+        CountCellsInZones => count_cells_in_zones(alloc, rows, input, table, out),
         GridDiskUnsafe { cell, k } => over_table(alloc, grid_disk_unsafe(cell, k), table, out),
         GridDiskDistancesUnsafe { cell, k } => {
             over_table(alloc, grid_disk_distances_unsafe(cell, k), table, out)
@@ -109,7 +109,7 @@ fn perform<R: Source, T: Source, W: Sink>(
 
 /// Runs a command, as `run` does, over a list that has rows, if it is said how they are read and
 /// written. A command that answers line by line then writes each row with the answer to its own cell
-/// beside it. The others read no rows.
+/// beside it. One that answers about its list as a whole takes the cells of the rows as the list.
 pub fn run_over<R: Source, T: Source, W: Sink, E: Sink>(
     alloc: Global,
     command: &Command,

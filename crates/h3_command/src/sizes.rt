@@ -7,11 +7,14 @@ ghost use Rattle.h3_index.specs.Count.{resolution_of};
 ghost use Rattle.h3_lines.specs.Answer.{number_line, printed};
 ghost use Rattle.h3_lines.specs.Writing.{Writes, sink_use};
 ghost use Rattle.h3_functions.specs.Sets.{uncompact_cells_size};
-ghost use Rattle.h3_command.specs.Run.{WritesOfNumberedList, source_use};
+ghost use Rattle.h3_command.specs.Rows.{list_form};
+ghost use Rattle.h3_command.specs.Run.{EndsNumberedList, source_use};
 ghost use Rattle.h3_command.specs.Sizing.{IsSizeOf, SizesMore, sizes_none, sizes_then};
 
+use crate::listed::take_listed;
 use h3_index::{Cell, H3Error, Sink, Source, resolution_from};
-use h3_lines::{CellTaker, Refusal, take_cells, write_result};
+use h3_lines::{CellTaker, Refusal, write_result};
+use h3_requests::RowOptions;
 use h3_tree::children_size;
 use std::alloc::Global;
 
@@ -78,19 +81,21 @@ fn judged(size: &Size, res: i32) -> Result<u128, H3Error>
     Ok(size.total)
 }
 
-/// Writes how many cells of a resolution the cells listed on the input uncompact to, as H3's
-/// `uncompactCellsSize` counts them. The list is read to its end before the resolution is judged, as
-/// `uncompact_cells` does.
+/// Writes how many cells of a resolution the cells listed on the input, or those of its rows,
+/// uncompact to, as H3's `uncompactCellsSize` counts them. The list is read to its end before the
+/// resolution is judged, as `uncompact_cells` does.
 pub(crate) fn uncompact_cells_size<R: Source, W: Sink>(
     alloc: Global,
     res: i32,
+    rows: &Option<RowOptions>,
     input: &mut R,
     out: &mut W,
 ) -> Result<(), Refusal>
-    ensures { WritesOfNumberedList (λ cells. printed number_line (uncompact_cells_size res cells))
+    ensures { EndsNumberedList (list_form rows.now)
+        (λ cells. printed number_line (uncompact_cells_size res cells))
         (source_use R.left R.has_failed input.old input.new) result
         (sink_use W.taken W.has_failed out.old out.new) }
 {
-    let size = take_cells(alloc, nothing_taken(res), input)?;
+    let size = take_listed(alloc, nothing_taken(res), rows, input)?;
     write_result(out, judged(&size, res))
 }

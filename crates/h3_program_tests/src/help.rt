@@ -306,7 +306,7 @@ static LIST_USAGES: [(&str, &str); 22] = [
 ];
 
 /// Lines that ask for help of a command that reads rows, and what it says of them.
-static ROWS_HELP: [(&str, &str); 12] = [
+static ROWS_HELP: [(&str, &str); 15] = [
     ("h3 cellsToParents --help", "\nRows:\n"),
     ("h3 cellsToParents --help", "--field <number>"),
     ("h3 cellsToParents --help", "--column <column>"),
@@ -322,6 +322,9 @@ static ROWS_HELP: [(&str, &str); 12] = [
     ("h3 getResolutions --help", "\nRows:\n"),
     ("h3 areCoveredCells --help", "--keep-going "),
     ("h3 cellsToZones --help", "--csv "),
+    ("h3 compactCells --help", "\nRows:\n"),
+    ("h3 uniteCells --help", "--field <number>"),
+    ("h3 countCellsInZones --help", "--csv "),
 ];
 
 #[test]

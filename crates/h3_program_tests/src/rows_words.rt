@@ -220,6 +220,53 @@ fn reads_names_of_columns(rt: HostRuntime) {
     }
 }
 
+/// Lines of commands that answer about their list as a whole.
+static LISTS: [(&str, Expected); 9] = [
+    (
+        "h3 compactCells --field 2 --header",
+        (Field::Number(2), true, b'\t', false, None, false),
+    ),
+    (
+        "h3 compactCells --column cell",
+        (Field::Column("cell"), true, b'\t', false, None, false),
+    ),
+    (
+        "h3 uncompactCells --csv -r 6 --column a",
+        (Field::Column("a"), true, b',', true, None, false),
+    ),
+    (
+        "h3 uncompactCells -r 6 --header --field 1",
+        (Field::Number(1), true, b'\t', false, None, false),
+    ),
+    (
+        "h3 uncompactCellsSize -r 6 --field 1 --separator ;",
+        (Field::Number(1), false, b';', false, None, false),
+    ),
+    (
+        "h3 uniteCells --field 65535 --csv",
+        (Field::Number(65535), false, b',', true, None, false),
+    ),
+    (
+        "h3 intersectCells --region r --field 3",
+        (Field::Number(3), false, b'\t', false, None, false),
+    ),
+    (
+        "h3 subtractCells --column=cell --region r",
+        (Field::Column("cell"), true, b'\t', false, None, false),
+    ),
+    (
+        "h3 countCellsInZones --zones z --csv --column cell",
+        (Field::Column("cell"), true, b',', true, None, false),
+    ),
+];
+
+#[test]
+fn reads_rows_of_lists(rt: HostRuntime) {
+    for (line, expected) in &LISTS {
+        assert!(&rt; asks_for_rows(rt.alloc(), line, expected), "{line}");
+    }
+}
+
 /// Lines of commands on a bare list, or on none.
 static BARE: [&str; 13] = [
     "h3 compactCells",
@@ -293,7 +340,7 @@ fn refuses_options_without_company(rt: HostRuntime) {
 }
 
 /// Lines with an unfit separator or name, a flag with a value, or an option of other commands.
-static UNFIT: [&str; 33] = [
+static UNFIT: [&str; 40] = [
     "h3 getResolutions --field 1 --separator a",
     "h3 getResolutions --field 1 --separator Z",
     "h3 getResolutions --field 1 --separator 0",
@@ -319,11 +366,18 @@ static UNFIT: [&str; 33] = [
     "h3 getResolutions --field 1 --csv true",
     "h3 getResolutions --field 1 --cs",
     "h3 getResolutions --field 1 -csv",
-    "h3 compactCells --field 1",
-    "h3 uncompactCells -r 6 --column a",
-    "h3 countCellsInZones --zones z --csv --column a",
-    "h3 uncompactCellsSize -r 6 --field 1",
+    "h3 compactCells --field 1 --keep-going",
+    "h3 compactCells --column a --as b",
+    "h3 uncompactCells -r 6 --column a --as b",
+    "h3 uncompactCells -r 6 --field 1 --keep-going",
+    "h3 uncompactCellsSize -r 6 --field 1 --keep-going",
     "h3 uniteCells --field 1 --keep-going",
+    "h3 uniteCells --column a --as b",
+    "h3 intersectCells --region r --field 1 --keep-going",
+    "h3 subtractCells --region r --column a --as b",
+    "h3 countCellsInZones --zones z --csv --column a --as b",
+    "h3 countCellsInZones --zones z --csv",
+    "h3 compactCells --header",
     "h3 isValidCell -c 0 --field 1",
     "h3 gridDiskUnsafe -c 0 -k 1 --table t --csv",
     "h3 getRes0Cells --column a",

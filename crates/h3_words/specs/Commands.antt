@@ -31,6 +31,10 @@ pub record Entry : Type 0 where
   pub word : Text
   pub options : List CommandOption
 
+-- the options of each command that answers about its list as a whole: how its rows are read
+abbrev pub list_options : List CommandOption
+list_options = Field ∷ Column ∷ Header ∷ Separator ∷ Csv ∷ []
+
 -- the options of each command that answers its list line by line: how its rows are read and written
 abbrev pub line_options : List CommandOption
 line_options = Field ∷ Column ∷ Header ∷ Separator ∷ Csv ∷ As ∷ KeepGoing ∷ []
@@ -52,15 +56,15 @@ entry_of name.CellToChildren = record { word = codes "cellToChildren"; options =
 entry_of name.CellToChildrenSize = record { word = codes "cellToChildrenSize"; options = Cell ∷ Resolution ∷ [] }
 entry_of name.CellToChildPos = record { word = codes "cellToChildPos"; options = Cell ∷ Resolution ∷ [] }
 entry_of name.ChildPosToCell = record { word = codes "childPosToCell"; options = Position ∷ Cell ∷ Resolution ∷ [] }
-entry_of name.CompactCells = record { word = codes "compactCells"; options = [] }
-entry_of name.UncompactCells = record { word = codes "uncompactCells"; options = Resolution ∷ [] }
-entry_of name.UncompactCellsSize = record { word = codes "uncompactCellsSize"; options = Resolution ∷ [] }
-entry_of name.UniteCells = record { word = codes "uniteCells"; options = [] }
-entry_of name.IntersectCells = record { word = codes "intersectCells"; options = Region ∷ [] }
-entry_of name.SubtractCells = record { word = codes "subtractCells"; options = Region ∷ [] }
+entry_of name.CompactCells = record { word = codes "compactCells"; options = list_options }
+entry_of name.UncompactCells = record { word = codes "uncompactCells"; options = Resolution ∷ list_options }
+entry_of name.UncompactCellsSize = record { word = codes "uncompactCellsSize"; options = Resolution ∷ list_options }
+entry_of name.UniteCells = record { word = codes "uniteCells"; options = list_options }
+entry_of name.IntersectCells = record { word = codes "intersectCells"; options = Region ∷ list_options }
+entry_of name.SubtractCells = record { word = codes "subtractCells"; options = Region ∷ list_options }
 entry_of name.AreCoveredCells = record { word = codes "areCoveredCells"; options = Region ∷ line_options }
 entry_of name.CellsToZones = record { word = codes "cellsToZones"; options = Zones ∷ line_options }
-entry_of name.CountCellsInZones = record { word = codes "countCellsInZones"; options = Zones ∷ [] }
+entry_of name.CountCellsInZones = record { word = codes "countCellsInZones"; options = Zones ∷ list_options }
 entry_of name.GridDiskUnsafe = record { word = codes "gridDiskUnsafe"; options = Cell ∷ Radius ∷ Table ∷ [] }
 entry_of name.GridDiskDistancesUnsafe = record { word = codes "gridDiskDistancesUnsafe"; options = Cell ∷ Radius ∷ Table ∷ [] }
 entry_of name.GridRingUnsafe = record { word = codes "gridRingUnsafe"; options = Cell ∷ Radius ∷ Table ∷ [] }

@@ -129,6 +129,13 @@ struct Entry {
     options: &'static [CommandOption],
 }
 
+// These options, and those of a command that answers about its list as a whole.
+macro_rules! with_list_options {
+    ($($own:ident)?) => {
+        &[$($own,)? Field, Column, Header, Separator, Csv]
+    };
+}
+
 // These options, and those of a command that answers its list line by line.
 macro_rules! with_line_options {
     ($($own:ident)?) => {
@@ -212,27 +219,27 @@ impl CommandName {
             },
             CommandName::CompactCells => Entry {
                 word: "compactCells",
-                options: &[],
+                options: with_list_options!(),
             },
             CommandName::UncompactCells => Entry {
                 word: "uncompactCells",
-                options: &[Resolution],
+                options: with_list_options!(Resolution),
             },
             CommandName::UncompactCellsSize => Entry {
                 word: "uncompactCellsSize",
-                options: &[Resolution],
+                options: with_list_options!(Resolution),
             },
             CommandName::UniteCells => Entry {
                 word: "uniteCells",
-                options: &[],
+                options: with_list_options!(),
             },
             CommandName::IntersectCells => Entry {
                 word: "intersectCells",
-                options: &[Region],
+                options: with_list_options!(Region),
             },
             CommandName::SubtractCells => Entry {
                 word: "subtractCells",
-                options: &[Region],
+                options: with_list_options!(Region),
             },
             CommandName::AreCoveredCells => Entry {
                 word: "areCoveredCells",
@@ -244,7 +251,7 @@ impl CommandName {
             },
             CommandName::CountCellsInZones => Entry {
                 word: "countCellsInZones",
-                options: &[Zones],
+                options: with_list_options!(Zones),
             },
             CommandName::GridDiskUnsafe => Entry {
                 word: "gridDiskUnsafe",

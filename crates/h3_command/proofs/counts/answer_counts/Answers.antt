@@ -7,18 +7,18 @@ use Rattle.std.proofs.lemmas.Result.{err_from_is_err_and}
 use Rattle.h3_lines.specs.Writing.{sink_use}
 use Rattle.h3_regions.specs.Counts.{AreCounts}
 use Rattle.h3_command.specs.Files.{counts_answer}
+use Rattle.h3_command.specs.Rows.{list_form}
 use Rattle.h3_command.specs.Run.{source_use}
-use Rattle.h3_command.proofs.Endings.{numbered_refused, numbered_unread, numbered_written}
+use Rattle.h3_command.proofs.Endings.{list_unread}
+use Rattle.h3_command.proofs.ListedCells.{numbered_answered, numbered_unanswered}
 use Rattle.h3_command.proofs.counts.answer_counts.Goals as goal
 
 pub returns-in_err-tally : goal.returns-in_err-tally
 returns-in_err-tally g c =
     let p = err_from_is_err_and c.from_residual-in_err-tally.result c.from_residual-in_err-tally.ensures.1 in
-    let (list, held, refused, within) = c.in_err-tally.ensures.refused in
-    let input = source_use g.R.Source.left g.R.Source.has_failed c.args.input.now c.take_cells.new.input in
+    let input = source_use g.R.Source.left g.R.Source.has_failed c.args.input.now c.take_listed.new.input in
     let out = sink_use g.W.Sink.taken g.W.Sink.has_failed c.args.out.now c.args.out.now in
-    let (writes, so_far) = numbered_refused _ list input _ out refused within (λ other. c.in_err-tally.ensures.sound (λ is. other (cc is))) c.in_err-tally.ensures.stops (λ is. c.in_err-tally.ensures.faults (cc is)) (Keeps-refl _, refl) in
-    rw (p.1, p.2) (list, held, writes, so_far)
+    rw (p.1, p.2) (numbered_unanswered (list_form c.args.rows.now) (counts_answer c.args.zones.now) input _ out c.in_err-tally.ensures.refused (Keeps-refl _, refl))
 
 pub returns-in_err-counts : goal.returns-in_err-counts
 returns-in_err-counts g c =
@@ -26,20 +26,17 @@ returns-in_err-counts g c =
     let out_of_memory : c.in_err-counts.field-0.0 ≡ Fault Memory = search rules in
     let input = source_use g.R.Source.left g.R.Source.has_failed c.args.input.now c.args.input.now in
     let out = sink_use g.W.Sink.taken g.W.Sink.has_failed c.args.out.now c.args.out.now in
-    rw (p.1, p.2, out_of_memory) (numbered_unread (counts_answer c.args.zones.now) input out refl refl (Keeps-refl _, refl))
+    rw (p.1, p.2, out_of_memory) (list_unread (list_form c.args.rows.now) (counts_answer c.args.zones.now) input out refl refl (Keeps-refl _, refl))
 
 pub returns : goal.returns
 returns g c =
-    let (list, held, short, cells, is, taken) = c.in_ok-tally.ensures.taken in
+    let (cells, gives, taken) = c.in_ok-tally.ensures.taken in
     let zones = c.args.zones.now in
     let others = c.in_ok-tally.tally.others in
-    let input = source_use g.R.Source.left g.R.Source.has_failed c.args.input.now c.take_cells.new.input in
     let out = sink_use g.W.Sink.taken g.W.Sink.has_failed c.args.out.now c.write_counts.new.out in
-    let sound = c.in_ok-tally.ensures.sound (λ is. cc is) in
     let zeros : c.in_ok-counts.counts.items ≡ replicate (length zones) 0 = first_of (search rules, grind (arith, common_steps)) in
     let start = subst (λ l. AreCounts zones [] l 0) (sym zeros) (c.zones_are_lawful.ensures.nothing zones) in
     let told : AreCounts zones cells c.in_ok-tally.tally.counts.items others = rw c.over.ensures at taken.1 [] start in
     let wrote = rw (c.over-2.ensures, c.deref.ensures.value) at c.write_counts.ensures in
-    let lines_written = wrote cells told in
-    let (writes, so_far) = numbered_written (counts_answer zones) list _ input _ out is short sound (c.in_ok-tally.ensures.whole refl) lines_written in
-    (list, held, writes, so_far)
+    let input = source_use g.R.Source.left g.R.Source.has_failed c.args.input.now c.take_listed.new.input in
+    numbered_answered (list_form c.args.rows.now) (counts_answer zones) cells input _ out gives (wrote cells told)

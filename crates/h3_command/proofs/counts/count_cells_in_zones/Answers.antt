@@ -3,7 +3,8 @@ use Rattle.std.proofs.KnownBytes.{Keeps-refl}
 use Rattle.std.proofs.lemmas.Result.{err_from_is_err_and}
 use Rattle.std.proofs.lemmas.List.Sorted.{IsPermutation-sym}
 use Rattle.h3_lines.specs.Writing.{sink_use}
-use Rattle.h3_command.specs.Run.{WritesOfNumberedList, source_use}
+use Rattle.h3_command.specs.Rows.{list_form}
+use Rattle.h3_command.specs.Run.{EndsNumberedList, source_use}
 use Rattle.h3_command.proofs.Combined.{counts_alike}
 use Rattle.h3_command.proofs.counts.count_cells_in_zones.Goals as goal
 
@@ -23,4 +24,4 @@ returns g c =
     let out = sink_use g.W.Sink.taken g.W.Sink.has_failed c.args.out.now c.answer_counts.new.out in
     let alike = counts_alike items listed (any.number items listed zones.apart zones.valid back) (λ x. any.covered items listed x back) in
     let ends = rw c.deref.ensures.value at c.answer_counts.ensures in
-    (bytes, held, inl (listed, gives, subst (λ answer. WritesOfNumberedList answer input c.answer_counts.result out) alike ends))
+    (bytes, held, inl (listed, gives, subst (λ answer. EndsNumberedList (list_form c.args.rows.now) answer input c.answer_counts.result out) alike ends))

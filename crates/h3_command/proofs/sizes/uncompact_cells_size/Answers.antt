@@ -6,9 +6,10 @@ use Rattle.std.proofs.lemmas.Result.{err_from_is_err_and}
 use Rattle.h3_lines.specs.Answer.{number_line, printed}
 use Rattle.h3_lines.specs.Writing.{sink_use}
 use Rattle.h3_functions.specs.Sets.{uncompact_cells_size}
+use Rattle.h3_command.specs.Rows.{list_form}
 use Rattle.h3_command.specs.Run.{source_use}
 use Rattle.h3_command.specs.Sizing.{IsSizeOf}
-use Rattle.h3_command.proofs.Endings.{numbered_refused, numbered_written}
+use Rattle.h3_command.proofs.ListedCells.{numbered_answered, numbered_unanswered}
 use Rattle.h3_command.proofs.sizes.uncompact_cells_size.Goals as goal
 
 started : (resolution : Option ℕ) (r : ℕ) (P : ℕ → Type 0) → IfSome resolution (λ s. r ≡ s) → P r → IfSome resolution P
@@ -18,15 +19,13 @@ started (Some s) r P is known = subst P is known
 pub returns-in_err-size : goal.returns-in_err-size
 returns-in_err-size g c =
     let p = err_from_is_err_and c.from_residual.result c.from_residual.ensures.1 in
-    let (list, held, refused, within) = c.in_err-size.ensures.refused in
-    let input = source_use g.R.Source.left g.R.Source.has_failed c.args.input.now c.take_cells.new.input in
+    let input = source_use g.R.Source.left g.R.Source.has_failed c.args.input.now c.take_listed.new.input in
     let out = sink_use g.W.Sink.taken g.W.Sink.has_failed c.args.out.now c.args.out.now in
-    let (writes, so_far) = numbered_refused _ list input _ out refused within (λ other. c.in_err-size.ensures.sound (λ is. other (cc is))) c.in_err-size.ensures.stops (λ is. c.in_err-size.ensures.faults (cc is)) (Keeps-refl _, refl) in
-    rw (p.1, p.2) (list, held, writes, so_far)
+    rw (p.1, p.2) (numbered_unanswered (list_form c.args.rows.now) (λ cells. printed number_line (uncompact_cells_size c.args.res cells)) input _ out c.in_err-size.ensures.refused (Keeps-refl _, refl))
 
 pub returns : goal.returns
 returns g c =
-    let (list, held, short, cells, is, taken) = c.in_ok-size.ensures.taken in
+    let (cells, gives, taken) = c.in_ok-size.ensures.taken in
     let res = c.args.res in
     let size = c.in_ok-size.size in
     let r = c.nothing_taken.result.res in
@@ -36,8 +35,6 @@ returns g c =
     let told : c.judged.result ≡ uncompact_cells_size res cells =
     c.judged.ensures cells (started _ r (λ s. IsSizeOf s cells size.finer size.total) c.nothing_taken.ensures.res (taken.1 [] first))
     ∙ ap (λ (x : ℤ). uncompact_cells_size x cells) same in
-    let input = source_use g.R.Source.left g.R.Source.has_failed c.args.input.now c.take_cells.new.input in
     let out = sink_use g.W.Sink.taken g.W.Sink.has_failed c.args.out.now c.write_result.new.out in
-    let sound = c.in_ok-size.ensures.sound (λ is. cc is) in
-    let (writes, so_far) = numbered_written (λ cells. printed number_line (uncompact_cells_size res cells)) list _ input _ out is short sound (c.in_ok-size.ensures.whole refl) (rw told at c.write_result.ensures) in
-    (list, held, writes, so_far)
+    let input = source_use g.R.Source.left g.R.Source.has_failed c.args.input.now c.take_listed.new.input in
+    numbered_answered (list_form c.args.rows.now) (λ cells. printed number_line (uncompact_cells_size res cells)) cells input _ out gives (rw told at c.write_result.ensures)
