@@ -17,6 +17,7 @@ _h3_options() {
 }
 _h3_rows() {
     case $1 in
+        compactCells | uncompactCells | uncompactCellsSize | uniteCells | intersectCells | subtractCells | countCellsInZones) echo --field --column --header --separator --csv ;;
         areCoveredCells | cellsToZones | areValidCells | areValidDirectedEdges | getResolutions | getBaseCellNumbers | arePentagons | areResClassIII | cellsToParents | cellsToCenterChildren | cellsToLastChildren | cellsToChildrenSizes | cellsToChildPositions | getDirectedEdgeOrigins | originsToDirectedEdges) echo --field --column --header --separator --csv --as --keep-going ;;
     esac
 }

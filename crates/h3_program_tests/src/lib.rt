@@ -17,6 +17,8 @@ mod files;
 #[cfg(test)]
 mod help;
 #[cfg(test)]
+mod listed_rows;
+#[cfg(test)]
 mod lists;
 #[cfg(test)]
 mod plural_faults;
