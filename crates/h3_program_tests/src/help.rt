@@ -322,8 +322,8 @@ static ROWS_HELP: [(&str, &str); 15] = [
     ("h3 getResolutions --help", "\nRows:\n"),
     ("h3 areCoveredCells --help", "--keep-going "),
     ("h3 cellsToZones --help", "--csv "),
-    ("h3 compactCells --help", "\nRows:\n"),
-    ("h3 uniteCells --help", "--field <number>"),
+    ("h3 uncompactCells --help", "\nRows:\n"),
+    ("h3 intersectCells --help", "--field <number>"),
     ("h3 countCellsInZones --help", "--csv "),
 ];
 
