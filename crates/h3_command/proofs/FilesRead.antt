@@ -1,32 +1,20 @@
 -- How a file of cells is read.
-use Rattle.std.proofs.Common.{◌≡◌, ℕ, ◌^◌, List, None, Some, Ok, Err, ap, sym, ◌∙◌, refl, subst}
+use Rattle.std.proofs.Common.{◌≡◌, ℕ, ◌^◌, List, Ok, Err, ap, sym, refl, subst}
 use Rattle.h3_index.specs.Cell.{Address}
-use Rattle.h3_index.specs.declared.error.H3Error.{H3Error}
-use Rattle.h3_set.specs.Refusals.{compaction_refusal}
 use Rattle.h3_lines.specs.List.{listed_cells}
 use Rattle.h3_lines.specs.Numbered.{RefusesAt, faulty_line}
 use Rattle.h3_lines.specs.Reads.{IsListWithinReads, IsWithinReads}
-use Rattle.h3_lines.specs.declared.refusal.AnswerError.TheVariants.{File}
 use Rattle.h3_lines.specs.declared.refusal.CellFile.{CellFile}
-use Rattle.h3_lines.specs.declared.refusal.CellFile.TheVariants.{Region, Zones}
+use Rattle.h3_lines.specs.declared.refusal.CellFile.TheVariants.{Region}
 use Rattle.h3_lines.specs.declared.refusal.Fault.TheVariants.{Memory, Read, Write}
 use Rattle.h3_lines.specs.declared.refusal.Refusal.{Refusal}
 use Rattle.h3_lines.specs.declared.refusal.Refusal.TheVariants.{Error, Fault}
 use Rattle.h3_command.specs.Combination.{told_of}
-use Rattle.h3_command.specs.Files.{judged_cells, unless_error}
+use Rattle.h3_command.specs.Files.{judged_cells}
 use Rattle.h3_command.specs.Run.{GivesFile, IsReadToEnd, NoReadFails, ReadFails, RefusesFile, SourceUse, StopsWithin}
 
 pub region_given : (bytes : List ℕ) (cells : List Address) (file : SourceUse) → listed_cells bytes ≡ Ok cells → IsWithinReads (2 ^ 40) 65536 bytes → NoReadFails file → IsReadToEnd file → GivesFile Region bytes file cells
 region_given bytes cells file is within sound whole = record { is = ap (judged_cells Region (faulty_line bytes)) is; within = within; sound = sound; whole = whole }
-
-pub zones_given : (bytes : List ℕ) (cells : List Address) (file : SourceUse) → listed_cells bytes ≡ Ok cells → IsWithinReads (2 ^ 40) 65536 bytes → NoReadFails file → IsReadToEnd file → None ≡ compaction_refusal cells → GivesFile Zones bytes file cells
-zones_given bytes cells file is within sound whole apart =
-    record { is = ap (judged_cells Zones (faulty_line bytes)) is ∙ ap (λ e. unless_error Zones e cells) (sym apart); within = within; sound = sound; whole = whole }
-
-pub zones_refused : (bytes : List ℕ) (cells : List Address) (e : H3Error) (file : SourceUse) → listed_cells bytes ≡ Ok cells → IsWithinReads (2 ^ 40) 65536 bytes → NoReadFails file → IsReadToEnd file → Some e ≡ compaction_refusal cells
-    → RefusesFile Zones bytes file (Err (Error (File Zones e)))
-zones_refused bytes cells e file is within sound whole overlap =
-    (ap (judged_cells Zones (faulty_line bytes)) is ∙ ap (λ e. unless_error Zones e cells) (sym overlap), sound, (within, whole))
 
 pub file_refused : (kind : CellFile) (bytes : List ℕ) (file : SourceUse) (e : Refusal) → RefusesAt (ReadFails file bytes) (listed_cells bytes) (faulty_line bytes) e
     → ((e ≡ Fault Read → ⊥) → (e ≡ Fault Memory → ⊥) → IsListWithinReads (2 ^ 40) 65536 bytes) → ((e ≡ Fault Read → ⊥) → NoReadFails file) → StopsWithin 65536 file → (e ≡ Fault Read → StopsWithin 0 file) → RefusesFile kind bytes file (Err (told_of kind e))
