@@ -7,8 +7,11 @@ pub mod Feeds
 pub mod Finding
 pub mod Kept
 pub mod Lengths
+pub mod Masks
 pub mod Pages
 pub mod Pieces
+pub mod PlainAnswers
+pub mod PlainRows
 pub mod ReadBack
 pub mod Scan
 pub mod Split

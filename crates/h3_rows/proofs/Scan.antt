@@ -20,10 +20,10 @@ none_below test bytes k within none =
     list_all-from_AllPass (λ b. not (test b)) (take k bytes) (All-from_get_or (λ b. not (test b) ≡ true) (take k bytes) 0
     (λ i below. let short : i < k = omega (arith, length-take {A = ℕ}) in rw (get_or-take k bytes i 0 short) (negated (test (get_or bytes i 0)) (none i (omega arith) short))))
 
-uncut_byte : (mark : ℕ) (quotes inside : Bool) (b : ℕ) (bytes : List ℕ) {end : Bool} → (b == mark) ≡ false → (quotes && (b == 34)) ≡ false → Uncut mark quotes inside bytes end → Uncut mark quotes inside (b ∷ bytes) end
+pub uncut_byte : (mark : ℕ) (quotes inside : Bool) (b : ℕ) (bytes : List ℕ) {end : Bool} → (b == mark) ≡ false → (quotes && (b == 34)) ≡ false → Uncut mark quotes inside bytes end → Uncut mark quotes inside (b ∷ bytes) end
 uncut_byte mark quotes inside b bytes m q u = record { uncut = rw (m, q) u.uncut; inside_is = rw q u.inside_is }
 
-neither : (x y more : Bool) → (not (x || y) && more) ≡ true → (x ≡ false) × (y ≡ false) × (more ≡ true)
+pub neither : (x y more : Bool) → (not (x || y) && more) ≡ true → (x ≡ false) × (y ≡ false) × (more ≡ true)
 neither true y more h = absurd (cc)
 neither false true more h = absurd (cc)
 neither false false more h = (refl, refl, h)
@@ -47,7 +47,7 @@ unmarked mark inside (b ∷ bs) h =
     uncut_byte mark false inside b bs m refl (unmarked mark inside bs more)
 
 -- the bytes on both sides of a place
-split_at : (bytes : List ℕ) (k mark : ℕ) → k < length bytes → get_or bytes k 0 ≡ mark → bytes ≡ take k bytes ++ mark ∷ drop (k + 1) bytes
+pub split_at : (bytes : List ℕ) (k mark : ℕ) → k < length bytes → get_or bytes k 0 ≡ mark → bytes ≡ take k bytes ++ mark ∷ drop (k + 1) bytes
 split_at bytes k mark within is =
     let cut : drop k bytes ≡ mark ∷ drop (k + 1) bytes = rw (add-one, ← is) (drop-cons bytes k 0 within) in
     sym (take-append-drop k bytes) ∙ ap (λ l. take k bytes ++ l) cut

@@ -1,12 +1,13 @@
 -- Rows that are taken one after another.
 use Rattle.std.proofs.lemmas.Bool.Decides.{nat_tests}
-use Rattle.std.proofs.Common.{◌≡◌, ℕ, ◌+◌, ◌*◌, ◌<◌, ◌≤◌, ◌==◌, ◌⊎◌, Bool, false, List, [], ◌∷◌, ◌++◌, length, take, Option, sym, ap, ◌∙◌, refl, subst, inl, inr, append_assoc, append-nil, length-append, length-take, arith}
+use Rattle.std.proofs.Common.{◌≡◌, ℕ, ◌+◌, ◌*◌, ◌<◌, ◌≤◌, ◌==◌, ◌⊎◌, Bool, false, List, [], ◌∷◌, ◌++◌, length, take, drop, Option, sym, ap, ◌∙◌, refl, subst, inl, inr, append_assoc, append-nil, length-append, length-take, arith}
+use Rattle.std.proofs.Math.Seq.{drop-append-add}
 use Rattle.std.specs.Io.KnownBytes.{Consumes, Keeps}
 use Rattle.std.proofs.KnownBytes.{Consumes-kept, Consumes-nil, Consumes-trans}
 use Rattle.h3_index.specs.Stream.{HasLeft, Pulls}
 use Rattle.h3_lines.specs.declared.refusal.Refusal.{Refusal}
 use Rattle.h3_rows.specs.Row.{Piece, pieces_of, rows_of, without_last_nothing}
-use Rattle.h3_rows.specs.Splitting.{Goes, RefusesAfter, StopsReading, StopsTaking, TakesAll, Uncut}
+use Rattle.h3_rows.specs.Splitting.{Goes, RefusesAfter, StopsReading, StopsTaking, TakesAll, TakesFirst, Uncut}
 use Rattle.h3_rows.proofs.Pages.{all_bytes, at_end, one_at_least, one_less}
 use Rattle.h3_rows.proofs.Pieces.{cut_at_end, cut_at_mark, cut_goes_on, first_piece, uncut_then}
 
@@ -45,7 +46,26 @@ first_kept : (piece : List ℕ) (t : Bool) (ps : List Piece) → 0 < length piec
 first_kept piece t [] some = let filled : (length piece == 0) ≡ false = grind (arith, nat_tests) in ([], rw filled refl)
 first_kept piece t (q ∷ qs) some = (without_last_nothing (q ∷ qs), refl)
 
+-- the bytes after a row and its line feed
+after_is : (bytes row after : List ℕ) (size : ℕ) → bytes ≡ row ++ 10 ∷ after → length row ≡ size → drop (size + 1) bytes ≡ after
+after_is bytes row after size split is = rw (split, ← is) (drop-append-add row (10 ∷ after) 1)
+
 module _ {V : Type 0} (qs : Bool) (taken : V → List Piece → V → Type 0) where
+  -- the first row is taken at once
+  pub goes_first : {v w : V} (line bytes : List ℕ) (size : ℕ) → line ≡ [] → TakesFirst qs taken v bytes size w → Goes qs taken v line bytes w line (drop (size + 1) bytes)
+  goes_first line bytes size none t =
+      let u = t.cuts.begins in
+      let later : (rest : List ℕ) → bytes ++ rest ≡ t.row ++ 10 ∷ (drop (size + 1) bytes ++ rest) =
+      λ rest. ap (λ l. l ++ rest) (t.cuts.split ∙ ap (λ l. t.row ++ 10 ∷ l) (sym (after_is bytes t.row t.after size t.cuts.split t.size_is))) ∙ append_assoc t.row (10 ∷ drop (size + 1) bytes) rest in
+      record {
+        ended = (t.row, false) ∷ [];
+        rows = λ rest. rw none (ap (pieces_of qs) (later rest) ∙ cut_at_mark 10 qs false t.row (drop (size + 1) bytes ++ rest) u.uncut u.inside_is refl);
+        takes = t.takes;
+      }
+
+  pub first_fits : {v w : V} (bytes : List ℕ) (size : ℕ) → TakesFirst qs taken v bytes size w → size + 1 ≤ length bytes
+  first_fits bytes size t = omega (arith, cut_length bytes t.row t.after 10 t.cuts.split, t.size_is)
+
   -- bytes are kept of a line that does not end in them
   pub goes_kept : {v w : V} (line line' bytes : List ℕ) → taken v [] w → line' ≡ line ++ bytes → Goes qs taken v line bytes w line' []
   goes_kept line line' bytes none is =

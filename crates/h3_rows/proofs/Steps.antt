@@ -39,7 +39,7 @@ faulty_ends form step s line bytes e r sink stops is h = refused_ends step s byt
 -- ---- after a header
 
 module _ (s a : RowState) (k : ℕ) (known : s.before ≡ Some k) (line bytes : List ℕ) where
-  passed_is : (bytes' : List ℕ) → a.number ≡ next_number s.number line → a.before ≡ s.before → a.kept ≡ s.kept → passed (state_of s bytes) line ≡ state_of a bytes'
+  pub passed_is : (bytes' : List ℕ) → a.number ≡ next_number s.number line → a.before ≡ s.before → a.kept ≡ s.kept → passed (state_of s bytes) line ≡ state_of a bytes'
   passed_is bytes' n b kept = rw (n, b, kept, known) refl
 
   pub puts : {S : Type 0} (taken : S → Option (List ℕ)) (failed : S → Bool) (step : Step) (text bytes' : List ℕ) (x y : S) → a.number ≡ next_number s.number line → a.before ≡ s.before → a.kept ≡ s.kept → step ≡ goes_on (state_of s bytes) line text

@@ -10,7 +10,8 @@ use Rattle.h3_lines.specs.declared.refusal.Fault.TheVariants.{Memory, Read, Writ
 use Rattle.h3_lines.specs.declared.refusal.Refusal.{Refusal}
 use Rattle.h3_lines.specs.declared.refusal.Refusal.TheVariants.{Error, Fault}
 use Rattle.h3_rows.specs.Row.{Piece, cut}
-use Rattle.h3_rows.specs.RowsAnswer.{State, Step, row_with, rows_with}
+use Rattle.h3_rows.specs.Plain.{is_plain}
+use Rattle.h3_rows.specs.RowsAnswer.{Form, State, Step, goes_on, row_step, row_with, rows_with}
 use Rattle.h3_rows.specs.declared.state.RowState.{RowState}
 
 -- ---- fields that are looked through
@@ -97,3 +98,14 @@ pub record StepsTo {S : Type 0} (taken : S → Option (List ℕ)) (failed : S �
 -- a row ends the answer so, or a write fails, whatever comes after the row
 abbrev pub StepEnds : Step → List ℕ → Refusal → SinkUse → Type 0
 StepEnds step held e out = (next : Answer) → EndsBy (before held (then_answer step.answer.output step.answer.ending next)) e out
+
+-- the bytes begin with a plain row of so many bytes, and its answer, bytes alone, is put after what is held back
+pub record PutsPlain (form : Form) (answer : Option ℕ → Answer) (s : RowState) (bytes held held' : List ℕ) (size : ℕ) : Type 0 where
+  pub row : List ℕ
+  pub after : List ℕ
+  pub split : bytes ≡ row ++ 10 ∷ after
+  pub size_is : length row ≡ size
+  pub plain : is_plain form.quotes row ≡ true
+  pub text : List ℕ
+  pub is : row_step form answer (state_of s held) (row, false) ≡ goes_on (state_of s held) row text
+  pub put : held' ≡ held ++ text

@@ -2,7 +2,9 @@ pub mod Answering
 pub mod EachLaws
 pub mod EndsRows
 pub mod Examples
+pub mod Lanes
 pub mod Laws
+pub mod Plain
 pub mod Row
 pub mod RowCells
 pub mod RowCellsLaws

@@ -17,6 +17,14 @@ pub record CutsAt (mark : ℕ) (quotes inside : Bool) (bytes before after : List
   pub begins : Uncut mark quotes inside before false
   pub split : bytes ≡ before ++ mark ∷ after
 
+-- the bytes begin with a row of so many bytes that ends outside quotes, and it was taken
+pub record TakesFirst {V : Type 0} (q : Bool) (taken : V → List Piece → V → Type 0) (v : V) (bytes : List ℕ) (size : ℕ) (w : V) : Type 0 where
+  pub row : List ℕ
+  pub after : List ℕ
+  pub cuts : CutsAt 10 q false bytes row after
+  pub size_is : length row ≡ size
+  pub takes : taken v ((row, false) ∷ []) w
+
 -- from one moment to a later one: what takes the rows, the row so far, and the bytes that come before any rest; the rows
 -- that end on the way were taken
 pub record Goes {V : Type 0} (q : Bool) (taken : V → List Piece → V → Type 0) (v : V) (row bytes : List ℕ) (w : V) (row' bytes' : List ℕ) : Type 0 where

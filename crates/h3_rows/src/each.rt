@@ -1,13 +1,13 @@
 //! Rows of which each is written with the answer to its cell beside it.
 
 ghost use Rattle.std.proofs.Common.{◌∙◌, refl};
-ghost use Rattle.std.specs.Prelude.{◌≡◌, ◌+◌, ◌<◌, ◌≤◌, ◌++◌, ◌∷◌, ◌^◌, [], ℕ, List, length, Option, None, Some, Err, option_map, take, IfOk, IfErr, IfSome, OnOk};
+ghost use Rattle.std.specs.Prelude.{◌≡◌, ◌+◌, ◌<◌, ◌≤◌, ◌++◌, ◌∷◌, ◌^◌, [], ℕ, List, length, Option, None, Some, Err, option_map, take, IfOk, IfErr, IfNone, IfSome, OnOk};
 ghost use Rattle.h3_lines.specs.Answer.{Answer, written};
 ghost use Rattle.h3_lines.specs.Writing.{Takes, Writes, sink_use};
 ghost use Rattle.h3_lines.specs.declared.line.TheConstants.{BLOCK};
 ghost use Rattle.h3_lines.specs.declared.refusal.AnswerError.TheVariants.{At};
 ghost use Rattle.h3_lines.specs.declared.refusal.Refusal.{Refusal};
-ghost use Rattle.h3_rows.specs.Answering.{Answered, Breaks, EndsBy, RefusesEach, StepEnds, StepsTo, held_of, state_of, text_beside};
+ghost use Rattle.h3_rows.specs.Answering.{Answered, Breaks, EndsBy, PutsPlain, RefusesEach, StepEnds, StepsTo, held_of, state_of, text_beside};
 ghost use Rattle.h3_rows.specs.EachLaws.{answered_none, answered_then, refuses_then};
 ghost use Rattle.h3_rows.specs.EndsRows.{EndsRows};
 ghost use Rattle.h3_rows.specs.Row.{read_of, row_body};
@@ -16,14 +16,17 @@ ghost use Rattle.h3_rows.specs.RowsAnswer.{State, answer_said, begun_answer, cho
 
 use crate::fields::{read_of, row_body, row_ending};
 use crate::header::{chosen_field, column_name};
+use crate::lanes::is_one_line;
+use crate::plain::find_plain;
 use crate::reading::{is_malformed, read_row};
 use crate::said::Said;
 use crate::splitting::{RowStart, RowTaker, take_rows};
 use crate::state::{RowState, first_state};
 use crate::write::{put_bytes, put_row, put_rows};
-use h3_index::{CellLines, CountedReader, H3Error, Sink, Source};
+use h3_index::{CellLines, CountedReader, H3Error, Sink, Source, read_plain};
 use h3_lines::{
-    AnswerError, BLOCK, ColumnError, Fault, IndexFunction, PAGE, READS, Refusal, write_answer,
+    ANSWER, AnswerError, BLOCK, ColumnError, Fault, IndexFunction, PAGE, READS, Refusal,
+    write_answer,
 };
 use h3_requests::{CellField, RowOptions};
 use std::alloc::Global;
@@ -70,15 +73,16 @@ fn refuse<W: Sink>(out: &mut W, held: &[u8], number: u64, error: H3Error) -> Ref
     }
 }
 
-/// Puts a row and a line feed into a block from the byte `at` on, and returns where they end.
-fn hold_row(block: &mut [u8; BLOCK], at: usize, row: &[u8]) -> usize
+/// Puts a row and a byte after it into a block from the byte `at` on, and returns where they end.
+#[inline(always)]
+fn hold_row(block: &mut [u8; BLOCK], at: usize, row: &[u8], last: u8) -> usize
     requires { at + length row.now + 1 ≤ BLOCK }
-    ensures within { result ≤ BLOCK }
-    ensures held { take result block.new ≡ take at block.old ++ (row.now ++ 10 ∷ []) }
+    ensures end { result ≡ at + length row.now + 1 }
+    ensures held { take result block.new ≡ take at block.old ++ (row.now ++ last ∷ []) }
 {
     let end = at + row.len();
     block[at..end].copy_from_slice(row);
-    block[end] = b'\n';
+    block[end] = last;
     end + 1
 }
 
@@ -108,7 +112,7 @@ fn put_empty<W: Sink>(
         if row.len() >= BLOCK - end {
             return Err(refuse(out, &block[..end], state.number, H3Error::Failed));
         }
-        return Ok((hold_row(block, end, row), state.passed(row)));
+        return Ok((hold_row(block, end, row, b'\n'), state.passed(row)));
     }
     let after_row = put_bytes(out, block, end, row)?;
     let last = put_bytes(out, block, after_row, b"\n")?;
@@ -305,6 +309,47 @@ fn put_answer<'f, W: Sink, F: IndexFunction>(
     }
 }
 
+/// Puts the row that bytes begin with and the answer to its cell, if it is plain and has room, and
+/// its cell a plain text and one answer. Returns the row's length, and where its answer ends.
+#[inline(always)]
+fn put_plain<'f, F: IndexFunction>(
+    block: &mut [u8; BLOCK],
+    end: usize,
+    job: &RowJob<'f, F>,
+    work: &mut Workspace,
+    state: RowState,
+    before: usize,
+    bytes: &[u8],
+) -> Option<(usize, usize)>
+    requires within { end ≤ BLOCK }
+    requires known { state.before ≡ Some before }
+    ensures within { IfSome result (λ r. r.1 ≤ BLOCK) }
+    ensures some { IfSome result (λ r. PutsPlain (form_of job.now.options.now job.now.name.now)
+        (F.answer_of job.now.function.now) state bytes.now (take end block.old)
+        (take r.1 block.new) r.0) }
+    ensures none { IfNone result (take end block.new ≡ take end block.old) }
+{
+    let separator = job.options.separator;
+    let (row, field) = find_plain(separator, job.options.quotes, before, bytes)?;
+    let index = read_plain(field)?;
+    let body = row_body(row);
+    // A byte order mark is before the first row alone.
+    if state.number == 1 || body.is_empty() || body.len() < row.len() {
+        return None;
+    }
+    if end + row.len() + ANSWER >= BLOCK {
+        return None;
+    }
+    let at = hold_row(block, end, row, separator);
+    match job
+        .function
+        .put(Some(index), &mut work.place, &mut work.lines, block, at)
+    {
+        Ok(last) if is_one_line(block, at, last) => Some((row.len(), last)),
+        _ => None,
+    }
+}
+
 /// Ends the answer to a list, all of whose rows are answered.
 fn end_answer<W: Sink>(
     out: &mut W,
@@ -378,6 +423,26 @@ impl<'a, 'f, W: Sink, F: IndexFunction> RowTaker for RowAnswers<'a, 'f, W, F> {
         self.end = end;
         self.state = state;
         Ok(())
+    }
+
+    #[inline(always)]
+    fn take_first(&mut self, quotes: bool, bytes: &[u8]) -> Option<usize> {
+        if quotes != self.job.options.quotes {
+            return None;
+        }
+        let before = self.state.before?;
+        let (size, end) = put_plain(
+            &mut self.block,
+            self.end,
+            self.job,
+            &mut self.work,
+            self.state,
+            before,
+            bytes,
+        )?;
+        self.end = end;
+        self.state = self.state.counted();
+        Some(size)
     }
 
     fn refuse_long(&mut self) -> Refusal {

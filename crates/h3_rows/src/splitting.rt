@@ -1,12 +1,12 @@
 //! Pages of bytes that are split into rows.
 
-ghost use Rattle.std.specs.Prelude.{◌≡◌, ◌≤◌, ◌<◌, ◌+◌, ◌*◌, ◌^◌, ◌⊎◌, ◌==◌, ℕ, Bool, true, false, List, [], ◌∷◌, ◌++◌, length, take, drop, IfOk, IfErr, OnOk};
+ghost use Rattle.std.specs.Prelude.{◌≡◌, ◌≤◌, ◌<◌, ◌+◌, ◌*◌, ◌^◌, ◌⊎◌, ◌==◌, ℕ, Bool, true, false, List, [], ◌∷◌, ◌++◌, length, take, drop, IfOk, IfErr, IfSome, IfNone, OnOk};
 ghost use Rattle.h3_index.specs.Counted.{KeepsSource, reads_allowed, source_of};
 ghost use Rattle.h3_lines.specs.declared.refusal.Refusal.{Refusal};
 ghost use Rattle.h3_lines.specs.declared.refusal.Fault.TheVariants.{Memory, Read};
 ghost use Rattle.h3_lines.specs.declared.refusal.Refusal.TheVariants as refusal;
 ghost use Rattle.h3_rows.specs.Row.{Piece, rows_of};
-ghost use Rattle.h3_rows.specs.Splitting.{CutsAt, Goes, StopsReading, StopsTaking, TakesAll, Uncut};
+ghost use Rattle.h3_rows.specs.Splitting.{CutsAt, Goes, StopsReading, StopsTaking, TakesAll, TakesFirst, Uncut};
 ghost use Rattle.h3_rows.specs.declared.splitting.TheConstants.{LONGEST};
 
 use h3_index::{CountedReader, Source};
@@ -38,6 +38,20 @@ pub(crate) trait RowTaker {
         ensures counted { OnOk result (count self.new ≤ count self.old + length row.now + 1) }
         ensures err { IfErr result (λ e. (later : List Piece) →
             refused self.old ((row.now, inside) ∷ later) self.new e) };
+
+    /// Takes the row that bytes begin with, if that is done sooner than by `take`, and returns its
+    /// length.
+    #[inline(always)]
+    fn take_first(&mut self, _quotes: bool, _bytes: &[u8]) -> Option<usize>
+        requires few { count self.old + length _bytes.now < 2 ^ 63 }
+        ensures some { IfSome result (λ size.
+            TakesFirst _quotes taken self.old _bytes.now size self.new) }
+        ensures none { IfNone result (taken self.old [] self.new) }
+        ensures counted { IfSome result (λ size. count self.new ≤ count self.old + size + 1) }
+        ensures same { IfNone result (count self.new ≤ count self.old) }
+    {
+        None
+    }
 
     /// Refuses a row of more than 65,536 bytes.
     fn refuse_long(&mut self) -> Refusal
@@ -193,6 +207,27 @@ impl RowStart {
         Ok(())
     }
 
+    /// Has rows taken that a page begins with, unless a row is begun, and returns the bytes after
+    /// them.
+    #[inline(always)]
+    fn take_first<'b, V: RowTaker>(&self, taker: &mut V, page: &'b [u8]) -> &'b [u8]
+        requires { V.count taker.old + length page.now < 2 ^ 63 }
+        ensures goes { Goes self.now.quotes V.taken taker.old
+            (take self.now.held self.now.bytes.items) page.now
+            taker.new (take self.now.held self.now.bytes.items) result.now }
+        ensures fewer { length result.now ≤ length page.now }
+        ensures counted { V.count taker.new + length result.now
+            ≤ V.count taker.old + length page.now }
+    {
+        let mut bytes = page;
+        if self.held == 0 {
+            while let Some(size) = taker.take_first(self.quotes, bytes) {
+                bytes = &bytes[size + 1..];
+            }
+        }
+        bytes
+    }
+
     /// Has the rows taken that end in a page, and keeps the beginning of the next one.
     fn take<V: RowTaker>(&mut self, taker: &mut V, page: &[u8]) -> Result<(), Refusal>
         requires { V.count taker.old + self.old.held + length page.now < 2 ^ 63 }
@@ -206,12 +241,12 @@ impl RowStart {
             (rows_of self.old.quotes
             (take self.old.held self.old.bytes.items ++ (page.now ++ rest))) taker.new e) }
     {
-        let mut bytes = page;
+        let mut bytes = self.take_first(taker, page);
         loop {
             match split(b'\n', self.quotes, self.inside, bytes) {
                 Ok((row, after)) => {
                     self.end_row(taker, row)?;
-                    bytes = after;
+                    bytes = self.take_first(taker, after);
                 }
                 Err(inside) => return self.keep(taker, bytes, inside),
             }

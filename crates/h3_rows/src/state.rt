@@ -52,6 +52,20 @@ impl RowState {
         }
     }
 
+    /// The state after a row without line feeds that changes nothing but the number.
+    pub(crate) fn counted(self) -> RowState
+        requires { self.number < 2 ^ 63 }
+        ensures number { result.number ≡ self.number + 1 }
+        ensures before { result.before ≡ self.before }
+        ensures kept { result.kept ≡ self.kept }
+    {
+        RowState {
+            number: self.number + 1,
+            before: self.before,
+            kept: self.kept,
+        }
+    }
+
     /// The state with an error more.
     pub(crate) fn with_error(self, row: &[u8], error: H3Error) -> RowState
         requires { self.number + length row.now < 2 ^ 63 }

@@ -1,16 +1,18 @@
 use Rattle.std.proofs.Common.{◌++◌, arith, ◌∙◌}
 use Rattle.std.proofs.lemmas.Result.{err_from_is_err_and, IfErr-weaker}
-use Rattle.h3_rows.proofs.Split.{cut_length, ended_then, goes_refused, refused_after}
+use Rattle.h3_rows.proofs.Split.{cut_length, ended_then, goes_refused, goes_then, refused_after}
 use Rattle.h3_rows.proofs.splitting.RowStart.take.Goals as goal
 
 pub loop-row-preserved : goal.loop-row-preserved
 loop-row-preserved g c =
     let s = c.args.self.now in
+    let same = c.end_row.ensures.same ∙ c.loop-row.invariant.same in
     let less = cut_length _ _ _ _ c.in-Ok.ensures.cut.split in record {
-      goes = ended_then s.quotes g.V.RowTaker.taken g.met.V.RowTaker.taken_then c.loop-row.bytes.now c.in-Ok.row.now c.in-Ok.after.now c.loop-row.invariant.goes c.in-Ok.ensures.cut.split
-          (rw c.loop-row.invariant.same at c.in_ok-end_row-in-Ok.ensures.ok);
-      counted = omega (arith, c.loop-row.invariant.counted, c.in_ok-end_row-in-Ok.ensures.counted, less);
-      same = c.end_row.ensures.same ∙ c.loop-row.invariant.same;
+      goes = goes_then s.quotes g.V.RowTaker.taken g.met.V.RowTaker.taken_then
+          (ended_then s.quotes g.V.RowTaker.taken g.met.V.RowTaker.taken_then c.loop-row.bytes.now c.in-Ok.row.now c.in-Ok.after.now c.loop-row.invariant.goes c.in-Ok.ensures.cut.split (rw c.loop-row.invariant.same at c.in_ok-end_row-in-Ok.ensures.ok))
+          (rw same at c.take_first-bytes-in-Ok.ensures.goes);
+      counted = omega (arith, c.loop-row.invariant.counted, c.in_ok-end_row-in-Ok.ensures.counted, c.take_first-bytes-in-Ok.ensures.counted, less);
+      same = same;
     }
 
 pub returns-in_err-end_row-in-Ok-clause-err : goal.returns-in_err-end_row-in-Ok-clause-err
