@@ -1,5 +1,5 @@
 -- Masks of the lanes that are one of three bytes.
-use Rattle.std.proofs.Common.{◌≡◌, ℕ, ◌+◌, ◌≤◌, ◌<◌, ◌^◌, ◌%◌, eqb, cond, Bool, true, false, not, ◌||◌, ◌&&◌, bit_or, List, [], ◌∷◌, ◌++◌, map, length, take, drop, get_or, replicate, refl, sym, ap, ◌∙◌, subst, take-append-drop, add-one, arith}
+use Rattle.std.proofs.Common.{◌≡◌, ℕ, ◌+◌, ◌≤◌, ◌<◌, ◌^◌, ◌%◌, eqb, cond, Bool, true, false, not, ◌||◌, bit_or, List, [], ◌∷◌, ◌++◌, map, length, take, drop, get_or, replicate, refl, ap, ◌∙◌, subst, arith}
 use Rattle.std.proofs.Math.Seq.{take-add}
 use Rattle.std.proofs.lemmas.Bool.{eqb-true}
 use Rattle.std.proofs.lemmas.List.{drop-take, get_or-drop, length-drop, length-map, take_more}

@@ -1,5 +1,5 @@
 -- Plain rows that are put with the one line that answers their cell.
-use Rattle.std.proofs.Common.{◌≡◌, ℕ, ◌+◌, ◌-◌, ◌<◌, ◌≤◌, ◌==◌, nat_lt, nat_le, Bool, true, false, not, ◌&&◌, if◌then◌else◌, List, [], ◌∷◌, ◌++◌, length, take, drop, get_or, Option, None, Some, IfNone, Ok, sym, ap, ◌∙◌, refl, subst, append_assoc, append-nil, length-append, length-take, eqb-true, arith}
+use Rattle.std.proofs.Common.{◌≡◌, ℕ, ◌+◌, ◌-◌, ◌<◌, ◌≤◌, ◌==◌, nat_lt, nat_le, Bool, true, false, not, ◌&&◌, if◌then◌else◌, List, [], ◌∷◌, ◌++◌, length, take, drop, get_or, Option, None, Some, IfNone, Ok, sym, ap, ◌∙◌, refl, append_assoc, append-nil, length-append, length-take, eqb-true, arith}
 use Rattle.std.proofs.KnownBytes.{Appends-nil}
 use Rattle.std.proofs.Math.Seq.{drop-append_seam}
 use Rattle.std.proofs.lemmas.Bool.Decides.{nat_tests}
@@ -7,16 +7,16 @@ use Rattle.std.proofs.lemmas.List.{length-take-le, take-append-le, take-take}
 use Rattle.std.proofs.lemmas.List.Elements.{All-get_or}
 use Rattle.std.proofs.lemmas.List.Sums.{AllPass-from_list_all}
 use Rattle.std.specs.Char.{is_digit}
-use Rattle.std.specs.List.{count_by, list_all}
+use Rattle.std.specs.List.{list_all}
 use mathlib.Core.Bool.{beq}
 use Rattle.h3_index.specs.Text.{is_blank, parsed_index, trimmed, without_leading_blanks, without_trailing_blanks}
-use Rattle.h3_lines.specs.Answer.{Answer, before, written}
+use Rattle.h3_lines.specs.Answer.{Answer, written}
 use Rattle.h3_lines.specs.EachLine.{then_answer}
 use Rattle.h3_rows.specs.Answering.{Answered, PutsPlain, held_of, state_of}
 use Rattle.h3_rows.specs.Lanes.{IsOneLine}
-use Rattle.h3_rows.specs.Plain.{IsPlainRow, is_plain}
-use Rattle.h3_rows.specs.Row.{Piece, cut, ends_in_return, field_text, next_number, piece_at, quotes_are_sound, read_of, row_body, row_ending, unquoted}
-use Rattle.h3_rows.specs.RowsAnswer.{Form, State, Step, field_said, goes_on, is_malformed, passed, row_said, row_step, row_with, rows_then, rows_with, text_said}
+use Rattle.h3_rows.specs.Plain.{IsPlainRow}
+use Rattle.h3_rows.specs.Row.{ends_in_return, field_text, next_number, read_of, row_body, unquoted}
+use Rattle.h3_rows.specs.RowsAnswer.{Form, Step, goes_on, is_malformed, row_said, row_step, row_with, rows_then, rows_with, text_said}
 use Rattle.h3_rows.specs.Splitting.{CutsAt}
 use Rattle.h3_rows.specs.declared.said.Said.TheVariants.{Index}
 use Rattle.h3_rows.specs.declared.state.RowState.{RowState}

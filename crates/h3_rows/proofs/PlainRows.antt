@@ -1,5 +1,5 @@
 -- Plain rows: without line feeds, and without quotes if quotes count.
-use Rattle.std.proofs.Common.{◌≡◌, ℕ, suc, inl, inr, ◌+◌, ◌-◌, ◌<◌, ◌==◌, Bool, true, false, not, ◌&&◌, ◌||◌, if◌then◌else◌, List, [], ◌∷◌, ◌++◌, length, take, drop, get_or, None, Some, sym, ap, ◌∙◌, refl, subst, append_assoc, take-append-drop, length-append, add-one, arith}
+use Rattle.std.proofs.Common.{◌≡◌, ℕ, suc, inl, inr, ◌+◌, ◌-◌, ◌<◌, ◌==◌, Bool, true, false, not, ◌&&◌, ◌||◌, List, [], ◌∷◌, ◌++◌, length, take, drop, get_or, Some, sym, ap, ◌∙◌, refl, subst, append_assoc, length-append, add-one, arith}
 use Rattle.std.proofs.Math.Seq.{drop-cons, take-add, take-append-add}
 use Rattle.std.proofs.lemmas.Bool.{cases_eq}
 use Rattle.std.proofs.lemmas.Bool.Decides.{nat_tests}
@@ -9,7 +9,7 @@ use Rattle.memchr.specs.Find.{is_byte2, is_byte3}
 use Rattle.h3_index.specs.Text.{is_blank}
 use Rattle.h3_rows.specs.Plain.{IsPlainRow, PassesFields, is_plain, quote_or_feed}
 use Rattle.h3_rows.specs.Row.{cut, piece_at, quotes_are_sound}
-use Rattle.h3_rows.specs.Splitting.{CutsAt, Uncut}
+use Rattle.h3_rows.specs.Splitting.{Uncut}
 use Rattle.h3_rows.proofs.Finding.{field_here, field_last, field_passed}
 use Rattle.h3_rows.proofs.Pieces.{uncut_none}
 use Rattle.h3_rows.proofs.Scan.{neither, split_at, uncut_byte}

@@ -1,14 +1,14 @@
 -- Rows without quotes, found by a look at sixteen bytes at once. Private contracts and proofs alone cite this file.
-use Rattle.std.specs.Prelude.{◌≡◌, ℕ, Bool, true, false, not, List, [], ◌∷◌, ◌++◌, Option, Some, if◌then◌else◌}
+use Rattle.std.specs.Prelude.{◌≡◌, ℕ, Bool, true, false, not, List, ◌∷◌, ◌++◌, Some, if◌then◌else◌}
 use Rattle.std.specs.List.{list_all}
 use Rattle.memchr.specs.Find.{is_byte2}
 use Rattle.h3_rows.specs.Row.{cut, piece_at}
 
--- quote_or_feed quotes: the quote if quotes count, and else a line feed
+-- the quote if quotes count, and else a line feed
 abbrev pub quote_or_feed : Bool → ℕ
 quote_or_feed quotes = if quotes then 34 else 10
 
--- is_plain quotes bytes: no byte is a line feed, and if quotes count none is a quote
+-- no byte is a line feed, and if quotes count none is a quote
 abbrev pub is_plain : Bool → List ℕ → Bool
 is_plain quotes bytes = list_all (λ b. not (is_byte2 10 (quote_or_feed quotes) b)) bytes
 

@@ -1,5 +1,4 @@
 use Rattle.std.proofs.Common.{◌≡◌, arith}
-use Rattle.std.proofs.lemmas.List.{length-drop}
 use Rattle.memchr.specs.Find.{is_byte3}
 use Rattle.h3_rows.proofs.Masks.{goes_past}
 use Rattle.h3_rows.proofs.lanes.find_stop.Goals as goal

@@ -1,4 +1,4 @@
-use Rattle.std.proofs.Common.{◌≡◌, ◌<◌, ◌∙◌, arith, length-drop, length-take, ℕ, ap, refl, sym}
+use Rattle.std.proofs.Common.{arith, length-drop, length-take, ℕ, refl}
 use Rattle.std.proofs.lemmas.List.{take_rest}
 use Rattle.h3_rows.proofs.PlainRows.{ends_row, others_after}
 use Rattle.h3_rows.proofs.plain.find_plain.Goals as goal

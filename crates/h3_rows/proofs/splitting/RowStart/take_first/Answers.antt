@@ -1,4 +1,4 @@
-use Rattle.std.proofs.Common.{◌≤◌, ◌+◌, ap, arith, length, length-drop, length-take, take, ℕ}
+use Rattle.std.proofs.Common.{◌≤◌, ◌+◌, arith, length, length-drop, length-take, ℕ}
 use Rattle.std.proofs.lemmas.List.{take_rest}
 use Rattle.h3_rows.proofs.Blocks.{take_none}
 use Rattle.h3_rows.proofs.Split.{first_fits, goes_first, goes_settled, goes_then}
