@@ -418,6 +418,32 @@ H3Error h3w_cellsToChildPositions(const H3Index *cells, size_t n, int parentRes,
 H3Error h3w_areValidDirectedEdges(const H3Index *edges, size_t n, int *out, size_t room, size_t *at); /* 1 or 0 */
 H3Error h3w_getDirectedEdgeOrigins(const H3Index *edges, size_t n, H3Index *out, size_t room, size_t *at);
 
+/* ---- Columns of lists: of n indexes one list, the children of the first index, ascending, then those of the second,
+ * and so on, and the places where each one's begin. An index whose h3w_cellToChildrenSize is an error has none.
+ *
+ * Errors and `*at` are those of the columns at a resolution, but for E_MEMORY_BOUNDS: that comes before the error of an
+ * index, and says at `*at` up to which index there was room. */
+
+/** Finds where the children of each index begin: those of index i are at starts[i] to starts[i + 1] - 1, of which there
+ * may be none, and starts[n] is how many there are in all. These are the offsets of an Arrow list array.
+ * @param starts receives n + 1 places, from 0 on
+ * @param room the length of `starts`
+ * @param at receives n; or the place of the first error
+ * @return E_SUCCESS; E_RES_DOMAIN: not a resolution, and nothing is written; E_MEMORY_BOUNDS: `room` is below n + 1,
+ * and nothing is written, `*at` neither; E_MEMORY_BOUNDS: children end above INT64_MAX; then `*at` is the place of the
+ * first index whose do, and the starts up to its own are written; or the first error of an index, as of
+ * h3w_cellToChildrenSize */
+H3Error h3w_cellsToChildrenStarts(const H3Index *cells, size_t n, int childRes, int64_t *starts, size_t room,
+                                  size_t *at);
+
+/** Lists the children of each index: as many as starts[n] of h3w_cellsToChildrenStarts.
+ * @param room the length of `out`
+ * @param at receives n; or the place of the first error
+ * @return E_SUCCESS; E_RES_DOMAIN: not a resolution, and nothing is written; E_MEMORY_BOUNDS: room for fewer; as many
+ * as fit are written, and `*at` is the place of the first index whose children do not all fit; or the first error of an
+ * index, as of h3w_cellToChildren */
+H3Error h3w_cellsToChildren(const H3Index *cells, size_t n, int childRes, H3Index *out, size_t room, size_t *at);
+
 #ifdef __cplusplus
 }
 #endif

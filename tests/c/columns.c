@@ -102,6 +102,74 @@ static void sizes(Counts *all, H3Error (*one)(H3Index, int, int64_t *), int res,
     free(out);
 }
 
+/* The places where the children of each index begin: the sums of the sizes before, of which a refused index has 0. */
+static int64_t starts[N + 2];
+static void children_starts(int res, size_t n) {
+    static int64_t found[N + 2];
+    H3Error errors[N] = {E_SUCCESS}, wanted;
+    size_t at = KEPT, place, same = 0, i;
+    for (i = 0; i < N + 2; i++) found[i] = KEPT;
+    for (i = starts[0] = 0; i < n; i++) {
+        int64_t size = 0;
+        errors[i] = h3w_cellToChildrenSize(column[i], res, &size);
+        starts[i + 1] = starts[i] + (errors[i] ? 0 : size);
+    }
+    wanted = first(errors, n, &place);
+    CHECK(h3w_cellsToChildrenStarts(column, n, res, found, n, &at) == E_MEMORY_BOUNDS && at == KEPT);
+    CHECK(found[0] == KEPT && found[n] == KEPT);
+    CHECK(h3w_cellsToChildrenStarts(column, n, res, found, n + 1, &at) == wanted && at == place);
+    while (same <= n && found[same] == starts[same]) same++;
+    CHECK(same == n + 1 && found[n + 1] == KEPT);
+}
+
+/* The children of each index, after those of the ones before; with less room as many as fit, and the place of the first
+ * index whose children do not. */
+static void children(int res, size_t n) {
+    H3Index *wanted, *out;
+    H3Error errors[N] = {E_SUCCESS}, error;
+    size_t all, at, place, rooms[7], i, j;
+    children_starts(res, n);
+    all = (size_t)starts[n];
+    wanted = (H3Index *)malloc((all + 2) * sizeof *wanted), out = (H3Index *)malloc((all + 2) * sizeof *out);
+    if (!wanted || !out) exit(2);
+    for (i = 0; i < n; i++)
+        errors[i] = h3w_cellToChildren(column[i], res, wanted + starts[i], (size_t)(starts[i + 1] - starts[i]));
+    error = first(errors, n, &place);
+    rooms[0] = 0, rooms[1] = 1, rooms[2] = (size_t)starts[n / 2], rooms[3] = rooms[2] + 1;
+    rooms[4] = all ? all - 1 : 0, rooms[5] = all, rooms[6] = all + 1;
+    for (j = 0; j < ROOM(rooms); j++) {
+        size_t room = rooms[j] <= all ? rooms[j] : all + 1, fit = room < all ? room : all, same = 0, last = 0;
+        for (i = 0; i < all + 2; i++) out[i] = KEPT;
+        at = KEPT;
+        while (last < n && (size_t)starts[last + 1] <= room) last++;
+        CHECK(h3w_cellsToChildren(column, n, res, out, room, &at) == (room < all ? E_MEMORY_BOUNDS : error));
+        CHECK(at == (room < all ? last : place));
+        while (same < fit && out[same] == wanted[same]) same++;
+        CHECK(same == fit && out[fit] == KEPT);
+    }
+    free(wanted), free(out);
+}
+
+/* A column whose children end at places that no int64_t holds: an error of an index comes after. */
+static void children_past_all_places(void) {
+    const int64_t size = 4747561509943; /* 7^15 */
+    const size_t n = 2000000, last = (size_t)(INT64_MAX / size);
+    H3Index *many = (H3Index *)malloc(n * sizeof *many);
+    int64_t *found = (int64_t *)malloc((n + 1) * sizeof *found);
+    size_t at = KEPT, same = 0, i;
+    if (!many || !found) exit(2);
+    for (i = 0; i < n; i++) many[i] = i == 1 ? 5 : 0x8029fffffffffffU;
+    for (i = 0; i <= n; i++) found[i] = KEPT;
+    CHECK(h3w_cellsToChildrenStarts(many, n, 15, found, n + 1, &at) == E_MEMORY_BOUNDS && at == last + 1);
+    while (same <= last + 1 && found[same] == (same ? (int64_t)(same - (same > 1)) * size : 0)) same++;
+    CHECK(same == last + 2 && found[last + 2] == KEPT && found[n] == KEPT);
+    many[1] = many[0];
+    CHECK(h3w_cellsToChildrenStarts(many, last + 1, 15, found, n + 1, &at) == E_MEMORY_BOUNDS && at == last);
+    CHECK(h3w_cellsToChildrenStarts(many, last, 15, found, n + 1, &at) == E_SUCCESS && at == last);
+    CHECK(found[last] == (int64_t)last * size);
+    free(many), free(found);
+}
+
 /* An edge's origin, in the form of the functions with a resolution. */
 static H3Error origin(H3Index edge, int res, H3Index *out) {
     (void)res;
@@ -237,6 +305,8 @@ static void no_resolution(int res, size_t n) {
         CHECK(h3w_cellsToLastChildren(column, n, res, out, room, &at) == E_RES_DOMAIN);
         CHECK(h3w_cellsToChildrenSizes(column, n, res, numbers, room, &at) == E_RES_DOMAIN);
         CHECK(h3w_cellsToChildPositions(column, n, res, numbers, room, &at) == E_RES_DOMAIN);
+        CHECK(h3w_cellsToChildrenStarts(column, n, res, numbers, room, &at) == E_RES_DOMAIN);
+        CHECK(h3w_cellsToChildren(column, n, res, out, room, &at) == E_RES_DOMAIN);
     }
     while (kept < N && out[kept] == KEPT && numbers[kept] == KEPT) kept++;
     CHECK(kept == N && at == KEPT);
@@ -284,7 +354,10 @@ int main(void) {
             cells(h3w_cellsToLastChildren, h3w_cellToLastChild, resolutions[j], lengths[i]);
             sizes(h3w_cellsToChildrenSizes, h3w_cellToChildrenSize, resolutions[j], lengths[i]);
             sizes(h3w_cellsToChildPositions, h3w_cellToChildPos, resolutions[j], lengths[i]);
+            children_starts(resolutions[j], lengths[i]);
         }
+        for (j = 0; j < 5; j++) children(resolutions[j], lengths[i]);
     }
+    children_past_all_places();
     return counts();
 }

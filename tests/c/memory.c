@@ -96,7 +96,7 @@ static void expect(H3Error (*call)(size_t *), size_t wanted) {
 /* All other functions take none. */
 static void expect_none(void) {
     H3Index index = 0;
-    int64_t number = 0;
+    int64_t number = 0, starts[50];
     size_t at = 0;
     char text[17];
     made = 0;
@@ -105,6 +105,8 @@ static void expect_none(void) {
     CHECK(h3w_childPosToCell(5, cells[5], 15, &index) == E_SUCCESS && h3w_h3ToString(index, text, 17) == E_SUCCESS);
     CHECK(h3w_stringToH3(text, 15, &index) == E_SUCCESS && h3w_originToDirectedEdges(index, out) == E_SUCCESS);
     CHECK(h3w_cellsToParents(cells, 343, 5, out, 343, &at) == E_SUCCESS && h3w_getRes0Cells(out, 122) == E_SUCCESS);
+    CHECK(h3w_cellsToChildrenStarts(cells, 49, 9, starts, 50, &at) == E_SUCCESS && starts[49] == 343);
+    CHECK(h3w_cellsToChildren(cells, 49, 9, out, 343, &at) == E_SUCCESS);
     CHECK(h3w_cellsToZones(&index, 0, cells, 343, out, 343, &at) == E_SUCCESS);
     CHECK(h3w_countCellsInZones(&index, 0, cells, 343, &number, 0, &number, &at) == E_SUCCESS);
     CHECK(made == 0);

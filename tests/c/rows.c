@@ -130,6 +130,27 @@ static void columns(void) {
     CHECK(counts[0] == 282475249 && counts[1] == -1 && counts[2] == 3956301258286);
 }
 
+static void columns_of_children(void) {
+    static const H3Index cells[] = {0x8029fffffffffffU, 5, PENTAGON, HEXAGON, 0x81283ffffffffffU};
+    static const H3Index own[] = {0x81283ffffffffffU, 0x81287ffffffffffU, 0x8128bffffffffffU, 0x8128fffffffffffU,
+                                  0x81293ffffffffffU, 0x81297ffffffffffU, 0x8129bffffffffffU};
+    int64_t starts[] = {9, 9, 9, 9, 9, 9, 9};
+    H3Index out[15] = {0};
+    size_t at = 9;
+    CHECK(h3w_cellsToChildrenStarts(cells, 5, 1, starts, 6, &at) == E_CELL_INVALID && at == 1);
+    CHECK(starts[0] == 0 && starts[1] == 7 && starts[2] == 7 && starts[3] == 13 && starts[4] == 13);
+    CHECK(starts[5] == 14 && starts[6] == 9);
+    CHECK(h3w_cellsToChildren(cells, 5, 1, out, 14, &at) == E_CELL_INVALID && at == 1);
+    CHECK(are_same(out, own, 7) && are_same(out + 7, pentagon_children, 6) && out[13] == cells[4] && out[14] == 0);
+    CHECK(h3w_cellsToChildren(cells + 2, 2, 1, out, 14, &at) == E_RES_DOMAIN && at == 1);
+    CHECK(are_same(out, pentagon_children, 6) && out[6] == own[6]);
+    CHECK(h3w_cellsToChildren(cells, 5, 1, out, 7, &at) == E_MEMORY_BOUNDS && at == 2 && are_same(out, own, 7));
+    CHECK(h3w_cellsToChildrenStarts(cells, 0, 1, starts, 1, &at) == E_SUCCESS && at == 0 && starts[0] == 0);
+    CHECK(h3w_cellsToChildren(cells, 0, 1, out, 0, &at) == E_SUCCESS && at == 0);
+    CHECK(h3w_cellsToChildrenStarts(cells, 5, 15, starts, 6, &at) == E_CELL_INVALID && at == 1);
+    CHECK(starts[1] == 4747561509943 && starts[3] == 4747561509943 + 3956301258286);
+}
+
 #define PARENT 0x8428347ffffffffU
 
 static const H3Index siblings[] = {
@@ -229,6 +250,7 @@ int main(void) {
     edges();
     lists();
     columns();
+    columns_of_children();
     unions();
     differences();
     intersections();

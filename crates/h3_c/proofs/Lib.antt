@@ -3,6 +3,7 @@ pub mod Columns
 pub mod Items
 pub mod Laid
 pub mod SixPlaces
+pub mod StartLaws
 pub mod WalkLaws
 pub mod RegionLaws
 pub mod ZoneLaws

@@ -5,6 +5,8 @@ pub mod Lists
 pub mod Outcome
 pub mod Regions
 pub mod Sets
+pub mod StartExamples
+pub mod Starts
 pub mod Tables
 pub mod Walks
 pub mod Zones

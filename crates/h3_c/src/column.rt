@@ -80,7 +80,7 @@ fn fill_values<T: Copy, Q: Question<T>>(
 
 /// The number of the first error among what is asked of each index, and its place; 0 and how many
 /// indexes there are where there is none.
-fn first_error<T: Copy, Q: Question<T>>(question: &Q, indexes: &[u64]) -> (u32, usize)
+pub(crate) fn first_error<T: Copy, Q: Question<T>>(question: &Q, indexes: &[u64]) -> (u32, usize)
     ensures code { result.0 ≡ first_code (map (λ h. Q.outcome question.now h) indexes.now) }
     ensures place { result.1 ≡ first_place (map (λ h. Q.outcome question.now h) indexes.now) }
 {

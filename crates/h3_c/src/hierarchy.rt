@@ -6,12 +6,15 @@ ghost use Rattle.h3_functions.specs.Hierarchy.{cell_to_center_child, cell_to_chi
 ghost use Rattle.h3_c.specs.Columns.{column_code_at, column_over_at, place_over_at};
 ghost use Rattle.h3_c.specs.Lists.{list_code, list_over};
 ghost use Rattle.h3_c.specs.Outcome.{code_of, index_of};
+ghost use Rattle.h3_c.specs.Starts.{StandAtStarts, children_code, children_over, children_place, children_starts_code, children_starts_over, children_starts_place};
 
 use crate::column::{NO_COUNT, NULL, fill_at};
 use crate::functions::word;
 use crate::lists::put_list;
 use crate::outcome::{index_of, put};
+use crate::starts::{fill_children, fill_starts};
 use h3_functions::{cell_to_children, child_pos_to_cell};
+use h3_index::resolution_from;
 use h3_requests::CellFunction::*;
 
 /// H3's `cellToParent`.
@@ -176,4 +179,42 @@ pub extern "C" fn h3w_cellToChildren(h: u64, res: i32, out: &mut [u64]) -> u32
     ensures list { out.new ≡ list_over (cell_to_children h res) out.old }
 {
     put_list(out, cell_to_children(h, res))
+}
+
+/// Where the children of each index begin among those of all, and where the last one's end, once the
+/// resolution is judged.
+#[unsafe(no_mangle)]
+pub extern "C" fn h3w_cellsToChildrenStarts(
+    cells: &[u64],
+    res: i32,
+    starts: &mut [u64],
+    at: &mut usize,
+) -> u32
+    ensures code { result ≡ children_starts_code res cells.now (length starts.old) }
+    ensures starts { starts.new ≡ children_starts_over res cells.now starts.old }
+    ensures place { at.new ≡ children_starts_place res cells.now (length starts.old) at.old }
+    ensures law { StandAtStarts res cells.now }
+{
+    match resolution_from(res) {
+        Ok(_) => fill_starts(&CellToChildrenSize { res }, cells, starts, at),
+        Err(error) => u32::from(error.number()),
+    }
+}
+
+/// The children of each index, one index's after another's, once the resolution is judged.
+#[unsafe(no_mangle)]
+pub extern "C" fn h3w_cellsToChildren(
+    cells: &[u64],
+    res: i32,
+    out: &mut [u64],
+    at: &mut usize,
+) -> u32
+    ensures code { result ≡ children_code res cells.now (length out.old) }
+    ensures children { out.new ≡ children_over res cells.now out.old }
+    ensures place { at.new ≡ children_place res cells.now (length out.old) at.old }
+{
+    match resolution_from(res) {
+        Ok(_) => fill_children(cells, res, out, at),
+        Err(error) => u32::from(error.number()),
+    }
 }

@@ -12,6 +12,7 @@ mod outcome;
 mod regions;
 mod resolutions;
 mod sets;
+mod starts;
 mod tables;
 mod texts;
 mod version;
