@@ -41,6 +41,7 @@ __all__ = [
     "are_valid_directed_edges",
     "cells_to_center_children",
     "cells_to_child_positions",
+    "cells_to_children",
     "cells_to_children_sizes",
     "cells_to_last_children",
     "cells_to_parents",
@@ -403,6 +404,8 @@ _cells_to_center_children = _function("cellsToCenterChildren", _resolution)
 _cells_to_last_children = _function("cellsToLastChildren", _resolution)
 _cells_to_children_sizes = _function("cellsToChildrenSizes", _resolution)
 _cells_to_child_positions = _function("cellsToChildPositions", _resolution)
+_cells_to_children_starts = _function("cellsToChildrenStarts", _resolution)
+_cells_to_children = _function("cellsToChildren", _resolution)
 _get_directed_edge_origins = _function("getDirectedEdgeOrigins")
 _compact_cells = _function("compactCells")
 _uncompact_cells = _library.number("uncompactCells", _array, _size, _array, _size, _resolution)
@@ -796,6 +799,112 @@ def _sum(sizes: Any) -> int:
         return sum(sizes)
     numbers = numpy.frombuffer(sizes, dtype="int64")
     return sum(int(numbers[start : start + 2**20].sum()) for start in range(0, len(numbers), 2**20))
+
+
+# ---- the children of all cells as one column, and the place where those of each begin
+
+
+def _check_children(number: int, given: _Memory, place: int, res: SupportsIndex, missing: bool) -> None:
+    """Raise what the library returned of the children of a column."""
+    if number == 4 and not 0 <= as_res(res) <= 15:
+        raise error_of(number, f"resolution {res}")
+    if number == 14:
+        raise error_of(13, f"the children up to those of {given.named(place)}, at resolution {res}")
+    if number and not missing:
+        raise error_of(number, given.named(place) + (f", at resolution {res}" if number == 4 else ""))
+
+
+def _children_of_memory(column: Any, res: SupportsIndex, missing: bool) -> Tuple[Any, Any]:
+    """The children of a column of integers, and where those of each begin, in memory of their kind."""
+    wanted = as_res(res)
+    with _Memory(column) as given:
+        place, n = _size(0), given.count
+        starts, address = _room_for(column, given, "q", n + 1)
+        number = _cells_to_children_starts(given.address, n, wanted, address, n + 1, ctypes.byref(place))
+        _check_children(number, given, place.value, res, missing)
+        count = int(starts[n])
+        children, address = _room_for(column, given, _INDEXES, count)
+        # (the library wants an address for no results too)
+        address = address or ctypes.addressof(place)
+        number = _cells_to_children(given.address, n, wanted, address, count, ctypes.byref(place))
+        _check_children(number, given, place.value, res, missing)
+    return children, starts
+
+
+def _children_of_list(column: Any, res: SupportsIndex, missing: bool) -> Tuple[Any, Any]:
+    """The same of a list, a column of texts or an Index. Children have the form of their cell."""
+    # (a number that is no resolution is an error before any text)
+    _children_of_memory(array("Q"), res, missing)
+    numbers, integers = _numbers_of(column, missing)
+    children, starts = cells_to_children(numbers, res, missing=missing)
+    if isinstance(column, (list, tuple)):
+        items = int_to_str(children)
+        for place in integers:
+            items[starts[place] : starts[place + 1]] = children[starts[place] : starts[place + 1]]
+        return items, starts.tolist()
+    if not _is_pandas_index(column):
+        texts = int_to_str(children)
+        return (texts.astype(object) if _is_numpy(column) else texts), starts
+    found = int_to_str(children) if _is_listed(column.to_series()) else children
+    return sys.modules["pandas"].Index(found.to_numpy(), name=column.name), starts
+
+
+def _children_of_arrow(column: Any, res: SupportsIndex, missing: bool) -> Tuple[Any, Any]:
+    """The same of a column of another program. A null has none, and is no error."""
+    # (a number that is no resolution is an error before any item)
+    _children_of_memory(array("Q"), res, missing)
+    given, numbers = _arrow_numbers(column, missing)
+    if not missing:
+        cells_to_children_sizes(numbers, res)
+    children, starts = _children_of_memory(memoryview(numbers.filled(0)), res, True)
+    found = ArrowColumn("l" if given.format == "l" else "L", memoryview(children), None)
+    return (_arrow_texts(found) if given.is_of_texts else found), ArrowColumn("l", memoryview(starts), None)
+
+
+def cells_to_children(column: _Column, res: SupportsIndex, *, missing: bool = False) -> Tuple[_Column, Any]:
+    """Return the descendants of each cell at a resolution, as one column, and where those of each begin.
+
+    Parameters
+    ----------
+    column : array, memoryview, numpy array, Series, Index or list
+        The cells.
+    res : int
+        A resolution, which is judged first.
+    missing : bool, optional
+        Take no descendants for what is refused, and raise nothing for it.
+
+    Returns
+    -------
+    children : column of the same kind
+        Those of the first cell, ascending, then those of the second, and so on, in one dimension. A Series has at each
+        the index of its cell, as `Series.explode` has it.
+    starts : array, memoryview, numpy array, list or ArrowColumn of 64-bit integers
+        One more than there are cells: the children of the cell at place i are `children[starts[i]:starts[i + 1]]`. Of
+        a column of pandas it is a numpy array. These are the offsets of Arrow's large list array.
+
+    Raises
+    ------
+    H3ResDomainError
+        If the resolution is not 0 to 15, or coarser than a cell's.
+    H3FailedError
+        If a text does not parse as an index.
+    H3CellInvalidError
+        If one is not a valid cell.
+    H3MemoryAllocError
+        If there is no memory for the children.
+    """
+    if _is_arrow(column):
+        return _children_of_arrow(column, res, missing)
+    if _is_listed(column):
+        return _children_of_list(column, res, missing)
+    children, starts = _children_of_memory(column, res, missing)
+    if _is_series(column):
+        series: Any = column
+        at = series.index.repeat(starts[1:] - starts[:-1])
+        return type(series)(children, index=at, name=series.name, dtype=_dtype_for(series)), starts
+    if isinstance(column, memoryview):
+        return memoryview(children), memoryview(starts)  # type: ignore[return-value]
+    return children, starts
 
 
 # ---- texts

@@ -51,6 +51,22 @@ class In(unittest.TestCase):
                 self.assertEqual(found.tolist(), [None if cell is None else CELL for cell in items])
                 self.assertEqual(found.null_count, items.count(None))
 
+    def test_children(self):
+        """A null has no children, and is no error; what is refused is one, with its place."""
+        items = with_nulls(CELLS)
+        wanted = [[] if cell is None else integers.cell_to_children(cell, 8) for cell in items]
+        for producer in kinds(items):
+            children, starts = columns.cells_to_children(producer, 8)
+            self.assertEqual((children.format, starts.format), (producer.kind, "l"))
+            self.assertEqual(children.tolist(), sum(wanted, []))
+            self.assertEqual(starts.tolist(), [sum(map(len, wanted[:place])) for place in range(len(items) + 1)])
+        given = [None, TEXT.encode(), f"{INVALID:x}".encode()]
+        with self.assertRaisesRegex(errors.H3CellInvalidError, "at place 2"):
+            columns.cells_to_children(ArrayProducer("u", given), 5)
+        children, starts = columns.cells_to_children(ArrayProducer("u", given), 5, missing=True)
+        self.assertEqual((children.tolist(), starts.tolist()), ([TEXT], [0, 0, 1, 1]))
+        self.assertRaises(errors.H3ResDomainError, columns.cells_to_children, ArrayProducer("u", [b"xyz"]), 16)
+
     def test_empty(self):
         for kind in ("L", "u", "vu"):
             for producer in (StreamProducer(kind), StreamProducer(kind, []), ArrayProducer(kind, [])):

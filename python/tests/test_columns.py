@@ -91,10 +91,36 @@ class OneByOne(unittest.TestCase):
         self.assertRaises(errors.H3CellInvalidError, columns.uncompact_cells, array("Q", INVALID), 9)
         self.assertRaises(errors.H3ResMismatchError, columns.uncompact_cells, children, 8)
 
+    def test_children(self):
+        """The children of each cell are between two starts; those of what is refused are none."""
+        given = [cell for cell in cells(300) if integers.get_resolution(cell) > 3] + INVALID
+        random.Random(3).shuffle(given)
+        wanted, first = one_by_one(integers.cell_to_children, given, 6)
+        children, starts = columns.cells_to_children(array("Q", given), 6, missing=True)
+        self.assertEqual((children.typecode, starts.typecode, len(starts)), ("Q", "q", len(given) + 1))
+        self.assertEqual((starts[0], starts[-1]), (0, len(children)))
+        for place, own in enumerate(wanted):
+            self.assertEqual(children[starts[place] : starts[place + 1]].tolist(), own or [])
+        with self.assertRaises(errors.H3BaseException) as caught:
+            columns.cells_to_children(array("Q", given), 6)
+        self.assertEqual(caught.exception.number, first[0])
+        self.assertIn(f"at place {first[1]}", str(caught.exception))
+
+    def test_children_of_many(self):
+        """Of cells that have no memory for their children, or more than a place of 64 bits counts."""
+        for count in (1, 2 * 10**6):
+            with self.assertRaises(errors.H3MemoryAllocError):
+                columns.cells_to_children(array("Q", [0x8029FFFFFFFFFFF]) * count, 15)
+        base = array("Q", [0x8029FFFFFFFFFFF]) * (2 * 10**6)
+        with self.assertRaisesRegex(errors.H3MemoryAllocError, f"8029fffffffffff at place {(2**63 - 1) // 7**15}"):
+            columns.cells_to_children(base, 15, missing=True)
+
     def test_resolutions(self):
         given = array("Q", cells(10))
         for res in (16, -1, 2**31, -(2**31) - 1):
             self.assertRaises(errors.H3ResDomainError, columns.cells_to_parents, given, res)
+            self.assertRaises(errors.H3ResDomainError, columns.cells_to_children, array("Q"), res)
+            self.assertRaises(errors.H3ResDomainError, columns.cells_to_children, ["xyz"], res, missing=True)
 
 
 class Kinds(unittest.TestCase):
@@ -181,6 +207,57 @@ class Kinds(unittest.TestCase):
                 listed(columns.uncompact_cells(columns.compact_cells(column), 6)), [f"{c:x}" for c in children]
             )
             self.assertRaises(errors.H3ResDomainError, columns.uncompact_cells, column, 16)
+
+    def test_children(self):
+        """Children are of the kind of the column, and texts of texts."""
+        given = integers.cell_to_children(0x85283473FFFFFFF, 6)[:2]
+        wanted = [child for cell in given for child in integers.cell_to_children(cell, 7)]
+        for column, listed in self.forms([f"{cell:x}" for cell in given]):
+            children, starts = columns.cells_to_children(column, 7)
+            self.assertEqual(listed(children), [f"{child:x}" for child in wanted])
+            self.assertIsInstance(children, list if isinstance(column, tuple) else type(column))
+            self.assertEqual(list(starts), [0, 7, 14])
+        children, starts = columns.cells_to_children(memoryview(array("q", given)), 7)
+        self.assertEqual((children.format, starts.format), ("q", "q"))
+        self.assertEqual((children.tolist(), starts.tolist()), (wanted, [0, 7, 14]))
+        self.assertEqual(columns.cells_to_children([], 7), ([], [0]))
+        self.assertEqual(columns.cells_to_children(array("Q"), 7), (array("Q"), array("q", [0])))
+        mixed = [given[0], None, f"{given[1]:x}", "xyz", 5]
+        found = columns.cells_to_children(mixed, 7, missing=True)
+        self.assertEqual(found, (wanted[:7] + [f"{child:x}" for child in wanted[7:]], [0, 7, 7, 14, 14, 14]))
+
+    @unittest.skipIf(numpy is None, "numpy is not installed")
+    def test_children_of_numpy(self):
+        given = numpy.array(integers.cell_to_children(0x85283473FFFFFFF, 6), dtype="uint64")
+        children, starts = columns.cells_to_children(given, 8)
+        self.assertEqual((children.dtype, starts.dtype), (given.dtype, numpy.dtype("int64")))
+        self.assertEqual(starts.tolist(), list(range(0, 7 * 49 + 1, 49)))
+        parents = columns.cells_to_parents(children, 6)
+        self.assertTrue((parents == numpy.repeat(given, starts[1:] - starts[:-1])).all())
+        children, starts = columns.cells_to_children(given[:6].reshape(2, 3), 7)
+        self.assertEqual((children.shape, starts.shape), ((42,), (7,)))
+
+    @unittest.skipIf(pandas is None, "pandas is not installed")
+    def test_explode(self):
+        """A Series of lists, exploded, is the Series of children."""
+        given = [0x85283473FFFFFFF, 0x8009FFFFFFFFFFF, 0x85283473FFFFFFF]
+        own = [integers.cell_to_children(cell, 5) for cell in given]
+        for dtype in ("uint64", "int64", "UInt64"):
+            column = pandas.Series(given, index=["x", "y", "x"], name="cell", dtype=dtype)
+            lists = pandas.Series(own, index=column.index, name="cell")
+            children, starts = columns.cells_to_children(column, 5)
+            pandas.testing.assert_series_equal(children, lists.explode().astype(dtype))
+            self.assertEqual(starts.tolist(), [0, 1, 14007, 14008])
+        frame = pandas.DataFrame({"cell": given, "own": own})
+        children, starts = columns.cells_to_children(frame["cell"], 5)
+        found = frame.loc[frame.index.repeat(starts[1:] - starts[:-1])].assign(child=children)
+        wanted = frame.explode("own")
+        self.assertEqual(found["child"].tolist(), wanted["own"].tolist())
+        self.assertEqual(found["cell"].tolist(), wanted["cell"].tolist())
+        column = pandas.Series([given[0], None], dtype="UInt64")
+        children, starts = columns.cells_to_children(column, 6, missing=True)
+        self.assertEqual((children.index.tolist(), starts.tolist()), ([0] * 7, [0, 7, 7]))
+        self.assertRaises(errors.H3CellInvalidError, columns.cells_to_children, column, 6)
 
     def test_lists(self):
         cell, text = 0x85283473FFFFFFF, "85283473fffffff"

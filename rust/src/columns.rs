@@ -14,6 +14,9 @@
 //! assert_eq!(parents, [0x8428347ffffffff, 0, 0]);
 //! assert_eq!((refused.error, refused.at), (Error::CellInvalid, 1));
 //! ```
+//!
+//! [`children`] and [`children_starts`] write one list of the children of all indexes, and the
+//! places where those of each begin. An index that is refused has none there.
 
 use crate::ffi::columns as ffi;
 use crate::{Error, Resolution};
@@ -26,7 +29,7 @@ pub struct ColumnError {
     /// The error.
     pub error: Error,
     /// The place of the index that the error is about, from 0 on; the length of `out` where that is
-    /// too short.
+    /// too short; of [`children`] then the place of the first index whose children have no room.
     pub at: usize,
     /// The index that the error is about; none where `out` is too short.
     pub index: Option<u64>,
@@ -95,6 +98,30 @@ columns! {
     /// The positions of cells below their ancestors. See
     /// [`Cell::child_position`](crate::Cell::child_position).
     child_positions = h3w_cellsToChildPositions(resolution) -> i64;
+    /// Where the children of each index begin in the list that [`children`] writes, and where it
+    /// ends: `out` needs one place more than there are indexes. Those of index i are at `out[i]` to
+    /// `out[i + 1]`, which is the place after them. `MemoryBounds` is also the error where children
+    /// end at a place that is no `i64`; `at` is then the place of the first index whose do, and the
+    /// places before are written.
+    ///
+    /// ```
+    /// use h3whole::{columns, Resolution};
+    ///
+    /// let cells = [0x85283473fffffff, 0x8009fffffffffff];
+    /// let mut starts = [0; 3];
+    /// columns::children_starts(&cells, Resolution::Five, &mut starts)?;
+    /// assert_eq!(starts, [0, 1, 14_007]);
+    /// let mut children = vec![0; starts[2] as usize];
+    /// columns::children(&cells, Resolution::Five, &mut children)?;
+    /// assert_eq!(children[..2], [0x85283473fffffff, 0x85080003fffffff]);
+    /// # Ok::<(), columns::ColumnError>(())
+    /// ```
+    children_starts = h3w_cellsToChildrenStarts(resolution) -> i64;
+    /// The children of the first index at a resolution, ascending, then those of the second, and so
+    /// on; none of an index that is refused. See [`Cell::children`](crate::Cell::children) and
+    /// [`children_starts`]. Where `out` is too short it is `MemoryBounds`, before any other error,
+    /// and as many as fit are written.
+    children = h3w_cellsToChildren(resolution) -> u64;
     /// 1 where the index is that of a directed edge, else 0: there is no other error than
     /// `MemoryBounds`.
     valid_edges = h3w_areValidDirectedEdges() -> i32;

@@ -75,6 +75,8 @@ columns! {
     h3w_cellsToLastChildren(res) -> u64;
     h3w_cellsToChildrenSizes(res) -> i64;
     h3w_cellsToChildPositions(res) -> i64;
+    h3w_cellsToChildrenStarts(res) -> i64;
+    h3w_cellsToChildren(res) -> u64;
     h3w_areValidDirectedEdges() -> c_int;
     h3w_getDirectedEdgeOrigins() -> u64;
 }

@@ -388,6 +388,34 @@ fn columns_of_all_kinds() {
     assert_eq!(counts[..3], [3_956_301_258_286, 282_475_249, 1]);
     columns::child_positions(&indexes[..2], Resolution::Zero, &mut counts).unwrap();
     assert_eq!(counts[..3], [0, 2279, 1]);
+    let mut starts = vec![1; 5];
+    let few = [0x8029fffffffffff, 5, 0x8009fffffffffff];
+    let refused = columns::children_starts(&few, Resolution::One, &mut starts).unwrap_err();
+    assert_eq!((refused.error, refused.at), (Error::CellInvalid, 1));
+    assert_eq!(starts, [0, 7, 7, 13, 1]);
+    let mut all = vec![1; 14];
+    let refused = columns::children(&few, Resolution::One, &mut all).unwrap_err();
+    assert_eq!(
+        (refused.error, refused.at, refused.index),
+        (Error::CellInvalid, 1, Some(5))
+    );
+    assert_eq!(
+        (all[0], all[6], all[13]),
+        (0x81283ffffffffff, 0x8129bffffffffff, 1)
+    );
+    assert_eq!((all[7], all[12]), (0x81083ffffffffff, 0x8109bffffffffff));
+    let refused = columns::children(&few, Resolution::One, &mut all[..12]).unwrap_err();
+    assert_eq!(
+        (refused.error, refused.at, refused.index),
+        (Error::MemoryBounds, 2, None)
+    );
+    let refused = columns::children_starts(&few, Resolution::One, &mut starts[..3]).unwrap_err();
+    assert_eq!((refused.error, refused.at), (Error::MemoryBounds, 3));
+    assert_eq!(columns::children(&[], Resolution::Zero, &mut []), Ok(()));
+    assert_eq!(
+        columns::children_starts(&[], Resolution::Zero, &mut starts[..1]),
+        Ok(())
+    );
     let mut origins = vec![1; n];
     let refused = columns::origins(&indexes, &mut origins).unwrap_err();
     assert_eq!((refused.error, refused.at), (Error::DirEdgeInvalid, 0));
