@@ -242,6 +242,15 @@ H3Error h3w_gridDiskUnsafe(const H3wTable *table, H3Index origin, int k, H3Index
 H3Error h3w_gridDiskDistancesUnsafe(const H3wTable *table, H3Index origin, int k, H3Index *out, size_t room,
                                     int *distances, size_t distancesRoom);
 
+/** Lists the disks of n cells, one after another, each as h3w_gridDiskUnsafe lists it: without an error that of
+ * cells[i] begins at i * (3k(k + 1) + 1). The first error ends them.
+ * @param room the length of `out`
+ * @param at receives n; or the place of the cell whose disk has the error
+ * @return E_SUCCESS; or the first error of these disks, each with the room that those before leave. The cells before it
+ * are written, also those of its own disk */
+H3Error h3w_gridDisksUnsafe(const H3wTable *table, const H3Index *cells, size_t n, int k, H3Index *out, size_t room,
+                            size_t *at);
+
 /** Lists the 6k cells at k steps from a cell, in the order of the walk; for k = 0 the cell itself.
  * @param room the length of `out`
  * @return as h3w_gridDiskUnsafe, but a pentagon is refused for k above 0 alone; and E_PENTAGON after its cells if the

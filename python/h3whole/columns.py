@@ -24,7 +24,7 @@ from array import array
 from typing import Any, Callable, Iterable, List, Optional, SupportsIndex, Tuple, TypeVar
 
 from . import _arrow, _fast, _library
-from ._arguments import as_cell, as_res, indexes_of
+from ._arguments import as_cell, as_int, as_res, indexes_of
 from ._arrow import ArrowColumn
 from ._library import _array, _index, _resolution, _size
 from ._memory import View, numpy_room
@@ -32,6 +32,7 @@ from ._memory import room as _room
 from ._memory import room_at
 from ._overlap import overlap_named
 from .errors import H3CellInvalidError, H3FailedError, error_of
+from .table import Table
 
 __all__ = [
     "ArrowColumn",
@@ -49,6 +50,7 @@ __all__ = [
     "get_base_cell_numbers",
     "get_directed_edge_origins",
     "get_resolutions",
+    "grid_disks_unsafe",
     "int_to_str",
     "str_to_int",
     "to_arrow",
@@ -409,6 +411,16 @@ _cells_to_children = _function("cellsToChildren", _resolution)
 _get_directed_edge_origins = _function("getDirectedEdgeOrigins")
 _compact_cells = _function("compactCells")
 _uncompact_cells = _library.number("uncompactCells", _array, _size, _array, _size, _resolution)
+_grid_disks_unsafe = _library.number(
+    "gridDisksUnsafe",
+    ctypes.POINTER(_library.Table),
+    _array,
+    _size,
+    _resolution,
+    _array,
+    _size,
+    ctypes.POINTER(_size),
+)
 _string_to_h3 = _library.number("stringToH3", ctypes.c_char_p, _size, ctypes.POINTER(_index))
 _h3_to_string = _library.number("h3ToString", _index, ctypes.c_char_p, _size)
 
@@ -801,7 +813,7 @@ def _sum(sizes: Any) -> int:
     return sum(int(numbers[start : start + 2**20].sum()) for start in range(0, len(numbers), 2**20))
 
 
-# ---- the children of all cells as one column, and the place where those of each begin
+# ---- lists of all cells as one column, and the place where those of each begin
 
 
 def _check_children(number: int, given: _Memory, place: int, res: SupportsIndex, missing: bool) -> None:
@@ -814,50 +826,104 @@ def _check_children(number: int, given: _Memory, place: int, res: SupportsIndex,
         raise error_of(number, given.named(place) + (f", at resolution {res}" if number == 4 else ""))
 
 
-def _children_of_memory(column: Any, res: SupportsIndex, missing: bool) -> Tuple[Any, Any]:
-    """The children of a column of integers, and where those of each begin, in memory of their kind."""
+def _children_of_memory(column: Any, res: SupportsIndex, missing: bool, first: int = 0) -> Tuple[Any, Any]:
+    """The children of a column of integers, and where those of each begin, in memory of their kind. An error is at the
+    place `first` or after it."""
     wanted = as_res(res)
     with _Memory(column) as given:
         place, n = _size(0), given.count
         starts, address = _room_for(column, given, "q", n + 1)
         number = _cells_to_children_starts(given.address, n, wanted, address, n + 1, ctypes.byref(place))
-        _check_children(number, given, place.value, res, missing)
+        _check_children(number, given, max(place.value, first), res, missing)
         count = int(starts[n])
         children, address = _room_for(column, given, _INDEXES, count)
         # (the library wants an address for no results too)
         address = address or ctypes.addressof(place)
         number = _cells_to_children(given.address, n, wanted, address, count, ctypes.byref(place))
-        _check_children(number, given, place.value, res, missing)
+        _check_children(number, given, max(place.value, first), res, missing)
     return children, starts
 
 
-def _children_of_list(column: Any, res: SupportsIndex, missing: bool) -> Tuple[Any, Any]:
-    """The same of a list, a column of texts or an Index. Children have the form of their cell."""
-    # (a number that is no resolution is an error before any text)
-    _children_of_memory(array("Q"), res, missing)
+def _disks_of_memory(table: Table, column: Any, k: SupportsIndex, missing: bool, first: int = 0) -> Tuple[Any, Any]:
+    """The same of the disks of a column of integers."""
+    radius = as_int(k)
+    if radius < 0:
+        raise error_of(2, f"k = {k}")
+    with _Memory(column) as given:
+        place, n, size = _size(0), given.count, 3 * radius * (radius + 1) + 1
+        disks, address = _room_for(column, given, _INDEXES, n * size)
+        address = address or ctypes.addressof(place)
+        starts, done, end = array("q"), 0, 0
+        while True:
+            number = _grid_disks_unsafe(
+                table._address(),
+                given.address + 8 * done,
+                n - done,
+                radius,
+                address + 8 * end,
+                (n - done) * size,
+                ctypes.byref(place),
+            )
+            whole = place.value
+            starts.extend(range(end, end + whole * size, size))
+            done, end = done + whole, end + whole * size
+            starts.append(end)
+            if not number:
+                break
+            if not missing:
+                raise error_of(number, f"{given.named(max(done, first))}, k = {k}")
+            # (the refused one has no disk)
+            done += 1
+            if done == n:
+                starts.append(end)
+                break
+        kept = disks[:end]
+    numbers = starts if not _has_numpy(column) else sys.modules["numpy"].array(starts, dtype="int64")
+    return (kept.copy() if end < n * size and hasattr(kept, "copy") else kept), numbers
+
+
+def _has_numpy(column: Any) -> bool:
+    return _is_series(column) or _is_numpy(column)
+
+
+def _lists_of(column: Any, find: Callable[..., Tuple[Any, Any]], missing: bool) -> Tuple[Any, Any]:
+    """The lists that a function finds of the cells of a column, in the kind of the column."""
+    # (a resolution or a number of steps is judged before any cell)
+    find(array("Q"), missing)
+    if _is_arrow(column):
+        return _lists_of_arrow(column, find, missing)
+    if _is_listed(column):
+        return _lists_of_list(column, find, missing)
+    items, starts = find(column, missing)
+    if _is_series(column):
+        at = column.index.repeat(starts[1:] - starts[:-1])
+        return type(column)(items, index=at, name=column.name, dtype=_dtype_for(column)), starts
+    return (memoryview(items), memoryview(starts)) if isinstance(column, memoryview) else (items, starts)
+
+
+def _lists_of_list(column: Any, find: Callable[..., Tuple[Any, Any]], missing: bool) -> Tuple[Any, Any]:
+    """The same of a list, a column of texts or an Index. What is listed has the form of its cell."""
     numbers, integers = _numbers_of(column, missing)
-    children, starts = cells_to_children(numbers, res, missing=missing)
+    found, starts = _lists_of(numbers, find, missing)
     if isinstance(column, (list, tuple)):
-        items = int_to_str(children)
+        items = int_to_str(found)
         for place in integers:
-            items[starts[place] : starts[place + 1]] = children[starts[place] : starts[place + 1]]
+            items[starts[place] : starts[place + 1]] = found[starts[place] : starts[place + 1]]
         return items, starts.tolist()
     if not _is_pandas_index(column):
-        texts = int_to_str(children)
+        texts = int_to_str(found)
         return (texts.astype(object) if _is_numpy(column) else texts), starts
-    found = int_to_str(children) if _is_listed(column.to_series()) else children
-    return sys.modules["pandas"].Index(found.to_numpy(), name=column.name), starts
+    own = int_to_str(found) if _is_listed(column.to_series()) else found
+    return sys.modules["pandas"].Index(own.to_numpy(), name=column.name), starts
 
 
-def _children_of_arrow(column: Any, res: SupportsIndex, missing: bool) -> Tuple[Any, Any]:
+def _lists_of_arrow(column: Any, find: Callable[..., Tuple[Any, Any]], missing: bool) -> Tuple[Any, Any]:
     """The same of a column of another program. A null has none, and is no error."""
-    # (a number that is no resolution is an error before any item)
-    _children_of_memory(array("Q"), res, missing)
     given, numbers = _arrow_numbers(column, missing)
-    if not missing:
-        cells_to_children_sizes(numbers, res)
-    children, starts = _children_of_memory(memoryview(numbers.filled(0)), res, True)
-    found = ArrowColumn("l" if given.format == "l" else "L", memoryview(children), None)
+    if not missing and numbers.null_count < len(numbers):
+        find(memoryview(numbers.with_first()), False, numbers.first())
+    items, starts = find(memoryview(numbers.filled(0)), True)
+    found = ArrowColumn("l" if given.format == "l" else "L", memoryview(items), None)
     return (_arrow_texts(found) if given.is_of_texts else found), ArrowColumn("l", memoryview(starts), None)
 
 
@@ -893,18 +959,47 @@ def cells_to_children(column: _Column, res: SupportsIndex, *, missing: bool = Fa
     H3MemoryAllocError
         If there is no memory for the children.
     """
-    if _is_arrow(column):
-        return _children_of_arrow(column, res, missing)
-    if _is_listed(column):
-        return _children_of_list(column, res, missing)
-    children, starts = _children_of_memory(column, res, missing)
-    if _is_series(column):
-        series: Any = column
-        at = series.index.repeat(starts[1:] - starts[:-1])
-        return type(series)(children, index=at, name=series.name, dtype=_dtype_for(series)), starts
-    if isinstance(column, memoryview):
-        return memoryview(children), memoryview(starts)  # type: ignore[return-value]
-    return children, starts
+    return _lists_of(column, lambda cells, *how: _children_of_memory(cells, res, *how), missing)
+
+
+def grid_disks_unsafe(table: Table, column: _Column, k: SupportsIndex, *, missing: bool = False) -> Tuple[_Column, Any]:
+    """Return the cells within k steps of each cell, as one column, and where those of each begin.
+
+    Parameters
+    ----------
+    table : Table
+        A base cell table.
+    column : array, memoryview, numpy array, Series, Index or list
+        The cells.
+    k : int
+        The number of steps.
+    missing : bool, optional
+        Take no disk for what is refused, and raise nothing for it.
+
+    Returns
+    -------
+    disks : column of the same kind
+        Those of the first cell, in the order of the walk, then those of the second, and so on, in one dimension. A
+        Series has at each the index of its cell, as `Series.explode` has it.
+    starts : array, memoryview, numpy array, list or ArrowColumn of 64-bit integers
+        One more than there are cells, as those of `cells_to_children`.
+
+    Raises
+    ------
+    H3DomainError
+        If `k` is below 0.
+    H3FailedError
+        If a text does not parse as an index.
+    H3CellInvalidError
+        If one is not a valid cell.
+    H3PentagonError
+        If a cell is a pentagon, or a step meets a pentagon base cell.
+    H3MemoryAllocError
+        If there is no memory for the disks.
+    """
+    if not isinstance(table, Table):
+        raise TypeError(f"a table is wanted first, and not {table!r}")
+    return _lists_of(column, lambda cells, *how: _disks_of_memory(table, cells, k, *how), missing)
 
 
 # ---- texts

@@ -5,9 +5,20 @@ import pickle
 import subprocess
 import tempfile
 import unittest
+from array import array
 
 import h3whole
+import h3whole.columns as columns
 import h3whole.int as integers
+
+try:
+    import numpy
+except ImportError:
+    numpy = None
+try:
+    import pandas
+except ImportError:
+    pandas = None
 
 PROGRAM = os.environ.get("H3") or os.path.join(os.path.dirname(os.path.realpath(__file__)), "..", "..", "h3")
 PENTAGONS = {4, 14, 24, 38, 49, 58, 63, 72, 83, 97, 107, 117}
@@ -49,6 +60,47 @@ class Walks(unittest.TestCase):
             for walk in (h3whole.grid_disk_unsafe, h3whole.grid_disk_distances_unsafe, h3whole.grid_ring_unsafe):
                 with self.assertRaises(h3whole.H3PentagonError):
                     walk(TABLE, origin, 1)
+
+    def test_columns(self):
+        """The disk of each cell is between two starts; that of one that is refused, also on its way, has no cell."""
+        own = integers.grid_disk_unsafe(TABLE, int(HEXAGON, 16), 1)
+        given = [own[0], 5, own[3], 0x800BFFFFFFFFFFF, 0x8009FFFFFFFFFFF, own[6], 0x8009FFFFFFFFFFF]
+        for k in (0, 1, 3):
+            wanted = []
+            for cell in given:
+                try:
+                    wanted.append(integers.grid_disk_unsafe(TABLE, cell, k))
+                except h3whole.H3BaseException:
+                    wanted.append([])
+            disks, starts = columns.grid_disks_unsafe(TABLE, array("Q", given), k, missing=True)
+            self.assertEqual((len(starts), starts[0], starts[-1]), (8, 0, len(disks)))
+            for place, disk in enumerate(wanted):
+                self.assertEqual(disks[starts[place] : starts[place + 1]].tolist(), disk)
+            disks, starts = columns.grid_disks_unsafe(TABLE, memoryview(array("q", own)), k)
+            self.assertEqual(disks.tolist(), [c for cell in own for c in integers.grid_disk_unsafe(TABLE, cell, k)])
+            self.assertEqual(starts.tolist(), list(range(0, 7 * (3 * k * (k + 1) + 1) + 1, 3 * k * (k + 1) + 1)))
+        with self.assertRaisesRegex(h3whole.H3CellInvalidError, "5 at place 1, k = 1"):
+            columns.grid_disks_unsafe(TABLE, given, 1)
+        with self.assertRaisesRegex(h3whole.H3PentagonError, "800bfffffffffff at place 2, k = 1"):
+            columns.grid_disks_unsafe(TABLE, given[:1] + given[2:], 1)
+        for k in (-1, 2**31):
+            self.assertRaises(h3whole.H3DomainError, columns.grid_disks_unsafe, TABLE, [], k, missing=True)
+        self.assertRaises(h3whole.H3MemoryAllocError, columns.grid_disks_unsafe, TABLE, array("Q", own), 2**31 - 1)
+        self.assertRaises(TypeError, columns.grid_disks_unsafe, own, 1, 1)
+        self.assertEqual(columns.grid_disks_unsafe(TABLE, [], 1), ([], [0]))
+        found = columns.grid_disks_unsafe(TABLE, [HEXAGON, own[0], None], 1, missing=True)
+        self.assertEqual(found, (DISK + own, [0, 7, 14, 14]))
+
+    @unittest.skipIf(pandas is None, "pandas is not installed")
+    def test_columns_of_pandas(self):
+        column = pandas.Series([HEXAGON, "5", HEXAGON], index=["x", "y", "z"])
+        disks, starts = columns.grid_disks_unsafe(TABLE, column, 1, missing=True)
+        self.assertEqual((disks.tolist(), starts.tolist()), (DISK * 2, [0, 7, 7, 14]))
+        self.assertEqual(disks.index.tolist(), ["x"] * 7 + ["z"] * 7)
+        numbers = numpy.array([int(HEXAGON, 16)] * 2, dtype="uint64")
+        disks, starts = columns.grid_disks_unsafe(TABLE, numbers, 1)
+        self.assertEqual((disks.dtype, starts.dtype), (numbers.dtype, numpy.dtype("int64")))
+        self.assertEqual((disks[7:] == disks[:7]).all(), True)
 
     def test_wrong(self):
         for walk in (integers.grid_disk_unsafe, integers.grid_disk_distances_unsafe, integers.grid_ring_unsafe):

@@ -19,7 +19,7 @@
 //! places where those of each begin. An index that is refused has none there.
 
 use crate::ffi::columns as ffi;
-use crate::{Error, Resolution};
+use crate::{Cell, Error, Resolution};
 use core::fmt;
 
 /// The first error of a column, and its place.
@@ -39,6 +39,12 @@ impl ColumnError {
     fn new(error: Error, at: usize, indexes: &[u64]) -> Self {
         let is_of_room = error == Error::MemoryBounds;
         let index = indexes.get(at).copied().filter(|_| !is_of_room);
+        Self { error, at, index }
+    }
+
+    /// The error of the cell at a place; past all of them, of none.
+    pub(crate) fn of_cell(error: Error, at: usize, cells: &[Cell]) -> Self {
+        let index = cells.get(at).map(|cell| cell.raw());
         Self { error, at, index }
     }
 }

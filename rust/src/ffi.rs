@@ -106,6 +106,15 @@ extern "C" {
         out: *mut u64,
         room: usize,
     ) -> u32;
+    fn h3w_gridDisksUnsafe(
+        table: &RawTable,
+        cells: *const u64,
+        n: usize,
+        k: c_int,
+        out: *mut u64,
+        room: usize,
+        at: &mut usize,
+    ) -> u32;
     fn h3w_gridDiskDistancesUnsafe(
         table: &RawTable,
         origin: u64,
@@ -693,6 +702,34 @@ pub(crate) fn disk(
         let code = unsafe { h3w_gridDiskUnsafe(table, origin, k, out, count) };
         (code, count)
     })
+}
+
+/// The cells of the disks of cells, which are this many. An error comes with the place of its cell.
+pub(crate) fn disks(
+    table: &RawTable,
+    origins: &[Cell],
+    k: i32,
+    count: usize,
+) -> Result<Vec<Cell>, (Error, usize)> {
+    let mut at = origins.len();
+    let found = written(count, |out| {
+        // SAFETY: a `RawTable` is as the library returned it, or a copy. A `Cell` is a number, and
+        // the slice is passed with its length. `out` points to room for `count` numbers, and `at` is
+        // one place.
+        let code = unsafe {
+            h3w_gridDisksUnsafe(
+                table,
+                origins.as_ptr().cast(),
+                origins.len(),
+                k,
+                out,
+                count,
+                &mut at,
+            )
+        };
+        (code, count)
+    });
+    found.map_err(|error| (error, at))
 }
 
 /// The cells of a disk, which are this many, and the ring of each.

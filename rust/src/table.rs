@@ -1,3 +1,4 @@
+use crate::columns::ColumnError;
 use crate::ffi::{self, Fault, RawTable};
 use crate::{Cell, Edge, Error};
 use alloc::vec::Vec;
@@ -55,7 +56,30 @@ impl Table {
         ffi::disk(&self.0, origin.raw(), radius, disk_len(k)?)
     }
 
-    /// The same, each cell with its ring, 0 to k: H3's `gridDiskDistancesUnsafe`. Errors as of
+    /// The disks of cells, one after another: H3's `gridDisksUnsafe`. Each has 3k(k + 1) + 1 cells,
+    /// in the order of [`Table::grid_disk_unsafe`]. Errors are those of that, with the first cell that
+    /// they are about; `Domain` and `MemoryAlloc` are about none.
+    ///
+    /// ```
+    /// # use h3whole::{Cell, Error, Table};
+    /// # fn check(table: Table, cells: &[Cell]) -> Result<(), Error> {
+    /// let disks = table.grid_disks_unsafe(cells, 2)?;
+    /// for (cell, disk) in cells.iter().zip(disks.chunks(19)) {
+    ///     assert_eq!(disk, table.grid_disk_unsafe(*cell, 2)?);
+    /// }
+    /// # Ok(())
+    /// # }
+    /// ```
+    pub fn grid_disks_unsafe(&self, origins: &[Cell], k: u32) -> Result<Vec<Cell>, ColumnError> {
+        let of_all = |error| ColumnError::of_cell(error, origins.len(), origins);
+        let radius = radius(k).map_err(of_all)?;
+        let count = disk_len(k).map_err(of_all)?.checked_mul(origins.len());
+        let count = count.ok_or_else(|| of_all(Error::MemoryAlloc))?;
+        ffi::disks(&self.0, origins, radius, count)
+            .map_err(|(error, at)| ColumnError::of_cell(error, at, origins))
+    }
+
+    /// The cells within k steps of a cell, each with its ring, 0 to k: H3's `gridDiskDistancesUnsafe`. Errors as of
     /// [`Table::grid_disk_unsafe`].
     pub fn grid_disk_distances_unsafe(
         &self,

@@ -536,6 +536,18 @@ fn walks_over_a_table() {
     let mut ring = disk[1..6].to_vec();
     ring.insert(0, disk[6]);
     assert_eq!(table.grid_disk_unsafe(hexagon, 1).as_ref(), Ok(&disk));
+    let two = table.grid_disks_unsafe(&[hexagon, disk[1]], 1).unwrap();
+    let second = table.grid_disk_unsafe(disk[1], 1).unwrap();
+    assert_eq!(two, [&disk[..], &second[..]].concat());
+    assert_eq!(table.grid_disks_unsafe(&[], 5), Ok(vec![]));
+    let met = [hexagon, cell(0x800bfffffffffff), hexagon];
+    let refused = table.grid_disks_unsafe(&met, 1).unwrap_err();
+    assert_eq!((refused.error, refused.at), (Error::Pentagon, 1));
+    assert_eq!(refused.index, Some(0x800bfffffffffff));
+    let refused = table.grid_disks_unsafe(&met, 1 << 31).unwrap_err();
+    assert_eq!((refused.error, refused.index), (Error::Domain, None));
+    let refused = table.grid_disks_unsafe(&met, i32::MAX as u32).unwrap_err();
+    assert_eq!((refused.error, refused.index), (Error::MemoryAlloc, None));
     assert_eq!(table.grid_ring_unsafe(hexagon, 1), Ok(ring));
     assert_eq!(table.grid_ring_unsafe(hexagon, 0), Ok(vec![hexagon]));
     let rings: Vec<_> = disk.into_iter().zip([0, 1, 1, 1, 1, 1, 1]).collect();

@@ -117,6 +117,34 @@ static void walks(void) {
     expect_walk(h3w_gridDiskUnsafe, &plain, 0x8108bffffffffffU, 1, inside, 0, E_PENTAGON);
 }
 
+/* The disks of two cells, and then of one whose walk is refused on its way, with all the room and with less. */
+static void disks(void) {
+    static const H3Index origins[] = {HEXAGON, 0x85283473fffffffU, 0x800bfffffffffffU, HEXAGON}, none[] = {NEAR, 5};
+    H3Index wanted[17] = {0}, *out;
+    size_t room, at;
+    memcpy(wanted, disk_of_hexagon, sizeof disk_of_hexagon);
+    memcpy(wanted + 7, disk_of_hexagon, sizeof disk_of_hexagon);
+    wanted[14] = origins[2], wanted[15] = 0x8023fffffffffffU, wanted[16] = 0x8021fffffffffffU;
+    for (room = 0; room < 20; room++) {
+        H3Error error = room < 17 ? E_MEMORY_BOUNDS : E_PENTAGON;
+        at = KEPT, out = places(room);
+        CHECK(h3w_gridDisksUnsafe(&plain, origins, 4, 1, out, room, &at) == error && at == (room < 14 ? room / 7 : 2));
+        CHECK(are_same(out, wanted, room < 17 ? room : 17) && (room < 18 || out[17] == KEPT));
+        at = KEPT;
+        error = room < 14 ? E_MEMORY_BOUNDS : E_SUCCESS;
+        CHECK(h3w_gridDisksUnsafe(&plain, origins, 2, 1, out, room, &at) == error && at == (room < 14 ? room / 7 : 2));
+        CHECK(are_same(out, wanted, room < 17 ? room : 17));
+        free(out);
+    }
+    out = places(19), at = KEPT;
+    CHECK(h3w_gridDisksUnsafe(&plain, none, 2, 2, out, 19, &at) == E_CELL_INVALID && at == 1);
+    CHECK(are_same(out, disk_of_near, 19));
+    CHECK(h3w_gridDisksUnsafe(&plain, none, 2, -1, out, 19, &at) == E_DOMAIN && at == 0);
+    CHECK(h3w_gridDisksUnsafe(&plain, none, 0, -1, out, 19, &at) == E_SUCCESS && at == 0);
+    CHECK(are_same(out, disk_of_near, 19));
+    free(out);
+}
+
 /* A table over which a function is asked, and what is wrong in its words. */
 static void expect_refused(const H3wTable *table, H3Index origin, int k, H3Error error) {
     expect_walk(h3w_gridDiskUnsafe, table, origin, k, NULL, 0, error);
@@ -164,8 +192,11 @@ static void edges(void) {
 static void expect_fault(const char *file, size_t n, uint32_t code, uint64_t at, uint32_t direction) {
     H3wTableFault fault;
     H3wTable table = read_table(file, n, &fault);
+    const H3Index origin = HEXAGON;
     H3Index out = KEPT;
+    size_t cell = 5;
     int is = 77;
+    CHECK(h3w_gridDisksUnsafe(&table, &origin, 1, -1, &out, 1, &cell) == E_FAILED && cell == 0 && out == KEPT);
     CHECK(fault.code == code && fault.at == at && fault.direction == direction);
     expect_refused(&table, HEXAGON, 0, E_FAILED);
     expect_refused(&table, 5, -1, E_FAILED);
@@ -267,6 +298,7 @@ static void threads(void) {
 int main(void) {
     accepted_files();
     walks();
+    disks();
     wrong_words();
     edges();
     refused_files();

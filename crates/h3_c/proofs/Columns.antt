@@ -36,7 +36,7 @@ whole f (h ∷ hs) = ap (λ l. f h ∷ l) (whole f hs)
 
 -- ---- the first error
 
-error_number-some : (e : H3Error) → error_number e ≡ 0 → ⊥
+pub error_number-some : (e : H3Error) → error_number e ≡ 0 → ⊥
 error_number-some Failed is = omega (arith, is)
 error_number-some Domain is = omega (arith, is)
 error_number-some ResDomain is = omega (arith, is)

@@ -1,5 +1,6 @@
 pub mod CellsIn
 pub mod Columns
+pub mod DiskLaws
 pub mod Items
 pub mod Laid
 pub mod SixPlaces

@@ -21,6 +21,11 @@ unfolding written
 written-snoc [] x = refl
 written-snoc (y ∷ xs) x = ap (λ l. Ok y ∷ l) (written-snoc xs x)
 
+pub length-written : {A : Type 0} (xs : List A) → length (written xs) ≡ length xs
+unfolding written
+length-written [] = refl
+length-written (x ∷ xs) = ap suc (length-written xs)
+
 pub given-more : {A : Type 0} (xs : List A) (x : A) (rest : List (Result A H3Error)) → given (written xs ++ Ok x ∷ rest) ≡ xs ++ x ∷ given rest
 unfolding given written
 given-more [] x rest = refl

@@ -18,7 +18,7 @@ use h3_index::{Cell, H3Error};
 use h3_lattice::BaseTable;
 
 /// H3's number for a table whose file was refused.
-const FAILED: u32 = 1;
+pub(crate) const FAILED: u32 = 1;
 
 /// Puts the indexes of the cells of a walk into the first slots, up to its error, as far as there
 /// is room.
