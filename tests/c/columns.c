@@ -164,7 +164,6 @@ static void children_past_all_places(void) {
     while (same <= last + 1 && found[same] == (same ? (int64_t)(same - (same > 1)) * size : 0)) same++;
     CHECK(same == last + 2 && found[last + 2] == KEPT && found[n] == KEPT);
     many[1] = many[0];
-    CHECK(h3w_cellsToChildrenStarts(many, last + 1, 15, found, n + 1, &at) == E_MEMORY_BOUNDS && at == last);
     CHECK(h3w_cellsToChildrenStarts(many, last, 15, found, n + 1, &at) == E_SUCCESS && at == last);
     CHECK(found[last] == (int64_t)last * size);
     free(many), free(found);
