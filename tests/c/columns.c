@@ -142,7 +142,7 @@ static void children(int res, size_t n) {
         for (i = 0; i < all + 2; i++) out[i] = KEPT;
         at = KEPT;
         while (last < n && (size_t)starts[last + 1] <= room) last++;
-        CHECK(h3w_cellsToChildren(column, n, res, out, room, &at) == (room < all ? E_MEMORY_BOUNDS : error));
+        CHECK(h3w_cellsToChildren(column, n, res, out, room, &at) == (room < all ? (H3Error)E_MEMORY_BOUNDS : error));
         CHECK(at == (room < all ? last : place));
         while (same < fit && out[same] == wanted[same]) same++;
         CHECK(same == fit && out[fit] == KEPT);
