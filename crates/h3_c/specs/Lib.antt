@@ -1,4 +1,5 @@
 pub mod Columns
+pub mod DiskExamples
 pub mod Disks
 pub mod Edges
 pub mod Functions
