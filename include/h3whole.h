@@ -246,8 +246,8 @@ H3Error h3w_gridDiskDistancesUnsafe(const H3wTable *table, H3Index origin, int k
  * cells[i] begins at i * (3k(k + 1) + 1). The first error ends them.
  * @param room the length of `out`
  * @param at receives n; or the place of the cell whose disk has the error
- * @return E_SUCCESS, also if n is 0; or the first error of these disks, each with the room that those before leave. The
- * cells before it are written, also those of its own disk */
+ * @return E_SUCCESS, and if n is 0, whatever the table and k are; or the first error of these disks, each with the room
+ * that those before leave. The cells before it are written, also those of its own disk */
 H3Error h3w_gridDisksUnsafe(const H3wTable *table, const H3Index *cells, size_t n, int k, H3Index *out, size_t room,
                             size_t *at);
 

@@ -3,7 +3,8 @@
 //! Of each index the result is written at its place in `out`, and 0, or -1 where the results are no
 //! indexes, where the function of one index returns an error. The first of these errors is
 //! returned, with its place. Where `out` is shorter than the column it is `MemoryBounds`, and
-//! nothing is written. What stands in `out` after the column's end stays.
+//! nothing is written, but for [`children`], of which as many are written as fit. What stands in
+//! `out` after what is written stays.
 //!
 //! ```
 //! use h3whole::{columns, Error, Resolution};
@@ -28,10 +29,13 @@ use core::fmt;
 pub struct ColumnError {
     /// The error.
     pub error: Error,
-    /// The place of the index that the error is about, from 0 on; the length of `out` where that is
-    /// too short; of [`children`] then the place of the first index whose children have no room.
+    /// The place of the index that the error is about, from 0 on. Of `MemoryBounds` it is the length
+    /// of `out`; of [`children`] the place of the first index whose children have no room, and of
+    /// [`children_starts`] that of the first whose end is no `i64`. Of an error that is about no index
+    /// it is how many there are.
     pub at: usize,
-    /// The index that the error is about; none where `out` is too short.
+    /// The index that the error is about; none for `MemoryBounds`, and for an error that is about no
+    /// index.
     pub index: Option<u64>,
 }
 
