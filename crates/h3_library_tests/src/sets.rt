@@ -197,8 +197,18 @@ fn the_six_siblings_of_a_pentagon_are_compacted(rt: HostRuntime) -> Result<(), A
     Ok(())
 }
 
-/// Whether a compaction of cells of resolution 2 in its two rounds leaves in all slots what
-/// `compact_cells` does.
+/// Whether two lists of slots have the same cells from one place to another.
+fn are_same(slots: &[Cell], others: &[Cell], from: usize, to: usize) -> bool {
+    if from > to || to > slots.len() || to > others.len() {
+        return false;
+    }
+    let ours = &slots[from..to];
+    let theirs = &others[from..to];
+    ours == theirs
+}
+
+/// Whether a compaction of cells of resolution 2 and coarser in its two rounds leaves the list that
+/// `compact_cells` does, and the same slots after those of the cells.
 fn rounds_agree(rt: &HostRuntime, cells: &[Cell]) -> bool {
     let mut slots = [Cell::in_base(121); SLOTS];
     let mut others = slots;
@@ -221,7 +231,8 @@ fn rounds_agree(rt: &HostRuntime, cells: &[Cell]) -> bool {
     let last = second.round(&mut others);
     holds(rt, 3, last.level() == 0)
         && holds(rt, 4, last.finish(&mut others) == count)
-        && holds(rt, 5, slots == others)
+        && holds(rt, 5, are_same(&slots, &others, 0, count))
+        && holds(rt, 6, are_same(&slots, &others, cells.len(), SLOTS))
 }
 
 #[test]
@@ -246,6 +257,10 @@ fn two_levels_are_compacted(rt: HostRuntime) -> Result<(), AllocError> {
     assert!(rt; rounds_agree(&rt, &cells));
     assert!(rt; is_cell(cells.pop(), 0x8229b7fffffffff));
     assert!(rt; compacts(&rt, &cells, &REST));
+    assert!(rt; rounds_agree(&rt, &cells));
+    cells.push(Cell::in_base(121))?;
+    assert!(rt; rounds_agree(&rt, &cells));
+    cells.reverse();
     assert!(rt; rounds_agree(&rt, &cells));
     Ok(())
 }
@@ -274,6 +289,17 @@ fn is_overlap(found: Result<usize, H3Error>) -> bool {
     matches!(found, Err(H3Error::DuplicateInput))
 }
 
+/// Whether a compaction in rounds of two cells, which overlap, is refused, and the first two of four
+/// slots hold these then.
+fn starts_refused(first: Cell, second: Cell) -> bool {
+    let other = Cell::in_base(121);
+    let mut slots = [other; 4];
+    matches!(
+        Compaction::start(&[first, second], &mut slots),
+        Err(H3Error::DuplicateInput)
+    ) && (slots == [first, second, other, other] || slots == [second, first, other, other])
+}
+
 /// Whether a list of two cells, which overlap, is refused, and the first two of four slots hold
 /// these then, as the list does that is compacted in place.
 fn two_overlap(rt: &HostRuntime, first: Cell, second: Cell) -> bool {
@@ -287,6 +313,7 @@ fn two_overlap(rt: &HostRuntime, first: Cell, second: Cell) -> bool {
     ) && (slots == [first, second, other, other] || slots == [second, first, other, other])
         && holds(rt, 1, is_overlap(compact_in_place(&mut own)))
         && (own == [first, second] || own == [second, first])
+        && holds(rt, 2, starts_refused(first, second))
 }
 
 #[test]

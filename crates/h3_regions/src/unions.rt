@@ -15,7 +15,7 @@ use crate::zones::order_by_number;
 use h3_index::Cell;
 use h3_index::laws::cells_are_listed;
 use h3_set::laws::coverages_decide_lists;
-use h3_set::{compact_in_order, put_in_order};
+use h3_set::{compact_apart, put_in_order};
 use h3_tree::laws::{cells_form_intervals, cells_form_trees};
 use h3_tree::post_order_key;
 
@@ -62,20 +62,6 @@ fn keep_coarsest(cells: &mut [Cell]) -> usize
         written = stay + 1;
     }
     written
-}
-
-/// `compact_in_order` of cells of which no two overlap, which it does not refuse.
-fn compact_apart(cells: &mut [Cell]) -> usize
-    requires { IsApart cells.old }
-    ensures fewer { result ≤ length cells.old }
-    ensures list { IsPermutation (compacted cells.old) (take result cells.new) }
-    ensures in_order { IsInOrder (take result cells.new) }
-{
-    coverages_decide_lists();
-    match compact_in_order(cells) {
-        Ok(count) => count,
-        Err(_) => unreachable!(),
-    }
 }
 
 /// As `unite`, without its last sort: the list stands in post order, as that of a region.

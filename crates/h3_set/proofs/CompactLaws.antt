@@ -1,40 +1,18 @@
 -- From the first part of a list to its compacted list.
-use Rattle.std.proofs.Common.{ℕ, zero, suc, ◌≡◌, ◌≢◌, ◌<◌, ◌≤◌, ◌↔◌, ◌==◌, List, [], ◌∷◌, length, take, All, AllPairs, Contains, Bool, false, IsPermutation, arith, sym, subst, inl, inr, get_or}
+use Rattle.std.proofs.Common.{ℕ, zero, suc, ◌≡◌, ◌≢◌, ◌<◌, ◌≤◌, ◌↔◌, ◌==◌, List, [], ◌∷◌, length, All, AllPairs, Contains, Bool, false, IsPermutation, arith, sym, subst, inl, inr, get_or}
 use Rattle.std.proofs.lemmas.Bool.Decides.{nat_tests}
 use Rattle.std.proofs.lemmas.List.Elements.{All-contains, Contains-get_or}
-use Rattle.std.proofs.lemmas.List.Sorted.{Contains-permutation, IsPermutation-sym}
+use Rattle.std.proofs.lemmas.List.Sorted.{All-permutation}
 use Rattle.std.proofs.lemmas.Map.Keys.{IsDistinct-IsPermutation}
 use Rattle.std.specs.List.{AllByRecursion, IsDistinct}
 use Rattle.h3_index.specs.Cell.{Address, IsCell, number_of, resolution}
 use Rattle.h3_index.specs.Count.{CellsUpToAreListed}
-use Rattle.h3_index.specs.Descendants.{IsAncestor}
-use Rattle.h3_index.specs.Laws.{NumbersAreUnique}
 use Rattle.h3_tree.specs.Laws.{CellsFormTrees}
-use Rattle.h3_set.specs.Compacted.{compacted, IsCompacted, IsTop}
-use Rattle.h3_set.specs.Compaction.{level_of, slots_in_use}
-use Rattle.h3_set.specs.Coverage.{finest, IsApart, IsCompactable, IsCovered}
-use Rattle.h3_set.specs.Order.{IsInOrder}
-use Rattle.h3_set.specs.Rounds.{InPart}
-use Rattle.h3_set.specs.declared.rounds.Compaction.{Compaction}
-use Rattle.h3_set.proofs.PermutedLaws.{permuted}
-use Rattle.h3_set.proofs.SetLaws.{member_top, top_member}
-use Rattle.h3_set.proofs.TestLaws.{computes, dec_covered}
-use Rattle.h3_set.proofs.TopLaws.{compacted_from_tops}
-use Rattle.h3_set.proofs.PartLaws.{reached}
+use Rattle.h3_set.specs.Compacted.{compacted, IsCompacted}
+use Rattle.h3_set.specs.Coverage.{finest, IsCovered}
+use Rattle.h3_set.proofs.PartitionLaws.{compacted_made, coverages_decide, finest_is_fine}
+use Rattle.h3_set.proofs.PermutedLaws.{apart_permuted, members_permuted}
 use Rattle.h3_set.proofs.TreeLaws.{contains_cases, contains_head, contains_tail, other_number, same_number}
-
--- ---- the loop over the rounds
-
--- the rounds above the level are done, in the first slots
-pub record IsUnderWay (cells slots : List Address) (c : Compaction) : Type 0 where
-  pub room : length cells ≤ length slots
-  pub in_use : slots_in_use c ≤ length cells
-  pub small : finest cells ≤ 15
-  pub level : level_of c ≤ finest cells
-  pub compactable : IsCompactable (finest cells) cells
-  pub apart : IsApart (take (slots_in_use c) slots)
-  pub in_order : IsInOrder (take (slots_in_use c) slots)
-  pub part : (x : Address) → Contains (take (slots_in_use c) slots) x ↔ InPart cells (finest cells) (level_of c) x
 
 -- ---- the order of the slots at the end
 
@@ -89,36 +67,30 @@ module _ (tree : CellsFormTrees) where
     }),
   )
 
-  module _ (by_number : NumbersAreUnique) (cells : List Address) (r : ℕ) (fine : r ≤ 15) (slots sorted : List Address) (same : IsPermutation slots sorted) (apart : IsApart slots) (part : (x : Address) → Contains slots x ↔ InPart cells r 0 x) (ascends : AllPairs (λ a b. number_of a ≤ number_of b) sorted) where
-    tops : (c : Address) → Contains slots c → IsTop (IsCovered cells r) r c
-    tops c m = (reached tree cells r c).0 ((part c).0 m)
+module _ (tree : CellsFormTrees) (listed : CellsUpToAreListed) where
+  -- the compacted list does not depend on the order of the cells
+  pub compacted_permuted : (cells others : List Address) → All IsCell cells → IsPermutation cells others → compacted cells ≡ compacted others
+  compacted_permuted cells others valid p =
+      let v = All-permutation IsCell cells others p valid in
+      let same = members_permuted cells others p in
+      coverages_decide tree listed cells others 15 valid v (finest_is_fine cells valid) (finest_is_fine others v) (omega arith) (λ x. (
+        (λ c. record { by = c.by; member = (same c.by).0 c.member; below = c.below }),
+        (λ c. record { by = c.by; member = (same c.by).1 c.member; below = c.below }),
+      ))
 
-    differ : AllPairs (λ a b. number_of a ≢ number_of b) slots
-    differ i j d lt lj e =
-        let a = get_or slots i d in
-        let b = get_or slots j d in
-        let v = (tops a (Contains-get_or slots i d (omega (arith, lt, lj)))).full.valid in
-        let w = (tops b (Contains-get_or slots j d lj)).full.valid in
-        let one : a ≡ b = by_number a b v w e in
-        apart i j d lt lj (inl (subst (λ z. IsAncestor a z) one (tree.own a)))
-
-    ascending : AllPairs (λ a b. number_of a < number_of b) sorted
-    ascending =
-        rises sorted (IsDistinct-IsPermutation same_cell (λ a b. flips (number_of a) (number_of b)) slots sorted same (distinct slots differ)) ascends
-
-    -- the sorted slots are the compacted list
-    pub compacts : IsCompacted (IsCovered cells r) r sorted
-    compacts =
-        compacted_from_tops tree (IsCovered cells r) r (omega (arith, fine)) (dec_covered cells r) sorted ascending
-        (λ x s. (s.below.valid, s.below.resolution_is))
-        (λ c m. tops c (Contains-permutation sorted slots c (IsPermutation-sym slots sorted same) m))
-        (λ c t. Contains-permutation slots sorted c same ((part c).1 ((reached tree cells r c).1 t)))
-
-  -- and before that they are the compacted list in another order
-  pub in_other_order : CellsUpToAreListed → (cells : List Address) → finest cells ≤ 15 → (slots : List Address) → IsApart slots → ((x : Address) → Contains slots x ↔ InPart cells (finest cells) 0 x) → IsPermutation (compacted cells) slots
-  in_other_order listed cells fine slots apart part =
-      let low : finest cells < 16 = omega (arith, fine) in
-      let k = computes tree listed cells fine in
-      permuted tree (compacted cells) slots k.apart apart
-      (λ z m. (part z).1 ((reached tree cells (finest cells) z).1 (member_top tree (IsCovered cells (finest cells)) (finest cells) (compacted cells) low k z m)))
-      (λ z m. top_member tree (IsCovered cells (finest cells)) (finest cells) (compacted cells) low k z ((reached tree cells (finest cells) z).0 ((part z).0 m)))
+  -- in ascending order the cells of a compacted list are that list
+  pub sorted_is : (cells sorted : List Address) → All IsCell cells → IsPermutation (compacted cells) sorted → AllPairs (λ a b. number_of a ≤ number_of b) sorted → IsCompacted (IsCovered cells (finest cells)) (finest cells) sorted
+  sorted_is cells sorted valid p ascends =
+      let k = compacted_made tree listed cells valid in
+      let same = members_permuted (compacted cells) sorted p in
+      record {
+        ascending = rises sorted (IsDistinct-IsPermutation same_cell (λ a b. flips (number_of a) (number_of b)) (compacted cells) sorted p (distinct (compacted cells) (λ i j d lt lj. (let up = k.ascending i j d lt lj in λ e. omega (arith, up, e))))) ascends;
+        cells_valid = All-permutation IsCell (compacted cells) sorted p k.cells_valid;
+        coarse = All-permutation (λ c. resolution c ≤ finest cells) (compacted cells) sorted p k.coarse;
+        apart = apart_permuted (compacted cells) sorted p k.apart;
+        covers = λ x. (
+          (λ s. (let c = (k.covers x).0 s in record { by = c.by; member = (same c.by).0 c.member; below = c.below })),
+          (λ c. (k.covers x).1 (record { by = c.by; member = (same c.by).1 c.member; below = c.below })),
+        );
+        no_siblings = λ q h. k.no_siblings q (record { valid = h.valid; coarse = h.coarse; all = λ y b. (same y).1 (h.all y b) });
+      }

@@ -1,10 +1,14 @@
 pub mod ApartLaws
 pub mod ChildLaws
+pub mod ClosedLaws
+pub mod ClosingLaws
 pub mod CompactLaws
+pub mod EndLaws
 pub mod IdleLaws
 pub mod KeyLaws
 pub mod MergeLaws
 pub mod OverlapLaws
+pub mod PairLaws
 pub mod PartLaws
 pub mod PartitionLaws
 pub mod PermutedLaws

@@ -19,11 +19,11 @@ use Rattle.h3_set.proofs.Seen.InSeen.{kept, made}
 use Rattle.h3_set.proofs.TreeLaws.{any_default, dec_number, from_front, parent_of_child, step_down, IsChild}
 use Rattle.h3_set.proofs.TurnLaws.{turn_keep, turn_merge, turn_other, turn_skip}
 
-pairs_drop : (R : Address → Address → Type 0) (xs : List Address) (i : ℕ) → AllPairs R xs → AllPairs R (drop i xs)
+pub pairs_drop : (R : Address → Address → Type 0) (xs : List Address) (i : ℕ) → AllPairs R xs → AllPairs R (drop i xs)
 pairs_drop R xs i h a b d lt lb =
     rw (get_or-drop i xs a d, get_or-drop i xs b d) (h (i + a) (i + b) d (omega (arith, lt)) (omega (arith, lb, length-drop i xs)))
 
-all_drop : (P : Address → Type 0) (xs : List Address) (i : ℕ) → All P xs → All P (drop i xs)
+pub all_drop : (P : Address → Type 0) (xs : List Address) (i : ℕ) → All P xs → All P (drop i xs)
 all_drop P xs i h a d lt =
     rw (get_or-drop i xs a d) (h (i + a) d (omega (arith, lt, length-drop i xs)))
 

@@ -159,3 +159,13 @@ module _ (intervals : CellsFormIntervals) (cells : List Address) (valid : All Is
   pub rising_apart : IsApart cells
   rising_apart =
       by_neighbors intervals cells valid rising_order (λ k d pos lt. rises (k - 1) k d (omega (arith, pos)) lt)
+
+-- cells in order of which no two overlap rise
+pub apart_rises : (intervals : CellsFormIntervals) (cells : List Address) → All IsCell cells → IsInOrder cells → IsApart cells → AllPairs IsBeforeBlock cells
+apart_rises intervals cells valid order apart i j d lt lj =
+    let a = get_or cells i d in
+    let b = get_or cells j d in
+    elim (cases_lt (key b) (key a + 8 ^ (15 - length b.digits))) [
+      | inr not ↦ not
+      | inl less ↦ absurd (apart i j d lt lj (not_before intervals a b (valid i d (omega (arith, lt, lj))) (valid j d lj) (order i j d lt lj) less))
+    ]

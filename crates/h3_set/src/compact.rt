@@ -1,18 +1,20 @@
 //! Compaction: the one list of cells that covers those of a list, with no overlap and no complete
 //! set of siblings.
 
-ghost use Rattle.std.specs.Prelude.{◌≡◌, ◌≤◌, length, take, drop, IfOk, IsPermutation};
+ghost use Rattle.std.specs.Prelude.{◌≡◌, ◌≤◌, length, take, drop, All, IfOk, IsPermutation};
 ghost use Rattle.std.specs.Result.{result_err};
+ghost use Rattle.h3_index.specs.Cell.{IsCell};
 ghost use Rattle.h3_set.specs.Compacted.{compacted, IsCompacted};
-ghost use Rattle.h3_set.specs.Compaction.{IsDone};
-ghost use Rattle.h3_set.specs.Coverage.{finest, IsCovered};
+ghost use Rattle.h3_set.specs.Coverage.{finest, IsApart, IsCovered};
 ghost use Rattle.h3_set.specs.Laws.{CompactedListsAreUnique};
 ghost use Rattle.h3_set.specs.Order.{IsInOrder};
 ghost use Rattle.h3_set.specs.Refusals.{compaction_refusal};
 
+use crate::closing::compact_apart;
 use crate::laws::compacted_lists_are_unique;
-use crate::rounds::Compaction;
-use h3_index::laws::{cells_are_listed, numbers_are_unique};
+use crate::order::{put_by_number, sort_and_find_overlap};
+use crate::survey::survey;
+use h3_index::laws::cells_are_listed;
 use h3_index::{Cell, H3Error};
 use h3_tree::laws::cells_form_trees;
 
@@ -51,20 +53,19 @@ pub fn compact_cells(cells: &[Cell], slots: &mut [Cell]) -> Result<usize, H3Erro
     compact_in_place(&mut slots[..count])
 }
 
-/// All rounds of a compaction, one after another, over cells in the memory of the cells themselves,
-/// where the list then stands in post order.
-fn in_rounds(cells: &mut [Cell]) -> Result<Compaction, H3Error>
-    ensures done { IfOk result (IsDone cells.old cells.new) }
+/// Puts cells in order. `DuplicateInput` where cells at two places overlap.
+fn order_apart(cells: &mut [Cell]) -> Result<(), H3Error>
+    ensures same { IsPermutation cells.old cells.new }
+    ensures valid { All IsCell cells.old }
+    ensures in_order { IsInOrder cells.new }
+    ensures apart { IfOk result (λ _. IsApart cells.new) }
     ensures refused { result_err result ≡ compaction_refusal cells.old }
-    ensures overlapping { result ≡ Err H3Error.DuplicateInput
-        → IsPermutation cells.old cells.new }
 {
-    cells_form_trees();
-    let mut compaction = Compaction::start_in_place(cells)?;
-    while compaction.level() > 0 {
-        compaction = compaction.round_in_order(cells).skip(cells);
+    let (_, rises) = survey(cells);
+    if sort_and_find_overlap(cells, rises) {
+        return Err(H3Error::DuplicateInput);
     }
-    Ok(compaction)
+    Ok(())
 }
 
 /// As `compact_in_place`, without its last sort: the cells of the compacted list stand in post order,
@@ -82,8 +83,8 @@ pub fn compact_in_order(cells: &mut [Cell]) -> Result<usize, H3Error>
 {
     cells_form_trees();
     cells_are_listed();
-    let compaction = in_rounds(cells)?;
-    Ok(compaction.len())
+    order_apart(cells)?;
+    Ok(compact_apart(cells))
 }
 
 /// As `compact_cells`, in the memory of the cells themselves: puts the compacted list of the cells
@@ -101,8 +102,9 @@ pub fn compact_in_place(cells: &mut [Cell]) -> Result<usize, H3Error>
         → IsPermutation cells.old cells.new }
 {
     cells_form_trees();
-    numbers_are_unique();
     cells_are_listed();
-    let compaction = in_rounds(cells)?;
-    Ok(compaction.finish(cells))
+    order_apart(cells)?;
+    let count = compact_apart(cells);
+    put_by_number(&mut cells[..count]);
+    Ok(count)
 }

@@ -1,6 +1,7 @@
 //! Sets of H3 cells, given as lists: compaction and uncompaction.
 #![tactic(auto)]
 
+mod closing;
 mod compact;
 mod iter;
 pub mod laws;
@@ -10,6 +11,7 @@ mod rounds;
 mod survey;
 mod uncompaction;
 
+pub use closing::compact_apart;
 pub use compact::{compact_cells, compact_in_order, compact_in_place};
 pub use iter::Uncompact;
 pub use order::{has_overlap, put_in_order};

@@ -15,7 +15,7 @@ use h3_tree::laws::{cells_form_intervals, cells_form_trees};
 
 /// The number of siblings that a list begins with, where it begins with a complete set of siblings
 /// of a resolution in ascending order; else 0. The first cell of the list is given.
-fn siblings_at_front(cells: &[Cell], first: Cell, level: u8) -> usize
+pub(crate) fn siblings_at_front(cells: &[Cell], first: Cell, level: u8) -> usize
     requires some_level { 0 < level }
     requires some { 0 < length cells.now }
     requires first { slice_index_or cells.now 0 first ≡ first }

@@ -1,8 +1,8 @@
 //! The order of the slots between rounds: each cell right after its descendants, so that one sort
 //! serves all rounds. In order of their numbers, each merge would move a cell to the front.
 
-ghost use Rattle.std.specs.Prelude.{◌≡◌, true, All, AllPairs, IsPermutation};
-ghost use Rattle.h3_index.specs.Cell.{IsCell};
+ghost use Rattle.std.specs.Prelude.{◌≡◌, ◌≤◌, true, All, AllPairs, IsPermutation};
+ghost use Rattle.h3_index.specs.Cell.{IsCell, number_of};
 ghost use Rattle.h3_set.specs.Order.{IsInOrder, IsBeforeBlock};
 ghost use Rattle.h3_set.specs.Refusals.{has_overlap};
 
@@ -17,6 +17,14 @@ pub fn put_in_order(cells: &mut [Cell])
     ensures in_order { IsInOrder cells.new }
 {
     cells.sort_unstable_by_key(|c: &Cell| post_order_key(*c));
+}
+
+/// Puts cells in ascending order of their numbers.
+pub(crate) fn put_by_number(cells: &mut [Cell])
+    ensures same { IsPermutation cells.old cells.new }
+    ensures ascending { AllPairs (λ a b. number_of a ≤ number_of b) cells.new }
+{
+    cells.sort_unstable();
 }
 
 /// Whether cells at two places of a list overlap: one is the other, or stands above it. The list

@@ -1,18 +1,17 @@
 //! Compaction in rounds, in slots that the caller provides at each call.
 
-ghost use Rattle.std.specs.Prelude.{◌≡◌, ◌≢◌, ◌<◌, ◌≤◌, ◌↔◌, length, take, drop, All, AllPairs, Contains, IfOk, IsPermutation};
+ghost use Rattle.std.specs.Prelude.{◌≡◌, ◌≢◌, ◌<◌, ◌≤◌, ◌↔◌, length, take, drop, AllPairs, Contains, IfOk, IsPermutation};
 ghost use Rattle.std.specs.Result.{result_err};
-ghost use Rattle.h3_index.specs.Cell.{Address, IsCell, number_of};
-ghost use Rattle.h3_set.specs.Compaction.{level_of, slots_in_use, IsNextLevel, IsStarted, LeadsOn};
+ghost use Rattle.h3_index.specs.Cell.{Address, number_of};
+ghost use Rattle.h3_set.specs.Compaction.{level_of, slots_in_use, IsNextLevel, IsStarted};
 ghost use Rattle.h3_set.specs.Coverage.{IsApart};
 ghost use Rattle.h3_set.specs.Laws.{RoundsReachTheTop};
-ghost use Rattle.h3_set.specs.Order.{IsInOrder};
 ghost use Rattle.h3_set.specs.Refusals.{compaction_refusal};
 ghost use Rattle.h3_set.specs.Rounds.{InRound};
 
-use crate::merge::{merge, merge_runs};
+use crate::merge::merge;
 use crate::order::sort_and_find_overlap;
-use crate::survey::{finest_up_to, survey};
+use crate::survey::survey;
 use h3_index::{Cell, H3Error};
 use h3_tree::laws::cells_form_trees;
 
@@ -49,12 +48,11 @@ impl Compaction {
         Compaction::start_in_place(&mut slots[..count])
     }
 
-    /// As `start`, where the cells are in the slots already, and the slots in use are in order.
-    pub(crate) fn start_in_place(cells: &mut [Cell]) -> Result<Compaction, H3Error>
+    /// As `start`, where the cells are in the slots already.
+    fn start_in_place(cells: &mut [Cell]) -> Result<Compaction, H3Error>
         ensures refused { result_err result ≡ compaction_refusal cells.old }
         ensures input { IsPermutation cells.old cells.new }
         ensures started { IfOk result (IsStarted cells.old cells.new) }
-        ensures in_order { IfOk result (λ c. IsInOrder (take (slots_in_use c) cells.new)) }
     {
         cells_form_trees();
         let (level, rises) = survey(cells);
@@ -100,38 +98,6 @@ impl Compaction {
         Compaction {
             len,
             level: self.level - 1,
-        }
-    }
-
-    /// As `round`, where the slots in use are in order, as they are then again.
-    pub(crate) fn round_in_order(self, slots: &mut [Cell]) -> Compaction
-        requires some_level { 0 < level_of self }
-        requires room { slots_in_use self ≤ length slots.old }
-        requires apart { IsApart (take (slots_in_use self) slots.old) }
-        requires valid { All IsCell (take (slots_in_use self) slots.old) }
-        requires in_order { IsInOrder (take (slots_in_use self) slots.old) }
-        ensures next { IsNextLevel self slots.old result slots.new }
-        ensures in_order { IsInOrder (take (slots_in_use result) slots.new) }
-    {
-        cells_form_trees();
-        let len = merge_runs(&mut slots[..self.len], self.level);
-        let level = self.level - 1;
-        Compaction { len, level }
-    }
-
-    /// Leaves out the rounds that would find nothing to do: down to a resolution that a cell in use
-    /// has.
-    pub(crate) fn skip(self, slots: &[Cell]) -> Compaction
-        requires room { slots_in_use self ≤ length slots.now }
-        ensures same { slots_in_use result ≡ slots_in_use self }
-        ensures level { level_of result ≤ level_of self }
-        ensures part { LeadsOn (take (slots_in_use self) slots.now) (level_of self)
-            (take (slots_in_use self) slots.now) (level_of result) }
-    {
-        cells_form_trees();
-        Compaction {
-            len: self.len,
-            level: finest_up_to(&slots[..self.len], self.level),
         }
     }
 

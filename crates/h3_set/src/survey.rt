@@ -1,7 +1,7 @@
 //! The resolutions of the cells of a list.
 
-ghost use Rattle.std.specs.Prelude.{◌≡◌, ◌<◌, ◌≤◌, true, All, AllPairs};
-ghost use Rattle.h3_index.specs.Cell.{IsCell, resolution};
+ghost use Rattle.std.specs.Prelude.{◌≡◌, ◌≤◌, true, All, AllPairs};
+ghost use Rattle.h3_index.specs.Cell.{IsCell};
 ghost use Rattle.h3_set.specs.Coverage.{finest};
 ghost use Rattle.h3_set.specs.Order.{IsBeforeBlock};
 
@@ -28,23 +28,4 @@ pub(crate) fn survey(cells: &[Cell]) -> (u8, bool)
         end = next;
     }
     (finest, rises)
-}
-
-/// The finest resolution of the cells of a list that are no finer than a level; 0 where there are
-/// none.
-pub(crate) fn finest_up_to(cells: &[Cell], level: u8) -> u8
-    ensures at_most { result ≤ level }
-    ensures none_between { All (λ c. result < resolution c → level < resolution c) cells.now }
-{
-    let mut finest: u8 = 0;
-    for cell in cells {
-        let r = cell.resolution();
-        if r == level {
-            return level;
-        }
-        if r < level && finest < r {
-            finest = r;
-        }
-    }
-    finest
 }

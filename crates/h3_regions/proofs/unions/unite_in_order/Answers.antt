@@ -5,7 +5,7 @@ use Rattle.std.proofs.lemmas.List.Sorted.{All-permutation}
 use Rattle.h3_index.specs.Cell.{IsCell}
 use Rattle.h3_set.specs.Compacted.{compacted}
 use Rattle.h3_set.specs.Coverage.{finest, IsCovered}
-use Rattle.h3_regions.proofs.CoverageLaws.{coarsest_compacts}
+use Rattle.h3_regions.proofs.CoverageLaws.{coarsest_compacts, kept_valid}
 use Rattle.h3_regions.proofs.RegionLaws.{as_region}
 use Rattle.h3_regions.proofs.unions.unite_in_order.Goals as goal
 use Rattle.h3_regions.proofs.unions.unite_in_order.Goals.{After-cells-3-1}
@@ -13,6 +13,10 @@ use Rattle.h3_regions.proofs.unions.unite_in_order.Goals.{After-cells-3-1}
 pub keep_coarsest-count-requires-clause-valid : goal.keep_coarsest-count-requires-clause-valid
 keep_coarsest-count-requires-clause-valid c =
     All-permutation IsCell c.args.cells.now c.put_in_order.new.cells c.put_in_order.ensures.same c.are_cells.ensures
+
+pub compact_apart-requires-clause-valid : goal.compact_apart-requires-clause-valid
+compact_apart-requires-clause-valid c =
+    kept_valid c.cells_form_trees.ensures c.put_in_order.new.cells (take c.keep_coarsest-count.result c.keep_coarsest-count.new.cells) (All-permutation IsCell c.args.cells.now c.put_in_order.new.cells c.put_in_order.ensures.same c.are_cells.ensures) c.keep_coarsest-count.ensures.kept
 
 -- the first cells
 front : (c : After-cells-3-1) → take c.compact_apart.result (c.compact_apart.new.cells ++ drop c.keep_coarsest-count.result c.keep_coarsest-count.new.cells) ≡ take c.compact_apart.result c.compact_apart.new.cells

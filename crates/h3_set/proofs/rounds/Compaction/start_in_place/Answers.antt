@@ -3,16 +3,11 @@ use Rattle.std.proofs.Math.Seq.{take-length}
 use Rattle.std.proofs.lemmas.List.Sorted.{length_permutation}
 use Rattle.h3_set.specs.Compaction.{HoldsPart}
 use Rattle.h3_set.specs.Coverage.{IsApart, IsCompactable}
-use Rattle.h3_set.specs.Order.{IsInOrder}
 use Rattle.h3_set.proofs.OverlapLaws.{apart_where}
 use Rattle.h3_set.proofs.PartLaws.{starts}
 use Rattle.h3_set.proofs.PermutedLaws.{apart_permuted, members_permuted}
 use Rattle.h3_set.proofs.ResolutionLaws.{none_finer}
 use Rattle.h3_set.proofs.rounds.Compaction.start_in_place.Goals as goal
-
-pub returns-clause-in_order : goal.returns-clause-in_order
-returns-clause-in_order c =
-    subst IsInOrder (sym (take-length c.sort_and_find_overlap.new.cells)) c.sort_and_find_overlap.ensures.in_order
 
 pub returns-clause-started : goal.returns-clause-started
 returns-clause-started c =
