@@ -28,10 +28,13 @@ fn given_words<R: Env + AllocGlobal>(rt: &R) -> Result<Vec<String>, Refusal> {
         .map_err(|_| Refusal::Fault(Fault::Memory))
 }
 
-/// Whether the words may be those of a command over a region or zones. No others are parsed twice.
-fn may_name_cells(words: &Vec<String>) -> bool {
+/// Whether the words may be those of a command that names a file. No others are parsed twice.
+fn may_name_file(words: &Vec<String>) -> bool {
     for word in words {
-        if word.starts_with("--region") || word.starts_with("--zones") {
+        if word.starts_with("--region")
+            || word.starts_with("--zones")
+            || word.starts_with("--table")
+        {
             return true;
         }
     }
@@ -52,8 +55,10 @@ fn asked_for(alloc: Global, words: &Vec<String>) -> Result<Option<Words>, Refusa
 /// that is nothing.
 fn awaited_list<'a>(command: &Command) -> Option<&'a str> {
     match command {
-        Command::ForEach(CellFunction::IsValidDirectedEdge | CellFunction::GetDirectedEdgeOrigin) =>
-            Some("h3: reading edges from standard input, one a line\n"),
+        Command::ForEach(CellFunction::IsValidDirectedEdge | CellFunction::GetDirectedEdgeOrigin)
+        | Command::GetDirectedEdgeDestinations => {
+            Some("h3: reading edges from standard input, one a line\n")
+        }
         Command::CompactCells
         | Command::UncompactCells { .. }
         | Command::UncompactCellsSize { .. }
@@ -63,6 +68,10 @@ fn awaited_list<'a>(command: &Command) -> Option<&'a str> {
         | Command::AreCoveredCells
         | Command::CellsToZones
         | Command::CountCellsInZones
+        | Command::CellsToChildren { .. }
+        | Command::GridDisksUnsafe { .. }
+        | Command::GridDisksDistancesUnsafe { .. }
+        | Command::GridRingsUnsafe { .. }
         | Command::ForEach(_) => Some("h3: reading cells from standard input, one a line\n"),
         _ => None,
     }
@@ -100,27 +109,31 @@ fn is_input<S: Files<File = File>>(rt: &S, path: &str) -> bool {
     }
 }
 
-/// The error line of a command that would read its list and its region or zones from one pipe;
-/// `None` where it would not.
-fn input_twice<'a, S: Files<File = File>>(rt: &S, file: &Option<CommandFile>) -> Option<&'a str> {
+/// The file that a command reads beside a list; `None` where it does not read both.
+fn file_of_list<'a>(asked: &'a Words) -> Option<&'a CommandFile> {
+    awaited_list(&asked.command)?;
+    asked.file.as_ref()
+}
+
+/// The error line of a command that would read its list and its file from one pipe; `None` where it
+/// would not.
+fn input_twice<'a, S: Files<File = File>>(rt: &S, asked: &Words) -> Option<&'a str> {
+    let file = file_of_list(asked)?;
+    if !is_input(rt, file.path()) {
+        return None;
+    }
     match file {
-        Some(CommandFile::Region(path)) if is_input(rt, path) => {
-            Some("region: standard input is the list\n")
-        }
-        Some(CommandFile::Zones(path)) if is_input(rt, path) => {
-            Some("zones: standard input is the list\n")
-        }
-        _ => None,
+        CommandFile::Table(_) => Some("table: standard input is the list\n"),
+        CommandFile::Region(_) => Some("region: standard input is the list\n"),
+        CommandFile::Zones(_) => Some("zones: standard input is the list\n"),
     }
 }
 
-/// Whether a command has a region or zones, and no file is at the path.
-fn is_list_missing<S: Files<File = File>>(rt: &S, file: &Option<CommandFile>) -> bool {
-    match file {
-        Some(CommandFile::Region(path) | CommandFile::Zones(path)) => {
-            !fs::exists(rt, path.as_str()).unwrap_or(false)
-        }
-        _ => false,
+/// Whether a command reads a file beside a list, and none is at the path.
+fn is_file_missing<S: Files<File = File>>(rt: &S, asked: &Words) -> bool {
+    match file_of_list(asked) {
+        Some(file) => !fs::exists(rt, file.path()).unwrap_or(false),
+        None => false,
     }
 }
 
@@ -153,17 +166,17 @@ fn start<S: Env + Files<File = File> + AllocGlobal, R: Source + Drop, W: Sink, E
         said,
     };
     let mut is_missing = false;
-    if is_terminal || may_name_cells(&words) {
+    if is_terminal || may_name_file(&words) {
         match asked_for(rt.alloc(), &words) {
             Ok(Some(asked)) => {
-                if let Some(line) = input_twice(rt, &asked.file) {
+                if let Some(line) = input_twice(rt, &asked) {
                     let _ = write_all(err, line.as_bytes());
                     return 3;
                 }
                 if is_terminal {
                     input.line = awaited_list(&asked.command);
                 }
-                is_missing = is_list_missing(rt, &asked.file);
+                is_missing = is_file_missing(rt, &asked);
             }
             Ok(None) => {}
             Err(refusal) => return report(err, Err(refusal)),

@@ -1,5 +1,5 @@
 -- How a run ends that reads a list or a table, and what a run does whose ending is known.
-use Rattle.std.proofs.Common.{◌≡◌, ℕ, ◌^◌, ◌⊎◌, Bool, true, false, List, Option, None, Some, Result, Ok, Err, IsTrue, [], ◌++◌, sym, ap, ◌∙◌, subst, refl, inl, inr, arith}
+use Rattle.std.proofs.Common.{◌≡◌, ℕ, ◌^◌, ◌⊎◌, Bool, true, false, not, is_some, List, Option, None, Some, Result, Ok, Err, IsTrue, [], ◌++◌, sym, ap, ◌∙◌, subst, refl, inl, inr, arith}
 use Rattle.std.specs.Result.{is_ok}
 use Rattle.h3_index.specs.Cell.{Address}
 use Rattle.h3_index.specs.Stream.{HasLeft}
@@ -24,8 +24,8 @@ use Rattle.h3_lines.specs.declared.refusal.Refusal.TheVariants.{Error, Fault}
 use Rattle.h3_lines.specs.Writing.{IsLeft, Reports, SinkUse, Writes}
 use Rattle.h3_command.specs.Answer.{Request, about_list, about_numbered_list, about_rows, about_table, answer_or_error_at, with_table, unless_faulty}
 use Rattle.h3_command.specs.Files.{file_cells, unless_refused}
-use Rattle.h3_command.specs.Answer.Request.{of_file_and_lines, of_file_and_list, of_lines, of_list, of_numbered_list, of_table, plain}
-use Rattle.h3_command.specs.Run.{Answers, Ends, EndsLines, EndsList, EndsNumberedList, Gives, IsReadSoFar, IsReadToEnd, IsReadWhole, NoReadFails, ReadFails, RefusesFile, RefusesInput, Runs, RunsOutOfMemory, SourceUse, StopsWithin, Streams, WritesOfNumberedList, WritesOfRows, WritesReading}
+use Rattle.h3_command.specs.Answer.Request.{of_file_and_lines, of_file_and_list, of_lines, of_list, of_numbered_list, of_table, of_table_and_lines, plain}
+use Rattle.h3_command.specs.Run.{Answers, Ends, EndsLines, EndsList, EndsNumberedList, Gives, GivesTable, IsReadSoFar, IsReadToEnd, IsReadWhole, NoReadFails, ReadFails, RefusesFile, RefusesInput, RefusesTableFile, Runs, RunsOutOfMemory, SourceUse, StopsWithin, Streams, WritesOfNumberedList, WritesOfRows, WritesReading}
 use Rattle.h3_rows.specs.EndsRows.{EndsRows}
 use Rattle.h3_rows.specs.RowCells.{RefusesRows}
 use Rattle.h3_rows.specs.EndsRows.{answer_at as rows_at}
@@ -214,6 +214,19 @@ table_answered about read value links ending input table out is file held short 
     subst (λ f. Writes (unless_faulty f (about value (links_of (records_of file)))) ending out) (sym none) (subst (λ l. Writes (about value l) ending out) same writes) in
     subst (λ c. Ends (with_table about c) input table ending out) is (file, held, reading_written _ file _ table ending out short sound about_file, whole_anyway table ending whole)
 
+-- a table before a list is refused
+pub table_file_refused : (e : TableError) (bytes : List ℕ) (table : SourceUse) → RefusesTable (ReadFails table bytes) (table_fault (records_of bytes)) e → ((e ≡ in_table.Read → ⊥) → (e ≡ in_table.Memory → ⊥) → IsWithinReads (2 ^ 40) 4096 bytes)
+    → ((e ≡ in_table.Read → ⊥) → NoReadFails table) → ((e ≡ in_table.Read → ⊥) → (e ≡ in_table.Memory → ⊥) → IsReadToEnd table) → RefusesTableFile bytes table (Err (table_refusal e))
+table_file_refused in_table.Read bytes table fails all sound whole = fails
+table_file_refused in_table.Memory bytes table any all sound whole = sound (λ never. cc never)
+table_file_refused (in_table.Form row) bytes table is all sound whole = (in_table.Form row, is, refl, all (λ never. cc never) (λ never. cc never), sound (λ never. cc never), whole (λ never. cc never) (λ never. cc never))
+table_file_refused (in_table.Range row) bytes table is all sound whole = (in_table.Range row, is, refl, all (λ never. cc never) (λ never. cc never), sound (λ never. cc never), whole (λ never. cc never) (λ never. cc never))
+table_file_refused (in_table.Repeated row) bytes table is all sound whole = (in_table.Repeated row, is, refl, all (λ never. cc never) (λ never. cc never), sound (λ never. cc never), whole (λ never. cc never) (λ never. cc never))
+table_file_refused in_table.Missing bytes table is all sound whole = (in_table.Missing, is, refl, all (λ never. cc never) (λ never. cc never), sound (λ never. cc never), whole (λ never. cc never) (λ never. cc never))
+table_file_refused (in_table.Neighbours b) bytes table is all sound whole = (in_table.Neighbours b, is, refl, all (λ never. cc never) (λ never. cc never), sound (λ never. cc never), whole (λ never. cc never) (λ never. cc never))
+table_file_refused (in_table.Reversal b d) bytes table is all sound whole = (in_table.Reversal b d, is, refl, all (λ never. cc never) (λ never. cc never), sound (λ never. cc never), whole (λ never. cc never) (λ never. cc never))
+table_file_refused (in_table.Corner b d) bytes table is all sound whole = (in_table.Corner b d, is, refl, all (λ never. cc never) (λ never. cc never), sound (λ never. cc never), whole (λ never. cc never) (λ never. cc never))
+
 -- ---- a run
 
 -- an answer that was written, where no write failed, is given
@@ -363,6 +376,43 @@ lines_answers f form about ending status s (bytes, held, inl (cells, gives, ends
           (with_memory true refl (given (none.list_read (read_after f bytes cells gives.is)) none.answer_written));
     }
 
+-- a table that is refused, or not read to its end
+gives_refused_table : (about : Links → Answer) (bytes : List ℕ) (ending : Result (Unit {0}) Refusal) (status : ℕ) (s : Streams) → RefusesTableFile bytes s.table ending → IsLeft s.out → (ReadFails s.table bytes → ⊥) → Reports ending status s.err
+    → Gives (about_table about bytes) status s ⊎ RunsOutOfMemory status s
+gives_refused_table about bytes (Ok u) status s never left r reports = absurd never
+gives_refused_table about bytes (Err (Error e)) status s (fault, is, same, within, sound, whole) left r reports =
+    inl (subst (λ f. Gives (unless_faulty f (about (links_of (records_of bytes)))) status s) (sym is) (record { output = (nothing _ _ left.0, left.1); report = subst (λ d. Reports (Err (Error d)) status s.err) same reports }))
+gives_refused_table about bytes (Err (Fault Memory)) status s told left r reports = inr (record { output = left; report = reports })
+gives_refused_table about bytes (Err (Fault Read)) status s fails left r reports = absurd (r fails)
+gives_refused_table about bytes (Err (Fault Write)) status s never left r reports = absurd never
+
+-- the list is read after a table that has no fault
+read_after_table : (bytes : List ℕ) → table_fault (records_of bytes) ≡ None → IsTrue (not (is_some (table_fault (records_of bytes))))
+read_after_table bytes is = ap (λ f. not (is_some f)) is
+
+table_answers : (form : Option Form) (about : Links → Option ℕ → Answer) (ending : Result (Unit {0}) Refusal) (status : ℕ) (s : Streams) → Ends (of_table_and_lines form about) s.input s.table ending s.out → Reports ending status s.err
+    → Answers (of_table_and_lines form about) status s
+table_answers form about ending status s (bytes, held, inr (refuses, alone, left)) reports =
+    let (list, known) = some_left s.input.left in
+    record {
+      list = list;
+      file = bytes;
+      list_is = known;
+      file_is = held;
+      given = λ none. with_memory true refl (gives_refused_table (λ link. listed_answer form (about link) list) bytes ending status s refuses left (none.table_read refl) reports);
+    }
+table_answers form about ending status s (bytes, held, inl (link, gives, ends)) reports =
+    let (list, known, given) = gives_lines form (about link) ending status s ends reports in
+    record {
+      list = list;
+      file = bytes;
+      list_is = known;
+      file_is = held;
+      given = λ none. subst (λ f. Gives (unless_faulty f (listed_answer form (about (links_of (records_of bytes))) list)) status s ⊎ (IsTrue true × RunsOutOfMemory status s)) (sym gives.accepted)
+          (subst (λ l. Gives (listed_answer form (about l) list) status s ⊎ (IsTrue true × RunsOutOfMemory status s)) gives.is
+          (with_memory true refl (given (none.list_read (read_after_table bytes gives.accepted)) none.answer_written)));
+    }
+
 answers : (r : Request) (ending : Result (Unit {0}) Refusal) (status : ℕ) (s : Streams) → Ends r s.input s.table ending s.out → Reports ending status s.err → Answers r status s
 answers (plain a) ending status s writes reports =
     let (list, held) = some_left s.input.left in
@@ -391,6 +441,7 @@ answers (of_table about) ending status s (file, held, writes, whole) reports =
     }
 answers (of_file_and_list f form about) ending status s ends reports = list_answers f form about ending status s ends reports
 answers (of_file_and_lines f form about) ending status s ends reports = lines_answers f form about ending status s ends reports
+answers (of_table_and_lines form about) ending status s ends reports = table_answers form about ending status s ends reports
 
 -- a run ends so, and reports it
 pub runs_so : (r : Request) (ending : Result (Unit {0}) Refusal) (status : ℕ) (s : Streams) → Ends r s.input s.table ending s.out → Reports ending status s.err → Runs r status s

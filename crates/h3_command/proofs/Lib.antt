@@ -7,3 +7,4 @@ pub mod ListedCells
 pub mod PrintedCounts
 pub mod SiblingGroups
 pub mod Written
+pub mod WholeWalks

@@ -1,5 +1,5 @@
 -- The request of a command, and the answer to it.
-use Rattle.std.specs.Prelude.{ℕ, Bool, true, false, List, [], Option, None, Some, Result, Ok, Err, codes}
+use Rattle.std.specs.Prelude.{ℕ, Bool, true, false, not, List, [], is_some, Option, None, Some, Result, Ok, Err, codes}
 use Rattle.std.specs.Result.{is_ok}
 use Rattle.h3_index.specs.Cell.{Address}
 use Rattle.h3_index.specs.declared.error.H3Error.{H3Error}
@@ -25,6 +25,8 @@ use Rattle.h3_functions.specs.Walks.{grid_disk_distances_unsafe, grid_disk_unsaf
 use Rattle.h3_set.specs.Compacted.{compacted}
 use Rattle.h3_command.specs.Files.{counts_answer, covered_answer, file_cells, left_answer, shared_answer, unless_refused, zone_answer}
 use Rattle.h3_command.specs.Given.{cell_given, edge_given, index_given}
+use Rattle.h3_command.specs.LongAnswers.{between_parts, children_for, disk_distances_for, disk_for, ring_for}
+use Rattle.h3_command.specs.OverTable.{destination_answer}
 use Rattle.h3_requests.specs.declared.command.CellFunction.{CellFunction}
 use Rattle.h3_requests.specs.declared.command.CellFunction.TheVariants as each
 use Rattle.h3_requests.specs.declared.command.Command.{Command}
@@ -33,12 +35,12 @@ use Rattle.h3_requests.specs.declared.rows.RowOptions.{RowOptions}
 use Rattle.h3_rows.specs.Row.{rows_of}
 use Rattle.h3_rows.specs.RowCells.{cells_of}
 use Rattle.h3_rows.specs.RowsAnswer.{Form}
-use Rattle.h3_command.specs.Rows.{function_name, list_form, listed_answer, rows_form}
+use Rattle.h3_command.specs.Rows.{function_name, list_form, listed_answer, pair_form, rows_form}
 
 -- Request: what a command reads and writes: an answer that its words alone fix, one about the cells listed on standard input,
 -- also with the number of a faulty line, one for each line of it, or one about the links of a base cell table; or one about
--- the cells of a file, and then the cells listed on standard input, or for each line of it. The list may have rows in a form,
--- in place of bare lines.
+-- the cells of a file, and then the cells listed on standard input, or for each line of it; or one about the links of a table,
+-- and then for each line of the list. The list may have rows in a form, in place of bare lines.
 pub data Request : Type 0 where
   plain : Answer → Request
   of_list : Option Form → (List Address → Answer) → Request
@@ -47,6 +49,7 @@ pub data Request : Type 0 where
   of_table : (Links → Answer) → Request
   of_file_and_list : CellFile → Option Form → (List Address → List Address → Answer) → Request
   of_file_and_lines : CellFile → Option Form → (List Address → Option ℕ → Answer) → Request
+  of_table_and_lines : Option Form → (Links → Option ℕ → Answer) → Request
 
 -- with_table about r: the request about a value and a table; where there is an error in place of the value, the answer
 -- is that error, and the table is not read
@@ -68,8 +71,9 @@ answer_for function word = answer_or_error (λ h. shown (outcome_of function h))
 
 -- request_of rows command: what a command reads and writes, of which the list has rows, or bare lines: an answer that its words
 -- alone fix, one about the cells listed on standard input, or those of rows, the same with the number of a faulty line, one
--- line by line about the indexes listed there, or row by row, one about the links of a table, or one about the cells of a file
--- and then about the list, or about each of its lines or rows
+-- line by line about the indexes listed there, or row by row, one about the links of a table, one about the cells of a file
+-- and then about the list, or about each of its lines or rows, or one about the links of a table and then about each line or
+-- row of the list
 abbrev pub request_of : Option RowOptions → Command → Request
 request_of rows (command.IsValidCell cell) = plain (answer_for each.IsValidCell cell)
 request_of rows (command.GetResolution cell) = plain (answer_for each.GetResolution cell)
@@ -104,6 +108,11 @@ request_of rows (command.IsValidDirectedEdge edge) = plain (answer_for each.IsVa
 request_of rows (command.GetDirectedEdgeOrigin edge) = plain (answer_for each.GetDirectedEdgeOrigin edge)
 request_of rows (command.GetDirectedEdgeDestination edge) = with_table (λ e link. printed cell_line (get_directed_edge_destination link e)) (edge_given edge)
 request_of rows (command.OriginToDirectedEdges cell) = plain (answer_for each.OriginToDirectedEdges cell)
+request_of rows (command.CellsToChildren res) = of_lines (rows_form rows (codes "cellToChildren")) (children_for res)
+request_of rows (command.GridDisksUnsafe k) = of_table_and_lines (rows_form rows (codes "gridDiskUnsafe")) (λ link. disk_for link k)
+request_of rows (command.GridDisksDistancesUnsafe k) = of_table_and_lines (pair_form rows) (λ link. disk_distances_for (between_parts rows) link k)
+request_of rows (command.GridRingsUnsafe k) = of_table_and_lines (rows_form rows (codes "gridRingUnsafe")) (λ link. ring_for link k)
+request_of rows command.GetDirectedEdgeDestinations = of_table_and_lines (rows_form rows (codes "getDirectedEdgeDestination")) destination_answer
 request_of rows (command.ForEach function) = of_lines (rows_form rows (function_name function)) (answer_for function)
 
 -- request command: the same of a command whose list has bare lines
@@ -119,6 +128,7 @@ reads_list (of_lines form about) = true
 reads_list (of_table about) = false
 reads_list (of_file_and_list file form about) = true
 reads_list (of_file_and_lines file form about) = true
+reads_list (of_table_and_lines form about) = true
 
 -- reads_table r: it reads the table, or a file of cells in its place
 abbrev pub reads_table : Request → Bool
@@ -129,11 +139,14 @@ reads_table (of_lines form about) = false
 reads_table (of_table about) = true
 reads_table (of_file_and_list file form about) = true
 reads_table (of_file_and_lines file form about) = true
+reads_table (of_table_and_lines form about) = true
 
--- the list is read where the bytes of the table, or of the file of cells, are these: not where such a file is refused
+-- the list is read where the bytes of the table, or of the file of cells, are these: not where the file is refused that
+-- comes before it
 abbrev pub reads_list_after : Request → List ℕ → Bool
 reads_list_after (of_file_and_list f form about) file = is_ok (file_cells f file)
 reads_list_after (of_file_and_lines f form about) file = is_ok (file_cells f file)
+reads_list_after (of_table_and_lines form about) file = not (is_some (table_fault (records_of file)))
 reads_list_after r file = reads_list r
 
 -- takes_memory r: it takes memory
@@ -145,6 +158,7 @@ takes_memory (of_lines form about) = true
 takes_memory (of_table about) = true
 takes_memory (of_file_and_list file form about) = true
 takes_memory (of_file_and_lines file form about) = true
+takes_memory (of_table_and_lines form about) = true
 
 -- ---- the answer
 
@@ -179,7 +193,7 @@ about_numbered_list None about list = answer_or_error_at (faulty_line list) abou
 about_numbered_list (Some form) about list = about_rows form about list
 
 -- answer_to r list file: the answer to a request, for the bytes of its list and those of its table, or of a file of cells in its
--- place: where that file is refused, the list has no part in the answer
+-- place: where a file that comes before the list is refused, the list has no part in the answer
 abbrev pub answer_to : Request → List ℕ → List ℕ → Answer
 answer_to (plain a) list file = a
 answer_to (of_list form about) list file = about_list form about list
@@ -188,6 +202,7 @@ answer_to (of_lines form about) list file = listed_answer form about list
 answer_to (of_table about) list file = about_table about file
 answer_to (of_file_and_list f form about) list file = unless_refused (λ cells. about_numbered_list form (about cells) list) (file_cells f file)
 answer_to (of_file_and_lines f form about) list file = unless_refused (λ cells. listed_answer form (about cells) list) (file_cells f file)
+answer_to (of_table_and_lines form about) list file = about_table (λ link. listed_answer form (about link) list) file
 
 -- the answer to a command. Examples alone cite it.
 abbrev pub answer : Command → List ℕ → List ℕ → Answer

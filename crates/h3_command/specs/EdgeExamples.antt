@@ -1,20 +1,29 @@
 -- The answers about neighbors and edges at worked values, by computation.
-use Rattle.std.specs.Prelude.{◌≡◌, ℕ, [], ◌∷◌, ◌++◌, map, codes, None, Some, Err, refl}
+use Rattle.std.specs.Prelude.{◌≡◌, ℕ, List, [], ◌∷◌, ◌++◌, map, codes, None, Some, Err, refl}
 use Rattle.h3_index.specs.Cell.{number_of}
 use Rattle.h3_index.specs.CellNumber.{address_in, cell_in}
 use Rattle.h3_index.specs.Edge.{edge_number}
 use Rattle.h3_index.specs.EdgeNumber.{directed_edge_in, edge_in}
-use Rattle.h3_index.specs.Text.{text_of}
+use Rattle.h3_index.specs.Text.{parsed_index, text_of}
 use Rattle.h3_index.specs.declared.error.H3Error.TheVariants.{CellInvalid, DirEdgeInvalid, Failed, NotNeighbors, Pentagon, ResMismatch}
 use Rattle.h3_lattice.specs.Digits.{cell_of}
+use Rattle.h3_lattice.specs.Fields.{records_of}
 use Rattle.h3_lattice.specs.Links.{Links}
-use Rattle.h3_grid.specs.DirectedEdges.{edge_between, edges_from}
-use Rattle.h3_grid.specs.Neighbors.{are_neighbors, pair_refusal}
-use Rattle.h3_lines.specs.Answer.{refused, written}
+use Rattle.h3_lattice.specs.Table.{table_fault}
+use Rattle.h3_lattice.specs.Vectors.{test_link}
+use Rattle.h3_lattice.specs.declared.vectors.TestTable.TheVariants.{Plain}
+use Rattle.h3_directions.specs.declared.error.TableError.TheVariants as fault
+use Rattle.h3_grid.specs.DirectedEdges.{edge_between, edge_destination, edges_from}
+use Rattle.h3_grid.specs.Neighbors.{are_neighbors, neighbor, pair_refusal}
+use Rattle.h3_grid.specs.Search.{candidates, digit_lists, found_sum, step_of}
+use Rattle.h3_lines.specs.Answer.{refused, table_refused, written}
+use Rattle.h3_lines.specs.EachLine.{list_answer}
+use Rattle.h3_lines.specs.declared.refusal.AnswerError.TheVariants.{At}
 use Rattle.h3_command.specs.Answer.{answer, request}
 use Rattle.h3_command.specs.Answer.Request.{plain}
+use Rattle.h3_command.specs.OverTable.{destination_answer}
 use Rattle.h3_functions.specs.Edges.{are_neighbor_cells, cells_to_directed_edge}
-use Rattle.h3_requests.specs.declared.command.Command.TheVariants.{AreNeighborCells, CellsToDirectedEdge, GetDirectedEdgeDestination, GetDirectedEdgeOrigin, IsValidDirectedEdge, OriginToDirectedEdges}
+use Rattle.h3_requests.specs.declared.command.Command.TheVariants.{AreNeighborCells, CellsToDirectedEdge, GetDirectedEdgeDestination, GetDirectedEdgeDestinations, GetDirectedEdgeOrigin, IsValidDirectedEdge, OriginToDirectedEdges}
 
 -- an edge; direction 1 at a pentagon; a cell
 which_are_edges : map (λ (index : ℕ). answer (IsValidDirectedEdge (Some index)) [] []) (0x115283473fffffff ∷ 0x11009fffffffffff ∷ 0x85283473fffffff ∷ [])
@@ -66,3 +75,15 @@ pairs_refused_too : (link : Links) → map (are_neighbor_cells link) ((cell_of 2
     ≡ Err ResMismatch ∷ Err Pentagon ∷ []
 unfolding are_neighbors pair_refusal number_of
 pairs_refused_too link = refl
+
+-- ---- a list over a table
+
+-- the cell to which the edge on each line leads, and the line of one into a pentagon base cell
+over_the_plain_table : list_answer (destination_answer (test_link Plain)) (codes "1413d3ffffffffff" ++ 10 ∷ 10 ∷ codes "11021fffffffffff" ++ 10 ∷ codes "1413d3ffffffffff")
+    ≡ record { output = codes "813ebffffffffff" ++ 10 ∷ []; ending = Err (At 3 Pentagon) }
+unfolding edge_destination neighbor step_of found_sum candidates digit_lists edge_in directed_edge_in edge_number address_in number_of parsed_index text_of
+over_the_plain_table = refl
+
+-- where the table is refused, the list has no part in the answer
+no_table : (list file : List ℕ) → table_fault (records_of file) ≡ Some (fault.Form 1) → answer GetDirectedEdgeDestinations list file ≡ table_refused (fault.Form 1)
+no_table list file is = rw is refl

@@ -6,6 +6,10 @@ pub mod Examples
 pub mod Files
 pub mod Given
 pub mod Listed
+pub mod LongAnswers
+pub mod LongExamples
+pub mod LongLines
+pub mod OverTable
 pub mod Rows
 pub mod Run
 pub mod Sizing

@@ -6,7 +6,7 @@ use Rattle.h3_lines.specs.EachLine.{list_answer}
 use Rattle.h3_requests.specs.declared.command.CellFunction.{CellFunction}
 use Rattle.h3_requests.specs.declared.command.CellFunction.TheVariants as each
 use Rattle.h3_requests.specs.declared.rows.RowOptions.{RowOptions}
-use Rattle.h3_rows.specs.RowForm.{form_of}
+use Rattle.h3_rows.specs.RowForm.{form_of, pair_form_of}
 use Rattle.h3_rows.specs.RowsAnswer.{Form}
 use Rattle.h3_rows.specs.RowsAnswer.{list_answer as row_answers}
 
@@ -29,6 +29,10 @@ function_name each.OriginToDirectedEdges = codes "originToDirectedEdges"
 -- rows_form rows name: the form of a list's rows, if it has rows, where the new column has this name unless another is given
 abbrev pub rows_form : Option RowOptions → List ℕ → Option Form
 rows_form rows name = option_map (λ options. form_of options name) rows
+
+-- pair_form rows: the same where an answer is a cell and its distance, which have a new column each
+abbrev pub pair_form : Option RowOptions → Option Form
+pair_form rows = option_map pair_form_of rows
 
 -- list_form rows: the form of a list's rows, if it has rows, of which the cells alone are read: no column is added
 abbrev pub list_form : Option RowOptions → Option Form

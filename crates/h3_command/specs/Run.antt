@@ -3,9 +3,12 @@ use Rattle.std.specs.Prelude.{◌≡◌, ⊤, ℕ, ◌≤◌, ◌^◌, ◌⊎◌
 use Rattle.h3_index.specs.Cell.{Address}
 use Rattle.h3_index.specs.Stream.{HasLeft}
 use Rattle.h3_index.specs.declared.error.H3Error.{H3Error}
+use Rattle.h3_lattice.specs.Fields.{records_of}
 use Rattle.h3_lattice.specs.Links.{Links}
+use Rattle.h3_lattice.specs.Table.{links_of, table_fault}
+use Rattle.h3_directions.specs.declared.error.TableError.{TableError}
 use Rattle.h3_lines.specs.declared.refusal.AnswerError.{AnswerError}
-use Rattle.h3_lines.specs.declared.refusal.AnswerError.TheVariants.{File}
+use Rattle.h3_lines.specs.declared.refusal.AnswerError.TheVariants.{File, Table}
 use Rattle.h3_lines.specs.declared.refusal.CellFile.{CellFile}
 use Rattle.h3_lines.specs.declared.refusal.Fault.TheVariants.{Memory, Read, Write}
 use Rattle.h3_lines.specs.declared.refusal.Refusal.{Refusal}
@@ -21,7 +24,7 @@ use Rattle.h3_rows.specs.RowCells.{AllRowsRead, RefusesRows}
 use Rattle.h3_rows.specs.RowsAnswer.{Form, begun_answer, rows_answer}
 use Rattle.h3_command.specs.Files.{file_cells}
 use Rattle.h3_command.specs.Answer.{Request, about_list, about_numbered_list, about_table, answer_to, reads_list_after, reads_table, takes_memory}
-use Rattle.h3_command.specs.Answer.Request.{plain, of_file_and_lines, of_file_and_list, of_lines, of_list, of_numbered_list, of_table}
+use Rattle.h3_command.specs.Answer.Request.{plain, of_file_and_lines, of_file_and_list, of_lines, of_list, of_numbered_list, of_table, of_table_and_lines}
 
 -- ---- streams
 
@@ -181,6 +184,31 @@ EndsOverFile f then_ends input file ending out =
     (bytes : List ℕ) × HasLeft file.left bytes
     × (((cells : List Address) × GivesFile f bytes file cells × then_ends cells) ⊎ (RefusesFile f bytes file ending × IsLeftAlone input × IsLeft out))
 
+-- GivesTable bytes table link: the bytes of a table are read to their end, have no fault, and hold these links
+pub record GivesTable (bytes : List ℕ) (table : SourceUse) (link : Links) : Type 0 where
+  pub accepted : table_fault (records_of bytes) ≡ None
+  pub is : link ≡ links_of (records_of bytes)
+  pub within : IsWithinReads (2 ^ 40) 4096 bytes
+  pub sound : NoReadFails table
+  pub whole : IsReadToEnd table
+
+-- RefusesTableFile bytes table ending: the bytes of a table are read to their end, and refused for their first fault; or there
+-- is no memory, or a read fails
+abbrev pub RefusesTableFile : List ℕ → SourceUse → Result (Unit {0}) Refusal → Type 0
+RefusesTableFile bytes table (Ok u) = ⊥
+RefusesTableFile bytes table (Err (Fault Memory)) = NoReadFails table
+RefusesTableFile bytes table (Err (Fault Read)) = ReadFails table bytes
+RefusesTableFile bytes table (Err (Fault Write)) = ⊥
+RefusesTableFile bytes table (Err (Error e)) =
+    (fault : TableError) × (table_fault (records_of bytes) ≡ Some fault) × (e ≡ Table fault) × IsWithinReads (2 ^ 40) 4096 bytes × NoReadFails table × IsReadToEnd table
+
+-- EndsOverTable then_ends input table ending out: there are bytes of a table, those left where known, which are read first:
+-- `then_ends` says of their links what follows; or they are refused, and standard input is left alone and nothing is written
+abbrev pub EndsOverTable : (Links → Type 0) → SourceUse → SourceUse → Result (Unit {0}) Refusal → SinkUse → Type 0
+EndsOverTable then_ends input table ending out =
+    (bytes : List ℕ) × HasLeft table.left bytes
+    × (((link : Links) × GivesTable bytes table link × then_ends link) ⊎ (RefusesTableFile bytes table ending × IsLeftAlone input × IsLeft out))
+
 -- Ends r input table ending out: how a run may end, by its request
 abbrev pub Ends : Request → SourceUse → SourceUse → Result (Unit {0}) Refusal → SinkUse → Type 0
 Ends (plain a) input table ending out = Writes a ending out
@@ -192,6 +220,8 @@ Ends (of_file_and_list f form about) input file ending out =
     EndsOverFile f (λ cells. EndsNumberedList form (about cells) input ending out) input file ending out
 Ends (of_file_and_lines f form about) input file ending out =
     EndsOverFile f (λ cells. EndsLines form (about cells) input ending out) input file ending out
+Ends (of_table_and_lines form about) input table ending out =
+    EndsOverTable (λ link. EndsLines form (about link) input ending out) input table ending out
 
 -- ---- where nothing fails
 

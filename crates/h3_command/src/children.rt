@@ -1,6 +1,7 @@
-//! H3's `cellToChildren` and `childPosToCell`, for the index of a word, `None` where the word has none.
+//! H3's `cellToChildren` and `childPosToCell`, for the index of a word, `None` where the word has none, and
+//! the children of each cell of a list.
 
-ghost use Rattle.std.specs.Prelude.{◌≡◌, ◌≤◌};
+ghost use Rattle.std.specs.Prelude.{◌≡◌, ◌≤◌, codes};
 ghost use Rattle.h3_index.specs.Cell.{resolution};
 ghost use Rattle.h3_index.specs.Descendants.{descendants};
 ghost use Rattle.h3_lines.specs.Answer.{cell_lines, printed, written};
@@ -8,11 +9,18 @@ ghost use Rattle.h3_lines.specs.Writing.{Writes, sink_use};
 ghost use Rattle.h3_functions.specs.Hierarchy.{cell_to_children, child_pos_to_cell};
 ghost use Rattle.h3_functions.specs.Inspection.{for_value};
 ghost use Rattle.h3_command.specs.Given.{index_given};
+ghost use Rattle.h3_command.specs.LongAnswers.{children_for};
+ghost use Rattle.h3_command.specs.Rows.{rows_form};
+ghost use Rattle.h3_command.specs.Run.{EndsLines, source_use};
 
 use crate::given::{cell_given, index_given};
-use h3_index::{Cell, H3Error, Sink};
+use crate::long::ChildrenOf;
+use crate::rows::answer_listed_lines;
+use h3_index::{Cell, H3Error, Sink, Source};
 use h3_lines::{Refusal, write_lines, write_result};
+use h3_requests::RowOptions;
 use h3_tree::{resolution_below, sibling_groups_at};
+use std::alloc::Global;
 
 /// Writes the descendants of a cell at a resolution from its own to 15.
 fn write_descendants<W: Sink>(cell: Cell, r: u8, out: &mut W) -> Result<(), Refusal>
@@ -54,4 +62,26 @@ pub(crate) fn child_pos_to_cell(
 {
     let index = index_given(index)?;
     h3_functions::child_pos_to_cell(position, index, res)
+}
+
+/// Writes for each cell listed on the input, or with each row, its descendants at a resolution.
+pub(crate) fn cells_to_children<R: Source, W: Sink>(
+    alloc: Global,
+    res: i32,
+    rows: &Option<RowOptions>,
+    input: &mut R,
+    out: &mut W,
+) -> Result<(), Refusal>
+    ensures { EndsLines (rows_form rows.now (codes "cellToChildren"))
+        (children_for res) (source_use R.left R.has_failed input.old input.new) result
+        (sink_use W.taken W.has_failed out.old out.new) }
+{
+    answer_listed_lines(
+        alloc,
+        rows,
+        "cellToChildren",
+        &ChildrenOf { res },
+        input,
+        out,
+    )
 }

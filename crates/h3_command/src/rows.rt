@@ -4,14 +4,15 @@
 ghost use Rattle.std.specs.Prelude.{◌≡◌};
 ghost use Rattle.h3_lines.specs.Writing.{sink_use};
 ghost use Rattle.h3_command.specs.Answer.{answer_for};
-ghost use Rattle.h3_command.specs.Rows.{function_name, rows_form};
+ghost use Rattle.h3_command.specs.LongAnswers.{between_parts};
+ghost use Rattle.h3_command.specs.Rows.{function_name, pair_form, rows_form};
 ghost use Rattle.h3_command.specs.Run.{EndsLines, source_use};
 
 use crate::for_each::AnswerOf;
 use h3_index::{Sink, Source};
-use h3_lines::{IndexFunction, Refusal, answer_each};
+use h3_lines::{IndexFunction, LinesFunction, Refusal, answer_each, answer_each_lines};
 use h3_requests::{CellFunction, RowOptions};
-use h3_rows::answer_rows;
+use h3_rows::{answer_rows, answer_rows_lines};
 use std::alloc::Global;
 
 /// The name of H3's function, which the new column of rows has in a header.
@@ -75,4 +76,55 @@ pub(crate) fn answer_function<R: Source, W: Sink>(
         input,
         out,
     )
+}
+
+/// Writes the lines that a function answers to each line of a list, or each row once for each line that
+/// it answers to its cell, as `answer_listed` does.
+pub(crate) fn answer_listed_lines<R: Source, W: Sink, F: LinesFunction>(
+    alloc: Global,
+    rows: &Option<RowOptions>,
+    name: &str,
+    function: &F,
+    input: &mut R,
+    out: &mut W,
+) -> Result<(), Refusal>
+    ensures { EndsLines (rows_form rows.now name.now)
+        (F.answer_of function.now) (source_use R.left R.has_failed input.old input.new) result
+        (sink_use W.taken W.has_failed out.old out.new) }
+{
+    match rows {
+        None => answer_each_lines(alloc, function, input, out),
+        Some(options) => {
+            answer_rows_lines(alloc, options, name.as_bytes(), false, function, input, out)
+        }
+    }
+}
+
+/// The same of a function that answers by a cell and its distance on each line, with the byte of
+/// `between_parts` between them. Both have a new column.
+pub(crate) fn answer_listed_pairs<R: Source, W: Sink, F: LinesFunction>(
+    alloc: Global,
+    rows: &Option<RowOptions>,
+    function: &F,
+    input: &mut R,
+    out: &mut W,
+) -> Result<(), Refusal>
+    ensures { EndsLines (pair_form rows.now)
+        (F.answer_of function.now) (source_use R.left R.has_failed input.old input.new) result
+        (sink_use W.taken W.has_failed out.old out.new) }
+{
+    match rows {
+        None => answer_each_lines(alloc, function, input, out),
+        Some(options) => answer_rows_lines(alloc, options, b"", true, function, input, out),
+    }
+}
+
+/// The byte between the parts of an answer: a space on a line, and beside a row its separator.
+pub(crate) fn between_parts(rows: &Option<RowOptions>) -> u8
+    ensures { result ≡ between_parts rows.now }
+{
+    match rows {
+        None => b' ',
+        Some(options) => options.separator,
+    }
 }

@@ -7,7 +7,7 @@ ghost use Rattle.h3_command.specs.Answer.{reads_list, reads_table, request, requ
 ghost use Rattle.h3_command.specs.Files.{CountsPrintedAddUp};
 ghost use Rattle.h3_command.specs.Run.{Ends, Runs, source_use};
 
-use crate::children::{cell_to_children, child_pos_to_cell};
+use crate::children::{cell_to_children, cells_to_children, child_pos_to_cell};
 use crate::counts::count_cells_in_zones;
 use crate::edges::{are_neighbor_cells, cells_to_directed_edge, get_directed_edge_destination};
 use crate::files::{Combination, are_covered_cells, cells_to_zones, combine_cells};
@@ -15,6 +15,10 @@ use crate::for_each::write_answer_for;
 use crate::rows::answer_function;
 use crate::sets::{compact_cells, uncompact_cells, unite_cells};
 use crate::sizes::uncompact_cells_size;
+use crate::table_lists::{
+    get_directed_edge_destinations, grid_disks_distances_unsafe, grid_disks_unsafe,
+    grid_rings_unsafe,
+};
 use crate::table_query::over_table;
 use crate::walks::{grid_disk_distances_unsafe, grid_disk_unsafe, grid_ring_unsafe};
 use h3_functions::{get_num_cells, get_pentagons, get_res0_cells};
@@ -103,6 +107,15 @@ fn perform<R: Source, T: Source, W: Sink>(
         OriginToDirectedEdges { cell } => {
             write_answer_for(CellFunction::OriginToDirectedEdges, cell, out)
         }
+        CellsToChildren { res } => cells_to_children(alloc, res, rows, input, out),
+        GridDisksUnsafe { k } => grid_disks_unsafe(alloc, k, rows, input, table, out),
+        GridDisksDistancesUnsafe { k } => {
+            grid_disks_distances_unsafe(alloc, k, rows, input, table, out)
+        }
+        GridRingsUnsafe { k } => grid_rings_unsafe(alloc, k, rows, input, table, out),
+        GetDirectedEdgeDestinations => {
+            get_directed_edge_destinations(alloc, rows, input, table, out)
+        }
         ForEach(function) => answer_function(alloc, rows, function, input, out),
     }
 }
@@ -154,8 +167,9 @@ pub fn run_over<R: Source, T: Source, W: Sink, E: Sink>(
 /// A command on a list of cells reads it from `input`, and one on a table reads that from `table`,
 /// once the indexes of its words are valid. A command on a file of cells, that of a region or of
 /// zones, reads it from `table`, and judges it as a whole, and then reads `input`, which is left
-/// alone where the file is refused. The others read neither and take no memory. Where a walk over
-/// a table is refused on its way, the lines of the cells before that stand on `out`.
+/// alone where the file is refused. One on a list and a table does the same with the table. The
+/// others read neither and take no memory. Where a walk over a table is refused on its way, the lines
+/// of the cells before that stand on `out`, but none of a walk around a cell of a list.
 ///
 /// After a write that failed, a beginning of the answer stands on `out`. After a read that failed,
 /// or where memory is refused, nothing does, but of a command that answers line by line: where a

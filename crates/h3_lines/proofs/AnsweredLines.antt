@@ -2,13 +2,13 @@
 use Rattle.std.proofs.Common.{◌≡◌, ℕ, ◌+◌, ◌-◌, ◌<◌, ◌≤◌, ◌==◌, nat_lt, Bool, true, false, List, [], ◌∷◌, ◌++◌, length, take, get_or, Option, Some, Result, Ok, Err, IfErr, OnOk, sym, ap, ◌∙◌, refl, subst, inl, inr, append_assoc, append-nil, length-append, arith}
 use Rattle.std.proofs.lemmas.Bool.Decides.{nat_tests}
 use Rattle.std.proofs.lemmas.List.{take_more}
-use Rattle.std.proofs.KnownBytes.{Appends-nil}
+use Rattle.std.proofs.KnownBytes.{Appends-nil, Appends-trans}
 use Rattle.std.specs.Io.KnownBytes.{Appends}
 use Rattle.h3_index.specs.Text.{parsed_index, trimmed}
 use Rattle.h3_index.specs.declared.error.H3Error.{H3Error}
 use Rattle.h3_lines.specs.Answer.{Answer, before, refused, written}
-use Rattle.h3_lines.specs.Answering.{Answered, EndsBy, Puts, RefusesEach, TakesSome}
-use Rattle.h3_lines.specs.EachLaws.{answered_then, refuses_then}
+use Rattle.h3_lines.specs.Answering.{Answered, Breaks, EndsBy, Moves, Puts, RefusesEach, TakesSome}
+use Rattle.h3_lines.specs.EachLaws.{answered_then, refuses_then, some_after}
 use Rattle.h3_lines.specs.EachLine.{followed_by, line_answer, lines_answer}
 use Rattle.h3_lines.specs.Writing.{AppendsPart, SinkUse, Takes, TakesPart, Writes, sink_use}
 use Rattle.h3_lines.specs.declared.refusal.AnswerError.TheVariants.{At}
@@ -61,6 +61,40 @@ module _ {S : Type 0} (taken : S → Option (List ℕ)) (failed : S → Bool) wh
   pub answered_moved : (answer : Option ℕ → Answer) (n : ℕ) (held held' part : List ℕ) (s t : S) → held ≡ part ++ held' → Appends (taken s) (taken t) part → failed t ≡ failed s → Answered taken failed answer n n held held' s t []
   answered_moved answer n held held' part s t split grown sound = record { text = []; part = part; says = λ more. refl; split = append-nil held ∙ split; grown = grown; sound = sound }
 
+  -- ---- bytes that are put after those held back, of which some are written
+
+  pub moves_none : (held : List ℕ) (s : S) → Moves taken failed held held s s
+  moves_none held s = record { part = []; split = refl; grown = Appends-nil (taken s); sound = refl }
+
+  -- more of them are written
+  pub moves_on : (all held held' : List ℕ) (s t u : S) → Moves taken failed all held s t → Moves taken failed held held' t u → Moves taken failed all held' s u
+  moves_on all held held' s t u m k = record {
+    part = m.part ++ k.part;
+    split = m.split ∙ ap (λ l. m.part ++ l) k.split ∙ sym (append_assoc m.part k.part held');
+    grown = Appends-trans (taken s) (taken t) (taken u) m.part k.part m.grown k.grown;
+    sound = k.sound ∙ m.sound;
+  }
+
+  -- bytes that are put into the block, where some before them are written
+  pub moves_put : (all held more held' : List ℕ) (s t : S) → Moves taken failed all held s t → held' ≡ held ++ more → Moves taken failed (all ++ more) held' s t
+  moves_put all held more held' s t m is = record {
+    part = m.part;
+    split = ap (λ l. l ++ more) m.split ∙ append_assoc m.part held more ∙ ap (λ l. m.part ++ l) (sym is);
+    grown = m.grown;
+    sound = m.sound;
+  }
+
+  pub breaks_then : (all held more : List ℕ) (s t u : S) (e : Refusal) → Moves taken failed all held s t → Breaks held (sink_use taken failed t u) e → Breaks (all ++ more) (sink_use taken failed s u) e
+  breaks_then all held more s t u e m (is, some, fails) =
+      let whole : all ++ more ≡ (m.part ++ held) ++ more = ap (λ l. l ++ more) m.split in
+      let enough : 0 < length ((m.part ++ held) ++ more) = omega (arith, length-append (m.part ++ held) more, length-append m.part held, some) in
+      let (b, fault) = some_after taken failed s t u m.part held m.grown m.sound fails in
+      let longer : TakesSome (sink_use taken failed s u) ((m.part ++ held) ++ more) = (record { part = b.part; rest = b.rest ++ more; split = ap (λ l. l ++ more) b.split ∙ append_assoc b.part b.rest more; holds = b.holds }, fault) in
+      (is, subst (λ l. 0 < length l) (sym whole) enough, subst (TakesSome (sink_use taken failed s u)) (sym whole) longer)
+
+  pub answered_by : (answer : Option ℕ → Answer) (n : ℕ) (held held' : List ℕ) (s t : S) → Moves taken failed held held' s t → Answered taken failed answer n n held held' s t []
+  answered_by answer n held held' s t m = answered_moved answer n held held' m.part s t m.split m.grown m.sound
+
   -- an answer is put into the block
   pub answered_put : (answer : Option ℕ → Answer) (n : ℕ) (block block' : List ℕ) (at end : ℕ) (s : S) (line : List ℕ) → Puts (line_answer answer line) block block' at end
       → Answered taken failed answer n (n + 1) (take at block) (take end block') s s (line ∷ [])
@@ -107,3 +141,12 @@ ends_unwritten a held e out (is, some, (b, failed)) =
     let more : 0 < length (held ++ a.output) = omega (arith, length-append held a.output, some) in
     subst (λ r. EndsBy (before held a) r out) (sym is)
     (more, (record { part = b.part; rest = b.rest ++ a.output; split = ap (λ l. l ++ a.output) b.split ∙ append_assoc b.part b.rest a.output; holds = b.holds }, failed))
+
+-- bytes of an answer that are not all taken
+pub breaks_ends : (answer : Option ℕ → Answer) (n : ℕ) (held text line : List ℕ) (later : List (List ℕ)) (e : Refusal) (out : SinkUse) {a : Answer} → line_answer answer line ≡ a → a ≡ written text → Breaks (held ++ text) out e
+    → RefusesEach answer n held (line ∷ later) e out
+breaks_ends answer n held text line later e out is said breaks =
+    let next = lines_answer answer (n + 1) later in
+    let own : before held (lines_answer answer n (line ∷ later)) ≡ before (held ++ text) next =
+    ap (λ b. before held (followed_by n b next)) (is ∙ said) ∙ ap (λ l. record { output = l; ending = next.ending }) (sym (append_assoc held text next.output)) in
+    subst (λ a. EndsBy a e out) (sym own) (ends_unwritten next (held ++ text) e out breaks)

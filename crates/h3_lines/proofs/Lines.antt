@@ -1,12 +1,13 @@
 -- What a loop over items has written and holds back, of the answer that the items make.
-use Rattle.std.proofs.Common.{◌≡◌, ℕ, ◌+◌, Bool, List, [], ◌∷◌, ◌++◌, length, take, drop, map, Option, None, Some, Result, sym, ap, ◌∙◌, refl, subst, append-nil, append_assoc, take-append-drop}
+use Rattle.std.proofs.Common.{◌≡◌, ℕ, ◌+◌, Bool, List, [], ◌∷◌, ◌++◌, length, take, drop, map, Option, None, Some, Result, Ok, Err, IsOk, sym, ap, ◌∙◌, refl, subst, append-nil, append_assoc, take-append-drop}
 use Rattle.std.proofs.lemmas.List.{drop_more}
 use Rattle.std.proofs.KnownBytes.{Appends-nil, Appends-trans}
 use Rattle.std.specs.Iterator.{AlwaysYields, Yields}
 use Rattle.std.specs.Io.KnownBytes.{Appends}
 use Rattle.std.proofs.lemmas.Iterator.{YieldsList}
 use Rattle.std.proofs.lemmas.Iterator.Consumers.{YieldsList-so_far, YieldsList-turn, YieldsList-end}
-use Rattle.h3_lines.specs.Answer.{Answer, before}
+use Rattle.h3_index.specs.declared.error.H3Error.{H3Error}
+use Rattle.h3_lines.specs.Answer.{Answer, before, before_items, whole_items}
 use Rattle.h3_lines.specs.Writing.{AppendsUpTo, Writes, sink_use}
 use Rattle.h3_lines.specs.declared.refusal.Refusal.{Refusal}
 use Rattle.h3_lines.proofs.Written.{writes_after}
@@ -73,3 +74,26 @@ module _ {I : Type 0} (answer : List I → Answer) where
   held_ends taken failed first mid last {items} {held} h all rest split same ending writes =
       let is : answer all ≡ before h.done (before held (answer rest)) = ap answer split ∙ h.so_far rest ∙ sym (before_before h.done held (answer rest)) in
       rw is (writes_after taken failed first mid last (before held (answer rest)) h.done ending h.grown same writes)
+
+-- ---- items without an error
+
+-- after these items others have an error where all of them have, and the same
+pub record Passed {A : Type 0} (items : List (Result A H3Error)) : Type 0 where
+  pub good : (more : List (Result A H3Error)) → IsOk (whole_items more) → IsOk (whole_items (items ++ more))
+  pub refused : (more : List (Result A H3Error)) (e : H3Error) → whole_items more ≡ Err e → whole_items (items ++ more) ≡ Err e
+
+pub passed_none : {A : Type 0} → Passed {A = A} []
+passed_none = record { good = λ more ok. ok; refused = λ more e is. is }
+
+good_before : {A : Type 0} (item : A) (items : Result (List A) H3Error) → IsOk items → IsOk (before_items item items)
+good_before item (Ok items) ok = refl
+good_before item (Err e) never = absurd (cc never)
+
+refused_before : {A : Type 0} (item : A) (items : Result (List A) H3Error) (e : H3Error) → items ≡ Err e → before_items item items ≡ Err e
+refused_before item items e is = ap (before_items item) is
+
+pub passed_more : {A : Type 0} {items : List (Result A H3Error)} → Passed items → (item : A) → Passed (items ++ Ok item ∷ [])
+passed_more {items = items} p item = record {
+  good = λ more ok. subst (λ l. IsOk (whole_items l)) (sym (append_assoc items (Ok item ∷ []) more)) (p.good (Ok item ∷ more) (good_before item (whole_items more) ok));
+  refused = λ more e is. ap whole_items (append_assoc items (Ok item ∷ []) more) ∙ p.refused (Ok item ∷ more) e (refused_before item (whole_items more) e is);
+}

@@ -1,5 +1,5 @@
 -- An answer, and the lines that it has.
-use Rattle.std.specs.Prelude.{ℕ, Bool, List, [], ◌∷◌, ◌++◌, codes, decimal, Option, None, Some, Result, Ok, Err, if◌then◌else◌}
+use Rattle.std.specs.Prelude.{◌≡◌, ◌⊎◌, ℕ, Bool, List, [], ◌∷◌, ◌++◌, codes, decimal, Option, None, Some, Result, Ok, Err, if◌then◌else◌}
 use Rattle.std.specs.List.{flat_map}
 use Rattle.h3_index.specs.Cell.{Address, number_of}
 use Rattle.h3_index.specs.Descendants.{children}
@@ -32,6 +32,10 @@ table_refused e = record { output = []; ending = Err (Table e) }
 
 -- ---- lines
 
+-- AreLines text: the text is lines, each ended by a line feed: it has no byte, or its last one is a line feed
+abbrev pub AreLines : List ℕ → Type 0
+AreLines text = (text ≡ []) ⊎ ((front : List ℕ) × (text ≡ front ++ 10 ∷ []))
+
 -- truth_line b: `true` or `false`, and a line feed
 abbrev pub truth_line : Bool → List ℕ
 truth_line b = (if b then codes "true" else codes "false") ++ 10 ∷ []
@@ -47,6 +51,10 @@ cell_line c = text_of (number_of c) ++ 10 ∷ []
 -- ring_line item: the same with a space and the ring before the line feed
 abbrev pub ring_line : Address × ℕ → List ℕ
 ring_line item = text_of (number_of item.0) ++ 32 ∷ decimal item.1 ++ 10 ∷ []
+
+-- ring_line_by between item: the text of a cell's number, a byte, the ring in decimal, and a line feed
+abbrev pub ring_line_by : ℕ → Address × ℕ → List ℕ
+ring_line_by between item = text_of (number_of item.0) ++ between ∷ decimal item.1 ++ 10 ∷ []
 
 -- the text of the number of a zone, `0` where there is none
 abbrev pub zone_text : Option Address → List ℕ
@@ -95,3 +103,14 @@ abbrev pub walked : {A : Type 0} → (A → List ℕ) → List (Result A H3Error
 walked line [] = written []
 walked line (Ok item ∷ items) = before (line item) (walked line items)
 walked line (Err e ∷ items) = refused e
+
+-- before_items item items: an item before others, if these have no error
+abbrev pub before_items : {A : Type 0} → A → Result (List A) H3Error → Result (List A) H3Error
+before_items item (Ok items) = Ok (item ∷ items)
+before_items item (Err e) = Err e
+
+-- whole_items items: the items, of which none is an error, or the first error
+abbrev pub whole_items : {A : Type 0} → List (Result A H3Error) → Result (List A) H3Error
+whole_items [] = Ok []
+whole_items (Ok item ∷ items) = before_items item (whole_items items)
+whole_items (Err e ∷ items) = Err e

@@ -48,3 +48,14 @@ EndsBy a (Fault Memory) out = ⊥
 -- these bytes and the answer to these lines, of which the first is the line n, end so
 abbrev pub RefusesEach : (Option ℕ → Answer) → ℕ → List ℕ → List (List ℕ) → Refusal → SinkUse → Type 0
 RefusesEach answer n held lines e out = EndsBy (before held (lines_answer answer n lines)) e out
+
+-- from one moment to a later one, of these bytes some are taken, and these are still held back
+pub record Moves {S : Type 0} (taken : S → Option (List ℕ)) (failed : S → Bool) (all held : List ℕ) (s t : S) : Type 0 where
+  pub part : List ℕ
+  pub split : all ≡ part ++ held
+  pub grown : Appends (taken s) (taken t) part
+  pub sound : failed t ≡ failed s
+
+-- a write fails, and a beginning of these bytes is taken
+abbrev pub Breaks : List ℕ → SinkUse → Refusal → Type 0
+Breaks all sink e = (e ≡ Fault Write) × (0 < length all) × TakesSome sink all

@@ -4,6 +4,8 @@ pub mod Beginning
 pub mod EachLaws
 pub mod EachLine
 pub mod Examples
+pub mod GivenLines
+pub mod LineLaws
 pub mod List
 pub mod ListLaws
 pub mod Numbered

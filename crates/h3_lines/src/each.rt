@@ -3,7 +3,7 @@
 ghost use Rattle.std.proofs.Common.{◌∙◌, refl};
 ghost use Rattle.std.specs.Prelude.{◌≡◌, ◌+◌, ◌<◌, ◌≤◌, ◌++◌, ◌∷◌, ◌^◌, [], ℕ, List, length, Option, take, IfOk, IfErr, OnOk};
 ghost use Rattle.h3_lines.specs.Answer.{Answer, printed, refused};
-ghost use Rattle.h3_lines.specs.Answering.{Answered, EndsBy, Puts, RefusesEach, TakesSome, answer_said};
+ghost use Rattle.h3_lines.specs.Answering.{Answered, Breaks, Moves, Puts, RefusesEach, TakesSome, answer_said};
 ghost use Rattle.h3_lines.specs.EachLaws.{answered_none, answered_then, refuses_then};
 ghost use Rattle.h3_lines.specs.EachLine.{EndsEach, line_answer};
 ghost use Rattle.h3_lines.specs.Writing.{Takes, sink_use};
@@ -102,7 +102,7 @@ fn write_held<W: Sink>(out: &mut W, bytes: &[u8]) -> Result<(), Refusal>
 
 /// Writes the answers held back, and refuses the line with this number.
 #[cold]
-fn refuse<W: Sink>(out: &mut W, held: &[u8], number: u64, error: H3Error) -> Refusal
+pub(crate) fn refuse<W: Sink>(out: &mut W, held: &[u8], number: u64, error: H3Error) -> Refusal
     ensures { (answer : Option ℕ → Answer) (line : List ℕ) (later : List (List ℕ)) →
         line_answer answer line ≡ refused error →
         RefusesEach answer number held.now (line ∷ later) result
@@ -118,14 +118,17 @@ fn refuse<W: Sink>(out: &mut W, held: &[u8], number: u64, error: H3Error) -> Ref
 /// block is written, but for its last byte, so that it is empty only after a flush. Returns where
 /// it ends.
 #[inline(always)]
-fn make_room<W: Sink>(out: &mut W, block: &mut [u8; BLOCK], end: usize) -> Result<usize, Refusal>
+pub(crate) fn make_room<W: Sink>(
+    out: &mut W,
+    block: &mut [u8; BLOCK],
+    end: usize,
+) -> Result<usize, Refusal>
     requires { end ≤ BLOCK }
     ensures room { IfOk result (λ at. at + ANSWER ≤ BLOCK) }
-    ensures ok { IfOk result (λ at. (answer : Option ℕ → Answer) (n : ℕ) →
-        Answered W.taken W.has_failed answer n n (take end block.old) (take at block.new)
-        out.old out.new []) }
-    ensures err { IfErr result (λ e. (e ≡ refusal.Fault Write) × (0 < length (take end block.old))
-        × TakesSome (sink_use W.taken W.has_failed out.old out.new) (take end block.old)) }
+    ensures ok { IfOk result (λ at.
+        Moves W.taken W.has_failed (take end block.old) (take at block.new) out.old out.new) }
+    ensures err { IfErr result (λ e.
+        Breaks (take end block.old) (sink_use W.taken W.has_failed out.old out.new) e) }
 {
     if end <= BLOCK - ANSWER {
         return Ok(end);
@@ -136,127 +139,174 @@ fn make_room<W: Sink>(out: &mut W, block: &mut [u8; BLOCK], end: usize) -> Resul
     Ok(1)
 }
 
-/// The answers to the lines of a list, in a block that is written when it is full.
+/// What the answering of lines works with.
 #[derive(Drop)]
-struct Answers<'a, 'f, W, F> {
-    out: &'a mut W,
-    function: &'f F,
-    number: u64,
+pub(crate) struct Work {
     place: usize,
     hints: Hints,
-    lines: CellLines,
-    block: [u8; BLOCK],
-    end: usize,
+    pub(crate) lines: CellLines,
+}
+
+/// The answers held back, in a block that is written when it is full, and the number of the next
+/// line.
+#[derive(Drop)]
+pub(crate) struct Held<'a, W> {
+    pub(crate) out: &'a mut W,
+    pub(crate) number: u64,
+    pub(crate) work: Work,
+    pub(crate) block: [u8; BLOCK],
+    pub(crate) end: usize,
     ghost within: { end ≤ BLOCK },
 }
 
-impl<'a, 'f, W: Sink, F: IndexFunction> Answers<'a, 'f, W, F> {
-    /// Puts the answer to the next line.
-    // What only an error or a full block needs is read where there is one.
-    #[inline(always)]
-    fn answer(&mut self, index: Option<u64>) -> Result<(), Refusal>
-        requires { self.old.number < 2 ^ 63 }
+/// What answers the index on a line, after the answers held back.
+// What only an error or a full block needs is read where there is one, so all of it is passed on in
+// one place.
+pub(crate) trait Answering {
+    /// The answer to an index, or to a word that parses as none.
+    ghost answer_of: { Self → Option ℕ → Answer };
+
+    /// Puts the answer to the index on the next line. What has no room is written.
+    fn answer<'a, W: Sink>(&self, index: Option<u64>, held: &mut Held<'a, W>) -> Result<(), Refusal>
+        requires { held.old.number < 2 ^ 63 }
         ensures ok { OnOk result ((line : List ℕ) →
-            line_answer (F.answer_of self.old.function.now) line
-            ≡ F.answer_of self.old.function.now index →
-            Answered W.taken W.has_failed (F.answer_of self.old.function.now)
-            self.old.number self.new.number (take self.old.end self.old.block)
-            (take self.new.end self.new.block) self.old.out.now self.new.out.now (line ∷ [])) }
-        ensures counted { OnOk result (self.new.number ≡ self.old.number + 1) }
+            line_answer (answer_of self.now) line ≡ answer_of self.now index →
+            Answered W.taken W.has_failed (answer_of self.now) held.old.number held.new.number
+            (take held.old.end held.old.block) (take held.new.end held.new.block)
+            held.old.out.now held.new.out.now (line ∷ [])) }
+        ensures counted { OnOk result (held.new.number ≡ held.old.number + 1) }
         ensures err { IfErr result (λ e. (line : List ℕ) →
-            line_answer (F.answer_of self.old.function.now) line
-            ≡ F.answer_of self.old.function.now index →
+            line_answer (answer_of self.now) line ≡ answer_of self.now index →
             (later : List (List ℕ)) →
-            RefusesEach (F.answer_of self.old.function.now) self.old.number
-            (take self.old.end self.old.block) (line ∷ later) e
-            (sink_use W.taken W.has_failed self.old.out.now self.new.out.now)) }
-        ensures function { self.new.function ≡ self.old.function }
-        ensures sink { self.new.out.ghost_name ≡ self.old.out.ghost_name }
-    {
-        let at = make_room(self.out, &mut self.block, self.end)?;
-        match self.function.put(index, &mut self.place, &mut self.lines, &mut self.block, at) {
+            RefusesEach (answer_of self.now) held.old.number (take held.old.end held.old.block)
+            (line ∷ later) e (sink_use W.taken W.has_failed held.old.out.now held.new.out.now)) }
+        ensures sink { held.new.out.ghost_name ≡ held.old.out.ghost_name };
+
+    /// Sets the place at which the next index is looked for, that of a plain line, which is followed
+    /// by these bytes in its page.
+    #[inline(always)]
+    fn aim(&self, _index: u64, _after: &[u8], _work: &mut Work) {}
+}
+
+/// A function whose answer to an index fits into a block.
+#[derive(Drop)]
+struct Short<'f, F> {
+    function: &'f F,
+}
+
+impl<'f, F: IndexFunction> Answering for Short<'f, F> {
+    ghost answer_of = { λ f. F.answer_of f.function.now };
+
+    #[inline(always)]
+    fn answer<'a, W: Sink>(
+        &self,
+        index: Option<u64>,
+        held: &mut Held<'a, W>,
+    ) -> Result<(), Refusal> {
+        let at = make_room(held.out, &mut held.block, held.end)?;
+        let work = &mut held.work;
+        match self.function.put(index, &mut work.place, &mut work.lines, &mut held.block, at) {
             Ok(last) => {
-                self.end = last;
-                self.number += 1;
+                held.end = last;
+                held.number += 1;
                 Ok(())
             }
             Err(error) => {
-                let held = &self.block[..at];
-                Err(refuse(self.out, held, self.number, error))
+                let bytes = &held.block[..at];
+                Err(refuse(held.out, bytes, held.number, error))
             }
         }
     }
+
+    #[inline(always)]
+    fn aim(&self, index: u64, after: &[u8], work: &mut Work) {
+        self.function
+            .aim(index, after, &mut work.hints, &mut work.place);
+    }
 }
 
-impl<'a, 'f, W: Sink, F: IndexFunction> LineTaker for Answers<'a, 'f, W, F> {
-    ghost count = { λ v. v.number };
+/// The answers to the lines of a list.
+#[derive(Drop)]
+struct Answers<'a, 'f, W, A> {
+    held: Held<'a, W>,
+    function: &'f A,
+}
 
-    ghost settled = { λ v. v.end ≡ 0 };
+impl<'a, 'f, W: Sink, A: Answering> LineTaker for Answers<'a, 'f, W, A> {
+    ghost count = { λ v. v.held.number };
+
+    ghost settled = { λ v. v.held.end ≡ 0 };
 
     ghost taken = { λ v lines w.
-        Answered W.taken W.has_failed (F.answer_of v.function.now) v.number w.number
-        (take v.end v.block) (take w.end w.block) v.out.now w.out.now lines
-        × (w.function ≡ v.function) × (w.out.ghost_name ≡ v.out.ghost_name) };
+        Answered W.taken W.has_failed (A.answer_of v.function.now) v.held.number w.held.number
+        (take v.held.end v.held.block) (take w.held.end w.held.block) v.held.out.now
+        w.held.out.now lines
+        × (w.function ≡ v.function) × (w.held.out.ghost_name ≡ v.held.out.ghost_name) };
 
     ghost refused = { λ v lines w e.
-        RefusesEach (F.answer_of v.function.now) v.number (take v.end v.block) lines e
-        (sink_use W.taken W.has_failed v.out.now w.out.now)
-        × (w.out.ghost_name ≡ v.out.ghost_name) };
+        RefusesEach (A.answer_of v.function.now) v.held.number (take v.held.end v.held.block) lines e
+        (sink_use W.taken W.has_failed v.held.out.now w.held.out.now)
+        × (w.held.out.ghost_name ≡ v.held.out.ghost_name) };
 
     fn take(&mut self, line: &[u8]) -> Result<(), Refusal> {
-        let held = &self.block[..self.end];
+        let held = &mut self.held;
         match index_on(line) {
-            Ok(Some(index)) => self.answer(index),
+            Ok(Some(index)) => self.function.answer(index, held),
             Ok(None) => {
-                self.number += 1;
+                held.number += 1;
                 Ok(())
             }
-            Err(error) => Err(refuse(self.out, held, self.number, error)),
+            Err(error) => {
+                let bytes = &held.block[..held.end];
+                Err(refuse(held.out, bytes, held.number, error))
+            }
         }
     }
 
     #[inline(always)]
     fn take_index(&mut self, index: u64, after: &[u8]) -> Result<(), Refusal> {
-        self.function
-            .aim(index, after, &mut self.hints, &mut self.place);
-        self.answer(Some(index))
+        let held = &mut self.held;
+        self.function.aim(index, after, &mut held.work);
+        self.function.answer(Some(index), held)
     }
 
     fn refuse_long(&mut self) -> Refusal {
-        let held = &self.block[..self.end];
-        refuse(self.out, held, self.number, H3Error::Failed)
+        let held = &mut self.held;
+        let bytes = &held.block[..held.end];
+        refuse(held.out, bytes, held.number, H3Error::Failed)
     }
 
     fn settle(&mut self) -> Result<(), Refusal> {
-        let held = &self.block[..self.end];
-        write_held(self.out, held)?;
-        self.end = 0;
+        let held = &mut self.held;
+        let bytes = &held.block[..held.end];
+        write_held(held.out, bytes)?;
+        held.end = 0;
         Ok(())
     }
 
     ghost none_taken = { λ v. (answered_none _ _ _ _ _ _, refl, refl) };
 
     ghost taken_then = { λ u v w xs ys p q.
-        (answered_then _ _ (λ f. F.answer_of f.now) xs ys p.1 p.0 q.0, q.1 ∙ p.1, q.2 ∙ p.2) };
+        (answered_then _ _ (λ f. A.answer_of f.now) xs ys p.1 p.0 q.0, q.1 ∙ p.1, q.2 ∙ p.2) };
 
     ghost refused_then = { λ u v w xs ys e p q.
-        (refuses_then _ _ (λ f. F.answer_of f.now) _ xs ys e p.1 p.0 q.0, q.1 ∙ p.2) };
+        (refuses_then _ _ (λ f. A.answer_of f.now) _ xs ys e p.1 p.0 q.0, q.1 ∙ p.2) };
 }
 
 /// Answers each line of a list, read in pages.
-fn answer_lines<'a, 'f, R: Source, W: Sink, F: IndexFunction>(
-    answers: &mut Answers<'a, 'f, W, F>,
+fn answer_lines<'a, 'f, R: Source, W: Sink, A: Answering>(
+    answers: &mut Answers<'a, 'f, W, A>,
     input: &mut R,
     page: &mut [u8],
 ) -> Result<(), Refusal>
-    requires first { answers.old.number ≡ 1 }
-    requires empty { answers.old.end ≡ 0 }
+    requires first { answers.old.held.number ≡ 1 }
+    requires empty { answers.old.held.end ≡ 0 }
     requires page { length page.old ≡ PAGE }
-    ensures ends { EndsEach (F.answer_of answers.old.function.now)
+    ensures ends { EndsEach (A.answer_of answers.old.function.now)
         (R.left input.old) (R.left input.new)
         (R.has_failed input.old) (R.has_failed input.new) result
-        (sink_use W.taken W.has_failed answers.old.out.now answers.new.out.now) }
-    ensures same { answers.new.out.ghost_name ≡ answers.old.out.ghost_name }
+        (sink_use W.taken W.has_failed answers.old.held.out.now answers.new.held.out.now) }
+    ensures same { answers.new.held.out.ghost_name ≡ answers.old.held.out.ghost_name }
 {
     let mut reader = CountedReader::new(&mut *input, READS);
     let ending = take_lines(answers, &mut reader, page);
@@ -268,27 +318,30 @@ fn answer_lines<'a, 'f, R: Source, W: Sink, F: IndexFunction>(
 /// The same to a sink.
 // Inlined, its block would take its place on the stack while the caller runs a writer.
 #[inline(never)]
-fn answer_pages<R: Source, W: Sink, F: IndexFunction>(
-    function: &F,
+pub(crate) fn answer_pages<R: Source, W: Sink, A: Answering>(
+    function: &A,
     input: &mut R,
     out: &mut W,
     page: &mut [u8],
 ) -> Result<(), Refusal>
     requires { length page.old ≡ PAGE }
-    ensures { EndsEach (F.answer_of function.now) (R.left input.old) (R.left input.new)
+    ensures { EndsEach (A.answer_of function.now) (R.left input.old) (R.left input.new)
         (R.has_failed input.old) (R.has_failed input.new) result
         (sink_use W.taken W.has_failed out.old out.new) }
 {
-    let mut answers = Answers {
-        out: &mut *out,
-        function,
-        number: 1,
+    let work = Work {
         place: 0,
         hints: Hints::new(),
         lines: CellLines::new(),
+    };
+    let held = Held {
+        out: &mut *out,
+        number: 1,
+        work,
         block: [0; BLOCK],
         end: 0,
     };
+    let mut answers = Answers { held, function };
     let ending = answer_lines(&mut answers, input, page);
     // The proof reads what the sink is after the writes from this use of it.
     let _ = &*out;
@@ -316,5 +369,5 @@ pub fn answer_each<R: Source, W: Sink, F: IndexFunction>(
         (sink_use W.taken W.has_failed out.old out.new) }
 {
     let mut page = vec![in alloc; 0u8; PAGE].map_err(|_| Refusal::Fault(Fault::Memory))?;
-    answer_pages(function, input, out, &mut page)
+    answer_pages(&Short { function }, input, out, &mut page)
 }

@@ -3,6 +3,7 @@
 #![tactic(auto)]
 
 mod each;
+mod each_lines;
 mod ending;
 mod hints;
 pub mod laws;
@@ -14,9 +15,10 @@ mod taking;
 mod write;
 
 pub use each::{ANSWER, IndexFunction, answer_each, put_result};
+pub use each_lines::{LinesFunction, answer_each_lines, walk_through};
 pub use ending::report;
 pub use hints::{Hints, indexes_ahead};
-pub use line::{BLOCK, Line, ROOM};
+pub use line::{BLOCK, Line, ROOM, RingCell};
 pub use list::{read_cells, read_list, read_numbered_cells};
 pub use refusal::{AnswerError, CellFile, ColumnError, Fault, Refusal};
 pub use splitting::{PAGE, READS};

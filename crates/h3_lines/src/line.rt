@@ -1,7 +1,8 @@
 //! The lines of answers.
 
 ghost use Rattle.std.specs.Prelude.{◌≡◌, ◌+◌, ◌<◌, ◌≤◌, ◌++◌, ◌∷◌, [], ℕ, List, length, take};
-ghost use Rattle.h3_lines.specs.Answer.{cell_line, children_lines, count_line, edge_line, number_line, ring_line, truth_line, zone_line, zone_text};
+ghost use Rattle.h3_lines.specs.Answer.{AreLines, cell_line, children_lines, count_line, edge_line, number_line, ring_line, ring_line_by, truth_line, zone_line, zone_text};
+ghost use Rattle.h3_lines.specs.LineLaws.{cells_are_lines, last_is_line};
 
 use h3_index::{Cell, CellLines, Edge, Siblings, index_bytes};
 use itoa::Buffer;
@@ -26,6 +27,8 @@ pub trait Line {
         ensures end { result ≤ at + 112 }
         ensures some { at < result }
         ensures line { take result block.new ≡ take at block.old ++ line_of self.now };
+
+    ghost are_lines: { (v : Self) → AreLines (line_of v) };
 }
 
 /// Puts the first `count` bytes and one more into a block from the byte `at` on, and returns where
@@ -46,6 +49,8 @@ fn put_ended(block: &mut [u8; BLOCK], at: usize, bytes: &[u8], count: usize, end
 impl Line for bool {
     ghost line_of = { truth_line };
 
+    ghost are_lines = { λ v. last_is_line _ };
+
     #[inline(always)]
     fn put(&self, _: &mut CellLines, block: &mut [u8; BLOCK], at: usize) -> usize {
         let (text, count) = if *self { (b"true ", 4) } else { (b"false", 5) };
@@ -55,6 +60,8 @@ impl Line for bool {
 
 impl Line for u64 {
     ghost line_of = { number_line };
+
+    ghost are_lines = { λ v. last_is_line _ };
 
     #[inline(always)]
     fn put(&self, _: &mut CellLines, block: &mut [u8; BLOCK], at: usize) -> usize {
@@ -70,6 +77,8 @@ impl Line for u64 {
 impl Line for u128 {
     ghost line_of = { number_line };
 
+    ghost are_lines = { λ v. last_is_line _ };
+
     #[inline(always)]
     fn put(&self, _: &mut CellLines, block: &mut [u8; BLOCK], at: usize) -> usize {
         let mut buffer = Buffer::new();
@@ -81,6 +90,8 @@ impl Line for u128 {
 impl Line for Cell {
     ghost line_of = { cell_line };
 
+    ghost are_lines = { λ v. last_is_line _ };
+
     #[inline(always)]
     fn put(&self, lines: &mut CellLines, block: &mut [u8; BLOCK], at: usize) -> usize {
         lines.put(*self, block, at)
@@ -91,6 +102,8 @@ impl Line for Cell {
 impl Line for Siblings {
     ghost line_of = { children_lines };
 
+    ghost are_lines = { λ v. cells_are_lines _ };
+
     #[inline(always)]
     fn put(&self, lines: &mut CellLines, block: &mut [u8; BLOCK], at: usize) -> usize {
         lines.put_children(self.parent(), block, at)
@@ -100,6 +113,8 @@ impl Line for Siblings {
 impl Line for Edge {
     ghost line_of = { edge_line };
 
+    ghost are_lines = { λ v. last_is_line _ };
+
     #[inline(always)]
     fn put(&self, _: &mut CellLines, block: &mut [u8; BLOCK], at: usize) -> usize {
         let (text, count) = index_bytes(self.raw());
@@ -107,18 +122,63 @@ impl Line for Edge {
     }
 }
 
+/// Puts the line of a cell with its ring, with a byte between them, into a block from the byte `at`
+/// on, and returns where it ends.
+#[inline(always)]
+fn put_ring(
+    cell: Cell,
+    between: u8,
+    ring: u32,
+    lines: &mut CellLines,
+    block: &mut [u8; BLOCK],
+    at: usize,
+) -> usize
+    requires room { at + 112 ≤ 32768 }
+    ensures end { result ≤ at + 112 }
+    ensures some { at < result }
+    ensures line { take result block.new ≡ take at block.old ++ ring_line_by between (cell, ring) }
+{
+    // in the place of the line feed
+    let end = lines.put(cell, block, at) - 1;
+    block[end] = between;
+    let mut buffer = Buffer::new();
+    let text = buffer.format(ring);
+    put_ended(block, end + 1, text.as_bytes(), text.len(), b'\n')
+}
+
 /// A cell with its ring.
 impl Line for (Cell, u32) {
     ghost line_of = { ring_line };
 
+    ghost are_lines = { λ v. last_is_line _ };
+
     #[inline(always)]
     fn put(&self, lines: &mut CellLines, block: &mut [u8; BLOCK], at: usize) -> usize {
-        // in the place of the line feed
-        let end = lines.put(self.0, block, at) - 1;
-        block[end] = b' ';
-        let mut buffer = Buffer::new();
-        let ring = buffer.format(self.1);
-        put_ended(block, end + 1, ring.as_bytes(), ring.len(), b'\n')
+        put_ring(self.0, b' ', self.1, lines, block, at)
+    }
+}
+
+/// A cell with its ring, and the byte between them.
+#[derive(Clone, Copy, Debug)]
+pub struct RingCell {
+    /// The cell.
+    pub cell: Cell,
+
+    /// The byte between them: a space in a bare list.
+    pub between: u8,
+
+    /// The number of its ring.
+    pub ring: u32,
+}
+
+impl Line for RingCell {
+    ghost line_of = { λ v. ring_line_by v.between (v.cell, v.ring) };
+
+    ghost are_lines = { λ v. last_is_line _ };
+
+    #[inline(always)]
+    fn put(&self, lines: &mut CellLines, block: &mut [u8; BLOCK], at: usize) -> usize {
+        put_ring(self.cell, self.between, self.ring, lines, block, at)
     }
 }
 
@@ -145,6 +205,8 @@ fn put_zone(zone: Option<Cell>, lines: &mut CellLines, block: &mut [u8; BLOCK], 
 impl Line for Option<Cell> {
     ghost line_of = { zone_line };
 
+    ghost are_lines = { λ v. last_is_line _ };
+
     #[inline(always)]
     fn put(&self, lines: &mut CellLines, block: &mut [u8; BLOCK], at: usize) -> usize {
         let end = put_zone(*self, lines, block, at);
@@ -156,6 +218,8 @@ impl Line for Option<Cell> {
 /// A zone, or none, with its count.
 impl Line for (Option<Cell>, u64) {
     ghost line_of = { count_line };
+
+    ghost are_lines = { λ v. last_is_line _ };
 
     #[inline(always)]
     fn put(&self, lines: &mut CellLines, block: &mut [u8; BLOCK], at: usize) -> usize {

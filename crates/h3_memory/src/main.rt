@@ -1,7 +1,8 @@
 //! Runs commands over streams in fixed arrays, and prints the status of each and what it wrote: a
 //! list of 49 cells that compact to one, one of mixed resolutions, a disk over a table in format 1,
 //! an edge over one in format 2, the resolution of each cell of a list, a list of cells that
-//! overlap, united, and the five commands over that list and a file of cells.
+//! overlap, united, the five commands over that list and a file of cells, and of a cell that is
+//! listed its children, its disk, and of an edge the cell that it leads to.
 //! `tests/command/memory` refuses each allocation of it in turn.
 #![tactic(auto)]
 
@@ -39,6 +40,12 @@ const MIXED: &str = "862834707ffffff\n86283470fffffff\n862834717ffffff\n86283471
 /// Three children of 8428347ffffffff, that cell, and two of the children again.
 const OVERLAPPING: &str = "85283463fffffff\n85283467fffffff\n8528346bfffffff\n\
      8428347ffffffff\n85283463fffffff\n85283467fffffff\n";
+
+/// A cell.
+const ONE: &str = "85283473fffffff\n";
+
+/// An edge that leaves it.
+const EDGE: &str = "115283473fffffff\n";
 
 /// A child of 8428347ffffffff, and a cell apart from it: a region, and zones.
 const APART: &str = "85283463fffffff\n8009fffffffffff\n";
@@ -93,6 +100,9 @@ fn main(rt: HostRuntime) -> io::Result<()> {
         (Command::AreCoveredCells, (OVERLAPPING, APART)),
         (Command::CellsToZones, (OVERLAPPING, APART)),
         (Command::CountCellsInZones, (OVERLAPPING, APART)),
+        (Command::CellsToChildren { res: 6 }, (ONE, "")),
+        (Command::GridDisksUnsafe { k: 1 }, (ONE, file.as_str())),
+        (Command::GetDirectedEdgeDestinations, (EDGE, file.as_str())),
     ];
     let mut stdout = rt.stdout();
     for (command, reads) in &runs {

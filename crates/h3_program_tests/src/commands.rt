@@ -3,7 +3,7 @@
 use h3_requests::{CellFunction, Command};
 
 /// A command of each variant, of these words, with each function of one index.
-fn commands(cell: Option<u64>, to: Option<u64>, position: u64, res: i32) -> [Command; 46] {
+fn commands(cell: Option<u64>, to: Option<u64>, position: u64, res: i32) -> [Command; 51] {
     let edge = cell;
     let k = res;
     [
@@ -57,6 +57,11 @@ fn commands(cell: Option<u64>, to: Option<u64>, position: u64, res: i32) -> [Com
         Command::ForEach(CellFunction::CellToChildPos { res }),
         Command::ForEach(CellFunction::GetDirectedEdgeOrigin),
         Command::ForEach(CellFunction::OriginToDirectedEdges),
+        Command::CellsToChildren { res },
+        Command::GridDisksUnsafe { k },
+        Command::GridDisksDistancesUnsafe { k },
+        Command::GridRingsUnsafe { k },
+        Command::GetDirectedEdgeDestinations,
     ]
 }
 
@@ -83,7 +88,7 @@ fn only_the_same_commands_are_equal(rt: HostRuntime) {
 }
 
 /// Words of commands, and how many commands differ by them from those of 1, 2, 3 and 4: 18 commands
-/// have a cell and 3 an edge, 2 another cell, 1 a position, 16 a resolution and 3 a radius.
+/// have a cell and 3 an edge, 2 another cell, 1 a position, 17 a resolution and 6 a radius.
 static OTHER_WORDS: [(Option<u64>, Option<u64>, u64, i32, usize); 7] = [
     (Some(1), Some(2), 3, 4, 0),
     (None, Some(2), 3, 4, 21),
@@ -91,7 +96,7 @@ static OTHER_WORDS: [(Option<u64>, Option<u64>, u64, i32, usize); 7] = [
     (Some(1), None, 3, 4, 2),
     (Some(1), Some(5), 3, 4, 2),
     (Some(1), Some(2), 5, 4, 1),
-    (Some(1), Some(2), 3, 5, 19),
+    (Some(1), Some(2), 3, 5, 23),
 ];
 
 #[test]

@@ -168,6 +168,41 @@ fn reads_an_edge_over_a_table(rt: HostRuntime) {
     }
 }
 
+/// Lines of commands that answer a list over a table.
+static OF_A_LIST_OVER_A_TABLE: [(&str, Command); 6] = [
+    (
+        "h3 gridDisksUnsafe -k 2 --table t",
+        Command::GridDisksUnsafe { k: 2 },
+    ),
+    (
+        "h3 gridDisksUnsafe --table=t --csv -k2147483647 --column cell --keep-going",
+        Command::GridDisksUnsafe { k: 2147483647 },
+    ),
+    (
+        "h3 gridDisksDistancesUnsafe --table t -k=0 --field 2",
+        Command::GridDisksDistancesUnsafe { k: 0 },
+    ),
+    (
+        "h3 gridRingsUnsafe -k 1 --table t",
+        Command::GridRingsUnsafe { k: 1 },
+    ),
+    (
+        "h3 getDirectedEdgeDestinations --table t",
+        Command::GetDirectedEdgeDestinations,
+    ),
+    (
+        "h3 getDirectedEdgeDestinations --column edge --as to --table=t",
+        Command::GetDirectedEdgeDestinations,
+    ),
+];
+
+#[test]
+fn reads_lists_over_a_table(rt: HostRuntime) {
+    for (line, command) in &OF_A_LIST_OVER_A_TABLE {
+        assert!(&rt; asks_over(rt.alloc(), line, *command, "t"), "{line}");
+    }
+}
+
 /// Lines of commands over a region, and its path.
 static OVER_A_REGION: [(&str, Command, &str); 5] = [
     (

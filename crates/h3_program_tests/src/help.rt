@@ -96,7 +96,7 @@ fn refuses_the_version_elsewhere(rt: HostRuntime) {
 }
 
 /// The words that name the commands.
-static COMMAND_WORDS: [&str; 46] = [
+static COMMAND_WORDS: [&str; 51] = [
     "isValidCell",
     "getResolution",
     "getBaseCellNumber",
@@ -139,9 +139,14 @@ static COMMAND_WORDS: [&str; 46] = [
     "cellsToParents",
     "cellsToCenterChildren",
     "cellsToLastChildren",
+    "cellsToChildren",
     "cellsToChildrenSizes",
     "cellsToChildPositions",
+    "gridDisksUnsafe",
+    "gridDisksDistancesUnsafe",
+    "gridRingsUnsafe",
     "getDirectedEdgeOrigins",
+    "getDirectedEdgeDestinations",
     "originsToDirectedEdges",
 ];
 
@@ -232,7 +237,7 @@ fn help_says_what_a_file_may_be_refused_for(rt: HostRuntime) {
 }
 
 /// How a list is given to each command that reads one.
-static LIST_USAGES: [(&str, &str); 22] = [
+static LIST_USAGES: [(&str, &str); 27] = [
     ("h3 compactCells -h", "Usage: h3 compactCells < cells\n"),
     (
         "h3 uncompactCells -h",
@@ -288,6 +293,10 @@ static LIST_USAGES: [(&str, &str); 22] = [
         "Usage: h3 cellsToLastChildren --resolution <resolution> < cells\n",
     ),
     (
+        "h3 cellsToChildren -h",
+        "Usage: h3 cellsToChildren --resolution <resolution> < cells\n",
+    ),
+    (
         "h3 cellsToChildrenSizes -h",
         "Usage: h3 cellsToChildrenSizes --resolution <resolution> < cells\n",
     ),
@@ -296,8 +305,24 @@ static LIST_USAGES: [(&str, &str); 22] = [
         "Usage: h3 cellsToChildPositions --resolution <resolution> < cells\n",
     ),
     (
+        "h3 gridDisksUnsafe -h",
+        "Usage: h3 gridDisksUnsafe -k <k> --table <table> < cells\n",
+    ),
+    (
+        "h3 gridDisksDistancesUnsafe -h",
+        "Usage: h3 gridDisksDistancesUnsafe -k <k> --table <table> < cells\n",
+    ),
+    (
+        "h3 gridRingsUnsafe -h",
+        "Usage: h3 gridRingsUnsafe -k <k> --table <table> < cells\n",
+    ),
+    (
         "h3 getDirectedEdgeOrigins -h",
         "Usage: h3 getDirectedEdgeOrigins < edges\n",
+    ),
+    (
+        "h3 getDirectedEdgeDestinations -h",
+        "Usage: h3 getDirectedEdgeDestinations --table <table> < edges\n",
     ),
     (
         "h3 originsToDirectedEdges -h",
@@ -306,7 +331,7 @@ static LIST_USAGES: [(&str, &str); 22] = [
 ];
 
 /// Lines that ask for help of a command that reads rows, and what it says of them.
-static ROWS_HELP: [(&str, &str); 15] = [
+static ROWS_HELP: [(&str, &str); 19] = [
     ("h3 cellsToParents --help", "\nRows:\n"),
     ("h3 cellsToParents --help", "--field <number>"),
     ("h3 cellsToParents --help", "--column <column>"),
@@ -322,6 +347,10 @@ static ROWS_HELP: [(&str, &str); 15] = [
     ("h3 getResolutions --help", "\nRows:\n"),
     ("h3 areCoveredCells --help", "--keep-going "),
     ("h3 cellsToZones --help", "--csv "),
+    ("h3 cellsToChildren --help", "--keep-going "),
+    ("h3 gridDisksUnsafe --help", "--as <name>"),
+    ("h3 gridDisksDistancesUnsafe --help", "--keep-going "),
+    ("h3 getDirectedEdgeDestinations --help", "--keep-going "),
     ("h3 uncompactCells --help", "\nRows:\n"),
     ("h3 intersectCells --help", "--field <number>"),
     ("h3 countCellsInZones --help", "--csv "),
@@ -350,11 +379,16 @@ fn help_says_how_a_list_is_given(rt: HostRuntime) {
 }
 
 /// Lines that ask for help of a command that tells an error of a list with its line.
-static LINE_HELP: [&str; 4] = [
+static LINE_HELP: [&str; 9] = [
     "h3 uniteCells --help",
     "h3 areValidDirectedEdges --help",
     "h3 cellsToParents --help",
     "h3 originsToDirectedEdges --help",
+    "h3 cellsToChildren --help",
+    "h3 gridDisksUnsafe --help",
+    "h3 gridDisksDistancesUnsafe --help",
+    "h3 gridRingsUnsafe --help",
+    "h3 getDirectedEdgeDestinations --help",
 ];
 
 #[test]
@@ -362,396 +396,5 @@ fn help_says_that_an_error_of_a_list_is_told_with_its_line(rt: HostRuntime) {
     let said = "as line 2: error 1: E_FAILED.\n";
     for line in &LINE_HELP {
         assert!(&rt; help_says(rt.alloc(), line, said), "{line}");
-    }
-}
-
-/// What each command answers, as the list of commands says it, and as its own help does.
-static ABOUT: [(&str, &str, &str); 46] = [
-    (
-        "isValidCell",
-        "Whether an index is a valid cell",
-        "Whether an index is a valid cell",
-    ),
-    (
-        "getResolution",
-        "The resolution of a cell",
-        "The resolution of a cell",
-    ),
-    (
-        "getBaseCellNumber",
-        "The base cell of a cell",
-        "The base cell of a cell",
-    ),
-    (
-        "isPentagon",
-        "Whether a cell is a pentagon",
-        "Whether a cell is a pentagon",
-    ),
-    (
-        "isResClassIII",
-        "Whether the resolution of a cell is Class III",
-        "Whether the resolution of a cell is Class III",
-    ),
-    (
-        "getNumCells",
-        "How many cells a resolution has",
-        "How many cells a resolution has",
-    ),
-    (
-        "getRes0Cells",
-        "The 122 cells of resolution 0",
-        "The 122 cells of resolution 0",
-    ),
-    (
-        "getPentagons",
-        "The twelve pentagons of a resolution",
-        "The twelve pentagons of a resolution",
-    ),
-    (
-        "cellToParent",
-        "The ancestor of a cell at a resolution",
-        "The ancestor of a cell at a resolution",
-    ),
-    (
-        "cellToCenterChild",
-        "The center descendant of a cell at a resolution",
-        "The center descendant of a cell at a resolution",
-    ),
-    (
-        "cellToLastChild",
-        "The last descendant of a cell at a resolution",
-        "The last descendant of a cell at a resolution, which has the greatest number",
-    ),
-    (
-        "cellToChildren",
-        "The descendants of a cell at a resolution",
-        "The descendants of a cell at a resolution, ascending",
-    ),
-    (
-        "cellToChildrenSize",
-        "How many descendants a cell has at a resolution",
-        "How many descendants a cell has at a resolution",
-    ),
-    (
-        "cellToChildPos",
-        "The position of a cell below an ancestor",
-        "The position of a cell among the descendants of its ancestor at a resolution",
-    ),
-    (
-        "childPosToCell",
-        "The descendant of a cell at a position",
-        "The descendant of a cell that stands at a position among those of a resolution",
-    ),
-    (
-        "compactCells",
-        "The cells, compacted",
-        "The compacted list of the cells, of any resolutions, on standard input; error 10 where two overlap",
-    ),
-    (
-        "uncompactCells",
-        "The descendants of the cells at a resolution",
-        "The descendants at a resolution of each cell listed on standard input",
-    ),
-    (
-        "uncompactCellsSize",
-        "How many cells uncompactCells prints",
-        "How many cells uncompactCells prints for the cells listed on standard input",
-    ),
-    (
-        "uniteCells",
-        "What the cells cover, compacted",
-        "The compacted list of what the cells on standard input cover, which may repeat and overlap",
-    ),
-    (
-        "intersectCells",
-        "What both the cells and a region cover, compacted",
-        "What both the cells on standard input and a region cover, compacted",
-    ),
-    (
-        "subtractCells",
-        "What the cells cover and a region does not",
-        "What the cells on standard input cover and a region does not, compacted",
-    ),
-    (
-        "areCoveredCells",
-        "Whether a region covers each cell",
-        "Whether a region covers each cell listed on standard input",
-    ),
-    (
-        "cellsToZones",
-        "The zone of each cell",
-        "The zone of each cell listed on standard input, 0 where it has none",
-    ),
-    (
-        "countCellsInZones",
-        "How many of the cells each zone has",
-        "How many of the cells listed on standard input each zone has",
-    ),
-    (
-        "gridDiskUnsafe",
-        "The cells within a radius of a cell, ring by ring",
-        "The cells within a radius of a cell, ring by ring",
-    ),
-    (
-        "gridDiskDistancesUnsafe",
-        "The same, each with the number of its ring",
-        "The cells within a radius of a cell, each with the number of its ring",
-    ),
-    (
-        "gridRingUnsafe",
-        "The cells of the ring of a radius around a cell",
-        "The cells of the ring of a radius around a cell",
-    ),
-    (
-        "areNeighborCells",
-        "Whether two cells are neighbors",
-        "Whether two cells are neighbors",
-    ),
-    (
-        "cellsToDirectedEdge",
-        "The directed edge from a cell to its neighbor",
-        "The directed edge from a cell to its neighbor",
-    ),
-    (
-        "isValidDirectedEdge",
-        "Whether an index is a valid directed edge",
-        "Whether an index is a valid directed edge",
-    ),
-    (
-        "getDirectedEdgeOrigin",
-        "The cell that a directed edge leaves",
-        "The cell that a directed edge leaves",
-    ),
-    (
-        "getDirectedEdgeDestination",
-        "The cell that a directed edge leads to",
-        "The cell that a directed edge leads to",
-    ),
-    (
-        "originToDirectedEdges",
-        "The directed edges that leave a cell",
-        "The directed edges that leave a cell",
-    ),
-    (
-        "areValidCells",
-        "Whether each index is a valid cell",
-        "Whether each index listed on standard input is a valid cell",
-    ),
-    (
-        "areValidDirectedEdges",
-        "Whether each index is a valid directed edge",
-        "Whether each index listed on standard input is a valid directed edge",
-    ),
-    (
-        "getResolutions",
-        "The resolution of each cell",
-        "The resolution of each cell listed on standard input",
-    ),
-    (
-        "getBaseCellNumbers",
-        "The base cell of each cell",
-        "The base cell of each cell listed on standard input",
-    ),
-    (
-        "arePentagons",
-        "Whether each cell is a pentagon",
-        "Whether each cell listed on standard input is a pentagon",
-    ),
-    (
-        "areResClassIII",
-        "Whether the resolution of each cell is Class III",
-        "Whether the resolution of each cell listed on standard input is Class III",
-    ),
-    (
-        "cellsToParents",
-        "The ancestor of each cell at a resolution",
-        "The ancestor at a resolution of each cell listed on standard input",
-    ),
-    (
-        "cellsToCenterChildren",
-        "The center descendant of each cell",
-        "The center descendant at a resolution of each cell listed on standard input",
-    ),
-    (
-        "cellsToLastChildren",
-        "The last descendant of each cell",
-        "The last descendant at a resolution of each cell listed on standard input",
-    ),
-    (
-        "cellsToChildrenSizes",
-        "How many descendants each cell has",
-        "How many descendants at a resolution each cell listed on standard input has",
-    ),
-    (
-        "cellsToChildPositions",
-        "The position of each cell below an ancestor",
-        "The position of each cell listed on standard input among the descendants of its ancestor at a resolution",
-    ),
-    (
-        "getDirectedEdgeOrigins",
-        "The cell that each directed edge leaves",
-        "The cell that each directed edge listed on standard input leaves",
-    ),
-    (
-        "originsToDirectedEdges",
-        "The directed edges that leave each cell",
-        "The directed edges that leave each cell listed on standard input",
-    ),
-];
-
-/// Whether the help that a line asks for has a line of a form and what is said of it.
-fn help_tells(alloc: Global, line: &str, form: &str, said: &str) -> bool {
-    match read(alloc, line) {
-        Err(WordsFault::Help(text)) => tells(text.as_str(), form, said),
-        _ => false,
-    }
-}
-
-/// Whether a text has a line of a form and what is said of it, with blanks between them alone.
-fn tells(text: &str, form: &str, said: &str) -> bool {
-    text.lines().any(|line| is_told(line, form, said))
-}
-
-/// Whether a line is a form and what is said of it.
-fn is_told(line: &str, form: &str, said: &str) -> bool {
-    match line.trim().strip_prefix(form) {
-        Some(rest) => rest.trim() == said,
-        None => false,
-    }
-}
-
-/// Whether the help that a line asks for begins with what a command answers.
-fn help_begins(alloc: Global, line: &str, about: &str) -> bool {
-    match read(alloc, line) {
-        Err(WordsFault::Help(text)) => text.lines().next() == Some(about),
-        _ => false,
-    }
-}
-
-#[test]
-fn help_says_what_each_command_answers(rt: HostRuntime) {
-    for (word, listed, about) in &ABOUT {
-        assert!(&rt;
-            help_tells(rt.alloc(), "h3 --help", word, listed),
-            "{word} in the list"
-        );
-        let line = format!(in rt.alloc(); "h3 {word} --help");
-        match line {
-            Ok(line) => assert!(&rt; help_begins(rt.alloc(), line.as_str(), about), "{word}"),
-            Err(_) => assert!(&rt; false),
-        }
-    }
-}
-
-/// Commands, the forms of their options, and what each is.
-static OPTION_TEXTS: [(&str, &str, &str); 22] = [
-    (
-        "h3 getResolution -h",
-        "-c, --cell <cell>",
-        "A cell's index in hexadecimal",
-    ),
-    (
-        "h3 getNumCells -h",
-        "-r, --resolution <resolution>",
-        "A resolution, 0 to 15",
-    ),
-    (
-        "h3 cellToParent -h",
-        "-c, --cell <cell>",
-        "A cell's index in hexadecimal",
-    ),
-    (
-        "h3 cellToParent -h",
-        "-r, --resolution <resolution>",
-        "A resolution, 0 to 15",
-    ),
-    (
-        "h3 childPosToCell -h",
-        "--position <position>",
-        "A position, from 0",
-    ),
-    (
-        "h3 uncompactCells -h",
-        "-r, --resolution <resolution>",
-        "A resolution, 0 to 15",
-    ),
-    (
-        "h3 uncompactCellsSize -h",
-        "-r, --resolution <resolution>",
-        "A resolution, 0 to 15",
-    ),
-    (
-        "h3 intersectCells -h",
-        "--region <region>",
-        "The file of the region, one cell a line",
-    ),
-    (
-        "h3 subtractCells -h",
-        "--region <region>",
-        "The file of the region, one cell a line",
-    ),
-    (
-        "h3 areCoveredCells -h",
-        "--region <region>",
-        "The file of the region, one cell a line",
-    ),
-    (
-        "h3 cellsToZones -h",
-        "--zones <zones>",
-        "The file of the zones, one cell a line",
-    ),
-    (
-        "h3 countCellsInZones -h",
-        "--zones <zones>",
-        "The file of the zones, one cell a line",
-    ),
-    (
-        "h3 gridDiskUnsafe -h",
-        "-k <k>",
-        "A radius, from 0: how many steps of the grid",
-    ),
-    (
-        "h3 gridDiskDistancesUnsafe -h",
-        "-k <k>",
-        "A radius, from 0: how many steps of the grid",
-    ),
-    (
-        "h3 gridRingUnsafe -h",
-        "-k <k>",
-        "A radius, from 0: how many steps of the grid",
-    ),
-    (
-        "h3 gridRingUnsafe -h",
-        "--table <table>",
-        "The file of the table of base cells",
-    ),
-    (
-        "h3 areNeighborCells -h",
-        "--to <to>",
-        "A second cell's index in hexadecimal",
-    ),
-    (
-        "h3 cellsToDirectedEdge -h",
-        "--table <table>",
-        "The file of the table of base cells",
-    ),
-    (
-        "h3 isValidDirectedEdge -h",
-        "--edge <edge>",
-        "A directed edge's index in hexadecimal",
-    ),
-    (
-        "h3 getDirectedEdgeDestination -h",
-        "--edge <edge>",
-        "A directed edge's index in hexadecimal",
-    ),
-    ("h3 getResolution -h", "-h, --help", "Print help"),
-    ("h3 --help", "-V, --version", "Print the version"),
-];
-
-#[test]
-fn help_says_what_each_option_is(rt: HostRuntime) {
-    for (line, form, said) in &OPTION_TEXTS {
-        assert!(&rt; help_tells(rt.alloc(), line, form, said), "{line} {form}");
     }
 }

@@ -17,6 +17,8 @@ mod files;
 #[cfg(test)]
 mod help;
 #[cfg(test)]
+mod help_texts;
+#[cfg(test)]
 mod listed_rows;
 #[cfg(test)]
 mod lists;
@@ -46,6 +48,8 @@ mod rows_words;
 mod runs;
 #[cfg(test)]
 mod table_files;
+#[cfg(test)]
+mod table_lists;
 #[cfg(test)]
 mod walks;
 #[cfg(test)]

@@ -196,8 +196,41 @@ fn refuses_other_words_of_functions_of_each_index(rt: HostRuntime) {
     }
 }
 
+/// Invalid lines of commands that answer each line of a list over a table, and of children.
+static OTHER_WORDS_OF_LISTS_OVER_TABLES: [&str; 22] = [
+    "h3 gridDisksUnsafe -k 1",
+    "h3 gridDisksUnsafe --table t",
+    "h3 gridDisksUnsafe -c 0 -k 1 --table t",
+    "h3 gridDisksUnsafe -k -1 --table t",
+    "h3 gridDisksUnsafe -k 2147483648 --table t",
+    "h3 gridDisksUnsafe -k 1 -k 1 --table t",
+    "h3 gridDisksUnsafe -k 1 --table t cells",
+    "h3 gridDisksUnsafe -k 1 --table t --keep-going",
+    "h3 gridDisksDistancesUnsafe -k 1",
+    "h3 gridDisksDistancesUnsafe -k 1 --table t -r 4",
+    "h3 gridDisksDistancesUnsafe -k 1 --table t --field 1 --as distance",
+    "h3 gridRingsUnsafe --table t",
+    "h3 gridRingsUnsafe -k 1 --table t --table t",
+    "h3 gridRingsUnsafe -k 1 --region r",
+    "h3 getDirectedEdgeDestinations",
+    "h3 getDirectedEdgeDestinations --table",
+    "h3 getDirectedEdgeDestinations --table t --edge 0",
+    "h3 getDirectedEdgeDestinations --table t -k 1",
+    "h3 cellsToChildren",
+    "h3 cellsToChildren -r 6 -c 0",
+    "h3 cellsToChildren -k 1",
+    "h3 cellsToChildren -r 6 --table t",
+];
+
+#[test]
+fn refuses_other_words_of_lists_over_tables(rt: HostRuntime) {
+    for line in &OTHER_WORDS_OF_LISTS_OVER_TABLES {
+        assert!(&rt; is_invalid(rt.alloc(), line), "{line}");
+    }
+}
+
 /// Invalid lines, and what is said of each.
-static SAID: [(&str, &str); 14] = [
+static SAID: [(&str, &str); 16] = [
     (
         "h3 getNumCells -r -1",
         "invalid value '-1' for '--resolution <resolution>': -1 is not in 0..=2147483647",
@@ -239,6 +272,14 @@ static SAID: [(&str, &str); 14] = [
         "Usage: h3 subtractCells --region <region> < cells\n",
     ),
     ("h3 cellsToZones", "--zones <zones>"),
+    (
+        "h3 gridDisksUnsafe -k 1 --table t cells",
+        "Usage: h3 gridDisksUnsafe -k <k> --table <table> < cells\n",
+    ),
+    (
+        "h3 gridRingsUnsafe -k -1 --table t",
+        "invalid value '-1' for '-k <k>'",
+    ),
 ];
 
 /// Whether a line is invalid, and a text is said of it.

@@ -86,7 +86,7 @@ fn reads_a_cell(rt: HostRuntime) {
 }
 
 /// Lines of commands with a resolution, and on a list.
-static OF_A_RESOLUTION: [(&str, Command); 6] = [
+static OF_A_RESOLUTION: [(&str, Command); 8] = [
     ("h3 getNumCells -r 15", Command::GetNumCells { res: 15 }),
     (
         "h3 getPentagons --resolution=2147483647",
@@ -99,6 +99,14 @@ static OF_A_RESOLUTION: [(&str, Command); 6] = [
         Command::UncompactCellsSize { res: 16 },
     ),
     ("h3 uniteCells", Command::UniteCells),
+    (
+        "h3 cellsToChildren -r 6",
+        Command::CellsToChildren { res: 6 },
+    ),
+    (
+        "h3 cellsToChildren --field=1 --resolution 2147483647",
+        Command::CellsToChildren { res: 2147483647 },
+    ),
 ];
 
 #[test]

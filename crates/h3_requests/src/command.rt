@@ -216,6 +216,30 @@ pub enum Command {
         cell: Option<u64>,
     },
 
+    /// The descendants at a resolution of each cell of a list.
+    CellsToChildren {
+        res: i32,
+    },
+
+    /// The cells within a radius of each cell of a list, over a base cell table.
+    GridDisksUnsafe {
+        k: i32,
+    },
+
+    /// The cells within a radius of each cell of a list, each with the number of its ring, over a
+    /// base cell table.
+    GridDisksDistancesUnsafe {
+        k: i32,
+    },
+
+    /// The cells of the ring of a radius around each cell of a list, over a base cell table.
+    GridRingsUnsafe {
+        k: i32,
+    },
+
+    /// The cell that each edge of a list leads to, over a base cell table.
+    GetDirectedEdgeDestinations,
+
     /// What a function of one index returns for each index of a list.
     ForEach(CellFunction),
 }

@@ -3,7 +3,8 @@ use Rattle.std.proofs.Common.{◌≡◌, ℕ, ◌<◌, Bool, true, List, [], ◌
 use Rattle.std.proofs.KnownBytes.{Appends-nil, Appends-trans}
 use Rattle.std.specs.Io.KnownBytes.{Appends}
 use Rattle.h3_lines.specs.Answer.{Answer, before, written}
-use Rattle.h3_rows.specs.Answering.{Answered, Breaks, EndsBy, Moves, TakesSome}
+use Rattle.h3_lines.specs.Answering.{Breaks, Moves, TakesSome}
+use Rattle.h3_rows.specs.Answering.{Answered, EndsBy}
 use Rattle.h3_rows.specs.EachLaws.{some_after}
 use Rattle.h3_rows.specs.Row.{Piece}
 use Rattle.h3_rows.specs.RowsAnswer.{State}

@@ -1,10 +1,12 @@
 -- Answers that are put beside their row, one after another.
-use Rattle.std.proofs.Common.{◌≡◌, ℕ, Bool, false, List, [], ◌∷◌, ◌++◌, ap, ◌∙◌, refl}
+use Rattle.std.proofs.Common.{◌≡◌, ℕ, ◌==◌, Bool, true, false, List, [], ◌∷◌, ◌++◌, sym, ap, ◌∙◌, refl, subst, inl, inr, append_assoc, append-nil, eqb-true}
+use Rattle.std.specs.List.{flat_map}
+use Rattle.h3_lines.specs.Answer.{AreLines}
 use Rattle.h3_rows.specs.Row.{Piece, cut}
 use Rattle.h3_rows.specs.RowsAnswer.{each_with, row_with, rows_with}
 use Rattle.h3_rows.specs.Splitting.{CutsAt, Uncut}
 use Rattle.h3_rows.proofs.Finding.{cuts_first}
-use Rattle.h3_rows.proofs.Pieces.{cut_at_end, first_piece}
+use Rattle.h3_rows.proofs.Pieces.{cut_at_end, first_piece, uncut_none, uncut_then}
 
 each_first : (separator : ℕ) (line : List ℕ) (a : Piece) (rest ps : List Piece) (p : Piece) → rest ≡ p ∷ ps → each_with separator line (a ∷ rest) ≡ row_with separator line a.0 ++ each_with separator line rest
 each_first separator line a rest ps p is = rw is refl
@@ -16,3 +18,54 @@ first_with separator line text answer after c =
 
 pub last_with : (separator : ℕ) (line text : List ℕ) (end : Bool) → Uncut 10 false false text end → rows_with separator line text ≡ []
 last_with separator line text end u = ap (each_with separator line) (cut_at_end 10 false false text u.uncut)
+
+-- ---- answers one after another
+
+-- a line that grows by a byte that is no line feed
+grows : (line : List ℕ) (b : ℕ) → Uncut 10 false false line false → (b == 10) ≡ false → Uncut 10 false false (line ++ b ∷ []) false
+grows line b u other = uncut_then 10 false line (b ∷ []) u (record { uncut = rw other refl; inside_is = refl })
+
+line_first : (separator : ℕ) (row line after : List ℕ) → Uncut 10 false false line false → rows_with separator row (line ++ 10 ∷ after) ≡ row_with separator row line ++ rows_with separator row after
+line_first separator row line after u = first_with separator row (line ++ 10 ∷ after) line after (record { begins = u; split = refl })
+
+-- lines, of which the first has begun, and more
+lines_more : (separator : ℕ) (row line front more : List ℕ) → Uncut 10 false false line false
+    → rows_with separator row (line ++ (front ++ 10 ∷ more)) ≡ rows_with separator row (line ++ (front ++ 10 ∷ [])) ++ rows_with separator row more
+lines_more separator row line [] more u =
+    line_first separator row line more u ∙ ap (λ l. l ++ rows_with separator row more) (sym (line_first separator row line [] u ∙ append-nil (row_with separator row line)))
+lines_more separator row line (b ∷ bs) more u =
+    let go : (t : Bool) → (b == 10) ≡ t → rows_with separator row (line ++ (b ∷ (bs ++ 10 ∷ more))) ≡ rows_with separator row (line ++ (b ∷ (bs ++ 10 ∷ []))) ++ rows_with separator row more =
+    λ t. elim t as (λ t. (b == 10) ≡ t → rows_with separator row (line ++ (b ∷ (bs ++ 10 ∷ more))) ≡ rows_with separator row (line ++ (b ∷ (bs ++ 10 ∷ []))) ++ rows_with separator row more) [
+      | true ↦ λ is. (
+          let feed : b ≡ 10 = eqb-true b 10 is in
+          let first : (l : List ℕ) → rows_with separator row (line ++ (b ∷ l)) ≡ row_with separator row line ++ rows_with separator row l = λ l. ap (λ x. rows_with separator row (line ++ (x ∷ l))) feed ∙ line_first separator row line l u in
+          first (bs ++ 10 ∷ more) ∙ ap (λ l. row_with separator row line ++ l) (lines_more separator row [] bs more (uncut_none 10 false false)) ∙ sym (append_assoc (row_with separator row line) (rows_with separator row (bs ++ 10 ∷ [])) (rows_with separator row more))
+          ∙ ap (λ l. l ++ rows_with separator row more) (sym (first (bs ++ 10 ∷ []))))
+      | false ↦ λ other. (
+          let next : (l : List ℕ) → line ++ (b ∷ l) ≡ (line ++ b ∷ []) ++ l = λ l. sym (append_assoc line (b ∷ []) l) in
+          ap (rows_with separator row) (next (bs ++ 10 ∷ more)) ∙ lines_more separator row (line ++ b ∷ []) bs more (grows line b u other) ∙ ap (λ l. rows_with separator row l ++ rows_with separator row more) (sym (next (bs ++ 10 ∷ []))))
+    ] in
+    go (b == 10) refl
+
+pub with_more : (separator : ℕ) (row text more : List ℕ) → AreLines text → rows_with separator row (text ++ more) ≡ rows_with separator row text ++ rows_with separator row more
+with_more separator row text more (inl none) = rw none refl
+with_more separator row text more (inr (front, is)) =
+    ap (λ l. rows_with separator row (l ++ more)) is ∙ ap (rows_with separator row) (append_assoc front (10 ∷ []) more) ∙ lines_more separator row [] front more (uncut_none 10 false false)
+    ∙ ap (λ l. rows_with separator row l ++ rows_with separator row more) (sym is)
+
+-- the lines of items
+pub all_lines : {I : Type 0} (line : I → List ℕ) → ((i : I) → AreLines (line i)) → (items : List I) → AreLines (flat_map line items)
+all_lines line are [] = inl refl
+all_lines line are (i ∷ items) = elim (all_lines line are items) [
+  | inl none ↦ subst AreLines (sym (ap (λ l. line i ++ l) none ∙ append-nil (line i))) (are i)
+  | inr (front, is) ↦ inr (line i ++ front, ap (λ l. line i ++ l) is ∙ sym (append_assoc (line i) front (10 ∷ [])))
+]
+
+-- the bytes of a header with two names, by parts
+pub names_put : (held body first second more ending names : List ℕ) (separator : ℕ) → names ≡ first ++ (separator ∷ (second ++ more))
+    → ((held ++ (body ++ (separator ∷ (first ++ [])))) ++ ([] ++ (separator ∷ (second ++ more)))) ++ ending ≡ held ++ (body ++ (separator ∷ (names ++ ending)))
+names_put held body first second more ending names separator is =
+    let last = separator ∷ (second ++ more) in
+    let front : body ++ (separator ∷ (first ++ [])) ≡ body ++ (separator ∷ first) = ap (λ l. body ++ (separator ∷ l)) (append-nil first) in
+    ap (λ l. ((held ++ l) ++ last) ++ ending) front ∙ append_assoc (held ++ (body ++ (separator ∷ first))) last ending ∙ append_assoc held (body ++ (separator ∷ first)) (last ++ ending)
+    ∙ ap (λ l. held ++ l) (append_assoc body (separator ∷ first) (last ++ ending) ∙ ap (λ l. body ++ (separator ∷ l)) (sym (append_assoc first last ending) ∙ ap (λ l. l ++ ending) (sym is)))

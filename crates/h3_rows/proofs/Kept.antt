@@ -2,7 +2,7 @@
 use Rattle.std.proofs.Common.{◌≡◌, ℕ, ◌+◌, ◌-◌, ◌==◌, Bool, true, false, not, ◌&&◌, List, [], ◌∷◌, ◌++◌, length, take, get_or, if◌then◌else◌, sym, ap, ◌∙◌, refl, append_assoc, eqb-true, take_all, arith}
 use Rattle.std.proofs.lemmas.Bool.Decides.{nat_tests}
 use Rattle.std.proofs.lemmas.List.{take_more}
-use Rattle.h3_rows.specs.Laws.{FieldsAreKept, RowsAreWhole}
+use Rattle.h3_rows.specs.Laws.{FieldsAreKept, PairsAreKept, RowsAreWhole}
 use Rattle.h3_rows.specs.Row.{Piece, cut, ends_in_return, inside_after, turned, with_first}
 use Rattle.h3_rows.proofs.Finding.{same_mark}
 use Rattle.h3_rows.proofs.Pieces.{cut_at_end, first_piece}
@@ -50,6 +50,12 @@ module _ (mark : ℕ) (quotes : Bool) (unquoted : (34 == mark) ≡ false) where
 pub fields_are_kept : FieldsAreKept
 fields_are_kept separator quotes row a other closed uncut outside =
     cut-append separator quotes other false row a closed ∙ ap (λ l. cut separator quotes false row ++ l) (cut_at_end separator quotes false a uncut ∙ ap (λ o. (a, o) ∷ []) outside)
+
+pub pairs_are_kept : PairsAreKept
+pairs_are_kept separator quotes row a b other closed uncut outside uncut' outside' =
+    let first : cut separator quotes false a ≡ (a, false) ∷ [] = cut_at_end separator quotes false a uncut ∙ ap (λ o. (a, o) ∷ []) outside in
+    let second : cut separator quotes false b ≡ (b, false) ∷ [] = cut_at_end separator quotes false b uncut' ∙ ap (λ o. (b, o) ∷ []) outside' in
+    cut-append separator quotes other false row (a ++ (separator ∷ b)) closed ∙ ap (λ l. cut separator quotes false row ++ l) (cut-append separator quotes other false a b outside ∙ ap (λ l. l ++ cut separator quotes false b) first ∙ ap (λ l. (a, false) ∷ l) second)
 
 pub return_last : (line : List ℕ) → (get_or line (length line - 1) 0 == 13) ≡ true → line ≡ take (length line - 1) line ++ 13 ∷ []
 return_last [] is = absurd (cc)

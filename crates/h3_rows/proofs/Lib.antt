@@ -5,6 +5,7 @@ pub mod Blocks
 pub mod EndsRows
 pub mod Feeds
 pub mod Finding
+pub mod Items
 pub mod Kept
 pub mod Lengths
 pub mod Masks

@@ -27,11 +27,11 @@ record StepStands (step : Step) (s : State) (line text : List ℕ) : Type 0 wher
 ended : {A : Type 0} (e : AnswerError) → (let r : Result (Unit {0}) AnswerError = Err e in r) ≡ Ok tt → A
 ended e is = absurd (cc)
 
-faulty_stands : (form : Form) (s : State) (line : List ℕ) (e : H3Error) (b : Bool) → form.keeps_going ≡ b → (faulty form s line e).answer.ending ≡ Ok tt → StepStands (faulty form s line e) s line (row_with form.separator line [])
+faulty_stands : (form : Form) (s : State) (line : List ℕ) (e : H3Error) (b : Bool) → form.keeps_going ≡ b → (faulty form s line e).answer.ending ≡ Ok tt → StepStands (faulty form s line e) s line (row_with form.separator line form.empty)
 faulty_stands form s line e true goes good = rw goes (record { ending = refl; output = refl; number = refl; before = refl })
 faulty_stands form s line e false goes good = absurd (let stops : (ends s e).answer.ending ≡ Ok tt = rw goes at good in cc)
 
-beside_stands : (form : Form) (s : State) (line output : List ℕ) (r : Result (Unit {0}) AnswerError) → (beside form s line output r).answer.ending ≡ Ok tt → StepStands (beside form s line output r) s line (answered_so form.separator line output r)
+beside_stands : (form : Form) (s : State) (line output : List ℕ) (r : Result (Unit {0}) AnswerError) → (beside form s line output r).answer.ending ≡ Ok tt → StepStands (beside form s line output r) s line (answered_so form line output r)
 beside_stands form s line output (Ok u) good = record { ending = refl; output = refl; number = refl; before = refl }
 beside_stands form s line output (Err (ending_by.Call e)) good = faulty_stands form s line e form.keeps_going refl good
 beside_stands form s line output (Err (ending_by.At n e)) good = absurd (cc)
@@ -41,7 +41,7 @@ beside_stands form s line output (Err (ending_by.Table e)) good = absurd (cc)
 beside_stands form s line output (Err (ending_by.FileAt f n e)) good = absurd (cc)
 beside_stands form s line output (Err (ending_by.File f e)) good = absurd (cc)
 
-said_stands : (form : Form) (answer : Option ℕ → Answer) (s : State) (line : List ℕ) (said : Result Said H3Error) → (answer_said form answer s line said).answer.ending ≡ Ok tt → StepStands (answer_said form answer s line said) s line (with_own form.separator answer line said)
+said_stands : (form : Form) (answer : Option ℕ → Answer) (s : State) (line : List ℕ) (said : Result Said H3Error) → (answer_said form answer s line said).answer.ending ≡ Ok tt → StepStands (answer_said form answer s line said) s line (with_own form answer line said)
 said_stands form answer s line (Err e) good = faulty_stands form s line e form.keeps_going refl good
 said_stands form answer s line (Ok Missing) good = record { ending = refl; output = refl; number = refl; before = refl }
 said_stands form answer s line (Ok (Index index)) good = beside_stands form s line (answer index).output (answer index).ending good
@@ -57,7 +57,7 @@ row_stands form answer k s p false true known malformed empty good =
 row_stands form answer k s p false false known malformed empty good =
     let said = row_said form s.number k (row_body p.0) in
     let is : row_step form answer s p ≡ answer_said form answer s p.0 said = rw (malformed, empty, known) refl in
-    let text : own_lines form answer k (s.number, p) ≡ with_own form.separator answer p.0 said = rw empty refl in
+    let text : own_lines form answer k (s.number, p) ≡ with_own form answer p.0 said = rw empty refl in
     subst (λ x. StepStands x s p.0 (own_lines form answer k (s.number, p))) (sym is) (subst (λ l. StepStands (answer_said form answer s p.0 said) s p.0 l) (sym text) (said_stands form answer s p.0 said (subst (λ x. x.answer.ending ≡ Ok tt) is good)))
 
 -- the error of the first answer is that of both

@@ -10,7 +10,8 @@ use Rattle.h3_lines.specs.declared.refusal.AnswerError.TheVariants.{At}
 use Rattle.h3_lines.specs.declared.refusal.ColumnError.{ColumnError}
 use Rattle.h3_lines.specs.declared.refusal.Refusal.{Refusal}
 use Rattle.h3_lines.specs.declared.refusal.Refusal.TheVariants.{Error}
-use Rattle.h3_rows.specs.Answering.{Answered, Breaks, EndsBy, Moves, StepEnds, StepsTo, held_of, pending_of, state_of}
+use Rattle.h3_lines.specs.Answering.{Breaks, Moves}
+use Rattle.h3_rows.specs.Answering.{Answered, EndsBy, StepEnds, StepsTo, held_of, pending_of, state_of}
 use Rattle.h3_rows.specs.Row.{Piece, ends_in_return, next_number, row_body}
 use Rattle.h3_rows.specs.RowsAnswer.{Form, State, Step, ends, faulty, goes_on, header_step, is_malformed, one_more, passed, row_step, row_with}
 use Rattle.h3_rows.specs.declared.state.RowState.{RowState}
@@ -49,10 +50,10 @@ module _ (s a : RowState) (k : ℕ) (known : s.before ≡ Some k) (line bytes : 
 
   pub puts_faulty : {S : Type 0} (taken : S → Option (List ℕ)) (failed : S → Bool) (form : Form) (step : Step) (e : H3Error) (bytes' : List ℕ) (x y : S) → form.keeps_going ≡ true → a.number ≡ next_number s.number line → a.before ≡ s.before
       → a.kept ≡ Some (one_more s.number e s.kept) → step ≡ faulty form (state_of s bytes) line e
-      → Moves taken failed (bytes ++ row_with form.separator line []) bytes' x y → StepsTo taken failed step (state_of a bytes') (held_of s.before bytes) (held_of a.before bytes') x y
+      → Moves taken failed (bytes ++ row_with form.separator line form.empty) bytes' x y → StepsTo taken failed step (state_of a bytes') (held_of s.before bytes) (held_of a.before bytes') x y
   puts_faulty taken failed form step e bytes' x y goes n b kept is m =
-      let after : faulty form (state_of s bytes) line e ≡ record { answer = written (row_with form.separator line []); after = state_of a bytes' } = rw (goes, n, b, kept, known) refl in
-      record { text = row_with form.separator line []; is = is ∙ after; moves = rw (b, known) m }
+      let after : faulty form (state_of s bytes) line e ≡ record { answer = written (row_with form.separator line form.empty); after = state_of a bytes' } = rw (goes, n, b, kept, known) refl in
+      record { text = row_with form.separator line form.empty; is = is ∙ after; moves = rw (b, known) m }
 
 -- bytes of a row's answer that are not all taken
 pub breaks_step : (s : RowState) (k : ℕ) (line text bytes : List ℕ) (step : Step) (e : Refusal) (sink : SinkUse) → s.before ≡ Some k → step ≡ goes_on (state_of s bytes) line text → Breaks (bytes ++ text) sink e → StepEnds step (held_of s.before bytes) e sink
@@ -62,10 +63,10 @@ breaks_step s k line text bytes step e sink known is b =
     (λ next. subst (λ l. EndsBy (before l (before text next)) e sink) (sym held) (breaks_ends bytes text next e sink b))
 
 pub breaks_faulty : (form : Form) (s : RowState) (k : ℕ) (line bytes : List ℕ) (error : H3Error) (step : Step) (e : Refusal) (sink : SinkUse) → form.keeps_going ≡ true → s.before ≡ Some k → step ≡ faulty form (state_of s bytes) line error
-    → Breaks (bytes ++ row_with form.separator line []) sink e → StepEnds step (held_of s.before bytes) e sink
+    → Breaks (bytes ++ row_with form.separator line form.empty) sink e → StepEnds step (held_of s.before bytes) e sink
 breaks_faulty form s k line bytes error step e sink goes known is b =
     let held : held_of s.before bytes ≡ bytes = rw known refl in
-    let text = row_with form.separator line [] in
+    let text = row_with form.separator line form.empty in
     subst (λ x. StepEnds x (held_of s.before bytes) e sink) (sym is)
     (λ next. rw goes (subst (λ l. EndsBy (before l (before text next)) e sink) (sym held) (breaks_ends bytes text next e sink b)))
 

@@ -1,9 +1,9 @@
 -- Rows that are answered one after another, with answers held back in a block. Private contracts and proofs alone cite
 -- this file.
-use Rattle.std.specs.Prelude.{◌≡◌, ℕ, ◌<◌, ◌⊎◌, ◌+◌, Bool, true, false, List, [], ◌∷◌, ◌++◌, length, Option, None, Some, Err}
+use Rattle.std.specs.Prelude.{◌≡◌, ℕ, ◌<◌, ◌+◌, Bool, true, false, List, [], ◌∷◌, ◌++◌, length, Option, None, Some, Err}
 use Rattle.std.specs.Io.KnownBytes.{Appends}
 use Rattle.h3_lines.specs.Answer.{Answer, before, written}
-use Rattle.h3_lines.specs.Beginning.{SomeBeginning}
+use Rattle.h3_lines.specs.Answering.{Breaks, Moves, TakesSome}
 use Rattle.h3_lines.specs.EachLine.{then_answer}
 use Rattle.h3_lines.specs.Writing.{SinkUse, Takes}
 use Rattle.h3_lines.specs.declared.refusal.Fault.TheVariants.{Memory, Read, Write}
@@ -11,7 +11,7 @@ use Rattle.h3_lines.specs.declared.refusal.Refusal.{Refusal}
 use Rattle.h3_lines.specs.declared.refusal.Refusal.TheVariants.{Error, Fault}
 use Rattle.h3_rows.specs.Row.{Piece, cut}
 use Rattle.h3_rows.specs.Plain.{is_plain}
-use Rattle.h3_rows.specs.RowsAnswer.{Form, State, Step, goes_on, row_step, row_with, rows_with}
+use Rattle.h3_rows.specs.RowsAnswer.{Form, State, Step, goes_on, row_step, rows_with}
 use Rattle.h3_rows.specs.declared.state.RowState.{RowState}
 
 -- ---- fields that are looked through
@@ -45,11 +45,6 @@ held_of (Some k) bytes = bytes
 abbrev pub state_of : RowState → List ℕ → State
 state_of s bytes = record { number = s.number; before = s.before; pending = pending_of s.before bytes; kept = s.kept }
 
--- the row once for each line of an answer's text, or with an empty answer where there is none
-abbrev pub text_beside : ℕ → List ℕ → Option (List ℕ) → List ℕ
-text_beside separator line None = row_with separator line []
-text_beside separator line (Some text) = rows_with separator line text
-
 -- ---- rows that are answered
 
 module _ {S : Type 0} (taken : S → Option (List ℕ)) (failed : S → Bool) where
@@ -63,10 +58,6 @@ module _ {S : Type 0} (taken : S → Option (List ℕ)) (failed : S → Bool) wh
     pub grown : Appends (taken old) (taken new) part
     pub sound : failed new ≡ failed old
 
--- a call of the sink failed: it took a beginning of the bytes, or it took one, and then a flush failed
-abbrev pub TakesSome : SinkUse → List ℕ → Type 0
-TakesSome sink bytes = SomeBeginning (λ part. Appends sink.before sink.after part ⊎ sink.may_have_taken part) bytes × (sink.has_failed ≡ true)
-
 -- an answer ends by its error, all before it taken, or by a write that fails
 abbrev pub EndsBy : Answer → Refusal → SinkUse → Type 0
 EndsBy a (Error e) out = (a.ending ≡ Err e) × Takes out a.output
@@ -77,17 +68,6 @@ EndsBy a (Fault Memory) out = ⊥
 -- these bytes and the answer to these rows, in this state, end so, whatever is last
 abbrev pub RefusesEach : ((State → Answer) → State → List Piece → Answer) → State → List ℕ → List Piece → Refusal → SinkUse → Type 0
 RefusesEach answer s held rows e out = (last : State → Answer) → EndsBy (before held (answer last s rows)) e out
-
--- from one moment to a later one, of these bytes some are taken, and these are still held back
-pub record Moves {S : Type 0} (taken : S → Option (List ℕ)) (failed : S → Bool) (all held : List ℕ) (s t : S) : Type 0 where
-  pub part : List ℕ
-  pub split : all ≡ part ++ held
-  pub grown : Appends (taken s) (taken t) part
-  pub sound : failed t ≡ failed s
-
--- a write fails, and a beginning of these bytes is taken
-abbrev pub Breaks : List ℕ → SinkUse → Refusal → Type 0
-Breaks all sink e = (e ≡ Fault Write) × (0 < length all) × TakesSome sink all
 
 -- a row is answered by bytes alone, which are put after what is held back, and the state after it is this
 pub record StepsTo {S : Type 0} (taken : S → Option (List ℕ)) (failed : S → Bool) (step : Step) (w : State) (held held' : List ℕ) (s t : S) : Type 0 where
@@ -109,3 +89,29 @@ pub record PutsPlain (form : Form) (answer : Option ℕ → Answer) (s : RowStat
   pub text : List ℕ
   pub is : row_step form answer (state_of s held) (row, false) ≡ goes_on (state_of s held) row text
   pub put : held' ≡ held ++ text
+
+-- ---- the answer to a row's cell
+
+-- an answer is bytes alone, and the row is put once for each of its lines, after what is held back
+pub record PutsBeside {S : Type 0} (taken : S → Option (List ℕ)) (failed : S → Bool) (answer : Answer) (separator : ℕ) (line held held' : List ℕ) (s t : S) : Type 0 where
+  pub text : List ℕ
+  pub is : answer ≡ written text
+  pub moves : Moves taken failed (held ++ rows_with separator line text) held' s t
+
+-- the same, and a write fails
+pub record BreaksBeside (answer : Answer) (separator : ℕ) (line held : List ℕ) (sink : SinkUse) (e : Refusal) : Type 0 where
+  pub text : List ℕ
+  pub is : answer ≡ written text
+  pub breaks : Breaks (held ++ rows_with separator line text) sink e
+
+-- in any state a row is answered by the same bytes alone, which are put after what is held back
+pub record PutsCell {S : Type 0} (taken : S → Option (List ℕ)) (failed : S → Bool) (step : State → Step) (line held held' : List ℕ) (s t : S) : Type 0 where
+  pub text : List ℕ
+  pub is : (state : State) → step state ≡ goes_on state line text
+  pub moves : Moves taken failed (held ++ text) held' s t
+
+-- the same, and a write fails
+pub record BreaksCell (step : State → Step) (line held : List ℕ) (sink : SinkUse) (e : Refusal) : Type 0 where
+  pub text : List ℕ
+  pub is : (state : State) → step state ≡ goes_on state line text
+  pub breaks : Breaks (held ++ text) sink e

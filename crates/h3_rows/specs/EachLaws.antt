@@ -3,7 +3,8 @@ use Rattle.std.proofs.Common.{◌≡◌, ℕ, ◌<◌, Bool, List, [], ◌++◌,
 use Rattle.std.proofs.KnownBytes.{Appends-nil, Appends-trans}
 use Rattle.std.specs.Io.KnownBytes.{Appends}
 use Rattle.h3_lines.specs.Answer.{Answer, before}
-use Rattle.h3_rows.specs.Answering.{Answered, EndsBy, RefusesEach, TakesSome}
+use Rattle.h3_lines.specs.Answering.{TakesSome}
+use Rattle.h3_rows.specs.Answering.{Answered, EndsBy, RefusesEach}
 use Rattle.h3_rows.specs.Row.{Piece}
 use Rattle.h3_rows.specs.RowsAnswer.{State}
 use Rattle.h3_lines.specs.Writing.{sink_use}

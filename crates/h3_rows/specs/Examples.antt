@@ -1,11 +1,11 @@
 -- The definitions at worked values, by computation.
-use Rattle.std.specs.Prelude.{map, ◌≡◌, ℕ, true, false, List, [], ◌∷◌, ◌++◌, codes, Option, None, Some, Err, Ok, refl}
+use Rattle.std.specs.Prelude.{map, ◌≡◌, ℕ, Bool, true, false, List, [], ◌∷◌, ◌++◌, codes, Option, None, Some, Err, Ok, refl}
 use Rattle.h3_index.specs.Text.{parsed_index}
 use Rattle.h3_index.specs.declared.error.H3Error.TheVariants.{Failed}
 use Rattle.h3_lines.specs.Answer.{Answer, refused, written}
 use Rattle.h3_lines.specs.declared.refusal.AnswerError.TheVariants.{At, AtAndMore, Column}
 use Rattle.h3_lines.specs.declared.refusal.ColumnError.TheVariants.{NotFound, NotUnique}
-use Rattle.h3_rows.specs.RowsAnswer.{After, Form, Named, column_of, list_answer}
+use Rattle.h3_rows.specs.RowsAnswer.{After, Form, Named, column_of, empty_answer, list_answer, pair_names}
 
 -- a function that answers any index by a word, and refuses a text that is none
 abbrev name : Option ℕ → Answer
@@ -23,25 +23,25 @@ twice index = written (codes "x" ++ 10 ∷ codes "y" ++ 10 ∷ [])
 
 -- tabs between fields, with the cell after so many others
 abbrev tabs : ℕ → Form
-tabs before = record { separator = 9; quotes = false; choice = After before; has_header = false; name = codes "new"; keeps_going = false }
+tabs before = record { separator = 9; quotes = false; choice = After before; has_header = false; name = codes "new"; empty = []; keeps_going = false }
 
 abbrev commas : ℕ → Form
-commas before = record { separator = 44; quotes = true; choice = After before; has_header = false; name = codes "new"; keeps_going = false }
+commas before = record { separator = 44; quotes = true; choice = After before; has_header = false; name = codes "new"; empty = []; keeps_going = false }
 
 -- quotes count, and the cell is in a column
 abbrev column : List ℕ → Form
-column cell = record { separator = 44; quotes = true; choice = Named cell; has_header = true; name = codes "cellToParent"; keeps_going = false }
+column cell = record { separator = 44; quotes = true; choice = Named cell; has_header = true; name = codes "cellToParent"; empty = []; keeps_going = false }
 
 -- a header, and the cell in the first field
 abbrev headed : Form
-headed = record { separator = 9; quotes = false; choice = After 0; has_header = true; name = codes "new"; keeps_going = false }
+headed = record { separator = 9; quotes = false; choice = After 0; has_header = true; name = codes "new"; empty = []; keeps_going = false }
 
 -- runs that go on
 abbrev going_on : Form
-going_on = record { separator = 9; quotes = false; choice = After 0; has_header = false; name = codes "new"; keeps_going = true }
+going_on = record { separator = 9; quotes = false; choice = After 0; has_header = false; name = codes "new"; empty = []; keeps_going = true }
 
 abbrev quoted_going_on : Form
-quoted_going_on = record { separator = 44; quotes = true; choice = After 0; has_header = false; name = codes "new"; keeps_going = true }
+quoted_going_on = record { separator = 44; quotes = true; choice = After 0; has_header = false; name = codes "new"; empty = []; keeps_going = true }
 
 -- ---- rows with their answers
 
@@ -80,7 +80,7 @@ unfolding parsed_index
 malformed_kept = refl
 
 -- a function decides what it answers to a text that is no index; a missing cell has an empty answer
-validity : list_answer (record { separator = 44; quotes = false; choice = After 0; has_header = false; name = []; keeps_going = false }) truth (codes "85283473fffffff,1" ++ 10 ∷ codes "xyz,2" ++ 10 ∷ codes ",3" ++ 10 ∷ [])
+validity : list_answer (record { separator = 44; quotes = false; choice = After 0; has_header = false; name = []; empty = []; keeps_going = false }) truth (codes "85283473fffffff,1" ++ 10 ∷ codes "xyz,2" ++ 10 ∷ codes ",3" ++ 10 ∷ [])
     ≡ written (codes "85283473fffffff,1,true" ++ 10 ∷ codes "xyz,2,false" ++ 10 ∷ codes ",3," ++ 10 ∷ [])
 unfolding parsed_index
 validity = refl
@@ -142,3 +142,29 @@ order_mark = refl
 order_mark_of_rows : list_answer (tabs 0) name (239 ∷ 187 ∷ 191 ∷ codes "8" ++ 10 ∷ []) ≡ written (239 ∷ 187 ∷ 191 ∷ codes "8" ++ 9 ∷ codes "five" ++ 10 ∷ [])
 unfolding parsed_index
 order_mark_of_rows = refl
+
+-- ---- answers of two parts
+
+-- a function with two answers, of which each has a cell and a distance
+abbrev ringed : Option ℕ → Answer
+ringed None = refused Failed
+ringed (Some n) = written (codes "x" ++ 9 ∷ codes "0" ++ 10 ∷ codes "y" ++ 9 ∷ codes "1" ++ 10 ∷ [])
+
+-- tabs, with the cell in the first field
+abbrev pairs : List ℕ → Bool → Bool → Form
+pairs name headed goes_on = record { separator = 9; quotes = false; choice = After 0; has_header = headed; name = name; empty = empty_answer true 9; keeps_going = goes_on }
+
+-- a header gets two names, and a missing cell two empty parts
+two_columns : list_answer (pairs (pair_names 9 None) true false) ringed (codes "c" ++ 9 ∷ codes "p" ++ 10 ∷ codes "5" ++ 9 ∷ codes "q" ++ 13 ∷ 10 ∷ 9 ∷ codes "q" ++ 10 ∷ 10 ∷ [])
+    ≡ written (codes "c" ++ 9 ∷ codes "p" ++ 9 ∷ codes "cell" ++ 9 ∷ codes "distance" ++ 10 ∷ codes "5" ++ 9 ∷ codes "q" ++ 9 ∷ codes "x" ++ 9 ∷ codes "0" ++ 13 ∷ 10 ∷ codes "5" ++ 9 ∷ codes "q" ++ 9 ∷ codes "y" ++ 9 ∷ codes "1" ++ 13 ∷ 10 ∷ 9 ∷ codes "q" ++ 9 ∷ 9 ∷ 10 ∷ 10 ∷ [])
+unfolding parsed_index
+two_columns = refl
+
+-- so does a row with an error, where the run goes on
+two_empty : list_answer (pairs [] false true) ringed (codes "zz" ++ 10 ∷ codes "5") ≡ record { output = codes "zz" ++ 9 ∷ 9 ∷ 10 ∷ codes "5" ++ 9 ∷ codes "x" ++ 9 ∷ codes "0" ++ 10 ∷ codes "5" ++ 9 ∷ codes "y" ++ 9 ∷ codes "1" ++ 10 ∷ []; ending = Err (AtAndMore 1 Failed 0) }
+unfolding parsed_index
+two_empty = refl
+
+-- names that were given
+given_names : pair_names 44 (Some (codes "near")) ≡ codes "near,nearDistance"
+given_names = refl

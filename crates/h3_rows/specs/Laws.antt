@@ -16,24 +16,24 @@ abbrev pub numbered : ℕ → List Piece → List (ℕ × Piece)
 numbered n [] = []
 numbered n (p ∷ ps) = (n, p) ∷ numbered (next_number n p.0) ps
 
--- answered_so separator line output ending: the row with each of the answers of a function, or with an empty one where it
--- has an error
-abbrev pub answered_so : ℕ → List ℕ → List ℕ → Result (Unit {0}) AnswerError → List ℕ
-answered_so separator line output (Ok u) = rows_with separator line output
-answered_so separator line output (Err e) = row_with separator line []
+-- answered_so form line output ending: the row with each of the answers of a function, or with an empty one where it has an
+-- error
+abbrev pub answered_so : Form → List ℕ → List ℕ → Result (Unit {0}) AnswerError → List ℕ
+answered_so form line output (Ok u) = rows_with form.separator line output
+answered_so form line output (Err e) = row_with form.separator line form.empty
 
--- with_own separator answer line said: the row with the answers to what it says of its cell; with an empty one where it says
+-- with_own form answer line said: the row with the answers to what it says of its cell; with an empty one where it says
 -- nothing, and where it is faulty
-abbrev pub with_own : ℕ → (Option ℕ → Answer) → List ℕ → Result Said H3Error → List ℕ
-with_own separator answer line (Err e) = row_with separator line []
-with_own separator answer line (Ok Missing) = row_with separator line []
-with_own separator answer line (Ok (Index index)) = answered_so separator line (answer index).output (answer index).ending
+abbrev pub with_own : Form → (Option ℕ → Answer) → List ℕ → Result Said H3Error → List ℕ
+with_own form answer line (Err e) = row_with form.separator line form.empty
+with_own form answer line (Ok Missing) = row_with form.separator line form.empty
+with_own form answer line (Ok (Index index)) = answered_so form line (answer index).output (answer index).ending
 
 -- own_lines form answer before r: what stands in the output for a row, which has a number: an empty row as it is, and any
 -- other with the answers to its own cell, in the field after so many others
 abbrev pub own_lines : Form → (Option ℕ → Answer) → ℕ → ℕ × Piece → List ℕ
 own_lines form answer before r =
-    if length (row_body r.1.0) == 0 then r.1.0 ++ 10 ∷ [] else with_own form.separator answer r.1.0 (row_said form r.0 before (row_body r.1.0))
+    if length (row_body r.1.0) == 0 then r.1.0 ++ 10 ∷ [] else with_own form answer r.1.0 (row_said form r.0 before (row_body r.1.0))
 
 -- RowsStand: where no row ends the answer, what is written for rows after a header, or without one, is what stands for each
 -- of them by its own cell alone, in order, and nothing else
@@ -57,6 +57,13 @@ RowsAreWhole = (line : List ℕ) → row_body line ++ row_ending line ≡ line +
 abbrev pub FieldsAreKept : Type 0
 FieldsAreKept = (separator : ℕ) (quotes : Bool) (row a : List ℕ) → (34 == separator) ≡ false → inside_after quotes false row ≡ false → is_uncut separator quotes false a ≡ true → inside_after quotes false a ≡ false
     → cut separator quotes false (row ++ separator ∷ a) ≡ cut separator quotes false row ++ (a, false) ∷ []
+
+-- PairsAreKept: the fields of a row with an answer of two parts are those of the row, and then the two; so taking the two
+-- columns away gives the row back
+abbrev pub PairsAreKept : Type 0
+PairsAreKept = (separator : ℕ) (quotes : Bool) (row a b : List ℕ) → (34 == separator) ≡ false → inside_after quotes false row ≡ false
+    → is_uncut separator quotes false a ≡ true → inside_after quotes false a ≡ false → is_uncut separator quotes false b ≡ true → inside_after quotes false b ≡ false
+    → cut separator quotes false (row ++ (separator ∷ (a ++ (separator ∷ b)))) ≡ cut separator quotes false row ++ (a, false) ∷ (b, false) ∷ []
 
 -- RowsReadBack: what is read of the output is, row for row, the row with its answer: a row's bytes, without their line feed,
 -- with an answer that has no line feed and no quote, are one row of the output

@@ -1,5 +1,5 @@
 -- Laws of rows whose cells are taken. The implementation that states them and proofs alone cite this file.
-use Rattle.std.proofs.Common.{◌≡◌, ℕ, List, [], ◌∷◌, ◌++◌, Option, Result, Ok, Err, sym, ap, ◌∙◌, refl, subst, append_assoc}
+use Rattle.std.proofs.Common.{◌≡◌, ℕ, List, [], ◌++◌, Option, Result, Ok, Err, sym, ap, ◌∙◌, refl, subst, append_assoc}
 use Rattle.std.specs.Prelude.{⊤}
 use Rattle.h3_index.specs.Cell.{Address}
 use Rattle.h3_lines.specs.declared.refusal.AnswerError.{AnswerError}

@@ -1,15 +1,25 @@
 -- What is known of the options by which rows are read.
-use Rattle.std.specs.Prelude.{List, ℕ, string_bytes, option_map}
+use Rattle.std.specs.Prelude.{true, false, Bool, List, [], ℕ, string_bytes, option_map}
 use Rattle.h3_requests.specs.declared.rows.RowOptions.{RowOptions}
-use Rattle.h3_rows.specs.RowsAnswer.{Form, choice_of, name_of}
+use Rattle.h3_rows.specs.RowsAnswer.{Form, choice_of, empty_answer, names_of}
 
--- form_of options name: the form of the rows, where the new column has this name unless another is given
-abbrev pub form_of : RowOptions → List ℕ → Form
-form_of options name = record {
+-- columns_form options name is_pair: the form of the rows; the new column has this name unless another is given, and where
+-- an answer is a pair, a cell and its distance, there are two
+abbrev pub columns_form : RowOptions → List ℕ → Bool → Form
+columns_form options name is_pair = record {
   separator = options.separator;
   quotes = options.quotes;
   choice = choice_of options.field;
   has_header = options.has_header;
-  name = name_of (option_map string_bytes options.name) name;
+  name = names_of is_pair options.separator (option_map string_bytes options.name) name;
+  empty = empty_answer is_pair options.separator;
   keeps_going = options.keeps_going;
 }
+
+-- form_of options name: the form of the rows, where the new column has this name unless another is given
+abbrev pub form_of : RowOptions → List ℕ → Form
+form_of options name = columns_form options name false
+
+-- pair_form_of options: the form of the rows, where the new columns are for a cell and its distance
+abbrev pub pair_form_of : RowOptions → Form
+pair_form_of options = columns_form options [] true

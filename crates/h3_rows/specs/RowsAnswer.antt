@@ -1,6 +1,6 @@
 -- The answer to rows of which each is answered on its own: each row whole, with the answer to its own cell beside it, in
 -- order, up to the first error that ends it.
-use Rattle.std.specs.Prelude.{ℕ, ◌+◌, ◌-◌, ◌==◌, nat_lt, Bool, true, false, List, [], ◌∷◌, ◌++◌, length, Option, None, Some, Result, Ok, Err, string_bytes, if◌then◌else◌, not, ◌&&◌, ◌||◌, bytes_eq}
+use Rattle.std.specs.Prelude.{codes, ℕ, ◌+◌, ◌-◌, ◌==◌, nat_lt, Bool, true, false, List, [], ◌∷◌, ◌++◌, length, Option, None, Some, Result, Ok, Err, string_bytes, if◌then◌else◌, not, ◌&&◌, ◌||◌, bytes_eq}
 use Rattle.h3_index.specs.Text.{parsed_index, trimmed}
 use Rattle.h3_index.specs.declared.error.H3Error.{H3Error}
 use Rattle.h3_index.specs.declared.error.H3Error.TheVariants.{Failed}
@@ -24,14 +24,15 @@ pub data Choice : Type 0 where
   After : ℕ → Choice
   Named : List ℕ → Choice
 
--- Form: the byte that separates fields, whether quotes count, which field has the cell, whether there is a header, the name
--- that the new column has in it, and whether the run goes on after an error
+-- Form: the byte that separates fields, whether quotes count, which field has the cell, whether there is a header, what the
+-- header gets for the new column, or for two, what a row gets that has no answer, and whether the run goes on after an error
 pub record Form : Type 0 where
   pub separator : ℕ
   pub quotes : Bool
   pub choice : Choice
   pub has_header : Bool
   pub name : List ℕ
+  pub empty : List ℕ
   pub keeps_going : Bool
 
 -- choice_of field: the choice by the number of a field, counted from 1, or by its name
@@ -43,6 +44,24 @@ choice_of (Column name) = Named (string_bytes name)
 abbrev pub name_of : Option (List ℕ) → List ℕ → List ℕ
 name_of None name = name
 name_of (Some given) name = given
+
+-- pair_names separator given: the names of two new columns, for a cell and its distance, with the separator between them:
+-- `cell` and `distance`, or the name that was given, and the same with `Distance` after it
+abbrev pub pair_names : ℕ → Option (List ℕ) → List ℕ
+pair_names separator None = codes "cell" ++ (separator ∷ codes "distance")
+pair_names separator (Some given) = given ++ (separator ∷ (given ++ codes "Distance"))
+
+-- names_of is_pair separator given name: what a header gets: the names of two columns where an answer is a pair, and else
+-- that of one
+abbrev pub names_of : Bool → ℕ → Option (List ℕ) → List ℕ → List ℕ
+names_of true separator given name = pair_names separator given
+names_of false separator given name = name_of given name
+
+-- empty_answer is_pair separator: an answer without a byte; where an answer is a pair, two of these with the separator
+-- between them
+abbrev pub empty_answer : Bool → ℕ → List ℕ
+empty_answer true separator = separator ∷ []
+empty_answer false separator = []
 
 -- ---- what a row says of its cell
 
@@ -156,7 +175,7 @@ ends s e = record { answer = record { output = s.pending; ending = Err (ending_b
 -- error is kept
 abbrev pub faulty : Form → State → List ℕ → H3Error → Step
 faulty form s line e =
-    if form.keeps_going then record { answer = written (row_with form.separator line []); after = record { number = next_number s.number line; before = s.before; pending = s.pending; kept = Some (one_more s.number e s.kept) } }
+    if form.keeps_going then record { answer = written (row_with form.separator line form.empty); after = record { number = next_number s.number line; before = s.before; pending = s.pending; kept = Some (one_more s.number e s.kept) } }
     else ends s e
 
 -- beside form s line output ending: an answer, which has this output and ending, beside its row
@@ -168,7 +187,7 @@ beside form s line output (Err e) = record { answer = record { output = rows_wit
 -- answer_said form answer s line said: the answer to what a row says of its cell
 abbrev pub answer_said : Form → (Option ℕ → Answer) → State → List ℕ → Result Said H3Error → Step
 answer_said form answer s line (Err e) = faulty form s line e
-answer_said form answer s line (Ok Missing) = goes_on s line (row_with form.separator line [])
+answer_said form answer s line (Ok Missing) = goes_on s line (row_with form.separator line form.empty)
 answer_said form answer s line (Ok (Index index)) = beside form s line (answer index).output (answer index).ending
 
 -- header_step form s line column: a header is written as it is, with the name of the new column, after the empty rows

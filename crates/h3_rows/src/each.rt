@@ -1,28 +1,30 @@
 //! Rows of which each is written with the answer to its cell beside it.
 
 ghost use Rattle.std.proofs.Common.{◌∙◌, refl};
-ghost use Rattle.std.specs.Prelude.{◌≡◌, ◌+◌, ◌<◌, ◌≤◌, ◌++◌, ◌∷◌, ◌^◌, [], ℕ, List, length, Option, None, Some, Err, option_map, take, IfOk, IfErr, IfNone, IfSome, OnOk};
+ghost use Rattle.std.specs.Prelude.{◌≡◌, ◌+◌, ◌<◌, ◌≤◌, ◌++◌, ◌∷◌, ◌^◌, [], ℕ, List, length, Option, None, Some, Err, option_map, string_bytes, take, IfOk, IfErr, IfNone, IfSome, OnOk};
 ghost use Rattle.h3_lines.specs.Answer.{Answer, written};
 ghost use Rattle.h3_lines.specs.Writing.{Takes, Writes, sink_use};
 ghost use Rattle.h3_lines.specs.declared.line.TheConstants.{BLOCK};
 ghost use Rattle.h3_lines.specs.declared.refusal.AnswerError.TheVariants.{At};
 ghost use Rattle.h3_lines.specs.declared.refusal.Refusal.{Refusal};
-ghost use Rattle.h3_rows.specs.Answering.{Answered, Breaks, EndsBy, PutsPlain, RefusesEach, StepEnds, StepsTo, held_of, state_of, text_beside};
+ghost use Rattle.h3_lines.specs.Answering.{Breaks, Moves};
+ghost use Rattle.h3_rows.specs.Answering.{Answered, BreaksCell, EndsBy, PutsCell, PutsPlain, RefusesEach, StepEnds, StepsTo, held_of, state_of};
 ghost use Rattle.h3_rows.specs.EachLaws.{answered_none, answered_then, refuses_then};
 ghost use Rattle.h3_rows.specs.EndsRows.{EndsRows};
 ghost use Rattle.h3_rows.specs.Row.{read_of, row_body};
-ghost use Rattle.h3_rows.specs.RowForm.{form_of};
-ghost use Rattle.h3_rows.specs.RowsAnswer.{State, answer_said, begun_answer, choice_of, chosen_in, empty_step, end_of, faulty, goes_on, header_step, row_said, row_step, rows_answer, rows_then, start};
+ghost use Rattle.h3_rows.specs.RowForm.{columns_form, form_of};
+ghost use Rattle.h3_rows.specs.RowsAnswer.{State, answer_said, begun_answer, choice_of, chosen_in, empty_answer, empty_step, end_of, faulty, goes_on, header_step, pair_names, row_said, row_step, row_with, rows_answer, rows_then, start};
 
 use crate::fields::{read_of, row_body, row_ending};
-use crate::header::{chosen_field, column_name};
+use crate::function::{RowFunction, Short, Workspace};
+use crate::header::{chosen_field, column_name, pair_names};
 use crate::lanes::is_one_line;
 use crate::plain::find_plain;
 use crate::reading::{is_malformed, read_row};
 use crate::said::Said;
 use crate::splitting::{RowStart, RowTaker, take_rows};
 use crate::state::{RowState, first_state};
-use crate::write::{put_bytes, put_row, put_rows};
+use crate::write::{put_bytes, put_row};
 use h3_index::{CellLines, CountedReader, H3Error, Sink, Source, read_plain};
 use h3_lines::{
     ANSWER, AnswerError, BLOCK, ColumnError, Fault, IndexFunction, PAGE, READS, Refusal,
@@ -36,15 +38,8 @@ use std::alloc::Global;
 struct RowJob<'f, F> {
     options: &'f RowOptions,
     name: &'f [u8],
+    is_pair: bool,
     function: &'f F,
-}
-
-/// What a function of one index works with.
-#[derive(Drop)]
-struct Workspace {
-    place: usize,
-    lines: CellLines,
-    text: [u8; BLOCK],
 }
 
 /// Writes the bytes and flushes, if there are any.
@@ -119,7 +114,109 @@ fn put_empty<W: Sink>(
     Ok((last, state.passed(row)))
 }
 
-/// Puts a header with the name of the new column, after the empty rows before it.
+/// Puts a header with the names of two new columns.
+fn put_pair_names<W: Sink>(
+    out: &mut W,
+    block: &mut [u8; BLOCK],
+    end: usize,
+    options: &RowOptions,
+    row: &[u8],
+) -> Result<usize, Refusal>
+    requires { end ≤ BLOCK }
+    ensures within { IfOk result (λ last. last ≤ BLOCK) }
+    ensures ok { IfOk result (λ last. Moves W.taken W.has_failed
+        (take end block.old ++ row_with options.now.separator row.now
+        (pair_names options.now.separator (option_map string_bytes options.now.name)))
+        (take last block.new) out.old out.new) }
+    ensures err { IfErr result (λ e. Breaks
+        (take end block.old ++ row_with options.now.separator row.now
+        (pair_names options.now.separator (option_map string_bytes options.now.name)))
+        (sink_use W.taken W.has_failed out.old out.new) e) }
+{
+    let separator = options.separator;
+    let (first, second, more) = pair_names(options);
+    let after_first = put_row(out, block, end, separator, row_body(row), first, b"")?;
+    let after_second = put_row(out, block, after_first, separator, b"", second, more)?;
+    put_bytes(out, block, after_second, row_ending(row))
+}
+
+/// Puts a header with what it gets for the new columns.
+fn put_named<'f, W: Sink, F>(
+    out: &mut W,
+    block: &mut [u8; BLOCK],
+    end: usize,
+    job: &RowJob<'f, F>,
+    row: &[u8],
+) -> Result<usize, Refusal>
+    requires { end ≤ BLOCK }
+    ensures within { IfOk result (λ last. last ≤ BLOCK) }
+    ensures ok { IfOk result (λ last. Moves W.taken W.has_failed
+        (take end block.old ++ row_with job.now.options.now.separator row.now
+        (columns_form job.now.options.now job.now.name.now job.now.is_pair).name)
+        (take last block.new) out.old out.new) }
+    ensures err { IfErr result (λ e. Breaks
+        (take end block.old ++ row_with job.now.options.now.separator row.now
+        (columns_form job.now.options.now job.now.name.now job.now.is_pair).name)
+        (sink_use W.taken W.has_failed out.old out.new) e) }
+{
+    if job.is_pair {
+        return put_pair_names(out, block, end, job.options, row);
+    }
+    let name = column_name(job.options, job.name);
+    put_row(
+        out,
+        block,
+        end,
+        job.options.separator,
+        row_body(row),
+        name,
+        row_ending(row),
+    )
+}
+
+/// How many bytes an empty answer has, which are separators.
+fn empty_size(is_pair: bool) -> usize
+    ensures within { result ≤ 1 }
+    ensures empty { (separator : ℕ) →
+        take result (separator ∷ []) ≡ empty_answer is_pair separator }
+{
+    if is_pair { 1 } else { 0 }
+}
+
+/// Puts a row with an empty answer.
+fn put_unanswered<'f, W: Sink, F>(
+    out: &mut W,
+    block: &mut [u8; BLOCK],
+    end: usize,
+    job: &RowJob<'f, F>,
+    row: &[u8],
+) -> Result<usize, Refusal>
+    requires { end ≤ BLOCK }
+    ensures within { IfOk result (λ last. last ≤ BLOCK) }
+    ensures ok { IfOk result (λ last. Moves W.taken W.has_failed
+        (take end block.old ++ row_with job.now.options.now.separator row.now
+        (columns_form job.now.options.now job.now.name.now job.now.is_pair).empty)
+        (take last block.new) out.old out.new) }
+    ensures err { IfErr result (λ e. Breaks
+        (take end block.old ++ row_with job.now.options.now.separator row.now
+        (columns_form job.now.options.now job.now.name.now job.now.is_pair).empty)
+        (sink_use W.taken W.has_failed out.old out.new) e) }
+{
+    let separator = job.options.separator;
+    let between = [separator];
+    let empty = &between[..empty_size(job.is_pair)];
+    put_row(
+        out,
+        block,
+        end,
+        separator,
+        row_body(row),
+        empty,
+        row_ending(row),
+    )
+}
+
+/// Puts a header with the names of the new columns, after the empty rows before it.
 fn put_header<'f, W: Sink, F>(
     out: &mut W,
     block: &mut [u8; BLOCK],
@@ -134,18 +231,18 @@ fn put_header<'f, W: Sink, F>(
     ensures within { IfOk result (λ r. r.0 ≤ BLOCK) }
     ensures few { IfOk result (λ r. r.1.number ≤ state.number + length row.now + 1) }
     ensures ok { IfOk result (λ r. StepsTo W.taken W.has_failed
-        (header_step (form_of job.now.options.now job.now.name.now)
+        (header_step (columns_form job.now.options.now job.now.name.now job.now.is_pair)
         (state_of state (take end block.old)) row.now
-        (chosen_in (form_of job.now.options.now job.now.name.now)
-        (form_of job.now.options.now job.now.name.now).choice
+        (chosen_in (columns_form job.now.options.now job.now.name.now job.now.is_pair)
+        (columns_form job.now.options.now job.now.name.now job.now.is_pair).choice
         (read_of state.number (row_body row.now))))
         (state_of r.1 (take r.0 block.new)) (held_of state.before (take end block.old))
         (held_of r.1.before (take r.0 block.new)) out.old out.new) }
     ensures err { IfErr result (λ e. StepEnds
-        (header_step (form_of job.now.options.now job.now.name.now)
+        (header_step (columns_form job.now.options.now job.now.name.now job.now.is_pair)
         (state_of state (take end block.old)) row.now
-        (chosen_in (form_of job.now.options.now job.now.name.now)
-        (form_of job.now.options.now job.now.name.now).choice
+        (chosen_in (columns_form job.now.options.now job.now.name.now job.now.is_pair)
+        (columns_form job.now.options.now job.now.name.now job.now.is_pair).choice
         (read_of state.number (row_body row.now))))
         (held_of state.before (take end block.old)) e
         (sink_use W.taken W.has_failed out.old out.new)) }
@@ -155,58 +252,62 @@ fn put_header<'f, W: Sink, F>(
         Ok(before) => before,
         Err(error) => return Err(Refusal::Error(AnswerError::Column(error))),
     };
-    let name = column_name(job.options, job.name);
-    let separator = job.options.separator;
-    let last = put_row(
-        out,
-        block,
-        end,
-        separator,
-        row_body(row),
-        name,
-        row_ending(row),
-    )?;
+    let last = put_named(out, block, end, job, row)?;
     Ok((last, state.headed(row, before)))
 }
 
-/// Works out the answer to a row's cell: where its text ends in the workspace, `None` if the cell is
-/// missing.
-fn answer_cell<'f, F: IndexFunction>(
+/// Puts a row with the answers to its cell, or returns their error.
+fn answer_cell<'f, W: Sink, F: RowFunction>(
+    out: &mut W,
+    block: &mut [u8; BLOCK],
+    end: usize,
     job: &RowJob<'f, F>,
     work: &mut Workspace,
     number: u64,
     before: usize,
     row: &[u8],
-) -> Result<Option<usize>, H3Error>
-    ensures within { IfOk result (λ o. IfSome o (λ last. last ≤ BLOCK)) }
-    ensures ok { IfOk result (λ o. (s : State) → answer_said
-        (form_of job.now.options.now job.now.name.now) (F.answer_of job.now.function.now) s row.now
-        (row_said (form_of job.now.options.now job.now.name.now) number before (row_body row.now))
-        ≡ goes_on s row.now (text_beside job.now.options.now.separator row.now
-        (option_map (λ last. take last work.new.text) o))) }
-    ensures err { IfErr result (λ e. (s : State) → answer_said
-        (form_of job.now.options.now job.now.name.now) (F.answer_of job.now.function.now) s row.now
-        (row_said (form_of job.now.options.now job.now.name.now) number before (row_body row.now))
-        ≡ faulty (form_of job.now.options.now job.now.name.now) s row.now e) }
+) -> Result<Result<usize, H3Error>, Refusal>
+    requires { end ≤ BLOCK }
+    ensures within { IfOk result (λ o. IfOk o (λ last. last ≤ BLOCK)) }
+    ensures ok { IfOk result (λ o. IfOk o (λ last. PutsCell W.taken W.has_failed
+        (λ s. answer_said
+        (columns_form job.now.options.now job.now.name.now job.now.is_pair)
+        (F.answer_of job.now.function.now) s row.now
+        (row_said (columns_form job.now.options.now job.now.name.now job.now.is_pair)
+        number before (row_body row.now)))
+        row.now (take end block.old) (take last block.new) out.old out.new)) }
+    ensures faulty { IfOk result (λ o. IfErr o (λ e. (s : State) → answer_said
+        (columns_form job.now.options.now job.now.name.now job.now.is_pair)
+        (F.answer_of job.now.function.now) s row.now
+        (row_said (columns_form job.now.options.now job.now.name.now job.now.is_pair)
+        number before (row_body row.now))
+        ≡ faulty (columns_form job.now.options.now job.now.name.now job.now.is_pair) s row.now e)) }
+    ensures kept { IfOk result (λ o. IfErr o (λ e. take end block.new ≡ take end block.old)) }
+    ensures left { IfOk result (λ o. IfErr o (λ e. out.new ≡ out.old)) }
+    ensures err { IfErr result (λ e. BreaksCell
+        (λ s. answer_said
+        (columns_form job.now.options.now job.now.name.now job.now.is_pair)
+        (F.answer_of job.now.function.now) s row.now
+        (row_said (columns_form job.now.options.now job.now.name.now job.now.is_pair)
+        number before (row_body row.now)))
+        row.now (take end block.old) (sink_use W.taken W.has_failed out.old out.new) e) }
 {
     match read_row(job.options, job.name, number, before, row_body(row)) {
         Ok(Said::Index(index)) => {
-            let text = &mut work.text;
-            match job
-                .function
-                .put(index, &mut work.place, &mut work.lines, text, 0)
-            {
-                Ok(last) => Ok(Some(last)),
-                Err(error) => Err(error),
-            }
+            let separator = job.options.separator;
+            job.function
+                .put_beside(index, out, work, block, end, separator, row)
         }
-        Ok(Said::Missing) => Ok(None),
-        Err(error) => Err(error),
+        Ok(Said::Missing) => {
+            let last = put_unanswered(out, block, end, job, row)?;
+            Ok(Ok(last))
+        }
+        Err(error) => Ok(Err(error)),
     }
 }
 
 /// Puts a row with the answers to its cell.
-fn put_cell<'f, W: Sink, F: IndexFunction>(
+fn put_cell<'f, W: Sink, F: RowFunction>(
     out: &mut W,
     block: &mut [u8; BLOCK],
     end: usize,
@@ -222,49 +323,26 @@ fn put_cell<'f, W: Sink, F: IndexFunction>(
     ensures within { IfOk result (λ r. r.0 ≤ BLOCK) }
     ensures few { IfOk result (λ r. r.1.number ≤ state.number + length row.now + 1) }
     ensures ok { IfOk result (λ r. StepsTo W.taken W.has_failed
-        (answer_said (form_of job.now.options.now job.now.name.now)
+        (answer_said (columns_form job.now.options.now job.now.name.now job.now.is_pair)
         (F.answer_of job.now.function.now) (state_of state (take end block.old)) row.now
-        (row_said (form_of job.now.options.now job.now.name.now) state.number before
+        (row_said
+        (columns_form job.now.options.now job.now.name.now job.now.is_pair) state.number before
         (row_body row.now)))
         (state_of r.1 (take r.0 block.new)) (held_of state.before (take end block.old))
         (held_of r.1.before (take r.0 block.new)) out.old out.new) }
     ensures err { IfErr result (λ e. StepEnds
-        (answer_said (form_of job.now.options.now job.now.name.now)
+        (answer_said (columns_form job.now.options.now job.now.name.now job.now.is_pair)
         (F.answer_of job.now.function.now) (state_of state (take end block.old)) row.now
-        (row_said (form_of job.now.options.now job.now.name.now) state.number before
+        (row_said
+        (columns_form job.now.options.now job.now.name.now job.now.is_pair) state.number before
         (row_body row.now)))
         (held_of state.before (take end block.old)) e
         (sink_use W.taken W.has_failed out.old out.new)) }
 {
-    let separator = job.options.separator;
-    match answer_cell(job, work, state.number, before, row) {
-        Ok(Some(last)) => {
-            let text = &work.text[..last];
-            let last = put_rows(out, block, end, separator, row, text)?;
-            Ok((last, state.passed(row)))
-        }
-        Ok(None) => {
-            let last = put_row(
-                out,
-                block,
-                end,
-                separator,
-                row_body(row),
-                b"",
-                row_ending(row),
-            )?;
-            Ok((last, state.passed(row)))
-        }
+    match answer_cell(out, block, end, job, work, state.number, before, row)? {
+        Ok(last) => Ok((last, state.passed(row))),
         Err(error) if job.options.keeps_going => {
-            let last = put_row(
-                out,
-                block,
-                end,
-                separator,
-                row_body(row),
-                b"",
-                row_ending(row),
-            )?;
+            let last = put_unanswered(out, block, end, job, row)?;
             Ok((last, state.with_error(row, error)))
         }
         Err(error) => Err(refuse(out, &block[..end], state.number, error)),
@@ -272,7 +350,7 @@ fn put_cell<'f, W: Sink, F: IndexFunction>(
 }
 
 /// Puts the answer to a row.
-fn put_answer<'f, W: Sink, F: IndexFunction>(
+fn put_answer<'f, W: Sink, F: RowFunction>(
     out: &mut W,
     block: &mut [u8; BLOCK],
     end: usize,
@@ -287,12 +365,16 @@ fn put_answer<'f, W: Sink, F: IndexFunction>(
     ensures within { IfOk result (λ r. r.0 ≤ BLOCK) }
     ensures few { IfOk result (λ r. r.1.number ≤ state.number + length row.now + 1) }
     ensures ok { IfOk result (λ r. StepsTo W.taken W.has_failed
-        (row_step (form_of job.now.options.now job.now.name.now) (F.answer_of job.now.function.now)
+        (row_step
+        (columns_form job.now.options.now job.now.name.now job.now.is_pair)
+        (F.answer_of job.now.function.now)
         (state_of state (take end block.old)) (row.now, inside))
         (state_of r.1 (take r.0 block.new)) (held_of state.before (take end block.old))
         (held_of r.1.before (take r.0 block.new)) out.old out.new) }
     ensures err { IfErr result (λ e. StepEnds
-        (row_step (form_of job.now.options.now job.now.name.now) (F.answer_of job.now.function.now)
+        (row_step
+        (columns_form job.now.options.now job.now.name.now job.now.is_pair)
+        (F.answer_of job.now.function.now)
         (state_of state (take end block.old)) (row.now, inside))
         (held_of state.before (take end block.old)) e
         (sink_use W.taken W.has_failed out.old out.new)) }
@@ -312,7 +394,7 @@ fn put_answer<'f, W: Sink, F: IndexFunction>(
 /// Puts the row that bytes begin with and the answer to its cell, if it is plain and has room, and
 /// its cell a plain text and one answer. Returns the row's length, and where its answer ends.
 #[inline(always)]
-fn put_plain<'f, F: IndexFunction>(
+fn put_plain<'f, F: RowFunction>(
     block: &mut [u8; BLOCK],
     end: usize,
     job: &RowJob<'f, F>,
@@ -324,7 +406,8 @@ fn put_plain<'f, F: IndexFunction>(
     requires within { end ≤ BLOCK }
     requires known { state.before ≡ Some before }
     ensures within { IfSome result (λ r. r.1 ≤ BLOCK) }
-    ensures some { IfSome result (λ r. PutsPlain (form_of job.now.options.now job.now.name.now)
+    ensures some { IfSome result (λ r. PutsPlain
+        (columns_form job.now.options.now job.now.name.now job.now.is_pair)
         (F.answer_of job.now.function.now) state bytes.now (take end block.old)
         (take r.1 block.new) r.0) }
     ensures none { IfNone result (take end block.new ≡ take end block.old) }
@@ -341,11 +424,8 @@ fn put_plain<'f, F: IndexFunction>(
         return None;
     }
     let at = hold_row(block, end, row, separator);
-    match job
-        .function
-        .put(Some(index), &mut work.place, &mut work.lines, block, at)
-    {
-        Ok(last) if is_one_line(block, at, last) => Some((row.len(), last)),
+    match job.function.put_short(index, work, block, at) {
+        Some(last) if is_one_line(block, at, last) => Some((row.len(), last)),
         _ => None,
     }
 }
@@ -387,14 +467,15 @@ struct RowAnswers<'a, 'f, W, F> {
     ghost within: { end ≤ BLOCK },
 }
 
-impl<'a, 'f, W: Sink, F: IndexFunction> RowTaker for RowAnswers<'a, 'f, W, F> {
+impl<'a, 'f, W: Sink, F: RowFunction> RowTaker for RowAnswers<'a, 'f, W, F> {
     ghost count = { λ v. v.state.number };
 
     ghost settled = { λ v. held_of v.state.before (take v.end v.block) ≡ [] };
 
     ghost taken = { λ v rows w.
         Answered W.taken W.has_failed
-        (λ last. rows_then last (form_of v.job.now.options.now v.job.now.name.now)
+        (λ last. rows_then last
+        (columns_form v.job.now.options.now v.job.now.name.now v.job.now.is_pair)
         (F.answer_of v.job.now.function.now))
         (state_of v.state (take v.end v.block)) (state_of w.state (take w.end w.block))
         (held_of v.state.before (take v.end v.block))
@@ -403,7 +484,8 @@ impl<'a, 'f, W: Sink, F: IndexFunction> RowTaker for RowAnswers<'a, 'f, W, F> {
 
     ghost refused = { λ v rows w e.
         RefusesEach
-        (λ last. rows_then last (form_of v.job.now.options.now v.job.now.name.now)
+        (λ last. rows_then last
+        (columns_form v.job.now.options.now v.job.now.name.now v.job.now.is_pair)
         (F.answer_of v.job.now.function.now))
         (state_of v.state (take v.end v.block)) (held_of v.state.before (take v.end v.block))
         rows e (sink_use W.taken W.has_failed v.out.now w.out.now)
@@ -463,37 +545,45 @@ impl<'a, 'f, W: Sink, F: IndexFunction> RowTaker for RowAnswers<'a, 'f, W, F> {
     ghost none_taken = { λ v. (answered_none _ _ _ _ _ _, refl, refl) };
 
     ghost taken_then = { λ u v w xs ys p q. (
-      answered_then _ _ (λ j last. rows_then last (form_of j.now.options.now j.now.name.now)
+      answered_then _ _ (λ j last. rows_then last
+          (columns_form j.now.options.now j.now.name.now j.now.is_pair)
           (F.answer_of j.now.function.now)) xs ys p.1 p.0 q.0,
       q.1 ∙ p.1,
       q.2 ∙ p.2,
     ) };
 
     ghost refused_then = { λ u v w xs ys e p q. (
-      refuses_then _ _ (λ j last. rows_then last (form_of j.now.options.now j.now.name.now)
+      refuses_then _ _ (λ j last. rows_then last
+          (columns_form j.now.options.now j.now.name.now j.now.is_pair)
           (F.answer_of j.now.function.now)) _ xs ys e p.1 p.0 q.0,
       q.1 ∙ p.2,
     ) };
 }
 
 /// Answers the rows of an input, read in pages, and ends the answer.
-fn answer_input<'a, 'f, R: Source, W: Sink, F: IndexFunction>(
+fn answer_input<'a, 'f, R: Source, W: Sink, F: RowFunction>(
     answers: &mut RowAnswers<'a, 'f, W, F>,
     input: &mut R,
     begun: RowStart,
     page: &mut [u8],
 ) -> Result<(), Refusal>
     requires first { state_of answers.old.state (take answers.old.end answers.old.block)
-        ≡ start (form_of answers.old.job.now.options.now answers.old.job.now.name.now) }
+        ≡ start
+        (columns_form answers.old.job.now.options.now answers.old.job.now.name.now
+        answers.old.job.now.is_pair) }
     requires empty { answers.old.end ≡ 0 }
     requires few { answers.old.state.number ≡ 1 }
     requires begun { begun.held ≡ 0 }
     requires quotes { begun.quotes ≡ answers.old.job.now.options.now.quotes }
     requires page { length page.old ≡ PAGE }
     ensures ends { EndsRows answers.old.job.now.options.now.quotes
-        (rows_answer (form_of answers.old.job.now.options.now answers.old.job.now.name.now)
+        (rows_answer
+        (columns_form answers.old.job.now.options.now answers.old.job.now.name.now
+        answers.old.job.now.is_pair)
         (F.answer_of answers.old.job.now.function.now))
-        (begun_answer (form_of answers.old.job.now.options.now answers.old.job.now.name.now)
+        (begun_answer
+        (columns_form answers.old.job.now.options.now answers.old.job.now.name.now
+        answers.old.job.now.is_pair)
         (F.answer_of answers.old.job.now.function.now))
         (R.left input.old) (R.left input.new)
         (R.has_failed input.old) (R.has_failed input.new) result
@@ -512,7 +602,7 @@ fn answer_input<'a, 'f, R: Source, W: Sink, F: IndexFunction>(
 /// The same to a sink.
 // Inlined, its blocks would take their place on the stack while the caller runs a writer.
 #[inline(never)]
-fn answer_pages<'f, R: Source, W: Sink, F: IndexFunction>(
+fn answer_pages<'f, R: Source, W: Sink, F: RowFunction>(
     job: &'f RowJob<'f, F>,
     input: &mut R,
     out: &mut W,
@@ -523,9 +613,9 @@ fn answer_pages<'f, R: Source, W: Sink, F: IndexFunction>(
     requires quotes { begun.quotes ≡ job.now.options.now.quotes }
     requires page { length page.old ≡ PAGE }
     ensures { EndsRows job.now.options.now.quotes
-        (rows_answer (form_of job.now.options.now job.now.name.now)
+        (rows_answer (columns_form job.now.options.now job.now.name.now job.now.is_pair)
         (F.answer_of job.now.function.now))
-        (begun_answer (form_of job.now.options.now job.now.name.now)
+        (begun_answer (columns_form job.now.options.now job.now.name.now job.now.is_pair)
         (F.answer_of job.now.function.now))
         (R.left input.old) (R.left input.new)
         (R.has_failed input.old) (R.has_failed input.new) result
@@ -547,6 +637,34 @@ fn answer_pages<'f, R: Source, W: Sink, F: IndexFunction>(
     // The proof reads what the sink is after the writes from this use of it.
     let _ = &*out;
     ending
+}
+
+/// Writes each row of an input with what answers its cell beside it.
+pub(crate) fn answer_input_by<R: Source, W: Sink, F: RowFunction>(
+    alloc: Global,
+    options: &RowOptions,
+    name: &[u8],
+    is_pair: bool,
+    function: &F,
+    input: &mut R,
+    out: &mut W,
+) -> Result<(), Refusal>
+    ensures { EndsRows options.now.quotes
+        (rows_answer (columns_form options.now name.now is_pair) (F.answer_of function.now))
+        (begun_answer (columns_form options.now name.now is_pair) (F.answer_of function.now))
+        (R.left input.old) (R.left input.new)
+        (R.has_failed input.old) (R.has_failed input.new) result
+        (sink_use W.taken W.has_failed out.old out.new) }
+{
+    let begun = RowStart::new(alloc, options.quotes)?;
+    let mut page = vec![in alloc; 0u8; PAGE].map_err(|_| Refusal::Fault(Fault::Memory))?;
+    let job = RowJob {
+        options,
+        name,
+        is_pair,
+        function,
+    };
+    answer_pages(&job, input, out, begun, &mut page)
 }
 
 /// Writes each row of an input with the answer to its own cell beside it, in order, up to the end or
@@ -578,12 +696,5 @@ pub fn answer_rows<R: Source, W: Sink, F: IndexFunction>(
         (R.has_failed input.old) (R.has_failed input.new) result
         (sink_use W.taken W.has_failed out.old out.new) }
 {
-    let begun = RowStart::new(alloc, options.quotes)?;
-    let mut page = vec![in alloc; 0u8; PAGE].map_err(|_| Refusal::Fault(Fault::Memory))?;
-    let job = RowJob {
-        options,
-        name,
-        function,
-    };
-    answer_pages(&job, input, out, begun, &mut page)
+    answer_input_by(alloc, options, name, false, &Short { function }, input, out)
 }

@@ -1,10 +1,10 @@
 //! Headers, and columns by their name.
 
-ghost use Rattle.std.specs.Prelude.{◌≡◌, ◌==◌, ◌≤◌, ◌+◌, ℕ, List, ◌∷◌, false, length, option_map, IfSome};
+ghost use Rattle.std.specs.Prelude.{◌≡◌, ◌==◌, ◌≤◌, ◌+◌, ℕ, List, ◌∷◌, ◌++◌, false, length, option_map, string_bytes, IfSome};
 ghost use Rattle.h3_rows.specs.Answering.{bytes_left, fields_left};
 ghost use Rattle.h3_rows.specs.Row.{cut};
 ghost use Rattle.h3_rows.specs.RowForm.{form_of};
-ghost use Rattle.h3_rows.specs.RowsAnswer.{chosen_in, column_of, places_of};
+ghost use Rattle.h3_rows.specs.RowsAnswer.{chosen_in, column_of, pair_names, places_of};
 
 use crate::fields::field_text;
 use crate::splitting::split;
@@ -77,5 +77,16 @@ pub(crate) fn column_name<'n>(options: &'n RowOptions, name: &'n [u8]) -> &'n [u
     match &options.name {
         Some(given) => given.as_bytes(),
         None => name,
+    }
+}
+
+/// The names of two new columns: the first one, and the second one in two parts.
+pub(crate) fn pair_names<'n>(options: &'n RowOptions) -> (&'n [u8], &'n [u8], &'n [u8])
+    ensures { pair_names options.now.separator (option_map string_bytes options.now.name)
+        ≡ result.0.now ++ (options.now.separator ∷ (result.1.now ++ result.2.now)) }
+{
+    match &options.name {
+        Some(given) => (given.as_bytes(), given.as_bytes(), b"Distance"),
+        None => (b"cell", b"distance", b""),
     }
 }

@@ -4,7 +4,9 @@
 
 mod cells;
 mod each;
+mod each_lines;
 mod fields;
+mod function;
 mod header;
 mod lanes;
 pub mod laws;
@@ -17,3 +19,4 @@ mod write;
 
 pub use cells::take_row_cells;
 pub use each::answer_rows;
+pub use each_lines::answer_rows_lines;

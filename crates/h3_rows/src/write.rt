@@ -2,7 +2,7 @@
 
 ghost use Rattle.std.specs.Prelude.{◌≡◌, ◌≤◌, ◌<◌, ◌+◌, ◌++◌, ◌∷◌, [], ℕ, List, length, take, IfOk, IfErr, OnOk};
 ghost use Rattle.h3_lines.specs.Writing.{Takes, sink_use};
-ghost use Rattle.h3_rows.specs.Answering.{Breaks, Moves};
+ghost use Rattle.h3_lines.specs.Answering.{Breaks, Moves};
 ghost use Rattle.h3_rows.specs.RowsAnswer.{rows_with, row_with};
 
 use crate::fields::{row_body, row_ending};

@@ -24,7 +24,9 @@ command_names =
     name.AreNeighborCells ∷ name.CellsToDirectedEdge ∷ name.IsValidDirectedEdge ∷ name.GetDirectedEdgeOrigin ∷
     name.GetDirectedEdgeDestination ∷ name.OriginToDirectedEdges ∷
     name.AreValidCells ∷ name.AreValidDirectedEdges ∷ name.GetResolutions ∷ name.GetBaseCellNumbers ∷ name.ArePentagons ∷ name.AreResClassIII ∷
-    name.CellsToParents ∷ name.CellsToCenterChildren ∷ name.CellsToLastChildren ∷ name.CellsToChildrenSizes ∷ name.CellsToChildPositions ∷ name.GetDirectedEdgeOrigins ∷ name.OriginsToDirectedEdges ∷ []
+    name.CellsToParents ∷ name.CellsToCenterChildren ∷ name.CellsToLastChildren ∷ name.CellsToChildren ∷ name.CellsToChildrenSizes ∷ name.CellsToChildPositions ∷
+    name.GridDisksUnsafe ∷ name.GridDisksDistancesUnsafe ∷ name.GridRingsUnsafe ∷
+    name.GetDirectedEdgeOrigins ∷ name.GetDirectedEdgeDestinations ∷ name.OriginsToDirectedEdges ∷ []
 
 -- a command's word and its options
 pub record Entry : Type 0 where
@@ -83,9 +85,14 @@ entry_of name.AreResClassIII = record { word = codes "areResClassIII"; options =
 entry_of name.CellsToParents = record { word = codes "cellsToParents"; options = Resolution ∷ line_options }
 entry_of name.CellsToCenterChildren = record { word = codes "cellsToCenterChildren"; options = Resolution ∷ line_options }
 entry_of name.CellsToLastChildren = record { word = codes "cellsToLastChildren"; options = Resolution ∷ line_options }
+entry_of name.CellsToChildren = record { word = codes "cellsToChildren"; options = Resolution ∷ line_options }
 entry_of name.CellsToChildrenSizes = record { word = codes "cellsToChildrenSizes"; options = Resolution ∷ line_options }
 entry_of name.CellsToChildPositions = record { word = codes "cellsToChildPositions"; options = Resolution ∷ line_options }
+entry_of name.GridDisksUnsafe = record { word = codes "gridDisksUnsafe"; options = Radius ∷ Table ∷ line_options }
+entry_of name.GridDisksDistancesUnsafe = record { word = codes "gridDisksDistancesUnsafe"; options = Radius ∷ Table ∷ line_options }
+entry_of name.GridRingsUnsafe = record { word = codes "gridRingsUnsafe"; options = Radius ∷ Table ∷ line_options }
 entry_of name.GetDirectedEdgeOrigins = record { word = codes "getDirectedEdgeOrigins"; options = line_options }
+entry_of name.GetDirectedEdgeDestinations = record { word = codes "getDirectedEdgeDestinations"; options = Table ∷ line_options }
 entry_of name.OriginsToDirectedEdges = record { word = codes "originsToDirectedEdges"; options = line_options }
 
 -- the word that names the command
@@ -154,6 +161,11 @@ call_of (command.ForEach (each.CellToChildrenSize res)) = (name.CellsToChildrenS
 call_of (command.ForEach (each.CellToChildPos res)) = (name.CellsToChildPositions, Number Resolution res ∷ [])
 call_of (command.ForEach each.GetDirectedEdgeOrigin) = (name.GetDirectedEdgeOrigins, [])
 call_of (command.ForEach each.OriginToDirectedEdges) = (name.OriginsToDirectedEdges, [])
+call_of (command.CellsToChildren res) = (name.CellsToChildren, Number Resolution res ∷ [])
+call_of (command.GridDisksUnsafe k) = (name.GridDisksUnsafe, Number Radius k ∷ [])
+call_of (command.GridDisksDistancesUnsafe k) = (name.GridDisksDistancesUnsafe, Number Radius k ∷ [])
+call_of (command.GridRingsUnsafe k) = (name.GridRingsUnsafe, Number Radius k ∷ [])
+call_of command.GetDirectedEdgeDestinations = (name.GetDirectedEdgeDestinations, [])
 
 -- the name of a command
 abbrev pub name_of_command : Command → CommandName

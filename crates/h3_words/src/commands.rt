@@ -64,13 +64,18 @@ pub enum CommandName {
     CellsToParents,
     CellsToCenterChildren,
     CellsToLastChildren,
+    CellsToChildren,
     CellsToChildrenSizes,
     CellsToChildPositions,
+    GridDisksUnsafe,
+    GridDisksDistancesUnsafe,
+    GridRingsUnsafe,
     GetDirectedEdgeOrigins,
+    GetDirectedEdgeDestinations,
     OriginsToDirectedEdges,
 }
 
-static COMMAND_NAMES: [CommandName; 46] = [
+static COMMAND_NAMES: [CommandName; 51] = [
     CommandName::IsValidCell,
     CommandName::GetResolution,
     CommandName::GetBaseCellNumber,
@@ -113,9 +118,14 @@ static COMMAND_NAMES: [CommandName; 46] = [
     CommandName::CellsToParents,
     CommandName::CellsToCenterChildren,
     CommandName::CellsToLastChildren,
+    CommandName::CellsToChildren,
     CommandName::CellsToChildrenSizes,
     CommandName::CellsToChildPositions,
+    CommandName::GridDisksUnsafe,
+    CommandName::GridDisksDistancesUnsafe,
+    CommandName::GridRingsUnsafe,
     CommandName::GetDirectedEdgeOrigins,
+    CommandName::GetDirectedEdgeDestinations,
     CommandName::OriginsToDirectedEdges,
 ];
 
@@ -138,8 +148,8 @@ macro_rules! with_list_options {
 
 // These options, and those of a command that answers its list line by line.
 macro_rules! with_line_options {
-    ($($own:ident)?) => {
-        &[$($own,)? Field, Column, Header, Separator, Csv, As, KeepGoing]
+    ($($own:ident),*) => {
+        &[$($own,)* Field, Column, Header, Separator, Csv, As, KeepGoing]
     };
 }
 
@@ -325,6 +335,10 @@ impl CommandName {
                 word: "cellsToLastChildren",
                 options: with_line_options!(Resolution),
             },
+            CommandName::CellsToChildren => Entry {
+                word: "cellsToChildren",
+                options: with_line_options!(Resolution),
+            },
             CommandName::CellsToChildrenSizes => Entry {
                 word: "cellsToChildrenSizes",
                 options: with_line_options!(Resolution),
@@ -333,9 +347,25 @@ impl CommandName {
                 word: "cellsToChildPositions",
                 options: with_line_options!(Resolution),
             },
+            CommandName::GridDisksUnsafe => Entry {
+                word: "gridDisksUnsafe",
+                options: with_line_options!(Radius, Table),
+            },
+            CommandName::GridDisksDistancesUnsafe => Entry {
+                word: "gridDisksDistancesUnsafe",
+                options: with_line_options!(Radius, Table),
+            },
+            CommandName::GridRingsUnsafe => Entry {
+                word: "gridRingsUnsafe",
+                options: with_line_options!(Radius, Table),
+            },
             CommandName::GetDirectedEdgeOrigins => Entry {
                 word: "getDirectedEdgeOrigins",
                 options: with_line_options!(),
+            },
+            CommandName::GetDirectedEdgeDestinations => Entry {
+                word: "getDirectedEdgeDestinations",
+                options: with_line_options!(Table),
             },
             CommandName::OriginsToDirectedEdges => Entry {
                 word: "originsToDirectedEdges",
@@ -448,15 +478,20 @@ impl CommandName {
             CommandName::CellsToLastChildren => Command::ForEach(CellFunction::CellToLastChild {
                 res: res(),
             }),
+            CommandName::CellsToChildren => asked!(CellsToChildren, res),
             CommandName::CellsToChildrenSizes => Command::ForEach(CellFunction::CellToChildrenSize {
                 res: res(),
             }),
             CommandName::CellsToChildPositions => Command::ForEach(CellFunction::CellToChildPos {
                 res: res(),
             }),
+            CommandName::GridDisksUnsafe => asked!(GridDisksUnsafe, k),
+            CommandName::GridDisksDistancesUnsafe => asked!(GridDisksDistancesUnsafe, k),
+            CommandName::GridRingsUnsafe => asked!(GridRingsUnsafe, k),
             CommandName::GetDirectedEdgeOrigins => Command::ForEach(
                 CellFunction::GetDirectedEdgeOrigin,
             ),
+            CommandName::GetDirectedEdgeDestinations => Command::GetDirectedEdgeDestinations,
             CommandName::OriginsToDirectedEdges => Command::ForEach(
                 CellFunction::OriginToDirectedEdges,
             ),

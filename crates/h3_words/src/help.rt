@@ -59,9 +59,14 @@ pub(crate) const HELP: &str = "Inspect, traverse and compact H3 cells\n\n\
     \x20 cellsToParents              The ancestor of each cell at a resolution\n\
     \x20 cellsToCenterChildren       The center descendant of each cell\n\
     \x20 cellsToLastChildren         The last descendant of each cell\n\
+    \x20 cellsToChildren             The descendants of each cell at a resolution\n\
     \x20 cellsToChildrenSizes        How many descendants each cell has\n\
     \x20 cellsToChildPositions       The position of each cell below an ancestor\n\
+    \x20 gridDisksUnsafe             The cells within a radius of each cell\n\
+    \x20 gridDisksDistancesUnsafe    The same, each with the number of its ring\n\
+    \x20 gridRingsUnsafe             The cells of the ring of a radius around each cell\n\
     \x20 getDirectedEdgeOrigins      The cell that each directed edge leaves\n\
+    \x20 getDirectedEdgeDestinations The cell that each directed edge leads to\n\
     \x20 originsToDirectedEdges      The directed edges that leave each cell\n\n\
     Options:\n\
     \x20 -h, --help     Print help\n\
@@ -147,8 +152,18 @@ macro_rules! notes {
             $example
         )
     };
-    (radius, $example:literal) => {
-        notes!(table; "1 no index, 5 no cell,\n", " ", $example)
+    (radius $($first:literal)*, $example:literal) => {
+        notes!(table $($first)*; "1 no index, 5 no cell,\n", " ", $example)
+    };
+    (walks, $example:literal) => {
+        notes!(
+            radius "An error of the list is told with its line, as line 2: error 1: E_FAILED.\n"
+            "Of a walk that is refused on its way no cell is printed.\n",
+            $example
+        )
+    };
+    (destination $($first:literal)?, $example:literal) => {
+        notes!(table $($first)?; "1 no index, 6 no edge,\n", " ", $example)
     };
     (neighbors $errors:literal, $end:literal, $example:literal) => {
         notes!(
@@ -158,9 +173,9 @@ macro_rules! notes {
             $example
         )
     };
-    (table $($first:literal)?; $($errors:literal)+, $end:literal, $example:literal) => {
+    (table $($first:literal)*; $($errors:literal)+, $end:literal, $example:literal) => {
         notes!(
-            errors $($first)?;
+            errors $($first)*;
             $($errors)+ "9 a step that starts or ends in a pentagon base cell," $end,
             $example "\nA table: h3-table baseCells.c -o h3.csv, of the file in H3's source"
         )
@@ -242,12 +257,22 @@ impl CommandName {
                 "The center descendant at a resolution of each cell listed on standard input",
             CommandName::CellsToLastChildren =>
                 "The last descendant at a resolution of each cell listed on standard input",
+            CommandName::CellsToChildren =>
+                "The descendants at a resolution of each cell listed on standard input, ascending",
             CommandName::CellsToChildrenSizes =>
                 "How many descendants at a resolution each cell listed on standard input has",
             CommandName::CellsToChildPositions =>
                 "The position of each cell listed on standard input among the descendants of its ancestor at a resolution",
+            CommandName::GridDisksUnsafe =>
+                "The cells within a radius of each cell listed on standard input, ring by ring",
+            CommandName::GridDisksDistancesUnsafe =>
+                "The cells within a radius of each cell on standard input, each with its ring",
+            CommandName::GridRingsUnsafe =>
+                "The cells of the ring of a radius around each cell listed on standard input",
             CommandName::GetDirectedEdgeOrigins =>
                 "The cell that each directed edge listed on standard input leaves",
+            CommandName::GetDirectedEdgeDestinations =>
+                "The cell that each directed edge listed on standard input leads to",
             CommandName::OriginsToDirectedEdges =>
                 "The directed edges that leave each cell listed on standard input",
         }
@@ -360,9 +385,7 @@ impl CommandName {
                 "h3 getDirectedEdgeOrigin --edge 115283473fffffff"
             ),
             CommandName::GetDirectedEdgeDestination => notes!(
-                table;
-                "1 no index, 6 no edge,\n",
-                " ",
+                destination,
                 "h3 getDirectedEdgeDestination --edge 115283473fffffff --table h3.csv"
             ),
             CommandName::OriginToDirectedEdges => notes!(
@@ -389,6 +412,10 @@ impl CommandName {
                 list descendants,
                 "h3 cellsToLastChildren -r 6 < cells"
             ),
+            CommandName::CellsToChildren => notes!(
+                list descendants,
+                "h3 cellsToChildren -r 6 < cells"
+            ),
             CommandName::CellsToChildrenSizes => notes!(
                 list descendants,
                 "h3 cellsToChildrenSizes -r 6 < cells"
@@ -397,9 +424,25 @@ impl CommandName {
                 list ancestor,
                 "h3 cellsToChildPositions -r 4 < cells"
             ),
+            CommandName::GridDisksUnsafe => notes!(
+                walks,
+                "h3 gridDisksUnsafe -k 1 --table h3.csv < cells"
+            ),
+            CommandName::GridDisksDistancesUnsafe => notes!(
+                walks,
+                "h3 gridDisksDistancesUnsafe -k 1 --table h3.csv < cells"
+            ),
+            CommandName::GridRingsUnsafe => notes!(
+                walks,
+                "h3 gridRingsUnsafe -k 1 --table h3.csv < cells"
+            ),
             CommandName::GetDirectedEdgeOrigins => notes!(
                 list edge,
                 "h3 getDirectedEdgeOrigins < edges"
+            ),
+            CommandName::GetDirectedEdgeDestinations => notes!(
+                list destination,
+                "h3 getDirectedEdgeDestinations --table h3.csv < edges"
             ),
             CommandName::OriginsToDirectedEdges => notes!(
                 list cell,
@@ -440,13 +483,28 @@ impl CommandName {
             CommandName::CellsToLastChildren => Some(
                 "h3 cellsToLastChildren --resolution <resolution> < cells",
             ),
+            CommandName::CellsToChildren => Some(
+                "h3 cellsToChildren --resolution <resolution> < cells",
+            ),
             CommandName::CellsToChildrenSizes => Some(
                 "h3 cellsToChildrenSizes --resolution <resolution> < cells",
             ),
             CommandName::CellsToChildPositions => Some(
                 "h3 cellsToChildPositions --resolution <resolution> < cells",
             ),
+            CommandName::GridDisksUnsafe => Some(
+                "h3 gridDisksUnsafe -k <k> --table <table> < cells",
+            ),
+            CommandName::GridDisksDistancesUnsafe => Some(
+                "h3 gridDisksDistancesUnsafe -k <k> --table <table> < cells",
+            ),
+            CommandName::GridRingsUnsafe => Some(
+                "h3 gridRingsUnsafe -k <k> --table <table> < cells",
+            ),
             CommandName::GetDirectedEdgeOrigins => Some("h3 getDirectedEdgeOrigins < edges"),
+            CommandName::GetDirectedEdgeDestinations => Some(
+                "h3 getDirectedEdgeDestinations --table <table> < edges",
+            ),
             CommandName::OriginsToDirectedEdges => Some("h3 originsToDirectedEdges < cells"),
             _ => None,
         }

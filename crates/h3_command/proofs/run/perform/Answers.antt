@@ -24,6 +24,26 @@ returns-in-CellToChildren-clause-ends g c =
     let res = c.in-CellToChildren.res in
     rw c.in-CellToChildren.is (rw (to_z-of_z w32 res (search rules)) at c.cell_to_children.ensures)
 
+pub returns-in-CellsToChildren-clause-ends : goal.returns-in-CellsToChildren-clause-ends
+returns-in-CellsToChildren-clause-ends g c =
+    let res = c.in-CellsToChildren.res in
+    rw c.in-CellsToChildren.is (rw (to_z-of_z w32 res (search rules)) at c.cells_to_children.ensures)
+
+pub returns-in-GridDisksUnsafe-clause-ends : goal.returns-in-GridDisksUnsafe-clause-ends
+returns-in-GridDisksUnsafe-clause-ends g c =
+    let k = c.in-GridDisksUnsafe.k in
+    rw c.in-GridDisksUnsafe.is (rw (to_z-of_z w32 k (search rules)) at c.grid_disks_unsafe.ensures)
+
+pub returns-in-GridDisksDistancesUnsafe-clause-ends : goal.returns-in-GridDisksDistancesUnsafe-clause-ends
+returns-in-GridDisksDistancesUnsafe-clause-ends g c =
+    let k = c.in-GridDisksDistancesUnsafe.k in
+    rw c.in-GridDisksDistancesUnsafe.is (rw (to_z-of_z w32 k (search rules)) at c.grid_disks_distances_unsafe.ensures)
+
+pub returns-in-GridRingsUnsafe-clause-ends : goal.returns-in-GridRingsUnsafe-clause-ends
+returns-in-GridRingsUnsafe-clause-ends g c =
+    let k = c.in-GridRingsUnsafe.k in
+    rw c.in-GridRingsUnsafe.is (rw (to_z-of_z w32 k (search rules)) at c.grid_rings_unsafe.ensures)
+
 pub returns-in-UncompactCells-clause-ends : goal.returns-in-UncompactCells-clause-ends
 returns-in-UncompactCells-clause-ends g c =
     let res = c.in-UncompactCells.res in

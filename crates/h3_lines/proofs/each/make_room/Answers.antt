@@ -1,13 +1,12 @@
 use Rattle.std.proofs.Common.{◌≡◌, ◌<◌, ◌≤◌, ◌-◌, ◌∷◌, [], ◌++◌, ℕ, get_or, length, take, set, arith, refl, length-take-le, ap, ◌∙◌, sym}
 use Rattle.std.proofs.lemmas.List.{take_more_set}
 use Rattle.std.proofs.lemmas.Result.{err_from_is_err_and}
-use Rattle.h3_lines.specs.EachLaws.{answered_none}
 use Rattle.h3_lines.specs.Writing.{sink_use}
-use Rattle.h3_lines.proofs.AnsweredLines.{answered_moved, last_left, some_of_part}
+use Rattle.h3_lines.proofs.AnsweredLines.{last_left, moves_none, some_of_part}
 use Rattle.h3_lines.proofs.each.make_room.Goals as goal
 
 pub returns-then-end-clause-ok : goal.returns-then-end-clause-ok
-returns-then-end-clause-ok g c answer n = answered_none g.W.Sink.taken g.W.Sink.has_failed answer n _ _
+returns-then-end-clause-ok g c = moves_none g.W.Sink.taken g.W.Sink.has_failed _ _
 
 pub returns-in_err-write_all-clause-err : goal.returns-in_err-write_all-clause-err
 returns-in_err-write_all-clause-err g c =
@@ -21,11 +20,16 @@ returns-in_err-write_all-clause-err g c =
     rw (p.1, p.2) (refl, held, some_of_part _ _ _ (sink_use g.W.Sink.taken g.W.Sink.has_failed c.args.out.now c.write_all.new.out) is c.in_err-write_all.ensures.part c.in_err-write_all.ensures.err)
 
 pub returns-clause-ok : goal.returns-clause-ok
-returns-clause-ok g c answer n =
+returns-clause-ok g c =
     let block = c.args.block.now in
     let end = c.args.end in
     let some : 0 < end = omega (arith, c.if-end.false) in
     let full : end ≤ length block = omega (arith, c.fits-block, c.requires) in
     let last = get_or block (end - 1) 0 in
     let first : take 1 (set block 0 last) ≡ last ∷ [] = take_more_set block 0 last (omega arith) in
-    answered_moved g.W.Sink.taken g.W.Sink.has_failed answer n _ _ (take (end - 1) block) _ _ (last_left block end some full ∙ ap (λ l. take (end - 1) block ++ l) (sym first)) c.in_ok-write_all.ensures.written c.in_ok-write_all.ensures.ok
+    record {
+      part = take (end - 1) block;
+      split = last_left block end some full ∙ ap (λ l. take (end - 1) block ++ l) (sym first);
+      grown = c.in_ok-write_all.ensures.written;
+      sound = c.in_ok-write_all.ensures.ok;
+    }

@@ -1,4 +1,4 @@
-use Rattle.std.proofs.Common.{[], ap, inl, refl, rules, ◌∙◌}
+use Rattle.std.proofs.Common.{[], ap, inl, rules}
 use Rattle.std.proofs.lemmas.Result.{err_from_is_err_and}
 use Rattle.h3_index.specs.Counted.{source_of}
 use Rattle.h3_lines.specs.declared.refusal.Refusal.TheVariants.{Error}

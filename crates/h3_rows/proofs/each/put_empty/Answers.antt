@@ -1,7 +1,8 @@
 use Rattle.std.proofs.Common.{◌≡◌, ◌++◌, ◌∷◌, [], refl, take, subst, append_assoc}
 use Rattle.std.proofs.lemmas.Result.{err_from_is_err_and}
 use Rattle.h3_lines.specs.Writing.{sink_use}
-use Rattle.h3_rows.specs.Answering.{Breaks, Moves, state_of}
+use Rattle.h3_lines.specs.Answering.{Breaks, Moves}
+use Rattle.h3_rows.specs.Answering.{state_of}
 use Rattle.h3_rows.specs.RowsAnswer.{empty_step, goes_on}
 use Rattle.h3_rows.proofs.AnsweredRows.{breaks_more, breaks_then, moves_then}
 use Rattle.h3_rows.proofs.Steps.{breaks_step, puts}

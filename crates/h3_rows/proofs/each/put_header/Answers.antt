@@ -1,7 +1,7 @@
 use Rattle.std.proofs.Common.{sym, take}
 use Rattle.std.proofs.lemmas.Result.{err_from_is_err_and}
 use Rattle.h3_lines.specs.Writing.{sink_use}
-use Rattle.h3_rows.specs.RowForm.{form_of}
+use Rattle.h3_rows.specs.RowForm.{columns_form}
 use Rattle.h3_rows.proofs.Steps.{breaks_header}
 use Rattle.h3_rows.proofs.each.put_header.Goals as goal
 
@@ -9,7 +9,7 @@ pub returns-in_err-last-clause-err : goal.returns-in_err-last-clause-err
 returns-in_err-last-clause-err g c =
     let p = err_from_is_err_and c.from_residual.result c.from_residual.ensures.1 in
     let held = take c.args.end c.args.block.now in
-    let form = form_of c.args.job.now.options.now c.args.job.now.name.now in
+    let form = columns_form c.args.job.now.options.now c.args.job.now.name.now c.args.job.now.is_pair in
     let chosen = rw (c.read_of-read.ensures, c.row_body.ensures) at c.in-Ok.ensures in
-    rw (p.1, p.2) (breaks_header form c.args.state c.args.row.now held _ c.in-Ok.before _ (sink_use g.W.Sink.taken g.W.Sink.has_failed c.args.out.now c.put_row.new.out) c.requires.awaited (sym chosen)
-    (rw (c.row_body-2.ensures, c.column_name-name.ensures, c.row_ending.ensures) at c.in_err-last.ensures.err))
+    rw (p.1, p.2) (breaks_header form c.args.state c.args.row.now held _ c.in-Ok.before _ (sink_use g.W.Sink.taken g.W.Sink.has_failed c.args.out.now c.put_named.new.out) c.requires.awaited (sym chosen)
+    c.in_err-last.ensures.err)

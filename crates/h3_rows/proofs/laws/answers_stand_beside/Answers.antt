@@ -1,4 +1,4 @@
-use Rattle.h3_rows.proofs.Kept.{fields_are_kept, rows_are_whole}
+use Rattle.h3_rows.proofs.Kept.{fields_are_kept, pairs_are_kept, rows_are_whole}
 use Rattle.h3_rows.proofs.ReadBack.{output_reads_back, rows_read_back}
 use Rattle.h3_rows.proofs.Stand.{rows_give_back, rows_stand}
 use Rattle.h3_rows.proofs.laws.answers_stand_beside.Goals as goal
@@ -14,6 +14,9 @@ returns-clause-whole c = rows_are_whole
 
 pub returns-clause-kept : goal.returns-clause-kept
 returns-clause-kept c = fields_are_kept
+
+pub returns-clause-pairs : goal.returns-clause-pairs
+returns-clause-pairs c = pairs_are_kept
 
 pub returns-clause-back : goal.returns-clause-back
 returns-clause-back c = rows_read_back

@@ -1,5 +1,5 @@
 use Rattle.std.proofs.Common.{◌≡◌, ◌≤◌, List, ℕ, ◌++◌, length, take}
-use Rattle.h3_rows.specs.Answering.{Moves}
+use Rattle.h3_lines.specs.Answering.{Moves}
 use Rattle.h3_rows.specs.RowsAnswer.{rows_with}
 use Rattle.h3_rows.proofs.write.put_rows.Given as goal
 

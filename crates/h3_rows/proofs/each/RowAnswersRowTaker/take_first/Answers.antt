@@ -1,6 +1,6 @@
 use Rattle.std.proofs.Common.{refl, take}
 use Rattle.h3_rows.specs.EachLaws.{answered_none}
-use Rattle.h3_rows.specs.RowForm.{form_of}
+use Rattle.h3_rows.specs.RowForm.{columns_form}
 use Rattle.h3_rows.proofs.PlainAnswers.{if_none, plain_answered, plain_cuts}
 use Rattle.h3_rows.proofs.each.RowAnswersRowTaker.take_first.Goals as goal
 
@@ -16,8 +16,8 @@ returns-in_err-size-clause-none g c = if_none c.from_residual-in_err-size.result
 pub returns-clause-some : goal.returns-clause-some
 returns-clause-some g c =
     let v = c.args.self.now in
-    let form = form_of v.job.now.options.now v.job.now.name.now in
-    let answer = g.F.IndexFunction.answer_of v.job.now.function.now in
+    let form = columns_form v.job.now.options.now v.job.now.name.now v.job.now.is_pair in
+    let answer = g.F.RowFunction.answer_of v.job.now.function.now in
     let p = c.in_ok-size.ensures.some in
     let held = take v.end v.block in
     let held' = take c.in_ok-size.end c.put_plain.new.block in

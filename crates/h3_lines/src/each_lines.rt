@@ -1,0 +1,133 @@
+//! Lists of which each line is answered on its own, by any number of lines.
+
+ghost use Rattle.std.specs.Prelude.{◌≡◌, ◌≤◌, ◌++◌, ℕ, List, length, take, Option, Result, Err, IsOk, IfOk, IfErr, OnOk};
+ghost use Rattle.std.specs.Iterator.{AlwaysYields, IsFinite};
+ghost use Rattle.std.specs.List.{flat_map};
+ghost use Rattle.h3_index.specs.declared.error.H3Error.{H3Error};
+ghost use Rattle.h3_lines.specs.Answer.{Answer, refused, whole_items};
+ghost use Rattle.h3_lines.specs.Answering.{Breaks, Moves};
+ghost use Rattle.h3_lines.specs.EachLine.{EndsEach};
+ghost use Rattle.h3_lines.specs.GivenLines.{GivesLines};
+ghost use Rattle.h3_lines.specs.Writing.{sink_use};
+
+use crate::each::{Answering, Held, answer_pages, make_room, refuse};
+use crate::line::{BLOCK, Line};
+use crate::refusal::{Fault, Refusal};
+use crate::splitting::PAGE;
+use h3_index::{CellLines, H3Error, Sink, Source};
+use std::alloc::Global;
+
+/// A function of one index that answers by any number of lines.
+pub trait LinesFunction {
+    /// What is written as a line of the answer, or as several.
+    type Item: Line + Drop;
+
+    /// The lines of an answer.
+    type Lines: Iterator<Item = Self::Item> + Drop;
+
+    /// What its own command answers to an index, or to a word that parses as none: lines, or an error
+    /// and none of them.
+    ghost answer_of: { Self → Option ℕ → Answer };
+
+    /// The lines of the answer, or its error.
+    fn lines(&self, index: Option<u64>) -> Result<Self::Lines, H3Error>
+        ensures can { IfOk result (λ items. Self.Lines.can_next items) }
+        ensures ends { IfOk result (λ items. IsFinite (Self.Lines.remaining items)) }
+        ensures ok { IfOk result (λ items.
+            GivesLines Self.Lines.next_gives Self.Item.line_of (answer_of self.now index) items) }
+        ensures err { IfErr result (λ e. answer_of self.now index ≡ refused e) };
+}
+
+/// Walks to the end, or to its first error, which it then returns. The walk is an iterator that ends.
+/// So a walk that is refused on its way is known before any of its lines is written.
+pub fn walk_through<T: Drop, I: Iterator<Item = Result<T, H3Error>> + Drop>(
+    walk: I,
+) -> Result<(), H3Error>
+    requires can { I.can_next walk }
+    requires ends { IsFinite (I.remaining walk) }
+    ensures ok { OnOk result ((all : List (Result _ H3Error)) →
+        AlwaysYields I.next_gives (λ x. x) walk all → IsOk (whole_items all)) }
+    ensures err { IfErr result (λ e. (all : List (Result _ H3Error)) →
+        AlwaysYields I.next_gives (λ x. x) walk all → whole_items all ≡ Err e) }
+{
+    for item in walk {
+        item?;
+    }
+    Ok(())
+}
+
+/// Puts the lines of each item of an iterator after the bytes held back in a block, which end at
+/// `end`, and returns where they end then. A block that is full is written, but for its last byte.
+fn put_lines<W: Sink, L: Line + Drop, I: Iterator<Item = L> + Drop>(
+    items: I,
+    out: &mut W,
+    lines: &mut CellLines,
+    block: &mut [u8; BLOCK],
+    end: usize,
+) -> Result<usize, Refusal>
+    requires can { I.can_next items }
+    requires ends { IsFinite (I.remaining items) }
+    requires within { end ≤ BLOCK }
+    ensures within { IfOk result (λ last. last ≤ BLOCK) }
+    ensures ok { IfOk result (λ last. (all : List _) → AlwaysYields I.next_gives (λ x. x) items all →
+        Moves W.taken W.has_failed (take end block.old ++ flat_map L.line_of all)
+        (take last block.new) out.old out.new) }
+    ensures err { IfErr result (λ e. (all : List _) → AlwaysYields I.next_gives (λ x. x) items all →
+        Breaks (take end block.old ++ flat_map L.line_of all)
+        (sink_use W.taken W.has_failed out.old out.new) e) }
+{
+    let mut last = end;
+    for item in items {
+        last = make_room(out, block, last)?;
+        last = item.put(lines, block, last);
+    }
+    Ok(last)
+}
+
+/// A function whose answer to an index is written as it is made.
+#[derive(Drop)]
+struct Long<'f, F> {
+    function: &'f F,
+}
+
+impl<'f, F: LinesFunction> Answering for Long<'f, F> {
+    ghost answer_of = { λ f. F.answer_of f.function.now };
+
+    fn answer<'a, W: Sink>(
+        &self,
+        index: Option<u64>,
+        held: &mut Held<'a, W>,
+    ) -> Result<(), Refusal> {
+        match self.function.lines(index) {
+            Ok(items) => {
+                let lines = &mut held.work.lines;
+                held.end = put_lines(items, held.out, lines, &mut held.block, held.end)?;
+                held.number += 1;
+                Ok(())
+            }
+            Err(error) => {
+                let bytes = &held.block[..held.end];
+                Err(refuse(held.out, bytes, held.number, error))
+            }
+        }
+    }
+}
+
+/// Answers each line of a list that is not blank, in order, up to its end or its first error, as
+/// [`answer_each`](crate::answer_each) does, by as many lines as the function has. No answer is kept,
+/// and no more of its lines than a block has.
+///
+/// Errors as of `answer_each`.
+pub fn answer_each_lines<R: Source, W: Sink, F: LinesFunction>(
+    alloc: Global,
+    function: &F,
+    input: &mut R,
+    out: &mut W,
+) -> Result<(), Refusal>
+    ensures { EndsEach (F.answer_of function.now) (R.left input.old) (R.left input.new)
+        (R.has_failed input.old) (R.has_failed input.new) result
+        (sink_use W.taken W.has_failed out.old out.new) }
+{
+    let mut page = vec![in alloc; 0u8; PAGE].map_err(|_| Refusal::Fault(Fault::Memory))?;
+    answer_pages(&Long { function }, input, out, &mut page)
+}

@@ -1,0 +1,117 @@
+//! What answers the cells of rows, each with its row beside it.
+
+ghost use Rattle.std.specs.Prelude.{◌≡◌, ◌+◌, ◌≤◌, ℕ, Option, take, IfOk, IfErr, IfNone, IfSome};
+ghost use Rattle.h3_lines.specs.Answer.{Answer, refused};
+ghost use Rattle.h3_lines.specs.Answering.{Puts};
+ghost use Rattle.h3_lines.specs.Writing.{sink_use};
+ghost use Rattle.h3_rows.specs.Answering.{BreaksBeside, PutsBeside};
+
+use crate::write::put_rows;
+use h3_index::{CellLines, H3Error, Sink};
+use h3_lines::{ANSWER, BLOCK, IndexFunction, Refusal};
+
+/// What a function of one index works with.
+#[derive(Drop)]
+pub(crate) struct Workspace {
+    pub(crate) place: usize,
+    pub(crate) lines: CellLines,
+    pub(crate) text: [u8; BLOCK],
+}
+
+/// What answers the cell of a row.
+pub(crate) trait RowFunction {
+    /// The answer to an index, or to a word that parses as none.
+    ghost answer_of: { Self → Option ℕ → Answer };
+
+    /// Puts a row once for each line of the answer to its cell, after the bytes held back in a block,
+    /// which end at `end`, and returns where they end then; or returns the answer's error, and changes
+    /// nothing of them.
+    fn put_beside<W: Sink>(
+        &self,
+        index: Option<u64>,
+        out: &mut W,
+        work: &mut Workspace,
+        block: &mut [u8; BLOCK],
+        end: usize,
+        separator: u8,
+        row: &[u8],
+    ) -> Result<Result<usize, H3Error>, Refusal>
+        requires { end ≤ BLOCK }
+        ensures within { IfOk result (λ o. IfOk o (λ last. last ≤ BLOCK)) }
+        ensures ok { IfOk result (λ o. IfOk o (λ last.
+            PutsBeside W.taken W.has_failed (answer_of self.now index) separator row.now
+            (take end block.old) (take last block.new) out.old out.new)) }
+        ensures refused { IfOk result (λ o. IfErr o (λ e. answer_of self.now index ≡ refused e)) }
+        ensures kept { IfOk result (λ o. IfErr o (λ e. take end block.new ≡ take end block.old)) }
+        ensures left { IfOk result (λ o. IfErr o (λ e. out.new ≡ out.old)) }
+        ensures err { IfErr result (λ e.
+            BreaksBeside (answer_of self.now index) separator row.now (take end block.old)
+            (sink_use W.taken W.has_failed out.old out.new) e) };
+
+    /// Puts the answer to an index into a block from the byte `at` on, if it is put so at once, and
+    /// returns where it ends. The bytes after it may change too.
+    fn put_short(
+        &self,
+        index: u64,
+        work: &mut Workspace,
+        block: &mut [u8; BLOCK],
+        at: usize,
+    ) -> Option<usize>
+        requires room { at + ANSWER ≤ BLOCK }
+        ensures end { IfSome result (λ last. last ≤ at + ANSWER) }
+        ensures some { IfSome result (λ last.
+            Puts (answer_of self.now (Some index)) block.old block.new at last) }
+        ensures none { IfNone result (take at block.new ≡ take at block.old) };
+}
+
+/// A function whose answer to an index fits into a block.
+#[derive(Drop)]
+pub(crate) struct Short<'f, F> {
+    pub(crate) function: &'f F,
+}
+
+impl<'f, F: IndexFunction> RowFunction for Short<'f, F> {
+    ghost answer_of = { λ f. F.answer_of f.function.now };
+
+    #[inline(always)]
+    fn put_beside<W: Sink>(
+        &self,
+        index: Option<u64>,
+        out: &mut W,
+        work: &mut Workspace,
+        block: &mut [u8; BLOCK],
+        end: usize,
+        separator: u8,
+        row: &[u8],
+    ) -> Result<Result<usize, H3Error>, Refusal> {
+        let text = &mut work.text;
+        match self
+            .function
+            .put(index, &mut work.place, &mut work.lines, text, 0)
+        {
+            Ok(last) => {
+                let lines = &work.text[..last];
+                let after = put_rows(out, block, end, separator, row, lines)?;
+                Ok(Ok(after))
+            }
+            Err(error) => Ok(Err(error)),
+        }
+    }
+
+    #[inline(always)]
+    fn put_short(
+        &self,
+        index: u64,
+        work: &mut Workspace,
+        block: &mut [u8; BLOCK],
+        at: usize,
+    ) -> Option<usize> {
+        match self
+            .function
+            .put(Some(index), &mut work.place, &mut work.lines, block, at)
+        {
+            Ok(last) => Some(last),
+            Err(_) => None,
+        }
+    }
+}
