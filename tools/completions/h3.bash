@@ -1,10 +1,10 @@
 # Completions of the command h3 for bash.
 # made from h3 --help (tools/pages)
-_h3_commands='isValidCell getResolution getBaseCellNumber isPentagon isResClassIII getNumCells getRes0Cells getPentagons cellToParent cellToCenterChild cellToLastChild cellToChildren cellToChildrenSize cellToChildPos childPosToCell gridDiskUnsafe gridDiskDistancesUnsafe gridRingUnsafe areNeighborCells cellsToDirectedEdge getDirectedEdgeDestination isValidDirectedEdge getDirectedEdgeOrigin originToDirectedEdges compactCells uncompactCells uncompactCellsSize uniteCells intersectCells subtractCells areCoveredCells cellsToZones countCellsInZones areValidCells areValidDirectedEdges getResolutions getBaseCellNumbers arePentagons areResClassIII cellsToParents cellsToCenterChildren cellsToLastChildren cellsToChildrenSizes cellsToChildPositions getDirectedEdgeOrigins originsToDirectedEdges'
+_h3_commands='isValidCell getResolution getBaseCellNumber isPentagon isResClassIII getNumCells getRes0Cells getPentagons cellToParent cellToCenterChild cellToLastChild cellToChildren cellToChildrenSize cellToChildPos childPosToCell gridDiskUnsafe gridDiskDistancesUnsafe gridRingUnsafe areNeighborCells cellsToDirectedEdge getDirectedEdgeDestination isValidDirectedEdge getDirectedEdgeOrigin originToDirectedEdges compactCells uncompactCells uncompactCellsSize uniteCells intersectCells subtractCells areCoveredCells cellsToZones countCellsInZones areValidCells areValidDirectedEdges getResolutions getBaseCellNumbers arePentagons areResClassIII cellsToParents cellsToCenterChildren cellsToLastChildren cellsToChildren cellsToChildrenSizes cellsToChildPositions gridDisksUnsafe gridDisksDistancesUnsafe gridRingsUnsafe getDirectedEdgeOrigins getDirectedEdgeDestinations originsToDirectedEdges'
 _h3_options() {
     case $1 in
         isValidCell | getResolution | getBaseCellNumber | isPentagon | isResClassIII | originToDirectedEdges) echo --cell ;;
-        getNumCells | getPentagons | uncompactCells | uncompactCellsSize | cellsToParents | cellsToCenterChildren | cellsToLastChildren | cellsToChildrenSizes | cellsToChildPositions) echo --resolution ;;
+        getNumCells | getPentagons | uncompactCells | uncompactCellsSize | cellsToParents | cellsToCenterChildren | cellsToLastChildren | cellsToChildren | cellsToChildrenSizes | cellsToChildPositions) echo --resolution ;;
         cellToParent | cellToCenterChild | cellToLastChild | cellToChildren | cellToChildrenSize | cellToChildPos) echo --cell --resolution ;;
         childPosToCell) echo --position --cell --resolution ;;
         gridDiskUnsafe | gridDiskDistancesUnsafe | gridRingUnsafe) echo --cell -k --table ;;
@@ -13,12 +13,14 @@ _h3_options() {
         isValidDirectedEdge | getDirectedEdgeOrigin) echo --edge ;;
         intersectCells | subtractCells | areCoveredCells) echo --region ;;
         cellsToZones | countCellsInZones) echo --zones ;;
+        gridDisksUnsafe | gridDisksDistancesUnsafe | gridRingsUnsafe) echo -k --table ;;
+        getDirectedEdgeDestinations) echo --table ;;
     esac
 }
 _h3_rows() {
     case $1 in
         compactCells | uncompactCells | uncompactCellsSize | uniteCells | intersectCells | subtractCells | countCellsInZones) echo --field --column --header --separator --csv ;;
-        areCoveredCells | cellsToZones | areValidCells | areValidDirectedEdges | getResolutions | getBaseCellNumbers | arePentagons | areResClassIII | cellsToParents | cellsToCenterChildren | cellsToLastChildren | cellsToChildrenSizes | cellsToChildPositions | getDirectedEdgeOrigins | originsToDirectedEdges) echo --field --column --header --separator --csv --as --keep-going ;;
+        areCoveredCells | cellsToZones | areValidCells | areValidDirectedEdges | getResolutions | getBaseCellNumbers | arePentagons | areResClassIII | cellsToParents | cellsToCenterChildren | cellsToLastChildren | cellsToChildren | cellsToChildrenSizes | cellsToChildPositions | gridDisksUnsafe | gridDisksDistancesUnsafe | gridRingsUnsafe | getDirectedEdgeOrigins | getDirectedEdgeDestinations | originsToDirectedEdges) echo --field --column --header --separator --csv --as --keep-going ;;
     esac
 }
 # end of what is made (tools/pages)
