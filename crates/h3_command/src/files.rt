@@ -25,7 +25,7 @@ use crate::given::cell_given;
 use crate::listed::read_numbered;
 use crate::rows::answer_listed;
 use crate::sets::write_united;
-use h3_index::{Cell, CellLines, H3Error, Sink, Source};
+use h3_index::{Cell, H3Error, Sink, Source};
 use h3_lines::{
     AnswerError, BLOCK, CellFile, Fault, Hints, IndexFunction, Refusal, indexes_ahead, put_result,
     read_numbered_cells,
@@ -312,16 +312,10 @@ impl<'r> IndexFunction for CoveredBy<'r> {
         &self,
         index: Option<u64>,
         place: &mut usize,
-        lines: &mut CellLines,
         block: &mut [u8; BLOCK],
         at: usize,
     ) -> Result<usize, H3Error> {
-        put_result(
-            is_covered_cell(&self.region, index, place),
-            lines,
-            block,
-            at,
-        )
+        put_result(is_covered_cell(&self.region, index, place), block, at)
     }
 
     #[inline(always)]
@@ -344,11 +338,10 @@ impl<'z> IndexFunction for ZoneOf<'z> {
         &self,
         index: Option<u64>,
         place: &mut usize,
-        lines: &mut CellLines,
         block: &mut [u8; BLOCK],
         at: usize,
     ) -> Result<usize, H3Error> {
-        put_result(cell_to_zone(&self.zones, index, place), lines, block, at)
+        put_result(cell_to_zone(&self.zones, index, place), block, at)
     }
 
     #[inline(always)]

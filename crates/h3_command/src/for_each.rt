@@ -9,7 +9,7 @@ ghost use Rattle.h3_command.specs.Answer.{answer_for};
 
 use crate::given::index_given;
 use h3_functions::{Outcome, origin_to_directed_edges, outcome_of};
-use h3_index::{CellLines, H3Error, Sink};
+use h3_index::{H3Error, Sink};
 use h3_lines::{ANSWER, BLOCK, IndexFunction, Line, Refusal, put_result, write_answer};
 use h3_requests::CellFunction;
 
@@ -25,12 +25,7 @@ fn widened(number: Result<u8, H3Error>) -> Result<u64, H3Error>
 /// Puts a line for each edge that leaves a cell, at most six, into a block from the byte `at` on.
 // Inlined, the place of its iterator would be cleared for each line, whatever the function.
 #[inline(never)]
-fn put_edges(
-    index: u64,
-    lines: &mut CellLines,
-    block: &mut [u8; BLOCK],
-    at: usize,
-) -> Result<usize, H3Error>
+fn put_edges(index: u64, block: &mut [u8; BLOCK], at: usize) -> Result<usize, H3Error>
     requires room { at + ANSWER ≤ BLOCK }
     ensures end { IfOk result (λ end. end ≤ at + ANSWER) }
     ensures ok { IfOk result (λ end.
@@ -41,7 +36,7 @@ fn put_edges(
 {
     let mut end = at;
     for edge in origin_to_directed_edges(index)? {
-        end = edge.put(lines, block, end);
+        end = edge.put(block, end);
     }
     Ok(end)
 }
@@ -58,17 +53,16 @@ impl IndexFunction for AnswerOf {
         &self,
         index: Option<u64>,
         _place: &mut usize,
-        lines: &mut CellLines,
         block: &mut [u8; BLOCK],
         at: usize,
     ) -> Result<usize, H3Error> {
         let index = index_given(index)?;
         match outcome_of(self.0, index) {
-            Outcome::Truth(is) => put_result(is, lines, block, at),
-            Outcome::Number(number) => put_result(widened(number), lines, block, at),
-            Outcome::Count(count) => put_result(count, lines, block, at),
-            Outcome::Cell(cell) => put_result(cell, lines, block, at),
-            Outcome::Edges(index) => put_edges(index, lines, block, at),
+            Outcome::Truth(is) => put_result(is, block, at),
+            Outcome::Number(number) => put_result(widened(number), block, at),
+            Outcome::Count(count) => put_result(count, block, at),
+            Outcome::Cell(cell) => put_result(cell, block, at),
+            Outcome::Edges(index) => put_edges(index, block, at),
         }
     }
 }
@@ -87,6 +81,6 @@ pub(crate) fn write_answer_for<W: Sink>(
         (sink_use W.taken W.has_failed out.old out.new) }
 {
     let mut block = [0; BLOCK];
-    let end = AnswerOf(function).put(index, &mut 0, &mut CellLines::new(), &mut block, 0)?;
+    let end = AnswerOf(function).put(index, &mut 0, &mut block, 0)?;
     write_answer(out, &block[..end])
 }

@@ -15,7 +15,7 @@ ghost use Rattle.h3_lines.specs.Answer.{whole_items};
 
 use crate::given::cell_given;
 use h3_grid::{Disk, Ring};
-use h3_index::{Cell, CellLines, H3Error, Siblings};
+use h3_index::{Cell, H3Error, Siblings};
 use h3_lattice::BaseTable;
 use h3_lines::{BLOCK, Line, LinesFunction, RingCell, walk_through};
 use h3_tree::{SiblingGroups, resolution_below, sibling_groups_at};
@@ -35,10 +35,10 @@ impl Line for ChildItem {
     ghost are_lines = { child_items_are_lines };
 
     #[inline(always)]
-    fn put(&self, lines: &mut CellLines, block: &mut [u8; BLOCK], at: usize) -> usize {
+    fn put(&self, block: &mut [u8; BLOCK], at: usize) -> usize {
         match self {
-            ChildItem::One(cell) => cell.put(lines, block, at),
-            ChildItem::Group(siblings) => siblings.put(lines, block, at),
+            ChildItem::One(cell) => cell.put(block, at),
+            ChildItem::Group(siblings) => siblings.put(block, at),
         }
     }
 }

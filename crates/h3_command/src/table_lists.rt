@@ -17,7 +17,7 @@ use crate::given::edge_given;
 use crate::long::{DiskDistancesOf, DiskOf, RingOf};
 use crate::rows::{answer_listed, answer_listed_lines, answer_listed_pairs, between_parts};
 use h3_grid::edge_destination;
-use h3_index::{Cell, CellLines, H3Error, Sink, Source};
+use h3_index::{Cell, H3Error, Sink, Source};
 use h3_lattice::BaseTable;
 use h3_lines::{BLOCK, IndexFunction, Refusal, put_result};
 use h3_requests::RowOptions;
@@ -58,11 +58,10 @@ impl<'t> IndexFunction for DestinationOf<'t> {
         &self,
         index: Option<u64>,
         _place: &mut usize,
-        lines: &mut CellLines,
         block: &mut [u8; BLOCK],
         at: usize,
     ) -> Result<usize, H3Error> {
-        put_result(destination_of(self.table, index), lines, block, at)
+        put_result(destination_of(self.table, index), block, at)
     }
 }
 

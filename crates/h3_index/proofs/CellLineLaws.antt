@@ -1,15 +1,15 @@
 -- The lines of two cells that differ in some digits alone.
 use Rattle.std.specs.Char.{digit_char}
 use Rattle.std.specs.Int.Digits.{number_from_digits}
-use Rattle.std.proofs.Common.{ℕ, zero, suc, ◌≡◌, ◌+◌, ◌-◌, ◌*◌, ◌/◌, ◌%◌, ◌^◌, ◌<◌, ◌≤◌, List, [], ◌∷◌, ◌++◌, length, min, set, take, drop, map, arith, sym, ap, ◌∙◌, lit<, inr}
-use Rattle.std.proofs.Math.Nat.{div-div-eq-div-mul, one-le-pow}
+use Rattle.std.proofs.Common.{ℕ, zero, suc, ◌≡◌, ◌+◌, ◌-◌, ◌*◌, ◌/◌, ◌%◌, ◌^◌, ◌<◌, ◌≤◌, List, [], ◌∷◌, ◌++◌, length, set, take, drop, map, arith, sym, ap, ◌∙◌, lit<, inr}
+use Rattle.std.proofs.Math.Nat.{one-le-pow}
 use Rattle.std.proofs.Math.Seq.{drop-append-add, drop-append_seam, take-append-add, take-append_seam}
 use Rattle.std.proofs.lemmas.List.{append-nil, append_assoc, drop-append-le, length-append, length-drop, length-map, length-take-le, map-append, length-set, take-append-drop, take-append-le, take_all, take_more_set}
 use Rattle.std.proofs.lemmas.Nat.{mod-mul-add, pow-add}
 use Rattle.h3_index.specs.Cell.{Address, IsCell, number_of}
 use Rattle.h3_index.specs.Digits.{last_digits}
 use Rattle.h3_index.specs.Text.{text_of}
-use Rattle.h3_index.proofs.CellLaws.{head_of, mode-number_of, resolution-number_of}
+use Rattle.h3_index.proofs.CellLaws.{head_of, mode-number_of}
 use Rattle.h3_index.proofs.DigitsLaws.{eights, last_digits-cut, length-last_digits, low-last_digits, sixteens}
 use Rattle.h3_index.proofs.MoveLaws.{next_number, number_small}
 use Rattle.h3_index.proofs.WriteLaws.{rest_is, text_moved}
@@ -44,11 +44,7 @@ line_made c digits h is =
     let size : length digits ≡ 16 = ap length is ∙ length-map (last_digits 16 16 (number_of c * 2 ^ 4 % 2 ^ 64)) digit_char ∙ length-last_digits 16 16 (number_of c * 2 ^ 4 % 2 ^ 64) in
     sym (take_all 16 (set digits 15 10) (omega (arith, length-set digits 15 10, size))) ∙ take_more_set digits 15 10 (omega (arith, size)) ∙ ap (λ l. l ++ 10 ∷ []) (ap (take 15) is ∙ text_in_front c h)
 
--- ---- four cells whose numbers agree above four digits
-
--- how many hexadecimal digits come after the one that has the end of a cell's last digit
-abbrev pub digits_after : Address → ℕ
-digits_after c = min (3 * (15 - length c.digits) / 4) 9
+-- ---- cells whose numbers agree above some digits
 
 -- the bits of the digits above a cell's resolution are ones
 pub ones_below : (c : Address) (n : ℕ) → IsCell c → 4 * n ≤ 3 * (15 - length c.digits) → number_of c % 16 ^ n ≡ 16 ^ n - 1
@@ -70,14 +66,6 @@ ones_below c n h fit =
     one_less v (suc k) p some e =
         let split : v ≡ k * p + (p - 1) = omega (arith, e, some) in
         ap (λ m. m % p) split ∙ mod-mul-add k p (p - 1) (omega (arith, some))
-
--- numbers of cells that agree above four hexadecimal digits are of one resolution
-one_resolution : (c d : Address) → IsCell c → IsCell d → number_of d / 2 ^ (4 * digits_after c + 16) ≡ number_of c / 2 ^ (4 * digits_after c + 16) → length d.digits ≡ length c.digits
-one_resolution c d h k same =
-    let n = 4 * digits_after c + 16 in
-    let sum : 52 ≡ n + (52 - n) = omega arith in
-    let up : (v : ℕ) → v / 2 ^ 52 ≡ v / 2 ^ n / 2 ^ (52 - n) = λ v. ap (λ m. v / m) (ap (λ m. 2 ^ m) sum ∙ pow-add 2 n (52 - n)) ∙ sym (div-div-eq-div-mul v (2 ^ n) (2 ^ (52 - n))) in
-    sym (resolution-number_of d k) ∙ ap (λ m. m % 16) (up (number_of d) ∙ ap (λ m. m / 2 ^ (52 - n)) same ∙ sym (up (number_of c))) ∙ resolution-number_of c h
 
 parts : (w v m n : ℕ) → m + (w + n) ≡ 15 → fifteen v ≡ map digit_char (last_digits 16 m (v / 16 ^ (w + n))) ++ (map digit_char (last_digits 16 w (v / 16 ^ n)) ++ map digit_char (last_digits 16 n v))
 parts w v m n sum =
@@ -129,18 +117,6 @@ some_line_differs c d w m n h k sum high ones =
     let back : drop w (drop m (t ++ 10 ∷ [])) ≡ drop w (drop m t) ++ 10 ∷ [] = ap (drop w) (drop-append-le m t (10 ∷ []) (omega (arith, size, sum))) ∙ drop-append-le w (drop m t) (10 ∷ []) (omega (arith, left, sum)) in
     rw (front, back) (ap (λ l. take m t ++ l) (sym (append_assoc middle (drop w (drop m t)) (10 ∷ []))) ∙ sym (append_assoc (take m t) (middle ++ drop w (drop m t)) (10 ∷ [])) ∙ ap (λ l. l ++ 10 ∷ []) (sym (some_differ c d w m n h k sum high ones)))
 
--- the line of the one is that of the other but for four digits
-pub line_differs : (c d : Address) (m : ℕ) → IsCell c → IsCell d → m + (4 + digits_after c) ≡ 15
-    → number_of d / 2 ^ (4 * digits_after c + 16) ≡ number_of c / 2 ^ (4 * digits_after c + 16)
-    → take m (text_of (number_of c) ++ 10 ∷ []) ++ (map digit_char (last_digits 16 4 (number_of d / 2 ^ (4 * digits_after c))) ++ drop 4 (drop m (text_of (number_of c) ++ 10 ∷ []))) ≡ text_of (number_of d) ++ 10 ∷ []
-line_differs c d m h k sum same =
-    let n = digits_after c in
-    let size : length d.digits ≡ length c.digits = one_resolution c d h k same in
-    let power : 2 ^ (4 * n + 16) ≡ 16 ^ (4 + n) = (let e : 4 * n + 16 ≡ 4 * (4 + n) = omega arith in ap (λ l. 2 ^ l) e) ∙ sixteens (4 + n) in
-    let high : number_of d / 16 ^ (4 + n) ≡ number_of c / 16 ^ (4 + n) = rw power at same in
-    let ones : number_of d % 16 ^ n ≡ number_of c % 16 ^ n = ones_below d n k (omega (arith, size)) ∙ sym (ones_below c n h (omega arith)) in
-    rw (sixteens n) (some_line_differs c d 4 m n h k sum high ones)
-
 -- the text comes before the line feed
 pub text_before : (bytes front text : List ℕ) (at : ℕ) → length front ≡ at → length text ≡ 15 → take (at + 16) bytes ≡ front ++ (text ++ 10 ∷ []) → take (at + 15) bytes ≡ front ++ text
 text_before bytes front text at before size line =
@@ -174,3 +150,12 @@ put_twice bytes line part w at m n i j p k size pair sum room i_is p_is j_is k_i
     rw (front, back) (ap (take k) (append_assoc a t (part ++ (d ++ r))) ∙ ap (λ l. take l (a ++ (t ++ (part ++ (d ++ r))))) all
     ∙ take-append-add a (t ++ (part ++ (d ++ r))) (length t + (length part + (length d + 0))) ∙ ap (λ l. a ++ l) (take-append-add t (part ++ (d ++ r)) (length part + (length d + 0)))
     ∙ ap (λ l. a ++ (t ++ l)) (take-append-add part (d ++ r) (length d + 0) ∙ ap (λ l. part ++ l) (take-append-add d r 0 ∙ append-nil d)))
+
+pub put_once : (bytes line : List ℕ) (at i k : ℕ) → length line ≡ 16 → at + 16 ≤ length bytes → i ≡ 16 → k ≡ at + 16
+    → take k (take at bytes ++ (line ++ drop i (drop at bytes))) ≡ take at bytes ++ line
+put_once bytes line at i k size room i_is k_is =
+    let a = take at bytes in
+    let r = drop i (drop at bytes) in
+    let before : length a ≡ at = length-take-le at bytes (omega (arith, room)) in
+    let all : k ≡ length a + (length line + 0) = omega (arith, k_is, before, size) in
+    ap (λ l. take l (a ++ (line ++ r))) all ∙ take-append-add a (line ++ r) (length line + 0) ∙ ap (λ l. a ++ l) (take-append-add line r 0 ∙ append-nil line)

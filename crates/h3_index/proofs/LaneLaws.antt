@@ -1,14 +1,15 @@
 -- Sixteen hexadecimal digits, each in a lane of a vector.
-use Rattle.std.specs.Char.{digit_value}
+use Rattle.std.specs.Char.{digit_char, digit_value}
 use Rattle.std.specs.Int.Bits.{bit_and, bit_or}
 use Rattle.std.specs.Int.Digits.{number_from_digits, AllBelowBase}
 use Rattle.std.specs.List.{list_all}
-use Rattle.std.proofs.Common.{ℕ, zero, suc, ◌≡◌, ◌+◌, ◌-◌, ◌*◌, ◌/◌, ◌%◌, ◌^◌, ◌<◌, ◌==◌, nat_lt, nat_le, ltb, List, [], ◌∷◌, ◌++◌, length, map, replicate, cond, not, ◌||◌, true, inl, inr, refl, arith, ap, ◌∙◌, w8, Fits, eqb-true, ltb-true, leb-true}
+use Rattle.std.proofs.Common.{ℕ, zero, suc, ◌≡◌, ◌+◌, ◌-◌, ◌*◌, ◌/◌, ◌%◌, ◌^◌, ◌<◌, ◌==◌, nat_lt, nat_le, ltb, List, [], ◌∷◌, ◌++◌, length, map, replicate, cond, not, ◌||◌, true, inl, inr, refl, arith, ap, ap₂, lit<, ◌∙◌, w8, Fits, eqb-true, ltb-true, leb-true}
 use Rattle.std.proofs.lemmas.Bool.{agree_below_at, and_parts, or_cases}
 use Rattle.std.proofs.lemmas.List.{length-map}
-use Rattle.std.proofs.lemmas.Nat.{le_or_l, le_or_r}
+use Rattle.std.proofs.lemmas.Nat.{and_block, and_le_r, and_mask, le_or_l, le_or_r}
+use Rattle.h3_index.specs.Digits.{last_digits}
 use Rattle.h3_index.specs.Text.{is_lower_digit}
-use lib.Lanes.{zip2, sel_l, top, fold_l, pick_l, number_l, Each1}
+use lib.Lanes.{zip2, sel_l, top, fold_l, pick_l, number_l, digits_l, Each1}
 
 -- ---- the values of bytes
 
@@ -137,3 +138,70 @@ pub joined_is : (ds : List ℕ) → length ds ≡ 16 → AllBelowBase 16 ds → 
 joined_is ds long small =
     by_each 16 (λ ds. AllBelowBase 16 ds → apart ds % 2 ^ 64 * 16 + apart ds / 2 ^ 64 % 2 ^ 64 ≡ number_from_digits 16 ds)
     (λ a b c d e f g h i j k l m n o p small. omega (arith, small)) ds long small
+
+-- ---- digits as characters
+
+-- what `lettered` computes from n digits
+abbrev pub lettered_of : ℕ → List ℕ → List ℕ
+lettered_of n v =
+    zip2 plus (zip2 plus v (replicate n 48)) (zip2 bit_and (zip2 minus (replicate n 0) (least (excess v (replicate n 9)) (replicate n 1))) (replicate n 39))
+
+-- from one of them
+letter : ℕ → ℕ
+letter d =
+    let over = minus (cond (top 7 (is_less d 9)) 9 d) 9 in
+    plus (plus d 48) (bit_and (minus 0 (cond (top 7 (is_less over 1)) over 1)) 39)
+
+lettered_each : (v : List ℕ) → lettered_of (length v) v ≡ map letter v
+unfolding letter
+lettered_each [] = refl
+lettered_each (d ∷ v) = ap (λ l. letter d ∷ l) (lettered_each v)
+
+letter_is : (d : ℕ) → d < 16 → letter d ≡ digit_char d
+unfolding letter
+letter_is d less = eqb-true _ _ (agree_below_at (λ d. letter d == digit_char d) (λ _. true) 16 d refl less)
+
+letters_each : (v : List ℕ) → AllBelowBase 16 v → map letter v ≡ map digit_char v
+letters_each [] small = refl
+letters_each (d ∷ v) small = rw (letter_is d small.0, letters_each v small.1) refl
+
+pub lettered_is : (v : List ℕ) → length v ≡ 16 → AllBelowBase 16 v → lettered_of 16 v ≡ map digit_char v
+lettered_is v long small = (rw long at (lettered_each v)) ∙ letters_each v small
+
+-- ---- digits taken apart
+
+-- a 15 in each of n bytes
+abbrev pub nibbles : ℕ → ℕ
+nibbles zero = 0
+nibbles (suc n) = nibbles n * 256 + 15
+
+masked : (n v : ℕ) → digits_l 256 n (bit_and v (nibbles n)) ≡ map (λ b. b % 16) (digits_l 256 n v)
+masked zero v = refl
+masked (suc n) v =
+    let whole : v ≡ v / 256 * 256 + v % 256 = omega arith in
+    let less : v % 256 < 256 = omega arith in
+    let parts : bit_and v (nibbles n * 256 + 15) ≡ bit_and (v / 256) (nibbles n) * 256 + bit_and (v % 256) 15 =
+    ap (λ k. bit_and k (nibbles n * 256 + 15)) whole ∙ and_block 8 (v / 256) (nibbles n) (v % 256) 15 less (lit< tt) in
+    let low : bit_and (v % 256) 15 ≡ v % 256 % 16 = and_mask (v % 256) 4 in
+    let first : bit_and v (nibbles n * 256 + 15) % 256 ≡ v % 256 % 16 = omega (arith, parts, low) in
+    let rest : bit_and v (nibbles n * 256 + 15) / 256 ≡ bit_and (v / 256) (nibbles n) = omega (arith, parts, low) in
+    rw (first, rest, masked n (v / 256)) refl
+
+-- the bytes of two words, one after the other
+split_words : (a b : ℕ) → a < 2 ^ 64 → digits_l 256 16 (a + 2 ^ 64 * (b + 0)) ≡ digits_l 256 8 a ++ digits_l 256 8 b
+split_words a b less =
+    ap₂ (λ d ds. d ∷ ds) (omega (arith, less)) (ap₂ (λ d ds. d ∷ ds) (omega (arith, less)) (ap₂ (λ d ds. d ∷ ds) (omega (arith, less)) (ap₂ (λ d ds. d ∷ ds) (omega (arith, less)) (ap₂ (λ d ds. d ∷ ds) (omega (arith, less)) (ap₂ (λ d ds. d ∷ ds) (omega (arith, less)) (ap₂ (λ d ds. d ∷ ds) (omega (arith, less)) (ap₂ (λ d ds. d ∷ ds) (omega (arith, less)) (ap₂ (λ d ds. d ∷ ds) (omega (arith, less)) (ap₂ (λ d ds. d ∷ ds) (omega (arith, less)) (ap₂ (λ d ds. d ∷ ds) (omega (arith, less)) (ap₂ (λ d ds. d ∷ ds) (omega (arith, less)) (ap₂ (λ d ds. d ∷ ds) (omega (arith, less)) (ap₂ (λ d ds. d ∷ ds) (omega (arith, less)) (ap₂ (λ d ds. d ∷ ds) (omega (arith, less)) (ap₂ (λ d ds. d ∷ ds) (omega (arith, less)) refl)))))))))))))))
+
+-- which are the digits, the second of each byte first
+in_order : (v : ℕ) → pick_l 0 (map (λ b. b % 16) (digits_l 256 8 (v / 16)) ++ map (λ b. b % 16) (digits_l 256 8 v)) (7 ∷ 15 ∷ 6 ∷ 14 ∷ 5 ∷ 13 ∷ 4 ∷ 12 ∷ 3 ∷ 11 ∷ 2 ∷ 10 ∷ 1 ∷ 9 ∷ 0 ∷ 8 ∷ []) ≡ last_digits 16 16 v
+in_order v =
+    ap₂ (λ d ds. d ∷ ds) (omega arith) (ap₂ (λ d ds. d ∷ ds) (omega arith) (ap₂ (λ d ds. d ∷ ds) (omega arith) (ap₂ (λ d ds. d ∷ ds) (omega arith) (ap₂ (λ d ds. d ∷ ds) (omega arith) (ap₂ (λ d ds. d ∷ ds) (omega arith) (ap₂ (λ d ds. d ∷ ds) (omega arith) (ap₂ (λ d ds. d ∷ ds) (omega arith) (ap₂ (λ d ds. d ∷ ds) (omega arith) (ap₂ (λ d ds. d ∷ ds) (omega arith) (ap₂ (λ d ds. d ∷ ds) (omega arith) (ap₂ (λ d ds. d ∷ ds) (omega arith) (ap₂ (λ d ds. d ∷ ds) (omega arith) (ap₂ (λ d ds. d ∷ ds) (omega arith) (ap₂ (λ d ds. d ∷ ds) (omega arith) (ap₂ (λ d ds. d ∷ ds) (omega arith) refl)))))))))))))))
+
+abbrev pub two_words : ℕ → ℕ
+two_words v = bit_and (v / 16) (nibbles 8) + 2 ^ 64 * (bit_and v (nibbles 8) + 0)
+
+pub taken_apart : (v : ℕ) → pick_l 0 (digits_l 256 16 (two_words v) ++ digits_l 256 16 (two_words v)) (7 ∷ 15 ∷ 6 ∷ 14 ∷ 5 ∷ 13 ∷ 4 ∷ 12 ∷ 3 ∷ 11 ∷ 2 ∷ 10 ∷ 1 ∷ 9 ∷ 0 ∷ 8 ∷ []) ≡ last_digits 16 16 v
+taken_apart v =
+    let fits : bit_and (v / 16) (nibbles 8) < 2 ^ 64 = omega (arith, and_le_r (v / 16) (nibbles 8)) in
+    let words = split_words (bit_and (v / 16) (nibbles 8)) (bit_and v (nibbles 8)) fits ∙ ap₂ (λ xs ys. xs ++ ys) (masked 8 (v / 16)) (masked 8 v) in
+    ap (λ ds. pick_l 0 (ds ++ ds) (7 ∷ 15 ∷ 6 ∷ 14 ∷ 5 ∷ 13 ∷ 4 ∷ 12 ∷ 3 ∷ 11 ∷ 2 ∷ 10 ∷ 1 ∷ 9 ∷ 0 ∷ 8 ∷ [])) words ∙ in_order v

@@ -18,6 +18,5 @@ pub mod PlainLaws
 pub mod ReplaceLaws
 pub mod SiblingLaws
 pub mod SiblingLineLaws
-pub mod SpreadLaws
 pub mod TextLaws
 pub mod WriteLaws

@@ -18,4 +18,7 @@ pub use counted::CountedReader;
 pub use edge::Edge;
 pub use error::H3Error;
 pub use stream::{Sink, Source, StreamFault, Streamed};
-pub use text::{CellLines, index_bytes, is_blank_text, read_index, read_plain, write_index};
+pub use text::{
+    index_bytes, is_blank_text, put_cell_line, put_children_lines, read_index, read_plain,
+    write_index,
+};

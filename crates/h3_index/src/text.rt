@@ -6,7 +6,6 @@ ghost use Rattle.std.specs.Result.{result_ok};
 ghost use Rattle.h3_index.specs.Digits.{last_digits};
 ghost use Rattle.h3_index.specs.Text.{without_leading_zeros, is_blank, without_leading_blanks, without_trailing_blanks, without_prefix, parsed_number, parsed_index, text_of, trimmed};
 
-mod halves;
 mod lanes;
 mod lines;
 mod pairs;
@@ -14,8 +13,8 @@ mod plain;
 
 use crate::error::H3Error;
 use arrayvec::ArrayString;
-use halves::characters;
-pub use lines::CellLines;
+use lanes::write_sixteen;
+pub use lines::{put_cell_line, put_children_lines};
 pub use plain::read_plain;
 use std::str;
 
@@ -104,17 +103,6 @@ pub fn read_index(bytes: &[u8]) -> Result<u64, H3Error>
     read_digits(without_prefix(text)).ok_or(H3Error::Failed)
 }
 
-/// The sixteen hexadecimal digits of an index, in lower case.
-#[inline(always)]
-fn digits_of(index: u64) -> [u8; 16]
-    ensures { result ≡ map digit_char (last_digits 16 16 index) }
-{
-    let mut digits = [b'0'; 16];
-    digits[..8].copy_from_slice(&characters(index >> 32).to_be_bytes());
-    digits[8..].copy_from_slice(&characters(index & 0xffff_ffff).to_be_bytes());
-    digits
-}
-
 /// How many of the sixteen digits of an index are zeros in front of another digit.
 #[inline(always)]
 fn zeros_in_front(index: u64) -> u32
@@ -153,7 +141,7 @@ pub fn index_bytes(index: u64) -> ([u8; 16], usize)
     let zeros = zeros_in_front(index);
     // The zeros are shifted out and all sixteen digits put at once, which
     // is faster than a copy of some.
-    (digits_of(index << (4 * zeros)), 16 - zeros as usize)
+    (write_sixteen(index << (4 * zeros)), 16 - zeros as usize)
 }
 
 /// The text of an index, as H3's `h3ToString` writes it: lower-case hexadecimal

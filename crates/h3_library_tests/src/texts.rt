@@ -2,7 +2,8 @@
 
 use crate::rows::{Expected, cell, holds, same};
 use h3_index::{
-    Cell, CellLines, Edge, H3Error, index_bytes, is_blank_text, read_index, read_plain, write_index,
+    Cell, Edge, H3Error, index_bytes, is_blank_text, put_cell_line, put_children_lines, read_index,
+    read_plain, write_index,
 };
 use std::alloc::AllocError;
 
@@ -204,21 +205,20 @@ fn lines_are_put_one_after_another(rt: HostRuntime) {
         (0x85283473fffffff, "...85283473fffffff\n"),
         (0x85f23473fffffff, "...85f23473fffffff\n"),
     ];
-    let mut lines = CellLines::new();
     let mut bytes = [b'.'; 20];
     for (row, (raw, text)) in ROWS.iter().enumerate() {
-        let end = lines.put(cell(&rt, *raw), &mut bytes, 3);
+        let end = put_cell_line(cell(&rt, *raw), &mut bytes, 3);
         assert!(rt; holds(&rt, row, &bytes[..end] == text.as_bytes()));
     }
 }
 
 /// Whether the lines of the children of a cell coarser than resolution 15 are put after the first
 /// three bytes, and those stay.
-fn puts_children(lines: &mut CellLines, bytes: &mut [u8; 116], parent: Cell, text: &str) -> bool {
+fn puts_children(bytes: &mut [u8; 116], parent: Cell, text: &str) -> bool {
     if parent.resolution() > 14 {
         return false;
     }
-    let end = lines.put_children(parent, bytes, 3);
+    let end = put_children_lines(parent, bytes, 3);
     &bytes[..end] == text.as_bytes()
 }
 
@@ -247,17 +247,10 @@ fn the_lines_of_children_are_put_together(rt: HostRuntime) {
              8f2834700000004\n8f2834700000005\n8f2834700000006\n",
         ),
     ];
-    let mut lines = CellLines::new();
     let mut bytes = [b'.'; 116];
     for (row, (raw, text)) in ROWS.iter().enumerate() {
         let parent = cell(&rt, *raw);
-        assert!(rt;
-            holds(
-                &rt,
-                row,
-                puts_children(&mut lines, &mut bytes, parent, text)
-            )
-        );
+        assert!(rt; holds(&rt, row, puts_children(&mut bytes, parent, text)));
     }
 }
 

@@ -17,7 +17,7 @@ use crate::line::{BLOCK, Line};
 use crate::refusal::{AnswerError, Fault, Refusal};
 use crate::splitting::{LONGEST_LINE, LineTaker, PAGE, READS, take_lines};
 use crate::write::{write_all, write_answer};
-use h3_index::{CellLines, CountedReader, H3Error, Sink, Source, is_blank_text, read_index};
+use h3_index::{CountedReader, H3Error, Sink, Source, is_blank_text, read_index};
 use std::alloc::Global;
 
 /// The room that the answer to a line may take.
@@ -36,7 +36,6 @@ pub trait IndexFunction {
         &self,
         index: Option<u64>,
         place: &mut usize,
-        lines: &mut CellLines,
         block: &mut [u8; BLOCK],
         at: usize,
     ) -> Result<usize, H3Error>
@@ -58,7 +57,6 @@ pub trait IndexFunction {
 #[inline(always)]
 pub fn put_result<L: Line + Drop>(
     value: Result<L, H3Error>,
-    lines: &mut CellLines,
     block: &mut [u8; BLOCK],
     at: usize,
 ) -> Result<usize, H3Error>
@@ -69,7 +67,7 @@ pub fn put_result<L: Line + Drop>(
     ensures err { IfErr result (λ e. printed L.line_of value ≡ refused e) }
     ensures kept { IfErr result (λ e. take at block.new ≡ take at block.old) }
 {
-    Ok(value?.put(lines, block, at))
+    Ok(value?.put(block, at))
 }
 
 /// The index that a line parses as, `None` where it is blank; or the error of a line that is too
@@ -144,7 +142,6 @@ pub(crate) fn make_room<W: Sink>(
 pub(crate) struct Work {
     place: usize,
     hints: Hints,
-    pub(crate) lines: CellLines,
 }
 
 /// The answers held back, in a block that is written when it is full, and the number of the next
@@ -205,7 +202,10 @@ impl<'f, F: IndexFunction> Answering for Short<'f, F> {
     ) -> Result<(), Refusal> {
         let at = make_room(held.out, &mut held.block, held.end)?;
         let work = &mut held.work;
-        match self.function.put(index, &mut work.place, &mut work.lines, &mut held.block, at) {
+        match self
+            .function
+            .put(index, &mut work.place, &mut held.block, at)
+        {
             Ok(last) => {
                 held.end = last;
                 held.number += 1;
@@ -332,7 +332,6 @@ pub(crate) fn answer_pages<R: Source, W: Sink, A: Answering>(
     let work = Work {
         place: 0,
         hints: Hints::new(),
-        lines: CellLines::new(),
     };
     let held = Held {
         out: &mut *out,

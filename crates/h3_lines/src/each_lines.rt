@@ -14,7 +14,7 @@ use crate::each::{Answering, Held, answer_pages, make_room, refuse};
 use crate::line::{BLOCK, Line};
 use crate::refusal::{Fault, Refusal};
 use crate::splitting::PAGE;
-use h3_index::{CellLines, H3Error, Sink, Source};
+use h3_index::{H3Error, Sink, Source};
 use std::alloc::Global;
 
 /// A function of one index that answers by any number of lines.
@@ -61,7 +61,6 @@ pub fn walk_through<T: Drop, I: Iterator<Item = Result<T, H3Error>> + Drop>(
 fn put_lines<W: Sink, L: Line + Drop, I: Iterator<Item = L> + Drop>(
     items: I,
     out: &mut W,
-    lines: &mut CellLines,
     block: &mut [u8; BLOCK],
     end: usize,
 ) -> Result<usize, Refusal>
@@ -79,7 +78,7 @@ fn put_lines<W: Sink, L: Line + Drop, I: Iterator<Item = L> + Drop>(
     let mut last = end;
     for item in items {
         last = make_room(out, block, last)?;
-        last = item.put(lines, block, last);
+        last = item.put(block, last);
     }
     Ok(last)
 }
@@ -100,8 +99,7 @@ impl<'f, F: LinesFunction> Answering for Long<'f, F> {
     ) -> Result<(), Refusal> {
         match self.function.lines(index) {
             Ok(items) => {
-                let lines = &mut held.work.lines;
-                held.end = put_lines(items, held.out, lines, &mut held.block, held.end)?;
+                held.end = put_lines(items, held.out, &mut held.block, held.end)?;
                 held.number += 1;
                 Ok(())
             }

@@ -4,7 +4,7 @@ ghost use Rattle.std.specs.Prelude.{◌≡◌, ◌+◌, ◌<◌, ◌≤◌, ◌+
 ghost use Rattle.h3_lines.specs.Answer.{AreLines, cell_line, children_lines, count_line, edge_line, number_line, ring_line, ring_line_by, truth_line, zone_line, zone_text};
 ghost use Rattle.h3_lines.specs.LineLaws.{cells_are_lines, last_is_line};
 
-use h3_index::{Cell, CellLines, Edge, Siblings, index_bytes};
+use h3_index::{Cell, Edge, Siblings, index_bytes, put_cell_line, put_children_lines};
 use itoa::Buffer;
 
 /// The room that the lines of an item may take, their line feeds included.
@@ -20,9 +20,8 @@ pub trait Line {
     ghost line_of: { Self → List ℕ };
 
     /// Puts the lines into a block from the byte `at` on, and returns where they end. The bytes after
-    /// them may change too. A cell's line is put faster where it is near to that of the cell before,
-    /// which `lines` has put.
-    fn put(&self, lines: &mut CellLines, block: &mut [u8; BLOCK], at: usize) -> usize
+    /// them may change too.
+    fn put(&self, block: &mut [u8; BLOCK], at: usize) -> usize
         requires room { at + 112 ≤ 32768 }
         ensures end { result ≤ at + 112 }
         ensures some { at < result }
@@ -52,7 +51,7 @@ impl Line for bool {
     ghost are_lines = { λ v. last_is_line _ };
 
     #[inline(always)]
-    fn put(&self, _: &mut CellLines, block: &mut [u8; BLOCK], at: usize) -> usize {
+    fn put(&self, block: &mut [u8; BLOCK], at: usize) -> usize {
         let (text, count) = if *self { (b"true ", 4) } else { (b"false", 5) };
         put_ended(block, at, text, count, b'\n')
     }
@@ -64,7 +63,7 @@ impl Line for u64 {
     ghost are_lines = { λ v. last_is_line _ };
 
     #[inline(always)]
-    fn put(&self, _: &mut CellLines, block: &mut [u8; BLOCK], at: usize) -> usize {
+    fn put(&self, block: &mut [u8; BLOCK], at: usize) -> usize {
         if *self < 10 {
             return put_ended(block, at, &[b'0' + *self as u8], 1, b'\n');
         }
@@ -80,7 +79,7 @@ impl Line for u128 {
     ghost are_lines = { λ v. last_is_line _ };
 
     #[inline(always)]
-    fn put(&self, _: &mut CellLines, block: &mut [u8; BLOCK], at: usize) -> usize {
+    fn put(&self, block: &mut [u8; BLOCK], at: usize) -> usize {
         let mut buffer = Buffer::new();
         let text = buffer.format(*self);
         put_ended(block, at, text.as_bytes(), text.len(), b'\n')
@@ -93,8 +92,8 @@ impl Line for Cell {
     ghost are_lines = { λ v. last_is_line _ };
 
     #[inline(always)]
-    fn put(&self, lines: &mut CellLines, block: &mut [u8; BLOCK], at: usize) -> usize {
-        lines.put(*self, block, at)
+    fn put(&self, block: &mut [u8; BLOCK], at: usize) -> usize {
+        put_cell_line(*self, block, at)
     }
 }
 
@@ -105,8 +104,8 @@ impl Line for Siblings {
     ghost are_lines = { λ v. cells_are_lines _ };
 
     #[inline(always)]
-    fn put(&self, lines: &mut CellLines, block: &mut [u8; BLOCK], at: usize) -> usize {
-        lines.put_children(self.parent(), block, at)
+    fn put(&self, block: &mut [u8; BLOCK], at: usize) -> usize {
+        put_children_lines(self.parent(), block, at)
     }
 }
 
@@ -116,7 +115,7 @@ impl Line for Edge {
     ghost are_lines = { λ v. last_is_line _ };
 
     #[inline(always)]
-    fn put(&self, _: &mut CellLines, block: &mut [u8; BLOCK], at: usize) -> usize {
+    fn put(&self, block: &mut [u8; BLOCK], at: usize) -> usize {
         let (text, count) = index_bytes(self.raw());
         put_ended(block, at, &text, count, b'\n')
     }
@@ -125,21 +124,14 @@ impl Line for Edge {
 /// Puts the line of a cell with its ring, with a byte between them, into a block from the byte `at`
 /// on, and returns where it ends.
 #[inline(always)]
-fn put_ring(
-    cell: Cell,
-    between: u8,
-    ring: u32,
-    lines: &mut CellLines,
-    block: &mut [u8; BLOCK],
-    at: usize,
-) -> usize
+fn put_ring(cell: Cell, between: u8, ring: u32, block: &mut [u8; BLOCK], at: usize) -> usize
     requires room { at + 112 ≤ 32768 }
     ensures end { result ≤ at + 112 }
     ensures some { at < result }
     ensures line { take result block.new ≡ take at block.old ++ ring_line_by between (cell, ring) }
 {
     // in the place of the line feed
-    let end = lines.put(cell, block, at) - 1;
+    let end = put_cell_line(cell, block, at) - 1;
     block[end] = between;
     let mut buffer = Buffer::new();
     let text = buffer.format(ring);
@@ -153,8 +145,8 @@ impl Line for (Cell, u32) {
     ghost are_lines = { λ v. last_is_line _ };
 
     #[inline(always)]
-    fn put(&self, lines: &mut CellLines, block: &mut [u8; BLOCK], at: usize) -> usize {
-        put_ring(self.0, b' ', self.1, lines, block, at)
+    fn put(&self, block: &mut [u8; BLOCK], at: usize) -> usize {
+        put_ring(self.0, b' ', self.1, block, at)
     }
 }
 
@@ -177,15 +169,15 @@ impl Line for RingCell {
     ghost are_lines = { λ v. last_is_line _ };
 
     #[inline(always)]
-    fn put(&self, lines: &mut CellLines, block: &mut [u8; BLOCK], at: usize) -> usize {
-        put_ring(self.cell, self.between, self.ring, lines, block, at)
+    fn put(&self, block: &mut [u8; BLOCK], at: usize) -> usize {
+        put_ring(self.cell, self.between, self.ring, block, at)
     }
 }
 
 /// Puts the text of a zone, `0` where there is none, into a block from the byte `at` on, and returns
 /// where it ends.
 #[inline(always)]
-fn put_zone(zone: Option<Cell>, lines: &mut CellLines, block: &mut [u8; BLOCK], at: usize) -> usize
+fn put_zone(zone: Option<Cell>, block: &mut [u8; BLOCK], at: usize) -> usize
     requires room { at + 112 ≤ BLOCK }
     ensures end { result ≤ at + 16 }
     ensures from { at ≤ result }
@@ -193,7 +185,7 @@ fn put_zone(zone: Option<Cell>, lines: &mut CellLines, block: &mut [u8; BLOCK], 
 {
     match zone {
         // without its line feed
-        Some(cell) => lines.put(cell, block, at) - 1,
+        Some(cell) => put_cell_line(cell, block, at) - 1,
         None => {
             block[at] = b'0';
             at + 1
@@ -208,8 +200,8 @@ impl Line for Option<Cell> {
     ghost are_lines = { λ v. last_is_line _ };
 
     #[inline(always)]
-    fn put(&self, lines: &mut CellLines, block: &mut [u8; BLOCK], at: usize) -> usize {
-        let end = put_zone(*self, lines, block, at);
+    fn put(&self, block: &mut [u8; BLOCK], at: usize) -> usize {
+        let end = put_zone(*self, block, at);
         block[end] = b'\n';
         end + 1
     }
@@ -222,8 +214,8 @@ impl Line for (Option<Cell>, u64) {
     ghost are_lines = { λ v. last_is_line _ };
 
     #[inline(always)]
-    fn put(&self, lines: &mut CellLines, block: &mut [u8; BLOCK], at: usize) -> usize {
-        let end = put_zone(self.0, lines, block, at);
+    fn put(&self, block: &mut [u8; BLOCK], at: usize) -> usize {
+        let end = put_zone(self.0, block, at);
         block[end] = b' ';
         let mut buffer = Buffer::new();
         let count = buffer.format(self.1);

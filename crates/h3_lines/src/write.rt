@@ -10,7 +10,7 @@ ghost use Rattle.h3_lines.specs.Writing.{AppendsPart, AppendsUpTo, Writes, sink_
 
 use crate::line::{BLOCK, Line, ROOM};
 use crate::refusal::{AnswerError, Refusal};
-use h3_index::{CellLines, H3Error, Sink, StreamFault};
+use h3_index::{H3Error, Sink, StreamFault};
 
 /// Writes all of the bytes, in as many pushes as it takes.
 ///
@@ -53,7 +53,7 @@ pub fn write_result<W: Sink, L: Line + Drop>(
         (sink_use W.taken W.has_failed out.old out.new) }
 {
     let mut block = [0; BLOCK];
-    let end = value?.put(&mut CellLines::new(), &mut block, 0);
+    let end = value?.put(&mut block, 0);
     write_answer(out, &block[..end])
 }
 
@@ -94,12 +94,11 @@ pub fn write_lines<W: Sink, L: Line + Drop, I: Iterator<Item = L> + Drop>(
         Writes (written (flat_map L.line_of all)) result
         (sink_use W.taken W.has_failed out.old out.new) }
 {
-    let mut lines = CellLines::new();
     let mut block = [0; BLOCK];
     let mut end = 0;
     for item in items {
         end = make_room(out, &block, end)?;
-        end = item.put(&mut lines, &mut block, end);
+        end = item.put(&mut block, end);
     }
     write_answer(out, &block[..end])
 }
@@ -130,14 +129,13 @@ pub fn write_walk<W: Sink, L: Line + Drop, I: Iterator<Item = Result<L, H3Error>
     ensures { (all : List (Result _ H3Error)) → AlwaysYields I.next_gives (λ x. x) walk all →
         Writes (walked L.line_of all) result (sink_use W.taken W.has_failed out.old out.new) }
 {
-    let mut lines = CellLines::new();
     let mut block = [0; BLOCK];
     let mut end = 0;
     for item in walk {
         match item {
             Ok(value) => {
                 end = make_room(out, &block, end)?;
-                end = value.put(&mut lines, &mut block, end);
+                end = value.put(&mut block, end);
             }
             Err(error) => return write_refused(out, &block[..end], error),
         }

@@ -25,7 +25,7 @@ use crate::said::Said;
 use crate::splitting::{RowStart, RowTaker, take_rows};
 use crate::state::{RowState, first_state};
 use crate::write::{put_bytes, put_row};
-use h3_index::{CellLines, CountedReader, H3Error, Sink, Source, read_plain};
+use h3_index::{CountedReader, H3Error, Sink, Source, read_plain};
 use h3_lines::{
     ANSWER, AnswerError, BLOCK, ColumnError, Fault, IndexFunction, PAGE, READS, Refusal,
     write_answer,
@@ -626,7 +626,6 @@ fn answer_pages<'f, R: Source, W: Sink, F: RowFunction>(
         job,
         work: Workspace {
             place: 0,
-            lines: CellLines::new(),
             text: [0; BLOCK],
         },
         state: first_state(job.options),

@@ -42,7 +42,7 @@ fn put_lines_beside<W: Sink, L: Line + Drop, I: Iterator<Item = L> + Drop>(
 {
     let mut last = end;
     for item in items {
-        let size = item.put(&mut work.lines, &mut work.text, 0);
+        let size = item.put(&mut work.text, 0);
         let text = &work.text[..size];
         last = put_rows(out, block, last, separator, row, text)?;
     }

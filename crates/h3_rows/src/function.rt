@@ -7,14 +7,13 @@ ghost use Rattle.h3_lines.specs.Writing.{sink_use};
 ghost use Rattle.h3_rows.specs.Answering.{BreaksBeside, PutsBeside};
 
 use crate::write::put_rows;
-use h3_index::{CellLines, H3Error, Sink};
+use h3_index::{H3Error, Sink};
 use h3_lines::{ANSWER, BLOCK, IndexFunction, Refusal};
 
 /// What a function of one index works with.
 #[derive(Drop)]
 pub(crate) struct Workspace {
     pub(crate) place: usize,
-    pub(crate) lines: CellLines,
     pub(crate) text: [u8; BLOCK],
 }
 
@@ -85,10 +84,7 @@ impl<'f, F: IndexFunction> RowFunction for Short<'f, F> {
         row: &[u8],
     ) -> Result<Result<usize, H3Error>, Refusal> {
         let text = &mut work.text;
-        match self
-            .function
-            .put(index, &mut work.place, &mut work.lines, text, 0)
-        {
+        match self.function.put(index, &mut work.place, text, 0) {
             Ok(last) => {
                 let lines = &work.text[..last];
                 let after = put_rows(out, block, end, separator, row, lines)?;
@@ -106,10 +102,7 @@ impl<'f, F: IndexFunction> RowFunction for Short<'f, F> {
         block: &mut [u8; BLOCK],
         at: usize,
     ) -> Option<usize> {
-        match self
-            .function
-            .put(Some(index), &mut work.place, &mut work.lines, block, at)
-        {
+        match self.function.put(Some(index), &mut work.place, block, at) {
             Ok(last) => Some(last),
             Err(_) => None,
         }

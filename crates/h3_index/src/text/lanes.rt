@@ -1,9 +1,10 @@
 //! Sixteen hexadecimal digits at once, each in a lane of a vector.
 
 ghost use Rattle.std.specs.Prelude.{◌≡◌, ◌++◌, length, map, true};
-ghost use Rattle.std.specs.Char.{digit_value};
+ghost use Rattle.std.specs.Char.{digit_char, digit_value};
 ghost use Rattle.std.specs.Int.Digits.{number_from_digits, AllBelowBase};
 ghost use Rattle.std.specs.List.{list_all};
+ghost use Rattle.h3_index.specs.Digits.{last_digits};
 ghost use Rattle.h3_index.specs.Text.{is_lower_digit, plain_index};
 
 use std::simd::prelude::*;
@@ -68,4 +69,37 @@ pub(crate) fn read_sixteen(first: &[u8], last: &[u8]) -> Option<u64>
     } else {
         None
     }
+}
+
+/// The sixteen hexadecimal digits of a number, the highest first, each in a lane.
+#[inline(always)]
+fn apart(number: u64) -> u8x16
+    ensures { result ≡ last_digits 16 16 number }
+{
+    let low = number & 0x0f0f_0f0f_0f0f_0f0f;
+    let high = number >> 4 & 0x0f0f_0f0f_0f0f_0f0f;
+    let bytes = u64x2::from_array([high, low]).to_le_bytes();
+    bytes.swizzle([7, 15, 6, 14, 5, 13, 4, 12, 3, 11, 2, 10, 1, 9, 0, 8])
+}
+
+/// Sixteen hexadecimal digits as characters in lower case.
+#[inline(always)]
+fn lettered(digits: u8x16) -> u8x16
+    requires lanes { length digits ≡ 16 }
+    requires digits { AllBelowBase 16 digits }
+    ensures { result ≡ map digit_char digits }
+{
+    let over = digits
+        .saturating_sub(u8x16::splat(9))
+        .simd_min(u8x16::splat(1));
+    let letters = (u8x16::splat(0) - over) & u8x16::splat(39);
+    digits + u8x16::splat(48) + letters
+}
+
+/// The sixteen hexadecimal digits of a number, in lower case.
+#[inline(always)]
+pub(crate) fn write_sixteen(number: u64) -> [u8; 16]
+    ensures { result ≡ map digit_char (last_digits 16 16 number) }
+{
+    lettered(apart(number)).to_array()
 }

@@ -9,7 +9,7 @@ ghost use Rattle.h3_index.specs.Descendants.{children};
 ghost use Rattle.h3_index.specs.Digits.{last_digits};
 ghost use Rattle.h3_index.specs.Text.{text_of};
 
-use super::digits_of;
+use super::lanes::write_sixteen;
 use super::pairs::pair;
 use crate::cell::Cell;
 
@@ -33,107 +33,51 @@ fn put_sibling(line: &[u8; LINE], byte: u64, after: usize, bytes: &mut [u8], at:
     at + LINE
 }
 
-/// The last four hexadecimal digits of a number, in lower case.
+/// Puts the text of a cell and a line feed into bytes from `at` on, and returns where they end.
+/// The bytes after them may change too.
 #[inline(always)]
-fn last_four(number: u64) -> [u8; 4]
-    ensures { result ≡ map digit_char (last_digits 16 4 number) }
+pub fn put_cell_line(cell: Cell, bytes: &mut [u8], at: usize) -> usize
+    requires room { at + LINE ≤ length bytes.old }
+    ensures end { result ≡ at + LINE }
+    ensures line { take result bytes.new
+        ≡ take at bytes.old ++ (text_of (number_of cell) ++ 10 ∷ []) }
+    ensures text { take (at + 15) bytes.new ≡ take at bytes.old ++ text_of (number_of cell) }
 {
-    let mut four = [b'0'; 4];
-    four[..2].copy_from_slice(&pair(number >> 8 & 0xff));
-    four[2..].copy_from_slice(&pair(number & 0xff));
-    four
+    // the number without the zero in front
+    let mut line = write_sixteen(cell.raw() << 4);
+    line[LINE - 1] = b'\n';
+    bytes[at..at + LINE].copy_from_slice(&line);
+    at + LINE
 }
 
-/// Puts the texts of cells, one after another, each with a line feed. It holds the line of one of
-/// them: where the text of the next cell differs from it in no digits but a certain four, which
-/// hold the last of the cell's own digits, these four alone are made anew.
-#[derive(Debug, Drop)]
-pub struct CellLines {
-    cell: Cell,
-    line: [u8; LINE],
-    /// How many hexadecimal digits come after the four.
-    after: usize,
-    /// The number without the four and those after them.
-    high: u64,
-    ghost valid: { is_cell cell ≡ true },
-    ghost line_is: { line ≡ text_of (number_of cell) ++ 10 ∷ [] },
-    ghost after_is: { after ≡ min (3 * (15 - resolution cell) / 4) 9 },
-    ghost high_is: { high ≡ number_of cell / 2 ^ (4 * after + 16) },
-}
-
-impl CellLines {
-    /// For cells of which the first is likely to be near to this one.
-    // Inlined, it would take registers from each line, and its bytes would be copied one by one.
-    #[inline(never)]
-    fn near(cell: Cell) -> CellLines
-        ensures { result.cell ≡ cell }
-    {
-        // The hexadecimal digit that is the resolution is not among the four.
-        let after = usize::from(3 * (15 - cell.resolution()) / 4).min(9);
-        // the number without the zero in front
-        let mut line = digits_of(cell.raw() << 4);
-        line[LINE - 1] = b'\n';
-        CellLines {
-            cell,
-            line,
-            after,
-            high: cell.raw() >> (4 * after + 16),
-        }
+/// Puts the texts of the children of a cell, one level below it and in ascending order, each
+/// with a line feed, into bytes from `at` on, and returns where they end. The bytes after them
+/// may change too.
+#[inline(always)]
+pub fn put_children_lines(parent: Cell, bytes: &mut [u8], at: usize) -> usize
+    requires coarse { resolution parent < 15 }
+    requires room { at + 7 * LINE ≤ length bytes.old }
+    ensures end { result ≡ at + LINE * length (children parent) }
+    ensures few { length (children parent) ≤ 7 }
+    ensures some { 6 ≤ length (children parent) }
+    ensures lines { take result bytes.new ≡ take at bytes.old
+        ++ flat_map (λ c. text_of (number_of c) ++ 10 ∷ []) (children parent) }
+{
+    let first = parent.child(0);
+    let mut line = [0; LINE];
+    put_cell_line(first, &mut line, 0);
+    // A child's own digit lies in the two hexadecimal digits of a byte, that of the first child
+    // and a number of steps.
+    let places = 3 * (14 - parent.resolution());
+    let after = usize::from(places / 4);
+    let byte = first.raw() >> (4 * after) & 255;
+    let step = 1 << (places % 4);
+    let mut end = put_sibling(&line, byte, after, bytes, at);
+    if !parent.is_pentagon() {
+        end = put_sibling(&line, byte + step, after, bytes, end);
     }
-
-    /// Any cell may come first.
-    pub fn new() -> CellLines {
-        CellLines::near(Cell::in_base(0))
+    for digit in 2..7 {
+        end = put_sibling(&line, byte + digit * step, after, bytes, end);
     }
-
-    /// Puts the text of a cell and a line feed into bytes from `at` on, and returns where they end.
-    /// The bytes after them may change too.
-    #[inline(always)]
-    pub fn put(&mut self, cell: Cell, bytes: &mut [u8], at: usize) -> usize
-        requires room { at + LINE ≤ length bytes.old }
-        ensures end { result ≡ at + LINE }
-        ensures line { take result bytes.new
-            ≡ take at bytes.old ++ (text_of (number_of cell) ++ 10 ∷ []) }
-        ensures text { take (at + 15) bytes.new ≡ take at bytes.old ++ text_of (number_of cell) }
-    {
-        if cell.raw() >> (4 * self.after + 16) != self.high {
-            *self = CellLines::near(cell);
-        }
-        bytes[at..at + LINE].copy_from_slice(&self.line);
-        let four = at + LINE - 5 - self.after;
-        bytes[four..four + 4].copy_from_slice(&last_four(cell.raw() >> (4 * self.after)));
-        at + LINE
-    }
-
-    /// Puts the texts of the children of a cell, one level below it and in ascending order, each
-    /// with a line feed, into bytes from `at` on, and returns where they end. The bytes after them
-    /// may change too.
-    #[inline(always)]
-    pub fn put_children(&mut self, parent: Cell, bytes: &mut [u8], at: usize) -> usize
-        requires coarse { resolution parent < 15 }
-        requires room { at + 7 * LINE ≤ length bytes.old }
-        ensures end { result ≡ at + LINE * length (children parent) }
-        ensures few { length (children parent) ≤ 7 }
-        ensures some { 6 ≤ length (children parent) }
-        ensures lines { take result bytes.new ≡ take at bytes.old
-            ++ flat_map (λ c. text_of (number_of c) ++ 10 ∷ []) (children parent) }
-    {
-        let first = parent.child(0);
-        let mut line = [0; LINE];
-        self.put(first, &mut line, 0);
-        // A child's own digit lies in the two hexadecimal digits of a byte, that of the first child
-        // and a number of steps.
-        let places = 3 * (14 - parent.resolution());
-        let after = usize::from(places / 4);
-        let byte = first.raw() >> (4 * after) & 255;
-        let step = 1 << (places % 4);
-        let mut end = put_sibling(&line, byte, after, bytes, at);
-        if !parent.is_pentagon() {
-            end = put_sibling(&line, byte + step, after, bytes, end);
-        }
-        for digit in 2..7 {
-            end = put_sibling(&line, byte + digit * step, after, bytes, end);
-        }
-        end
-    }
+    end
 }

@@ -4,7 +4,7 @@ use Rattle.h3_index.specs.Cell.{is_pentagon, number_of}
 use Rattle.h3_index.specs.Descendants.{child}
 use Rattle.h3_index.specs.Text.{text_of}
 use Rattle.h3_index.proofs.SiblingLineLaws.{steps_below}
-use Rattle.h3_index.proofs.text.lines.CellLines.put_children.Given as goal
+use Rattle.h3_index.proofs.text.lines.put_children_lines.Given as goal
 
 abbrev pub invariant-loop-digit : goal.invariant-loop-digit
 invariant-loop-digit l = record {
