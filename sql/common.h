@@ -50,7 +50,7 @@ H3Error h3sql_reserve(h3sql_List *list, size_t more, h3sql_Resize resize, void *
 /* Puts a cell at the end. E_MEMORY_ALLOC: there is no memory; the list stays as it is. */
 H3Error h3sql_push(h3sql_List *list, H3Index cell, h3sql_Resize resize, void *engine);
 
-/* The first index of a list that is no cell's; H3_NULL where all are. */
+/* The first index of a list that is not a valid cell; H3_NULL if all are. */
 H3Index h3sql_first_invalid(const h3sql_List *list);
 
 /* Whether each index of a list is a cell's. */
@@ -76,7 +76,7 @@ H3Error h3sql_operate(h3sql_List *out, h3sql_Operation *operation, const h3sql_L
 H3Error h3sql_prepare(h3sql_List *prepared, const h3sql_List *list, bool is_region, h3sql_Resize resize, void *engine);
 
 /* Whether prepared cells cover a cell, and which of them does; H3_NULL where none does.
- * E_CELL_INVALID: the index is no cell's. */
+ * E_CELL_INVALID: the index is not a valid cell. */
 H3Error h3sql_zone_of(const h3sql_List *prepared, H3Index cell, H3Index *zone);
 
 /* Prepared arrays or texts that are kept, and found by a hash of what was given. An engine's own type
@@ -117,7 +117,7 @@ h3sql_Kept *h3sql_evict(h3sql_Cache *cache, size_t most, const h3sql_Kept *but);
 /* The most cells that are a cell or its ancestors. */
 #define H3SQL_ANCESTORS 16
 
-/* A cell's ancestors and the cell itself, ascending. E_CELL_INVALID: the index is no cell's. */
+/* A cell's ancestors and the cell itself, ascending. E_CELL_INVALID: the index is not a valid cell. */
 H3Error h3sql_ancestors(H3Index cell, H3Index out[H3SQL_ANCESTORS], size_t *count);
 
 /* The rows of a set, one after another. They take no memory but that of the cells which they come

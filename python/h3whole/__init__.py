@@ -706,7 +706,7 @@ class Region(_Texts, CellRegion[str]):
     `|`, `&`, `-`, `<=`, `==`, `in` (whether it covers a cell), `len`, a hash, and the texts of its cells, ascending.
     It has as few as can be: the least list that covers the same.
 
-    H3CellInvalidError where an index is no cell's; H3FailedError where a text parses as no index."""
+    H3CellInvalidError if an index is not a valid cell; H3FailedError if a text is not an index."""
 
     __slots__ = ()
 

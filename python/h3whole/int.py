@@ -166,7 +166,7 @@ def int_to_str(index: SupportsIndex) -> str:
 
 
 def _is(test: Callable[..., int], index: Any) -> bool:
-    """A test, which is false of what no index can be."""
+    """A test, which is false for what cannot be an index."""
     try:
         given = whole_number(index)
     except TypeError:
@@ -835,7 +835,7 @@ def get_directed_edge_destination(table, edge):  # type: ignore[no-untyped-def]
 
 
 def _first_of_no_cell(column: "array[int]", at: int, count: int) -> str:
-    """The first index that is no cell's, and its place."""
+    """The first index that is not a valid cell, and its place."""
     found, place = _room("i", count), _size()
     _are_valid_cells(at, count, found.buffer_info()[0], count, ctypes.byref(place))
     first = found.index(0)
@@ -930,7 +930,7 @@ class Region(_Numbers, CellRegion[int]):
     changes: `|`, `&`, `-`, `<=`, `==`, `in` (whether it covers a cell), `len`, a hash, and its cells, ascending. It
     has as few as can be: the least list that covers the same.
 
-    H3CellInvalidError where an index is no cell's."""
+    H3CellInvalidError if an index is not a valid cell."""
 
     __slots__ = ()
 
@@ -939,7 +939,7 @@ class Zones(_Numbers, CellZones[int]):
     """Zones, by which other cells are joined and counted: of integers, or of a column, cells of which no two overlap,
     of any resolutions, or a region.
 
-    H3CellInvalidError where an index is no cell's; H3DuplicateInputError where two overlap."""
+    H3CellInvalidError if an index is not a valid cell; H3DuplicateInputError where two overlap."""
 
     __slots__ = ()
 

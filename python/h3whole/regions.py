@@ -197,7 +197,7 @@ class CellSet(Generic[_Cell]):
 
     @classmethod
     def _numbers_of(cls, cells: Any, missing: bool, integers: "Optional[array[int]]" = None) -> Any:
-        """The same of cells that are asked about; with `missing`, 0 in place of what is no index. Of a column of
+        """The same of cells that are asked about; with `missing`, 0 in place of what is not an index. Of a column of
         objects, the places of integers are added to those in `integers`."""
         if _is_column(cells) and _is_of_objects(cells):
             return columns._to_int(cells, missing, array("q") if integers is None else integers)

@@ -7,7 +7,7 @@ use core::num::NonZeroU64;
 use core::ops::Range;
 use core::str::FromStr;
 
-/// A cell. It holds the index of one: a number that is the index of no cell is refused where it is
+/// A cell. It holds the index of one: a number that is not a valid cell is refused where it is
 /// converted. No index is 0, so an `Option<Cell>` takes 8 bytes too.
 ///
 /// Cells are ordered by their numbers: by resolution, then base cell, then digits.

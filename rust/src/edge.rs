@@ -5,7 +5,7 @@ use core::num::NonZeroU64;
 use core::str::FromStr;
 
 /// A directed edge: the step from a cell in one direction. It holds the index of one: a number that
-/// is the index of no edge is refused where it is converted.
+/// is not a valid edge is refused where it is converted.
 ///
 /// ```
 /// use h3whole::{Cell, Edge, Error};

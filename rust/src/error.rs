@@ -33,7 +33,7 @@ macro_rules! errors {
 }
 
 errors! {
-    /// No other error says what it is. A text that is that of no index is this error.
+    /// No other error says what it is. A text that is not an index is this error.
     Failed = 1, "E_FAILED";
     /// A number is out of range: no descendant has this position, or no walk this radius.
     Domain = 2, "E_DOMAIN";
@@ -41,7 +41,7 @@ errors! {
     LatLngDomain = 3, "E_LATLNG_DOMAIN";
     /// A number is no resolution, or not one that the function takes.
     ResDomain = 4, "E_RES_DOMAIN";
-    /// An index is no cell's.
+    /// An index is not a valid cell.
     CellInvalid = 5, "E_CELL_INVALID";
     /// An index is no directed edge's.
     DirEdgeInvalid = 6, "E_DIR_EDGE_INVALID";

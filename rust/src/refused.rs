@@ -2,7 +2,7 @@ use crate::Error;
 use alloc::boxed::Box;
 use core::fmt;
 
-/// A text or a number that is no index of the kind it is converted to: the error, and what was
+/// A text or a number that is not an index of the kind it is converted to: the error, and what was
 /// refused.
 ///
 /// It compares with an [`Error`], and `?` makes one of it.
@@ -51,7 +51,7 @@ impl Refused {
         }
     }
 
-    /// The error: `Failed` where a text parses as no index, else `CellInvalid` or `DirEdgeInvalid`.
+    /// The error: `Failed` if a text is not an index, else `CellInvalid` or `DirEdgeInvalid`.
     pub fn error(&self) -> Error {
         self.error
     }

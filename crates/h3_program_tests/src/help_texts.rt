@@ -79,12 +79,12 @@ static ABOUT: [(&str, &str, &str); 51] = [
     (
         "childPosToCell",
         "The descendant of a cell at a position",
-        "The descendant of a cell that stands at a position among those of a resolution",
+        "The descendant of a cell at a position among those at a resolution",
     ),
     (
         "compactCells",
-        "The cells, compacted",
-        "The compacted list of the cells, of any resolutions, on standard input; error 10 where two overlap",
+        "Compact a list of cells",
+        "Compact the list of cells on standard input, of any resolutions; overlapping cells are error 10",
     ),
     (
         "uncompactCells",
@@ -98,18 +98,18 @@ static ABOUT: [(&str, &str, &str); 51] = [
     ),
     (
         "uniteCells",
-        "What the cells cover, compacted",
-        "The compacted list of what the cells on standard input cover, which may repeat and overlap",
+        "Union of the cells, compacted",
+        "Union of the cells on standard input, compacted; they may repeat and overlap",
     ),
     (
         "intersectCells",
-        "What both the cells and a region cover, compacted",
-        "What both the cells on standard input and a region cover, compacted",
+        "Intersection of the cells and a region, compacted",
+        "Intersection of the cells on standard input and a region, compacted",
     ),
     (
         "subtractCells",
-        "What the cells cover and a region does not",
-        "What the cells on standard input cover and a region does not, compacted",
+        "The cells minus a region, compacted",
+        "The cells on standard input minus a region, compacted",
     ),
     (
         "areCoveredCells",
@@ -119,12 +119,12 @@ static ABOUT: [(&str, &str, &str); 51] = [
     (
         "cellsToZones",
         "The zone of each cell",
-        "The zone of each cell listed on standard input, 0 where it has none",
+        "The zone of each cell listed on standard input, or 0 if it has none",
     ),
     (
         "countCellsInZones",
-        "How many of the cells each zone has",
-        "How many of the cells listed on standard input each zone has",
+        "Count the cells in each zone",
+        "Count the cells on standard input in each zone, and those in none",
     ),
     (
         "gridDiskUnsafe",

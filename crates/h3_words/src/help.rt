@@ -41,15 +41,15 @@ pub(crate) const HELP: &str = "Inspect, traverse and compact H3 cells\n\n\
     \x20 getDirectedEdgeOrigin       The cell that a directed edge leaves\n\
     \x20 originToDirectedEdges       The directed edges that leave a cell\n\n\
     Lists on standard input, one index a line:\n\
-    \x20 compactCells                The cells, compacted\n\
+    \x20 compactCells                Compact a list of cells\n\
     \x20 uncompactCells              The descendants of the cells at a resolution\n\
     \x20 uncompactCellsSize          How many cells uncompactCells prints\n\
-    \x20 uniteCells                  What the cells cover, compacted\n\
-    \x20 intersectCells              What both the cells and a region cover, compacted\n\
-    \x20 subtractCells               What the cells cover and a region does not\n\
+    \x20 uniteCells                  Union of the cells, compacted\n\
+    \x20 intersectCells              Intersection of the cells and a region, compacted\n\
+    \x20 subtractCells               The cells minus a region, compacted\n\
     \x20 areCoveredCells             Whether a region covers each cell\n\
     \x20 cellsToZones                The zone of each cell\n\
-    \x20 countCellsInZones           How many of the cells each zone has\n\
+    \x20 countCellsInZones           Count the cells in each zone\n\
     \x20 areValidCells               Whether each index is a valid cell\n\
     \x20 areValidDirectedEdges       Whether each index is a valid directed edge\n\
     \x20 getResolutions              The resolution of each cell\n\
@@ -77,21 +77,21 @@ pub(crate) const HELP: &str = "Inspect, traverse and compact H3 cells\n\n\
 // takes literals alone. What is said before the errors comes first.
 macro_rules! notes {
     (index $($first:literal)*, $example:literal) => {
-        notes!(errors $($first)*; "1 no index, ", $example)
+        notes!(errors $($first)*; "1 not an index, ", $example)
     };
     (cell $($first:literal)*, $example:literal) => {
-        notes!(errors $($first)*; "1 no index, 5 no cell, ", $example)
+        notes!(errors $($first)*; "1 not an index, 5 not a valid cell, ", $example)
     };
     (edge $($first:literal)*, $example:literal) => {
-        notes!(errors $($first)*; "1 no index, 6 no edge, ", $example)
+        notes!(errors $($first)*; "1 not an index, 6 not a valid edge, ", $example)
     };
     (resolution, $example:literal) => {
-        notes!(errors; "4 no resolution, ", $example)
+        notes!(errors; "4 not a resolution, ", $example)
     };
     (ancestor $($first:literal)*, $example:literal) => {
         notes!(
             errors $($first)*;
-            "1 no index, 5 no cell, 4 no resolution,\n\
+            "1 not an index, 5 not a valid cell, 4 not a resolution,\n\
             12 a resolution finer than the cell's, ",
             $example
         )
@@ -99,21 +99,22 @@ macro_rules! notes {
     (descendants $($first:literal)*, $example:literal) => {
         notes!(
             errors $($first)*;
-            "1 no index, 5 no cell, 4 no resolution from the cell's to 15,\n",
+            "1 not an index, 5 not a valid cell,\n\
+            4 not a resolution from the cell's to 15, ",
             $example
         )
     };
     (below $($first:literal)?, $example:literal) => {
         notes!(
             errors $($first)?;
-            "1 no index, 5 no cell, 4 no resolution,\n\
+            "1 not an index, 5 not a valid cell, 4 not a resolution,\n\
             12 a resolution coarser than a cell's, ",
             $example
         )
     };
     (list $errors:ident, $example:literal) => {
         notes!(
-            $errors "An error of the list is told with its line, as line 2: error 1: E_FAILED.\n",
+            $errors "The first error in the list is reported as line 2: error 1: E_FAILED.\n",
             $example
         )
     };
@@ -127,9 +128,9 @@ macro_rules! notes {
         notes!(
             file $($first)? "The zone of a cell is the one that is the cell or its ancestor.\n",
             "zones",
-            ", and zones that\noverlap are zones: error 10: E_DUPLICATE_INPUT",
+            ", overlapping\nzones as zones: error 10: E_DUPLICATE_INPUT",
             " " "\n",
-            "10 zones that overlap, ",
+            "10 overlapping zones,\n",
             $example
         )
     };
@@ -144,31 +145,31 @@ macro_rules! notes {
     ) => {
         notes!(
             errors $($first)+
-            "An error of the list is told with its line, as line 2: error 5: E_CELL_INVALID,\n\
-            one of the file as " $kind ": line 2: error 5: E_CELL_INVALID" $overlap
+            "The first error in the list is reported as line 2: error 5: E_CELL_INVALID,\n\
+            one in the file as " $kind ": line 2: error 5: E_CELL_INVALID" $overlap
             ". A file that cannot" $before "be opened is" $after $kind
             ": open, status 3; a read that fails is fault: read, status 4.\n";
-            "1 no index, 5 no cell, " $errors,
+            "1 not an index, 5 not a valid cell, " $errors,
             $example
         )
     };
     (radius $($first:literal)*, $example:literal) => {
-        notes!(table $($first)*; "1 no index, 5 no cell,\n", " ", $example)
+        notes!(table $($first)*; "1 not an index, 5 not a valid cell,\n", " ", $example)
     };
     (walks, $example:literal) => {
         notes!(
-            radius "An error of the list is told with its line, as line 2: error 1: E_FAILED.\n"
-            "Of a walk that is refused on its way no cell is printed.\n",
+            radius "The first error in the list is reported as line 2: error 1: E_FAILED.\n"
+            "A walk that meets an error prints none of its cells.\n",
             $example
         )
     };
     (destination $($first:literal)?, $example:literal) => {
-        notes!(table $($first)?; "1 no index, 6 no edge,\n", " ", $example)
+        notes!(table $($first)?; "1 not an index, 6 not a valid edge,\n", " ", $example)
     };
     (neighbors $errors:literal, $end:literal, $example:literal) => {
         notes!(
             table "Error 1 or 5 is that of -c, if it has one, else that of --to.\n";
-            "1 no index, 5 no cell, 12 cells of two resolutions,\n" $errors,
+            "1 not an index, 5 not a valid cell, 12 different resolutions,\n" $errors,
             $end,
             $example
         )
@@ -176,8 +177,8 @@ macro_rules! notes {
     (table $($first:literal)*; $($errors:literal)+, $end:literal, $example:literal) => {
         notes!(
             errors $($first)*;
-            $($errors)+ "9 a step that starts or ends in a pentagon base cell," $end,
-            $example "\nA table: h3-table baseCells.c -o h3.csv, of the file in H3's source"
+            $($errors)+ "9 a step into or out of a pentagon base cell," $end,
+            $example "\nTo make a table from H3's source: h3-table baseCells.c -o h3.csv"
         )
     };
     (errors $($first:literal)*; $($errors:literal)+, $($example:literal)+) => {
@@ -212,25 +213,25 @@ impl CommandName {
             CommandName::CellToChildPos =>
                 "The position of a cell among the descendants of its ancestor at a resolution",
             CommandName::ChildPosToCell =>
-                "The descendant of a cell that stands at a position among those of a resolution",
+                "The descendant of a cell at a position among those at a resolution",
             CommandName::CompactCells =>
-                "The compacted list of the cells, of any resolutions, on standard input; error 10 where two overlap",
+                "Compact the list of cells on standard input, of any resolutions; overlapping cells are error 10",
             CommandName::UncompactCells =>
                 "The descendants at a resolution of each cell listed on standard input",
             CommandName::UncompactCellsSize =>
                 "How many cells uncompactCells prints for the cells listed on standard input",
             CommandName::UniteCells =>
-                "The compacted list of what the cells on standard input cover, which may repeat and overlap",
+                "Union of the cells on standard input, compacted; they may repeat and overlap",
             CommandName::IntersectCells =>
-                "What both the cells on standard input and a region cover, compacted",
+                "Intersection of the cells on standard input and a region, compacted",
             CommandName::SubtractCells =>
-                "What the cells on standard input cover and a region does not, compacted",
+                "The cells on standard input minus a region, compacted",
             CommandName::AreCoveredCells =>
                 "Whether a region covers each cell listed on standard input",
             CommandName::CellsToZones =>
-                "The zone of each cell listed on standard input, 0 where it has none",
+                "The zone of each cell listed on standard input, or 0 if it has none",
             CommandName::CountCellsInZones =>
-                "How many of the cells listed on standard input each zone has",
+                "Count the cells on standard input in each zone, and those in none",
             CommandName::GridDiskUnsafe => "The cells within a radius of a cell, ring by ring",
             CommandName::GridDiskDistancesUnsafe =>
                 "The cells within a radius of a cell, each with the number of its ring",
@@ -320,13 +321,13 @@ impl CommandName {
             ),
             CommandName::ChildPosToCell => notes!(
                 errors;
-                "1 no index, 5 no cell, 4 no resolution,\n\
-                12 a resolution coarser than the cell's, 2 no such position,\n",
+                "1 not an index, 5 not a valid cell, 4 not a resolution,\n\
+                12 a resolution coarser than the cell's, 2 position out of range,\n",
                 "h3 childPosToCell --position 3 -c 85283473fffffff -r 6"
             ),
             CommandName::CompactCells => notes!(
                 errors;
-                "1 no index, 5 no cell, 10 cells that overlap, ",
+                "1 not an index, 5 not a valid cell, 10 overlapping cells,\n",
                 "h3 compactCells < cells"
             ),
             CommandName::UncompactCells => notes!(below, "h3 uncompactCells -r 6 < cells"),
@@ -350,8 +351,8 @@ impl CommandName {
             ),
             CommandName::CellsToZones => notes!(zones, "h3 cellsToZones --zones zones < cells"),
             CommandName::CountCellsInZones => notes!(
-                zones "A line has a zone and its count, and the last one a 0 and how many cells have\n\
-                no zone. ",
+                zones "Each line has a zone and its count; the last one has 0 and the count of cells\n\
+                in no zone. ",
                 "h3 countCellsInZones --zones zones < cells"
             ),
             CommandName::GridDiskUnsafe => notes!(
@@ -372,7 +373,7 @@ impl CommandName {
                 "h3 areNeighborCells -c 85283473fffffff --to 85283477fffffff --table h3.csv"
             ),
             CommandName::CellsToDirectedEdge => notes!(
-                neighbors "11 no neighbors, ",
+                neighbors "11 not neighbors, ",
                 "\n",
                 "h3 cellsToDirectedEdge -c 85283473fffffff --to 85283477fffffff --table h3.csv"
             ),

@@ -3,7 +3,7 @@
 //!
 //! A [`Cell`] and an [`Edge`] are their text in formats for people, as JSON, and their number, a `u64`, in others. A
 //! [`Resolution`] is its number, and a [`Region`] and [`Zones`] are the list of their cells, ascending. What is read
-//! is judged: a text or a number that is no index of its kind is an error, and so is a list with cells that overlap in
+//! is judged: a text or a number that is not an index of its kind is an error, and so is a list with cells that overlap in
 //! place of zones.
 //!
 //! `#[serde(with = "h3whole_serde")]` writes and reads a field of such a type, an `Option` of it or a `Vec`. In any
