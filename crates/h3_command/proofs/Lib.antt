@@ -4,6 +4,7 @@ pub mod EdgeLines
 pub mod Endings
 pub mod FilesRead
 pub mod ListedCells
+pub mod NewColumns
 pub mod PrintedCounts
 pub mod SiblingGroups
 pub mod Written

@@ -9,6 +9,7 @@ pub mod Listed
 pub mod LongAnswers
 pub mod LongExamples
 pub mod LongLines
+pub mod NewColumns
 pub mod OverTable
 pub mod Rows
 pub mod Run

@@ -8,6 +8,7 @@ mod edges;
 mod files;
 mod for_each;
 mod given;
+pub mod laws;
 mod listed;
 mod long;
 mod rows;

@@ -5,6 +5,7 @@ ghost use Rattle.h3_lines.specs.Writing.{Reports, sink_use};
 ghost use Rattle.h3_rows.specs.Laws.{FieldsAreKept, RowsGiveBack, RowsStand};
 ghost use Rattle.h3_command.specs.Answer.{reads_list, reads_table, request, request_of};
 ghost use Rattle.h3_command.specs.Files.{CountsPrintedAddUp};
+ghost use Rattle.h3_command.specs.NewColumns.{AnswersAreWords, RowsStandOnce, WordPairsAreKept, WordsAreKept};
 ghost use Rattle.h3_command.specs.Run.{Ends, Runs, source_use};
 
 use crate::children::{cell_to_children, cells_to_children, child_pos_to_cell};
@@ -12,6 +13,7 @@ use crate::counts::count_cells_in_zones;
 use crate::edges::{are_neighbor_cells, cells_to_directed_edge, get_directed_edge_destination};
 use crate::files::{Combination, are_covered_cells, cells_to_zones, combine_cells};
 use crate::for_each::write_answer_for;
+use crate::laws::answers_are_fields;
 use crate::rows::answer_function;
 use crate::sets::{compact_cells, uncompact_cells, unite_cells};
 use crate::sizes::uncompact_cells_size;
@@ -153,9 +155,17 @@ pub fn run_over<R: Source, T: Source, W: Sink, E: Sink>(
     ensures stand { RowsStand }
     ensures give { RowsGiveBack }
     ensures kept { FieldsAreKept }
+
+    // Laws, whatever the command: the answers to a cell are such that a row stands once for each, and
+    // that each is one field, or two.
+    ensures words { AnswersAreWords }
+    ensures once { RowsStandOnce }
+    ensures fields { WordsAreKept }
+    ensures pairs { WordPairsAreKept }
 {
     counts_add_up();
     answers_stand_beside();
+    answers_are_fields();
     let ending = perform(alloc, command, rows, input, table, out);
     report(err, ending)
 }

@@ -1,0 +1,17 @@
+use Rattle.h3_command.proofs.NewColumns.{answers_are_words, rows_stand_once, word_pairs_are_kept, words_are_fields, words_are_kept}
+use Rattle.h3_command.proofs.laws.answers_are_fields.Goals as goal
+
+pub returns-clause-words : goal.returns-clause-words
+returns-clause-words c = answers_are_words
+
+pub returns-clause-fields : goal.returns-clause-fields
+returns-clause-fields c = words_are_fields
+
+pub returns-clause-kept : goal.returns-clause-kept
+returns-clause-kept c = words_are_kept c.answers_stand_beside.ensures.kept
+
+pub returns-clause-pairs : goal.returns-clause-pairs
+returns-clause-pairs c = word_pairs_are_kept c.answers_stand_beside.ensures.pairs
+
+pub returns-clause-once : goal.returns-clause-once
+returns-clause-once c = rows_stand_once

@@ -1,0 +1,79 @@
+-- What stands in the new column of rows: each line of an answer is a word of lower-case letters and digits, or two of them,
+-- and so one field, or two, whatever byte separates fields.
+use Rattle.std.specs.Prelude.{◌≡◌, ⊤, ℕ, nat_le, Bool, true, false, ◌&&◌, ◌||◌, List, [], ◌∷◌, ◌++◌, All, Option}
+use Rattle.std.specs.List.{flat_map, list_all}
+use Rattle.h3_index.specs.Cell.{Address}
+use Rattle.h3_lattice.specs.Links.{Links}
+use Rattle.h3_requests.specs.Rows.{is_separator}
+use Rattle.h3_requests.specs.declared.command.Command.{Command}
+use Rattle.h3_requests.specs.declared.command.Command.TheVariants as command
+use Rattle.h3_requests.specs.declared.rows.RowOptions.{RowOptions}
+use Rattle.h3_rows.specs.Row.{cut, inside_after, is_uncut}
+use Rattle.h3_rows.specs.RowsAnswer.{row_with, rows_with}
+use Rattle.h3_command.specs.Answer.{Request, request_of}
+use Rattle.h3_command.specs.Answer.Request.{of_file_and_lines, of_file_and_list, of_lines, of_list, of_numbered_list, of_table, of_table_and_lines, plain}
+use Rattle.h3_command.specs.LongAnswers.{between_parts}
+
+-- ---- words, and lines of them
+
+-- is_lower_or_digit b: a lower-case letter or a digit of ASCII
+abbrev pub is_lower_or_digit : ℕ → Bool
+is_lower_or_digit b = (nat_le 48 b && nat_le b 57) || (nat_le 97 b && nat_le b 122)
+
+-- IsWord text: lower-case letters and digits of ASCII alone
+abbrev pub IsWord : List ℕ → Type 0
+IsWord text = list_all is_lower_or_digit text ≡ true
+
+-- IsPairOfWords between text: two such words with a byte between them
+abbrev pub IsPairOfWords : ℕ → List ℕ → Type 0
+IsPairOfWords between text = (a : List ℕ) × (b : List ℕ) × IsWord a × IsWord b × (text ≡ a ++ (between ∷ b))
+
+-- AreLinesOf Is text: the text is lines, each of them so, and ended by a line feed
+abbrev pub AreLinesOf : (List ℕ → Type 0) → List ℕ → Type 0
+AreLinesOf Is text = (lines : List (List ℕ)) × All Is lines × (text ≡ flat_map (λ line. line ++ 10 ∷ []) lines)
+
+-- ---- answers
+
+-- AnswersBy Is r: each answer to an index, line by line or row by row, is lines that are so
+abbrev pub AnswersBy : (List ℕ → Type 0) → Request → Type 0
+AnswersBy Is (plain a) = ⊤
+AnswersBy Is (of_list form about) = ⊤
+AnswersBy Is (of_numbered_list form about) = ⊤
+AnswersBy Is (of_lines form about) = (index : Option ℕ) → AreLinesOf Is (about index).output
+AnswersBy Is (of_table about) = ⊤
+AnswersBy Is (of_file_and_list f form about) = ⊤
+AnswersBy Is (of_file_and_lines f form about) = (cells : List Address) (index : Option ℕ) → AreLinesOf Is (about cells index).output
+AnswersBy Is (of_table_and_lines form about) = (link : Links) (index : Option ℕ) → AreLinesOf Is (about link index).output
+
+-- IsAnswerLine rows command: what each line of a command's answer to an index is: a word, or a cell and its distance
+-- with the byte of `between_parts` between them
+abbrev pub IsAnswerLine : Option RowOptions → Command → List ℕ → Type 0
+IsAnswerLine rows (command.GridDisksDistancesUnsafe k) = IsPairOfWords (between_parts rows)
+IsAnswerLine rows c = IsWord
+
+-- AnswersAreWords: whatever the command and the options of its rows, each answer to an index is such lines
+abbrev pub AnswersAreWords : Type 0
+AnswersAreWords = (rows : Option RowOptions) (c : Command) → AnswersBy (IsAnswerLine rows c) (request_of rows c)
+
+-- ---- beside their rows
+
+-- WordsAreFields: a word is one field of any form of rows: it has no byte that may separate fields, no line feed and no quote
+abbrev pub WordsAreFields : Type 0
+WordsAreFields = (separator : ℕ) (quotes : Bool) (text : List ℕ) → is_separator separator ≡ true → IsWord text
+    → (is_uncut separator quotes false text ≡ true) × (is_uncut 10 quotes false text ≡ true) × (inside_after quotes false text ≡ false)
+
+-- WordsAreKept: so the fields of a row with a word are those of the row, and then the word: taking the column away gives the
+-- row back
+abbrev pub WordsAreKept : Type 0
+WordsAreKept = (separator : ℕ) (quotes : Bool) (row a : List ℕ) → is_separator separator ≡ true → inside_after quotes false row ≡ false → IsWord a
+    → cut separator quotes false (row ++ separator ∷ a) ≡ cut separator quotes false row ++ (a, false) ∷ []
+
+-- WordPairsAreKept: and those of a row with a pair of words are those of the row, and then the two
+abbrev pub WordPairsAreKept : Type 0
+WordPairsAreKept = (separator : ℕ) (quotes : Bool) (row a b : List ℕ) → is_separator separator ≡ true → inside_after quotes false row ≡ false → IsWord a → IsWord b
+    → cut separator quotes false (row ++ (separator ∷ (a ++ (separator ∷ b)))) ≡ cut separator quotes false row ++ (a, false) ∷ (b, false) ∷ []
+
+-- RowsStandOnce: a row stands once for each line of its answer, with that line, where no line has a line feed in it
+abbrev pub RowsStandOnce : Type 0
+RowsStandOnce = (separator : ℕ) (row : List ℕ) (lines : List (List ℕ)) → All (λ line. is_uncut 10 false false line ≡ true) lines
+    → rows_with separator row (flat_map (λ line. line ++ 10 ∷ []) lines) ≡ flat_map (row_with separator row) lines
