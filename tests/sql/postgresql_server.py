@@ -86,49 +86,69 @@ def copy_server(place, words):
         subprocess.run(["cp", "-rsn", f"{folder}/.", f"{place}{folder}/"], check=True)
 
 
+def new_data(place, programs):
+    """A server that doesn't run, of these programs, with a new database below a folder."""
+    found = Server(place)
+    for folder in (found.data, found.socket):
+        os.makedirs(folder)
+    with open(found.log, "w", encoding="utf-8"):
+        pass
+    if os.geteuid() == 0:
+        user = pwd.getpwnam("postgres")
+        os.chmod(place, 0o755)
+        for path in (found.data, found.socket, found.log):
+            os.chown(path, user.pw_uid, user.pw_gid)
+    subprocess.run(
+        own_words(f"{programs}/initdb", "-D", found.data, "-U", "postgres", "-A", "trust", "--no-sync"),
+        cwd="/",
+        stdout=subprocess.DEVNULL,
+        check=True,
+    )
+    return found
+
+
 @contextlib.contextmanager
 def prepared(*words):
     """A server that doesn't run, with a new database: the server, and its programs. `words` are those of make."""
     with tempfile.TemporaryDirectory() as place:
         copy_server(place, words)
-        found, programs = Server(place), place + asked("bindir")
-        for folder in (found.data, found.socket):
-            os.makedirs(folder)
-        with open(found.log, "w", encoding="utf-8"):
-            pass
-        if os.geteuid() == 0:
-            user = pwd.getpwnam("postgres")
-            os.chmod(place, 0o755)
-            for path in (found.data, found.socket, found.log):
-                os.chown(path, user.pw_uid, user.pw_gid)
+        programs = place + asked("bindir")
+        yield new_data(place, programs), programs
+
+
+@contextlib.contextmanager
+def started(found, programs, settings):
+    """A server while it runs."""
+    options = " ".join(f"-c {setting}" for setting in ("listen_addresses=", "fsync=off", *settings))
+    control = own_words(f"{programs}/pg_ctl", "-D", found.data, "-l", found.log, "-w", "-t", "600")
+    try:
         subprocess.run(
-            own_words(f"{programs}/initdb", "-D", found.data, "-U", "postgres", "-A", "trust", "--no-sync"),
+            [*control, "-o", f"-k {found.socket} {options}", "start"],
             cwd="/",
             stdout=subprocess.DEVNULL,
             check=True,
         )
-        yield found, programs
+        yield found
+    finally:
+        subprocess.run(
+            [*control, "-m", "immediate", "stop"],
+            cwd="/",
+            stdout=subprocess.DEVNULL,
+            stderr=subprocess.DEVNULL,
+            check=False,
+        )
 
 
 @contextlib.contextmanager
 def server(*words, settings=()):
     """A server while it is used."""
-    with prepared(*words) as (found, programs):
-        options = " ".join(f"-c {setting}" for setting in ("listen_addresses=", "fsync=off", *settings))
-        control = own_words(f"{programs}/pg_ctl", "-D", found.data, "-l", found.log, "-w", "-t", "600")
-        try:
-            subprocess.run(
-                [*control, "-o", f"-k {found.socket} {options}", "start"],
-                cwd="/",
-                stdout=subprocess.DEVNULL,
-                check=True,
-            )
-            yield found
-        finally:
-            subprocess.run(
-                [*control, "-m", "immediate", "stop"],
-                cwd="/",
-                stdout=subprocess.DEVNULL,
-                stderr=subprocess.DEVNULL,
-                check=False,
-            )
+    with prepared(*words) as (found, programs), started(found, programs, settings):
+        yield found
+
+
+@contextlib.contextmanager
+def plain_server(settings=()):
+    """The installed server without the extension, over a new database in a temporary folder, while it is used."""
+    programs = asked("bindir")
+    with tempfile.TemporaryDirectory() as place, started(new_data(place, programs), programs, settings) as found:
+        yield found

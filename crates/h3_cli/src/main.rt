@@ -129,9 +129,9 @@ fn input_twice<'a, S: Files<File = File>>(rt: &S, asked: &Words) -> Option<&'a s
     }
 }
 
-/// Whether a command reads a file beside a list, and none is at the path.
+/// Whether a command reads a file, and none is at the path.
 fn is_file_missing<S: Files<File = File>>(rt: &S, asked: &Words) -> bool {
-    match file_of_list(asked) {
+    match asked.file.as_ref() {
         Some(file) => !fs::exists(rt, file.path()).unwrap_or(false),
         None => false,
     }
