@@ -32,7 +32,7 @@ use Rattle.h3_command.specs.Answer.{answer_for, shown, with_table}
 use Rattle.h3_command.specs.Files.{cell_to_zone, is_covered_cell}
 use Rattle.h3_command.specs.Given.{cell_given, edge_given, index_given}
 use Rattle.h3_command.specs.LongAnswers.{between_parts, whole_walk}
-use Rattle.h3_command.specs.NewColumns.{AnswersAreWords, AnswersBy, AreLinesOf, IsPairOfWords, IsWord, RowsStandOnce, WordPairsAreKept, WordsAreFields, WordsAreKept, is_lower_or_digit}
+use Rattle.h3_command.specs.NewColumns.{AnswersAreWords, AnswersBy, AreLinesOf, IsPairOfWords, IsWord, RowsStandOnce, WordPairsAreKept, WordPairsAreUncut, WordsAreFields, WordsAreKept, is_lower_or_digit, is_plain}
 use Rattle.h3_command.specs.OverTable.{destination_of}
 
 -- ---- words
@@ -216,20 +216,63 @@ fields separator quotes (b ∷ bs) other word =
     let (uncut, closed) = fields separator quotes bs other more in
     (rw (other b first, calm) uncut, rw calm closed)
 
+no_return : (b : ℕ) → is_lower_or_digit b ≡ true → (b == 13) ≡ false
+no_return b q = grind (arith, nat_tests)
+
+plain_word : (separator : ℕ) (text : List ℕ) → is_separator separator ≡ true → IsWord text → is_plain separator text ≡ true
+plain_word separator [] serves word = refl
+plain_word separator (b ∷ bs) serves word =
+    let (first, more) = both (is_lower_or_digit b) (list_all is_lower_or_digit bs) word in
+    rw (apart separator b serves first, (no_feed b first).1, (no_feed b first).0, no_return b first) (plain_word separator bs serves more)
+
 pub words_are_fields : WordsAreFields
 words_are_fields separator quotes text serves word =
     let (uncut, closed) = fields separator quotes text (λ b. apart separator b serves) word in
-    (uncut, (fields 10 quotes text (λ b q. (no_feed b q).0) word).0, closed)
+    (plain_word separator text serves word, uncut, (fields 10 quotes text (λ b q. (no_feed b q).0) word).0, closed)
+
+-- neither a line feed nor a quote
+is_quiet : ℕ → Bool
+is_quiet b = not (b == 10 || b == 34)
+
+neither : (x y : Bool) → not (x || y) ≡ true → (x ≡ false) × (y ≡ false)
+neither true y h = absurd (cc)
+neither false true h = absurd (cc)
+neither false false h = (refl, refl)
+
+quiet : (quotes : Bool) (text : List ℕ) → list_all is_quiet text ≡ true → (is_uncut 10 quotes false text ≡ true) × (inside_after quotes false text ≡ false)
+unfolding is_quiet
+quiet quotes [] all = (refl, refl)
+quiet quotes (b ∷ bs) all =
+    let (first, more) = both (is_quiet b) (list_all is_quiet bs) all in
+    let (feed, mark) = neither (b == 10) (b == 34) first in
+    let calm : turned quotes false b ≡ false = rw (mark, no_quote quotes) refl in
+    let (uncut, closed) = quiet quotes bs more in
+    (rw (feed, calm) uncut, rw calm closed)
+
+quiet_word : (text : List ℕ) → IsWord text → list_all is_quiet text ≡ true
+unfolding is_quiet
+quiet_word [] word = refl
+quiet_word (b ∷ bs) word =
+    let (first, more) = both (is_lower_or_digit b) (list_all is_lower_or_digit bs) word in
+    rw ((no_feed b first).0, (no_feed b first).1) (quiet_word bs more)
+
+quiet_separator : (separator : ℕ) → is_separator separator ≡ true → is_quiet separator ≡ true
+unfolding is_quiet
+quiet_separator separator serves = grind (arith, nat_tests)
+
+pub word_pairs_are_uncut : WordPairsAreUncut
+word_pairs_are_uncut separator quotes a b serves first second =
+    quiet quotes (a ++ (separator ∷ b)) (list_all-append is_quiet a (separator ∷ b) ∙ rw (quiet_word a first, quiet_separator separator serves, quiet_word b second) refl)
 
 pub words_are_kept : FieldsAreKept → WordsAreKept
 words_are_kept kept separator quotes row a serves closed word =
-    let (uncut, feed, inside) = words_are_fields separator quotes a serves word in
+    let (free, uncut, feed, inside) = words_are_fields separator quotes a serves word in
     kept separator quotes row a (no_quote_separates separator serves) closed uncut inside
 
 pub word_pairs_are_kept : PairsAreKept → WordPairsAreKept
 word_pairs_are_kept kept separator quotes row a b serves closed first second =
-    let (uncut, feed, inside) = words_are_fields separator quotes a serves first in
-    let (other_uncut, other_feed, other_inside) = words_are_fields separator quotes b serves second in
+    let (free, uncut, feed, inside) = words_are_fields separator quotes a serves first in
+    let (other_free, other_uncut, other_feed, other_inside) = words_are_fields separator quotes b serves second in
     kept separator quotes row a b (no_quote_separates separator serves) closed uncut inside other_uncut other_inside
 
 -- ---- a row for each line

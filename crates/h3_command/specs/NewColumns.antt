@@ -1,6 +1,6 @@
 -- What stands in the new column of rows: each line of an answer is a word of lower-case letters and digits, or two of them,
 -- and so one field, or two, whatever byte separates fields.
-use Rattle.std.specs.Prelude.{◌≡◌, ⊤, ℕ, nat_le, Bool, true, false, ◌&&◌, ◌||◌, List, [], ◌∷◌, ◌++◌, All, Option}
+use Rattle.std.specs.Prelude.{◌≡◌, ⊤, ℕ, nat_le, Bool, true, false, ◌==◌, not, ◌&&◌, ◌||◌, List, [], ◌∷◌, ◌++◌, All, Option}
 use Rattle.std.specs.List.{flat_map, list_all}
 use Rattle.h3_index.specs.Cell.{Address}
 use Rattle.h3_lattice.specs.Links.{Links}
@@ -57,10 +57,19 @@ AnswersAreWords = (rows : Option RowOptions) (c : Command) → AnswersBy (IsAnsw
 
 -- ---- beside their rows
 
--- WordsAreFields: a word is one field of any form of rows: it has no byte that may separate fields, no line feed and no quote
+-- is_plain separator text: no byte is the separator, a quote, a line feed or a carriage return
+abbrev pub is_plain : ℕ → List ℕ → Bool
+is_plain separator text = list_all (λ b. not (b == separator || b == 34 || b == 10 || b == 13)) text
+
+-- WordsAreFields: a word is one field of any form of rows: it has no byte that may separate fields, no quote and no line end
 abbrev pub WordsAreFields : Type 0
 WordsAreFields = (separator : ℕ) (quotes : Bool) (text : List ℕ) → is_separator separator ≡ true → IsWord text
-    → (is_uncut separator quotes false text ≡ true) × (is_uncut 10 quotes false text ≡ true) × (inside_after quotes false text ≡ false)
+    → (is_plain separator text ≡ true) × (is_uncut separator quotes false text ≡ true) × (is_uncut 10 quotes false text ≡ true) × (inside_after quotes false text ≡ false)
+
+-- WordPairsAreUncut: a pair of words is in one line: it has no line feed that ends one, and no quote stays open
+abbrev pub WordPairsAreUncut : Type 0
+WordPairsAreUncut = (separator : ℕ) (quotes : Bool) (a b : List ℕ) → is_separator separator ≡ true → IsWord a → IsWord b
+    → (is_uncut 10 quotes false (a ++ (separator ∷ b)) ≡ true) × (inside_after quotes false (a ++ (separator ∷ b)) ≡ false)
 
 -- WordsAreKept: so the fields of a row with a word are those of the row, and then the word: taking the column away gives the
 -- row back

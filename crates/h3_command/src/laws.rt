@@ -1,6 +1,6 @@
-//! Laws of the answers beside rows. The function does nothing; what it ensures is laws that hold always.
+//! Laws of the answers beside rows. Proof only: the function compiles to nothing.
 
-ghost use Rattle.h3_command.specs.NewColumns.{AnswersAreWords, RowsStandOnce, WordPairsAreKept, WordsAreFields, WordsAreKept};
+ghost use Rattle.h3_command.specs.NewColumns.{AnswersAreWords, RowsStandOnce, WordPairsAreKept, WordPairsAreUncut, WordsAreFields, WordsAreKept};
 
 use h3_rows::laws::answers_stand_beside;
 
@@ -13,6 +13,7 @@ pub fn answers_are_fields()
     ensures fields { WordsAreFields }
     ensures kept { WordsAreKept }
     ensures pairs { WordPairsAreKept }
+    ensures uncut { WordPairsAreUncut }
     ensures once { RowsStandOnce }
 {
     answers_stand_beside();

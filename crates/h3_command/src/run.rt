@@ -2,10 +2,10 @@
 
 ghost use Rattle.std.specs.Prelude.{◌≡◌, false};
 ghost use Rattle.h3_lines.specs.Writing.{Reports, sink_use};
-ghost use Rattle.h3_rows.specs.Laws.{FieldsAreKept, RowsGiveBack, RowsStand};
+ghost use Rattle.h3_rows.specs.Laws.{FieldsAreKept, OutputReadsBack, RowsAreWhole, RowsGiveBack, RowsStand};
 ghost use Rattle.h3_command.specs.Answer.{reads_list, reads_table, request, request_of};
 ghost use Rattle.h3_command.specs.Files.{CountsPrintedAddUp};
-ghost use Rattle.h3_command.specs.NewColumns.{AnswersAreWords, RowsStandOnce, WordPairsAreKept, WordsAreKept};
+ghost use Rattle.h3_command.specs.NewColumns.{AnswersAreWords, RowsStandOnce, WordPairsAreKept, WordPairsAreUncut, WordsAreFields, WordsAreKept};
 ghost use Rattle.h3_command.specs.Run.{Ends, Runs, source_use};
 
 use crate::children::{cell_to_children, cells_to_children, child_pos_to_cell};
@@ -151,15 +151,20 @@ pub fn run_over<R: Source, T: Source, W: Sink, E: Sink>(
     ensures counts { CountsPrintedAddUp }
 
     // Laws, whatever the rows: each stands in the output with the answers to its own cell, and the rows
-    // are the list again, as are the fields of a row without the new one.
+    // are the list again, as are the fields of a row without the new one. Read again, the output has
+    // these rows and no others.
     ensures stand { RowsStand }
     ensures give { RowsGiveBack }
+    ensures whole { RowsAreWhole }
+    ensures back { OutputReadsBack }
     ensures kept { FieldsAreKept }
 
     // Laws, whatever the command: the answers to a cell are such that a row stands once for each, and
     // that each is one field, or two.
     ensures words { AnswersAreWords }
     ensures once { RowsStandOnce }
+    ensures words_uncut { WordsAreFields }
+    ensures pairs_uncut { WordPairsAreUncut }
     ensures fields { WordsAreKept }
     ensures pairs { WordPairsAreKept }
 {

@@ -29,9 +29,9 @@ pub trait IndexFunction {
     ghost answer_of: { Self → Option ℕ → Answer };
 
     /// Puts the answer into a block from the byte `at` on, and returns where it ends; or returns
-    /// its error. The bytes after it may change too. The lines of cells are put by `lines`, as
-    /// `Line::put` puts them. What looks for something begins at a place, and leaves there where it
-    /// was found, for the next line; the place may be any. All else passes it over.
+    /// its error. The bytes after it may change too. What looks for
+    /// something begins at a place, and leaves there where it was found, for the next line; the
+    /// place may be any. All else passes it over.
     fn put(
         &self,
         index: Option<u64>,

@@ -114,7 +114,7 @@ macro_rules! notes {
     };
     (list $errors:ident, $example:literal) => {
         notes!(
-            $errors "The first error in the list is reported as line 2: error 1: E_FAILED.\n",
+            $errors "The first error is reported with its line, as line 2: error 1: E_FAILED.\n",
             $example
         )
     };
@@ -145,7 +145,7 @@ macro_rules! notes {
     ) => {
         notes!(
             errors $($first)+
-            "The first error in the list is reported as line 2: error 5: E_CELL_INVALID,\n\
+            "The first error is reported with its line, as line 2: error 5: E_CELL_INVALID,\n\
             one in the file as " $kind ": line 2: error 5: E_CELL_INVALID" $overlap
             ". A file that cannot" $before "be opened is" $after $kind
             ": open, status 3; a read that fails is fault: read, status 4.\n";
@@ -158,7 +158,7 @@ macro_rules! notes {
     };
     (walks, $example:literal) => {
         notes!(
-            radius "The first error in the list is reported as line 2: error 1: E_FAILED.\n"
+            radius "The first error is reported with its line, as line 2: error 1: E_FAILED.\n"
             "A walk that meets an error prints none of its cells.\n",
             $example
         )
@@ -224,8 +224,7 @@ impl CommandName {
                 "Union of the cells on standard input, compacted; they may repeat and overlap",
             CommandName::IntersectCells =>
                 "Intersection of the cells on standard input and a region, compacted",
-            CommandName::SubtractCells =>
-                "The cells on standard input minus a region, compacted",
+            CommandName::SubtractCells => "The cells on standard input minus a region, compacted",
             CommandName::AreCoveredCells =>
                 "Whether a region covers each cell listed on standard input",
             CommandName::CellsToZones =>

@@ -1,10 +1,9 @@
 //! The lines of cells, one after another.
 
-ghost use Rattle.std.specs.Prelude.{◌≡◌, ◌+◌, ◌-◌, ◌*◌, ◌/◌, ◌<◌, ◌≤◌, ◌++◌, ◌∷◌, ◌^◌, [], drop, length, map, min, take, true};
+ghost use Rattle.std.specs.Prelude.{◌≡◌, ◌+◌, ◌-◌, ◌*◌, ◌<◌, ◌≤◌, ◌++◌, ◌∷◌, [], drop, length, map, take};
 ghost use Rattle.std.specs.Char.{digit_char};
 ghost use Rattle.std.specs.List.{flat_map};
 ghost use Rattle.h3_index.specs.Cell.{number_of, resolution};
-ghost use Rattle.h3_index.specs.CellNumber.{is_cell};
 ghost use Rattle.h3_index.specs.Descendants.{children};
 ghost use Rattle.h3_index.specs.Digits.{last_digits};
 ghost use Rattle.h3_index.specs.Text.{text_of};

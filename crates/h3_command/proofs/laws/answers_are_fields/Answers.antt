@@ -1,4 +1,4 @@
-use Rattle.h3_command.proofs.NewColumns.{answers_are_words, rows_stand_once, word_pairs_are_kept, words_are_fields, words_are_kept}
+use Rattle.h3_command.proofs.NewColumns.{answers_are_words, rows_stand_once, word_pairs_are_kept, word_pairs_are_uncut, words_are_fields, words_are_kept}
 use Rattle.h3_command.proofs.laws.answers_are_fields.Goals as goal
 
 pub returns-clause-words : goal.returns-clause-words
@@ -15,3 +15,6 @@ returns-clause-pairs c = word_pairs_are_kept c.answers_stand_beside.ensures.pair
 
 pub returns-clause-once : goal.returns-clause-once
 returns-clause-once c = rows_stand_once
+
+pub returns-clause-uncut : goal.returns-clause-uncut
+returns-clause-uncut c = word_pairs_are_uncut
