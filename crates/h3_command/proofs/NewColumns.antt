@@ -1,5 +1,5 @@
 -- What stands in the new column of rows.
-use Rattle.std.proofs.Common.{◌≡◌, ℕ, zero, suc, ◌/◌, ◌%◌, ◌<◌, ◌==◌, Bool, true, false, not, ◌&&◌, List, [], ◌∷◌, ◌++◌, All, map, codes, decimal, Option, None, Some, Result, Ok, Err, if◌then◌else◌, sym, ap, ◌∙◌, refl, append_assoc, append-nil, arith}
+use Rattle.std.proofs.Common.{◌≡◌, ℕ, zero, suc, ◌/◌, ◌%◌, ◌<◌, ◌==◌, Bool, true, false, not, ◌&&◌, List, [], ◌∷◌, ◌++◌, All, map, codes, decimal, Option, None, Some, Result, Ok, Err, if◌then◌else◌, sym, ap, ◌∙◌, refl, append_assoc, append-nil, arith, inl, inr}
 use Rattle.std.proofs.lemmas.Bool.Decides.{nat_tests}
 use Rattle.std.proofs.lemmas.List.Elements.{All-cons, All-head, All-map, All-nil, All-tail}
 use Rattle.std.proofs.lemmas.List.Folds.{flat_map-map, list_all-append, list_all-map}
@@ -32,7 +32,7 @@ use Rattle.h3_command.specs.Answer.{answer_for, shown, with_table}
 use Rattle.h3_command.specs.Files.{cell_to_zone, is_covered_cell}
 use Rattle.h3_command.specs.Given.{cell_given, edge_given, index_given}
 use Rattle.h3_command.specs.LongAnswers.{between_parts, whole_walk}
-use Rattle.h3_command.specs.NewColumns.{AnswersAreWords, AnswersBy, AreLinesOf, IsPairOfWords, IsWord, RowsStandOnce, WordPairsAreKept, WordPairsAreUncut, WordsAreFields, WordsAreKept, is_lower_or_digit, is_plain}
+use Rattle.h3_command.specs.NewColumns.{AnswersAreWords, AnswersBy, AreAnswerLines, AreLinesOf, IsPairOfWords, IsWord, RowsStandOnce, WordPairsAreKept, WordPairsAreUncut, WordsAreFields, WordsAreKept, is_lower_or_digit, is_plain}
 use Rattle.h3_command.specs.OverTable.{destination_of}
 
 -- ---- words
@@ -123,26 +123,26 @@ lines_of_rings between items =
 
 -- ---- answers
 
-answer_lines : {A : Type 0} (Is : List ℕ → Type 0) (about : A → Answer) (value : Result A H3Error) → ((v : A) → AreLinesOf Is (about v).output) → AreLinesOf Is (answer_or_error about value).output
+answer_lines : {A : Type 0} (Is : List ℕ → Type 0) (about : A → Answer) (value : Result A H3Error) → ((v : A) → AreAnswerLines Is (about v)) → AreAnswerLines Is (answer_or_error about value)
 answer_lines Is about (Ok v) each = each v
-answer_lines Is about (Err e) each = no_line Is
+answer_lines Is about (Err e) each = (no_line Is, inr (e, refl))
 
-printed_lines : {A : Type 0} (Is : List ℕ → Type 0) (text : A → List ℕ) (value : Result A H3Error) → ((v : A) → AreLinesOf Is (text v)) → AreLinesOf Is (printed text value).output
-printed_lines Is text (Ok v) each = each v
-printed_lines Is text (Err e) each = no_line Is
+printed_lines : {A : Type 0} (Is : List ℕ → Type 0) (text : A → List ℕ) (value : Result A H3Error) → ((v : A) → AreLinesOf Is (text v)) → AreAnswerLines Is (printed text value)
+printed_lines Is text (Ok v) each = (each v, inl refl)
+printed_lines Is text (Err e) each = (no_line Is, inr (e, refl))
 
-shown_lines : (outcome : Outcome) → AreLinesOf IsWord (shown outcome).output
+shown_lines : (outcome : Outcome) → AreAnswerLines IsWord (shown outcome)
 shown_lines (Truth is) = printed_lines IsWord truth_line is truth_lines
 shown_lines (Number number) = printed_lines IsWord number_line number number_lines
 shown_lines (Count count) = printed_lines IsWord number_line count number_lines
 shown_lines (Cell cell) = printed_lines IsWord cell_line cell line_of_cell
 shown_lines (Edges index) = printed_lines IsWord edge_lines (origin_to_directed_edges index) lines_of_edges
 
-lines_for : (function : CellFunction) (index : Option ℕ) → AreLinesOf IsWord (answer_for function index).output
+lines_for : (function : CellFunction) (index : Option ℕ) → AreAnswerLines IsWord (answer_for function index)
 lines_for function index = answer_lines IsWord (λ h. shown (outcome_of function h)) (index_given index) (λ h. shown_lines (outcome_of function h))
 
 -- what is asked of a value and a table alone is no list
-one_query : {A : Type 0} (Is : List ℕ → Type 0) (about : A → Links → Answer) (value : Result A H3Error) → AnswersBy Is (with_table about value)
+one_query : {A : Type 0} (Is : Answer → Type 0) (about : A → Links → Answer) (value : Result A H3Error) → AnswersBy Is (with_table about value)
 one_query Is about (Ok v) = tt
 one_query Is about (Err e) = tt
 
@@ -171,14 +171,14 @@ answers_are_words rows command.SubtractCells = tt
 answers_are_words rows command.AreCoveredCells = λ cells index. printed_lines IsWord truth_line (is_covered_cell (compacted cells) index) truth_lines
 answers_are_words rows command.CellsToZones = λ zones index. printed_lines IsWord zone_line (cell_to_zone zones index) zone_lines
 answers_are_words rows command.CountCellsInZones = tt
-answers_are_words rows (command.GridDiskUnsafe cell k) = one_query IsWord (λ c link. answer_or_error (walked cell_line) (grid_disk_unsafe link c k)) (cell_given cell)
-answers_are_words rows (command.GridDiskDistancesUnsafe cell k) = one_query IsWord (λ c link. answer_or_error (walked ring_line) (grid_disk_distances_unsafe link c k)) (cell_given cell)
-answers_are_words rows (command.GridRingUnsafe cell k) = one_query IsWord (λ c link. answer_or_error (walked cell_line) (grid_ring_unsafe link c k)) (cell_given cell)
-answers_are_words rows (command.AreNeighborCells cell to) = one_query IsWord (λ cells link. printed truth_line (are_neighbor_cells link cells)) (pair_of (cell_given cell) (cell_given to))
-answers_are_words rows (command.CellsToDirectedEdge cell to) = one_query IsWord (λ cells link. printed edge_line (cells_to_directed_edge link cells)) (pair_of (cell_given cell) (cell_given to))
+answers_are_words rows (command.GridDiskUnsafe cell k) = one_query (AreAnswerLines IsWord) (λ c link. answer_or_error (walked cell_line) (grid_disk_unsafe link c k)) (cell_given cell)
+answers_are_words rows (command.GridDiskDistancesUnsafe cell k) = one_query (AreAnswerLines IsWord) (λ c link. answer_or_error (walked ring_line) (grid_disk_distances_unsafe link c k)) (cell_given cell)
+answers_are_words rows (command.GridRingUnsafe cell k) = one_query (AreAnswerLines IsWord) (λ c link. answer_or_error (walked cell_line) (grid_ring_unsafe link c k)) (cell_given cell)
+answers_are_words rows (command.AreNeighborCells cell to) = one_query (AreAnswerLines IsWord) (λ cells link. printed truth_line (are_neighbor_cells link cells)) (pair_of (cell_given cell) (cell_given to))
+answers_are_words rows (command.CellsToDirectedEdge cell to) = one_query (AreAnswerLines IsWord) (λ cells link. printed edge_line (cells_to_directed_edge link cells)) (pair_of (cell_given cell) (cell_given to))
 answers_are_words rows (command.IsValidDirectedEdge edge) = tt
 answers_are_words rows (command.GetDirectedEdgeOrigin edge) = tt
-answers_are_words rows (command.GetDirectedEdgeDestination edge) = one_query IsWord (λ e link. printed cell_line (get_directed_edge_destination link e)) (edge_given edge)
+answers_are_words rows (command.GetDirectedEdgeDestination edge) = one_query (AreAnswerLines IsWord) (λ e link. printed cell_line (get_directed_edge_destination link e)) (edge_given edge)
 answers_are_words rows (command.OriginToDirectedEdges cell) = tt
 answers_are_words rows (command.CellsToChildren res) = λ index. printed_lines IsWord cell_lines (for_value (λ h. cell_to_children h res) (index_given index)) lines_of_cells
 answers_are_words rows (command.GridDisksUnsafe k) = λ link index. printed_lines IsWord cell_lines (for_value (λ c. whole_walk (grid_disk_unsafe link c k)) (cell_given index)) lines_of_cells

@@ -4,10 +4,12 @@ use Rattle.std.specs.Prelude.{◌≡◌, ⊤, ℕ, nat_le, Bool, true, false, �
 use Rattle.std.specs.List.{flat_map, list_all}
 use Rattle.h3_index.specs.Cell.{Address}
 use Rattle.h3_lattice.specs.Links.{Links}
+use Rattle.h3_lines.specs.Answer.{Answer}
 use Rattle.h3_requests.specs.Rows.{is_separator}
 use Rattle.h3_requests.specs.declared.command.Command.{Command}
 use Rattle.h3_requests.specs.declared.command.Command.TheVariants as command
 use Rattle.h3_requests.specs.declared.rows.RowOptions.{RowOptions}
+use Rattle.h3_rows.specs.Laws.{IsWholeOrRefused}
 use Rattle.h3_rows.specs.Row.{cut, inside_after, is_uncut}
 use Rattle.h3_rows.specs.RowsAnswer.{row_with, rows_with}
 use Rattle.h3_command.specs.Answer.{Request, request_of}
@@ -34,16 +36,16 @@ AreLinesOf Is text = (lines : List (List ℕ)) × All Is lines × (text ≡ flat
 
 -- ---- answers
 
--- AnswersBy Is r: each answer to an index, line by line or row by row, is lines that are so
-abbrev pub AnswersBy : (List ℕ → Type 0) → Request → Type 0
+-- AnswersBy Is r: each answer to an index, line by line or row by row, is so
+abbrev pub AnswersBy : (Answer → Type 0) → Request → Type 0
 AnswersBy Is (plain a) = ⊤
 AnswersBy Is (of_list form about) = ⊤
 AnswersBy Is (of_numbered_list form about) = ⊤
-AnswersBy Is (of_lines form about) = (index : Option ℕ) → AreLinesOf Is (about index).output
+AnswersBy Is (of_lines form about) = (index : Option ℕ) → Is (about index)
 AnswersBy Is (of_table about) = ⊤
 AnswersBy Is (of_file_and_list f form about) = ⊤
-AnswersBy Is (of_file_and_lines f form about) = (cells : List Address) (index : Option ℕ) → AreLinesOf Is (about cells index).output
-AnswersBy Is (of_table_and_lines form about) = (link : Links) (index : Option ℕ) → AreLinesOf Is (about link index).output
+AnswersBy Is (of_file_and_lines f form about) = (cells : List Address) (index : Option ℕ) → Is (about cells index)
+AnswersBy Is (of_table_and_lines form about) = (link : Links) (index : Option ℕ) → Is (about link index)
 
 -- IsAnswerLine rows command: what each line of a command's answer to an index is: a word, or a cell and its distance
 -- with the byte of `between_parts` between them
@@ -51,9 +53,13 @@ abbrev pub IsAnswerLine : Option RowOptions → Command → List ℕ → Type 0
 IsAnswerLine rows (command.GridDisksDistancesUnsafe k) = IsPairOfWords (between_parts rows)
 IsAnswerLine rows c = IsWord
 
--- AnswersAreWords: whatever the command and the options of its rows, each answer to an index is such lines
+-- AreAnswerLines Is a: the answer is lines that are so, with no error after them, or the error of a call alone
+abbrev pub AreAnswerLines : (List ℕ → Type 0) → Answer → Type 0
+AreAnswerLines Is a = AreLinesOf Is a.output × IsWholeOrRefused a
+
+-- AnswersAreWords: whatever the command and the options of its rows, each answer to an index is such lines, or an error
 abbrev pub AnswersAreWords : Type 0
-AnswersAreWords = (rows : Option RowOptions) (c : Command) → AnswersBy (IsAnswerLine rows c) (request_of rows c)
+AnswersAreWords = (rows : Option RowOptions) (c : Command) → AnswersBy (AreAnswerLines (IsAnswerLine rows c)) (request_of rows c)
 
 -- ---- beside their rows
 

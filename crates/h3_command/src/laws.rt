@@ -4,10 +4,10 @@ ghost use Rattle.h3_command.specs.NewColumns.{AnswersAreWords, RowsStandOnce, Wo
 
 use h3_rows::laws::answers_stand_beside;
 
-/// Each line of an answer to an index is a word of lower-case letters and digits, or a cell and its
-/// distance: two words with one byte between them. A word is one field of any form of rows. So the
-/// fields of a row with an answer are those of the row, and then the answer, or its two parts, and the
-/// row stands once for each line of its answer.
+/// An answer to an index is lines, or an error alone. Each line is a word of lower-case letters and
+/// digits, or a cell and its distance: two words with one byte between them. A word is one field of any
+/// form of rows. So the fields of a row with an answer are those of the row, and then the answer, or
+/// its two parts, and the row stands once for each line of its answer.
 pub fn answers_are_fields()
     ensures words { AnswersAreWords }
     ensures fields { WordsAreFields }

@@ -2,7 +2,7 @@
 
 ghost use Rattle.std.specs.Prelude.{◌≡◌, false};
 ghost use Rattle.h3_lines.specs.Writing.{Reports, sink_use};
-ghost use Rattle.h3_rows.specs.Laws.{FieldsAreKept, OutputReadsBack, RowsAreWhole, RowsGiveBack, RowsStand};
+ghost use Rattle.h3_rows.specs.Laws.{FieldsAreKept, OutputReadsBack, RowsAreWhole, RowsGiveBack, RowsStand, RowsStandUntil};
 ghost use Rattle.h3_command.specs.Answer.{reads_list, reads_table, request, request_of};
 ghost use Rattle.h3_command.specs.Files.{CountsPrintedAddUp};
 ghost use Rattle.h3_command.specs.NewColumns.{AnswersAreWords, RowsStandOnce, WordPairsAreKept, WordPairsAreUncut, WordsAreFields, WordsAreKept};
@@ -150,17 +150,18 @@ pub fn run_over<R: Source, T: Source, W: Sink, E: Sink>(
     // A law, whatever the command: what is printed of the counts of zones adds up to the list.
     ensures counts { CountsPrintedAddUp }
 
-    // Laws, whatever the rows: each stands in the output with the answers to its own cell, and the rows
-    // are the list again, as are the fields of a row without the new one. Read again, the output has
-    // these rows and no others.
+    // Laws, whatever the rows: each stands in the output with the answers to its own cell, up to the row
+    // that ends the answer, and the rows are the list again, as are the fields of a row without the new
+    // one. Read again, the output has these rows and no others.
     ensures stand { RowsStand }
+    ensures until { RowsStandUntil }
     ensures give { RowsGiveBack }
     ensures whole { RowsAreWhole }
     ensures back { OutputReadsBack }
     ensures kept { FieldsAreKept }
 
-    // Laws, whatever the command: the answers to a cell are such that a row stands once for each, and
-    // that each is one field, or two.
+    // Laws, whatever the command: an answer to a cell is lines or an error, a row stands once for each
+    // of its lines, and each is one field, or two.
     ensures words { AnswersAreWords }
     ensures once { RowsStandOnce }
     ensures words_uncut { WordsAreFields }

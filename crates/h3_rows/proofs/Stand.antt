@@ -10,29 +10,31 @@ use Rattle.h3_lines.specs.Answer.{Answer, written}
 use Rattle.h3_lines.specs.EachLine.{then_answer}
 use Rattle.h3_lines.specs.declared.refusal.AnswerError.{AnswerError}
 use Rattle.h3_lines.specs.declared.refusal.AnswerError.TheVariants as ending_by
-use Rattle.h3_rows.specs.Laws.{RowsGiveBack, RowsStand, answered_so, numbered, own_lines, with_own}
+use Rattle.h3_rows.specs.Laws.{IsWholeOrRefused, RowsGiveBack, RowsStand, RowsStandUntil, answered_so, numbered, own_lines, with_own}
 use Rattle.h3_rows.specs.Row.{Piece, cut, next_number, row_body, rows_of, turned, with_first, without_last_nothing}
 use Rattle.h3_rows.specs.RowsAnswer.{Form, State, Step, answer_said, beside, ends, faulty, goes_on, is_malformed, row_said, row_step, row_with, rows_then}
 use Rattle.h3_rows.specs.declared.said.Said.{Said}
 use Rattle.h3_rows.specs.declared.said.Said.TheVariants.{Index, Missing}
 use Rattle.h3_rows.proofs.Pieces.{first_piece}
 
--- a step that ends nothing: its text, the number after it, and that the fields before the cell's are the same
+-- a step that ends nothing: its text, the number after it, and that the fields before the cell's and the rows that are
+-- held back are the same
 record StepStands (step : Step) (s : State) (line text : List ℕ) : Type 0 where
   pub ending : step.answer.ending ≡ Ok tt
   pub output : step.answer.output ≡ text
   pub number : step.after.number ≡ next_number s.number line
   pub before : step.after.before ≡ s.before
+  pub pending : step.after.pending ≡ s.pending
 
 ended : {A : Type 0} (e : AnswerError) → (let r : Result (Unit {0}) AnswerError = Err e in r) ≡ Ok tt → A
 ended e is = absurd (cc)
 
 faulty_stands : (form : Form) (s : State) (line : List ℕ) (e : H3Error) (b : Bool) → form.keeps_going ≡ b → (faulty form s line e).answer.ending ≡ Ok tt → StepStands (faulty form s line e) s line (row_with form.separator line form.empty)
-faulty_stands form s line e true goes good = rw goes (record { ending = refl; output = refl; number = refl; before = refl })
+faulty_stands form s line e true goes good = rw goes (record { ending = refl; output = refl; number = refl; before = refl; pending = refl })
 faulty_stands form s line e false goes good = absurd (let stops : (ends s e).answer.ending ≡ Ok tt = rw goes at good in cc)
 
 beside_stands : (form : Form) (s : State) (line output : List ℕ) (r : Result (Unit {0}) AnswerError) → (beside form s line output r).answer.ending ≡ Ok tt → StepStands (beside form s line output r) s line (answered_so form line output r)
-beside_stands form s line output (Ok u) good = record { ending = refl; output = refl; number = refl; before = refl }
+beside_stands form s line output (Ok u) good = record { ending = refl; output = refl; number = refl; before = refl; pending = refl }
 beside_stands form s line output (Err (ending_by.Call e)) good = faulty_stands form s line e form.keeps_going refl good
 beside_stands form s line output (Err (ending_by.At n e)) good = absurd (cc)
 beside_stands form s line output (Err (ending_by.AtAndMore n e more)) good = absurd (cc)
@@ -43,7 +45,7 @@ beside_stands form s line output (Err (ending_by.File f e)) good = absurd (cc)
 
 said_stands : (form : Form) (answer : Option ℕ → Answer) (s : State) (line : List ℕ) (said : Result Said H3Error) → (answer_said form answer s line said).answer.ending ≡ Ok tt → StepStands (answer_said form answer s line said) s line (with_own form answer line said)
 said_stands form answer s line (Err e) good = faulty_stands form s line e form.keeps_going refl good
-said_stands form answer s line (Ok Missing) good = record { ending = refl; output = refl; number = refl; before = refl }
+said_stands form answer s line (Ok Missing) good = record { ending = refl; output = refl; number = refl; before = refl; pending = refl }
 said_stands form answer s line (Ok (Index index)) good = beside_stands form s line (answer index).output (answer index).ending good
 
 -- a row after a header
@@ -53,7 +55,7 @@ row_stands form answer k s p true e known malformed empty good = absurd (let sto
 row_stands form answer k s p false true known malformed empty good =
     let is : row_step form answer s p ≡ goes_on s p.0 (p.0 ++ 10 ∷ []) = rw (malformed, empty, known) refl in
     let text : own_lines form answer k (s.number, p) ≡ p.0 ++ 10 ∷ [] = rw empty refl in
-    subst (λ x. StepStands x s p.0 (own_lines form answer k (s.number, p))) (sym is) (subst (λ l. StepStands (goes_on s p.0 (p.0 ++ 10 ∷ [])) s p.0 l) (sym text) (record { ending = refl; output = refl; number = refl; before = refl }))
+    subst (λ x. StepStands x s p.0 (own_lines form answer k (s.number, p))) (sym is) (subst (λ l. StepStands (goes_on s p.0 (p.0 ++ 10 ∷ [])) s p.0 l) (sym text) (record { ending = refl; output = refl; number = refl; before = refl; pending = refl }))
 row_stands form answer k s p false false known malformed empty good =
     let said = row_said form s.number k (row_body p.0) in
     let is : row_step form answer s p ≡ answer_said form answer s p.0 said = rw (malformed, empty, known) refl in
@@ -75,6 +77,63 @@ rows_stand form answer k s (p ∷ ps) known good =
     let rest = rows_stand form answer k step.after ps (stands.before ∙ known) more in
     let joined : (then_answer step.answer.output step.answer.ending later).output ≡ step.answer.output ++ later.output = rw first refl in
     joined ∙ ap (λ l. l ++ later.output) stands.output ∙ ap (λ l. own_lines form answer k (s.number, p) ++ l) (rest ∙ ap (λ n. flat_map (own_lines form answer k) (numbered n ps)) stands.number)
+
+-- ---- up to the row that ends the answer
+
+-- a step that ends the answer writes nothing, if no rows are held back
+ends_silent : (s : State) (e : H3Error) → s.pending ≡ [] → (ends s e).answer.output ≡ []
+ends_silent s e none = none
+
+faulty_silent : (form : Form) (s : State) (line : List ℕ) (e : H3Error) (b : Bool) (by : AnswerError) → form.keeps_going ≡ b → s.pending ≡ [] → (faulty form s line e).answer.ending ≡ Err by → (faulty form s line e).answer.output ≡ []
+faulty_silent form s line e true by goes none bad = absurd (let stops : (let r : Result (Unit {0}) AnswerError = Ok tt in r) ≡ Err by = rw goes at bad in cc)
+faulty_silent form s line e false by goes none bad = rw goes none
+
+beside_silent : (form : Form) (s : State) (line : List ℕ) (a : Answer) (by : AnswerError) → IsWholeOrRefused a → s.pending ≡ [] → (beside form s line a.output a.ending).answer.ending ≡ Err by → (beside form s line a.output a.ending).answer.output ≡ []
+beside_silent form s line a by (inl whole) none bad = absurd (let stops : (let r : Result (Unit {0}) AnswerError = Ok tt in r) ≡ Err by = rw whole at bad in cc)
+beside_silent form s line a by (inr (e, is)) none bad =
+    let silent : (faulty form s line e).answer.ending ≡ Err by → (faulty form s line e).answer.output ≡ [] = faulty_silent form s line e form.keeps_going by refl none in
+    rw is (silent (rw is at bad))
+
+said_silent : (form : Form) (answer : Option ℕ → Answer) (s : State) (line : List ℕ) (said : Result Said H3Error) (by : AnswerError) → ((index : Option ℕ) → IsWholeOrRefused (answer index)) → s.pending ≡ []
+    → (answer_said form answer s line said).answer.ending ≡ Err by → (answer_said form answer s line said).answer.output ≡ []
+said_silent form answer s line (Err e) by refuses none bad = faulty_silent form s line e form.keeps_going by refl none bad
+said_silent form answer s line (Ok Missing) by refuses none bad = absurd (cc)
+said_silent form answer s line (Ok (Index index)) by refuses none bad = beside_silent form s line (answer index) by (refuses index) none bad
+
+row_silent : (form : Form) (answer : Option ℕ → Answer) (k : ℕ) (s : State) (p : Piece) (m e : Bool) (by : AnswerError) → ((index : Option ℕ) → IsWholeOrRefused (answer index)) → s.before ≡ Some k → s.pending ≡ [] → is_malformed form s.number p ≡ m → (length (row_body p.0) == 0) ≡ e
+    → (row_step form answer s p).answer.ending ≡ Err by → (row_step form answer s p).answer.output ≡ []
+row_silent form answer k s p true e by refuses known none malformed empty bad = rw malformed none
+row_silent form answer k s p false true by refuses known none malformed empty bad = absurd (let stops : (let r : Result (Unit {0}) AnswerError = Ok tt in r) ≡ Err by = rw (malformed, empty, known) at bad in cc)
+row_silent form answer k s p false false by refuses known none malformed empty bad =
+    let said = row_said form s.number k (row_body p.0) in
+    let is : row_step form answer s p ≡ answer_said form answer s p.0 said = rw (malformed, empty, known) refl in
+    subst (λ x. x.answer.output ≡ []) (sym is) (said_silent form answer s p.0 said by refuses none (subst (λ x. x.answer.ending ≡ Err by) is bad))
+
+pub rows_stand_until : RowsStandUntil
+rows_stand_until form answer k s [] refuses known none = ([], [], refl, refl, λ good. refl)
+rows_stand_until form answer k s (p ∷ ps) refuses known none =
+    let step = row_step form answer s p in
+    let later = rows_then (λ t. written []) form answer step.after ps in
+    let go : (r : Result (Unit {0}) AnswerError) → step.answer.ending ≡ r
+    → (done : List Piece) × (more : List Piece) × (p ∷ ps ≡ done ++ more) × ((then_answer step.answer.output step.answer.ending later).output ≡ flat_map (own_lines form answer k) (numbered s.number done)) × ((then_answer step.answer.output step.answer.ending later).ending ≡ Ok tt → more ≡ []) =
+    λ r. elim r as (λ r. step.answer.ending ≡ r
+    → (done : List Piece) × (more : List Piece) × (p ∷ ps ≡ done ++ more) × ((then_answer step.answer.output step.answer.ending later).output ≡ flat_map (own_lines form answer k) (numbered s.number done)) × ((then_answer step.answer.output step.answer.ending later).ending ≡ Ok tt → more ≡ [])) [
+      | Ok tt ↦ λ good. (
+          let stands = row_stands form answer k s p (is_malformed form s.number p) (length (row_body p.0) == 0) known refl refl good in
+          let (done, more, split, output, whole) = rows_stand_until form answer k step.after ps refuses (stands.before ∙ known) (stands.pending ∙ none) in
+          let joined : (then_answer step.answer.output step.answer.ending later).output ≡ step.answer.output ++ later.output = rw good refl in
+          let ending : (then_answer step.answer.output step.answer.ending later).ending ≡ later.ending = rw good refl in (
+            p ∷ done,
+            more,
+            ap (λ l. p ∷ l) split,
+            joined ∙ ap (λ l. l ++ later.output) stands.output ∙ ap (λ l. own_lines form answer k (s.number, p) ++ l) (output ∙ ap (λ n. flat_map (own_lines form answer k) (numbered n done)) stands.number),
+            λ all. whole (sym ending ∙ all),
+          ))
+      | Err e ↦ λ bad. (
+          let silent = row_silent form answer k s p (is_malformed form s.number p) (length (row_body p.0) == 0) e refuses known none refl refl bad in
+          ([], p ∷ ps, refl, rw bad silent, λ all. absurd (let stops : (let r : Result (Unit {0}) AnswerError = Err e in r) ≡ Ok tt = rw bad at all in cc)))
+    ] in
+    go step.answer.ending refl
 
 -- ---- the rows are the list
 

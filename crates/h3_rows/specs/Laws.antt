@@ -2,7 +2,7 @@
 use Rattle.std.specs.Prelude.{◌≡◌, ℕ, ◌==◌, ◌⊎◌, Bool, true, false, List, [], ◌∷◌, ◌++◌, length, Option, Some, Result, Ok, Err, ⊤, if◌then◌else◌}
 use Rattle.std.specs.List.{flat_map}
 use Rattle.h3_index.specs.declared.error.H3Error.{H3Error}
-use Rattle.h3_lines.specs.Answer.{Answer, written}
+use Rattle.h3_lines.specs.Answer.{Answer, refused, written}
 use Rattle.h3_lines.specs.declared.refusal.AnswerError.{AnswerError}
 use Rattle.h3_rows.specs.Row.{Piece, cut, inside_after, is_uncut, next_number, return_of, row_body, row_ending, rows_of}
 use Rattle.h3_rows.specs.RowsAnswer.{Form, State, row_said, row_with, rows_then, rows_with}
@@ -40,6 +40,19 @@ own_lines form answer before r =
 abbrev pub RowsStand : Type 0
 RowsStand = (form : Form) (answer : Option ℕ → Answer) (before : ℕ) (s : State) (rows : List Piece) → s.before ≡ Some before → (rows_then (λ t. written []) form answer s rows).ending ≡ Ok tt
     → (rows_then (λ t. written []) form answer s rows).output ≡ flat_map (own_lines form answer before) (numbered s.number rows)
+
+-- IsWholeOrRefused a: an answer without an error, or the error of a call alone
+abbrev pub IsWholeOrRefused : Answer → Type 0
+IsWholeOrRefused a = (a.ending ≡ Ok tt) ⊎ ((e : H3Error) × (a ≡ refused e))
+
+-- RowsStandUntil: where a function's answers are whole or refused, what is written for rows after a header, or without one,
+-- is what stands for each row before the one that ends the answer, by its own cell alone, in order, and nothing else; if the
+-- answer has no error, for each of all rows
+abbrev pub RowsStandUntil : Type 0
+RowsStandUntil = (form : Form) (answer : Option ℕ → Answer) (before : ℕ) (s : State) (rows : List Piece) → ((index : Option ℕ) → IsWholeOrRefused (answer index)) → s.before ≡ Some before → s.pending ≡ []
+    → (done : List Piece) × (more : List Piece) × (rows ≡ done ++ more)
+    × ((rows_then (λ t. written []) form answer s rows).output ≡ flat_map (own_lines form answer before) (numbered s.number done))
+    × ((rows_then (λ t. written []) form answer s rows).ending ≡ Ok tt → more ≡ [])
 
 -- RowsGiveBack: the rows of a list, each with a line feed, are the list, but for a last line feed that it lacked
 abbrev pub RowsGiveBack : Type 0
