@@ -107,6 +107,10 @@ static void lists(void) {
     size_t count = 0, i;
     for (i = 0; i < 7; i++) reversed[i] = children[6 - i];
     CHECK(h3w_compactCells(reversed, 7, out, 7, &count) == E_SUCCESS && count == 1 && out[0] == HEXAGON);
+    /* what is compacted needs no more room than it has, and nothing is written behind it */
+    out[0] = out[1] = 5;
+    CHECK(h3w_compactCells(reversed, 7, out, 1, &count) == E_SUCCESS && count == 1 && out[0] == HEXAGON);
+    CHECK(h3w_compactCells(reversed, 7, out, 7, &count) == E_SUCCESS && out[0] == HEXAGON && out[1] == 5);
     CHECK(h3w_compactCells(pentagon_children, 6, out, 6, &count) == E_SUCCESS && count == 1 && out[0] == PENTAGON);
     CHECK(h3w_compactCells(pentagon_children, 5, out, 6, &count) == E_SUCCESS && count == 5);
     CHECK(are_same(out, pentagon_children, 5));

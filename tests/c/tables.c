@@ -203,6 +203,9 @@ static void expect_fault(const char *file, size_t n, uint32_t code, uint64_t at,
     CHECK(h3w_areNeighborCells(&table, HEXAGON, HEXAGON, &is) == E_FAILED && is == 77);
     CHECK(h3w_cellsToDirectedEdge(&table, HEXAGON, 0x85283477fffffffU, &out) == E_FAILED && out == KEPT);
     CHECK(h3w_getDirectedEdgeDestination(&table, 0x115283473fffffffU, &out) == E_FAILED && out == KEPT);
+    CHECK(h3w_areNeighborCells(&table, 5, 5, &is) == E_FAILED && is == 77);
+    CHECK(h3w_cellsToDirectedEdge(&table, 5, 5, &out) == E_FAILED && out == KEPT);
+    CHECK(h3w_getDirectedEdgeDestination(&table, 5, &out) == E_FAILED && out == KEPT);
 }
 
 /* The plain table's file, with this in the place of its record in base cell 0's first direction. */
