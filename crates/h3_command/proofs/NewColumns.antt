@@ -1,5 +1,5 @@
 -- What stands in the new column of rows.
-use Rattle.std.proofs.Common.{◌≡◌, ℕ, zero, suc, ◌/◌, ◌%◌, ◌<◌, ◌==◌, Bool, true, false, not, ◌&&◌, List, [], ◌∷◌, ◌++◌, All, map, codes, decimal, Option, None, Some, Result, Ok, Err, if◌then◌else◌, sym, ap, ◌∙◌, refl, append_assoc, append-nil, arith, inl, inr}
+use Rattle.std.proofs.Common.{◌≡◌, ℕ, zero, suc, ◌/◌, ◌%◌, ◌<◌, ◌==◌, Bool, true, false, not, ◌&&◌, ◌||◌, List, [], ◌∷◌, ◌++◌, All, map, codes, decimal, Option, None, Some, Result, Ok, Err, if◌then◌else◌, sym, ap, ◌∙◌, refl, append_assoc, append-nil, arith, inl, inr}
 use Rattle.std.proofs.lemmas.Bool.Decides.{nat_tests}
 use Rattle.std.proofs.lemmas.List.Elements.{All-cons, All-head, All-map, All-nil, All-tail}
 use Rattle.std.proofs.lemmas.List.Folds.{flat_map-map, list_all-append, list_all-map}
