@@ -155,6 +155,63 @@ static void columns_of_children(void) {
     CHECK(starts[1] == 4747561509943 && starts[3] == 4747561509943 + 3956301258286);
 }
 
+#define MOST 4451
+
+/* Every descendant of cells at a resolution, asked for by its position. */
+static size_t by_position(const H3Index *cells, size_t n, int res, H3Index *out) {
+    size_t count = 0, i;
+    for (i = 0; i < n; i++) {
+        int64_t size = 0, position;
+        CHECK(h3w_cellToChildrenSize(cells[i], res, &size) == E_SUCCESS && count + (size_t)size <= MOST);
+        for (position = 0; position < size; position++) {
+            if (h3w_childPosToCell(position, cells[i], res, &out[count++])) return 0;
+        }
+    }
+    return count;
+}
+
+/* Whether the descendants that were asked for by position are in the first slots as far as there is room, and all after
+ * them is as it was. */
+static int are_first(const H3Index *wanted, size_t count, const H3Index *out, size_t room) {
+    size_t kept = room < count ? room : count, i;
+    for (i = kept; i < MOST + 2; i++)
+        if (out[i] != 1) return 0;
+    return are_same(out, wanted, kept);
+}
+
+static void clear(H3Index *out) {
+    size_t i;
+    for (i = 0; i < MOST + 2; i++) out[i] = 1;
+}
+
+static void expand(const H3Index *cells, size_t n, int res) {
+    static H3Index wanted[MOST], out[MOST + 2];
+    size_t count = by_position(cells, n, res, wanted), room, at;
+    CHECK(count > 0);
+    for (room = 0; room <= count + 1; room += room < 120 || room + 60 > count ? 1 : 37) {
+        H3Error error = room < count ? E_MEMORY_BOUNDS : E_SUCCESS;
+        clear(out);
+        CHECK(h3w_uncompactCells(cells, n, out, room, res) == error && are_first(wanted, count, out, room));
+        clear(out);
+        CHECK(h3w_cellsToChildren(cells, n, res, out, room, &at) == error && are_first(wanted, count, out, room));
+        clear(out);
+        if (n == 1)
+            CHECK(h3w_cellToChildren(*cells, res, out, room) == error && are_first(wanted, count, out, room));
+    }
+}
+
+/* A hexagon, a pentagon, a hexagon two levels below another one, and all of them, up to four levels down. */
+static void expansions(void) {
+    static const H3Index cells[] = {HEXAGON, 0x85080003fffffffU, 0x872834700ffffffU};
+    int levels;
+    for (levels = 0; levels <= 4; levels++) {
+        expand(cells, 1, 5 + levels);
+        expand(cells + 1, 1, 5 + levels);
+        expand(&pentagons[levels], 1, levels);
+        if (levels >= 2) expand(cells, 3, 5 + levels);
+    }
+}
+
 #define PARENT 0x8428347ffffffffU
 
 static const H3Index siblings[] = {
@@ -255,6 +312,7 @@ int main(void) {
     lists();
     columns();
     columns_of_children();
+    expansions();
     unions();
     differences();
     intersections();

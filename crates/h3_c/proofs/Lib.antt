@@ -1,5 +1,6 @@
 pub mod CellsIn
 pub mod Columns
+pub mod DescendantLaws
 pub mod DiskLaws
 pub mod Items
 pub mod Laid

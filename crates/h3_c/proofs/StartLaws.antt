@@ -11,7 +11,6 @@ use Rattle.h3_index.specs.declared.error.H3Error.{H3Error}
 use Rattle.h3_tree.specs.Refusals.{descent_refusal}
 use Rattle.h3_functions.specs.Hierarchy.{cell_to_children, cell_to_children_size, unless}
 use Rattle.h3_functions.specs.Inspection.{cell_from, for_value}
-use Rattle.h3_functions.specs.Items.{Lists}
 use Rattle.h3_c.specs.Lists.{count_of, indexes, laid_over}
 use Rattle.h3_c.specs.Starts.{StandAtStarts, all_children, child_sizes, fitting, sizes_of, starts_from}
 use Rattle.h3_c.proofs.Columns.{length-up_to, up_to-next, whole}
@@ -221,12 +220,6 @@ children-split res (h ∷ hs) (suc i) room =
     ap (λ l. own ++ l) (children-split res hs i (omega (arith, room)))
     ∙ sym (append_assoc own (all_children res (take i hs) ++ here) (all_children res (drop (suc i) hs)))
     ∙ ap (λ l. l ++ all_children res (drop (suc i) hs)) (sym (append_assoc own (all_children res (take i hs)) here))
-
-pub is_err-listed : {S A : Type 0} (steps : S → Option A → S → Type 0) (r : Result S H3Error) (all : Result (List A) H3Error) → Lists steps r all → is_err r ≡ is_err all
-is_err-listed steps (Ok items) (Ok all) e = refl
-is_err-listed steps (Err e) (Err d) same = refl
-is_err-listed steps (Ok items) (Err d) e = absurd e
-is_err-listed steps (Err e) (Ok all) d = absurd d
 
 is_err-counted : (r : Result (List Address) H3Error) → is_err r ≡ is_err (count_of r)
 is_err-counted (Ok cs) = refl

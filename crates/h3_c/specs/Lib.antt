@@ -1,4 +1,5 @@
 pub mod Columns
+pub mod Descendants
 pub mod DiskExamples
 pub mod Disks
 pub mod Edges

@@ -8,12 +8,12 @@ ghost use Rattle.h3_c.specs.Lists.{list_code, list_over};
 ghost use Rattle.h3_c.specs.Outcome.{code_of, index_of};
 ghost use Rattle.h3_c.specs.Starts.{StandAtStarts, children_code, children_over, children_place, children_starts_code, children_starts_over, children_starts_place};
 
-use crate::column::{NO_COUNT, NULL, fill_at};
+use crate::column::{MEMORY_BOUNDS, NO_COUNT, NULL, fill_at};
+use crate::descendants::put_children_of;
 use crate::functions::word;
-use crate::lists::put_list;
 use crate::outcome::{index_of, put};
 use crate::starts::{fill_children, fill_starts};
-use h3_functions::{cell_to_children, child_pos_to_cell};
+use h3_functions::child_pos_to_cell;
 use h3_index::resolution_from;
 use h3_requests::CellFunction::*;
 
@@ -178,7 +178,11 @@ pub extern "C" fn h3w_cellToChildren(h: u64, res: i32, out: &mut [u64]) -> u32
     ensures code { result ≡ list_code (cell_to_children h res) (length out.old) }
     ensures list { out.new ≡ list_over (cell_to_children h res) out.old }
 {
-    put_list(out, cell_to_children(h, res))
+    match put_children_of(out, 0, h, res) {
+        Ok(Some(_)) => 0,
+        Ok(None) => MEMORY_BOUNDS,
+        Err(error) => u32::from(error.number()),
+    }
 }
 
 /// Where the children of each index begin among those of all, and where the last one's end, once the

@@ -3,6 +3,7 @@
 #![tactic(auto)]
 
 mod column;
+mod descendants;
 mod disks;
 mod edges;
 mod functions;

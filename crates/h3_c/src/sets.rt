@@ -1,15 +1,18 @@
 //! Compaction.
 
-ghost use Rattle.std.specs.Prelude.{◌≡◌, ◌≢◌, ◌⊎◌, length, Some, None, Ok, IfOk, IfErr};
+ghost use Rattle.std.specs.Prelude.{◌≡◌, ◌≢◌, ◌≤◌, ◌⊎◌, length, nat_le, All, Some, None, Ok, IfOk, IfErr};
 ghost use Rattle.std.specs.Result.{result_unwrap_or};
+ghost use Rattle.h3_index.specs.Cell.{resolution};
 ghost use Rattle.h3_index.specs.declared.error.H3Error.TheVariants.{CellInvalid, MemoryAlloc};
+ghost use Rattle.h3_set.specs.Uncompaction.{uncompacted};
 ghost use Rattle.h3_functions.specs.Sets.{uncompact_cells as uncompact};
-ghost use Rattle.h3_c.specs.Lists.{count_of, list_code, list_over};
+ghost use Rattle.h3_c.specs.Lists.{count_of, indexes, laid_over, list_code, list_over};
 ghost use Rattle.h3_c.specs.Sets.{cells_in, compact_cells, uncompact_cells};
 
 use crate::column::MEMORY_BOUNDS;
+use crate::descendants::put_descendants;
 use crate::lists::put_cells;
-use h3_index::{Cell, H3Error};
+use h3_index::{Cell, H3Error, resolution_from};
 use h3_set::{compact_in_place, uncompact};
 use std::alloc::Global;
 
@@ -46,20 +49,40 @@ pub(crate) fn put_slice(out: &mut [u64], cells: &[Cell]) -> u32
     }
 }
 
+/// Puts the indexes of the cells of a resolution below those of a list, none of which is finer, into
+/// the first slots, as far as they go, and returns whether all had room.
+fn put_below_each(out: &mut [u64], cells: &[Cell], r: u8) -> bool
+    requires at_most_fifteen { r ≤ 15 }
+    requires none_finer { All (λ c. resolution c ≤ r) cells.now }
+    ensures fits { result ≡ nat_le (length (uncompacted cells.now r)) (length out.old) }
+    ensures put { out.new ≡ laid_over (indexes (uncompacted cells.now r)) out.old }
+{
+    let mut place: usize = 0;
+    for i in 0..cells.len() {
+        match put_descendants(out, place, cells[i], r) {
+            Some(end) => place = end,
+            None => return false,
+        }
+    }
+    true
+}
+
 /// Puts the indexes of the cells of a resolution below those of a list into the first slots.
 fn put_uncompacted(out: &mut [u64], cells: &[Cell], res: i32) -> u32
     ensures code { result ≡ list_code (uncompact res cells.now) (length out.old) }
     ensures list { out.new ≡ list_over (uncompact res cells.now) out.old }
 {
-    match uncompact(cells, res) {
-        Ok(items) => {
-            if put_cells(out, items) {
-                0
-            } else {
-                MEMORY_BOUNDS
-            }
-        }
-        Err(error) => u32::from(error.number()),
+    let r = match resolution_from(res) {
+        Ok(r) => r,
+        Err(error) => return u32::from(error.number()),
+    };
+    if let Err(error) = uncompact(cells, res) {
+        return u32::from(error.number());
+    }
+    if put_below_each(out, cells, r) {
+        0
+    } else {
+        MEMORY_BOUNDS
     }
 }
 

@@ -1,19 +1,13 @@
 //! Lists of which each index of a column has one: where each begins, and all of them one after
 //! another.
 
-ghost use Rattle.std.specs.Prelude.{◌≡◌, ◌<◌, ◌≤◌, ◌+◌, ◌++◌, ◌↔◌, ℕ, suc, nat_le, if◌then◌else◌, List, [], Result, Some, None, IsTrue, IfOk, map, length, take};
-ghost use Rattle.std.specs.Iterator.{AlwaysYields, IsFinite};
-ghost use Rattle.std.specs.Result.{result_unwrap_or};
-ghost use Rattle.h3_index.specs.Cell.{Address};
-ghost use Rattle.h3_index.specs.declared.error.H3Error.{H3Error};
-ghost use Rattle.h3_functions.specs.Items.{Lists};
+ghost use Rattle.std.specs.Prelude.{◌≡◌, ◌<◌, ◌≤◌, ◌+◌, ◌↔◌, suc, nat_le, if◌then◌else◌, Some, None, IsTrue, map, length, take};
 ghost use Rattle.h3_c.specs.Columns.{first_code, first_place};
 ghost use Rattle.h3_c.specs.Lists.{indexes, laid_over};
 ghost use Rattle.h3_c.specs.Starts.{all_children, child_sizes, fitting, greatest_place, lists_code, lists_place, sizes_of, starts_code, starts_from, starts_over, starts_place};
 
 use crate::column::{MEMORY_BOUNDS, Question, first_error};
-use h3_functions::cell_to_children;
-use h3_index::{Cell, H3Error};
+use crate::descendants::put_children_of;
 use h3_requests::CellFunction::CellToChildrenSize;
 
 /// The greatest place, which an `int64_t` still holds.
@@ -106,59 +100,6 @@ pub(crate) fn fill_starts<Q: Question<u64>>(
     tell(question, indexes, fitting, is_none_refused, at)
 }
 
-/// Puts the indexes of the cells of an iterator into the slots from a place on, as far as they go.
-/// Returns the place after them, or `None` where there is too little room.
-#[inline(always)]
-fn put_cells_from<I: Iterator<Item = Cell> + Drop>(
-    out: &mut [u64],
-    place: usize,
-    cells: I,
-) -> Option<usize>
-    requires can { I.can_next cells }
-    requires ends { IsFinite (I.remaining cells) }
-    requires within { place ≤ length out.old }
-    ensures end { (all : List Address) → AlwaysYields I.next_gives (λ x. x) cells all →
-        result ≡ (if nat_le (place + length all) (length out.old) then Some (place + length all) else None) }
-    ensures put { (all : List Address) → AlwaysYields I.next_gives (λ x. x) cells all →
-        (before : List Address) → (first : List ℕ) → length before ≡ place →
-        out.old ≡ laid_over (indexes before) first →
-        out.new ≡ laid_over (indexes (before ++ all)) first }
-{
-    let mut i: usize = place;
-    for cell in cells {
-        if i >= out.len() {
-            return None;
-        }
-        out[i] = cell.raw();
-        i += 1;
-    }
-    Some(i)
-}
-
-/// The same for the cells that a function lists; none where there is an error.
-#[inline(always)]
-fn put_list_from<I: Iterator<Item = Cell> + Drop>(
-    out: &mut [u64],
-    place: usize,
-    cells: Result<I, H3Error>,
-) -> Option<usize>
-    requires can { IfOk cells (λ items. I.can_next items) }
-    requires ends { IfOk cells (λ items. IsFinite (I.remaining items)) }
-    requires within { place ≤ length out.old }
-    ensures end { (all : Result (List Address) H3Error) → Lists I.next_gives cells all →
-        result ≡ (if nat_le (place + length (result_unwrap_or all [])) (length out.old)
-        then Some (place + length (result_unwrap_or all [])) else None) }
-    ensures put { (all : Result (List Address) H3Error) → Lists I.next_gives cells all →
-        (before : List Address) → (first : List ℕ) → length before ≡ place →
-        out.old ≡ laid_over (indexes before) first →
-        out.new ≡ laid_over (indexes (before ++ result_unwrap_or all [])) first }
-{
-    match cells {
-        Ok(items) => put_cells_from(out, place, items),
-        Err(_) => Some(place),
-    }
-}
-
 /// Puts the children of each index into the first slots, one index's after another's, as far as they
 /// go. Returns of how many indexes all have room, and whether no index is refused, if these are all.
 #[inline(always)]
@@ -171,9 +112,9 @@ pub(crate) fn put_children(cells: &[u64], res: i32, out: &mut [u64]) -> (usize, 
     let mut missed: usize = 0;
     let mut place: usize = 0;
     for i in 0..cells.len() {
-        let children = cell_to_children(cells[i], res);
+        let children = put_children_of(out, place, cells[i], res);
         missed += usize::from(children.is_err());
-        match put_list_from(out, place, children) {
+        match children.unwrap_or(Some(place)) {
             Some(end) => place = end,
             None => return (i, false),
         }

@@ -1,7 +1,7 @@
 use Rattle.std.proofs.Common.{◌≡◌, ◌≤◌, ◌+◌, ◌++◌, ℕ, List, length}
 use Rattle.h3_index.specs.Cell.{Address}
 use Rattle.h3_c.specs.Lists.{laid_over, indexes}
-use Rattle.h3_c.proofs.starts.put_cells_from.Given as goal
+use Rattle.h3_c.proofs.descendants.put_cells_from.Given as goal
 
 abbrev pub invariant-loop-cell : goal.invariant-loop-cell
 invariant-loop-cell g l = record {

@@ -5,7 +5,7 @@ use Rattle.h3_c.specs.Lists.{laid_over, indexes}
 use Rattle.h3_c.proofs.Items.{split_at, whole_at}
 use Rattle.h3_c.proofs.Laid.{is_more, is_no_more, length-laid_over}
 use Rattle.h3_c.proofs.StartLaws.{put-full, put-next}
-use Rattle.h3_c.proofs.starts.put_cells_from.Goals as goal
+use Rattle.h3_c.proofs.descendants.put_cells_from.Goals as goal
 
 pub loop-cell-preserved : goal.loop-cell-preserved
 loop-cell-preserved g c =
