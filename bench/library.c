@@ -1,6 +1,6 @@
 /* Measures the functions of libh3whole against the plain ones of plain_library.rs, and those over
- * columns against the best forms known too: all in turn, several times, and the ratios of the best
- * times. What they write is compared.
+ * columns and descendants against the best forms known too: all in turn, several times, and the
+ * ratios of the best times. What they write is compared.
  *
  * library [ROW ..]    the rows whose names contain a given word; all, if none is given */
 #define _POSIX_C_SOURCE 200809L
@@ -24,6 +24,7 @@ H3Error best_cellsToParents(const H3Index *cells, size_t n, int res, H3Index *ou
 H3Error best_cellsToChildPositions(const H3Index *cells, size_t n, int res, int64_t *out);
 size_t plain_compactCells(const H3Index *cells, size_t n, H3Index *out);
 size_t plain_uncompactCells(const H3Index *cells, size_t n, H3Index *out, size_t room, int res);
+size_t best_uncompactCells(const H3Index *cells, size_t n, H3Index *out, size_t room, int res);
 void plain_zones(H3Index *zones, size_t n);
 H3Error plain_cellsToZones(const H3Index *zones, size_t zoneCount, const H3Index *cells, size_t n, H3Index *out);
 H3Error plain_countCellsInZones(const H3Index *zones, size_t zoneCount, const H3Index *cells, size_t n, int64_t *counts,
@@ -100,6 +101,16 @@ CALL(compact_part, compacted(shuffled, LIST - LIST / 160))
 CALL(plain_compact_part, plain_compactCells(shuffled, LIST - LIST / 160, out))
 CALL(uncompact, h3w_uncompactCells(ordered, N / 7, out, N / 7 * 7, 9) ? 0 : N / 7 * 7)
 CALL(plain_uncompact, plain_uncompactCells(ordered, N / 7, out, N / 7 * 7, 9))
+CALL(best_uncompact, best_uncompactCells(ordered, N / 7, out, N / 7 * 7, 9))
+CALL(uncompact_two, h3w_uncompactCells(ordered, N / 49, out, N / 49 * 49, 10) ? 0 : N / 49 * 49)
+CALL(plain_uncompact_two, plain_uncompactCells(ordered, N / 49, out, N / 49 * 49, 10))
+CALL(best_uncompact_two, best_uncompactCells(ordered, N / 49, out, N / 49 * 49, 10))
+CALL(children_of_each, h3w_cellsToChildren(ordered, N / 7, 9, out, N / 7 * 7, &at) ? 0 : N / 7 * 7)
+
+static const H3Index world = WORLD;
+CALL(children, h3w_cellToChildren(world, 8, out, LIST) ? 0 : LIST)
+CALL(plain_children, plain_uncompactCells(&world, 1, out, LIST, 8))
+CALL(best_children, best_uncompactCells(&world, 1, out, LIST, 8))
 
 static uint64_t united(const H3Index *list, size_t n) {
     size_t count = 0;
@@ -180,7 +191,10 @@ static const struct {
     {"compactCells of 5764801 cells, ascending, from C", compact_ordered, plain_compact_ordered, NULL},
     {"compactCells of 5764801 cells, shuffled, from C", compact_shuffled, plain_compact_shuffled, NULL},
     {"compactCells of 159 of 160 cells, shuffled, from C", compact_part, plain_compact_part, NULL},
-    {"uncompactCells of 1428571 cells, from C", uncompact, plain_uncompact, NULL},
+    {"uncompactCells of 1428571 cells, from C", uncompact, plain_uncompact, best_uncompact},
+    {"uncompactCells of 204081 cells, two levels down, from C", uncompact_two, plain_uncompact_two, best_uncompact_two},
+    {"cellsToChildren of 1428571 cells, from C", children_of_each, plain_uncompact, best_uncompact},
+    {"cellToChildren, 5764801 of one cell, from C", children, plain_children, best_children},
     {"uniteCells of 5764801 cells, shuffled, against compactCells, from C", unite_shuffled, compact_shuffled, NULL},
     {"intersectCells of two regions of a million cells, from C", intersect, plain_intersect, NULL},
     {"subtractCells of two regions of a million cells, from C", subtract, plain_subtract, NULL},

@@ -1,9 +1,11 @@
 //! The plain Rust functions that the library for C is measured against by bench/library.c: the same
-//! work behind `extern "C"`, with no proof; and, of columns, the best forms known.
+//! work behind `extern "C"`, with no proof; and, of columns and descendants, the best forms known.
 #![allow(dead_code, non_snake_case)]
 
 #[path = "best/columns.rs"]
 mod columns;
+#[path = "best/descendants.rs"]
+mod descendants;
 #[path = "plain.rs"]
 mod plain;
 mod regions;
@@ -225,6 +227,39 @@ unsafe extern "C" fn plain_uncompactCells(
     ) {
         *slot = child;
         written += 1;
+    }
+    written
+}
+
+/// # Safety
+/// `cells` points to n elements, and `out` has room for the children.
+#[unsafe(no_mangle)]
+unsafe extern "C" fn best_uncompactCells(
+    cells: *const u64,
+    n: usize,
+    out: *mut u64,
+    room: usize,
+    res: i32,
+) -> usize {
+    let (cells, out) = unsafe { (from_raw_parts(cells, n), from_raw_parts_mut(out, room)) };
+    assert!(
+        cells
+            .iter()
+            .fold(true, |all, cell| all & columns::is_valid(*cell))
+    );
+    let mut written = 0;
+    for cell in cells {
+        let levels = res as u64 - resolution(*cell);
+        if columns::has_pentagon_base(*cell) || levels == 0 {
+            for child in Children::of(*cell, res as u64) {
+                out[written] = child;
+                written += 1;
+            }
+        } else {
+            let end = written + 7_usize.pow(levels as u32);
+            descendants::put(*cell, res as u64, &mut out[written..end]);
+            written = end;
+        }
     }
     written
 }

@@ -39,7 +39,7 @@ const EXCESS: [u64; 65] = {
 };
 
 #[inline(always)]
-fn has_pentagon_base(cell: u64) -> bool {
+pub fn has_pentagon_base(cell: u64) -> bool {
     let word = if base(cell) < 64 { PENTAGON_BITS[0] } else { PENTAGON_BITS[1] };
     word >> (base(cell) & 63) & 1 == 1
 }
@@ -47,7 +47,7 @@ fn has_pentagon_base(cell: u64) -> bool {
 /// Whether a number is a cell's. The first digit that is not 0 is 1 where the highest bit of all digits is the lowest of
 /// three: where the lowest bits make the larger number.
 #[inline(always)]
-fn is_valid(cell: u64) -> bool {
+pub fn is_valid(cell: u64) -> bool {
     let digits = cell & DIGITS;
     let sevens = digits & digits >> 1 & digits >> 2 & LOWEST;
     let is_form = (cell >> 56 == 8) & (base(cell) < 122) & (sevens == LOWEST >> (3 * resolution(cell)));

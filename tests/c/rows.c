@@ -195,8 +195,7 @@ static void expand(const H3Index *cells, size_t n, int res) {
         clear(out);
         CHECK(h3w_cellsToChildren(cells, n, res, out, room, &at) == error && are_first(wanted, count, out, room));
         clear(out);
-        if (n == 1)
-            CHECK(h3w_cellToChildren(*cells, res, out, room) == error && are_first(wanted, count, out, room));
+        CHECK(n != 1 || (h3w_cellToChildren(*cells, res, out, room) == error && are_first(wanted, count, out, room)));
     }
 }
 
