@@ -122,14 +122,6 @@ static void of_errors(void) {
     CHECK(strcmp(describeH3Error(UINT32_MAX), "Invalid error code") == 0);
 }
 
-/* The library's version is the header's. */
-static void of_versions(void) {
-    char text[40];
-    int number = h3w_version();
-    sprintf(text, "%d.%d.%d", number / 10000, number / 100 % 100, number % 100);
-    CHECK(strcmp(text, H3WHOLE_VERSION) == 0);
-}
-
 int main(void) {
     of_one_index();
     of_several();
@@ -138,6 +130,5 @@ int main(void) {
     of_sizes();
     of_too_many();
     of_errors();
-    of_versions();
     return counts();
 }

@@ -301,6 +301,14 @@ static void zones(void) {
     CHECK(h3w_areCoveredCells(ready, 1, column, 4, covered, 4, &at) == E_SUCCESS && covered[2] == 1);
 }
 
+/* The library's version is the header's. */
+static void version(void) {
+    char text[40];
+    int number = h3w_version();
+    sprintf(text, "%d.%d.%d", number / 10000, number / 100 % 100, number % 100);
+    CHECK(strcmp(text, H3WHOLE_VERSION) == 0);
+}
+
 int main(void) {
     fields();
     resolutions();
@@ -316,5 +324,6 @@ int main(void) {
     differences();
     intersections();
     zones();
+    version();
     return counts();
 }
