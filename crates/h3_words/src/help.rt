@@ -71,7 +71,8 @@ pub(crate) const HELP: &str = "Inspect, traverse and compact H3 cells\n\n\
     Options:\n\
     \x20 -h, --help     Print help\n\
     \x20 -V, --version  Print the version\n\n\
-    The options, the errors and an example of a command: h3 COMMAND --help";
+    The options, the errors and an example of a command: h3 COMMAND --help\n\
+    Over a table: h3 cellsToParents -r 4 --csv --column cell < trips.csv";
 
 // What the notes of several commands share, with the example of each: a macro, since `concat!`
 // takes literals alone. What is said before the errors comes first.
@@ -177,7 +178,7 @@ macro_rules! notes {
     (table $($first:literal)*; $($errors:literal)+, $end:literal, $example:literal) => {
         notes!(
             errors $($first)*;
-            $($errors)+ "9 a step into or out of a pentagon base cell," $end,
+            $($errors)+ "9 a step that starts or ends in a pentagon base cell," $end,
             $example "\nTo make a table from H3's source: h3-table baseCells.c -o h3.csv"
         )
     };
