@@ -2,7 +2,7 @@
 
 `h3whole.int` has the same functions over indexes as integers, and `h3whole.columns` those that take a column of
 indexes in one call. Each answer comes from libh3whole, which is compiled from proved code; this package checks the
-types of what it is given, and hands it on."""
+types of its arguments, and passes them on."""
 
 # (the module `int` of this package takes the name)
 from builtins import int as _int
@@ -63,7 +63,7 @@ def _texts(indexes: Iterable[_int]) -> List[str]:
 
 
 def _parsed(text: Any) -> Optional[_int]:
-    """The index of a text, and None where it parses as none or is no text."""
+    """The index of a text; None if it does not parse as an index, or is not a text."""
     try:
         return str_to_int(text)
     except (H3FailedError, TypeError):
@@ -176,7 +176,7 @@ def get_num_cells(res: SupportsIndex) -> _int:
 
 
 def get_res0_cells() -> List[str]:
-    """The texts of the 122 cells of resolution 0, ascending."""
+    """Return the texts of the 122 cells of resolution 0, ascending."""
     return _texts(_integers.get_res0_cells())
 
 
@@ -702,21 +702,67 @@ class _Texts(CellSet[str]):
 
 
 class Region(_Texts, CellRegion[str]):
-    """What cells cover: of texts, or of a column, cells that may repeat and overlap. It is a set that never changes:
-    `|`, `&`, `-`, `<=`, `==`, `in` (whether it covers a cell), `len`, a hash, and the texts of its cells, ascending.
-    It has as few as can be: the least list that covers the same.
+    """What cells cover, over texts: a set that never changes.
 
-    H3CellInvalidError if an index is not a valid cell; H3FailedError if a text is not an index."""
+    Parameters
+    ----------
+    cells : iterable of str, column, region or zones, optional
+        The cells, which may repeat and overlap; by default none.
+
+    Raises
+    ------
+    H3FailedError
+        If a text does not parse as an index.
+    H3MemoryAllocError
+        If there is no memory for the region.
+    H3CellInvalidError
+        If one is not a valid cell.
+
+    Notes
+    -----
+    A region has `|`, `&`, `-`, `^`, `<=`, `==`, `in` (whether it covers a cell), `len`, a hash, and the texts of its
+    cells, ascending. It has as few as can be: the shortest list that covers the same.
+
+    Examples
+    --------
+    >>> region = Region(["8428347ffffffff"])
+    >>> "85283473fffffff" in region
+    True
+    >>> region - Region(["85283473fffffff"]) <= region
+    True
+    """
 
     __slots__ = ()
 
 
 class Zones(_Texts, CellZones[str]):
-    """Zones, by which other cells are joined and counted: of texts, or of a column, cells of which no two overlap, of
-    any resolutions, or a region.
+    """Zones, over texts: cells that do not overlap, by which other cells are joined and counted.
 
-    H3CellInvalidError where an index is no cell's; H3FailedError where a text parses as no index;
-    H3DuplicateInputError where two overlap."""
+    Parameters
+    ----------
+    cells : iterable of str, column, region or zones, optional
+        The cells, of any resolutions; by default none.
+
+    Raises
+    ------
+    H3FailedError
+        If a text does not parse as an index.
+    H3MemoryAllocError
+        If there is no memory for the zones.
+    H3CellInvalidError
+        If one is not a valid cell.
+    H3DuplicateInputError
+        If two overlap: a cell is given twice, or with an ancestor of it.
+
+    Examples
+    --------
+    >>> zones = Zones(["85283473fffffff", "8009fffffffffff"])
+    >>> zones.of(["862834707ffffff", "8428347ffffffff"])
+    ['85283473fffffff', None]
+    >>> counts = zones.count(["862834707ffffff", "8428347ffffffff"])
+    >>> counts["85283473fffffff"], counts.others
+    (1, 1)
+    """
 
     __slots__ = ()
 

@@ -311,9 +311,21 @@ def packed(truths: bytes) -> bytes:
 
 
 class ArrowColumn:
-    """A column with nulls, which programs take by Arrow's C data interface (`__arrow_c_array__`, `__arrow_c_stream__`)
-    without a copy: of 64-bit integers (its `format` is "L" or "l"), of integers of 32 bits ("i"), of truth values ("b")
-    or of texts ("U"). As a sequence it has their values, and None in place of a null. It never changes."""
+    """A column with nulls, which programs take by Arrow's C data interface without a copy. It never changes.
+
+    Attributes
+    ----------
+    format : str
+        Arrow's name of the type: "L" or "l" for integers of 64 bits, "i" for those of 32 bits, "b" for truth values and
+        "U" for texts.
+    null_count : int
+        The number of nulls.
+
+    Notes
+    -----
+    As a sequence it has the values, and None in place of a null. The methods of the interface are `__arrow_c_schema__`,
+    `__arrow_c_array__` and `__arrow_c_stream__`.
+    """
 
     __slots__ = ("format", "_items", "_valid", "__weakref__")
 
@@ -325,7 +337,7 @@ class ArrowColumn:
 
     @property
     def null_count(self) -> int:
-        """How many items are nulls."""
+        """The number of nulls."""
         return 0 if self._valid is None else len(self) - bin(self._valid).count("1")
 
     def __len__(self) -> int:
@@ -339,7 +351,7 @@ class ArrowColumn:
         return bool(item) if self.format == "b" else item
 
     def tolist(self) -> List[Any]:
-        """The values, and None in place of a null."""
+        """Return the values in a list, with None in place of a null."""
         found = [self._value(item) for item in self._as_given()]
         for place in self._nulls():
             found[place] = None
@@ -368,7 +380,7 @@ class ArrowColumn:
         return self.format == "U"
 
     def first(self) -> int:
-        """The place of the first item that is no null; how many there are where all are."""
+        """The place of the first item that is not a null; the number of items if all are nulls."""
         if self._valid is None:
             return 0
         return (self._valid & -self._valid).bit_length() - 1 if self._valid else len(self)
@@ -388,7 +400,7 @@ class ArrowColumn:
         return found
 
     def with_first(self) -> Any:
-        """The items, with the first one that is no null in place of nulls."""
+        """The items, with the first one that is not a null in place of nulls."""
         return self.filled(self._items[self.first()] if self._valid else 0)
 
     def answered(self, format: str, items: Any, is_null: Callable[[Any], Optional[int]]) -> "ArrowColumn":
@@ -431,16 +443,44 @@ class ArrowColumn:
         return asked.decode() if has_same_bits else self.format
 
     def __arrow_c_schema__(self) -> Any:
-        """A capsule of Arrow's type of the column."""
+        """Return a capsule of Arrow's type of the column.
+
+        Raises
+        ------
+        NotImplementedError
+            If the package was installed without its extension in C.
+        """
         return _extension().arrow_schema(self.format)
 
     def __arrow_c_array__(self, requested_schema: Any = None) -> Tuple[Any, Any]:
-        """Capsules of Arrow's type of the column, and of the column."""
+        """Return capsules of Arrow's type of the column, and of the column.
+
+        Parameters
+        ----------
+        requested_schema : capsule, optional
+            The type to return, if both it and the column's are of 64-bit integers; any other is ignored.
+
+        Raises
+        ------
+        NotImplementedError
+            If the package was installed without its extension in C.
+        """
         format, capsule = self._handed_on("arrow_array", requested_schema)
         return _extension().arrow_schema(format), capsule
 
     def __arrow_c_stream__(self, requested_schema: Any = None) -> Any:
-        """A capsule of a stream that has the column as its one array."""
+        """Return a capsule of a stream that has the column as its one array.
+
+        Parameters
+        ----------
+        requested_schema : capsule, optional
+            As of `__arrow_c_array__`.
+
+        Raises
+        ------
+        NotImplementedError
+            If the package was installed without its extension in C.
+        """
         return self._handed_on("arrow_stream", requested_schema)[1]
 
 

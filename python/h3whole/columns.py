@@ -1,22 +1,22 @@
 """H3's functions over columns of indexes: one call for a column.
 
 A column is anything whose memory holds 64-bit integers one after another: an array of the module `array`, a
-memoryview, a numpy array, a column of pandas. None is copied. The result is a column of the same kind: an array for
-an array, a memoryview for a memoryview, a numpy array of the same shape for a numpy array, and a Series with the same
-index for one of pandas. Where the results are indexes, their type is that of the given ones, signed or not; of a
-column of categories, that of the categories. Else they are integers of 32 or 64 bits, and of the tests True or False,
-which in an array and a memoryview are 1 or 0 in a byte.
+memoryview, a numpy array, a column of pandas. None is copied, except pandas' categories and its nullable types, which
+may be. The result is a column of the same kind: an array for an array, a memoryview for a memoryview, a numpy array of
+the same shape for a numpy array, and a Series with the same index for one of pandas. Indexes have the type of the given
+ones, signed or not; of a column of categories, that of the categories. Other results are integers of 32 or 64 bits. The
+tests return True or False, which in an array and a memoryview are 1 or 0 in a byte.
 
-A list of texts or of integers gives a list, a column of texts, of numpy or pandas, one of texts and None, and an Index
-of pandas an Index. These are copied, and a text that does not parse as an index is an error before any other.
+A list of texts or of integers returns a list, a column of texts, of numpy or pandas, one of texts and None, and an
+Index of pandas an Index. These are copied. A text that does not parse as an index is an error before any other.
 
-What has `__arrow_c_array__` or `__arrow_c_stream__` gives an `ArrowColumn`, with a null for each null; `to_arrow`
-makes one of a column of another kind.
+A column with `__arrow_c_array__` or `__arrow_c_stream__` returns an `ArrowColumn`, with a null for each null;
+`to_arrow` makes one of a column of another kind.
 
-Where an index is refused, an exception says which error it is, which index, and at which place, the first one's; with
+The exception for an index that is refused has the error, the index and its place, those of the first one. With
 `missing=True` there is none, and what is refused has 0 in place of an index, -1 in place of a number, and False in
-place of a truth value. A value that pandas marks as missing (NA) is refused as the index 0 is. A number that is
-not a resolution is an error always, before any index. An array of numpy with a mask is refused."""
+place of a truth value. A value that pandas marks as missing (NA) is refused as the index 0 is. A number that is not a
+resolution is always an error, before any index. A numpy array with a mask is a TypeError."""
 
 import ctypes
 import sys
@@ -304,9 +304,31 @@ def _set_of_arrow(column: Any, function: Callable[[Any], Any]) -> ArrowColumn:
 
 
 def to_arrow(column: Any) -> ArrowColumn:
-    """A column of integers, or one of texts, as one that programs take by Arrow's C data interface: an array, a
-    memoryview or a numpy array without a copy, whose items must not change any more; lists and columns of texts with
-    a copy; and what has `__arrow_c_array__` or `__arrow_c_stream__` as it is."""
+    """Return a column as one that programs take by Arrow's C data interface.
+
+    Parameters
+    ----------
+    column : array, memoryview, numpy array, Series, Index, list or column in Arrow's memory
+        Integers or texts.
+
+    Returns
+    -------
+    ArrowColumn
+        The same items. A list or an Index becomes a column of texts, also one of integers.
+
+    Raises
+    ------
+    H3FailedError
+        If a text does not parse as an index.
+    H3CellInvalidError
+        If an integer of a list is not 0 to 2^64 - 1.
+
+    Notes
+    -----
+    An array, a memoryview or a numpy array of integers is not copied, and its items must not change any more. Lists and
+    columns of texts are copied, and written as `int_to_str` writes texts. What has `__arrow_c_array__` or
+    `__arrow_c_stream__` is read as it is.
+    """
     if _is_arrow(column):
         return _arrow.read(column)
     if _is_listed(column):

@@ -23,7 +23,15 @@ __all__ = [
 
 
 class H3BaseException(Exception):
-    """An error of H3. `number` is its number in H3's table, and `name` its name there."""
+    """An error of H3: the base class of the others.
+
+    Attributes
+    ----------
+    number : int or None
+        Its number in H3's table; None for a base class, and for a number that the table does not have.
+    name : str or None
+        Its name there, as "E_CELL_INVALID"; None as of `number`.
+    """
 
     number: Optional[int] = None
     name: Optional[str] = None
@@ -42,7 +50,7 @@ class H3GridNavigationError(H3BaseException, RuntimeError):
 
 
 class UnknownH3ErrorCode(H3BaseException):
-    """A number that H3's table does not have."""
+    """A number that no other class of this module has."""
 
 
 class H3FailedError(H3GridNavigationError, ValueError):
@@ -52,42 +60,62 @@ class H3FailedError(H3GridNavigationError, ValueError):
 
 
 class H3DomainError(H3ValueError):
+    """A number is out of range: a number of steps, or the position of a descendant."""
+
     number, name = 2, "E_DOMAIN"
 
 
 class H3ResDomainError(H3ValueError):
+    """A number is not a resolution, or not one that the function takes for this cell."""
+
     number, name = 4, "E_RES_DOMAIN"
 
 
 class H3CellInvalidError(H3ValueError):
+    """An index is not a valid cell."""
+
     number, name = 5, "E_CELL_INVALID"
 
 
 class H3DirEdgeInvalidError(H3ValueError):
+    """An index is not a valid directed edge."""
+
     number, name = 6, "E_DIR_EDGE_INVALID"
 
 
 class H3PentagonError(H3GridNavigationError):
+    """A pentagon is in the way."""
+
     number, name = 9, "E_PENTAGON"
 
 
 class H3DuplicateInputError(H3ValueError):
+    """Two cells overlap: a cell is given twice, or with an ancestor of it."""
+
     number, name = 10, "E_DUPLICATE_INPUT"
 
 
 class H3NotNeighborsError(H3GridNavigationError):
+    """The cells are not neighbors."""
+
     number, name = 11, "E_NOT_NEIGHBORS"
 
 
 class H3ResMismatchError(H3ValueError):
+    """The resolutions do not fit."""
+
     number, name = 12, "E_RES_MISMATCH"
 
 
 class H3MemoryAllocError(H3MemoryError):
+    """There is no memory for a result."""
+
     number, name = 13, "E_MEMORY_ALLOC"
 
 
 class H3MemoryBoundsError(H3MemoryError):
+    """A buffer is too short."""
+
     number, name = 14, "E_MEMORY_BOUNDS"
 
 

@@ -283,7 +283,7 @@ def get_num_cells(res: SupportsIndex) -> int:
 
 
 def get_res0_cells() -> List[int]:
-    """The 122 cells of resolution 0, ascending."""
+    """Return the 122 cells of resolution 0, ascending."""
     room, at = _indexes(122)
     _get_res0_cells(at, 122)
     return _listed(room)
@@ -906,7 +906,7 @@ def uncompact_cells(cells: Iterable[SupportsIndex], res: SupportsIndex) -> List[
 
 
 def _size_at(cell: int, res: int) -> int:
-    """How many cells a cell has at a resolution; none where the library refuses it, as it will."""
+    """The number of a cell's descendants at a resolution; 0 if the library refuses the cell, as it will later."""
     found = _number()
     return 0 if _cell_to_children_size(cell, res, ctypes.byref(found)) else found.value
 
@@ -926,20 +926,67 @@ class _Numbers(CellSet[int]):
 
 
 class Region(_Numbers, CellRegion[int]):
-    """What cells cover: of integers, or of a column, cells that may repeat and overlap. It is a set that never
-    changes: `|`, `&`, `-`, `<=`, `==`, `in` (whether it covers a cell), `len`, a hash, and its cells, ascending. It
-    has as few as can be: the least list that covers the same.
+    """What cells cover, over integers: a set that never changes.
 
-    H3CellInvalidError if an index is not a valid cell."""
+    Parameters
+    ----------
+    cells : iterable of int, column, region or zones, optional
+        The cells, which may repeat and overlap; by default none.
+
+    Raises
+    ------
+    H3FailedError
+        If a text of a column does not parse as an index.
+    H3MemoryAllocError
+        If there is no memory for the region.
+    H3CellInvalidError
+        If one is not a valid cell.
+
+    Notes
+    -----
+    A region has `|`, `&`, `-`, `^`, `<=`, `==`, `in` (whether it covers a cell), `len`, a hash, and its cells,
+    ascending. It has as few as can be: the shortest list that covers the same.
+
+    Examples
+    --------
+    >>> region = Region([0x8428347FFFFFFFF])
+    >>> 0x85283473FFFFFFF in region
+    True
+    >>> region - Region([0x85283473FFFFFFF]) <= region
+    True
+    """
 
     __slots__ = ()
 
 
 class Zones(_Numbers, CellZones[int]):
-    """Zones, by which other cells are joined and counted: of integers, or of a column, cells of which no two overlap,
-    of any resolutions, or a region.
+    """Zones, over integers: cells that do not overlap, by which other cells are joined and counted.
 
-    H3CellInvalidError if an index is not a valid cell; H3DuplicateInputError where two overlap."""
+    Parameters
+    ----------
+    cells : iterable of int, column, region or zones, optional
+        The cells, of any resolutions; by default none.
+
+    Raises
+    ------
+    H3FailedError
+        If a text of a column does not parse as an index.
+    H3MemoryAllocError
+        If there is no memory for the zones.
+    H3CellInvalidError
+        If one is not a valid cell.
+    H3DuplicateInputError
+        If two overlap: a cell is given twice, or with an ancestor of it.
+
+    Examples
+    --------
+    >>> zones = Zones([0x85283473FFFFFFF, 0x8009FFFFFFFFFFF])
+    >>> zones.of([0x862834707FFFFFF, 0x8428347FFFFFFFF])
+    [599686042433355775, None]
+    >>> counts = zones.count([0x862834707FFFFFF, 0x8428347FFFFFFFF])
+    >>> counts[0x85283473FFFFFFF], counts.others
+    (1, 1)
+    """
 
     __slots__ = ()
 

@@ -1,12 +1,12 @@
 """Compaction of a list of cells, and counts by zones, in parts, in other processes or on other machines.
 
-A list of which no two cells overlap may be cut into parts in any way: the compacted list of what the compacted parts
-give, one after another, is that of the whole. That is proved of libh3whole's compaction. And the counts of zones in the
-parts of any list add up to those in the whole, which is proved of its counting.
+A list of cells that do not overlap may be cut into parts in any way. Compact each part, and then the results, one after
+another: this is the compacted list of the whole. That is proved of libh3whole's compaction. The counts of zones in the
+parts of any list add up to those in the whole. That is proved of its counting.
 
 Nothing is lost in silence. Each part counts the cells that it is given, and adds up how many cells of resolution 15
-they cover, or how many its zones have; each hand-over is counted on both sides, and each part comes once. Any
-difference is a PartsError."""
+they cover, or how many of them are in each zone. Each hand-over is counted on both sides, and each part has to come
+once. Any difference is a PartsError."""
 
 from array import array
 from functools import partial
@@ -22,12 +22,25 @@ _Cell = TypeVar("_Cell", str, int)
 
 
 class PartsError(Exception):
-    """What a part was given, or what it gave, is not what arrived."""
+    """The cells that a part was given, or those that it returned, are not those that arrived."""
 
 
 class Part(NamedTuple):
-    """A part that is done: its number, how many cells it was given, how many cells of resolution 15 these cover, how
-    many it gives, and these, compacted."""
+    """A compacted part, as `compact_part` returns it.
+
+    Attributes
+    ----------
+    number : int
+        Its number.
+    given : int
+        The number of cells that it was given.
+    covered : int
+        The number of cells of resolution 15 that these cover.
+    count : int
+        The number of compacted cells.
+    cells : array of 64-bit integers
+        The compacted cells, ascending.
+    """
 
     number: int
     given: int
@@ -37,7 +50,32 @@ class Part(NamedTuple):
 
 
 def compact_part(numbered: Tuple[int, Any]) -> Part:
-    """Compacts a part, which is its number and a column of cells. It runs where the part is."""
+    """Compact a part. This runs where the part is: in another process, or on another machine.
+
+    Parameters
+    ----------
+    numbered : (int, column)
+        The part's number, and its cells in a column of 64-bit integers, in one dimension: an array, a memoryview, a
+        numpy array, a Series, or a column in Arrow's memory that has a length.
+
+    Returns
+    -------
+    Part
+        The compacted cells, with what `compact_cells` compares.
+
+    Raises
+    ------
+    H3MemoryAllocError
+        If there is no memory for the compacted cells.
+    H3CellInvalidError
+        If one is not a valid cell.
+    H3DuplicateInputError
+        If two overlap: a cell is given twice, or with an ancestor of it.
+
+    Notes
+    -----
+    The text of an error of H3 has the part's number.
+    """
     number, column = numbered
     try:
         compacted = columns.compact_cells(memoryview(columns._memory_of(column)))
@@ -49,14 +87,41 @@ def compact_part(numbered: Tuple[int, Any]) -> Part:
 
 
 def compact_cells(parts: Any, run: Callable[..., Iterable[Part]] = map) -> "array[int]":
-    """The least list of cells that covers what the parts cover, ascending, as an array of integers.
+    """Return the shortest list of cells that covers what the parts cover, ascending.
 
-    `parts` is an iterable of columns, as those of `h3whole.columns`, or a dask.bag of integers, of which each partition
-    is a part. Of an iterable, `run` is what calls a function for each part, as the built-in `map` does, in any order:
-    `map` of an executor of concurrent.futures, `imap_unordered` of a pool of multiprocessing, or for a client of
-    dask.distributed `lambda call, parts: client.gather(client.map(call, list(parts)))`. A bag runs where dask is told.
+    Parameters
+    ----------
+    parts : iterable of columns, or dask.bag of integers
+        The cells. A column is one of 64-bit integers, as `compact_part` takes it. Each partition of a bag is a part.
+    run : callable, optional
+        Calls a function for each part of an iterable, as the built-in `map` does, and returns the results in any order:
+        `map` of an executor of concurrent.futures, `imap_unordered` of a pool of multiprocessing, or for a client of
+        dask.distributed `lambda call, parts: client.gather(client.map(call, list(parts)))`. By default `map` itself. It
+        is not used for a bag, which dask's own scheduler runs.
 
-    An error of H3 names the part, or comes of cells in two parts that overlap. PartsError: something was lost."""
+    Returns
+    -------
+    array of 64-bit integers
+        The compacted list.
+
+    Raises
+    ------
+    H3MemoryAllocError
+        If there is no memory for the compacted cells.
+    H3CellInvalidError
+        If one is not a valid cell.
+    H3DuplicateInputError
+        If two overlap, in one part or in two.
+    PartsError
+        If something was lost: a part did not come, came twice, or its cells are not those that were sent or returned.
+
+    Notes
+    -----
+    The text of an error in a part has the part's number.
+
+    The number of cells in a bag's partition is not known before it is computed, so what is lost before that goes
+    unnoticed.
+    """
     sent: Dict[int, Optional[int]] = {}
     joined, covered = array("Q"), 0
     numbers: Set[int] = set()
@@ -139,8 +204,19 @@ def _check_all(sent: Dict[int, Optional[int]], numbers: Set[int]) -> None:
 
 
 class CountedPart(NamedTuple):
-    """A part that is counted: its number, how many cells it was given, and the count of each zone; `others` lie in
-    none."""
+    """A counted part, as `count_part` returns it.
+
+    Attributes
+    ----------
+    number : int
+        Its number.
+    given : int
+        The number of cells that it was given.
+    counts : array of 64-bit integers
+        The count of each zone, in the zones' own order, which is not ascending.
+    others : int
+        The number of cells in no zone.
+    """
 
     number: int
     given: int
@@ -149,7 +225,31 @@ class CountedPart(NamedTuple):
 
 
 def count_part(zones: "CellZones[Any]", numbered: Tuple[int, Any]) -> CountedPart:
-    """Counts a part, which is its number and a column of cells, by zones. It runs where the part is."""
+    """Count a part by zones. This runs where the part is: in another process, or on another machine.
+
+    Parameters
+    ----------
+    zones : CellZones
+        The zones.
+    numbered : (int, column)
+        The part's number, and its cells in a column, as `compact_part` takes it.
+
+    Returns
+    -------
+    CountedPart
+        The counts, with what `count_cells` compares.
+
+    Raises
+    ------
+    H3MemoryAllocError
+        If there is no memory for the counts.
+    H3CellInvalidError
+        If one is not a valid cell.
+
+    Notes
+    -----
+    The text of an error of H3 has the part's number.
+    """
     number, column = numbered
     try:
         found = zones.count(memoryview(columns._memory_of(column)))
@@ -161,9 +261,35 @@ def count_part(zones: "CellZones[Any]", numbered: Tuple[int, Any]) -> CountedPar
 def count_cells(
     zones: "CellZones[_Cell]", parts: Any, run: Callable[..., Iterable[CountedPart]] = map
 ) -> "Counts[_Cell]":
-    """How many cells of the parts lie in each zone, and in none: `zones.count` of the parts one after another.
+    """Count the cells of all parts in each zone, and in none, as `zones.count` does of the parts one after another.
 
-    `parts` and `run` are as those of `compact_cells`. An error of H3 names the part. PartsError: something was lost."""
+    Parameters
+    ----------
+    zones : CellZones
+        The zones.
+    parts : iterable of columns, or dask.bag of integers
+        The cells, as of `compact_cells`.
+    run : callable, optional
+        As of `compact_cells`.
+
+    Returns
+    -------
+    Counts
+        The count of each zone, and the number of cells in none.
+
+    Raises
+    ------
+    H3MemoryAllocError
+        If there is no memory for the counts.
+    H3CellInvalidError
+        If one is not a valid cell.
+    PartsError
+        If something was lost: a part did not come, came twice, or its counts do not add up to the cells that were sent.
+
+    Notes
+    -----
+    The text of an error in a part has the part's number.
+    """
     sent: Dict[int, Optional[int]] = {}
     numbers: Set[int] = set()
     counts = zones.count(array("Q"))

@@ -1,9 +1,9 @@
 """Regions and zones: sets of cells by which other cells are joined and counted.
 
-A region is what cells cover, held as the least list of cells that covers it. Zones are cells of which no two overlap:
-each cell lies in one of them at most. `h3whole.Region` and `h3whole.Zones` are over texts, `h3whole.int.Region` and
-`h3whole.int.Zones` over integers; here is what they share. All of them also take and answer columns, as those of
-`h3whole.columns`. None ever changes, and threads may share it."""
+A region is what cells cover, held as the shortest list of cells that covers it. Zones are cells that do not overlap:
+each cell is in one of them at most. `h3whole.Region` and `h3whole.Zones` are over texts, `h3whole.int.Region` and
+`h3whole.int.Zones` over integers; this module has what they share. All of them also take and return columns, as the
+functions of `h3whole.columns` do. None ever changes, and threads may share it."""
 
 import ctypes
 import sys
@@ -135,7 +135,15 @@ def _prepared(cells: Any) -> "array[int]":
 
 
 class CellSet(Generic[_Cell]):
-    """What regions and zones share: cells, which have the form that `_index_of` takes and `_form_of` gives."""
+    """Cells that never change: the base class of regions and zones.
+
+    Notes
+    -----
+    `len` counts the cells, and iteration returns them, ascending. Regions are equal to regions, and zones to zones, if
+    they have the same cells; equal ones have the same hash. A set that is pickled is judged anew when it is read.
+
+    A subclass sets the form of its cells: `_index_of` converts one to its index, and `_form_of` converts it back.
+    """
 
     __slots__ = ("_asked", "_order", "_table")
 
@@ -259,24 +267,81 @@ class CellSet(Generic[_Cell]):
         return columns.to_arrow(self._ascending())
 
     def __arrow_c_schema__(self) -> Any:
-        """A capsule of Arrow's type of the cells: integers."""
+        """Return a capsule of Arrow's type of the cells: 64-bit integers.
+
+        Raises
+        ------
+        NotImplementedError
+            If the package was installed without its extension in C.
+        """
         return self._as_arrow().__arrow_c_schema__()
 
     def __arrow_c_array__(self, requested_schema: Any = None) -> Tuple[Any, Any]:
-        """Arrow's capsules of the cells, ascending, as integers, without a copy."""
+        """Return Arrow's capsules of the cells, ascending, as integers, without a copy.
+
+        Parameters
+        ----------
+        requested_schema : capsule, optional
+            The type to return, if it is one of 64-bit integers, signed or not; any other is ignored.
+
+        Returns
+        -------
+        schema, array : capsules
+            The type of the cells, and the cells.
+
+        Raises
+        ------
+        NotImplementedError
+            If the package was installed without its extension in C.
+        """
         return self._as_arrow().__arrow_c_array__(requested_schema)
 
     def __arrow_c_stream__(self, requested_schema: Any = None) -> Any:
-        """A capsule of a stream of the same."""
+        """Return a capsule of a stream that has the cells as its one array.
+
+        Parameters
+        ----------
+        requested_schema : capsule, optional
+            As of `__arrow_c_array__`.
+
+        Raises
+        ------
+        NotImplementedError
+            If the package was installed without its extension in C.
+        """
         return self._as_arrow().__arrow_c_stream__(requested_schema)
 
 
 class CellRegion(CellSet[_Cell]):
-    """What cells cover: the least list of cells that covers the same. The cells may repeat and overlap.
+    """What cells cover, as the shortest list of cells that covers it.
 
-    `a | b`, `a & b` and `a - b` are the regions of what either covers, both do, and the first does and the second does
-    not; `a <= b` says whether b covers all that a does. Its cells come ascending, and `len` counts them. Two regions
-    are equal where they cover the same."""
+    Parameters
+    ----------
+    cells : iterable of cells, column, region or zones, optional
+        The cells, which may repeat and overlap; by default none.
+
+    Raises
+    ------
+    H3FailedError
+        If a text does not parse as an index.
+    H3MemoryAllocError
+        If there is no memory for the region.
+    H3CellInvalidError
+        If one is not a valid cell.
+
+    Notes
+    -----
+    The operators take regions, over texts or over integers, and return one of the class of `a`:
+
+    - `a | b` is what either covers, `a & b` what both cover, `a - b` what `a` covers and `b` does not, and `a ^ b` what
+      one of them covers and the other does not.
+    - `a <= b` says whether `b` covers all that `a` does, and `a < b` whether it also covers more; `>=` and `>` are the
+      same the other way round.
+    - `a == b` says whether both cover the same.
+
+    `cell in a` says whether `a` covers a cell. Iteration returns the cells of the list, ascending, and `len` counts
+    them.
+    """
 
     __slots__ = ("_cells",)
 
@@ -338,40 +403,145 @@ class CellRegion(CellSet[_Cell]):
         return (self - other) | (other - self)
 
     def union(self: _Region, *others: _Cells[_Cell]) -> _Region:
-        """What this region or any of others covers. Each is a region, or cells of any kind."""
+        """Return the region of what this one or any of the others covers.
+
+        Parameters
+        ----------
+        *others : regions, iterables of cells or columns
+            The others.
+
+        Raises
+        ------
+        H3FailedError
+            If a text does not parse as an index.
+        H3MemoryAllocError
+            If there is no memory for the region.
+        H3CellInvalidError
+            If one is not a valid cell.
+        """
         found = self
         for other in map(self._as_region, others):
             found = found | other
         return found
 
     def intersection(self: _Region, *others: _Cells[_Cell]) -> _Region:
-        """What this region and all others cover. Each is a region, or cells of any kind."""
+        """Return the region of what this one and all the others cover.
+
+        Parameters
+        ----------
+        *others : regions, iterables of cells or columns
+            The others.
+
+        Raises
+        ------
+        H3FailedError
+            If a text does not parse as an index.
+        H3MemoryAllocError
+            If there is no memory for the region.
+        H3CellInvalidError
+            If one is not a valid cell.
+        """
         found = self
         for other in map(self._as_region, others):
             found = found & other
         return found
 
     def difference(self: _Region, *others: _Cells[_Cell]) -> _Region:
-        """What this region covers and no other does. Each is a region, or cells of any kind."""
+        """Return the region of what this one covers and none of the others does.
+
+        Parameters
+        ----------
+        *others : regions, iterables of cells or columns
+            The others.
+
+        Raises
+        ------
+        H3FailedError
+            If a text does not parse as an index.
+        H3MemoryAllocError
+            If there is no memory for the region.
+        H3CellInvalidError
+            If one is not a valid cell.
+        """
         found = self
         for other in map(self._as_region, others):
             found = found - other
         return found
 
     def symmetric_difference(self: _Region, other: _Cells[_Cell]) -> _Region:
-        """What one of the two covers and the other does not. The other is a region, or cells of any kind."""
+        """Return the region of what one of the two covers and the other does not.
+
+        Parameters
+        ----------
+        other : region, iterable of cells or column
+            The other.
+
+        Raises
+        ------
+        H3FailedError
+            If a text does not parse as an index.
+        H3MemoryAllocError
+            If there is no memory for the region.
+        H3CellInvalidError
+            If one is not a valid cell.
+        """
         return self ^ self._as_region(other)
 
     def issubset(self, other: _Cells[_Cell]) -> bool:
-        """Whether the other, a region or cells of any kind, covers all that this one does."""
+        """Return whether the other covers all that this region does.
+
+        Parameters
+        ----------
+        other : region, iterable of cells or column
+            The other.
+
+        Raises
+        ------
+        H3FailedError
+            If a text does not parse as an index.
+        H3MemoryAllocError
+            If there is no memory for the region of the other.
+        H3CellInvalidError
+            If one is not a valid cell.
+        """
         return self <= self._as_region(other)
 
     def issuperset(self, other: _Cells[_Cell]) -> bool:
-        """Whether this region covers all that the other, a region or cells of any kind, does."""
+        """Return whether this region covers all that the other does.
+
+        Parameters
+        ----------
+        other : region, iterable of cells or column
+            The other.
+
+        Raises
+        ------
+        H3FailedError
+            If a text does not parse as an index.
+        H3MemoryAllocError
+            If there is no memory for the region of the other.
+        H3CellInvalidError
+            If one is not a valid cell.
+        """
         return self >= self._as_region(other)
 
     def isdisjoint(self, other: _Cells[_Cell]) -> bool:
-        """Whether nothing is covered by both."""
+        """Return whether this region and the other have nothing in common.
+
+        Parameters
+        ----------
+        other : region, iterable of cells or column
+            The other.
+
+        Raises
+        ------
+        H3FailedError
+            If a text does not parse as an index.
+        H3MemoryAllocError
+            If there is no memory for the region of the other, or of what both cover.
+        H3CellInvalidError
+            If one is not a valid cell.
+        """
         return not self & self._as_region(other)
 
     @classmethod
@@ -379,26 +549,83 @@ class CellRegion(CellSet[_Cell]):
         return other if isinstance(other, CellRegion) else cls(other)  # type: ignore[return-value]
 
     def column(self) -> "array[int]":
-        """The cells, ascending, as a column of integers: a copy."""
+        """Return the cells, ascending, as a column of integers.
+
+        Returns
+        -------
+        array of 64-bit integers
+            A copy.
+        """
         return self._cells[:]
 
     def __contains__(self, cell: _Cell) -> bool:
-        """Return whether the region covers a cell. H3CellInvalidError if it is not a valid cell, H3FailedError if a
-        text does not parse as an index."""
+        """Return whether the region covers a cell.
+
+        Parameters
+        ----------
+        cell : str or int
+            A cell, in the form that the region has.
+
+        Raises
+        ------
+        H3FailedError
+            If a text does not parse as an index.
+        H3CellInvalidError
+            If it is not a valid cell.
+        """
         return bool(self.covers(array("Q", [self._index_of(cell)]))[0])
 
     def covers(self, cells: _Cells[_Cell], *, missing: bool = False) -> Any:
-        """Whether the region covers each cell of a column: a column of the same kind, or a list of truth values for any
-        other cells. With `missing=True` what is not a valid cell is False."""
+        """Return whether the region covers each cell.
+
+        Parameters
+        ----------
+        cells : column, iterable of cells, region or zones
+            The cells.
+        missing : bool, optional
+            Take what is not a valid cell as not covered, and raise nothing for it.
+
+        Returns
+        -------
+        column of the same kind, or list of bool
+            A column for a column, and else a list. For a column in Arrow's memory it is an `ArrowColumn`, with a null
+            for each null.
+
+        Raises
+        ------
+        H3FailedError
+            If a text does not parse as an index.
+        H3CellInvalidError
+            If one is not a valid cell.
+        """
         found = self._fill(_are_covered_cells, self._numbers_of(cells, missing), "i", missing, True)
         return found if _is_column(cells) else list(map(bool, found))
 
 
 class CellZones(CellSet[_Cell]):
-    """Cells of which no two overlap, compacted or not. H3DuplicateInputError if two do.
+    """Cells that do not overlap, compacted or not, by which other cells are joined and counted.
 
-    Each cell lies in one zone at most: the one that is the cell or an ancestor of it. The zones come ascending; `in`
-    says whether a cell is one of them."""
+    Parameters
+    ----------
+    cells : iterable of cells, column, region or zones, optional
+        The cells, of any resolutions; by default none.
+
+    Raises
+    ------
+    H3FailedError
+        If a text does not parse as an index.
+    H3MemoryAllocError
+        If there is no memory for the zones.
+    H3CellInvalidError
+        If one is not a valid cell.
+    H3DuplicateInputError
+        If two overlap: a cell is given twice, or with an ancestor of it.
+
+    Notes
+    -----
+    Each cell is in one zone at most: the one that is the cell or an ancestor of it. Iteration returns the zones,
+    ascending, and `len` counts them; `in` says whether a cell is one of them.
+    """
 
     __slots__ = ("_sorted",)
 
@@ -417,14 +644,38 @@ class CellZones(CellSet[_Cell]):
         return len(self._order or ())
 
     def __contains__(self, cell: _Cell) -> bool:
-        """Return whether a cell is one of the zones. H3CellInvalidError if it is not a valid cell, H3FailedError if a
-        text does not parse as an index."""
+        """Return whether a cell is one of the zones.
+
+        Parameters
+        ----------
+        cell : str or int
+            A cell, in the form that the zones have.
+
+        Raises
+        ------
+        H3FailedError
+            If a text does not parse as an index.
+        H3CellInvalidError
+            If it is not a valid cell.
+        """
         index = self._index_of(cell)
         return self._number_of(index) == index
 
     def zone_of(self, cell: _Cell) -> Optional[_Cell]:
-        """Return the zone of a cell, or None if it has none. H3CellInvalidError if it is not a valid cell,
-        H3FailedError if a text does not parse as an index."""
+        """Return the zone of a cell, or None if it has none.
+
+        Parameters
+        ----------
+        cell : str or int
+            A cell, in the form that the zones have.
+
+        Raises
+        ------
+        H3FailedError
+            If a text does not parse as an index.
+        H3CellInvalidError
+            If it is not a valid cell.
+        """
         return self._form_or_none(self._number_of(self._index_of(cell)))
 
     def _number_of(self, index: int) -> int:
@@ -435,10 +686,33 @@ class CellZones(CellSet[_Cell]):
         return self._form_of(zone) if zone else None
 
     def of(self, cells: _Cells[_Cell], *, missing: bool = False) -> Any:
-        """The zone in which each cell of a column lies: a column of the same kind, with 0 where it lies in none. Of a
-        column of texts, of numpy or pandas, it is one of texts and None, of one of objects it has a text for a text,
-        an integer for an integer, and None, and of any other cells it is a list of zones and None. With `missing=True`
-        what is not a valid cell has none."""
+        """Return the zone of each cell.
+
+        Parameters
+        ----------
+        cells : column, iterable of cells, region or zones
+            The cells.
+        missing : bool, optional
+            Take what is not a valid cell as a cell without a zone, and raise nothing for it.
+
+        Returns
+        -------
+        column of the same kind, or list
+            The zones:
+
+            - for a column of integers one of integers, with 0 for a cell without a zone;
+            - for a column of texts, of numpy or pandas, one of texts and None;
+            - for a column of objects one with a text for a text, an integer for an integer, and None;
+            - for a column in Arrow's memory an `ArrowColumn`, with a null for a cell without a zone and for each null;
+            - for any other cells a list of zones and None.
+
+        Raises
+        ------
+        H3FailedError
+            If a text does not parse as an index.
+        H3CellInvalidError
+            If one is not a valid cell.
+        """
         integers = array("q")
         numbers = self._numbers_of(cells, missing, integers)
         found = self._fill(_cells_to_zones, numbers, columns._INDEXES, missing, False)
@@ -447,8 +721,30 @@ class CellZones(CellSet[_Cell]):
         return columns._objects_of(cells, found, integers) if _is_of_objects(cells) else found
 
     def count(self, cells: _Cells[_Cell], *, missing: bool = False) -> "Counts[_Cell]":
-        """How many cells of a column, or of any other cells, lie in each zone, and in none. With `missing=True` what
-        is not a valid cell is counted by itself."""
+        """Count the cells in each zone, and in none.
+
+        Parameters
+        ----------
+        cells : column, iterable of cells, region or zones
+            The cells.
+        missing : bool, optional
+            Count what is not a valid cell by itself, as `Counts.refused`, and raise nothing for it.
+
+        Returns
+        -------
+        Counts
+            The count of each zone, and the number of cells in none. They do not depend on how a column is cut: the
+            counts of its parts add up to these.
+
+        Raises
+        ------
+        H3FailedError
+            If a text does not parse as an index.
+        H3MemoryAllocError
+            If there is no memory for the counts.
+        H3CellInvalidError
+            If one is not a valid cell. A null in a column in Arrow's memory is not one.
+        """
         if columns._is_arrow(cells):
             return self._count(columns._cells_of_arrow(cells, missing), missing)
         return self._count(self._numbers_of(cells, missing), missing)
@@ -479,13 +775,27 @@ def _cells_among(given: Any) -> Any:
 
 
 class Counts(Mapping[_Cell, int]):
-    """How many cells lie in each zone, by the zone, ascending. `others` lie in none, and `refused` were no cells,
-    where that is no error: all of these add up to the number of what was counted. Counts of parts of a column, which
-    `+` adds up, are those of the whole.
+    """The number of cells in each zone: a mapping by the zones, ascending, as `CellZones.count` returns it.
 
-    Two of them are equal where they have the same zones with the same counts, and the same `others` and `refused`. A
-    dict, or another mapping, has nothing beside its items, so it is equal to counts where both have the same items and
-    the counts have no `others` and no `refused`; `dict(counts)` has the items alone. Counts have no hash."""
+    Attributes
+    ----------
+    others : int
+        The number of cells in no zone.
+    refused : int
+        The number of those that are not valid cells; 0 without `missing=True`.
+
+    Notes
+    -----
+    The counts, `others` and `refused` add up to the number of what was counted. `counts[zone]` raises a KeyError if the
+    cell is not one of the zones, and a TypeError if it does not have their form.
+
+    `a + b` adds counts up: those of the parts of a column make those of the whole. A ValueError says that the zones are
+    not the same.
+
+    Two counts are equal if they have the same zones with the same counts, and the same `others` and `refused`. A dict,
+    or another mapping, has nothing beside its items, so it is equal to counts if both have the same items and `others`
+    and `refused` are 0; `dict(counts)` has the items alone. Counts have no hash.
+    """
 
     __slots__ = ("_zones", "_counts", "_by_zone", "others", "refused")
 
@@ -532,7 +842,15 @@ class Counts(Mapping[_Cell, int]):
         return f"Counts of {len(self)} zones: {sum(self._counts)} cells, {self.others} others, {self.refused} refused"
 
     def column(self) -> Tuple[List[_Cell], List[int]]:
-        """The zones, ascending, and the count of each: two lists, of which a DataFrame can be made."""
+        """Return the zones and their counts as two lists, of which a DataFrame can be made.
+
+        Returns
+        -------
+        zones : list of cells
+            The zones, ascending.
+        counts : list of int
+            The count of each.
+        """
         counted = self._counted()
         cells = self._zones._ascending()
         return [self._zones._form_of(cell) for cell in cells], [counted[cell] for cell in cells]

@@ -1,7 +1,7 @@
 """Base cell tables, over which cells are walked to their neighbors.
 
-A table says how the base cells of hexagons lie beside each other. H3 ships none as a file: the repository's
-tools/h3-table makes it of H3's sources."""
+A table describes how the base cells of hexagons lie beside each other. H3 does not ship one as a file: the repository's
+tools/h3-table makes it from H3's sources."""
 
 import ctypes
 import functools
@@ -25,8 +25,22 @@ _FAULTS = {
 
 
 class TableError(ValueError):
-    """A table file is refused. `code` says why, by the numbers of h3whole.h; `at` is a record (1 is the header) or a
-    base cell, and `direction` 1 to 6; both are 0 where the error has none."""
+    """A table file is refused.
+
+    Parameters
+    ----------
+    code : int
+        Why, by the numbers of h3whole.h: 3 to 9.
+    at : int
+        The record that the error is about (1 is the header), or the base cell; also 0 if the error has neither.
+    direction : int
+        The direction that the error is about, 1 to 6; 0 if the error has none.
+
+    Attributes
+    ----------
+    code, at, direction : int
+        As above.
+    """
 
     def __init__(self, code: int, at: int, direction: int) -> None:
         super().__init__(code, at, direction)
@@ -40,7 +54,20 @@ class TableError(ValueError):
 class Table:
     """A base cell table, from the bytes of its file. It never changes, and threads may share it.
 
-    TableError where the file is refused, and H3MemoryAllocError where there is no memory for its records."""
+    Parameters
+    ----------
+    file : bytes
+        The file, in one of the two formats that tools/h3-table writes.
+
+    Raises
+    ------
+    TypeError
+        If `file` is not bytes.
+    H3MemoryAllocError
+        If there is no memory for the file's records.
+    TableError
+        If the file is refused.
+    """
 
     __slots__ = ("_own",)
 
@@ -58,10 +85,22 @@ class Table:
     def read(cls, path: "Union[str, bytes, PathLike[Any]]") -> "Table":
         """Return the table in the file at a path.
 
+        Parameters
+        ----------
+        path : str, bytes or PathLike
+            The path.
+
+        Returns
+        -------
+        Table
+            The table.
+
         Raises
         ------
         OSError
             If the file cannot be read.
+        H3MemoryAllocError
+            If there is no memory for the file's records.
         TableError
             If the file is refused.
         """
@@ -76,7 +115,18 @@ _used: Optional[Table] = None
 
 
 def use_table(table: Table) -> None:
-    """Set the table of the calls that pass none, as `grid_disk_unsafe(cell, k)`, in this process."""
+    """Set the table for calls without one, as `grid_disk_unsafe(origin, k)`, in this process.
+
+    Parameters
+    ----------
+    table : Table
+        The table.
+
+    Raises
+    ------
+    TypeError
+        If it is not a table.
+    """
     global _used
     if not isinstance(table, Table):
         raise TypeError(f"a table is wanted, and not {table!r}")
@@ -84,8 +134,7 @@ def use_table(table: Table) -> None:
 
 
 def over_table(walk: Callable[..., Any]) -> Callable[..., Any]:
-    """The same function, over the table of `use_table` where none is passed. A table is passed first, or by its
-    name."""
+    """The same function, over the table of `use_table` if none is passed. A table is passed first, or by its name."""
     most = walk.__code__.co_argcount
 
     @functools.wraps(walk)

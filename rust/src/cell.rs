@@ -7,8 +7,8 @@ use core::num::NonZeroU64;
 use core::ops::Range;
 use core::str::FromStr;
 
-/// A cell. It holds the index of one: a number that is not a valid cell is refused where it is
-/// converted. No index is 0, so an `Option<Cell>` takes 8 bytes too.
+/// A cell. It holds the index of one: converting a number that is not a valid cell is an error. An
+/// index is never 0, so an `Option<Cell>` takes 8 bytes too.
 ///
 /// Cells are ordered by their numbers: by resolution, then base cell, then digits.
 ///
@@ -57,20 +57,20 @@ impl Cell {
         ffi::is_class3(self.raw()) == 1
     }
 
-    /// The ancestor at a resolution: H3's `cellToParent`. `ResMismatch` where the resolution is
+    /// The ancestor at a resolution: H3's `cellToParent`. `ResMismatch` if the resolution is
     /// finer than the cell's.
     pub fn parent(self, resolution: Resolution) -> Result<Cell, Error> {
         ffi::parent(self.raw(), resolution.into()).map(Self::known)
     }
 
-    /// The descendant in the center: H3's `cellToCenterChild`. `ResDomain` where the resolution is
+    /// The descendant in the center: H3's `cellToCenterChild`. `ResDomain` if the resolution is
     /// coarser than the cell's.
     pub fn center_child(self, resolution: Resolution) -> Result<Cell, Error> {
         ffi::center_child(self.raw(), resolution.into()).map(Self::known)
     }
 
     /// The last descendant at a resolution, which is the greatest one; not a function of H3.
-    /// `ResDomain` where the resolution is coarser than the cell's.
+    /// `ResDomain` if the resolution is coarser than the cell's.
     ///
     /// Cells are ordered by their numbers. From the center child to the last child, the cells of
     /// that resolution are the descendants of this cell, and no others: a slice in that order has
@@ -89,14 +89,14 @@ impl Cell {
         ffi::last_child(self.raw(), resolution.into()).map(Self::known)
     }
 
-    /// How many descendants there are at a resolution: H3's `cellToChildrenSize`. `ResDomain` where
+    /// How many descendants there are at a resolution: H3's `cellToChildrenSize`. `ResDomain` if
     /// the resolution is coarser than the cell's.
     pub fn children_count(self, resolution: Resolution) -> Result<u64, Error> {
         ffi::children_size(self.raw(), resolution.into()).map(i64::unsigned_abs)
     }
 
-    /// An iterator over the descendants at a resolution, ascending. It takes no memory, and asks
-    /// for each by its position. `ResDomain` where the resolution is coarser than the cell's.
+    /// An iterator over the descendants at a resolution, ascending. It takes no memory, and finds
+    /// each by its position. `ResDomain` if the resolution is coarser than the cell's.
     ///
     /// ```
     /// use h3whole::{Cell, Error, Resolution};
@@ -115,8 +115,8 @@ impl Cell {
         })
     }
 
-    /// The descendants at a resolution, ascending: H3's `cellToChildren`. `ResDomain` where the
-    /// resolution is coarser than the cell's, `MemoryAlloc` where there is no memory for them.
+    /// The descendants at a resolution, ascending: H3's `cellToChildren`. `ResDomain` if the
+    /// resolution is coarser than the cell's, `MemoryAlloc` if there is no memory for them.
     pub fn children_vec(self, resolution: Resolution) -> Result<Vec<Cell>, Error> {
         let count = self.children_count(resolution)?;
         let count = usize::try_from(count).map_err(|_| Error::MemoryAlloc)?;
@@ -124,13 +124,13 @@ impl Cell {
     }
 
     /// The position, from 0 on, among the descendants of the ancestor at a resolution: H3's
-    /// `cellToChildPos`. `ResMismatch` where the resolution is finer than the cell's.
+    /// `cellToChildPos`. `ResMismatch` if the resolution is finer than the cell's.
     pub fn child_position(self, resolution: Resolution) -> Result<u64, Error> {
         ffi::child_position(self.raw(), resolution.into()).map(i64::unsigned_abs)
     }
 
-    /// The descendant that has this position: H3's `childPosToCell`. `ResMismatch` where the
-    /// resolution is coarser than the cell's, `Domain` where no descendant has the position.
+    /// The descendant that has this position: H3's `childPosToCell`. `ResMismatch` if the
+    /// resolution is coarser than the cell's, `Domain` if no descendant has the position.
     pub fn child_at(self, position: u64, resolution: Resolution) -> Result<Cell, Error> {
         // no descendant has a position that is no i64
         let position = i64::try_from(position).unwrap_or(i64::MAX);
@@ -171,8 +171,8 @@ impl Children {
     }
 }
 
-/// The descendants that are passed over are not asked for: [`last`](Iterator::last),
-/// [`nth`](Iterator::nth) and [`count`](Iterator::count) go by the positions.
+/// Descendants that are passed over are not computed: [`last`](Iterator::last),
+/// [`nth`](Iterator::nth) and [`count`](Iterator::count) use the positions.
 impl Iterator for Children {
     type Item = Cell;
 

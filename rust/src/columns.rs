@@ -1,10 +1,9 @@
 //! One call for a column of indexes.
 //!
-//! Of each index the result is written at its place in `out`, and 0, or -1 where the results are no
-//! indexes, where the function of one index returns an error. The first of these errors is
-//! returned, with its place. Where `out` is shorter than the column it is `MemoryBounds`, and
-//! nothing is written, but for [`children`], of which as many are written as fit. What stands in
-//! `out` after what is written stays.
+//! The result for each index is written at its place in `out`. If the function of one index returns
+//! an error, 0 is written there, or -1 if the results are not indexes. The first of these errors is
+//! returned, with its place. If `out` is shorter than the column the error is `MemoryBounds`, and
+//! nothing is written; [`children`] writes as many as fit. The rest of `out` keeps its values.
 //!
 //! ```
 //! use h3whole::{columns, Error, Resolution};
@@ -17,7 +16,7 @@
 //! ```
 //!
 //! [`children`] and [`children_starts`] write one list of the children of all indexes, and the
-//! places where those of each begin. An index that is refused has none there.
+//! places where those of each begin. An index that is refused has no children there.
 
 use crate::ffi::columns as ffi;
 use crate::{Cell, Error, Resolution};
@@ -31,11 +30,11 @@ pub struct ColumnError {
     pub error: Error,
     /// The place of the index that the error is about, from 0 on. Of `MemoryBounds` it is the length
     /// of `out`; of [`children`] the place of the first index whose children have no room, and of
-    /// [`children_starts`] that of the first whose end is no `i64`. Of an error that is about no index
-    /// it is how many there are.
+    /// [`children_starts`] that of the first whose end is not an `i64`. If the error is not about an
+    /// index, it is the number of indexes.
     pub at: usize,
-    /// The index that the error is about; none for `MemoryBounds`, and for an error that is about no
-    /// index.
+    /// The index that the error is about; `None` for `MemoryBounds`, and for an error that is not
+    /// about an index.
     pub index: Option<u64>,
 }
 
@@ -85,15 +84,15 @@ macro_rules! columns {
 }
 
 columns! {
-    /// 1 where the index is that of a cell, else 0: there is no other error than `MemoryBounds`.
+    /// 1 if the index is a valid cell, else 0: the only error is `MemoryBounds`.
     valid = h3w_areValidCells() -> i32;
     /// The resolutions of cells. See [`Cell::resolution`](crate::Cell::resolution).
     resolutions = h3w_getResolutions() -> i32;
     /// The base cells of cells. See [`Cell::base_cell`](crate::Cell::base_cell).
     base_cells = h3w_getBaseCellNumbers() -> i32;
-    /// 1 where the cell is a pentagon, else 0. See [`Cell::is_pentagon`](crate::Cell::is_pentagon).
+    /// 1 if the cell is a pentagon, else 0. See [`Cell::is_pentagon`](crate::Cell::is_pentagon).
     pentagons = h3w_arePentagons() -> i32;
-    /// 1 where the resolution of the cell is Class III, else 0. See
+    /// 1 if the resolution of the cell is Class III, else 0. See
     /// [`Cell::is_class3`](crate::Cell::is_class3).
     class3 = h3w_areResClassIII() -> i32;
     /// The ancestors of cells at a resolution. See [`Cell::parent`](crate::Cell::parent).
@@ -110,8 +109,8 @@ columns! {
     child_positions = h3w_cellsToChildPositions(resolution) -> i64;
     /// Where the children of each index begin in the list that [`children`] writes, and where it
     /// ends: `out` needs one place more than there are indexes. Those of index i are at `out[i]` to
-    /// `out[i + 1]`, which is the place after them. `MemoryBounds` is also the error where children
-    /// end at a place that is no `i64`; `at` is then the place of the first index whose do, and the
+    /// `out[i + 1]`, which is the place after them. `MemoryBounds` is also the error if children
+    /// end at a place that is not an `i64`; `at` is then the place of the first such index, and the
     /// places before are written.
     ///
     /// ```
@@ -129,11 +128,10 @@ columns! {
     children_starts = h3w_cellsToChildrenStarts(resolution) -> i64;
     /// The children of the first index at a resolution, ascending, then those of the second, and so
     /// on; none of an index that is refused. See [`Cell::children`](crate::Cell::children) and
-    /// [`children_starts`]. Where `out` is too short it is `MemoryBounds`, before any other error,
-    /// and as many as fit are written.
+    /// [`children_starts`]. If `out` is too short the error is `MemoryBounds`, before any other, and
+    /// as many as fit are written.
     children = h3w_cellsToChildren(resolution) -> u64;
-    /// 1 where the index is that of a directed edge, else 0: there is no other error than
-    /// `MemoryBounds`.
+    /// 1 if the index is a valid directed edge, else 0: the only error is `MemoryBounds`.
     valid_edges = h3w_areValidDirectedEdges() -> i32;
     /// The cells that edges leave. See [`Edge::origin`](crate::Edge::origin).
     origins = h3w_getDirectedEdgeOrigins() -> u64;

@@ -4,8 +4,8 @@ use core::fmt;
 use core::num::NonZeroU64;
 use core::str::FromStr;
 
-/// A directed edge: the step from a cell in one direction. It holds the index of one: a number that
-/// is not a valid edge is refused where it is converted.
+/// A directed edge: the step from a cell in one direction. It holds the index of one: converting a
+/// number that is not a valid edge is an error.
 ///
 /// ```
 /// use h3whole::{Cell, Edge, Error};

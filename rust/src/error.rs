@@ -39,21 +39,21 @@ errors! {
     Domain = 2, "E_DOMAIN";
     /// A latitude or longitude is out of range. Never returned here.
     LatLngDomain = 3, "E_LATLNG_DOMAIN";
-    /// A number is no resolution, or not one that the function takes.
+    /// A number is not a resolution, or not one that the function takes.
     ResDomain = 4, "E_RES_DOMAIN";
     /// An index is not a valid cell.
     CellInvalid = 5, "E_CELL_INVALID";
-    /// An index is no directed edge's.
+    /// An index is not a valid directed edge.
     DirEdgeInvalid = 6, "E_DIR_EDGE_INVALID";
-    /// An index is no undirected edge's. Never returned here.
+    /// An index is not a valid undirected edge. Never returned here.
     UndirEdgeInvalid = 7, "E_UNDIR_EDGE_INVALID";
-    /// An index is no vertex's. Never returned here.
+    /// An index is not a valid vertex. Never returned here.
     VertexInvalid = 8, "E_VERTEX_INVALID";
     /// A pentagon is in the way.
     Pentagon = 9, "E_PENTAGON";
     /// Two cells overlap.
     DuplicateInput = 10, "E_DUPLICATE_INPUT";
-    /// Two cells are no neighbors.
+    /// Two cells are not neighbors.
     NotNeighbors = 11, "E_NOT_NEIGHBORS";
     /// Two resolutions do not fit.
     ResMismatch = 12, "E_RES_MISMATCH";

@@ -7,15 +7,14 @@ use core::iter::{Copied, FusedIterator};
 use core::ops::{BitAnd, BitOr, Sub};
 use core::slice;
 
-/// What cells cover: the least list of cells that covers the same. It takes 16 bytes of memory for
-/// each of these cells, and 8 more once a fourth as many cells were looked up: a table, which is kept.
-/// A call with as many cells as these, or more, takes 8 more while it lasts.
+/// What cells cover: the shortest list of cells that covers the same. It takes 16 bytes of memory
+/// for each of these cells, and 8 more once a fourth as many cells were looked up: a table, which is
+/// kept. A call with as many cells as these, or more, takes 8 more while it lasts.
 ///
 /// `&a | &b`, `&a & &b` and `&a - &b` are the regions of what either covers, both do, and the first
-/// does and the second does not; they panic where there is no memory, for which
-/// [`union`](Region::union), [`intersection`](Region::intersection) and
-/// [`difference`](Region::difference) return an error. Two regions are equal where they cover the
-/// same.
+/// does and the second does not. They panic if there is no memory; [`union`](Region::union),
+/// [`intersection`](Region::intersection) and [`difference`](Region::difference) return an error
+/// instead. Two regions are equal if they cover the same.
 ///
 /// ```
 /// use h3whole::{Cell, Error, Region, Resolution};
@@ -35,7 +34,7 @@ pub struct Region {
 }
 
 impl Region {
-    /// What the cells cover, which may repeat and overlap. `MemoryAlloc` where there is no memory.
+    /// What the cells cover, which may repeat and overlap. `MemoryAlloc` if there is no memory.
     pub fn of(cells: &[Cell]) -> Result<Region, Error> {
         Self::known(ffi::unite(cells)?)
     }
@@ -46,7 +45,7 @@ impl Region {
         Ok(Region { cells, order })
     }
 
-    /// What this region or the other covers. `MemoryAlloc` where there is no memory.
+    /// What this region or the other covers. `MemoryAlloc` if there is no memory.
     pub fn union(&self, other: &Region) -> Result<Region, Error> {
         let mut both = Vec::new();
         both.try_reserve_exact(self.len() + other.len())
@@ -56,12 +55,12 @@ impl Region {
         Self::of(&both)
     }
 
-    /// What both regions cover. `MemoryAlloc` where there is no memory.
+    /// What both regions cover. `MemoryAlloc` if there is no memory.
     pub fn intersection(&self, other: &Region) -> Result<Region, Error> {
         Self::known(ffi::intersect(&self.cells, &other.cells)?)
     }
 
-    /// What this region covers and the other does not. `MemoryAlloc` where there is no memory. It
+    /// What this region covers and the other does not. `MemoryAlloc` if there is no memory. It
     /// may have more cells than both: up to 90 more for each of the other.
     pub fn difference(&self, other: &Region) -> Result<Region, Error> {
         Self::known(ffi::subtract(&self.cells, &other.cells)?)
@@ -92,7 +91,7 @@ impl Region {
         self.cells.len()
     }
 
-    /// Whether the region covers no cell.
+    /// Whether the region is empty.
     pub fn is_empty(&self) -> bool {
         self.cells.is_empty()
     }
@@ -118,7 +117,7 @@ impl fmt::Debug for Region {
     }
 }
 
-/// Panics where there is no memory, as a `Vec` ends the program.
+/// Panics if there is no memory, as a `Vec` ends the program.
 impl FromIterator<Cell> for Region {
     fn from_iter<I: IntoIterator<Item = Cell>>(cells: I) -> Region {
         let cells: Vec<Cell> = cells.into_iter().collect();
@@ -162,8 +161,8 @@ impl Sub for &Region {
     }
 }
 
-/// Cells of which no two overlap, of any resolutions, by which other cells are joined and counted:
-/// each lies in one of them at most, its zone. They take 8 bytes of memory for each zone, and 8 more
+/// Cells that do not overlap, of any resolutions, by which other cells are joined and counted:
+/// each is in one of them at most, its zone. They take 8 bytes of memory for each zone, and 8 more
 /// once a fourth as many cells were looked up: a table, which is kept, so a column can come in parts.
 /// A call with as many cells as zones, or more, takes 8 more for each zone while it lasts.
 ///
@@ -185,26 +184,26 @@ pub struct Zones {
 }
 
 impl Zones {
-    /// The cells as zones. `MemoryAlloc` where there is no memory; `DuplicateInput` where a cell is
+    /// The cells as zones. `MemoryAlloc` if there is no memory; `DuplicateInput` if a cell is
     /// there twice, or together with an ancestor of it.
     pub fn new(cells: &[Cell]) -> Result<Zones, Error> {
         let order = Order::of(cells)?;
         Ok(Zones { order })
     }
 
-    /// The zone of a cell: the one that is the cell or an ancestor of it; none where there is none.
+    /// The zone of a cell: the one that is the cell or an ancestor of it; `None` if it has none.
     pub fn zone_of(&self, cell: Cell) -> Option<Cell> {
         zone_of(&self.order, cell)
     }
 
-    /// The zone of each cell of a column. `MemoryAlloc` where there is no memory.
+    /// The zone of each cell of a column. `MemoryAlloc` if there is no memory.
     pub fn zones_of(&self, cells: &[Cell]) -> Result<Vec<Option<Cell>>, Error> {
         let mut zones = filled(None, cells.len())?;
         self.order.zones_of(cells, &mut zones)?;
         Ok(zones)
     }
 
-    /// How many cells of a column lie in each zone, and in none. `MemoryAlloc` where there is no
+    /// Counts the cells of a column in each zone, and in none. `MemoryAlloc` if there is no
     /// memory.
     pub fn count(&self, cells: &[Cell]) -> Result<Counts<'_>, Error> {
         let mut counts = filled(0, self.len())?;
@@ -226,7 +225,7 @@ impl Zones {
         self.order.cells().len()
     }
 
-    /// Whether there are none.
+    /// Whether there are no zones.
     pub fn is_empty(&self) -> bool {
         self.order.cells().is_empty()
     }
@@ -247,7 +246,7 @@ impl<'a> IntoIterator for &'a Zones {
     }
 }
 
-/// How many cells of a column lie in each zone, and in none: together they are as many as the column
+/// How many cells of a column are in each zone, and in none: together they are as many as the column
 /// has. The counts of parts of a column, zone by zone, add up to those of the whole.
 #[derive(Clone)]
 pub struct Counts<'a> {
@@ -257,15 +256,15 @@ pub struct Counts<'a> {
 }
 
 impl Counts<'_> {
-    /// How many cells lie in a zone; none where the cell is not one of the zones. It looks through
-    /// the zones: for many of them, a map is made of [`iter`](Counts::iter).
+    /// How many cells are in a zone; `None` if the cell is not one of the zones. It looks through
+    /// the zones: for many lookups, make a map of [`iter`](Counts::iter).
     pub fn of(&self, zone: Cell) -> Option<u64> {
         self.iter()
             .find(|(found, _)| *found == zone)
             .map(|(_, count)| count)
     }
 
-    /// How many cells lie in no zone.
+    /// How many cells are in no zone.
     pub fn others(&self) -> u64 {
         self.others
     }
@@ -296,7 +295,7 @@ fn zone_of(order: &Order, cell: Cell) -> Option<Cell> {
     zone[0]
 }
 
-/// So many places. `MemoryAlloc` where there is no memory.
+/// So many places. `MemoryAlloc` if there is no memory.
 fn filled<T: Clone>(value: T, count: usize) -> Result<Vec<T>, Error> {
     let mut places = Vec::new();
     places

@@ -59,7 +59,7 @@ impl Resolution {
             .unsigned_abs()
     }
 
-    /// The next finer resolution; none of the finest.
+    /// The next finer resolution; `None` for the finest.
     ///
     /// ```
     /// use h3whole::Resolution;
@@ -72,7 +72,7 @@ impl Resolution {
         Self::ALL.get(self as usize + 1).copied()
     }
 
-    /// The next coarser resolution; none of the coarsest.
+    /// The next coarser resolution; `None` for the coarsest.
     pub fn pred(self) -> Option<Self> {
         Self::ALL[..self as usize].last().copied()
     }
@@ -97,7 +97,7 @@ impl From<Resolution> for i32 {
     }
 }
 
-/// `ResDomain` where the number is no resolution.
+/// `ResDomain` if the number is not a resolution.
 impl TryFrom<i32> for Resolution {
     type Error = Error;
 
@@ -110,7 +110,7 @@ impl TryFrom<i32> for Resolution {
     }
 }
 
-/// `ResDomain` where the number is no resolution.
+/// `ResDomain` if the number is not a resolution.
 impl TryFrom<u8> for Resolution {
     type Error = Error;
 
@@ -119,7 +119,7 @@ impl TryFrom<u8> for Resolution {
     }
 }
 
-/// `ResDomain` where the number is no resolution.
+/// `ResDomain` if the number is not a resolution.
 impl TryFrom<u32> for Resolution {
     type Error = Error;
 
@@ -128,7 +128,7 @@ impl TryFrom<u32> for Resolution {
     }
 }
 
-/// `ResDomain` where the number is no resolution.
+/// `ResDomain` if the number is not a resolution.
 impl TryFrom<usize> for Resolution {
     type Error = Error;
 
@@ -137,8 +137,8 @@ impl TryFrom<usize> for Resolution {
     }
 }
 
-/// Parses a decimal number: `Failed` where the text is that of none, `ResDomain` where the number
-/// is no resolution.
+/// Parses a decimal number: `Failed` if the text is not one, `ResDomain` if the number is not a
+/// resolution.
 impl FromStr for Resolution {
     type Err = Error;
 

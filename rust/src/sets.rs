@@ -1,9 +1,9 @@
 use crate::{ffi, Cell, Error, Resolution};
 use alloc::vec::Vec;
 
-/// The least list of cells that covers the same as the given ones, ascending: H3's `compactCells`.
-/// `DuplicateInput` where a cell is there twice, or together with an ancestor of it; `MemoryAlloc`
-/// where there is no memory. [`find_overlap`] says which cells overlap.
+/// The shortest list of cells that covers the same as the given ones, ascending: H3's
+/// `compactCells`. `DuplicateInput` if a cell is there twice, or together with an ancestor of it;
+/// `MemoryAlloc` if there is no memory. [`find_overlap`] returns which cells overlap.
 ///
 /// ```
 /// use h3whole::{compact, uncompact, Cell, Error, Resolution};
@@ -21,8 +21,8 @@ pub fn compact(cells: &[Cell]) -> Result<Vec<Cell>, Error> {
 }
 
 /// The places of two cells that overlap: of the first one that overlaps an earlier one, and of the first that
-/// it overlaps. They say why [`compact`] or [`Zones::new`](crate::Zones::new) returned
-/// `DuplicateInput`; `None` if no two overlap. `MemoryAlloc` where there is no memory.
+/// it overlaps. They are the reason why [`compact`] or [`Zones::new`](crate::Zones::new) returned
+/// `DuplicateInput`; `None` if no two overlap. `MemoryAlloc` if there is no memory.
 ///
 /// ```
 /// use h3whole::{find_overlap, Cell, Error, Resolution};
@@ -39,7 +39,7 @@ pub fn find_overlap(cells: &[Cell]) -> Result<Option<(usize, usize)>, Error> {
 }
 
 /// The descendants at a resolution of the first cell, ascending, then those of the second, and so
-/// on: H3's `uncompactCells`. `ResMismatch` where a cell is finer; `MemoryAlloc` where there is no
+/// on: H3's `uncompactCells`. `ResMismatch` if a cell is finer; `MemoryAlloc` if there is no
 /// memory for them.
 pub fn uncompact(cells: &[Cell], resolution: Resolution) -> Result<Vec<Cell>, Error> {
     let mut count = 0u64;

@@ -4,9 +4,9 @@ use crate::{Cell, Edge, Error};
 use alloc::vec::Vec;
 use core::fmt;
 
-/// A base cell table: how the base cells of hexagons lie beside each other. What goes from cell to
-/// cell needs one, and H3 ships none as a file: the repository's `tools/h3-table` makes it of H3's
-/// sources.
+/// A base cell table: how the base cells of hexagons lie beside each other. Functions that go from
+/// cell to cell need one. H3 does not ship one as a file: the repository's `tools/h3-table` makes
+/// it from H3's sources.
 ///
 /// It takes 1,465 bytes and owns nothing; it may be cloned, and read from many threads at once.
 ///
@@ -48,8 +48,8 @@ impl Table {
         ffi::read_table(file).map(Table).map_err(TableError::from)
     }
 
-    /// The cells within k steps of a cell, ring by ring: H3's `gridDiskUnsafe`. `Domain` where k is
-    /// no `i32`; `MemoryAlloc` where there is no memory for 3k(k + 1) + 1 cells; `Pentagon` where a
+    /// The cells within k steps of a cell, ring by ring: H3's `gridDiskUnsafe`. `Domain` if k is
+    /// not an `i32`; `MemoryAlloc` if there is no memory for 3k(k + 1) + 1 cells; `Pentagon` if a
     /// step meets a pentagon base cell.
     pub fn grid_disk_unsafe(&self, origin: Cell, k: u32) -> Result<Vec<Cell>, Error> {
         let radius = radius(k)?;
@@ -58,7 +58,7 @@ impl Table {
 
     /// The disks of cells, one after another: H3's `gridDisksUnsafe`. Each has 3k(k + 1) + 1 cells,
     /// in the order of [`Table::grid_disk_unsafe`]. Errors are those of that, with the first cell that
-    /// they are about; `Domain` and `MemoryAlloc` are about none.
+    /// they are about; `Domain` and `MemoryAlloc` are not about a cell.
     ///
     /// ```
     /// # use h3whole::{Cell, Error, Table};
@@ -109,20 +109,20 @@ impl Table {
     }
 
     /// Whether a step leads from the one cell to the other: H3's `areNeighborCells`. `ResMismatch`
-    /// where their resolutions differ; then, for different cells, `Pentagon` where the base cell of
+    /// if their resolutions differ; then, for different cells, `Pentagon` if the base cell of
     /// either is a pentagon.
     pub fn are_neighbors(&self, a: Cell, b: Cell) -> Result<bool, Error> {
         ffi::are_neighbors(&self.0, a.raw(), b.raw())
     }
 
     /// The edge from a cell to a neighbor: H3's `cellsToDirectedEdge`. `ResMismatch`, then
-    /// `NotNeighbors` where both are the same, then `Pentagon` where the base cell of either is a
+    /// `NotNeighbors` if both are the same, then `Pentagon` if the base cell of either is a
     /// pentagon, then `NotNeighbors`.
     pub fn edge_between(&self, origin: Cell, destination: Cell) -> Result<Edge, Error> {
         ffi::edge_between(&self.0, origin.raw(), destination.raw()).map(Edge::known)
     }
 
-    /// The cell that an edge leads to: H3's `getDirectedEdgeDestination`. `Pentagon` where the base
+    /// The cell that an edge leads to: H3's `getDirectedEdgeDestination`. `Pentagon` if the base
     /// cell of the edge's origin, or of that cell, is a pentagon.
     pub fn edge_destination(&self, edge: Edge) -> Result<Cell, Error> {
         ffi::edge_destination(&self.0, edge.raw()).map(Cell::known)

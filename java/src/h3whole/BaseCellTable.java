@@ -12,7 +12,7 @@ import java.util.List;
 
 /**
  * A base cell table, over which cells are walked to their neighbors: how the base cells of hexagons lie beside each
- * other. H3 ships none as a file: the repository's {@code tools/h3-table} makes it of H3's sources.
+ * other. H3 does not ship one as a file: the repository's {@code tools/h3-table} makes it from H3's sources.
  *
  * <p>A table never changes, and threads may share it. A step that starts or ends in a pentagon base cell is {@code
  * E_PENTAGON}. A table that is serialized is read anew from the bytes of its file.
@@ -190,7 +190,7 @@ public final class BaseCellTable implements Serializable {
         return result;
     }
 
-    /** How many cells a disk has; 0 where no array has room for them, or k is below 0: then it is refused. */
+    /** How many cells a disk has; 0 if no array has room for them, or k is below 0: then it is refused. */
     private static int diskSize(int k) {
         double size = 3.0 * k * (k + 1.0) + 1;
         return k < 0 || size > Integer.MAX_VALUE - 8 ? 0 : (int) size;
@@ -216,7 +216,7 @@ public final class BaseCellTable implements Serializable {
         return texts;
     }
 
-    /** What stands for a table where it is serialized: the bytes of its file. */
+    /** The serialized form of a table: the bytes of its file. */
     private static final class Form implements Serializable {
         private static final long serialVersionUID = 1;
         private final byte[] file;

@@ -30,12 +30,12 @@ public final class BaseCellTableException extends IllegalArgumentException {
         return code;
     }
 
-    /** The record, of which 1 is the header, or the base cell that the error is about; 0 where it is about none. */
+    /** The record (1 is the header) or the base cell that the error is about; also 0 if it is about neither. */
     public long getAt() {
         return at;
     }
 
-    /** The direction that the error is about, 1 to 6; 0 where it is about none. */
+    /** The direction that the error is about, 1 to 6; 0 if it is not about a direction. */
     public int getDirection() {
         return direction;
     }

@@ -6,27 +6,27 @@ import java.util.BitSet;
  * The functions over columns: one call for an array of indexes, and a result for each.
  *
  * <p>Each has two forms. One returns a new array, and throws an {@link H3Exception} for the first refused index, with
- * its place. The other fills an array that it is given, which may be the column itself, and returns the places of
+ * its place. The other fills a caller-provided array, which may be the column itself, and returns the places of
  * refused indexes, none if all went well. What is written there is 0, or -1 if the results are not indexes, or false.
  * It throws {@code E_MEMORY_BOUNDS} if the array is shorter than the column. Both throw {@code E_RES_DOMAIN} for a
- * number that is not a resolution, also of an empty column. {@link H3} says which errors there are.
+ * number that is not a resolution, also for an empty column. {@link H3} says which errors there are.
  *
  * <p>While 65,536 cells at a time are done, the garbage collector waits for a call: a millisecond at most.
  */
 public final class Columns {
     private Columns() {}
 
-    /** Returns of each number whether it is a valid cell. No index is refused. */
+    /** Returns whether each number is a valid cell. It never throws for an index. */
     public static boolean[] areValidCells(long[] cells) {
         return truths(Native.ARE_VALID_CELLS, cells);
     }
 
-    /** Returns of each number whether it is a valid directed edge. No index is refused. */
+    /** Returns whether each number is a valid directed edge. It never throws for an index. */
     public static boolean[] areValidDirectedEdges(long[] edges) {
         return truths(Native.ARE_VALID_DIRECTED_EDGES, edges);
     }
 
-    /** Returns of each cell whether it is a pentagon. */
+    /** Returns whether each cell is a pentagon. */
     public static boolean[] arePentagons(long[] cells) {
         return truths(Native.ARE_PENTAGONS, cells);
     }
@@ -36,7 +36,7 @@ public final class Columns {
         return fillTruths(Native.ARE_PENTAGONS, cells, out);
     }
 
-    /** Returns of each cell whether its resolution is Class III. */
+    /** Returns whether the resolution of each cell is Class III. */
     public static boolean[] areResClassIII(long[] cells) {
         return truths(Native.ARE_RES_CLASS_III, cells);
     }
@@ -194,7 +194,7 @@ public final class Columns {
         return status >>> 32 == 0 ? length : (int) status;
     }
 
-    /** The places of a column at which there is the value that stands for none. */
+    /** The places of a column at which there is the value of a refused index. */
     private static BitSet missing(long status, int length, long[] out, long none) {
         BitSet refused = new BitSet();
         for (int place = firstPlace(status, length); place < length; place++) {

@@ -8,7 +8,7 @@ import java.util.LinkedHashMap;
 import java.util.Map;
 
 /**
- * How many cells of a column lie in each zone, how many in none, and how many were not valid, where that is no error:
+ * How many cells of a column are in each zone, how many in none, and how many were not valid, if that is not an error:
  * all of these add up to the length of the column. Counts never change.
  */
 public final class Counts implements Serializable {
@@ -37,7 +37,7 @@ public final class Counts implements Serializable {
     }
 
     /**
-     * Returns how many cells lie in a zone.
+     * Returns how many cells are in a zone.
      *
      * @throws IllegalArgumentException the cell is not one of the zones
      */
@@ -49,12 +49,12 @@ public final class Counts implements Serializable {
         return counts[place];
     }
 
-    /** Returns how many cells lie in no zone. */
+    /** Returns how many cells are in no zone. */
     public long others() {
         return others;
     }
 
-    /** Returns how many were not valid cells; 0 but of {@link Zones#countValid}. */
+    /** Returns how many were not valid cells; 0 except for {@link Zones#countValid}. */
     public long refused() {
         return refused;
     }
@@ -108,7 +108,7 @@ public final class Counts implements Serializable {
         return toMap() + ", others " + others + ", refused " + refused;
     }
 
-    /** What stands for counts where they are serialized. */
+    /** The serialized form of counts. */
     private static final class Form implements Serializable {
         private static final long serialVersionUID = 1;
         private final long[] zones;

@@ -15,10 +15,10 @@ import java.util.function.LongFunction;
  * index first: what is not a valid cell is {@code E_CELL_INVALID}, what is not a directed edge {@code
  * E_DIR_EDGE_INVALID}, and a text that is not an index {@code E_FAILED}. Errors are {@link H3Exception}s.
  *
- * <p>What goes from cell to cell is in {@link BaseCellTable}.
+ * <p>The functions that go from cell to cell are in {@link BaseCellTable}.
  */
 public final class H3 {
-    /** The index that is none: 0. */
+    /** The null index, 0, which is not valid. */
     public static final long NULL = 0;
 
     private H3() {}

@@ -6,7 +6,7 @@ package h3whole;
  * <p>The message has all of them, as {@code error 5: E_CELL_INVALID: 81087ffffffffff at place 3}.
  */
 public final class H3Exception extends RuntimeException {
-    /** No other error says what it is, as for a text that is not an index. */
+    /** An error without a number of its own, as for a text that is not an index. */
     public static final int E_FAILED = 1;
 
     /** A number is out of range. */
@@ -119,12 +119,12 @@ public final class H3Exception extends RuntimeException {
         return nameOf(code);
     }
 
-    /** The index that the error is about; 0 if it is about none, or about a text. */
+    /** The index that the error is about; 0 if it is not about an index, or about a text. */
     public long getValue() {
         return value;
     }
 
-    /** The place of that index in the column or list, from 0 on; -1 if it was in none. */
+    /** The place of that index in the column or list, from 0 on; -1 if it was not in one. */
     public long getPlace() {
         return place;
     }

@@ -78,7 +78,7 @@ final class Native {
 
     static native long[] subtractCells(long[] first, long[] second, long[] status);
 
-    /** Returns the error, or writes the places of two cells that overlap: the length of the list where none do. */
+    /** Returns the error, or writes the places of two cells that overlap: the length of the list if none do. */
     static native long findOverlap(long[] cells, long[] places);
 
     /** Returns the error; the index is in {@code out[0]}. */

@@ -8,12 +8,12 @@ import java.util.BitSet;
 import java.util.Collection;
 
 /**
- * What cells cover, which may repeat and overlap: the least list of cells that covers the same. Two regions are equal
- * if they cover the same.
+ * What cells cover, which may repeat and overlap: the shortest list of cells that covers the same. Two regions are
+ * equal if they cover the same.
  *
  * <p>A region never changes, and threads may share it. It takes 8 bytes for each cell of its list in Java's heap and as
  * many outside of it, which {@link #close} gives back, or else the garbage collector when it finds the region
- * unreachable. What is serialized is the list, which is judged anew where it is read, as of {@link Zones}.
+ * unreachable. What is serialized is the list, which is judged anew when it is read, as of {@link Zones}.
  */
 public final class Region implements Serializable, AutoCloseable {
     private static final long serialVersionUID = 1;
@@ -72,7 +72,7 @@ public final class Region implements Serializable, AutoCloseable {
     }
 
     /**
-     * Returns of each cell of a column whether the region covers it.
+     * Returns whether the region covers each cell of a column.
      *
      * @throws H3Exception {@code E_CELL_INVALID}, with its place
      */
@@ -105,7 +105,7 @@ public final class Region implements Serializable, AutoCloseable {
         return list().length;
     }
 
-    /** Returns whether the region covers no cell. */
+    /** Returns whether the region is empty. */
     public boolean isEmpty() {
         return size() == 0;
     }
@@ -145,7 +145,7 @@ public final class Region implements Serializable, AutoCloseable {
         return "Region of " + size() + " cells";
     }
 
-    /** What stands for a region where it is serialized. */
+    /** The serialized form of a region. */
     private static final class Form implements Serializable {
         private static final long serialVersionUID = 1;
         private final long[] cells;

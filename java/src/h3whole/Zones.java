@@ -8,12 +8,12 @@ import java.util.BitSet;
 import java.util.Collection;
 
 /**
- * Cells of which no two overlap, of any resolutions, by which other cells are joined and counted. Each cell lies in one
- * zone at most: the one that is the cell or an ancestor of it.
+ * Cells that do not overlap, of any resolutions, by which other cells are joined and counted. Each cell is in one zone
+ * at most: the one that is the cell or an ancestor of it.
  *
  * <p>Zones never change, and threads may share them. They take 8 bytes for each zone outside of Java's heap, which
  * {@link #close} gives back, or else the garbage collector when it finds them unreachable, and 12 in it. Java's
- * serialization writes the list of cells, and judges it anew where it is read. Another kind, which copies fields, makes
+ * serialization writes the list of cells, and judges it anew when it is read. Another kind, which copies fields, makes
  * zones that throw an IllegalStateException.
  *
  * <pre>{@code
@@ -90,7 +90,7 @@ public final class Zones implements Serializable, AutoCloseable {
         return zoneOf(cell) != H3.NULL;
     }
 
-    /** Returns of each cell of a column whether it has a zone. Errors as of {@link #zonesOf(long[])}. */
+    /** Returns whether each cell of a column has a zone. Errors as of {@link #zonesOf(long[])}. */
     public boolean[] covers(long[] cells) {
         return covers(order(), cells);
     }
@@ -192,7 +192,7 @@ public final class Zones implements Serializable, AutoCloseable {
         return error;
     }
 
-    /** What stands for zones where they are serialized. */
+    /** The serialized form of zones. */
     private static final class Form implements Serializable {
         private static final long serialVersionUID = 1;
         private final long[] cells;
