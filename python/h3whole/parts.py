@@ -8,6 +8,7 @@ Nothing is lost in silence. Each part counts the cells that it is given, and add
 they cover, or how many of them are in each zone. Each hand-over is counted on both sides, and each part has to come
 once. Any difference is a PartsError."""
 
+import math
 from array import array
 from functools import partial
 from typing import Any, Callable, Dict, Iterable, Iterator, NamedTuple, Optional, Set, Tuple, TypeVar
@@ -55,8 +56,8 @@ def compact_part(numbered: Tuple[int, Any]) -> Part:
     Parameters
     ----------
     numbered : (int, column)
-        The part's number, and its cells in a column of 64-bit integers, in one dimension: an array, a memoryview, a
-        numpy array, a Series, or a column in Arrow's memory that has a length.
+        The part's number, and its cells in a column of 64-bit integers: an array, a memoryview, a numpy array, a
+        Series, or a column in Arrow's memory that has a length.
 
     Returns
     -------
@@ -83,7 +84,7 @@ def compact_part(numbered: Tuple[int, Any]) -> Part:
         raise error_of(error.number or 0, f"part {number}: {error}") from None
     cells = array("Q")
     cells.frombytes(compacted.cast("B"))
-    return Part(number, len(column), _covered(column), len(cells), cells)
+    return Part(number, _count(column), _covered(column), len(cells), cells)
 
 
 def compact_cells(parts: Any, run: Callable[..., Iterable[Part]] = map) -> "array[int]":
@@ -140,10 +141,15 @@ def _covered(column: Any) -> int:
     return columns._sum(columns.cells_to_children_sizes(memoryview(columns._memory_of(column)), 15))
 
 
+def _count(column: Any) -> int:
+    """How many cells a column has, of any number of dimensions."""
+    return math.prod(column.shape) if hasattr(column, "shape") else len(column)
+
+
 def _numbered(parts: Iterable[Any], sent: Dict[int, Optional[int]]) -> Iterator[Tuple[int, Any]]:
     """The parts with their numbers; what is sent is counted."""
     for number, part in enumerate(parts):
-        sent[number] = len(part)
+        sent[number] = _count(part)
         yield number, part
 
 
@@ -255,7 +261,7 @@ def count_part(zones: "CellZones[Any]", numbered: Tuple[int, Any]) -> CountedPar
         found = zones.count(memoryview(columns._memory_of(column)))
     except H3BaseException as error:
         raise error_of(error.number or 0, f"part {number}: {error}") from None
-    return CountedPart(number, len(column), found._counts, found.others)
+    return CountedPart(number, _count(column), found._counts, found.others)
 
 
 def count_cells(

@@ -12,7 +12,12 @@ from array import array
 import h3whole.columns as columns
 import h3whole.int as integers
 from h3whole import H3CellInvalidError, H3DuplicateInputError
-from h3whole.parts import PartsError, compact_cells, compact_part
+from h3whole.parts import PartsError, compact_cells, compact_part, count_cells
+
+try:
+    import numpy
+except ImportError:
+    numpy = None
 
 try:
     import dask.bag
@@ -105,6 +110,14 @@ class Parts(unittest.TestCase):
         part = compact_part((4, array("Q", integers.cell_to_children(BASE, 2))))
         self.assertEqual((part.number, part.given, part.count, part.cells), (4, 49, 1, array("Q", [BASE])))
         self.assertEqual(part.covered, 7**15)
+
+    @unittest.skipUnless(numpy, "there is no numpy; .ci/packages --install")
+    def test_columns_of_two_dimensions(self):
+        rows = numpy.array(integers.cell_to_children(BASE, 2), dtype="uint64").reshape(7, 7)
+        self.assertEqual(compact_cells([rows]), array("Q", [BASE]))
+        self.assertEqual(compact_part((0, rows)).given, 49)
+        counts = count_cells(integers.Zones([BASE]), [rows, rows])
+        self.assertEqual((dict(counts), counts.others), ({BASE: 98}, 0))
 
 
 @unittest.skipUnless(dask, "there is no dask.distributed; .ci/packages --install")
