@@ -143,7 +143,7 @@ def _covered(column: Any) -> int:
 
 def _count(column: Any) -> int:
     """How many cells a column has, of any number of dimensions."""
-    return math.prod(column.shape) if hasattr(column, "shape") else len(column)
+    return int(math.prod(column.shape)) if hasattr(column, "shape") else len(column)
 
 
 def _numbered(parts: Iterable[Any], sent: Dict[int, Optional[int]]) -> Iterator[Tuple[int, Any]]:
