@@ -37,12 +37,12 @@ class Guide(unittest.TestCase):
         joined = [(point, name) for point, name in guide.JOINED[:5]]
         for begins, wanted in {
             "h3whole.is_valid_cell": (True, guide.resolution(guide.FIRST)),
-            "sorted(Counter(h3whole.columns.get_resolutions": guide.RESOLUTIONS,
+            "sorted(Counter(columns.get_resolutions": guide.RESOLUTIONS,
             "h3whole.cell_to_parent": f"{guide.parent(guide.FIRST, 7):x}",
-            "sorted(Counter(h3whole.columns.cells_to_parents": texts(guide.PARENTS),
+            "sorted(Counter(columns.cells_to_parents": texts(guide.PARENTS),
             "h3whole.compact_cells": [f"{it:x}" for it in guide.compacted(guide.CENTER)],
             "len(h3whole.compact_cells": (len(guide.compacted(guide.NAMES)), guide.SIZE),
-            "list(zip(points, names))": joined,
+            "list(zip(ids, names))": joined,
             "counts[": (guide.COUNTED[guide.parent(guide.FIRST, 6)], len(guide.OUTSIDE), len(guide.POINTS)),
             "sorted(named.items())": guide.NAMED,
         }.items():

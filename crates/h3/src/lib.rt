@@ -21,16 +21,16 @@ pub use h3_grid::{
     Disk, Edges, Ring, are_neighbors, disk_len, edge_between, edge_destination, edges_of, step,
 };
 pub use h3_index::{
-    Cell, CountedReader, Edge, H3Error, Sink, Source, StreamFault, Streamed, index_bytes,
-    num_cells, pentagon, read_index, res0_cell, write_index,
+    Cell, Edge, H3Error, index_bytes, num_cells, pentagon, read_index, res0_cell, write_index,
 };
-pub use h3_lattice::BaseTable;
 pub use h3_lines::read_cells;
 pub use h3_regions::{
     Region, ZoneIndex, Zones, count, count_indexed, find_overlap, intersect, join, join_indexed,
     order_by_number, order_zones, subtract, unite,
 };
 pub use h3_set::{Compaction, Uncompact, compact_cells, compact_in_place, has_overlap, uncompact};
+pub use h3_streams::{CountedReader, Sink, Source, StreamFault, Streamed};
+pub use h3_table::BaseTable;
 pub use h3_tree::{
     Children, center_child, child_at, child_pos, children, children_at, children_size, last_child,
     parent,

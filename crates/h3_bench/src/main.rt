@@ -9,9 +9,10 @@
 
 use h3_directions::{Direction, TableError};
 use h3_grid::step;
-use h3_index::{Cell, H3Error, Streamed};
-use h3_lattice::BaseTable;
+use h3_index::{Cell, H3Error};
 use h3_regions::{ZoneIndex, Zones};
+use h3_streams::Streamed;
+use h3_table::BaseTable;
 use h3_tree::{child_at, child_pos, children_at};
 use std::alloc::{AllocError, Global};
 use std::io::Read;

@@ -9,7 +9,7 @@ use Rattle.std.specs.Result.{result_unwrap_or}
 use Rattle.h3_index.specs.Error.{error_number}
 use Rattle.h3_index.specs.declared.error.H3Error.{H3Error}
 use Rattle.h3_index.specs.declared.error.H3Error.TheVariants.{Failed, Domain, ResDomain, CellInvalid, DirEdgeInvalid, Pentagon, DuplicateInput, NotNeighbors, ResMismatch, MemoryAlloc}
-use Rattle.h3_c.specs.Columns.{first_code, first_place}
+use Rattle.h3_c.specs.Column.{first_code, first_place}
 use Rattle.h3_c.specs.Lists.{laid_over}
 use Rattle.h3_c.proofs.Laid.{laid_over-snoc}
 

@@ -68,10 +68,6 @@ fitting-stop (m ∷ ns) more n room fits full =
 
 -- ---- the places where they begin
 
-pub starts-nil : (place : ℕ) → starts_from place [] ≡ place ∷ []
-unfolding starts_from
-starts-nil place = refl
-
 pub starts-snoc : (place : ℕ) (ns : List ℕ) (n : ℕ) → starts_from place (ns ++ n ∷ []) ≡ starts_from place ns ++ (place + total ns + n) ∷ []
 unfolding total starts_from
 starts-snoc place [] n =

@@ -10,9 +10,9 @@ use Rattle.h3_index.specs.CellNumber.{cell_in}
 use Rattle.h3_index.specs.Laws.{NumbersAreRead}
 use Rattle.h3_set.specs.Coverage.{is_ancestor, is_covered}
 use Rattle.h3_regions.specs.Laws.{NothingCounted}
-use Rattle.h3_regions.specs.Counts.{AreCounts, count_in}
+use Rattle.h3_regions.specs.Counting.{AreCounts, count_in}
 use Rattle.h3_regions.specs.Zones.{IsZones, zone_of}
-use Rattle.h3_c.specs.Columns.{first_code, first_place}
+use Rattle.h3_c.specs.Column.{first_code, first_place}
 use Rattle.h3_c.specs.Lists.{indexes, laid_over}
 use Rattle.h3_c.specs.Sets.{cells_in}
 use Rattle.h3_c.specs.Zones.{AreZonesOver, counts_over, judged, others_over}

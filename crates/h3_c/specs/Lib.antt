@@ -1,4 +1,4 @@
-pub mod Columns
+pub mod Column
 pub mod Descendants
 pub mod DiskExamples
 pub mod Disks

@@ -7,7 +7,7 @@ use Rattle.h3_index.specs.Descendants.{descendants}
 use Rattle.h3_index.specs.Paths.{paths}
 use Rattle.h3_index.specs.declared.error.H3Error.{H3Error}
 use Rattle.h3_index.specs.declared.error.H3Error.TheVariants.{CellInvalid, ResDomain}
-use Rattle.h3_c.specs.Columns.{first_code, first_place}
+use Rattle.h3_c.specs.Column.{first_code, first_place}
 use Rattle.h3_c.specs.Lists.{laid_over}
 use Rattle.h3_c.specs.Starts.{all_children, child_sizes, fitting, lists_code, lists_place, starts_code, starts_from, starts_over, starts_place}
 

@@ -7,7 +7,7 @@ use Rattle.h3_index.specs.Error.{error_number}
 use Rattle.h3_index.specs.declared.error.H3Error.{H3Error}
 use Rattle.h3_index.specs.declared.error.H3Error.TheVariants.{ResDomain}
 use Rattle.h3_functions.specs.Hierarchy.{cell_to_children, cell_to_children_size}
-use Rattle.h3_c.specs.Columns.{first_code, first_place, if_resolution}
+use Rattle.h3_c.specs.Column.{first_code, first_place, if_resolution}
 use Rattle.h3_c.specs.Lists.{indexes, laid_over}
 
 -- sizes_of outcomes: how many items there are for each index; none where it is refused

@@ -4,9 +4,9 @@ use Rattle.h3_index.specs.Cell.{Address}
 use Rattle.h3_index.specs.Edge.{DirectedEdge, edge_number}
 use Rattle.h3_index.specs.declared.error.H3Error.{H3Error}
 use Rattle.h3_index.specs.declared.error.H3Error.TheVariants.{Failed}
-use Rattle.h3_lattice.specs.BaseTable.{link_of}
+use Rattle.h3_table.specs.BaseTable.{link_of}
 use Rattle.h3_directions.specs.Direction.{digit_of}
-use Rattle.h3_lattice.specs.Links.{Links}
+use Rattle.h3_table.specs.Links.{Links}
 use Rattle.h3_directions.specs.declared.error.TableError.{TableError}
 use Rattle.h3_directions.specs.declared.error.TableError.TheVariants as fault
 use Rattle.h3_functions.specs.Edges.{are_neighbor_cells as are_neighbors, cells_to_directed_edge as edge_between, edge_from, get_directed_edge_destination as edge_destination, pair_of}

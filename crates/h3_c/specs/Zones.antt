@@ -7,10 +7,10 @@ use Rattle.h3_functions.specs.Hierarchy.{unless}
 use Rattle.h3_functions.specs.Inspection.{cell_from, for_value}
 use Rattle.h3_set.specs.Coverage.{is_covered, IsApart}
 use Rattle.h3_set.specs.Refusals.{compaction_refusal}
-use Rattle.h3_regions.specs.Counts.{count_in, count_outside}
-use Rattle.h3_regions.specs.Overlaps.{IsFirstOverlap}
+use Rattle.h3_regions.specs.Counting.{count_in, count_outside}
+use Rattle.h3_regions.specs.Overlap.{IsFirstOverlap}
 use Rattle.h3_regions.specs.Zones.{IsZones, zone_of}
-use Rattle.h3_c.specs.Columns.{first_code, first_place}
+use Rattle.h3_c.specs.Column.{first_code, first_place}
 use Rattle.h3_c.specs.Lists.{indexes, laid_over}
 use Rattle.h3_c.specs.Outcome.{code_of}
 use Rattle.h3_c.specs.Sets.{cells_in, for_cells}

@@ -3,7 +3,7 @@
 ghost use Rattle.std.specs.Prelude.{◌≡◌, ◌≤◌, ◌↔◌, ℕ, IsTrue, Result, map, length};
 ghost use Rattle.std.specs.Result.{result_unwrap_or};
 ghost use Rattle.h3_index.specs.declared.error.H3Error.{H3Error};
-ghost use Rattle.h3_c.specs.Columns.{column_code, column_code_at, column_over, column_over_at, first_code, first_place, place_over, place_over_at};
+ghost use Rattle.h3_c.specs.Column.{column_code, column_code_at, column_over, column_over_at, first_code, first_place, place_over, place_over_at};
 ghost use Rattle.h3_c.specs.Lists.{laid_over};
 
 use h3_index::{H3Error, resolution_from};

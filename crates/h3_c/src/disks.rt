@@ -4,7 +4,7 @@ ghost use Rattle.std.specs.Prelude.{◌≡◌, ◌≤◌, ◌+◌, ◌-◌, ◌+
 ghost use Rattle.std.specs.Iterator.{AlwaysYields, IsFinite};
 ghost use Rattle.h3_index.specs.Cell.{Address};
 ghost use Rattle.h3_index.specs.declared.error.H3Error.{H3Error};
-ghost use Rattle.h3_lattice.specs.BaseTable.{link_of};
+ghost use Rattle.h3_table.specs.BaseTable.{link_of};
 ghost use Rattle.h3_functions.specs.Walks.{grid_disk_unsafe as disk};
 ghost use Rattle.h3_c.specs.Disks.{all_disks, disks, walk_items, whole_walks};
 ghost use Rattle.h3_c.specs.Lists.{indexes, laid_over};
@@ -17,7 +17,7 @@ use crate::walks::FAILED;
 use h3_functions::{DiskCells, cell_from};
 use h3_grid::Disk;
 use h3_index::{Cell, H3Error};
-use h3_lattice::BaseTable;
+use h3_table::BaseTable;
 
 /// Puts the indexes of the cells of a walk into the slots from a place on, up to its error, as far
 /// as there is room. Returns 0 and the place after them; or the number of the error, or

@@ -3,7 +3,7 @@
 ghost use Rattle.std.specs.Prelude.{◌≡◌, Ok, map, length, negsuc};
 ghost use Rattle.std.specs.Result.{result_unwrap_or};
 ghost use Rattle.h3_functions.specs.Edges.{get_directed_edge_origin, is_valid_directed_edge, origin_to_directed_edges};
-ghost use Rattle.h3_c.specs.Columns.{column_code, column_over, place_over};
+ghost use Rattle.h3_c.specs.Column.{column_code, column_over, place_over};
 ghost use Rattle.h3_c.specs.Edges.{edge_or_null, edges_or_nulls};
 ghost use Rattle.h3_c.specs.Outcome.{code_of, index_of, truth, truth_of};
 
@@ -12,7 +12,7 @@ use crate::functions::{int, word};
 use crate::outcome::put;
 use h3_functions::cell_from;
 use h3_index::{Cell, Edge};
-use h3_requests::CellFunction::*;
+use h3_requests::IndexFunction::*;
 
 /// H3's `isValidDirectedEdge`.
 #[unsafe(no_mangle)]

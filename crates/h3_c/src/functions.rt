@@ -8,11 +8,11 @@ use crate::column::Question;
 use crate::outcome::truth;
 use h3_functions::{Outcome, outcome_of};
 use h3_index::H3Error;
-use h3_requests::CellFunction;
+use h3_requests::IndexFunction;
 
 /// What a function returns for an index, as an `int`; `Failed` where that is none.
 #[inline(always)]
-pub(crate) fn int(function: CellFunction, index: u64) -> Result<i32, H3Error>
+pub(crate) fn int(function: IndexFunction, index: u64) -> Result<i32, H3Error>
     ensures { result ≡ int_in (outcome_of function index) }
 {
     match outcome_of(function, index) {
@@ -25,7 +25,7 @@ pub(crate) fn int(function: CellFunction, index: u64) -> Result<i32, H3Error>
 /// What a function returns for an index, as an index or a count; `Failed` where that is neither.
 // A result that is taken apart takes up to seven instructions less than one that is handed on.
 #[inline(always)]
-pub(crate) fn word(function: CellFunction, index: u64) -> Result<u64, H3Error>
+pub(crate) fn word(function: IndexFunction, index: u64) -> Result<u64, H3Error>
     ensures { result ≡ word_in (outcome_of function index) }
 {
     match outcome_of(function, index) {
@@ -37,7 +37,7 @@ pub(crate) fn word(function: CellFunction, index: u64) -> Result<u64, H3Error>
     }
 }
 
-impl Question<i32> for CellFunction {
+impl Question<i32> for IndexFunction {
     ghost outcome = { λ f h. int_in (outcome_of f h) };
 
     #[inline(always)]
@@ -46,7 +46,7 @@ impl Question<i32> for CellFunction {
     }
 }
 
-impl Question<u64> for CellFunction {
+impl Question<u64> for IndexFunction {
     ghost outcome = { λ f h. word_in (outcome_of f h) };
 
     #[inline(always)]

@@ -3,7 +3,7 @@
 ghost use Rattle.std.specs.Prelude.{◌≡◌, ◌-◌, ◌^◌, map, length};
 ghost use Rattle.std.specs.Result.{result_unwrap_or};
 ghost use Rattle.h3_functions.specs.Hierarchy.{cell_to_center_child, cell_to_child_pos, cell_to_children, cell_to_children_size, cell_to_last_child, cell_to_parent, child_pos_to_cell};
-ghost use Rattle.h3_c.specs.Columns.{column_code_at, column_over_at, place_over_at};
+ghost use Rattle.h3_c.specs.Column.{column_code_at, column_over_at, place_over_at};
 ghost use Rattle.h3_c.specs.Lists.{list_code, list_over};
 ghost use Rattle.h3_c.specs.Outcome.{code_of, index_of};
 ghost use Rattle.h3_c.specs.Starts.{StandAtStarts, children_code, children_over, children_place, children_starts_code, children_starts_over, children_starts_place};
@@ -15,7 +15,7 @@ use crate::outcome::{index_of, put};
 use crate::starts::{fill_children, fill_starts};
 use h3_functions::child_pos_to_cell;
 use h3_index::resolution_from;
-use h3_requests::CellFunction::*;
+use h3_requests::IndexFunction::*;
 
 /// H3's `cellToParent`.
 #[unsafe(no_mangle)]

@@ -3,12 +3,12 @@
 ghost use Rattle.std.specs.Prelude.{◌≡◌, pos, negsuc, Ok, map, length};
 ghost use Rattle.std.specs.Result.{result_unwrap_or};
 ghost use Rattle.h3_functions.specs.Inspection.{get_base_cell_number, get_resolution, is_pentagon, is_res_class_iii, is_valid_cell};
-ghost use Rattle.h3_c.specs.Columns.{column_code, column_over, place_over};
+ghost use Rattle.h3_c.specs.Column.{column_code, column_over, place_over};
 ghost use Rattle.h3_c.specs.Outcome.{int_of, truth, truth_of};
 
 use crate::column::{NO_NUMBER, fill};
 use crate::functions::int;
-use h3_requests::CellFunction::*;
+use h3_requests::IndexFunction::*;
 
 /// H3's `isValidCell`.
 #[unsafe(no_mangle)]

@@ -2,13 +2,13 @@
 //! another.
 
 ghost use Rattle.std.specs.Prelude.{◌≡◌, ◌<◌, ◌≤◌, ◌+◌, ◌↔◌, suc, nat_le, if◌then◌else◌, Some, None, IsTrue, map, length, take};
-ghost use Rattle.h3_c.specs.Columns.{first_code, first_place};
+ghost use Rattle.h3_c.specs.Column.{first_code, first_place};
 ghost use Rattle.h3_c.specs.Lists.{indexes, laid_over};
 ghost use Rattle.h3_c.specs.Starts.{all_children, child_sizes, fitting, greatest_place, lists_code, lists_place, sizes_of, starts_code, starts_from, starts_over, starts_place};
 
 use crate::column::{MEMORY_BOUNDS, Question, first_error};
 use crate::descendants::put_children_of;
-use h3_requests::CellFunction::CellToChildrenSize;
+use h3_requests::IndexFunction::CellToChildrenSize;
 
 /// The greatest place, which an `int64_t` still holds.
 const GREATEST_PLACE: u64 = 9_223_372_036_854_775_807;

@@ -2,9 +2,9 @@
 
 ghost use Rattle.std.specs.Prelude.{◌≡◌, ◌≢◌, ◌⊎◌, ◌==◌, Some};
 ghost use Rattle.std.specs.Result.{result_unwrap_or};
-ghost use Rattle.h3_lattice.specs.BaseTable.{link_of};
-ghost use Rattle.h3_lattice.specs.Fields.{records_of};
-ghost use Rattle.h3_lattice.specs.Table.{links_of, table_fault};
+ghost use Rattle.h3_table.specs.BaseTable.{link_of};
+ghost use Rattle.h3_table.specs.Fields.{records_of};
+ghost use Rattle.h3_table.specs.Table.{links_of, table_fault};
 ghost use Rattle.h3_directions.specs.declared.error.TableError.{TableError};
 ghost use Rattle.h3_c.specs.Outcome.{code_of, index_of, truth_of};
 ghost use Rattle.h3_c.specs.Tables.{are_neighbor_cells, cells_to_directed_edge, edge_index_of, get_directed_edge_destination, told, told_error};
@@ -14,7 +14,7 @@ use h3_directions::TableError;
 use h3_functions::{cell_from, edge_from};
 use h3_grid::{are_neighbors, edge_between, edge_destination};
 use h3_index::{Cell, H3Error};
-use h3_lattice::BaseTable;
+use h3_table::BaseTable;
 use std::alloc::Global;
 
 /// A base cell table in C's memory. It has a fixed size, and nothing in it is to be freed.

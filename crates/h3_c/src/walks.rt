@@ -4,7 +4,7 @@ ghost use Rattle.std.specs.Prelude.{◌≡◌, ℕ, List, Result, Ok, length, mi
 ghost use Rattle.std.specs.Iterator.{AlwaysYields, IsFinite};
 ghost use Rattle.h3_index.specs.Cell.{Address};
 ghost use Rattle.h3_index.specs.declared.error.H3Error.{H3Error};
-ghost use Rattle.h3_lattice.specs.BaseTable.{link_of};
+ghost use Rattle.h3_table.specs.BaseTable.{link_of};
 ghost use Rattle.h3_functions.specs.Walks.{grid_disk_distances_unsafe as disk_distances, grid_disk_unsafe as disk, grid_ring_unsafe as ring};
 ghost use Rattle.h3_c.specs.Lists.{indexes, laid_over};
 ghost use Rattle.h3_c.specs.Tables.{grid_disk_distances_unsafe, grid_disk_unsafe, grid_ring_unsafe};
@@ -15,7 +15,7 @@ use crate::tables::Table;
 use h3_functions::{DiskCells, cell_from};
 use h3_grid::{Disk, Ring};
 use h3_index::{Cell, H3Error};
-use h3_lattice::BaseTable;
+use h3_table::BaseTable;
 
 /// H3's number for a table whose file was refused.
 pub(crate) const FAILED: u32 = 1;

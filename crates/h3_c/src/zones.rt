@@ -7,10 +7,10 @@ ghost use Rattle.h3_index.specs.declared.error.H3Error.TheVariants.{MemoryAlloc}
 ghost use Rattle.h3_functions.specs.Hierarchy.{unless};
 ghost use Rattle.h3_set.specs.Coverage.{is_covered};
 ghost use Rattle.h3_set.specs.Refusals.{compaction_refusal};
-ghost use Rattle.h3_regions.specs.Counts.{AreCounts};
+ghost use Rattle.h3_regions.specs.Counting.{AreCounts};
 ghost use Rattle.h3_regions.specs.FirstPlaces.{IsTableOf};
 ghost use Rattle.h3_regions.specs.Zones.{IsZones, zone_of};
-ghost use Rattle.h3_c.specs.Columns.{column_code, column_over, first_code, first_place, place_over};
+ghost use Rattle.h3_c.specs.Column.{column_code, column_over, first_code, first_place, place_over};
 ghost use Rattle.h3_c.specs.Lists.{indexes, laid_over};
 ghost use Rattle.h3_c.specs.Outcome.{code_of, truth_of};
 ghost use Rattle.h3_c.specs.Sets.{cells_in};

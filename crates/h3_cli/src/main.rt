@@ -1,11 +1,12 @@
 //! The command `h3`.
 #![tactic(auto)]
 
-use h3_index::{H3Error, Sink, Source, StreamFault, Streamed};
-use h3_lines::{AnswerError, Fault, Refusal, report, write_all};
+use h3_index::H3Error;
+use h3_lines::{AnswerError, Fault, RunError, report, write_all};
 use h3_program::{NamedFile, Retried, SystemFiles, run_words};
-use h3_requests::{CellFunction, Command};
-use h3_words::{CommandFile, Words, WordsFault, read_words};
+use h3_requests::{Command, IndexFunction};
+use h3_streams::{Sink, Source, StreamFault, Streamed};
+use h3_words::{ArgsError, CommandFile, Words, read_words};
 use std::alloc::Global;
 use std::fs::File;
 use std::io::{ErrorKind, IsTerminal};
@@ -15,17 +16,17 @@ use std::rt::{Env, Files};
 use std::{env, fs};
 
 /// The words of the command line, where the system gives them.
-fn given_words<R: Env + AllocGlobal>(rt: &R) -> Result<Vec<String>, Refusal> {
+fn given_words<R: Env + AllocGlobal>(rt: &R) -> Result<Vec<String>, RunError> {
     let words = match env::args(rt) {
         Ok(words) => words,
         Err(error) if error.kind() == ErrorKind::OutOfMemory => {
-            return Err(Refusal::Fault(Fault::Memory));
+            return Err(RunError::Fault(Fault::Memory));
         }
-        Err(_) => return Err(Refusal::Error(AnswerError::Call(H3Error::Failed))),
+        Err(_) => return Err(RunError::Error(AnswerError::Call(H3Error::Failed))),
     };
     words
         .collect(rt.alloc())
-        .map_err(|_| Refusal::Fault(Fault::Memory))
+        .map_err(|_| RunError::Fault(Fault::Memory))
 }
 
 /// Whether the words may be those of a command that names a file. No others are parsed twice.
@@ -42,11 +43,11 @@ fn may_name_file(words: &Vec<String>) -> bool {
 }
 
 /// What the words of a command line ask for; `None` where they are not those of a command.
-fn asked_for(alloc: Global, words: &Vec<String>) -> Result<Option<Words>, Refusal> {
-    let words = words.clone().map_err(|_| Refusal::Fault(Fault::Memory))?;
+fn asked_for(alloc: Global, words: &Vec<String>) -> Result<Option<Words>, RunError> {
+    let words = words.clone().map_err(|_| RunError::Fault(Fault::Memory))?;
     match read_words(alloc, words) {
         Ok(asked) => Ok(Some(asked)),
-        Err(WordsFault::Memory) => Err(Refusal::Fault(Fault::Memory)),
+        Err(ArgsError::Memory) => Err(RunError::Fault(Fault::Memory)),
         Err(_) => Ok(None),
     }
 }
@@ -55,7 +56,7 @@ fn asked_for(alloc: Global, words: &Vec<String>) -> Result<Option<Words>, Refusa
 /// that is nothing.
 fn awaited_list<'a>(command: &Command) -> Option<&'a str> {
     match command {
-        Command::ForEach(CellFunction::IsValidDirectedEdge | CellFunction::GetDirectedEdgeOrigin)
+        Command::ForEach(IndexFunction::IsValidDirectedEdge | IndexFunction::GetDirectedEdgeOrigin)
         | Command::GetDirectedEdgeDestinations => {
             Some("h3: reading edges from standard input, one a line\n")
         }

@@ -14,7 +14,7 @@ use Rattle.h3_command.specs.Combination.{region_answer}
 use Rattle.h3_command.specs.Files.{counts_answer, zone_answer, zone_counts}
 use Rattle.std.specs.Prelude.{Ok, None, not, count_by, ◌++◌}
 use Rattle.std.specs.List.{flat_map}
-use Rattle.h3_regions.specs.Counts.{count_outside}
+use Rattle.h3_regions.specs.Counting.{count_outside}
 
 -- no valid cell is finer than resolution 15
 pub fine : (cells : List Address) → All IsCell cells → finest cells ≤ 15

@@ -2,30 +2,31 @@
 use Rattle.std.proofs.Common.{◌≡◌, ℕ, ◌^◌, ◌⊎◌, Bool, true, false, not, is_some, List, Option, None, Some, Result, Ok, Err, IsTrue, [], ◌++◌, sym, ap, ◌∙◌, subst, refl, inl, inr, arith}
 use Rattle.std.specs.Result.{is_ok}
 use Rattle.h3_index.specs.Cell.{Address}
-use Rattle.h3_index.specs.Stream.{HasLeft}
+use Rattle.h3_streams.specs.Stream.{HasLeft}
 use Rattle.h3_index.specs.declared.error.H3Error.{H3Error}
-use Rattle.h3_lattice.specs.Fields.{records_of}
-use Rattle.h3_lattice.specs.Links.{Links}
-use Rattle.h3_lattice.specs.Table.{RefusesTable, links_of, table_fault}
+use Rattle.h3_table.specs.Fields.{records_of}
+use Rattle.h3_table.specs.Links.{Links}
+use Rattle.h3_table.specs.Table.{RefusesTable, links_of, table_fault}
 use Rattle.h3_directions.specs.declared.error.TableError.{TableError}
 use Rattle.h3_directions.specs.declared.error.TableError.TheVariants as in_table
 use Rattle.h3_lines.specs.Answer.{Answer, answer_or_error}
 use Rattle.h3_lines.specs.EachLine.{EndsEach, answer_at, list_answer}
-use Rattle.h3_lines.specs.List.{RefusesList, listed_cells}
-use Rattle.h3_lines.specs.Numbered.{RefusesAt, faulty_line}
-use Rattle.h3_lines.specs.Reads.{IsListWithinReads, IsWithinReads, StopsAtFault}
-use Rattle.h3_lines.specs.Refusal.{ending_of, table_refusal}
-use Rattle.h3_lines.specs.declared.refusal.AnswerError.{AnswerError}
-use Rattle.h3_lines.specs.declared.refusal.AnswerError.TheVariants.{Call, At, Table}
-use Rattle.h3_lines.specs.declared.refusal.CellFile.{CellFile}
-use Rattle.h3_lines.specs.declared.refusal.Fault.TheVariants.{Memory, Read, Write}
-use Rattle.h3_lines.specs.declared.refusal.Refusal.{Refusal}
-use Rattle.h3_lines.specs.declared.refusal.Refusal.TheVariants.{Error, Fault}
-use Rattle.h3_lines.specs.Writing.{IsLeft, Reports, SinkUse, Writes}
+use Rattle.h3_lines.specs.List.{listed_cells}
+use Rattle.h3_lines.specs.Numbered.{faulty_line}
+use Rattle.h3_lines.specs.ListRead.{ListRead, ListRefused, RefusesByError, RefusesByLine}
+use Rattle.h3_lines.specs.Reads.{IsReadToEnd, IsWithinReads, NoReadFails, SourceUse, StopsAtFault, StopsWithin}
+use Rattle.h3_lines.specs.RunError.{ending_of, table_refusal}
+use Rattle.h3_lines.specs.declared.run_error.AnswerError.{AnswerError}
+use Rattle.h3_lines.specs.declared.run_error.AnswerError.TheVariants.{Call, At, Table}
+use Rattle.h3_lines.specs.declared.run_error.CellFile.{CellFile}
+use Rattle.h3_lines.specs.declared.run_error.Fault.TheVariants.{Memory, Read, Write}
+use Rattle.h3_lines.specs.declared.run_error.RunError.{RunError}
+use Rattle.h3_lines.specs.declared.run_error.RunError.TheVariants.{Error, Fault}
+use Rattle.h3_lines.specs.Write.{IsLeft, Reports, SinkUse, Writes}
 use Rattle.h3_command.specs.Answer.{Request, about_list, about_numbered_list, about_rows, about_table, answer_or_error_at, with_table, unless_faulty}
 use Rattle.h3_command.specs.Files.{file_cells, unless_refused}
 use Rattle.h3_command.specs.Answer.Request.{of_file_and_lines, of_file_and_list, of_lines, of_list, of_numbered_list, of_table, of_table_and_lines, plain}
-use Rattle.h3_command.specs.Run.{Answers, Ends, EndsLines, EndsList, EndsNumberedList, Gives, GivesTable, IsReadSoFar, IsReadToEnd, IsReadWhole, NoReadFails, ReadFails, RefusesFile, RefusesInput, RefusesTableFile, Runs, RunsOutOfMemory, SourceUse, StopsWithin, Streams, WritesOfNumberedList, WritesOfRows, WritesReading}
+use Rattle.h3_command.specs.Run.{Answers, Ends, EndsLines, EndsList, EndsNumberedList, Gives, IsReadSoFar, IsReadWhole, ReadFails, RefusesFile, RefusesInput, RefusesTableFile, Runs, RunsOutOfMemory, Streams, WritesOfList, WritesOfNumberedList, WritesOfRows, WritesReading}
 use Rattle.h3_rows.specs.EndsRows.{EndsRows}
 use Rattle.h3_rows.specs.RowCells.{RefusesRows}
 use Rattle.h3_rows.specs.EndsRows.{answer_at as rows_at}
@@ -37,7 +38,7 @@ use Rattle.std.specs.Io.KnownBytes.{Consumes}
 use Rattle.h3_command.proofs.Written.{nothing, writes_refused}
 
 -- an answer to what was read is written, and no read failed
-reading_written : (a : Answer) (bytes : List ℕ) (was_read : Type 0) (source : SourceUse) (ending : Result (Unit {0}) Refusal) (out : SinkUse) → was_read → NoReadFails source → Writes a ending out
+reading_written : (a : Answer) (bytes : List ℕ) (was_read : Type 0) (source : SourceUse) (ending : Result (Unit {0}) RunError) (out : SinkUse) → was_read → NoReadFails source → Writes a ending out
     → WritesReading a bytes was_read source ending out
 unfolding Writes
 reading_written a bytes was_read source (Ok u) out all sound writes = (all, sound, writes)
@@ -49,7 +50,7 @@ reading_written a bytes was_read source (Err (Fault Write)) out all sound writes
 -- ---- a list
 
 -- a list whose cells are answered is read to its end
-read_whole : (a : Answer) (list : List ℕ) (cells : List Address) (input : SourceUse) (ending : Result (Unit {0}) Refusal) (out : SinkUse) → listed_cells list ≡ Ok cells → Writes a ending out → IsReadToEnd input
+read_whole : (a : Answer) (list : List ℕ) (cells : List Address) (input : SourceUse) (ending : Result (Unit {0}) RunError) (out : SinkUse) → listed_cells list ≡ Ok cells → Writes a ending out → IsReadToEnd input
     → IsReadSoFar (listed_cells list) input ending
 unfolding Writes
 read_whole a list cells input (Ok u) out is writes whole = subst (λ l. IsReadSoFar l input (Ok u)) (sym is) whole
@@ -64,29 +65,31 @@ read_in_part (Ok cells) input stops = inr stops
 read_in_part (Err e) input stops = stops
 
 -- the list is refused
-pub list_refused : (about : List Address → Answer) (list : List ℕ) (input : SourceUse) (e : Refusal) (out : SinkUse) → RefusesList (ReadFails input list) (listed_cells list) e
-    → ((e ≡ Fault Read → ⊥) → (e ≡ Fault Memory → ⊥) → IsListWithinReads (2 ^ 40) 65536 list) → ((e ≡ Fault Read → ⊥) → NoReadFails input) → StopsWithin 65536 input → (e ≡ Fault Read → StopsWithin 0 input) → IsLeft out
-    → WritesReading (answer_or_error about (listed_cells list)) list (IsListWithinReads (2 ^ 40) 65536 list) input (Err e) out × IsReadSoFar (listed_cells list) input (Err e)
-list_refused about list input (Error d) out (error, is, call) within sound stops faults left = (
-  (
-    within (λ never. cc never) (λ never. cc never),
-    sound (λ never. cc never),
-    subst (λ c. Writes (answer_or_error about (listed_cells list)) (Err (Error c)) out) (sym call)
-        (subst (λ cells. Writes (answer_or_error about cells) (Err (Error (Call error))) out) (sym is) (writes_refused error out left)),
-  ),
-  subst (λ l. IsReadSoFar l input (Err (Error d))) (sym is) stops,
-)
-list_refused about list input (Fault Memory) out is within sound stops faults left = ((sound (λ never. cc never), left), read_in_part (listed_cells list) input stops)
-list_refused about list input (Fault Read) out fails within sound stops faults left = ((fails, left), faults refl)
-list_refused about list input (Fault Write) out never within sound stops faults left = absurd never
+pub list_refused : (about : List Address → Answer) (input : SourceUse) (e : RunError) (out : SinkUse) → ListRefused RefusesByError (2 ^ 40) 65536 input e → IsLeft out → WritesOfList about input (Err e) out
+list_refused about input (Error d) out told left =
+    let (error, is, call) = told.refused in (
+      told.list,
+      told.held,
+      (
+        told.within (λ never. cc never) (λ never. cc never),
+        told.sound (λ never. cc never),
+        subst (λ c. Writes (answer_or_error about (listed_cells told.list)) (Err (Error c)) out) (sym call)
+            (subst (λ cells. Writes (answer_or_error about cells) (Err (Error (Call error))) out) (sym is) (writes_refused error out left)),
+      ),
+      subst (λ l. IsReadSoFar l input (Err (Error d))) (sym is) told.stops,
+    )
+list_refused about input (Fault Memory) out told left = (told.list, told.held, (told.sound (λ never. cc never), left), read_in_part (listed_cells told.list) input told.stops)
+list_refused about input (Fault Read) out told left = (told.list, told.held, (told.refused, left), told.faults refl)
+list_refused about input (Fault Write) out told left = absurd told.refused
 
 -- the list is read, and the answer about its cells is written
-pub list_written : (about : List Address → Answer) (list : List ℕ) (cells : List Address) (input : SourceUse) (ending : Result (Unit {0}) Refusal) (out : SinkUse) → listed_cells list ≡ Ok cells
-    → IsWithinReads (2 ^ 40) 65536 list → NoReadFails input → IsReadToEnd input → Writes (about cells) ending out
-    → WritesReading (answer_or_error about (listed_cells list)) list (IsListWithinReads (2 ^ 40) 65536 list) input ending out × IsReadSoFar (listed_cells list) input ending
-list_written about list cells input ending out is short sound whole writes = (
-  reading_written _ list _ input ending out (inl short) sound (subst (λ read. Writes (answer_or_error about read) ending out) (sym is) writes),
-  read_whole _ list cells input ending out is writes whole,
+pub list_written : (about : List Address → Answer) (cells : List Address) (input : SourceUse) (ending : Result (Unit {0}) RunError) (out : SinkUse) → ListRead (2 ^ 40) 65536 input cells → Writes (about cells) ending out
+    → WritesOfList about input ending out
+list_written about cells input ending out told writes = (
+  told.list,
+  told.held,
+  reading_written _ told.list _ input ending out (inl told.within) told.sound (subst (λ read. Writes (answer_or_error about read) ending out) (sym told.is) writes),
+  read_whole _ told.list cells input ending out told.is writes told.whole,
 )
 
 -- ---- a list whose faulty line is told with its number
@@ -97,21 +100,22 @@ unfolding Writes
 error_written e out left = (refl, (nothing _ _ left.0, left.1))
 
 -- the list is refused
-pub numbered_refused : (about : List Address → Answer) (list : List ℕ) (input : SourceUse) (e : Refusal) (out : SinkUse) → RefusesAt (ReadFails input list) (listed_cells list) (faulty_line list) e
-    → ((e ≡ Fault Read → ⊥) → (e ≡ Fault Memory → ⊥) → IsListWithinReads (2 ^ 40) 65536 list) → ((e ≡ Fault Read → ⊥) → NoReadFails input) → StopsWithin 65536 input → (e ≡ Fault Read → StopsWithin 0 input) → IsLeft out
-    → WritesReading (about_numbered_list None about list) list (IsListWithinReads (2 ^ 40) 65536 list) input (Err e) out × IsReadSoFar (listed_cells list) input (Err e)
-numbered_refused about list input (Error d) out (error, is, at) within sound stops faults left = (
-  (
-    within (λ never. cc never) (λ never. cc never),
-    sound (λ never. cc never),
-    subst (λ c. Writes (about_numbered_list None about list) (Err (Error c)) out) (sym at)
-        (subst (λ cells. Writes (answer_or_error_at (faulty_line list) about cells) (Err (Error (At (faulty_line list) error))) out) (sym is) (error_written (At (faulty_line list) error) out left)),
-  ),
-  subst (λ l. IsReadSoFar l input (Err (Error d))) (sym is) stops,
-)
-numbered_refused about list input (Fault Memory) out is within sound stops faults left = ((sound (λ never. cc never), left), read_in_part (listed_cells list) input stops)
-numbered_refused about list input (Fault Read) out fails within sound stops faults left = ((fails, left), faults refl)
-numbered_refused about list input (Fault Write) out never within sound stops faults left = absurd never
+pub numbered_refused : (about : List Address → Answer) (input : SourceUse) (e : RunError) (out : SinkUse) → ListRefused RefusesByLine (2 ^ 40) 65536 input e → IsLeft out → WritesOfNumberedList about input (Err e) out
+numbered_refused about input (Error d) out told left =
+    let (error, is, at) = told.refused in (
+      told.list,
+      told.held,
+      (
+        told.within (λ never. cc never) (λ never. cc never),
+        told.sound (λ never. cc never),
+        subst (λ c. Writes (about_numbered_list None about told.list) (Err (Error c)) out) (sym at)
+            (subst (λ cells. Writes (answer_or_error_at (faulty_line told.list) about cells) (Err (Error (At (faulty_line told.list) error))) out) (sym is) (error_written (At (faulty_line told.list) error) out left)),
+      ),
+      subst (λ l. IsReadSoFar l input (Err (Error d))) (sym is) told.stops,
+    )
+numbered_refused about input (Fault Memory) out told left = (told.list, told.held, (told.sound (λ never. cc never), left), read_in_part (listed_cells told.list) input told.stops)
+numbered_refused about input (Fault Read) out told left = (told.list, told.held, (told.refused, left), told.faults refl)
+numbered_refused about input (Fault Write) out told left = absurd told.refused
 
 -- there are some bytes left
 some_left : (left : Option (List ℕ)) → (bytes : List ℕ) × HasLeft left bytes
@@ -130,12 +134,13 @@ numbered_unread about input out sound alone left =
     (bytes, held, (sound, left), read_in_part (listed_cells bytes) input (λ list known. (list, alone ∙ known, unread list)))
 
 -- the list is read, and the answer about its cells is written
-pub numbered_written : (about : List Address → Answer) (list : List ℕ) (cells : List Address) (input : SourceUse) (ending : Result (Unit {0}) Refusal) (out : SinkUse) → listed_cells list ≡ Ok cells
-    → IsWithinReads (2 ^ 40) 65536 list → NoReadFails input → IsReadToEnd input → Writes (about cells) ending out
-    → WritesReading (about_numbered_list None about list) list (IsListWithinReads (2 ^ 40) 65536 list) input ending out × IsReadSoFar (listed_cells list) input ending
-numbered_written about list cells input ending out is short sound whole writes = (
-  reading_written _ list _ input ending out (inl short) sound (subst (λ read. Writes (answer_or_error_at (faulty_line list) about read) ending out) (sym is) writes),
-  read_whole _ list cells input ending out is writes whole,
+pub numbered_written : (about : List Address → Answer) (cells : List Address) (input : SourceUse) (ending : Result (Unit {0}) RunError) (out : SinkUse) → ListRead (2 ^ 40) 65536 input cells → Writes (about cells) ending out
+    → WritesOfNumberedList about input ending out
+numbered_written about cells input ending out told writes = (
+  told.list,
+  told.held,
+  reading_written _ told.list _ input ending out (inl told.within) told.sound (subst (λ read. Writes (answer_or_error_at (faulty_line told.list) about read) ending out) (sym told.is) writes),
+  read_whole _ told.list cells input ending out told.is writes told.whole,
 )
 
 -- there is no memory before any of the rows is read
@@ -190,7 +195,7 @@ table_read (in_table.Reversal b d) table whole = whole (λ never. cc never) (λ 
 table_read (in_table.Corner b d) table whole = whole (λ never. cc never) (λ never. cc never)
 
 -- whatever comes after it was read
-whole_anyway : (table : SourceUse) (ending : Result (Unit {0}) Refusal) → IsReadToEnd table → IsReadWhole table ending
+whole_anyway : (table : SourceUse) (ending : Result (Unit {0}) RunError) → IsReadToEnd table → IsReadWhole table ending
 whole_anyway table (Ok u) whole = whole
 whole_anyway table (Err (Error e)) whole = whole
 whole_anyway table (Err (Fault Write)) whole = whole
@@ -206,7 +211,7 @@ table_refused_so about read value e input table out is (file, held, refuses, all
     subst (λ c. Ends (with_table about c) input table (Err (table_refusal e)) out) is (file, held, table_refuses _ _ e file table out refuses _ all sound left, table_read e table whole)
 
 -- the table is read, and the answer about its links is written
-pub table_answered : {A : Type 0} (about : A → Links → Answer) (read : Result A H3Error) (value : A) (links : Links) (ending : Result (Unit {0}) Refusal) (input table : SourceUse) (out : SinkUse) → Ok value ≡ read
+pub table_answered : {A : Type 0} (about : A → Links → Answer) (read : Result A H3Error) (value : A) (links : Links) (ending : Result (Unit {0}) RunError) (input table : SourceUse) (out : SinkUse) → Ok value ≡ read
     → (file : List ℕ) → HasLeft table.left file → IsWithinReads (2 ^ 40) 4096 file → table_fault (records_of file) ≡ None → links ≡ links_of (records_of file) → NoReadFails table → IsReadToEnd table → Writes (about value links) ending out
     → Ends (with_table about read) input table ending out
 table_answered about read value links ending input table out is file held short none same sound whole writes =
@@ -230,7 +235,7 @@ table_file_refused (in_table.Corner b d) bytes table is all sound whole = (in_ta
 -- ---- a run
 
 -- an answer that was written, where no write failed, is given
-gives_written : (a : Answer) (ending : Result (Unit {0}) Refusal) (status : ℕ) (s : Streams) → Writes a ending s.out → s.out.has_failed ≡ false → Reports ending status s.err → Gives a status s
+gives_written : (a : Answer) (ending : Result (Unit {0}) RunError) (status : ℕ) (s : Streams) → Writes a ending s.out → s.out.has_failed ≡ false → Reports ending status s.err → Gives a status s
 unfolding Writes
 gives_written a (Ok u) status s writes w reports = record { output = writes.1; report = subst (λ e. Reports (ending_of e) status s.err) (sym writes.0) reports }
 gives_written a (Err (Error e)) status s writes w reports = record { output = writes.1; report = subst (λ e. Reports (ending_of e) status s.err) (sym writes.0) reports }
@@ -239,7 +244,7 @@ gives_written a (Err (Fault Read)) status s never w reports = absurd never
 gives_written a (Err (Fault Write)) status s writes w reports = let failed : s.out.has_failed ≡ true = writes.1.1 in cc
 
 -- the same of an answer to what was read
-gives_reading : (a : Answer) (bytes : List ℕ) (was_read : Type 0) (source : SourceUse) (ending : Result (Unit {0}) Refusal) (status : ℕ) (s : Streams) → WritesReading a bytes was_read source ending s.out
+gives_reading : (a : Answer) (bytes : List ℕ) (was_read : Type 0) (source : SourceUse) (ending : Result (Unit {0}) RunError) (status : ℕ) (s : Streams) → WritesReading a bytes was_read source ending s.out
     → (ReadFails source bytes → ⊥) → s.out.has_failed ≡ false → Reports ending status s.err → Gives a status s ⊎ RunsOutOfMemory status s
 gives_reading a bytes was_read source (Ok u) status s writes r w reports = inl (gives_written a (Ok u) status s writes.2 w reports)
 gives_reading a bytes was_read source (Err (Error e)) status s writes r w reports = inl (gives_written a (Err (Error e)) status s writes.2 w reports)
@@ -248,7 +253,7 @@ gives_reading a bytes was_read source (Err (Fault Read)) status s writes r w rep
 gives_reading a bytes was_read source (Err (Fault Write)) status s writes r w reports = inl (gives_written a (Err (Fault Write)) status s writes.2 w reports)
 
 -- the same of a list whose lines are answered
-gives_each : (about : Option ℕ → Answer) (ending : Result (Unit {0}) Refusal) (status : ℕ) (s : Streams) → EndsEach about s.input.left s.input.left_after s.input.had_failed s.input.has_failed ending s.out → Reports ending status s.err
+gives_each : (about : Option ℕ → Answer) (ending : Result (Unit {0}) RunError) (status : ℕ) (s : Streams) → EndsEach about s.input.left s.input.left_after s.input.had_failed s.input.has_failed ending s.out → Reports ending status s.err
     → (list : List ℕ) × HasLeft s.input.left list × ((ReadFails s.input list → ⊥) → s.out.has_failed ≡ false → Gives (list_answer about list) status s ⊎ RunsOutOfMemory status s)
 gives_each about (Ok u) status s (sound, all) reports = (all.list, all.held, λ r w. inl (gives_written (list_answer about all.list) (Ok u) status s all.writes w reports))
 gives_each about (Err (Error e)) status s (sound, at, stop, writes) reports =
@@ -260,7 +265,7 @@ gives_each about (Err (Fault Memory)) status s (sound, kept, left) reports =
     (list, held, λ r w. inr (record { output = left; report = reports }))
 
 -- the same of a list whose rows are answered
-gives_rows : (form : Form) (about : Option ℕ → Answer) (ending : Result (Unit {0}) Refusal) (status : ℕ) (s : Streams)
+gives_rows : (form : Form) (about : Option ℕ → Answer) (ending : Result (Unit {0}) RunError) (status : ℕ) (s : Streams)
     → EndsRows form.quotes (rows_answer form about) (begun_answer form about) s.input.left s.input.left_after s.input.had_failed s.input.has_failed ending s.out → Reports ending status s.err
     → (list : List ℕ) × HasLeft s.input.left list × ((ReadFails s.input list → ⊥) → s.out.has_failed ≡ false → Gives (row_answers form about list) status s ⊎ RunsOutOfMemory status s)
 gives_rows form about (Ok u) status s (sound, all) reports = (all.list, all.held, λ r w. inl (gives_written (row_answers form about all.list) (Ok u) status s all.writes w reports))
@@ -275,13 +280,13 @@ gives_rows form about (Err (Fault Memory)) status s (sound, kept, left) reports 
     (list, held, λ r w. inr (record { output = left; report = reports }))
 
 -- the same of either
-gives_lines : (form : Option Form) (about : Option ℕ → Answer) (ending : Result (Unit {0}) Refusal) (status : ℕ) (s : Streams) → EndsLines form about s.input ending s.out → Reports ending status s.err
+gives_lines : (form : Option Form) (about : Option ℕ → Answer) (ending : Result (Unit {0}) RunError) (status : ℕ) (s : Streams) → EndsLines form about s.input ending s.out → Reports ending status s.err
     → (list : List ℕ) × HasLeft s.input.left list × ((ReadFails s.input list → ⊥) → s.out.has_failed ≡ false → Gives (listed_answer form about list) status s ⊎ RunsOutOfMemory status s)
 gives_lines None about ending status s ends reports = gives_each about ending status s ends reports
 gives_lines (Some form) about ending status s ends reports = gives_rows form about ending status s ends reports
 
 -- the cells of rows are refused, or not read to their end
-gives_refused_rows : (form : Form) (about : List Address → Answer) (ending : Result (Unit {0}) Refusal) (status : ℕ) (s : Streams) → RefusesInput form s.input ending → IsLeft s.out → Reports ending status s.err
+gives_refused_rows : (form : Form) (about : List Address → Answer) (ending : Result (Unit {0}) RunError) (status : ℕ) (s : Streams) → RefusesInput form s.input ending → IsLeft s.out → Reports ending status s.err
     → (list : List ℕ) × HasLeft s.input.left list × ((ReadFails s.input list → ⊥) → Gives (about_rows form about list) status s ⊎ RunsOutOfMemory status s)
 gives_refused_rows form about (Ok u) status s never left reports = absurd never
 gives_refused_rows form about (Err (Error e)) status s (sound, inl all) left reports =
@@ -293,7 +298,7 @@ gives_refused_rows form about (Err (Fault Read)) status s (stop, fails) left rep
 gives_refused_rows form about (Err (Fault Write)) status s never left reports = absurd never
 
 -- the same of rows about whose cells is answered
-gives_cells : (form : Form) (about : List Address → Answer) (ending : Result (Unit {0}) Refusal) (status : ℕ) (s : Streams) → WritesOfRows form about s.input ending s.out → Reports ending status s.err
+gives_cells : (form : Form) (about : List Address → Answer) (ending : Result (Unit {0}) RunError) (status : ℕ) (s : Streams) → WritesOfRows form about s.input ending s.out → Reports ending status s.err
     → (list : List ℕ) × HasLeft s.input.left list × ((ReadFails s.input list → ⊥) → s.out.has_failed ≡ false → Gives (about_rows form about list) status s ⊎ RunsOutOfMemory status s)
 gives_cells form about ending status s (inl (cells, (sound, all), inr (is, left))) reports =
     (all.list, all.held, λ r w. inr (record { output = left; report = subst (λ e. Reports e status s.err) is reports }))
@@ -304,13 +309,13 @@ gives_cells form about ending status s (inr (refuses, left)) reports =
     (list, held, λ r w. given r)
 
 -- the same of a list about whose cells is answered, bare or of rows
-gives_list : (form : Option Form) (about : List Address → Answer) (ending : Result (Unit {0}) Refusal) (status : ℕ) (s : Streams) → EndsList form about s.input ending s.out → Reports ending status s.err
+gives_list : (form : Option Form) (about : List Address → Answer) (ending : Result (Unit {0}) RunError) (status : ℕ) (s : Streams) → EndsList form about s.input ending s.out → Reports ending status s.err
     → (list : List ℕ) × HasLeft s.input.left list × ((ReadFails s.input list → ⊥) → s.out.has_failed ≡ false → Gives (about_list form about list) status s ⊎ RunsOutOfMemory status s)
 gives_list None about ending status s (list, held, writes, so_far) reports = (list, held, λ r w. gives_reading _ list _ s.input ending status s writes r w reports)
 gives_list (Some form) about ending status s ends reports = gives_cells form about ending status s ends reports
 
 -- the same, where the error of a faulty line is told with its number
-gives_numbered_list : (form : Option Form) (about : List Address → Answer) (ending : Result (Unit {0}) Refusal) (status : ℕ) (s : Streams) → EndsNumberedList form about s.input ending s.out → Reports ending status s.err
+gives_numbered_list : (form : Option Form) (about : List Address → Answer) (ending : Result (Unit {0}) RunError) (status : ℕ) (s : Streams) → EndsNumberedList form about s.input ending s.out → Reports ending status s.err
     → (list : List ℕ) × HasLeft s.input.left list × ((ReadFails s.input list → ⊥) → s.out.has_failed ≡ false → Gives (about_numbered_list form about list) status s ⊎ RunsOutOfMemory status s)
 gives_numbered_list None about ending status s (list, held, writes, so_far) reports = (list, held, λ r w. gives_reading _ list _ s.input ending status s writes r w reports)
 gives_numbered_list (Some form) about ending status s ends reports = gives_cells form about ending status s ends reports
@@ -320,7 +325,7 @@ with_memory memory takes (inl a) = inl a
 with_memory memory takes (inr b) = inr (takes, b)
 
 -- a file that is refused, or not read to its end
-gives_refused : (f : CellFile) (about : List Address → Answer) (bytes : List ℕ) (ending : Result (Unit {0}) Refusal) (status : ℕ) (s : Streams) → RefusesFile f bytes s.table ending → IsLeft s.out → (ReadFails s.table bytes → ⊥) → Reports ending status s.err
+gives_refused : (f : CellFile) (about : List Address → Answer) (bytes : List ℕ) (ending : Result (Unit {0}) RunError) (status : ℕ) (s : Streams) → RefusesFile f bytes s.table ending → IsLeft s.out → (ReadFails s.table bytes → ⊥) → Reports ending status s.err
     → Gives (unless_refused about (file_cells f bytes)) status s ⊎ RunsOutOfMemory status s
 gives_refused f about bytes (Ok u) status s never left r reports = absurd never
 gives_refused f about bytes (Err (Error e)) status s (is, sound, told) left r reports = inl (subst (λ c. Gives (unless_refused about c) status s) (sym is) (record { output = (nothing _ _ left.0, left.1); report = reports }))
@@ -332,7 +337,7 @@ gives_refused f about bytes (Err (Fault Write)) status s never left r reports = 
 read_after : (f : CellFile) (bytes : List ℕ) (cells : List Address) → file_cells f bytes ≡ Ok cells → IsTrue (is_ok (file_cells f bytes))
 read_after f bytes cells is = ap is_ok is
 
-list_answers : (f : CellFile) (form : Option Form) (about : List Address → List Address → Answer) (ending : Result (Unit {0}) Refusal) (status : ℕ) (s : Streams) → Ends (of_file_and_list f form about) s.input s.table ending s.out → Reports ending status s.err
+list_answers : (f : CellFile) (form : Option Form) (about : List Address → List Address → Answer) (ending : Result (Unit {0}) RunError) (status : ℕ) (s : Streams) → Ends (of_file_and_list f form about) s.input s.table ending s.out → Reports ending status s.err
     → Answers (of_file_and_list f form about) status s
 list_answers f form about ending status s (bytes, held, inr (refuses, alone, left)) reports =
     let (list, known) = some_left s.input.left in
@@ -354,7 +359,7 @@ list_answers f form about ending status s (bytes, held, inl (cells, gives, ends)
           (with_memory true refl (given (none.list_read (read_after f bytes cells gives.is)) none.answer_written));
     }
 
-lines_answers : (f : CellFile) (form : Option Form) (about : List Address → Option ℕ → Answer) (ending : Result (Unit {0}) Refusal) (status : ℕ) (s : Streams) → Ends (of_file_and_lines f form about) s.input s.table ending s.out → Reports ending status s.err
+lines_answers : (f : CellFile) (form : Option Form) (about : List Address → Option ℕ → Answer) (ending : Result (Unit {0}) RunError) (status : ℕ) (s : Streams) → Ends (of_file_and_lines f form about) s.input s.table ending s.out → Reports ending status s.err
     → Answers (of_file_and_lines f form about) status s
 lines_answers f form about ending status s (bytes, held, inr (refuses, alone, left)) reports =
     let (list, known) = some_left s.input.left in
@@ -377,7 +382,7 @@ lines_answers f form about ending status s (bytes, held, inl (cells, gives, ends
     }
 
 -- a table that is refused, or not read to its end
-gives_refused_table : (about : Links → Answer) (bytes : List ℕ) (ending : Result (Unit {0}) Refusal) (status : ℕ) (s : Streams) → RefusesTableFile bytes s.table ending → IsLeft s.out → (ReadFails s.table bytes → ⊥) → Reports ending status s.err
+gives_refused_table : (about : Links → Answer) (bytes : List ℕ) (ending : Result (Unit {0}) RunError) (status : ℕ) (s : Streams) → RefusesTableFile bytes s.table ending → IsLeft s.out → (ReadFails s.table bytes → ⊥) → Reports ending status s.err
     → Gives (about_table about bytes) status s ⊎ RunsOutOfMemory status s
 gives_refused_table about bytes (Ok u) status s never left r reports = absurd never
 gives_refused_table about bytes (Err (Error e)) status s (fault, is, same, within, sound, whole) left r reports =
@@ -390,7 +395,7 @@ gives_refused_table about bytes (Err (Fault Write)) status s never left r report
 read_after_table : (bytes : List ℕ) → table_fault (records_of bytes) ≡ None → IsTrue (not (is_some (table_fault (records_of bytes))))
 read_after_table bytes is = ap (λ f. not (is_some f)) is
 
-table_answers : (form : Option Form) (about : Links → Option ℕ → Answer) (ending : Result (Unit {0}) Refusal) (status : ℕ) (s : Streams) → Ends (of_table_and_lines form about) s.input s.table ending s.out → Reports ending status s.err
+table_answers : (form : Option Form) (about : Links → Option ℕ → Answer) (ending : Result (Unit {0}) RunError) (status : ℕ) (s : Streams) → Ends (of_table_and_lines form about) s.input s.table ending s.out → Reports ending status s.err
     → Answers (of_table_and_lines form about) status s
 table_answers form about ending status s (bytes, held, inr (refuses, alone, left)) reports =
     let (list, known) = some_left s.input.left in
@@ -413,7 +418,7 @@ table_answers form about ending status s (bytes, held, inl (link, gives, ends)) 
           (with_memory true refl (given (none.list_read (read_after_table bytes gives.accepted)) none.answer_written)));
     }
 
-answers : (r : Request) (ending : Result (Unit {0}) Refusal) (status : ℕ) (s : Streams) → Ends r s.input s.table ending s.out → Reports ending status s.err → Answers r status s
+answers : (r : Request) (ending : Result (Unit {0}) RunError) (status : ℕ) (s : Streams) → Ends r s.input s.table ending s.out → Reports ending status s.err → Answers r status s
 answers (plain a) ending status s writes reports =
     let (list, held) = some_left s.input.left in
     let (file, kept) = some_left s.table.left in
@@ -444,6 +449,6 @@ answers (of_file_and_lines f form about) ending status s ends reports = lines_an
 answers (of_table_and_lines form about) ending status s ends reports = table_answers form about ending status s ends reports
 
 -- a run ends so, and reports it
-pub runs_so : (r : Request) (ending : Result (Unit {0}) Refusal) (status : ℕ) (s : Streams) → Ends r s.input s.table ending s.out → Reports ending status s.err → Runs r status s
-runs_so r ending status s ends reports =
+pub run_meets_contract : (r : Request) (ending : Result (Unit {0}) RunError) (status : ℕ) (s : Streams) → Ends r s.input s.table ending s.out → Reports ending status s.err → Runs r status s
+run_meets_contract r ending status s ends reports =
     record { answers = answers r ending status s ends reports; ending = ending; ends = ends; reports = reports }

@@ -1,29 +1,35 @@
 -- How a file of cells is read.
-use Rattle.std.proofs.Common.{◌≡◌, ℕ, ◌^◌, List, Ok, Err, ap, sym, refl, subst}
+use Rattle.std.proofs.Common.{◌≡◌, ◌^◌, List, None, Some, Err, ap, sym, ◌∙◌, refl, subst}
 use Rattle.h3_index.specs.Cell.{Address}
-use Rattle.h3_lines.specs.List.{listed_cells}
-use Rattle.h3_lines.specs.Numbered.{RefusesAt, faulty_line}
-use Rattle.h3_lines.specs.Reads.{IsListWithinReads, IsWithinReads}
-use Rattle.h3_lines.specs.declared.refusal.CellFile.{CellFile}
-use Rattle.h3_lines.specs.declared.refusal.CellFile.TheVariants.{Region}
-use Rattle.h3_lines.specs.declared.refusal.Fault.TheVariants.{Memory, Read, Write}
-use Rattle.h3_lines.specs.declared.refusal.Refusal.{Refusal}
-use Rattle.h3_lines.specs.declared.refusal.Refusal.TheVariants.{Error, Fault}
-use Rattle.h3_command.specs.Combination.{told_of}
-use Rattle.h3_command.specs.Files.{judged_cells}
-use Rattle.h3_command.specs.Run.{GivesFile, IsReadToEnd, NoReadFails, ReadFails, RefusesFile, SourceUse, StopsWithin}
+use Rattle.h3_index.specs.declared.error.H3Error.{H3Error}
+use Rattle.h3_lines.specs.Numbered.{faulty_line}
+use Rattle.h3_lines.specs.ListRead.{ListRead, ListRefused, RefusesByLine}
+use Rattle.h3_lines.specs.Reads.{SourceUse}
+use Rattle.h3_lines.specs.declared.run_error.AnswerError.TheVariants.{File}
+use Rattle.h3_lines.specs.declared.run_error.CellFile.{CellFile}
+use Rattle.h3_lines.specs.declared.run_error.CellFile.TheVariants.{Region, Zones}
+use Rattle.h3_lines.specs.declared.run_error.Fault.TheVariants.{Memory, Read, Write}
+use Rattle.h3_lines.specs.declared.run_error.RunError.{RunError}
+use Rattle.h3_lines.specs.declared.run_error.RunError.TheVariants.{Error, Fault}
+use Rattle.h3_regions.specs.Zones.{IsZones}
+use Rattle.h3_command.specs.Combination.{AreArranged, in_file}
+use Rattle.h3_command.specs.Files.{file_error, judged_cells, unless_error}
+use Rattle.h3_command.specs.Run.{GivesFile, RefusesFile}
 
-pub region_given : (bytes : List ℕ) (cells : List Address) (file : SourceUse) → listed_cells bytes ≡ Ok cells → IsWithinReads (2 ^ 40) 65536 bytes → NoReadFails file → IsReadToEnd file → GivesFile Region bytes file cells
-region_given bytes cells file is within sound whole = record { is = ap (judged_cells Region (faulty_line bytes)) is; within = within; sound = sound; whole = whole }
-
-pub file_refused : (kind : CellFile) (bytes : List ℕ) (file : SourceUse) (e : Refusal) → RefusesAt (ReadFails file bytes) (listed_cells bytes) (faulty_line bytes) e
-    → ((e ≡ Fault Read → ⊥) → (e ≡ Fault Memory → ⊥) → IsListWithinReads (2 ^ 40) 65536 bytes) → ((e ≡ Fault Read → ⊥) → NoReadFails file) → StopsWithin 65536 file → (e ≡ Fault Read → StopsWithin 0 file) → RefusesFile kind bytes file (Err (told_of kind e))
-file_refused kind bytes file (Error d) (error, is, at) within sound stops faults =
-    subst (λ c. RefusesFile kind bytes file (Err (told_of kind (Error c)))) (sym at) (
-      ap (judged_cells kind (faulty_line bytes)) is,
-      sound (λ never. cc never),
-      (within (λ never. cc never) (λ never. cc never), stops),
+-- one with a faulty line, or that is not read to its end
+pub file_refused : (kind : CellFile) (file : SourceUse) (e : RunError) (told : ListRefused RefusesByLine (2 ^ 40) 65536 file e) → RefusesFile kind told.list file (Err (in_file kind e))
+file_refused kind file (Error d) told =
+    let (error, is, at) = told.refused in
+    subst (λ c. RefusesFile kind told.list file (Err (in_file kind (Error c)))) (sym at) (
+      ap (judged_cells kind (faulty_line told.list)) is,
+      told.sound (λ never. cc never),
+      (told.within (λ never. cc never) (λ never. cc never), told.stops),
     )
-file_refused kind bytes file (Fault Memory) any within sound stops faults = (sound (λ never. cc never), stops)
-file_refused kind bytes file (Fault Read) fails within sound stops faults = (fails, faults refl)
-file_refused kind bytes file (Fault Write) never within sound stops faults = absurd never
+file_refused kind file (Fault Memory) told = (told.sound (λ never. cc never), told.stops)
+file_refused kind file (Fault Read) told = (told.refused, told.faults refl)
+file_refused kind file (Fault Write) told = absurd told.refused
+
+-- zones are arranged as such
+pub arranged_zones : (kind : CellFile) (listed cells : List Address) → AreArranged kind listed cells → kind ≡ Zones → IsZones cells
+arranged_zones Region listed cells arranged is = cc is
+arranged_zones Zones listed cells (same, zones) is = zones

@@ -12,7 +12,7 @@ use Rattle.h3_index.specs.Digits.{last_digits}
 use Rattle.h3_index.specs.Edge.{DirectedEdge, edge_number}
 use Rattle.h3_index.specs.Text.{text_of, without_leading_zeros}
 use Rattle.h3_index.specs.declared.error.H3Error.{H3Error}
-use Rattle.h3_lattice.specs.Links.{Links}
+use Rattle.h3_table.specs.Links.{Links}
 use Rattle.h3_functions.specs.Edges.{are_neighbor_cells, cells_to_directed_edge, get_directed_edge_destination, origin_to_directed_edges, pair_of}
 use Rattle.h3_functions.specs.Hierarchy.{cell_to_children}
 use Rattle.h3_functions.specs.Inspection.{for_value}
@@ -23,7 +23,7 @@ use Rattle.h3_functions.specs.declared.outcome.Outcome.{Outcome}
 use Rattle.h3_functions.specs.declared.outcome.Outcome.TheVariants.{Cell, Count, Edges, Number, Truth}
 use Rattle.h3_lines.specs.Answer.{Answer, answer_or_error, cell_line, cell_lines, edge_line, edge_lines, number_line, printed, ring_line, ring_line_by, truth_line, walked, zone_line, zone_text}
 use Rattle.h3_requests.specs.Rows.{is_separator}
-use Rattle.h3_requests.specs.declared.command.CellFunction.{CellFunction}
+use Rattle.h3_requests.specs.declared.command.IndexFunction.{IndexFunction}
 use Rattle.h3_requests.specs.declared.command.Command.TheVariants as command
 use Rattle.h3_rows.specs.Laws.{FieldsAreKept, PairsAreKept}
 use Rattle.h3_rows.specs.Row.{Piece, cut, inside_after, is_uncut, turned, with_first}
@@ -33,7 +33,7 @@ use Rattle.h3_command.specs.Files.{cell_to_zone, is_covered_cell}
 use Rattle.h3_command.specs.Given.{cell_given, edge_given, index_given}
 use Rattle.h3_command.specs.LongAnswers.{between_parts, whole_walk}
 use Rattle.h3_command.specs.NewColumns.{AnswersAreWords, AnswersBy, AreAnswerLines, AreLinesOf, IsPairOfWords, IsWord, RowsStandOnce, WordPairsAreKept, WordPairsAreUncut, WordsAreFields, WordsAreKept, is_lower_or_digit, is_plain}
-use Rattle.h3_command.specs.OverTable.{destination_of}
+use Rattle.h3_command.specs.TableLists.{destination_of}
 
 -- ---- words
 
@@ -138,7 +138,7 @@ shown_lines (Count count) = printed_lines IsWord number_line count number_lines
 shown_lines (Cell cell) = printed_lines IsWord cell_line cell line_of_cell
 shown_lines (Edges index) = printed_lines IsWord edge_lines (origin_to_directed_edges index) lines_of_edges
 
-lines_for : (function : CellFunction) (index : Option ℕ) → AreAnswerLines IsWord (answer_for function index)
+lines_for : (function : IndexFunction) (index : Option ℕ) → AreAnswerLines IsWord (answer_for function index)
 lines_for function index = answer_lines IsWord (λ h. shown (outcome_of function h)) (index_given index) (λ h. shown_lines (outcome_of function h))
 
 -- what is asked of a value and a table alone is no list

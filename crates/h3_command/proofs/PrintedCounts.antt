@@ -2,7 +2,7 @@
 use Rattle.std.proofs.Common.{◌≡◌, ◌+◌, ℕ, List, [], ◌∷◌, ◌++◌, None, map, sum, ap, refl, ◌∙◌}
 use Rattle.std.proofs.lemmas.List.Sums.{sum_by_push}
 use Rattle.h3_index.specs.Cell.{Address}
-use Rattle.h3_regions.specs.Counts.{count_in, count_outside}
+use Rattle.h3_regions.specs.Counting.{count_in, count_outside}
 use Rattle.h3_regions.specs.Laws.{CountsAddUp}
 use Rattle.h3_regions.specs.Zones.{by_number}
 use Rattle.h3_command.specs.Files.{CountsPrintedAddUp, zone_counts}

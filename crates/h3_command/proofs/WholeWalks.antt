@@ -8,7 +8,7 @@ use Rattle.h3_functions.specs.Hierarchy.{unless}
 use Rattle.h3_functions.specs.Inspection.{for_value}
 use Rattle.h3_functions.specs.Walks.{without_ring}
 use Rattle.h3_command.specs.LongAnswers.{whole_walk}
-use Rattle.h3_command.specs.LongLines.{good}
+use Rattle.h3_command.specs.Long.{good}
 
 -- a walk that begins
 pub walk_begun : {A : Type 0} (error : ℤ → Option H3Error) (items : ℤ → List (Result A H3Error)) (k read : ℤ) (left : List (Result A H3Error)) → read ≡ k → None ≡ error read → left ≡ items read → whole_walk (unless (error k) (items k)) ≡ whole_items left

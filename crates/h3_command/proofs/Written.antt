@@ -5,10 +5,10 @@ use Rattle.std.specs.Iterator.{AlwaysYields, YieldsFirst}
 use Rattle.std.proofs.lemmas.Iterator.Consumers.{YieldsList-from_first}
 use Rattle.h3_index.specs.declared.error.H3Error.{H3Error}
 use Rattle.h3_lines.specs.Answer.{Answer, answer_or_error, refused, walked}
-use Rattle.h3_lines.specs.Writing.{IsLeft, SinkUse, Writes}
-use Rattle.h3_lines.specs.declared.refusal.AnswerError.TheVariants.{Call}
-use Rattle.h3_lines.specs.declared.refusal.Refusal.{Refusal}
-use Rattle.h3_lines.specs.declared.refusal.Refusal.TheVariants.{Error}
+use Rattle.h3_lines.specs.Write.{IsLeft, SinkUse, Writes}
+use Rattle.h3_lines.specs.declared.run_error.AnswerError.TheVariants.{Call}
+use Rattle.h3_lines.specs.declared.run_error.RunError.{RunError}
+use Rattle.h3_lines.specs.declared.run_error.RunError.TheVariants.{Error}
 use Rattle.h3_functions.specs.Hierarchy.{unless}
 use Rattle.h3_functions.specs.Items.{Lists}
 
@@ -33,7 +33,7 @@ pub answered_unless : {A : Type 0} (about : A → Answer) (error : Option H3Erro
 answered_unless about error value e out is left = answered_refused about (unless error value) e out (ap (λ d. unless d value) (sym is)) left
 
 -- the value is there
-pub answered_value : {A : Type 0} (about : A → Answer) (error : Option H3Error) (value given : A) (ending : Result (Unit {0}) Refusal) (out : SinkUse) → given ≡ value → None ≡ error → Writes (about given) ending out
+pub answered_value : {A : Type 0} (about : A → Answer) (error : Option H3Error) (value given : A) (ending : Result (Unit {0}) RunError) (out : SinkUse) → given ≡ value → None ≡ error → Writes (about given) ending out
     → Writes (answer_or_error about (unless error value)) ending out
 answered_value about error value given ending out same fits writes =
     subst (λ a. Writes a ending out) (ap about same ∙ ap (λ e. answer_or_error about (unless e value)) fits) writes
@@ -47,7 +47,7 @@ answered_error about steps (Err d) all e out same is left = answered_refused abo
 -- ---- a walk
 
 -- the walk begins, and what it has left is written
-pub walk_written : {S A : Type 0} (line : A → List ℕ) (rest : S → List (Result A H3Error)) (error : ℤ → Option H3Error) (items : ℤ → List (Result A H3Error)) {s : S} (k read : ℤ) (ending : Result (Unit {0}) Refusal) (out : SinkUse)
+pub walk_written : {S A : Type 0} (line : A → List ℕ) (rest : S → List (Result A H3Error)) (error : ℤ → Option H3Error) (items : ℤ → List (Result A H3Error)) {s : S} (k read : ℤ) (ending : Result (Unit {0}) RunError) (out : SinkUse)
     → read ≡ k → None ≡ error read → rest s ≡ items read → ((all : List (Result A H3Error)) → AlwaysYields (YieldsFirst rest) (λ x. x) s all → Writes (walked line all) ending out)
     → Writes (answer_or_error (walked line) (unless (error k) (items k))) ending out
 walk_written line rest error items k read ending out same fits left writes =

@@ -3,16 +3,16 @@ use Rattle.std.specs.Prelude.{ℕ, Bool, true, false, not, List, [], is_some, Op
 use Rattle.std.specs.Result.{is_ok}
 use Rattle.h3_index.specs.Cell.{Address}
 use Rattle.h3_index.specs.declared.error.H3Error.{H3Error}
-use Rattle.h3_lattice.specs.Fields.{records_of}
-use Rattle.h3_lattice.specs.Links.{Links}
-use Rattle.h3_lattice.specs.Table.{links_of, table_fault}
+use Rattle.h3_table.specs.Fields.{records_of}
+use Rattle.h3_table.specs.Links.{Links}
+use Rattle.h3_table.specs.Table.{links_of, table_fault}
 use Rattle.h3_directions.specs.declared.error.TableError.{TableError}
 use Rattle.h3_lines.specs.Answer.{Answer, answer_or_error, cell_line, cell_lines, edge_line, edge_lines, number_line, printed, refused, ring_line, table_refused, truth_line, walked, written}
 use Rattle.h3_lines.specs.List.{listed_cells}
 use Rattle.h3_lines.specs.Numbered.{faulty_line}
-use Rattle.h3_lines.specs.declared.refusal.AnswerError.TheVariants.{At}
-use Rattle.h3_lines.specs.declared.refusal.CellFile.{CellFile}
-use Rattle.h3_lines.specs.declared.refusal.CellFile.TheVariants.{Region, Zones}
+use Rattle.h3_lines.specs.declared.run_error.AnswerError.TheVariants.{At}
+use Rattle.h3_lines.specs.declared.run_error.CellFile.{CellFile}
+use Rattle.h3_lines.specs.declared.run_error.CellFile.TheVariants.{Region, Zones}
 use Rattle.h3_functions.specs.Edges.{are_neighbor_cells, cells_to_directed_edge, get_directed_edge_destination, origin_to_directed_edges, pair_of}
 use Rattle.h3_functions.specs.Hierarchy.{cell_to_children, child_pos_to_cell}
 use Rattle.h3_functions.specs.Inspection.{for_value}
@@ -26,9 +26,9 @@ use Rattle.h3_set.specs.Compacted.{compacted}
 use Rattle.h3_command.specs.Files.{counts_answer, covered_answer, file_cells, left_answer, shared_answer, unless_refused, zone_answer}
 use Rattle.h3_command.specs.Given.{cell_given, edge_given, index_given}
 use Rattle.h3_command.specs.LongAnswers.{between_parts, children_for, disk_distances_for, disk_for, ring_for}
-use Rattle.h3_command.specs.OverTable.{destination_answer}
-use Rattle.h3_requests.specs.declared.command.CellFunction.{CellFunction}
-use Rattle.h3_requests.specs.declared.command.CellFunction.TheVariants as each
+use Rattle.h3_command.specs.TableLists.{destination_answer}
+use Rattle.h3_requests.specs.declared.command.IndexFunction.{IndexFunction}
+use Rattle.h3_requests.specs.declared.command.IndexFunction.TheVariants as each
 use Rattle.h3_requests.specs.declared.command.Command.{Command}
 use Rattle.h3_requests.specs.declared.command.Command.TheVariants as command
 use Rattle.h3_requests.specs.declared.rows.RowOptions.{RowOptions}
@@ -66,7 +66,7 @@ shown (Cell cell) = printed cell_line cell
 shown (Edges index) = printed edge_lines (origin_to_directed_edges index)
 
 -- answer_for function word: what the command of a function of one index answers, or `Failed` where the word has no index
-abbrev pub answer_for : CellFunction → Option ℕ → Answer
+abbrev pub answer_for : IndexFunction → Option ℕ → Answer
 answer_for function word = answer_or_error (λ h. shown (outcome_of function h)) (index_given word)
 
 -- request_of rows command: what a command reads and writes, of which the list has rows, or bare lines: an answer that its words

@@ -7,21 +7,21 @@ use Rattle.h3_index.specs.EdgeNumber.{directed_edge_in, edge_in}
 use Rattle.h3_index.specs.Text.{parsed_index, text_of}
 use Rattle.h3_index.specs.declared.error.H3Error.TheVariants.{CellInvalid, DirEdgeInvalid, Failed, NotNeighbors, Pentagon, ResMismatch}
 use Rattle.h3_lattice.specs.Digits.{cell_of}
-use Rattle.h3_lattice.specs.Fields.{records_of}
-use Rattle.h3_lattice.specs.Links.{Links}
-use Rattle.h3_lattice.specs.Table.{table_fault}
-use Rattle.h3_lattice.specs.Vectors.{test_link}
-use Rattle.h3_lattice.specs.declared.vectors.TestTable.TheVariants.{Plain}
+use Rattle.h3_table.specs.Fields.{records_of}
+use Rattle.h3_table.specs.Links.{Links}
+use Rattle.h3_table.specs.Table.{table_fault}
+use Rattle.h3_table.specs.Vectors.{test_link}
+use Rattle.h3_table.specs.declared.vectors.TestTable.TheVariants.{Plain}
 use Rattle.h3_directions.specs.declared.error.TableError.TheVariants as fault
 use Rattle.h3_grid.specs.DirectedEdges.{edge_between, edge_destination, edges_from}
 use Rattle.h3_grid.specs.Neighbors.{are_neighbors, neighbor, pair_refusal}
 use Rattle.h3_grid.specs.Search.{candidates, digit_lists, found_sum, step_of}
 use Rattle.h3_lines.specs.Answer.{refused, table_refused, written}
 use Rattle.h3_lines.specs.EachLine.{list_answer}
-use Rattle.h3_lines.specs.declared.refusal.AnswerError.TheVariants.{At}
+use Rattle.h3_lines.specs.declared.run_error.AnswerError.TheVariants.{At}
 use Rattle.h3_command.specs.Answer.{answer, request}
 use Rattle.h3_command.specs.Answer.Request.{plain}
-use Rattle.h3_command.specs.OverTable.{destination_answer}
+use Rattle.h3_command.specs.TableLists.{destination_answer}
 use Rattle.h3_functions.specs.Edges.{are_neighbor_cells, cells_to_directed_edge}
 use Rattle.h3_requests.specs.declared.command.Command.TheVariants.{AreNeighborCells, CellsToDirectedEdge, GetDirectedEdgeDestination, GetDirectedEdgeDestinations, GetDirectedEdgeOrigin, IsValidDirectedEdge, OriginToDirectedEdges}
 

@@ -7,21 +7,21 @@ use Rattle.h3_index.specs.Descendants.{descendants}
 use Rattle.h3_index.specs.Paths.{paths}
 use Rattle.h3_index.specs.Text.{parsed_index, text_of}
 use Rattle.h3_index.specs.declared.error.H3Error.TheVariants.{CellInvalid, Domain, Failed, Pentagon}
-use Rattle.h3_lattice.specs.Fields.{records_of}
-use Rattle.h3_lattice.specs.Table.{table_fault}
-use Rattle.h3_lattice.specs.Vectors.{test_link}
+use Rattle.h3_table.specs.Fields.{records_of}
+use Rattle.h3_table.specs.Table.{table_fault}
+use Rattle.h3_table.specs.Vectors.{test_link}
 use Rattle.h3_directions.specs.declared.error.TableError.TheVariants as fault
-use Rattle.h3_lattice.specs.declared.vectors.TestTable.TheVariants.{Plain}
+use Rattle.h3_table.specs.declared.vectors.TestTable.TheVariants.{Plain}
 use Rattle.h3_grid.specs.Moves.{moves, ring_moves}
 use Rattle.h3_grid.specs.Search.{candidates, digit_lists, found_sum, step_of}
 use Rattle.h3_grid.specs.Walks.{disk, followed}
 use Rattle.h3_set.specs.Compacted.{compacted}
-use Rattle.h3_lines.specs.declared.refusal.AnswerError.TheVariants.{At}
+use Rattle.h3_lines.specs.declared.run_error.AnswerError.TheVariants.{At}
 use Rattle.h3_lines.specs.Answer.{answer_or_error, before, cell_line, refused, table_refused, walked, written}
 use Rattle.h3_command.specs.Answer.{answer, request}
 use Rattle.h3_command.specs.Answer.Request.{plain}
 use Rattle.h3_functions.specs.Walks.{grid_disk_unsafe}
-use Rattle.h3_requests.specs.declared.command.CellFunction.TheVariants as each
+use Rattle.h3_requests.specs.declared.command.IndexFunction.TheVariants as each
 use Rattle.h3_requests.specs.declared.command.Command.TheVariants.{CellToParent, ForEach, GridDiskUnsafe, IsValidCell, UniteCells}
 
 -- ---- answers

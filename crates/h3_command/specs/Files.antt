@@ -7,16 +7,16 @@ use Rattle.h3_set.specs.Compacted.{compacted}
 use Rattle.h3_set.specs.Coverage.{is_covered, IsApart}
 use Rattle.h3_set.specs.Refusals.{compaction_refusal}
 use Rattle.h3_regions.specs.Algebra.{difference, intersection}
-use Rattle.h3_regions.specs.Counts.{count_in, count_outside}
+use Rattle.h3_regions.specs.Counting.{count_in, count_outside}
 use Rattle.h3_regions.specs.Zones.{by_number, zone_of}
 use Rattle.h3_functions.specs.Inspection.{for_value}
 use Rattle.h3_lines.specs.Answer.{Answer, cell_lines, count_line, printed, truth_line, written, zone_line}
 use Rattle.h3_lines.specs.List.{listed_cells}
 use Rattle.h3_lines.specs.Numbered.{faulty_line}
-use Rattle.h3_lines.specs.declared.refusal.AnswerError.{AnswerError}
-use Rattle.h3_lines.specs.declared.refusal.AnswerError.TheVariants.{File, FileAt}
-use Rattle.h3_lines.specs.declared.refusal.CellFile.{CellFile}
-use Rattle.h3_lines.specs.declared.refusal.CellFile.TheVariants.{Region, Zones}
+use Rattle.h3_lines.specs.declared.run_error.AnswerError.{AnswerError}
+use Rattle.h3_lines.specs.declared.run_error.AnswerError.TheVariants.{File, FileAt}
+use Rattle.h3_lines.specs.declared.run_error.CellFile.{CellFile}
+use Rattle.h3_lines.specs.declared.run_error.CellFile.TheVariants.{Region, Zones}
 use Rattle.h3_command.specs.Given.{cell_given}
 
 -- ---- how a file is judged

@@ -4,7 +4,7 @@
 use Rattle.std.specs.Prelude.{ℕ, ℤ, List, Option, None, Some, Result, Ok, Err}
 use Rattle.std.specs.List.{flat_map}
 use Rattle.h3_index.specs.declared.error.H3Error.{H3Error}
-use Rattle.h3_lattice.specs.Links.{Links}
+use Rattle.h3_table.specs.Links.{Links}
 use Rattle.h3_lines.specs.Answer.{Answer, cell_lines, printed, ring_line_by, whole_items}
 use Rattle.h3_functions.specs.Hierarchy.{cell_to_children}
 use Rattle.h3_functions.specs.Inspection.{for_value}

@@ -8,8 +8,8 @@ use Rattle.h3_index.specs.Descendants.{descendants}
 use Rattle.h3_index.specs.Paths.{paths}
 use Rattle.h3_index.specs.Text.{text_of}
 use Rattle.h3_index.specs.declared.error.H3Error.TheVariants.{Domain, Failed, Pentagon, ResDomain}
-use Rattle.h3_lattice.specs.Vectors.{test_link}
-use Rattle.h3_lattice.specs.declared.vectors.TestTable.TheVariants.{Plain}
+use Rattle.h3_table.specs.Vectors.{test_link}
+use Rattle.h3_table.specs.declared.vectors.TestTable.TheVariants.{Plain}
 use Rattle.h3_lines.specs.Answer.{refused, ring_line_by, whole_items, written}
 use Rattle.h3_command.specs.LongAnswers.{children_for, disk_for, whole_walk}
 

@@ -3,15 +3,15 @@
 use Rattle.std.specs.Prelude.{ℕ, List, [], Option, None, Some, codes, option_map}
 use Rattle.h3_lines.specs.Answer.{Answer}
 use Rattle.h3_lines.specs.EachLine.{list_answer}
-use Rattle.h3_requests.specs.declared.command.CellFunction.{CellFunction}
-use Rattle.h3_requests.specs.declared.command.CellFunction.TheVariants as each
+use Rattle.h3_requests.specs.declared.command.IndexFunction.{IndexFunction}
+use Rattle.h3_requests.specs.declared.command.IndexFunction.TheVariants as each
 use Rattle.h3_requests.specs.declared.rows.RowOptions.{RowOptions}
 use Rattle.h3_rows.specs.RowForm.{form_of, pair_form_of}
 use Rattle.h3_rows.specs.RowsAnswer.{Form}
 use Rattle.h3_rows.specs.RowsAnswer.{list_answer as row_answers}
 
 -- function_name function: the name of H3's function, which the new column of rows has in a header
-abbrev pub function_name : CellFunction → List ℕ
+abbrev pub function_name : IndexFunction → List ℕ
 function_name each.IsValidCell = codes "isValidCell"
 function_name each.IsValidDirectedEdge = codes "isValidDirectedEdge"
 function_name each.GetResolution = codes "getResolution"

@@ -1,24 +1,24 @@
 -- What a run does with its streams.
-use Rattle.std.specs.Prelude.{◌≡◌, ⊤, ℕ, ◌≤◌, ◌^◌, ◌⊎◌, Bool, true, false, List, [], length, Option, None, Some, Result, Ok, Err, IsTrue}
+use Rattle.std.specs.Prelude.{◌≡◌, ⊤, ℕ, ◌≤◌, ◌^◌, ◌⊎◌, true, false, List, length, Option, None, Some, Result, Ok, Err, IsTrue}
 use Rattle.h3_index.specs.Cell.{Address}
-use Rattle.h3_index.specs.Stream.{HasLeft}
+use Rattle.h3_streams.specs.Stream.{HasLeft}
 use Rattle.h3_index.specs.declared.error.H3Error.{H3Error}
-use Rattle.h3_lattice.specs.Fields.{records_of}
-use Rattle.h3_lattice.specs.Links.{Links}
-use Rattle.h3_lattice.specs.Table.{links_of, table_fault}
+use Rattle.h3_table.specs.Fields.{records_of}
+use Rattle.h3_table.specs.Links.{Links}
+use Rattle.h3_table.specs.Table.{links_of, table_fault}
 use Rattle.h3_directions.specs.declared.error.TableError.{TableError}
-use Rattle.h3_lines.specs.declared.refusal.AnswerError.{AnswerError}
-use Rattle.h3_lines.specs.declared.refusal.AnswerError.TheVariants.{File, Table}
-use Rattle.h3_lines.specs.declared.refusal.CellFile.{CellFile}
-use Rattle.h3_lines.specs.declared.refusal.Fault.TheVariants.{Memory, Read, Write}
-use Rattle.h3_lines.specs.declared.refusal.Refusal.{Refusal}
-use Rattle.h3_lines.specs.declared.refusal.Refusal.TheVariants.{Error, Fault}
+use Rattle.h3_lines.specs.declared.run_error.AnswerError.{AnswerError}
+use Rattle.h3_lines.specs.declared.run_error.AnswerError.TheVariants.{File, Table}
+use Rattle.h3_lines.specs.declared.run_error.CellFile.{CellFile}
+use Rattle.h3_lines.specs.declared.run_error.Fault.TheVariants.{Memory, Read, Write}
+use Rattle.h3_lines.specs.declared.run_error.RunError.{RunError}
+use Rattle.h3_lines.specs.declared.run_error.RunError.TheVariants.{Error, Fault}
 use Rattle.h3_lines.specs.Answer.{Answer}
-use Rattle.h3_lines.specs.Writing.{IsLeft, Reports, SinkUse, Takes, Writes}
+use Rattle.h3_lines.specs.Write.{IsLeft, Reports, SinkUse, Takes, Writes}
 use Rattle.h3_lines.specs.EachLine.{EndsEach}
 use Rattle.h3_lines.specs.List.{listed_cells}
-use Rattle.h3_lines.specs.Reads.{IsListWithinReads, IsWithinReads, StopsAtFault}
-use Rattle.h3_lines.specs.Refusal.{ending_of}
+use Rattle.h3_lines.specs.Reads.{IsListWithinReads, IsReadToEnd, IsWithinReads, NoReadFails, SourceUse, StopsWithin}
+use Rattle.h3_lines.specs.RunError.{ending_of}
 use Rattle.h3_rows.specs.EndsRows.{EndsRows}
 use Rattle.h3_rows.specs.RowCells.{AllRowsRead, RefusesRows}
 use Rattle.h3_rows.specs.RowsAnswer.{Form, begun_answer, rows_answer}
@@ -28,27 +28,12 @@ use Rattle.h3_command.specs.Answer.Request.{plain, of_file_and_lines, of_file_an
 
 -- ---- streams
 
--- SourceUse: what a source had left before a call and has after it, where known, and whether it had failed and has
-pub record SourceUse : Type 0 where
-  pub left : Option (List ℕ)
-  pub left_after : Option (List ℕ)
-  pub had_failed : Bool
-  pub has_failed : Bool
-
--- source_use: that use of a source, from its two states
-abbrev pub source_use : {S : Type 0} → (S → Option (List ℕ)) → (S → Bool) → S → S → SourceUse
-source_use left failed old new = record { left = left old; left_after = left new; had_failed = failed old; has_failed = failed new }
-
 -- the streams of a run
 pub record Streams : Type 1 where
   pub input : SourceUse
   pub table : SourceUse
   pub out : SinkUse
   pub err : SinkUse
-
--- NoReadFails source: no read of it failed
-abbrev pub NoReadFails : SourceUse → Type 0
-NoReadFails source = source.has_failed ≡ source.had_failed
 
 -- IsLeftAlone source: the source is left alone: all of its bytes are still left, and no call of it failed
 abbrev pub IsLeftAlone : SourceUse → Type 0
@@ -65,24 +50,15 @@ ReadFails source bytes = (source.has_failed ≡ true) ⊎ (2 ^ 40 ≤ length byt
 --
 -- The answer to these bytes of a source is written, no read fails, and `was_read` holds. Or there is no memory, or a
 -- read fails, and then nothing is written.
-abbrev pub WritesReading : Answer → List ℕ → Type 0 → SourceUse → Result (Unit {0}) Refusal → SinkUse → Type 0
+abbrev pub WritesReading : Answer → List ℕ → Type 0 → SourceUse → Result (Unit {0}) RunError → SinkUse → Type 0
 WritesReading a bytes was_read source (Err (Fault Memory)) out = NoReadFails source × IsLeft out
 WritesReading a bytes was_read source (Err (Fault Read)) out = ReadFails source bytes × IsLeft out
 WritesReading a bytes was_read source ending out = was_read × NoReadFails source × Writes a ending out
 
--- IsReadToEnd source: where the bytes left in the source were known, all of them were taken
-abbrev pub IsReadToEnd : SourceUse → Type 0
-IsReadToEnd source = (list : List ℕ) → source.left ≡ Some list → source.left_after ≡ Some []
-
--- StopsWithin n source: where the bytes left in the source were known, at most n were taken after bytes in which no line
--- is known to be faulty
-abbrev pub StopsWithin : ℕ → SourceUse → Type 0
-StopsWithin n source = (list : List ℕ) → source.left ≡ Some list → (left : List ℕ) × (source.left_after ≡ Some left) × StopsAtFault n list left
-
 -- IsReadSoFar cells source ending: how far a list is read: one that has cells to its end, but where there is no memory;
 -- one with a first error at most a page further than bytes in which no line is known to be faulty; where a read fails,
 -- no further than these
-abbrev pub IsReadSoFar : Result (List Address) H3Error → SourceUse → Result (Unit {0}) Refusal → Type 0
+abbrev pub IsReadSoFar : Result (List Address) H3Error → SourceUse → Result (Unit {0}) RunError → Type 0
 IsReadSoFar cells source (Err (Fault Read)) = StopsWithin 0 source
 IsReadSoFar (Err e) source ending = StopsWithin 65536 source
 IsReadSoFar (Ok cells) source (Err (Fault Memory)) = IsReadToEnd source ⊎ StopsWithin 65536 source
@@ -93,13 +69,13 @@ IsReadSoFar (Ok cells) source ending = IsReadToEnd source
 --
 -- there are bytes of the list, those left in the source where these are known, and the answer about the cells in them
 -- is written, and 2^40 reads can find the end of the list or a faulty line
-abbrev pub WritesOfList : (List Address → Answer) → SourceUse → Result (Unit {0}) Refusal → SinkUse → Type 0
+abbrev pub WritesOfList : (List Address → Answer) → SourceUse → Result (Unit {0}) RunError → SinkUse → Type 0
 WritesOfList about input ending out =
     (list : List ℕ) × HasLeft input.left list × WritesReading (about_list None about list) list (IsListWithinReads (2 ^ 40) 65536 list) input ending out
     × IsReadSoFar (listed_cells list) input ending
 
 -- WritesOfNumberedList about input ending out: the same, where the error of a faulty line is told with its number
-abbrev pub WritesOfNumberedList : (List Address → Answer) → SourceUse → Result (Unit {0}) Refusal → SinkUse → Type 0
+abbrev pub WritesOfNumberedList : (List Address → Answer) → SourceUse → Result (Unit {0}) RunError → SinkUse → Type 0
 WritesOfNumberedList about input ending out =
     (list : List ℕ) × HasLeft input.left list × WritesReading (about_numbered_list None about list) list (IsListWithinReads (2 ^ 40) 65536 list) input ending out
     × IsReadSoFar (listed_cells list) input ending
@@ -109,32 +85,32 @@ abbrev pub GivesRows : Form → SourceUse → List Address → Type 0
 GivesRows form input cells = NoReadFails input × AllRowsRead form (Ok cells) input.left input.left_after
 
 -- RefusesInput form input ending: the reading of the cells of rows is refused, as `RefusesRows` says
-abbrev pub RefusesInput : Form → SourceUse → Result (Unit {0}) Refusal → Type 0
+abbrev pub RefusesInput : Form → SourceUse → Result (Unit {0}) RunError → Type 0
 RefusesInput form input (Ok u) = ⊥
 RefusesInput form input (Err e) = RefusesRows form input.left input.left_after input.had_failed input.has_failed e
 
 -- WritesUnlessMemory a ending out: the answer is written; or there is no memory, and nothing is
-abbrev pub WritesUnlessMemory : Answer → Result (Unit {0}) Refusal → SinkUse → Type 0
+abbrev pub WritesUnlessMemory : Answer → Result (Unit {0}) RunError → SinkUse → Type 0
 WritesUnlessMemory a ending out = Writes a ending out ⊎ ((ending ≡ Err (Fault Memory)) × IsLeft out)
 
 -- WritesOfRows form about input ending out: the rows of a list are read, and the answer about their cells is written, or there
 -- is no memory for it; or they are refused, and nothing is written
-abbrev pub WritesOfRows : Form → (List Address → Answer) → SourceUse → Result (Unit {0}) Refusal → SinkUse → Type 0
+abbrev pub WritesOfRows : Form → (List Address → Answer) → SourceUse → Result (Unit {0}) RunError → SinkUse → Type 0
 WritesOfRows form about input ending out =
     ((cells : List Address) × GivesRows form input cells × WritesUnlessMemory (about cells) ending out) ⊎ (RefusesInput form input ending × IsLeft out)
 
 -- EndsList form about input ending out: how a command ends that answers about the cells of a list, bare or of rows in a form
-abbrev pub EndsList : Option Form → (List Address → Answer) → SourceUse → Result (Unit {0}) Refusal → SinkUse → Type 0
+abbrev pub EndsList : Option Form → (List Address → Answer) → SourceUse → Result (Unit {0}) RunError → SinkUse → Type 0
 EndsList None about input ending out = WritesOfList about input ending out
 EndsList (Some form) about input ending out = WritesOfRows form about input ending out
 
 -- EndsNumberedList form about input ending out: the same, where the error of a faulty line is told with its number
-abbrev pub EndsNumberedList : Option Form → (List Address → Answer) → SourceUse → Result (Unit {0}) Refusal → SinkUse → Type 0
+abbrev pub EndsNumberedList : Option Form → (List Address → Answer) → SourceUse → Result (Unit {0}) RunError → SinkUse → Type 0
 EndsNumberedList None about input ending out = WritesOfNumberedList about input ending out
 EndsNumberedList (Some form) about input ending out = WritesOfRows form about input ending out
 
 -- IsReadWhole source ending: the source is read to its end, but where there is no memory or a read fails
-abbrev pub IsReadWhole : SourceUse → Result (Unit {0}) Refusal → Type 0
+abbrev pub IsReadWhole : SourceUse → Result (Unit {0}) RunError → Type 0
 IsReadWhole source (Err (Fault Read)) = ⊤
 IsReadWhole source (Err (Fault Memory)) = ⊤
 IsReadWhole source ending = IsReadToEnd source
@@ -142,13 +118,13 @@ IsReadWhole source ending = IsReadToEnd source
 -- WritesOfTable about table ending out: the same of a table
 --
 -- the same of a table, of which 2^40 reads can find the end, and the answer about its links; a table is read to its end
-abbrev pub WritesOfTable : (Links → Answer) → SourceUse → Result (Unit {0}) Refusal → SinkUse → Type 0
+abbrev pub WritesOfTable : (Links → Answer) → SourceUse → Result (Unit {0}) RunError → SinkUse → Type 0
 WritesOfTable about table ending out =
     (file : List ℕ) × HasLeft table.left file × WritesReading (about_table about file) file (IsWithinReads (2 ^ 40) 4096 file) table ending out
     × IsReadWhole table ending
 
 -- EndsLines form about input ending out: how the answering of a list ends, line by line, or row by row in a form
-abbrev pub EndsLines : Option Form → (Option ℕ → Answer) → SourceUse → Result (Unit {0}) Refusal → SinkUse → Type 0
+abbrev pub EndsLines : Option Form → (Option ℕ → Answer) → SourceUse → Result (Unit {0}) RunError → SinkUse → Type 0
 EndsLines None about input ending out = EndsEach about input.left input.left_after input.had_failed input.has_failed ending out
 EndsLines (Some form) about input ending out =
     EndsRows form.quotes (rows_answer form about) (begun_answer form about) input.left input.left_after input.had_failed input.has_failed ending out
@@ -162,7 +138,7 @@ IsFileReadSoFar e bytes file = IsListWithinReads (2 ^ 40) 65536 bytes × StopsWi
 -- RefusesFile f bytes file ending: the bytes of a file of cells are refused, as a whole and then read to their end, or for
 -- a faulty line, or there is no memory, and then read at most a page further than bytes in which no line is known to be
 -- faulty; or a read fails, and they are read no further than these
-abbrev pub RefusesFile : CellFile → List ℕ → SourceUse → Result (Unit {0}) Refusal → Type 0
+abbrev pub RefusesFile : CellFile → List ℕ → SourceUse → Result (Unit {0}) RunError → Type 0
 RefusesFile f bytes file (Ok u) = ⊥
 RefusesFile f bytes file (Err (Fault Memory)) = NoReadFails file × StopsWithin 65536 file
 RefusesFile f bytes file (Err (Fault Read)) = ReadFails file bytes × StopsWithin 0 file
@@ -179,7 +155,7 @@ pub record GivesFile (f : CellFile) (bytes : List ℕ) (file : SourceUse) (cells
 -- EndsOverFile f then_ends input file ending out: there are bytes of a file of cells, those left where known, which are read
 -- first: `then_ends` says of their cells what follows; or they are refused, and standard input is left alone and nothing is
 -- written
-abbrev pub EndsOverFile : CellFile → (List Address → Type 0) → SourceUse → SourceUse → Result (Unit {0}) Refusal → SinkUse → Type 0
+abbrev pub EndsOverFile : CellFile → (List Address → Type 0) → SourceUse → SourceUse → Result (Unit {0}) RunError → SinkUse → Type 0
 EndsOverFile f then_ends input file ending out =
     (bytes : List ℕ) × HasLeft file.left bytes
     × (((cells : List Address) × GivesFile f bytes file cells × then_ends cells) ⊎ (RefusesFile f bytes file ending × IsLeftAlone input × IsLeft out))
@@ -194,7 +170,7 @@ pub record GivesTable (bytes : List ℕ) (table : SourceUse) (link : Links) : Ty
 
 -- RefusesTableFile bytes table ending: the bytes of a table are read to their end, and refused for their first fault; or there
 -- is no memory, or a read fails
-abbrev pub RefusesTableFile : List ℕ → SourceUse → Result (Unit {0}) Refusal → Type 0
+abbrev pub RefusesTableFile : List ℕ → SourceUse → Result (Unit {0}) RunError → Type 0
 RefusesTableFile bytes table (Ok u) = ⊥
 RefusesTableFile bytes table (Err (Fault Memory)) = NoReadFails table
 RefusesTableFile bytes table (Err (Fault Read)) = ReadFails table bytes
@@ -204,13 +180,13 @@ RefusesTableFile bytes table (Err (Error e)) =
 
 -- EndsOverTable then_ends input table ending out: there are bytes of a table, those left where known, which are read first:
 -- `then_ends` says of their links what follows; or they are refused, and standard input is left alone and nothing is written
-abbrev pub EndsOverTable : (Links → Type 0) → SourceUse → SourceUse → Result (Unit {0}) Refusal → SinkUse → Type 0
+abbrev pub EndsOverTable : (Links → Type 0) → SourceUse → SourceUse → Result (Unit {0}) RunError → SinkUse → Type 0
 EndsOverTable then_ends input table ending out =
     (bytes : List ℕ) × HasLeft table.left bytes
     × (((link : Links) × GivesTable bytes table link × then_ends link) ⊎ (RefusesTableFile bytes table ending × IsLeftAlone input × IsLeft out))
 
 -- Ends r input table ending out: how a run may end, by its request
-abbrev pub Ends : Request → SourceUse → SourceUse → Result (Unit {0}) Refusal → SinkUse → Type 0
+abbrev pub Ends : Request → SourceUse → SourceUse → Result (Unit {0}) RunError → SinkUse → Type 0
 Ends (plain a) input table ending out = Writes a ending out
 Ends (of_list form about) input table ending out = EndsList form about input ending out
 Ends (of_numbered_list form about) input table ending out = EndsNumberedList form about input ending out
@@ -256,6 +232,6 @@ pub record Answers (r : Request) (status : ℕ) (s : Streams) : Type 0 where
 -- what a run of this request does that returns this status: what it writes where nothing fails, and how it may end
 pub record Runs (r : Request) (status : ℕ) (s : Streams) : Type 0 where
   pub answers : Answers r status s
-  pub ending : Result (Unit {0}) Refusal
+  pub ending : Result (Unit {0}) RunError
   pub ends : Ends r s.input s.table ending s.out
   pub reports : Reports ending status s.err

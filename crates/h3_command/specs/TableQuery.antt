@@ -1,5 +1,5 @@
 -- The answer to what is asked of a base cell table. Private contracts and proofs alone cite this file.
-use Rattle.h3_lattice.specs.Links.{Links}
+use Rattle.h3_table.specs.Links.{Links}
 use Rattle.h3_lines.specs.Answer.{Answer, answer_or_error, cell_line, edge_line, printed, ring_line, truth_line, walked}
 use Rattle.h3_functions.specs.Edges.{are_neighbor_cells, cells_to_directed_edge, get_directed_edge_destination}
 use Rattle.h3_functions.specs.Walks.{grid_disk_distances_unsafe, grid_disk_unsafe, grid_ring_unsafe}

@@ -5,25 +5,27 @@ ghost use Rattle.std.specs.Prelude.{◌≡◌, ◌≤◌, codes};
 ghost use Rattle.h3_index.specs.Cell.{resolution};
 ghost use Rattle.h3_index.specs.Descendants.{descendants};
 ghost use Rattle.h3_lines.specs.Answer.{cell_lines, printed, written};
-ghost use Rattle.h3_lines.specs.Writing.{Writes, sink_use};
+ghost use Rattle.h3_lines.specs.Reads.{source_use};
+ghost use Rattle.h3_lines.specs.Write.{Writes, sink_use};
 ghost use Rattle.h3_functions.specs.Hierarchy.{cell_to_children, child_pos_to_cell};
 ghost use Rattle.h3_functions.specs.Inspection.{for_value};
 ghost use Rattle.h3_command.specs.Given.{index_given};
 ghost use Rattle.h3_command.specs.LongAnswers.{children_for};
 ghost use Rattle.h3_command.specs.Rows.{rows_form};
-ghost use Rattle.h3_command.specs.Run.{EndsLines, source_use};
+ghost use Rattle.h3_command.specs.Run.{EndsLines};
 
-use crate::given::{cell_given, index_given};
 use crate::long::ChildrenOf;
+use crate::required::{cell_given, index_given};
 use crate::rows::answer_listed_lines;
-use h3_index::{Cell, H3Error, Sink, Source};
-use h3_lines::{Refusal, write_lines, write_result};
+use h3_index::{Cell, H3Error};
+use h3_lines::{RunError, write_lines, write_result};
 use h3_requests::RowOptions;
+use h3_streams::{Sink, Source};
 use h3_tree::{resolution_below, sibling_groups_at};
 use std::alloc::Global;
 
 /// Writes the descendants of a cell at a resolution from its own to 15.
-fn write_descendants<W: Sink>(cell: Cell, r: u8, out: &mut W) -> Result<(), Refusal>
+fn write_descendants<W: Sink>(cell: Cell, r: u8, out: &mut W) -> Result<(), RunError>
     requires not_coarser { resolution cell ≤ r }
     requires at_most_fifteen { r ≤ 15 }
     ensures { Writes (written (cell_lines (descendants cell r))) result
@@ -42,7 +44,7 @@ pub(crate) fn cell_to_children<W: Sink>(
     index: Option<u64>,
     res: i32,
     out: &mut W,
-) -> Result<(), Refusal>
+) -> Result<(), RunError>
     ensures { Writes (printed cell_lines (for_value (λ h. cell_to_children h res) (index_given index)))
         result (sink_use W.taken W.has_failed out.old out.new) }
 {
@@ -71,7 +73,7 @@ pub(crate) fn cells_to_children<R: Source, W: Sink>(
     rows: &Option<RowOptions>,
     input: &mut R,
     out: &mut W,
-) -> Result<(), Refusal>
+) -> Result<(), RunError>
     ensures { EndsLines (rows_form rows.now (codes "cellToChildren"))
         (children_for res) (source_use R.left R.has_failed input.old input.new) result
         (sink_use W.taken W.has_failed out.old out.new) }

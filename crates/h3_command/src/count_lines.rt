@@ -3,7 +3,7 @@
 ghost use Rattle.std.specs.Prelude.{◌≡◌, ◌≤◌, ◌++◌, ◌∷◌, [], List, None, length};
 ghost use Rattle.std.specs.Iterator.{YieldsFirst, item_count};
 ghost use Rattle.h3_index.specs.Cell.{Address};
-ghost use Rattle.h3_regions.specs.Counts.{AreCounts, count_outside};
+ghost use Rattle.h3_regions.specs.Counting.{AreCounts, count_outside};
 ghost use Rattle.h3_regions.specs.Zones.{IsZones, by_number};
 
 use h3_index::Cell;

@@ -1,25 +1,26 @@
-//! How many cells of a list lie in each zone of a file.
+//! How many cells of a list lie in each of zones.
 
 ghost use Rattle.std.proofs.Common.{◌∙◌, refl};
 ghost use Rattle.std.specs.Prelude.{◌≡◌, ◌+◌, List, length, sum};
 ghost use Rattle.h3_index.specs.Cell.{Address};
-ghost use Rattle.h3_regions.specs.Counts.{AreCounts};
+ghost use Rattle.h3_regions.specs.Counting.{AreCounts};
 ghost use Rattle.h3_regions.specs.Zones.{IsZones};
-ghost use Rattle.h3_lines.specs.Writing.{Writes, sink_use};
-ghost use Rattle.h3_lines.specs.declared.refusal.CellFile.TheVariants as kind_of_file;
+ghost use Rattle.h3_lines.specs.Reads.{source_use};
+ghost use Rattle.h3_lines.specs.Write.{Writes, sink_use};
 ghost use Rattle.h3_command.specs.Files.{counts_answer};
 ghost use Rattle.h3_command.specs.Rows.{list_form};
-ghost use Rattle.h3_command.specs.Run.{EndsNumberedList, EndsOverFile, source_use};
-ghost use Rattle.h3_command.specs.Tallying.{CountsMore, counts_none, counts_then};
+ghost use Rattle.h3_command.specs.Run.{EndsNumberedList};
+ghost use Rattle.h3_command.specs.Counts.{CountsMore, counts_none, counts_then};
 
 use crate::count_lines::CountLines;
-use crate::files::{look_ahead, read_zones};
+use crate::files::look_ahead;
 use crate::listed::take_listed;
-use h3_index::{Cell, Sink, Source};
-use h3_lines::{CellTaker, Fault, Hints, Refusal, write_lines};
+use h3_index::Cell;
+use h3_lines::{CellTaker, Fault, Hints, RunError, write_lines};
 use h3_regions::laws::zones_are_lawful;
 use h3_regions::{Zones, count_next};
 use h3_requests::RowOptions;
+use h3_streams::{Sink, Source};
 use std::alloc::Global;
 
 /// How many of the cells taken so far lie in each zone, and how many in none.
@@ -40,7 +41,7 @@ impl<'z> CellTaker for Tally<'z> {
         CountsMore t.zones t.counts.items t.others cells u.counts.items u.others };
 
     #[inline(always)]
-    fn take(&mut self, cell: Cell, after: &[u8]) -> Result<(), Refusal> {
+    fn take(&mut self, cell: Cell, after: &[u8]) -> Result<(), RunError> {
         look_ahead(
             &self.zones,
             cell.raw(),
@@ -73,7 +74,7 @@ fn write_counts<W: Sink>(
     counts: &[u64],
     others: u64,
     out: &mut W,
-) -> Result<(), Refusal>
+) -> Result<(), RunError>
     requires { length counts.now ≡ length zones.now }
     ensures { (cells : List Address) → AreCounts zones.now cells counts.now others
         → Writes (counts_answer zones.now cells) result
@@ -84,20 +85,20 @@ fn write_counts<W: Sink>(
 
 /// Writes how many of the cells listed on the input, or of those of its rows, lie in each of zones in
 /// order, and how many in none.
-fn answer_counts<R: Source, W: Sink>(
+pub(crate) fn answer_counts<R: Source, W: Sink>(
     alloc: Global,
     rows: &Option<RowOptions>,
     zones: &[Cell],
     input: &mut R,
     out: &mut W,
-) -> Result<(), Refusal>
+) -> Result<(), RunError>
     requires { IsZones zones.now }
     ensures { EndsNumberedList (list_form rows.now) (counts_answer zones.now)
         (source_use R.left R.has_failed input.old input.new) result
         (sink_use W.taken W.has_failed out.old out.new) }
 {
     zones_are_lawful();
-    let counts = vec![in alloc; 0u64; zones.len()].map_err(|_| Refusal::Fault(Fault::Memory))?;
+    let counts = vec![in alloc; 0u64; zones.len()].map_err(|_| RunError::Fault(Fault::Memory))?;
     let tally = Tally {
         zones: Zones::over(zones),
         counts,
@@ -107,26 +108,4 @@ fn answer_counts<R: Source, W: Sink>(
     };
     let tally = take_listed(alloc, tally, rows, input)?;
     write_counts(&Zones::over(zones), &tally.counts, tally.others, out)
-}
-
-/// Writes how many of the cells listed on the input, or of those of its rows, lie in each zone of a
-/// file, and how many in none.
-pub(crate) fn count_cells_in_zones<R: Source, T: Source, W: Sink>(
-    alloc: Global,
-    rows: &Option<RowOptions>,
-    input: &mut R,
-    file: &mut T,
-    out: &mut W,
-) -> Result<(), Refusal>
-    ensures { EndsOverFile kind_of_file.Zones
-        (λ zones. EndsNumberedList (list_form rows.now) (counts_answer zones)
-        (source_use R.left R.has_failed input.old input.new) result
-        (sink_use W.taken W.has_failed out.old out.new))
-        (source_use R.left R.has_failed input.old input.new)
-        (source_use T.left T.has_failed file.old file.new) result
-        (sink_use W.taken W.has_failed out.old out.new) }
-{
-    zones_are_lawful();
-    let zones = read_zones(alloc, file)?;
-    answer_counts(alloc, rows, &zones, input, out)
 }

@@ -10,7 +10,7 @@ ghost use Rattle.h3_command.specs.Answer.{request, with_table};
 ghost use Rattle.h3_command.specs.TableQuery.{table_answer};
 ghost use Rattle.h3_requests.specs.declared.command.Command.TheVariants.{AreNeighborCells, CellsToDirectedEdge, GetDirectedEdgeDestination};
 
-use crate::given::{cell_given, edge_given};
+use crate::required::{cell_given, edge_given};
 use crate::table_query::TableQuery;
 use h3_index::H3Error;
 

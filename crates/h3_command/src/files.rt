@@ -1,38 +1,40 @@
-//! The commands over a file of cells: that of a region, or of zones. The file is read and judged as a
-//! whole before standard input is read.
+//! Files of cells, that of a region or of zones, and what is answered over the cells of one.
 //!
 //! For a file of either kind: its first faulty line is `AnswerError::FileAt`, zones of which two
 //! overlap are `AnswerError::File` with `DuplicateInput`, and `Fault::Read` and `Fault::Memory` are
-//! as of `read_numbered_cells`. Then come the errors of standard input.
+//! as of `read_numbered_cells`.
 
-ghost use Rattle.std.specs.Prelude.{◌≡◌, ◌<◌, ◌↔◌, ℕ, List, length, All, None, Err, IfOk, IfErr, IfSome, IsPermutation, codes};
-ghost use Rattle.h3_index.specs.Cell.{Address, IsCell};
-ghost use Rattle.h3_index.specs.Stream.{HasLeft};
+ghost use Rattle.std.specs.Prelude.{◌≡◌, ◌<◌, ◌↔◌, ℕ, List, length, None, Err, IfOk, IfErr, IfSome, IsPermutation, OnOk, codes};
+ghost use Rattle.std.specs.Result.{result_err};
+ghost use Rattle.h3_index.specs.Cell.{Address};
+ghost use Rattle.h3_streams.specs.Stream.{HasLeft};
 ghost use Rattle.h3_set.specs.Compacted.{compacted};
 ghost use Rattle.h3_set.specs.Coverage.{IsCovered};
 ghost use Rattle.h3_regions.specs.Algebra.{difference, intersection};
+ghost use Rattle.h3_regions.specs.Region.{IsRegion};
 ghost use Rattle.h3_regions.specs.Zones.{IsZones};
-ghost use Rattle.h3_lines.specs.Writing.{sink_use};
-ghost use Rattle.h3_lines.specs.declared.refusal.CellFile.TheVariants as kind_of_file;
-ghost use Rattle.h3_lines.specs.declared.refusal.Fault.TheVariants.{Memory};
-ghost use Rattle.h3_lines.specs.declared.refusal.Refusal.TheVariants as refusal;
-ghost use Rattle.h3_command.specs.Combination.{combined, combined_answer, error_of_file, region_answer, told_of};
-ghost use Rattle.h3_command.specs.Files.{cell_to_zone, covered_answer, is_covered_cell, zone_answer};
-ghost use Rattle.h3_command.specs.Rows.{list_form, rows_form};
-ghost use Rattle.h3_command.specs.Run.{EndsLines, EndsNumberedList, EndsOverFile, GivesFile, RefusesFile, source_use};
+ghost use Rattle.h3_lines.specs.Answer.{cell_lines, written};
+ghost use Rattle.h3_lines.specs.Reads.{source_use};
+ghost use Rattle.h3_lines.specs.Write.{Writes, sink_use};
+ghost use Rattle.h3_lines.specs.declared.run_error.Fault.TheVariants.{Memory};
+ghost use Rattle.h3_lines.specs.declared.run_error.RunError.TheVariants as refusal;
+ghost use Rattle.h3_command.specs.Combination.{AreArranged, combined, combined_answer, error_of_file, region_answer, in_file};
+ghost use Rattle.h3_command.specs.Files.{cell_to_zone, covered_answer, file_error, is_covered_cell, zone_answer};
+ghost use Rattle.h3_command.specs.Rows.{rows_form};
+ghost use Rattle.h3_command.specs.Run.{EndsLines, GivesFile, RefusesFile};
 
-use crate::given::cell_given;
-use crate::listed::read_numbered;
+use crate::listed::ListFunction;
+use crate::required::cell_given;
 use crate::rows::answer_listed;
-use crate::sets::write_united;
-use h3_index::{Cell, H3Error, Sink, Source};
+use h3_index::{Cell, H3Error};
 use h3_lines::{
-    AnswerError, BLOCK, CellFile, Fault, Hints, IndexFunction, Refusal, indexes_ahead, put_result,
-    read_numbered_cells,
+    AnswerError, AnswerLine, BLOCK, CellFile, Fault, Hints, RunError, indexes_ahead, put_result,
+    read_numbered_cells, write_lines,
 };
 use h3_regions::laws::{coverages_decide_combinations, zones_are_lawful};
-use h3_regions::{AHEAD, Region, Zones, intersect, order_zones, subtract};
+use h3_regions::{AHEAD, Region, Zones, intersect, order_by_number, order_zones, subtract};
 use h3_requests::RowOptions;
+use h3_streams::{Sink, Source};
 use std::alloc::Global;
 
 /// The error of a list, as that of a file.
@@ -46,48 +48,49 @@ fn error_of_file(file: CellFile, error: AnswerError) -> AnswerError
 }
 
 /// The refusal of a list, told as that of a file.
-fn told_of(file: CellFile, refusal: Refusal) -> Refusal
-    ensures { result ≡ told_of file refusal }
+fn in_file(file: CellFile, refusal: RunError) -> RunError
+    ensures { result ≡ in_file file refusal }
 {
     match refusal {
-        Refusal::Error(error) => Refusal::Error(error_of_file(file, error)),
+        RunError::Error(error) => RunError::Error(error_of_file(file, error)),
         fault => fault,
     }
 }
 
-/// Reads the file of a region.
-fn read_region<T: Source>(alloc: Global, file: &mut T) -> Result<Vec<Cell>, Refusal>
-    ensures cells { IfOk result (λ cells. (bytes : List ℕ) × HasLeft (T.left file.old) bytes ×
-        GivesFile kind_of_file.Region bytes (source_use T.left T.has_failed file.old file.new) cells.items) }
-    ensures refused { IfErr result (λ e. (bytes : List ℕ) × HasLeft (T.left file.old) bytes ×
-        RefusesFile kind_of_file.Region bytes
-        (source_use T.left T.has_failed file.old file.new) (Err e)) }
+/// Puts the cells of a file in the order in which they are used: zones as `order_zones` does. Those of
+/// a region stay as they are.
+fn arrange(kind: CellFile, cells: &mut [Cell]) -> Result<(), H3Error>
+    ensures refused { result_err result ≡ file_error kind cells.old }
+    ensures arranged { OnOk result (AreArranged kind cells.old cells.new) }
 {
-    match read_numbered_cells(alloc, file) {
-        Ok(cells) => Ok(cells),
-        Err(refusal) => Err(told_of(CellFile::Region, refusal)),
+    match kind {
+        CellFile::Region => Ok(()),
+        CellFile::Zones => order_zones(cells),
     }
 }
 
-/// Reads the file of zones, and puts them in the order in which one is looked up.
-pub(crate) fn read_zones<T: Source>(alloc: Global, file: &mut T) -> Result<Vec<Cell>, Refusal>
-    ensures zones { IfOk result (λ zones. (bytes : List ℕ) × HasLeft (T.left file.old) bytes ×
+/// Reads a file of cells, and judges and arranges them as a whole.
+pub(crate) fn read_file<T: Source>(
+    alloc: Global,
+    kind: CellFile,
+    file: &mut T,
+) -> Result<Vec<Cell>, RunError>
+    ensures cells { IfOk result (λ cells. (bytes : List ℕ) × HasLeft (T.left file.old) bytes ×
         (listed : List Address) ×
-        GivesFile kind_of_file.Zones bytes (source_use T.left T.has_failed file.old file.new) listed ×
-        IsPermutation listed zones.items × IsZones zones.items) }
+        GivesFile kind bytes (source_use T.left T.has_failed file.old file.new) listed ×
+        AreArranged kind listed cells.items) }
     ensures refused { IfErr result (λ e. (bytes : List ℕ) × HasLeft (T.left file.old) bytes ×
-        RefusesFile kind_of_file.Zones bytes
-        (source_use T.left T.has_failed file.old file.new) (Err e)) }
+        RefusesFile kind bytes (source_use T.left T.has_failed file.old file.new) (Err e)) }
 {
     match read_numbered_cells(alloc, file) {
         Ok(cells) => {
             let mut cells = cells;
-            match order_zones(&mut cells) {
+            match arrange(kind, &mut cells) {
                 Ok(()) => Ok(cells),
-                Err(error) => Err(Refusal::Error(AnswerError::File(CellFile::Zones, error))),
+                Err(error) => Err(RunError::Error(AnswerError::File(kind, error))),
             }
         }
-        Err(refusal) => Err(told_of(CellFile::Zones, refusal)),
+        Err(refusal) => Err(in_file(kind, refusal)),
     }
 }
 
@@ -102,49 +105,52 @@ pub(crate) enum Combination {
 }
 
 /// A copy of cells. `Fault::Memory` where there is none for it.
-pub(crate) fn copied(alloc: Global, cells: &[Cell]) -> Result<Vec<Cell>, Refusal>
+pub(crate) fn copied(alloc: Global, cells: &[Cell]) -> Result<Vec<Cell>, RunError>
     ensures ok { IfOk result (λ copy. copy.items ≡ cells.now) }
     ensures err { IfErr result (λ e. e ≡ refusal.Fault Memory) }
 {
-    let mut copy = Vec::with_capacity(alloc, cells.len()).map_err(|_| Refusal::Fault(
+    let mut copy = Vec::with_capacity(alloc, cells.len()).map_err(|_| RunError::Fault(
         Fault::Memory,
     ))?;
     for cell in cells {
-        copy.push(*cell).map_err(|_| Refusal::Fault(Fault::Memory))?;
+        copy.push(*cell)
+            .map_err(|_| RunError::Fault(Fault::Memory))?;
     }
     Ok(copy)
 }
 
-/// A list that compacts to what two lists both cover. `Fault::Memory` where there is none for it.
+/// The region of what two lists both cover, in post order. `Fault::Memory` where there is none for
+/// it.
 fn shared_cells(
     alloc: Global,
     cells: &mut [Cell],
     others: &mut [Cell],
-) -> Result<Vec<Cell>, Refusal>
+) -> Result<Vec<Cell>, RunError>
     ensures ok { IfOk result (λ shared.
         compacted shared.items ≡ intersection cells.old others.old) }
+    ensures region { IfOk result (λ shared. IsRegion shared.items) }
     ensures err { IfErr result (λ e. e ≡ refusal.Fault Memory) }
 {
     coverages_decide_combinations();
     let cells = Region::of(cells);
     let others = Region::of(others);
     let room = cells.cells().len() + others.cells().len();
-    let mut slots = vec![in alloc; Cell::in_base(0); room].map_err(|_| Refusal::Fault(
+    let mut slots = vec![in alloc; Cell::in_base(0); room].map_err(|_| RunError::Fault(
         Fault::Memory,
     ))?;
     let shared = intersect(&cells, &others, &mut slots);
     copied(alloc, shared.cells())
 }
 
-/// A list that covers what one region covers and another does not, where that has at most so many
-/// cells. `Fault::Memory` where there is none for it.
+/// The cells of the region that one region covers and another does not, where that has at most so
+/// many cells. `Fault::Memory` where there is none for it.
 fn left_within(
     alloc: Global,
     cells: &Region,
     others: &Region,
     room: usize,
-) -> Result<Option<Vec<Cell>>, Refusal>
-    ensures valid { IfOk result (λ left. IfSome left (λ l. All IsCell l.items)) }
+) -> Result<Option<Vec<Cell>>, RunError>
+    ensures region { IfOk result (λ left. IfSome left (λ l. IsRegion l.items)) }
     ensures covers { IfOk result (λ left. IfSome left (λ l. (x : Address)
         → IsCovered l.items 15 x
         ↔ (IsCovered cells.now 15 x × (¬ IsCovered others.now 15 x)))) }
@@ -154,7 +160,7 @@ fn left_within(
 {
     // for the proof: that its cells are valid
     let _ = others.cells();
-    let mut slots = vec![in alloc; Cell::in_base(0); room].map_err(|_| Refusal::Fault(
+    let mut slots = vec![in alloc; Cell::in_base(0); room].map_err(|_| RunError::Fault(
         Fault::Memory,
     ))?;
     match subtract(cells, others, &mut slots) {
@@ -166,10 +172,11 @@ fn left_within(
     }
 }
 
-/// A list that compacts to what one list covers and another does not. `Fault::Memory` where there
-/// is none for it.
-fn left_cells(alloc: Global, cells: &mut [Cell], others: &mut [Cell]) -> Result<Vec<Cell>, Refusal>
+/// The region of what one list covers and another does not, in post order. `Fault::Memory` where
+/// there is none for it.
+fn left_cells(alloc: Global, cells: &mut [Cell], others: &mut [Cell]) -> Result<Vec<Cell>, RunError>
     ensures ok { IfOk result (λ left. compacted left.items ≡ difference cells.old others.old) }
+    ensures region { IfOk result (λ left. IsRegion left.items) }
     ensures err { IfErr result (λ e. e ≡ refusal.Fault Memory) }
 {
     coverages_decide_combinations();
@@ -181,20 +188,21 @@ fn left_cells(alloc: Global, cells: &mut [Cell], others: &mut [Cell]) -> Result<
             Some(left) => return Ok(left),
             None => {
                 let more = room.checked_add(room.max(1));
-                room = more.ok_or(Refusal::Fault(Fault::Memory))?;
+                room = more.ok_or(RunError::Fault(Fault::Memory))?;
             }
         }
     }
 }
 
-/// A list that compacts to what is made of the cells of a list and those of a file.
+/// The region that is made of the cells of a list and those of a file, in post order.
 fn combined_cells(
     alloc: Global,
     kind: Combination,
     cells: &mut [Cell],
     others: &mut [Cell],
-) -> Result<Vec<Cell>, Refusal>
+) -> Result<Vec<Cell>, RunError>
     ensures ok { IfOk result (λ made. compacted made.items ≡ combined kind others.old cells.old) }
+    ensures region { IfOk result (λ made. IsRegion made.items) }
     ensures err { IfErr result (λ e. e ≡ refusal.Fault Memory) }
 {
     match kind {
@@ -203,44 +211,31 @@ fn combined_cells(
     }
 }
 
-/// Writes what is made of the cells listed on the input, or of those of its rows, and those of a file.
-fn combine_listed<R: Source, W: Sink>(
-    alloc: Global,
-    kind: Combination,
-    rows: &Option<RowOptions>,
-    others: &mut [Cell],
-    input: &mut R,
-    out: &mut W,
-) -> Result<(), Refusal>
-    ensures { EndsNumberedList (list_form rows.now) (combined_answer kind others.old)
-        (source_use R.left R.has_failed input.old input.new) result
+/// Writes the cells of a region in ascending order.
+fn write_region<W: Sink>(cells: &mut [Cell], out: &mut W) -> Result<(), RunError>
+    requires { IsRegion cells.old }
+    ensures { Writes (written (cell_lines (compacted cells.old))) result
         (sink_use W.taken W.has_failed out.old out.new) }
 {
-    let mut cells = read_numbered(alloc, rows, input)?;
-    let mut made = combined_cells(alloc, kind, &mut cells, others)?;
-    write_united(&mut made, out)
+    order_by_number(cells);
+    write_lines(out, cells.iter().copied())
 }
 
-/// Writes what is made of the cells listed on the input, or of those of its rows, and those of the
-/// file of a region.
-pub(crate) fn combine_cells<R: Source, T: Source, W: Sink>(
-    alloc: Global,
-    kind: Combination,
-    rows: &Option<RowOptions>,
-    input: &mut R,
-    file: &mut T,
-    out: &mut W,
-) -> Result<(), Refusal>
-    ensures { EndsOverFile kind_of_file.Region
-        (λ cells. EndsNumberedList (list_form rows.now) (combined_answer kind cells)
-        (source_use R.left R.has_failed input.old input.new) result
-        (sink_use W.taken W.has_failed out.old out.new))
-        (source_use R.left R.has_failed input.old input.new)
-        (source_use T.left T.has_failed file.old file.new) result
-        (sink_use W.taken W.has_failed out.old out.new) }
-{
-    let mut others = read_region(alloc, file)?;
-    combine_listed(alloc, kind, rows, &mut others, input, out)
+/// What is made of the cells of a list and those of a file.
+#[derive(Drop)]
+pub(crate) struct Combine<'c> {
+    pub(crate) alloc: Global,
+    pub(crate) kind: Combination,
+    pub(crate) others: &'c mut [Cell],
+}
+
+impl<'c> ListFunction for Combine<'c> {
+    ghost answer_of = { λ f. combined_answer f.kind f.others.now };
+
+    fn write<W: Sink>(self, cells: &mut [Cell], out: &mut W) -> Result<(), RunError> {
+        let mut made = combined_cells(self.alloc, self.kind, cells, self.others)?;
+        write_region(&mut made, out)
+    }
 }
 
 /// Whether a region covers the cell with an index, looked for from where the last cell's member of
@@ -304,7 +299,7 @@ struct CoveredBy<'r> {
     region: Region<'r>,
 }
 
-impl<'r> IndexFunction for CoveredBy<'r> {
+impl<'r> AnswerLine for CoveredBy<'r> {
     ghost answer_of = { λ f. region_answer f.region };
 
     #[inline(always)]
@@ -330,7 +325,7 @@ struct ZoneOf<'z> {
     zones: Zones<'z>,
 }
 
-impl<'z> IndexFunction for ZoneOf<'z> {
+impl<'z> AnswerLine for ZoneOf<'z> {
     ghost answer_of = { λ f. zone_answer f.zones };
 
     #[inline(always)]
@@ -352,13 +347,13 @@ impl<'z> IndexFunction for ZoneOf<'z> {
 
 /// Writes for each cell listed on the input, or with each row, whether the region of some cells
 /// covers it.
-fn answer_covered<R: Source, W: Sink>(
+pub(crate) fn answer_covered<R: Source, W: Sink>(
     alloc: Global,
     rows: &Option<RowOptions>,
     cells: &mut [Cell],
     input: &mut R,
     out: &mut W,
-) -> Result<(), Refusal>
+) -> Result<(), RunError>
     ensures { EndsLines (rows_form rows.now (codes "isCovered"))
         (covered_answer cells.old) (source_use R.left R.has_failed input.old input.new) result
         (sink_use W.taken W.has_failed out.old out.new) }
@@ -368,35 +363,14 @@ fn answer_covered<R: Source, W: Sink>(
     answer_listed(alloc, rows, "isCovered", &CoveredBy { region }, input, out)
 }
 
-/// Writes for each cell listed on the input, or with each row, whether the region of a file covers
-/// it.
-pub(crate) fn are_covered_cells<R: Source, T: Source, W: Sink>(
-    alloc: Global,
-    rows: &Option<RowOptions>,
-    input: &mut R,
-    file: &mut T,
-    out: &mut W,
-) -> Result<(), Refusal>
-    ensures { EndsOverFile kind_of_file.Region
-        (λ cells. EndsLines (rows_form rows.now (codes "isCovered"))
-        (covered_answer cells) (source_use R.left R.has_failed input.old input.new) result
-        (sink_use W.taken W.has_failed out.old out.new))
-        (source_use R.left R.has_failed input.old input.new)
-        (source_use T.left T.has_failed file.old file.new) result
-        (sink_use W.taken W.has_failed out.old out.new) }
-{
-    let mut cells = read_region(alloc, file)?;
-    answer_covered(alloc, rows, &mut cells, input, out)
-}
-
 /// Writes the zone of each cell listed on the input, or with each row, of zones in order.
-fn answer_zones<R: Source, W: Sink>(
+pub(crate) fn answer_zones<R: Source, W: Sink>(
     alloc: Global,
     rows: &Option<RowOptions>,
     zones: &[Cell],
     input: &mut R,
     out: &mut W,
-) -> Result<(), Refusal>
+) -> Result<(), RunError>
     requires { IsZones zones.now }
     ensures { EndsLines (rows_form rows.now (codes "zone"))
         (zone_answer zones.now) (source_use R.left R.has_failed input.old input.new) result
@@ -404,25 +378,4 @@ fn answer_zones<R: Source, W: Sink>(
 {
     let zones = Zones::over(zones);
     answer_listed(alloc, rows, "zone", &ZoneOf { zones }, input, out)
-}
-
-/// Writes the zone of each cell listed on the input, or with each row, of the zones of a file.
-pub(crate) fn cells_to_zones<R: Source, T: Source, W: Sink>(
-    alloc: Global,
-    rows: &Option<RowOptions>,
-    input: &mut R,
-    file: &mut T,
-    out: &mut W,
-) -> Result<(), Refusal>
-    ensures { EndsOverFile kind_of_file.Zones
-        (λ zones. EndsLines (rows_form rows.now (codes "zone"))
-        (zone_answer zones) (source_use R.left R.has_failed input.old input.new) result
-        (sink_use W.taken W.has_failed out.old out.new))
-        (source_use R.left R.has_failed input.old input.new)
-        (source_use T.left T.has_failed file.old file.new) result
-        (sink_use W.taken W.has_failed out.old out.new) }
-{
-    zones_are_lawful();
-    let zones = read_zones(alloc, file)?;
-    answer_zones(alloc, rows, &zones, input, out)
 }

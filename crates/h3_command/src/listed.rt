@@ -2,14 +2,18 @@
 
 ghost use Rattle.std.specs.Prelude.{◌≡◌, List, IfOk, IfErr};
 ghost use Rattle.h3_index.specs.Cell.{Address};
+ghost use Rattle.h3_lines.specs.Answer.{Answer};
 ghost use Rattle.h3_command.specs.Listed.{GivesCells, RefusesCells, RefusesNumbered};
 ghost use Rattle.h3_command.specs.Rows.{list_form};
-ghost use Rattle.h3_command.specs.Run.{source_use};
+ghost use Rattle.h3_command.specs.Run.{EndsList, EndsNumberedList, WritesUnlessMemory};
+ghost use Rattle.h3_lines.specs.Reads.{source_use};
+ghost use Rattle.h3_lines.specs.Write.{sink_use};
 
-use h3_index::{Cell, Source};
-use h3_lines::{CellTaker, Refusal, read_cells, take_cells};
+use h3_index::Cell;
+use h3_lines::{CellTaker, RunError, read_cells, take_cells};
 use h3_requests::RowOptions;
 use h3_rows::take_row_cells;
+use h3_streams::{Sink, Source};
 use std::alloc::Global;
 
 /// Has the cells of a list taken: those on its lines, or those of its rows. An error of either is
@@ -19,7 +23,7 @@ pub(crate) fn take_listed<V: CellTaker + Drop, R: Source>(
     taker: V,
     rows: &Option<RowOptions>,
     input: &mut R,
-) -> Result<V, Refusal>
+) -> Result<V, RunError>
     requires { V.count taker ≡ 0 }
     ensures taken { IfOk result (λ after. (cells : List Address)
         × GivesCells (list_form rows.now) (source_use R.left R.has_failed input.old input.new) cells
@@ -35,11 +39,11 @@ pub(crate) fn take_listed<V: CellTaker + Drop, R: Source>(
 
 /// Reads the cells of a list: those on its lines, or those of its rows. An error of either is
 /// reported with its line.
-pub(crate) fn read_numbered<R: Source>(
+fn read_numbered<R: Source>(
     alloc: Global,
     rows: &Option<RowOptions>,
     input: &mut R,
-) -> Result<Vec<Cell>, Refusal>
+) -> Result<Vec<Cell>, RunError>
     ensures cells { IfOk result (λ cells. GivesCells (list_form rows.now)
         (source_use R.left R.has_failed input.old input.new) cells.items) }
     ensures refused { IfErr result (RefusesNumbered (list_form rows.now)
@@ -49,11 +53,11 @@ pub(crate) fn read_numbered<R: Source>(
 }
 
 /// As `read_numbered`, but an error of a bare list is reported without its line.
-pub(crate) fn read_listed<R: Source>(
+fn read_listed<R: Source>(
     alloc: Global,
     rows: &Option<RowOptions>,
     input: &mut R,
-) -> Result<Vec<Cell>, Refusal>
+) -> Result<Vec<Cell>, RunError>
     ensures cells { IfOk result (λ cells. GivesCells (list_form rows.now)
         (source_use R.left R.has_failed input.old input.new) cells.items) }
     ensures refused { IfErr result (RefusesCells (list_form rows.now)
@@ -63,4 +67,50 @@ pub(crate) fn read_listed<R: Source>(
         None => read_cells(alloc, input),
         Some(options) => take_row_cells(alloc, Vec::new(alloc), options, input),
     }
+}
+
+/// What is answered about the cells of a list as a whole.
+pub(crate) trait ListFunction {
+    /// The answer about the cells.
+    ghost answer_of: { Self → List Address → Answer };
+
+    /// Writes the answer. It may be made in the memory of the cells.
+    ///
+    /// `Fault::Memory` where there is none for it, with nothing written.
+    fn write<W: Sink>(self, cells: &mut [Cell], out: &mut W) -> Result<(), RunError>
+        ensures { WritesUnlessMemory (answer_of self cells.old) result
+            (sink_use W.taken W.has_failed out.old out.new) };
+}
+
+/// Writes what a function answers about the cells of a list, or about those of its rows. An error of
+/// either is reported with its line.
+pub(crate) fn answer_whole_numbered<R: Source, W: Sink, F: ListFunction + Drop>(
+    alloc: Global,
+    function: F,
+    rows: &Option<RowOptions>,
+    input: &mut R,
+    out: &mut W,
+) -> Result<(), RunError>
+    ensures { EndsNumberedList (list_form rows.now) (F.answer_of function)
+        (source_use R.left R.has_failed input.old input.new) result
+        (sink_use W.taken W.has_failed out.old out.new) }
+{
+    let mut cells = read_numbered(alloc, rows, input)?;
+    function.write(&mut cells, out)
+}
+
+/// As `answer_whole_numbered`, but an error of a bare list is reported without its line.
+pub(crate) fn answer_whole<R: Source, W: Sink, F: ListFunction + Drop>(
+    alloc: Global,
+    function: F,
+    rows: &Option<RowOptions>,
+    input: &mut R,
+    out: &mut W,
+) -> Result<(), RunError>
+    ensures { EndsList (list_form rows.now) (F.answer_of function)
+        (source_use R.left R.has_failed input.old input.new) result
+        (sink_use W.taken W.has_failed out.old out.new) }
+{
+    let mut cells = read_listed(alloc, rows, input)?;
+    function.write(&mut cells, out)
 }

@@ -6,19 +6,21 @@
 
 ghost use Rattle.std.specs.Prelude.{◌≡◌, Err, IsOk, IfOk, IfErr};
 ghost use Rattle.std.specs.Iterator.{YieldsFirst, item_count};
-ghost use Rattle.h3_grid.specs.Disk.{disk_left};
-ghost use Rattle.h3_grid.specs.Ring.{ring_left};
-ghost use Rattle.h3_lattice.specs.BaseTable.{link_of};
+ghost use Rattle.h3_grid.specs.Disks.{disk_left};
+ghost use Rattle.h3_grid.specs.Rings.{ring_left};
+ghost use Rattle.h3_table.specs.BaseTable.{link_of};
 ghost use Rattle.h3_functions.specs.Walks.{grid_disk_distances_unsafe, grid_ring_unsafe};
 ghost use Rattle.h3_command.specs.LongAnswers.{children_for, disk_distances_for, disk_for, ring_for, whole_walk};
 ghost use Rattle.h3_lines.specs.Answer.{whole_items};
 
-use crate::given::cell_given;
+use crate::required::cell_given;
+use crate::uncompacted_lines::lines_below;
 use h3_grid::{Disk, Ring};
 use h3_index::{Cell, H3Error, Siblings};
-use h3_lattice::BaseTable;
 use h3_lines::{BLOCK, Line, LinesFunction, RingCell, walk_through};
-use h3_tree::{SiblingGroups, resolution_below, sibling_groups_at};
+use h3_table::BaseTable;
+use h3_tree::laws::descendants_are_children;
+use h3_tree::{SiblingGroups, resolution_below};
 
 /// A cell, or all children of one.
 #[derive(Drop)]
@@ -28,7 +30,7 @@ pub(crate) enum ChildItem {
 }
 
 impl Line for ChildItem {
-    ghost use Rattle.h3_command.specs.LongLines.{child_item_lines, child_items_are_lines};
+    ghost use Rattle.h3_command.specs.Long.{child_item_lines, child_items_are_lines};
 
     ghost line_of = { child_item_lines };
 
@@ -51,7 +53,7 @@ pub(crate) enum ChildLines {
 }
 
 impl Iterator for ChildLines {
-    ghost use Rattle.h3_command.specs.LongLines.{child_lines_left};
+    ghost use Rattle.h3_command.specs.Long.{child_lines_left};
 
     type Item = ChildItem;
 
@@ -83,11 +85,9 @@ impl LinesFunction for ChildrenOf {
 
     fn lines(&self, index: Option<u64>) -> Result<ChildLines, H3Error> {
         let cell = cell_given(index)?;
+        descendants_are_children();
         let r = resolution_below(cell, self.res)?;
-        if r == cell.resolution() {
-            return Ok(ChildLines::Own(Some(cell)));
-        }
-        Ok(ChildLines::Below(sibling_groups_at(cell, r)))
+        Ok(lines_below(cell, r))
     }
 }
 
@@ -130,7 +130,7 @@ pub(crate) struct DiskLines<'t> {
 }
 
 impl<'t> Iterator for DiskLines<'t> {
-    ghost use Rattle.h3_command.specs.LongLines.{disk_lines_left};
+    ghost use Rattle.h3_command.specs.Long.{disk_lines_left};
 
     type Item = Cell;
 
@@ -156,7 +156,7 @@ pub(crate) struct DistanceLines<'t> {
 }
 
 impl<'t> Iterator for DistanceLines<'t> {
-    ghost use Rattle.h3_command.specs.LongLines.{distance_lines_left};
+    ghost use Rattle.h3_command.specs.Long.{distance_lines_left};
 
     type Item = RingCell;
 
@@ -185,7 +185,7 @@ pub(crate) struct RingLines<'t> {
 }
 
 impl<'t> Iterator for RingLines<'t> {
-    ghost use Rattle.h3_command.specs.LongLines.{ring_lines_left};
+    ghost use Rattle.h3_command.specs.Long.{ring_lines_left};
 
     type Item = Cell;
 

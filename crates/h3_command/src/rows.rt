@@ -2,50 +2,51 @@
 //! its own cell beside it.
 
 ghost use Rattle.std.specs.Prelude.{◌≡◌};
-ghost use Rattle.h3_lines.specs.Writing.{sink_use};
+ghost use Rattle.h3_lines.specs.Reads.{source_use};
+ghost use Rattle.h3_lines.specs.Write.{sink_use};
 ghost use Rattle.h3_command.specs.Answer.{answer_for};
 ghost use Rattle.h3_command.specs.LongAnswers.{between_parts};
 ghost use Rattle.h3_command.specs.Rows.{function_name, pair_form, rows_form};
-ghost use Rattle.h3_command.specs.Run.{EndsLines, source_use};
+ghost use Rattle.h3_command.specs.Run.{EndsLines};
 
-use crate::for_each::AnswerOf;
-use h3_index::{Sink, Source};
-use h3_lines::{IndexFunction, LinesFunction, Refusal, answer_each, answer_each_lines};
-use h3_requests::{CellFunction, RowOptions};
+use crate::per_index::AnswerOf;
+use h3_lines::{AnswerLine, LinesFunction, RunError, answer_each, answer_each_lines};
+use h3_requests::{IndexFunction, RowOptions};
 use h3_rows::{answer_rows, answer_rows_lines};
+use h3_streams::{Sink, Source};
 use std::alloc::Global;
 
 /// The name of H3's function, which the new column of rows has in a header.
-fn function_name(function: CellFunction) -> &'static str
+fn function_name(function: IndexFunction) -> &'static str
     ensures { result.now ≡ function_name function }
 {
     match function {
-        CellFunction::IsValidCell => "isValidCell",
-        CellFunction::IsValidDirectedEdge => "isValidDirectedEdge",
-        CellFunction::GetResolution => "getResolution",
-        CellFunction::GetBaseCellNumber => "getBaseCellNumber",
-        CellFunction::IsPentagon => "isPentagon",
-        CellFunction::IsResClassIII => "isResClassIII",
-        CellFunction::CellToParent { res: _ } => "cellToParent",
-        CellFunction::CellToCenterChild { res: _ } => "cellToCenterChild",
-        CellFunction::CellToLastChild { res: _ } => "cellToLastChild",
-        CellFunction::CellToChildrenSize { res: _ } => "cellToChildrenSize",
-        CellFunction::CellToChildPos { res: _ } => "cellToChildPos",
-        CellFunction::GetDirectedEdgeOrigin => "getDirectedEdgeOrigin",
-        CellFunction::OriginToDirectedEdges => "originToDirectedEdges",
+        IndexFunction::IsValidCell => "isValidCell",
+        IndexFunction::IsValidDirectedEdge => "isValidDirectedEdge",
+        IndexFunction::GetResolution => "getResolution",
+        IndexFunction::GetBaseCellNumber => "getBaseCellNumber",
+        IndexFunction::IsPentagon => "isPentagon",
+        IndexFunction::IsResClassIII => "isResClassIII",
+        IndexFunction::CellToParent { res: _ } => "cellToParent",
+        IndexFunction::CellToCenterChild { res: _ } => "cellToCenterChild",
+        IndexFunction::CellToLastChild { res: _ } => "cellToLastChild",
+        IndexFunction::CellToChildrenSize { res: _ } => "cellToChildrenSize",
+        IndexFunction::CellToChildPos { res: _ } => "cellToChildPos",
+        IndexFunction::GetDirectedEdgeOrigin => "getDirectedEdgeOrigin",
+        IndexFunction::OriginToDirectedEdges => "originToDirectedEdges",
     }
 }
 
 /// Writes what a function answers to each line of a list, or each row with what it answers to its
 /// cell, if the list has rows. The new column has this name, unless another is given.
-pub(crate) fn answer_listed<R: Source, W: Sink, F: IndexFunction>(
+pub(crate) fn answer_listed<R: Source, W: Sink, F: AnswerLine>(
     alloc: Global,
     rows: &Option<RowOptions>,
     name: &str,
     function: &F,
     input: &mut R,
     out: &mut W,
-) -> Result<(), Refusal>
+) -> Result<(), RunError>
     ensures { EndsLines (rows_form rows.now name.now)
         (F.answer_of function.now) (source_use R.left R.has_failed input.old input.new) result
         (sink_use W.taken W.has_failed out.old out.new) }
@@ -60,10 +61,10 @@ pub(crate) fn answer_listed<R: Source, W: Sink, F: IndexFunction>(
 pub(crate) fn answer_function<R: Source, W: Sink>(
     alloc: Global,
     rows: &Option<RowOptions>,
-    function: CellFunction,
+    function: IndexFunction,
     input: &mut R,
     out: &mut W,
-) -> Result<(), Refusal>
+) -> Result<(), RunError>
     ensures { EndsLines (rows_form rows.now (function_name function))
         (answer_for function) (source_use R.left R.has_failed input.old input.new) result
         (sink_use W.taken W.has_failed out.old out.new) }
@@ -87,7 +88,7 @@ pub(crate) fn answer_listed_lines<R: Source, W: Sink, F: LinesFunction>(
     function: &F,
     input: &mut R,
     out: &mut W,
-) -> Result<(), Refusal>
+) -> Result<(), RunError>
     ensures { EndsLines (rows_form rows.now name.now)
         (F.answer_of function.now) (source_use R.left R.has_failed input.old input.new) result
         (sink_use W.taken W.has_failed out.old out.new) }
@@ -108,7 +109,7 @@ pub(crate) fn answer_listed_pairs<R: Source, W: Sink, F: LinesFunction>(
     function: &F,
     input: &mut R,
     out: &mut W,
-) -> Result<(), Refusal>
+) -> Result<(), RunError>
     ensures { EndsLines (pair_form rows.now)
         (F.answer_of function.now) (source_use R.left R.has_failed input.old input.new) result
         (sink_use W.taken W.has_failed out.old out.new) }

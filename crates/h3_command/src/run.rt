@@ -1,35 +1,34 @@
 //! Running a command.
 
 ghost use Rattle.std.specs.Prelude.{◌≡◌, false};
-ghost use Rattle.h3_lines.specs.Writing.{Reports, sink_use};
+ghost use Rattle.h3_lines.specs.Reads.{source_use};
+ghost use Rattle.h3_lines.specs.Write.{Reports, sink_use};
 ghost use Rattle.h3_rows.specs.Laws.{FieldsAreKept, OutputReadsBack, RowsAreWhole, RowsGiveBack, RowsStand, RowsStandUntil};
 ghost use Rattle.h3_command.specs.Answer.{reads_list, reads_table, request, request_of};
 ghost use Rattle.h3_command.specs.Files.{CountsPrintedAddUp};
 ghost use Rattle.h3_command.specs.NewColumns.{AnswersAreWords, RowsStandOnce, WordPairsAreKept, WordPairsAreUncut, WordsAreFields, WordsAreKept};
-ghost use Rattle.h3_command.specs.Run.{Ends, Runs, source_use};
+ghost use Rattle.h3_command.specs.Run.{Ends, Runs};
 
 use crate::children::{cell_to_children, cells_to_children, child_pos_to_cell};
-use crate::counts::count_cells_in_zones;
 use crate::edges::{are_neighbor_cells, cells_to_directed_edge, get_directed_edge_destination};
-use crate::files::{Combination, are_covered_cells, cells_to_zones, combine_cells};
-use crate::for_each::write_answer_for;
+use crate::file_query::{FileQuery, answer_over_file};
+use crate::files::Combination;
 use crate::laws::answers_are_fields;
+use crate::listed::{answer_whole, answer_whole_numbered};
+use crate::per_index::write_answer_for;
 use crate::rows::answer_function;
-use crate::sets::{compact_cells, uncompact_cells, unite_cells};
+use crate::sets::{CompactList, UncompactList, UniteList};
 use crate::sizes::uncompact_cells_size;
-use crate::table_lists::{
-    get_directed_edge_destinations, grid_disks_distances_unsafe, grid_disks_unsafe,
-    grid_rings_unsafe,
-};
+use crate::table_lists::{TableLines, answer_over_table};
 use crate::table_query::over_table;
 use crate::walks::{grid_disk_distances_unsafe, grid_disk_unsafe, grid_ring_unsafe};
 use h3_functions::{get_num_cells, get_pentagons, get_res0_cells};
-use h3_index::{Sink, Source};
-use h3_lines::{Refusal, report, write_lines, write_result};
+use h3_lines::{RunError, report, write_lines, write_result};
 use h3_regions::laws::counts_add_up;
 use h3_requests::Command::*;
-use h3_requests::{CellFunction, Command, RowOptions};
+use h3_requests::{Command, IndexFunction, RowOptions};
 use h3_rows::laws::answers_stand_beside;
+use h3_streams::{Sink, Source};
 use std::alloc::Global;
 
 /// Does the work of a command, up to the line on standard error.
@@ -40,7 +39,7 @@ fn perform<R: Source, T: Source, W: Sink>(
     input: &mut R,
     table: &mut T,
     out: &mut W,
-) -> Result<(), Refusal>
+) -> Result<(), RunError>
     ensures ends { Ends (request_of rows.now command.now) (source_use R.left R.has_failed input.old input.new)
         (source_use T.left T.has_failed table.old table.new) result
         (sink_use W.taken W.has_failed out.old out.new) }
@@ -48,44 +47,50 @@ fn perform<R: Source, T: Source, W: Sink>(
     ensures table_kept { reads_table (request_of rows.now command.now) ≡ false → table.new ≡ table.old }
 {
     match *command {
-        IsValidCell { cell } => write_answer_for(CellFunction::IsValidCell, cell, out),
-        GetResolution { cell } => write_answer_for(CellFunction::GetResolution, cell, out),
-        GetBaseCellNumber { cell } => write_answer_for(CellFunction::GetBaseCellNumber, cell, out),
-        IsPentagon { cell } => write_answer_for(CellFunction::IsPentagon, cell, out),
-        IsResClassIII { cell } => write_answer_for(CellFunction::IsResClassIII, cell, out),
+        IsValidCell { cell } => write_answer_for(IndexFunction::IsValidCell, cell, out),
+        GetResolution { cell } => write_answer_for(IndexFunction::GetResolution, cell, out),
+        GetBaseCellNumber { cell } => write_answer_for(IndexFunction::GetBaseCellNumber, cell, out),
+        IsPentagon { cell } => write_answer_for(IndexFunction::IsPentagon, cell, out),
+        IsResClassIII { cell } => write_answer_for(IndexFunction::IsResClassIII, cell, out),
         GetNumCells { res } => write_result(out, get_num_cells(res)),
         GetRes0Cells => write_lines(out, get_res0_cells()),
         GetPentagons { res } => write_lines(out, get_pentagons(res)?),
         CellToParent { cell, res } => {
-            write_answer_for(CellFunction::CellToParent { res }, cell, out)
+            write_answer_for(IndexFunction::CellToParent { res }, cell, out)
         }
         CellToCenterChild { cell, res } => {
-            write_answer_for(CellFunction::CellToCenterChild { res }, cell, out)
+            write_answer_for(IndexFunction::CellToCenterChild { res }, cell, out)
         }
         CellToLastChild { cell, res } => {
-            write_answer_for(CellFunction::CellToLastChild { res }, cell, out)
+            write_answer_for(IndexFunction::CellToLastChild { res }, cell, out)
         }
         CellToChildren { cell, res } => cell_to_children(cell, res, out),
         CellToChildrenSize { cell, res } => {
-            write_answer_for(CellFunction::CellToChildrenSize { res }, cell, out)
+            write_answer_for(IndexFunction::CellToChildrenSize { res }, cell, out)
         }
         CellToChildPos { cell, res } => {
-            write_answer_for(CellFunction::CellToChildPos { res }, cell, out)
+            write_answer_for(IndexFunction::CellToChildPos { res }, cell, out)
         }
         ChildPosToCell {
             position,
             cell,
             res,
         } => write_result(out, child_pos_to_cell(position, cell, res)),
-        CompactCells => compact_cells(alloc, rows, input, out),
-        UncompactCells { res } => uncompact_cells(alloc, res, rows, input, out),
+        CompactCells => answer_whole(alloc, CompactList, rows, input, out),
+        UncompactCells { res } => answer_whole(alloc, UncompactList { res }, rows, input, out),
         UncompactCellsSize { res } => uncompact_cells_size(alloc, res, rows, input, out),
-        UniteCells => unite_cells(alloc, rows, input, out),
-        IntersectCells => combine_cells(alloc, Combination::Shared, rows, input, table, out),
-        SubtractCells => combine_cells(alloc, Combination::Left, rows, input, table, out),
-        AreCoveredCells => are_covered_cells(alloc, rows, input, table, out),
-        CellsToZones => cells_to_zones(alloc, rows, input, table, out),
-        CountCellsInZones => count_cells_in_zones(alloc, rows, input, table, out),
+        UniteCells => answer_whole_numbered(alloc, UniteList, rows, input, out),
+        IntersectCells => {
+            let query = FileQuery::Combined(Combination::Shared);
+            answer_over_file(alloc, query, rows, input, table, out)
+        }
+        SubtractCells => {
+            let query = FileQuery::Combined(Combination::Left);
+            answer_over_file(alloc, query, rows, input, table, out)
+        }
+        AreCoveredCells => answer_over_file(alloc, FileQuery::Covered, rows, input, table, out),
+        CellsToZones => answer_over_file(alloc, FileQuery::Zones, rows, input, table, out),
+        CountCellsInZones => answer_over_file(alloc, FileQuery::Counts, rows, input, table, out),
         GridDiskUnsafe { cell, k } => over_table(alloc, grid_disk_unsafe(cell, k), table, out),
         GridDiskDistancesUnsafe { cell, k } => {
             over_table(alloc, grid_disk_distances_unsafe(cell, k), table, out)
@@ -98,25 +103,36 @@ fn perform<R: Source, T: Source, W: Sink>(
             over_table(alloc, cells_to_directed_edge(cell, to), table, out)
         }
         IsValidDirectedEdge { edge } => {
-            write_answer_for(CellFunction::IsValidDirectedEdge, edge, out)
+            write_answer_for(IndexFunction::IsValidDirectedEdge, edge, out)
         }
         GetDirectedEdgeOrigin { edge } => {
-            write_answer_for(CellFunction::GetDirectedEdgeOrigin, edge, out)
+            write_answer_for(IndexFunction::GetDirectedEdgeOrigin, edge, out)
         }
         GetDirectedEdgeDestination { edge } => {
             over_table(alloc, get_directed_edge_destination(edge), table, out)
         }
         OriginToDirectedEdges { cell } => {
-            write_answer_for(CellFunction::OriginToDirectedEdges, cell, out)
+            write_answer_for(IndexFunction::OriginToDirectedEdges, cell, out)
         }
         CellsToChildren { res } => cells_to_children(alloc, res, rows, input, out),
-        GridDisksUnsafe { k } => grid_disks_unsafe(alloc, k, rows, input, table, out),
-        GridDisksDistancesUnsafe { k } => {
-            grid_disks_distances_unsafe(alloc, k, rows, input, table, out)
+        GridDisksUnsafe { k } => {
+            answer_over_table(alloc, TableLines::Disk { k }, rows, input, table, out)
         }
-        GridRingsUnsafe { k } => grid_rings_unsafe(alloc, k, rows, input, table, out),
+        GridDisksDistancesUnsafe { k } => {
+            answer_over_table(
+                alloc,
+                TableLines::DiskDistances { k },
+                rows,
+                input,
+                table,
+                out,
+            )
+        }
+        GridRingsUnsafe { k } => {
+            answer_over_table(alloc, TableLines::Ring { k }, rows, input, table, out)
+        }
         GetDirectedEdgeDestinations => {
-            get_directed_edge_destinations(alloc, rows, input, table, out)
+            answer_over_table(alloc, TableLines::Destination, rows, input, table, out)
         }
         ForEach(function) => answer_function(alloc, rows, function, input, out),
     }

@@ -5,16 +5,18 @@ ghost use Rattle.std.specs.Prelude.{◌≡◌, ◌≤◌, ◌/◌, ◌^◌, fals
 ghost use Rattle.h3_index.specs.Cell.{Address};
 ghost use Rattle.h3_index.specs.Count.{resolution_of};
 ghost use Rattle.h3_lines.specs.Answer.{number_line, printed};
-ghost use Rattle.h3_lines.specs.Writing.{Writes, sink_use};
+ghost use Rattle.h3_lines.specs.Reads.{source_use};
+ghost use Rattle.h3_lines.specs.Write.{Writes, sink_use};
 ghost use Rattle.h3_functions.specs.Sets.{uncompact_cells_size};
 ghost use Rattle.h3_command.specs.Rows.{list_form};
-ghost use Rattle.h3_command.specs.Run.{EndsNumberedList, source_use};
-ghost use Rattle.h3_command.specs.Sizing.{IsSizeOf, SizesMore, sizes_none, sizes_then};
+ghost use Rattle.h3_command.specs.Run.{EndsNumberedList};
+ghost use Rattle.h3_command.specs.Sizes.{IsSizeOf, SizesMore, sizes_none, sizes_then};
 
 use crate::listed::take_listed;
-use h3_index::{Cell, H3Error, Sink, Source, resolution_from};
-use h3_lines::{CellTaker, Refusal, write_result};
+use h3_index::{Cell, H3Error, resolution_from};
+use h3_lines::{CellTaker, RunError, write_result};
 use h3_requests::RowOptions;
+use h3_streams::{Sink, Source};
 use h3_tree::children_size;
 use std::alloc::Global;
 
@@ -38,7 +40,7 @@ impl CellTaker for Size {
         SizesMore s.res s.finer s.total cells t.finer t.total };
 
     #[inline(always)]
-    fn take(&mut self, cell: Cell, _after: &[u8]) -> Result<(), Refusal> {
+    fn take(&mut self, cell: Cell, _after: &[u8]) -> Result<(), RunError> {
         match children_size(cell, i32::from(self.res)) {
             Ok(size) => self.total += u128::from(size),
             Err(_) => self.finer = true,
@@ -83,14 +85,14 @@ fn judged(size: &Size, res: i32) -> Result<u128, H3Error>
 
 /// Writes how many cells of a resolution the cells listed on the input, or those of its rows,
 /// uncompact to, as H3's `uncompactCellsSize` counts them. The list is read to its end before the
-/// resolution is judged, as `uncompact_cells` does.
+/// resolution is judged, as `uncompactCells` does.
 pub(crate) fn uncompact_cells_size<R: Source, W: Sink>(
     alloc: Global,
     res: i32,
     rows: &Option<RowOptions>,
     input: &mut R,
     out: &mut W,
-) -> Result<(), Refusal>
+) -> Result<(), RunError>
     ensures { EndsNumberedList (list_form rows.now)
         (λ cells. printed number_line (uncompact_cells_size res cells))
         (source_use R.left R.has_failed input.old input.new) result

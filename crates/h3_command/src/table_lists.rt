@@ -4,27 +4,28 @@
 //! `AnswerError::Table`, `Fault::Read` and `Fault::Memory` are as of `BaseTable::read`. Then come the
 //! errors of standard input.
 
-ghost use Rattle.std.specs.Prelude.{◌≡◌, ℕ, List, Err, IfOk, IfErr, codes};
-ghost use Rattle.h3_index.specs.Stream.{HasLeft};
-ghost use Rattle.h3_lattice.specs.BaseTable.{link_of};
-ghost use Rattle.h3_lines.specs.Writing.{sink_use};
-ghost use Rattle.h3_command.specs.LongAnswers.{between_parts, disk_distances_for, disk_for, ring_for};
-ghost use Rattle.h3_command.specs.OverTable.{destination_answer, destination_of};
-ghost use Rattle.h3_command.specs.Rows.{pair_form, rows_form};
-ghost use Rattle.h3_command.specs.Run.{EndsLines, EndsOverTable, GivesTable, RefusesTableFile, source_use};
+ghost use Rattle.std.specs.Prelude.{◌≡◌, ℕ, List, Err, IfOk, IfErr};
+ghost use Rattle.h3_streams.specs.Stream.{HasLeft};
+ghost use Rattle.h3_table.specs.BaseTable.{link_of};
+ghost use Rattle.h3_lines.specs.Reads.{source_use};
+ghost use Rattle.h3_lines.specs.Write.{sink_use};
+ghost use Rattle.h3_command.specs.TableLists.{destination_answer, destination_of};
+ghost use Rattle.h3_command.specs.Run.{EndsLines, EndsOverTable, GivesTable, RefusesTableFile};
+ghost use Rattle.h3_command.specs.TableLines.{lines_answer, lines_form};
 
-use crate::given::edge_given;
 use crate::long::{DiskDistancesOf, DiskOf, RingOf};
+use crate::required::edge_given;
 use crate::rows::{answer_listed, answer_listed_lines, answer_listed_pairs, between_parts};
 use h3_grid::edge_destination;
-use h3_index::{Cell, H3Error, Sink, Source};
-use h3_lattice::BaseTable;
-use h3_lines::{BLOCK, IndexFunction, Refusal, put_result};
+use h3_index::{Cell, H3Error};
+use h3_lines::{AnswerLine, BLOCK, RunError, put_result};
 use h3_requests::RowOptions;
+use h3_streams::{Sink, Source};
+use h3_table::BaseTable;
 use std::alloc::Global;
 
 /// Reads a table.
-pub(crate) fn read_table<T: Source>(alloc: Global, file: &mut T) -> Result<BaseTable, Refusal>
+fn read_table<T: Source>(alloc: Global, file: &mut T) -> Result<BaseTable, RunError>
     ensures table { IfOk result (λ table. (bytes : List ℕ) × HasLeft (T.left file.old) bytes ×
         GivesTable bytes (source_use T.left T.has_failed file.old file.new) (link_of table)) }
     ensures refused { IfErr result (λ e. (bytes : List ℕ) × HasLeft (T.left file.old) bytes ×
@@ -50,7 +51,7 @@ struct DestinationOf<'t> {
     table: &'t BaseTable,
 }
 
-impl<'t> IndexFunction for DestinationOf<'t> {
+impl<'t> AnswerLine for DestinationOf<'t> {
     ghost answer_of = { λ f. destination_answer (link_of f.table.now) };
 
     #[inline(always)]
@@ -65,102 +66,75 @@ impl<'t> IndexFunction for DestinationOf<'t> {
     }
 }
 
-/// Writes for each edge listed on the input, or with each row, the cell that it leads to over the
-/// links of a table.
-pub(crate) fn get_directed_edge_destinations<R: Source, T: Source, W: Sink>(
+/// What is answered to each line of a list, or beside each row, over the links of a table.
+#[derive(Clone, Copy)]
+pub(crate) enum TableLines {
+    /// The cell that an edge leads to.
+    Destination,
+
+    /// The cells of the disk around a cell.
+    Disk { k: i32 },
+
+    /// The same, each with its ring.
+    DiskDistances { k: i32 },
+
+    /// The cells of the ring around a cell.
+    Ring { k: i32 },
+}
+
+/// Writes what is answered over the links of a table to each line of a list, or beside each row.
+fn answer_lines<R: Source, W: Sink>(
     alloc: Global,
+    lines: TableLines,
+    rows: &Option<RowOptions>,
+    table: &BaseTable,
+    input: &mut R,
+    out: &mut W,
+) -> Result<(), RunError>
+    ensures { EndsLines (lines_form lines rows.now) (lines_answer lines rows.now (link_of table.now))
+        (source_use R.left R.has_failed input.old input.new) result
+        (sink_use W.taken W.has_failed out.old out.new) }
+{
+    match lines {
+        TableLines::Destination => {
+            let function = DestinationOf { table };
+            let name = "getDirectedEdgeDestination";
+            answer_listed(alloc, rows, name, &function, input, out)
+        }
+        TableLines::Disk { k } => {
+            let function = DiskOf { table, k };
+            answer_listed_lines(alloc, rows, "gridDiskUnsafe", &function, input, out)
+        }
+        TableLines::DiskDistances { k } => {
+            let between = between_parts(rows);
+            let function = DiskDistancesOf { table, k, between };
+            answer_listed_pairs(alloc, rows, &function, input, out)
+        }
+        TableLines::Ring { k } => {
+            let function = RingOf { table, k };
+            answer_listed_lines(alloc, rows, "gridRingUnsafe", &function, input, out)
+        }
+    }
+}
+
+/// Reads a table, and then writes what is answered over its links to each line of a list, or beside
+/// each row.
+pub(crate) fn answer_over_table<R: Source, T: Source, W: Sink>(
+    alloc: Global,
+    lines: TableLines,
     rows: &Option<RowOptions>,
     input: &mut R,
     table: &mut T,
     out: &mut W,
-) -> Result<(), Refusal>
+) -> Result<(), RunError>
     ensures { EndsOverTable
-        (λ link. EndsLines (rows_form rows.now (codes "getDirectedEdgeDestination"))
-        (destination_answer link) (source_use R.left R.has_failed input.old input.new) result
+        (λ link. EndsLines (lines_form lines rows.now) (lines_answer lines rows.now link)
+        (source_use R.left R.has_failed input.old input.new) result
         (sink_use W.taken W.has_failed out.old out.new))
         (source_use R.left R.has_failed input.old input.new)
         (source_use T.left T.has_failed table.old table.new) result
         (sink_use W.taken W.has_failed out.old out.new) }
 {
     let table = read_table(alloc, table)?;
-    answer_listed(
-        alloc,
-        rows,
-        "getDirectedEdgeDestination",
-        &DestinationOf { table: &table },
-        input,
-        out,
-    )
-}
-
-/// Writes for each cell listed on the input, or with each row, the cells of its disk over the links of
-/// a table.
-pub(crate) fn grid_disks_unsafe<R: Source, T: Source, W: Sink>(
-    alloc: Global,
-    k: i32,
-    rows: &Option<RowOptions>,
-    input: &mut R,
-    table: &mut T,
-    out: &mut W,
-) -> Result<(), Refusal>
-    ensures { EndsOverTable
-        (λ link. EndsLines (rows_form rows.now (codes "gridDiskUnsafe"))
-        (disk_for link k) (source_use R.left R.has_failed input.old input.new) result
-        (sink_use W.taken W.has_failed out.old out.new))
-        (source_use R.left R.has_failed input.old input.new)
-        (source_use T.left T.has_failed table.old table.new) result
-        (sink_use W.taken W.has_failed out.old out.new) }
-{
-    let links = read_table(alloc, table)?;
-    let function = DiskOf { table: &links, k };
-    answer_listed_lines(alloc, rows, "gridDiskUnsafe", &function, input, out)
-}
-
-/// The same, each cell of a disk with its ring.
-pub(crate) fn grid_disks_distances_unsafe<R: Source, T: Source, W: Sink>(
-    alloc: Global,
-    k: i32,
-    rows: &Option<RowOptions>,
-    input: &mut R,
-    table: &mut T,
-    out: &mut W,
-) -> Result<(), Refusal>
-    ensures { EndsOverTable
-        (λ link. EndsLines (pair_form rows.now)
-        (disk_distances_for (between_parts rows.now) link k) (source_use R.left R.has_failed input.old input.new) result
-        (sink_use W.taken W.has_failed out.old out.new))
-        (source_use R.left R.has_failed input.old input.new)
-        (source_use T.left T.has_failed table.old table.new) result
-        (sink_use W.taken W.has_failed out.old out.new) }
-{
-    let links = read_table(alloc, table)?;
-    let between = between_parts(rows);
-    let function = DiskDistancesOf {
-        table: &links,
-        k,
-        between,
-    };
-    answer_listed_pairs(alloc, rows, &function, input, out)
-}
-
-/// The same, the cells of its ring.
-pub(crate) fn grid_rings_unsafe<R: Source, T: Source, W: Sink>(
-    alloc: Global,
-    k: i32,
-    rows: &Option<RowOptions>,
-    input: &mut R,
-    table: &mut T,
-    out: &mut W,
-) -> Result<(), Refusal>
-    ensures { EndsOverTable
-        (λ link. EndsLines (rows_form rows.now (codes "gridRingUnsafe"))
-        (ring_for link k) (source_use R.left R.has_failed input.old input.new) result
-        (sink_use W.taken W.has_failed out.old out.new))
-        (source_use R.left R.has_failed input.old input.new)
-        (source_use T.left T.has_failed table.old table.new) result
-        (sink_use W.taken W.has_failed out.old out.new) }
-{
-    let links = read_table(alloc, table)?;
-    let function = RingOf { table: &links, k };
-    answer_listed_lines(alloc, rows, "gridRingUnsafe", &function, input, out)
+    answer_lines(alloc, lines, rows, &table, input, out)
 }

@@ -8,18 +8,20 @@
 //! the flush fails.
 
 ghost use Rattle.std.specs.Prelude.{◌≡◌, false};
-ghost use Rattle.h3_lattice.specs.BaseTable.{link_of};
-ghost use Rattle.h3_lines.specs.Writing.{Writes, sink_use};
+ghost use Rattle.h3_table.specs.BaseTable.{link_of};
+ghost use Rattle.h3_lines.specs.Reads.{SourceUse, source_use};
+ghost use Rattle.h3_lines.specs.Write.{Writes, sink_use};
 ghost use Rattle.h3_command.specs.Answer.{reads_table, with_table};
-ghost use Rattle.h3_command.specs.Run.{Ends, SourceUse, source_use};
+ghost use Rattle.h3_command.specs.Run.{Ends};
 ghost use Rattle.h3_command.specs.TableQuery.{table_answer};
 ghost use Rattle.h3_command.specs.declared.table_query.TableQuery.TheVariants.{GridDisk, GridDiskDistances, GridRing};
 
 use h3_functions::DiskCells;
 use h3_grid::{Disk, Ring, are_neighbors, edge_between, edge_destination};
-use h3_index::{Cell, Edge, H3Error, Sink, Source};
-use h3_lattice::BaseTable;
-use h3_lines::{AnswerError, Refusal, write_result, write_walk};
+use h3_index::{Cell, Edge, H3Error};
+use h3_lines::{AnswerError, RunError, write_result, write_walk};
+use h3_streams::{Sink, Source};
+use h3_table::BaseTable;
 use std::alloc::Global;
 
 /// What is asked of a base cell table.
@@ -50,13 +52,13 @@ pub(crate) enum TableQuery {
 }
 
 /// Writes the cells of a disk.
-fn write_disk<W: Sink>(table: &BaseTable, cell: Cell, k: i32, out: &mut W) -> Result<(), Refusal>
+fn write_disk<W: Sink>(table: &BaseTable, cell: Cell, k: i32, out: &mut W) -> Result<(), RunError>
     ensures { Writes (table_answer (GridDisk cell k) (link_of table.now)) result
         (sink_use W.taken W.has_failed out.old out.new) }
 {
     match Disk::new(table, cell, k) {
         Ok(disk) => write_walk(out, DiskCells { disk }),
-        Err(error) => Err(Refusal::Error(AnswerError::Call(error))),
+        Err(error) => Err(RunError::Error(AnswerError::Call(error))),
     }
 }
 
@@ -66,29 +68,29 @@ fn write_disk_distances<W: Sink>(
     cell: Cell,
     k: i32,
     out: &mut W,
-) -> Result<(), Refusal>
+) -> Result<(), RunError>
     ensures { Writes (table_answer (GridDiskDistances cell k) (link_of table.now)) result
         (sink_use W.taken W.has_failed out.old out.new) }
 {
     match Disk::new(table, cell, k) {
         Ok(walk) => write_walk(out, walk),
-        Err(error) => Err(Refusal::Error(AnswerError::Call(error))),
+        Err(error) => Err(RunError::Error(AnswerError::Call(error))),
     }
 }
 
 /// Writes the cells of a ring.
-fn write_ring<W: Sink>(table: &BaseTable, cell: Cell, k: i32, out: &mut W) -> Result<(), Refusal>
+fn write_ring<W: Sink>(table: &BaseTable, cell: Cell, k: i32, out: &mut W) -> Result<(), RunError>
     ensures { Writes (table_answer (GridRing cell k) (link_of table.now)) result
         (sink_use W.taken W.has_failed out.old out.new) }
 {
     match Ring::new(table, cell, k) {
         Ok(walk) => write_walk(out, walk),
-        Err(error) => Err(Refusal::Error(AnswerError::Call(error))),
+        Err(error) => Err(RunError::Error(AnswerError::Call(error))),
     }
 }
 
 /// Writes what is asked of a table.
-fn write_query<W: Sink>(table: &BaseTable, query: TableQuery, out: &mut W) -> Result<(), Refusal>
+fn write_query<W: Sink>(table: &BaseTable, query: TableQuery, out: &mut W) -> Result<(), RunError>
     ensures { Writes (table_answer query (link_of table.now)) result
         (sink_use W.taken W.has_failed out.old out.new) }
 {
@@ -111,7 +113,7 @@ pub(crate) fn over_table<T: Source, W: Sink>(
     query: Result<TableQuery, H3Error>,
     table: &mut T,
     out: &mut W,
-) -> Result<(), Refusal>
+) -> Result<(), RunError>
     ensures ends { (input : SourceUse) → Ends (with_table table_answer query) input
         (source_use T.left T.has_failed table.old table.new) result
         (sink_use W.taken W.has_failed out.old out.new) }

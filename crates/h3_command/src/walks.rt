@@ -8,7 +8,7 @@ ghost use Rattle.h3_command.specs.Answer.{request, with_table};
 ghost use Rattle.h3_command.specs.TableQuery.{table_answer};
 ghost use Rattle.h3_requests.specs.declared.command.Command.TheVariants.{GridDiskDistancesUnsafe, GridDiskUnsafe, GridRingUnsafe};
 
-use crate::given::cell_given;
+use crate::required::cell_given;
 use crate::table_query::TableQuery;
 use h3_index::H3Error;
 

@@ -3,7 +3,7 @@
 ghost use Rattle.std.specs.Prelude.{◌≡◌, Some};
 
 use arrayvec::ArrayVec;
-use h3_index::{Sink, Source, StreamFault};
+use h3_streams::{Sink, Source, StreamFault};
 
 /// Which calls of a stream fail, counted from 0.
 #[derive(Clone, Copy)]

@@ -6,7 +6,7 @@ ghost use Rattle.std.specs.Prelude.{◌<◌};
 use arrayvec::ArrayString;
 use h3_directions::{DIRECTIONS, Direction};
 use h3_index::is_pentagon_base;
-use h3_lattice::vectors::{TestTable, link};
+use h3_table::vectors::{TestTable, link};
 use itoa::Buffer;
 
 /// The room for a file: a header of 16 bytes, and 660 records of at most 12. A file in format 2 is

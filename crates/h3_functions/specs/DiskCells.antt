@@ -2,7 +2,7 @@
 use Rattle.std.specs.Prelude.{List, map, Result}
 use Rattle.h3_index.specs.Cell.{Address}
 use Rattle.h3_index.specs.declared.error.H3Error.{H3Error}
-use Rattle.h3_grid.specs.Disk.{disk_left}
+use Rattle.h3_grid.specs.Disks.{disk_left}
 use Rattle.h3_functions.specs.Walks.{without_ring}
 use Rattle.h3_functions.specs.declared.disk_cells.DiskCells.{DiskCells}
 

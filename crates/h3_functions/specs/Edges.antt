@@ -6,7 +6,7 @@ use Rattle.h3_index.specs.Edge.{DirectedEdge}
 use Rattle.h3_index.specs.EdgeNumber.{edge_in}
 use Rattle.h3_index.specs.declared.error.H3Error.{H3Error}
 use Rattle.h3_index.specs.declared.error.H3Error.TheVariants.{DirEdgeInvalid}
-use Rattle.h3_lattice.specs.Links.{Links}
+use Rattle.h3_table.specs.Links.{Links}
 use Rattle.h3_grid.specs.DirectedEdges.{edge_between, edge_destination, edges_from}
 use Rattle.h3_grid.specs.Neighbors.{are_neighbors}
 use Rattle.h3_functions.specs.Inspection.{cell_from, for_value}

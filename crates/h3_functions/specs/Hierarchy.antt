@@ -1,7 +1,7 @@
 -- What H3's hierarchy functions return for an index.
 use Rattle.std.specs.Prelude.{ℕ, ℤ, List, length, slice_get, unsigned_abs, unwrap_or, Option, None, Some, Result, Ok, Err}
 use Rattle.h3_index.specs.Cell.{Address, resolution}
-use Rattle.h3_index.specs.Descendants.{center_at, cut, descendants}
+use Rattle.h3_index.specs.Descendants.{center_descendant, ancestor_at, descendants}
 use Rattle.h3_index.specs.declared.error.H3Error.{H3Error}
 use Rattle.h3_tree.specs.LastChild.{last_at}
 use Rattle.h3_tree.specs.Positions.{position_under}
@@ -16,12 +16,12 @@ unless (Some e) value = Err e
 -- cell_to_parent index r: the ancestor at a resolution, or the error
 abbrev pub cell_to_parent : ℕ → ℤ → Result Address H3Error
 cell_to_parent index res =
-    for_value (λ c. unless (parent_refusal (resolution c) res) (cut c (unsigned_abs res))) (cell_from index)
+    for_value (λ c. unless (parent_refusal (resolution c) res) (ancestor_at c (unsigned_abs res))) (cell_from index)
 
 -- cell_to_center_child index r: the descendant whose further digits are 0, or the error
 abbrev pub cell_to_center_child : ℕ → ℤ → Result Address H3Error
 cell_to_center_child index res =
-    for_value (λ c. unless (descent_refusal (resolution c) res) (center_at c (unsigned_abs res))) (cell_from index)
+    for_value (λ c. unless (descent_refusal (resolution c) res) (center_descendant c (unsigned_abs res))) (cell_from index)
 
 -- cell_to_last_child index r: the descendant whose further digits are 6, or the error
 abbrev pub cell_to_last_child : ℕ → ℤ → Result Address H3Error
@@ -41,7 +41,7 @@ cell_to_children_size index res =
 -- cell_to_child_pos index r: the cell's position under its ancestor, or the error
 abbrev pub cell_to_child_pos : ℕ → ℤ → Result ℕ H3Error
 cell_to_child_pos index res =
-    for_value (λ c. unless (parent_refusal (resolution c) res) (position_under (cut c (unsigned_abs res)) c)) (cell_from index)
+    for_value (λ c. unless (parent_refusal (resolution c) res) (position_under (ancestor_at c (unsigned_abs res)) c)) (cell_from index)
 
 -- child_pos_to_cell n index r: the descendant at a position, or the error
 abbrev pub child_pos_to_cell : ℕ → ℕ → ℤ → Result Address H3Error

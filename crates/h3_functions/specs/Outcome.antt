@@ -1,7 +1,7 @@
 -- What each of H3's functions of one index returns.
 use Rattle.std.specs.Prelude.{ℕ, Ok}
-use Rattle.h3_requests.specs.declared.command.CellFunction.{CellFunction}
-use Rattle.h3_requests.specs.declared.command.CellFunction.TheVariants as each
+use Rattle.h3_requests.specs.declared.command.IndexFunction.{IndexFunction}
+use Rattle.h3_requests.specs.declared.command.IndexFunction.TheVariants as each
 use Rattle.h3_functions.specs.Edges.{get_directed_edge_origin, is_valid_directed_edge}
 use Rattle.h3_functions.specs.Hierarchy.{cell_to_center_child, cell_to_child_pos, cell_to_children_size, cell_to_last_child, cell_to_parent}
 use Rattle.h3_functions.specs.Inspection.{get_base_cell_number, get_resolution, is_pentagon, is_res_class_iii, is_valid_cell}
@@ -10,7 +10,7 @@ use Rattle.h3_functions.specs.declared.outcome.Outcome.TheVariants.{Cell, Count,
 
 -- outcome_of function index: what a function of one index returns, by its kind; for the edges of a cell the index, of
 -- which `origin_to_directed_edges` says them
-abbrev pub outcome_of : CellFunction → ℕ → Outcome
+abbrev pub outcome_of : IndexFunction → ℕ → Outcome
 outcome_of each.IsValidCell index = Truth (Ok (is_valid_cell index))
 outcome_of each.IsValidDirectedEdge index = Truth (Ok (is_valid_directed_edge index))
 outcome_of each.GetResolution index = Number (get_resolution index)

@@ -4,7 +4,7 @@
 use Rattle.std.specs.Prelude.{ℕ, ℤ, List, map, unsigned_abs, Result, Ok, Err}
 use Rattle.h3_index.specs.Cell.{Address}
 use Rattle.h3_index.specs.declared.error.H3Error.{H3Error}
-use Rattle.h3_lattice.specs.Links.{Links}
+use Rattle.h3_table.specs.Links.{Links}
 use Rattle.h3_grid.specs.Refusals.{disk_refusal, ring_refusal}
 use Rattle.h3_grid.specs.Walks.{disk, ring}
 use Rattle.h3_functions.specs.Hierarchy.{unless}

@@ -12,7 +12,7 @@ use crate::inspection::{
     get_base_cell_number, get_resolution, is_pentagon, is_res_class_iii, is_valid_cell,
 };
 use h3_index::{Cell, H3Error};
-use h3_requests::CellFunction::{self, *};
+use h3_requests::IndexFunction::{self, *};
 
 /// What a function of one index returns, by its kind.
 #[derive(Drop)]
@@ -35,7 +35,7 @@ pub enum Outcome {
 
 /// What a function returns for an index.
 #[inline(always)]
-pub fn outcome_of(function: CellFunction, index: u64) -> Outcome
+pub fn outcome_of(function: IndexFunction, index: u64) -> Outcome
     ensures { result ≡ outcome_of function index }
 {
     match function {

@@ -10,7 +10,7 @@ use Rattle.h3_index.specs.declared.error.H3Error.{H3Error}
 use Rattle.h3_directions.specs.declared.direction.Direction.{Direction}
 use Rattle.h3_directions.specs.declared.direction.Direction.TheVariants.{I}
 use Rattle.h3_directions.specs.Direction.{turned}
-use Rattle.h3_lattice.specs.Links.{IsSound, Links}
+use Rattle.h3_table.specs.Links.{IsSound, Links}
 use Rattle.h3_grid.specs.Chart.{RingAgrees, RingsAgree, disk_states}
 use Rattle.h3_grid.specs.Laws.{IsState, WritesCells}
 use Rattle.h3_grid.specs.Moves.{moves, sides}

@@ -9,8 +9,8 @@ use Rattle.h3_directions.specs.Direction.{digit_turned, opposite, turned, turned
 use Rattle.h3_lattice.specs.Digits.{cell_of}
 use Rattle.h3_lattice.specs.Expansion.{place, scaled}
 use Rattle.h3_lattice.specs.Laws.{OppositesAreThreeTurns}
-use Rattle.h3_lattice.specs.Lifted.{CornersLift, Reached, Reaches, ReversalsLift, across, led_by, reached}
-use Rattle.h3_lattice.specs.Links.{IsHexagonBase, IsSound, Links}
+use Rattle.h3_table.specs.Lifted.{CornersLift, Reached, Reaches, ReversalsLift, across, led_by, reached}
+use Rattle.h3_table.specs.Links.{IsHexagonBase, IsSound, Links}
 use Rattle.h3_lattice.specs.Moved.{IsSum}
 use Rattle.h3_grid.specs.Laws.{IsState, OverSoundLinks, StepsCloseTriangles, StepsLeave, StepsDiffer, StepsReachStates, StepsReverse}
 use Rattle.h3_grid.specs.Search.{step_of}

@@ -12,7 +12,7 @@ use Rattle.h3_index.specs.declared.error.H3Error.TheVariants.{DirEdgeInvalid, No
 use Rattle.h3_directions.specs.declared.direction.Direction.{Direction}
 use Rattle.h3_directions.specs.declared.direction.Direction.TheVariants.{K, J, JK, I, IK, IJ}
 use Rattle.h3_directions.specs.Direction.{digit_of, direction_of}
-use Rattle.h3_lattice.specs.Links.{Links}
+use Rattle.h3_table.specs.Links.{Links}
 use Rattle.h3_grid.specs.DirectedEdges.{IsDestination, IsEdgeBetween, ListsEdges, edge_between, edge_destination, edge_refusal, edges_from}
 use Rattle.h3_grid.specs.Neighbors.{AreNeighbors, DirectionsAreFound, direction_to, neighbor}
 use Rattle.h3_grid.proofs.ListLaws.{from_map, in_map}

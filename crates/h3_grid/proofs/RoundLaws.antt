@@ -6,7 +6,7 @@ use Rattle.h3_index.specs.declared.error.H3Error.{H3Error}
 use Rattle.h3_index.specs.declared.error.H3Error.TheVariants.{Pentagon}
 use Rattle.h3_directions.specs.declared.direction.Direction.{Direction}
 use Rattle.h3_directions.specs.declared.direction.Direction.TheVariants.{I}
-use Rattle.h3_lattice.specs.Links.{Links}
+use Rattle.h3_table.specs.Links.{Links}
 use Rattle.h3_grid.specs.Moves.{sides}
 use Rattle.h3_grid.specs.Search.{step_of}
 use Rattle.h3_grid.specs.Steps.{State, state}

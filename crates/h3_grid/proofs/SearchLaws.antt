@@ -11,7 +11,7 @@ use Rattle.h3_directions.specs.declared.direction.Direction.TheVariants.{K, J, J
 use Rattle.h3_directions.specs.Eisenstein.{Eisenstein}
 use Rattle.h3_directions.specs.Direction.{turned}
 use Rattle.h3_lattice.specs.Laws.{SumsExist, SumsAreUnique}
-use Rattle.h3_lattice.specs.Links.{Links}
+use Rattle.h3_table.specs.Links.{Links}
 use Rattle.h3_lattice.specs.Moved.{IsSum}
 use Rattle.h3_grid.specs.Search.{StepsAreFound, candidates, digit_lists, found_sum, is_expansion, same_point, carried, step_of}
 use Rattle.h3_grid.specs.Steps.{IsStep, State, led_to}

@@ -7,7 +7,7 @@ use Rattle.h3_index.specs.Cell.{Address}
 use Rattle.h3_directions.specs.declared.direction.Direction.{Direction}
 use Rattle.h3_directions.specs.declared.direction.Direction.TheVariants.{I}
 use Rattle.h3_directions.specs.Direction.{turned}
-use Rattle.h3_lattice.specs.Links.{IsSound, Links}
+use Rattle.h3_table.specs.Links.{IsSound, Links}
 use Rattle.h3_grid.specs.Chart.{states_from}
 use Rattle.h3_grid.specs.Laws.{IsState, OverSoundLinks, StepsReachStates}
 use Rattle.h3_grid.specs.Moves.{Move, ring_moves, side_moves, silent, write}

@@ -3,10 +3,10 @@
 use Rattle.std.specs.Prelude.{◌≡◌, ℕ, [], ◌∷◌, pos, map, Option, Some, None, refl}
 use Rattle.std.proofs.Common.{ap, sym, ◌∙◌, arith}
 use Rattle.h3_directions.specs.declared.direction.Direction.TheVariants.{IJ}
-use Rattle.h3_lattice.specs.declared.vectors.TestTable.TheVariants.{Plain, Skew, Twisted}
+use Rattle.h3_table.specs.declared.vectors.TestTable.TheVariants.{Plain, Skew, Twisted}
 use Rattle.h3_lattice.specs.Digits.{cell_of}
 use Rattle.h3_directions.specs.Eisenstein.{eisenstein}
-use Rattle.h3_lattice.specs.Vectors.{test_link}
+use Rattle.h3_table.specs.Vectors.{test_link}
 use Rattle.h3_grid.specs.Chart.{HasStatesOf, IsChart, IsVisit, disk_states, states_from}
 use Rattle.h3_grid.specs.Laws.{WritesCells}
 use Rattle.h3_grid.specs.Moves.{moves, ring_moves, ring_places, spiral}

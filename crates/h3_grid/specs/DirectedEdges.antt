@@ -10,7 +10,7 @@ use Rattle.h3_index.specs.declared.error.H3Error.{H3Error}
 use Rattle.h3_index.specs.declared.error.H3Error.TheVariants.{NotNeighbors, Pentagon}
 use Rattle.h3_directions.specs.declared.direction.Direction.{Direction}
 use Rattle.h3_directions.specs.Direction.{digit_of, direction_of, directions}
-use Rattle.h3_lattice.specs.Links.{Links}
+use Rattle.h3_table.specs.Links.{Links}
 use Rattle.h3_grid.specs.Neighbors.{direction_to, neighbor, pair_refusal, unless_refused}
 
 -- IsDestination link e y: y is the neighbor of the edge's origin in its direction

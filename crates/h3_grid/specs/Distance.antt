@@ -4,7 +4,7 @@ use Rattle.h3_index.specs.Cell.{Address, IsCell}
 use Rattle.h3_directions.specs.declared.direction.Direction.{Direction}
 use Rattle.h3_directions.specs.Eisenstein.{Eisenstein, sum_of, zero_point}
 use Rattle.h3_directions.specs.Direction.{unit_of}
-use Rattle.h3_lattice.specs.Links.{IsSound, Links}
+use Rattle.h3_table.specs.Links.{IsSound, Links}
 use Rattle.h3_grid.specs.Laws.{WritesCells}
 use Rattle.h3_grid.specs.Moves.{spiral}
 use Rattle.h3_grid.specs.Neighbors.{AreNeighbors}

@@ -6,7 +6,7 @@ use Rattle.h3_directions.specs.declared.direction.Direction.{Direction}
 use Rattle.h3_directions.specs.Eisenstein.{sum_of, zero_point}
 use Rattle.h3_directions.specs.Direction.{opposite, turned, turned_once}
 use Rattle.h3_lattice.specs.Expansion.{place}
-use Rattle.h3_lattice.specs.Links.{IsHexagonBase, IsSound, Links}
+use Rattle.h3_table.specs.Links.{IsHexagonBase, IsSound, Links}
 use Rattle.h3_grid.specs.Moves.{moves, spiral, sums_from}
 use Rattle.h3_grid.specs.Search.{step_of}
 use Rattle.h3_grid.specs.Steps.{State}

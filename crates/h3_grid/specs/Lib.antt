@@ -2,7 +2,7 @@ pub mod Chart
 pub mod ChartExamples
 pub mod Counters
 pub mod DirectedEdges
-pub mod Disk
+pub mod Disks
 pub mod Distance
 pub mod Edges
 pub mod Examples
@@ -10,7 +10,7 @@ pub mod Laws
 pub mod Moves
 pub mod Neighbors
 pub mod Refusals
-pub mod Ring
+pub mod Rings
 pub mod Search
 pub mod Steps
 pub mod Walks

@@ -10,7 +10,7 @@ use Rattle.h3_directions.specs.declared.direction.Direction.{Direction}
 use Rattle.h3_directions.specs.Eisenstein.{Eisenstein, sum_of}
 use Rattle.h3_directions.specs.Direction.{directions, turned, unit_of, value_of}
 use Rattle.h3_lattice.specs.Expansion.{place, scaled}
-use Rattle.h3_lattice.specs.Links.{Links}
+use Rattle.h3_table.specs.Links.{Links}
 use Rattle.h3_grid.specs.Steps.{IsStep, State, led_to}
 
 -- all lists of n digits

@@ -9,7 +9,7 @@ use Rattle.h3_index.specs.Cell.{Address, is_pentagon_base}
 use Rattle.h3_directions.specs.declared.direction.Direction.{Direction}
 use Rattle.h3_directions.specs.Direction.{digit_turned, turned}
 use Rattle.h3_lattice.specs.Digits.{cell_of}
-use Rattle.h3_lattice.specs.Links.{Links}
+use Rattle.h3_table.specs.Links.{Links}
 use Rattle.h3_lattice.specs.Moved.{IsSum}
 
 -- State: a cell, and a walk's rotation there

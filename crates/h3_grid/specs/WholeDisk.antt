@@ -1,7 +1,7 @@
 -- What holds of a disk of which no step is refused, beside the number of its cells.
 use Rattle.std.specs.Prelude.{◌≡◌, ℕ, List, All}
 use Rattle.h3_index.specs.Cell.{Address}
-use Rattle.h3_lattice.specs.Links.{Links}
+use Rattle.h3_table.specs.Links.{Links}
 use Rattle.h3_grid.specs.Chart.{HasStatesOf, IsChart, LeadsAlongPaths}
 use Rattle.h3_grid.specs.Distance.{HasDistances}
 use Rattle.h3_grid.specs.Laws.{IsChartedInside}

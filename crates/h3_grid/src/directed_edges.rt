@@ -2,7 +2,7 @@
 
 ghost use Rattle.std.specs.Prelude.{◌≡◌, IfOk, IfErr, MatchOption};
 ghost use Rattle.h3_index.specs.Cell.{Address};
-ghost use Rattle.h3_lattice.specs.BaseTable.{link_of};
+ghost use Rattle.h3_table.specs.BaseTable.{link_of};
 ghost use Rattle.h3_grid.specs.DirectedEdges.{IsDestination, IsEdgeBetween, ListsEdges, edge_between, edge_destination, edge_refusal, edges_from};
 ghost use Rattle.h3_grid.specs.Edges.{edges_left};
 ghost use Rattle.h3_grid.specs.Neighbors.{AreNeighbors, DirectionsAreFound, DirectionsDiffer};
@@ -11,7 +11,8 @@ use crate::iter::Edges;
 use crate::neighbors::{direction_to, neighbor, neighbor_is_lawful, pair_refusal};
 use h3_directions::Direction;
 use h3_index::{Cell, Edge, H3Error};
-use h3_lattice::{BaseTable, edge_direction};
+use h3_lattice::edge_direction;
+use h3_table::BaseTable;
 
 /// The edge that leaves one cell and leads to another, as H3's `cellsToDirectedEdge` returns it
 /// outside pentagon base cells. Which pairs are refused, and with which error, is this library's

@@ -5,7 +5,7 @@ ghost use Rattle.std.specs.Iterator.{YieldsFirst, item_count};
 ghost use Rattle.std.specs.Result.{result_err};
 ghost use Rattle.h3_directions.specs.Direction.{turned};
 ghost use Rattle.h3_index.specs.Cell.{is_pentagon_base, resolution};
-ghost use Rattle.h3_lattice.specs.BaseTable.{link_of};
+ghost use Rattle.h3_table.specs.BaseTable.{link_of};
 ghost use Rattle.h3_grid.specs.Chart.{ChartsLeadAlongPaths, DisksAreCharts, OriginsAreAlone, RingsAgree, StatesAreWritten};
 ghost use Rattle.h3_grid.specs.Counters.{side_before};
 ghost use Rattle.h3_grid.specs.Distance.{RingsAreDistances, SpiralsHoldSums};
@@ -18,7 +18,8 @@ use crate::steps::{step_ahead, steps_are_found, steps_are_lawful};
 use h3_directions::Direction;
 use h3_index::{Cell, H3Error};
 use h3_lattice::laws::{sums_are_lawful, turns_add_up};
-use h3_lattice::{BaseTable, turn};
+use h3_lattice::turn;
+use h3_table::BaseTable;
 
 /// The direction of the side of a ring that has this many sides after it.
 pub(crate) fn side_before(sides: u8) -> Direction
@@ -107,7 +108,7 @@ fn disk_is_lawful(table: &BaseTable, cell: Cell, k: i32)
 }
 
 impl<'a> Disk<'a> {
-    ghost use Rattle.h3_grid.specs.Disk.{disk_left};
+    ghost use Rattle.h3_grid.specs.Disks.{disk_left};
 
     /// The disk of a radius around a cell, as H3's `gridDiskUnsafe` and `gridDiskDistancesUnsafe`
     /// walk it; which disks are refused is this library's own. Nothing of it is walked yet.
@@ -180,7 +181,7 @@ impl<'a> Disk<'a> {
 }
 
 impl<'a> Iterator for Disk<'a> {
-    ghost use Rattle.h3_grid.specs.Disk.{disk_left};
+    ghost use Rattle.h3_grid.specs.Disks.{disk_left};
 
     type Item = Result<(Cell, u32), H3Error>;
 

@@ -3,7 +3,7 @@
 ghost use Rattle.std.specs.Prelude.{◌≡◌, ◌↔◌, ◌&&◌, not, is_some, Ok, true, false};
 ghost use Rattle.std.specs.Result.{result_err};
 ghost use Rattle.h3_index.specs.Cell.{IsCell};
-ghost use Rattle.h3_lattice.specs.BaseTable.{link_of};
+ghost use Rattle.h3_table.specs.BaseTable.{link_of};
 ghost use Rattle.h3_grid.specs.Laws.{OverSoundLinks};
 ghost use Rattle.h3_grid.specs.Neighbors.{AreNeighbors, BothOrdersAgree, DirectionsAreFound, DirectionsDiffer, NeighborsAreFound, NeighborsAreMutual, NeighborsDiffer, are_neighbors, direction_to, is_same, is_some_same, neighbor, neighbor_refusal, pair_refusal};
 
@@ -11,8 +11,8 @@ use crate::steps::{step, steps_are_lawful};
 use h3_directions::{DIRECTIONS, Direction};
 use h3_index::laws::numbers_are_unique;
 use h3_index::{Cell, H3Error};
-use h3_lattice::BaseTable;
 use h3_lattice::laws::{sums_are_lawful, turns_add_up};
+use h3_table::BaseTable;
 
 /// Laws of neighbors over sound links. It does nothing.
 fn neighbors_are_lawful()

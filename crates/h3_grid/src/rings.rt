@@ -5,7 +5,7 @@ ghost use Rattle.std.specs.Iterator.{YieldsFirst, item_count};
 ghost use Rattle.std.specs.Result.{result_err};
 ghost use Rattle.h3_directions.specs.Direction.{turned};
 ghost use Rattle.h3_index.specs.Cell.{is_pentagon_base, resolution};
-ghost use Rattle.h3_lattice.specs.BaseTable.{link_of};
+ghost use Rattle.h3_table.specs.BaseTable.{link_of};
 ghost use Rattle.h3_grid.specs.Chart.{OriginsAreAlone, RingEndsDisk};
 ghost use Rattle.h3_grid.specs.Counters.{side_before};
 ghost use Rattle.h3_grid.specs.Refusals.{ring_refusal};
@@ -16,7 +16,8 @@ use crate::disks::{disks_are_charts, side_before};
 use crate::steps::step_ahead;
 use h3_directions::Direction;
 use h3_index::{Cell, H3Error};
-use h3_lattice::{BaseTable, turn};
+use h3_lattice::turn;
+use h3_table::BaseTable;
 
 /// The cell and the rotation that k steps in the direction I lead to from a cell.
 fn outward(table: &BaseTable, cell: Cell, k: u32) -> Result<(Cell, u8), H3Error>
@@ -86,7 +87,7 @@ fn ring_is_lawful(table: &BaseTable, cell: Cell, k: i32)
 }
 
 impl<'a> Ring<'a> {
-    ghost use Rattle.h3_grid.specs.Ring.{ring_left};
+    ghost use Rattle.h3_grid.specs.Rings.{ring_left};
 
     /// The ring of a radius around a cell, as H3's `gridRingUnsafe` walks it. Nothing of it is
     /// walked yet: the first call of `next` takes as many steps as the radius, every other at most
@@ -182,7 +183,7 @@ impl<'a> Ring<'a> {
 }
 
 impl<'a> Iterator for Ring<'a> {
-    ghost use Rattle.h3_grid.specs.Ring.{ring_left};
+    ghost use Rattle.h3_grid.specs.Rings.{ring_left};
 
     type Item = Result<Cell, H3Error>;
 

@@ -4,15 +4,17 @@ ghost use Rattle.std.specs.Prelude.{◌≡◌, ◌<◌, false, None, Some, IfOk,
 ghost use Rattle.h3_directions.specs.declared.direction.Direction.{Direction};
 ghost use Rattle.h3_directions.specs.Direction.{turned};
 ghost use Rattle.h3_index.specs.Cell.{is_pentagon_base, resolution, IsCell};
-ghost use Rattle.h3_lattice.specs.BaseTable.{link_of};
+ghost use Rattle.h3_table.specs.BaseTable.{link_of};
 ghost use Rattle.h3_grid.specs.Laws.{OverSoundLinks, StepsCloseTriangles, StepsDiffer, StepsLeave, StepsReachStates, StepsReverse};
 ghost use Rattle.h3_grid.specs.Search.{step_of, StepsAreFound};
 ghost use Rattle.h3_grid.specs.Steps.{state, IsStep};
 
 use h3_directions::Direction;
 use h3_index::{Cell, H3Error, is_pentagon_base};
-use h3_lattice::laws::{checks_lift_to_steps, sums_are_lawful, turns_add_up};
-use h3_lattice::{BaseTable, Moved, add_at, turn};
+use h3_lattice::laws::{sums_are_lawful, turns_add_up};
+use h3_lattice::{Moved, add_at, turn};
+use h3_table::BaseTable;
+use h3_table::laws::checks_lift_to_steps;
 
 /// A law: a state has exactly one step in each direction, that which the function `step_of` of the
 /// definitions gives. It does nothing.

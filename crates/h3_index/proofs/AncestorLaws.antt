@@ -6,7 +6,7 @@ use Rattle.std.proofs.Math.Seq.{take-append_seam}
 use Rattle.std.proofs.lemmas.Bool.Decides.{nat_tests}
 use Rattle.std.proofs.lemmas.List.{length-take-le}
 use Rattle.h3_index.specs.Cell.{Address, IsCell, leading}
-use Rattle.h3_index.specs.Descendants.{along, cut, IsDescendant}
+use Rattle.h3_index.specs.Descendants.{along, ancestor_at, IsDescendant}
 
 same : (b : ℕ) (xs ys : List ℕ) → xs ≡ ys → ◌≡◌ {A = Address} (record { base = b; digits = xs }) (record { base = b; digits = ys })
 same b xs ys e = ap {B = Address} (λ zs. record { base = b; digits = zs }) e
@@ -14,8 +14,8 @@ same b xs ys e = ap {B = Address} (λ zs. record { base = b; digits = zs }) e
 pub address_same : (a b : Address) → a.base ≡ b.base → a.digits ≡ b.digits → a ≡ b
 address_same a b e f = same a.base a.digits b.digits f ∙ ap {B = Address} (λ n. record { base = n; digits = b.digits }) e
 
-pub length-cut : (c : Address) (q : ℕ) → q ≤ length c.digits → length (cut c q).digits ≡ q
-length-cut c q h = length-take-le q c.digits h
+pub length-ancestor_at : (c : Address) (q : ℕ) → q ≤ length c.digits → length (ancestor_at c q).digits ≡ q
+length-ancestor_at c q h = length-take-le q c.digits h
 
 take_small : (q : ℕ) (xs : List ℕ) → AllBelowBase 7 xs → AllBelowBase 7 (take q xs)
 take_small zero xs h = tt
@@ -33,11 +33,11 @@ leading-take (suc q) (zero ∷ xs) h = leading-take q xs h
 leading-take (suc q) (suc x ∷ xs) h = let z = not_zero x in rw z (rw z at h)
 
 -- what is above a cell is a cell
-pub cut_cell : (c : Address) (q : ℕ) → IsCell c → q ≤ length c.digits → IsCell (cut c q)
+pub cut_cell : (c : Address) (q : ℕ) → IsCell c → q ≤ length c.digits → IsCell (ancestor_at c q)
 cut_cell c q h le =
     record {
       base_small = h.base_small;
-      coarse = omega (arith, h.coarse, length-cut c q le);
+      coarse = omega (arith, h.coarse, length-ancestor_at c q le);
       digits_small = take_small q c.digits h.digits_small;
       not_deleted = λ t e. h.not_deleted t (leading-take q c.digits e);
     }

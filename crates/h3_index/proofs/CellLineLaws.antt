@@ -1,18 +1,18 @@
 -- The lines of two cells that differ in some digits alone.
 use Rattle.std.specs.Char.{digit_char}
 use Rattle.std.specs.Int.Digits.{number_from_digits}
-use Rattle.std.proofs.Common.{ℕ, zero, suc, ◌≡◌, ◌+◌, ◌-◌, ◌*◌, ◌/◌, ◌%◌, ◌^◌, ◌<◌, ◌≤◌, List, [], ◌∷◌, ◌++◌, length, set, take, drop, map, arith, sym, ap, ◌∙◌, lit<, inr}
+use Rattle.std.proofs.Common.{ℕ, zero, suc, ◌≡◌, ◌+◌, ◌-◌, ◌*◌, ◌/◌, ◌%◌, ◌^◌, ◌<◌, ◌≤◌, List, [], ◌∷◌, ◌++◌, length, get_or, set, take, drop, map, arith, refl, sym, ap, ◌∙◌, lit<, inr}
 use Rattle.std.proofs.Math.Nat.{one-le-pow}
 use Rattle.std.proofs.Math.Seq.{drop-append-add, drop-append_seam, take-append-add, take-append_seam}
-use Rattle.std.proofs.lemmas.List.{append-nil, append_assoc, drop-append-le, length-append, length-drop, length-map, length-take-le, map-append, length-set, take-append-drop, take-append-le, take_all, take_more_set}
+use Rattle.std.proofs.lemmas.List.{append-nil, append_assoc, drop-append-le, length-append, length-drop, length-map, length-take-le, map-append, take-append-drop, take-append-le}
 use Rattle.std.proofs.lemmas.Nat.{mod-mul-add, pow-add}
 use Rattle.h3_index.specs.Cell.{Address, IsCell, number_of}
 use Rattle.h3_index.specs.Digits.{last_digits}
 use Rattle.h3_index.specs.Text.{text_of}
 use Rattle.h3_index.proofs.CellLaws.{head_of, mode-number_of}
-use Rattle.h3_index.proofs.DigitsLaws.{eights, last_digits-cut, length-last_digits, low-last_digits, sixteens}
+use Rattle.h3_index.proofs.DigitsLaws.{eights, last_digits-ancestor_at, length-last_digits, low-last_digits, sixteens}
 use Rattle.h3_index.proofs.MoveLaws.{next_number, number_small}
-use Rattle.h3_index.proofs.WriteLaws.{rest_is, text_moved}
+use Rattle.h3_index.proofs.WriteLaws.{rest_is}
 
 -- the text of a cell has fifteen digits
 abbrev pub fifteen : ℕ → List ℕ
@@ -28,21 +28,12 @@ cell_text c h =
 length-fifteen : (v : ℕ) → length (fifteen v) ≡ 15
 length-fifteen v = length-map (last_digits 16 15 v) digit_char ∙ length-last_digits 16 15 v
 
--- moved up by one digit, the number has its text in front
-text_in_front : (c : Address) → IsCell c → take 15 (map digit_char (last_digits 16 16 (number_of c * 2 ^ 4 % 2 ^ 64))) ≡ text_of (number_of c)
-text_in_front c h =
-    let mode : number_of c / 2 ^ 56 ≡ 8 = mode-number_of c h in
-    let small : number_of c < 2 ^ 60 = number_small c h in
-    text_moved (number_of c) 1 (omega arith) (omega (arith, small)) (rest_is (number_of c) 1 (omega arith) (omega (arith, small)) (inr (omega (arith, mode))))
-
 pub length-text : (c : Address) → IsCell c → length (text_of (number_of c)) ≡ 15
 length-text c h = ap length (cell_text c h) ∙ length-fifteen (number_of c)
 
--- with a line feed in the place of the last of sixteen digits, they are its line
-pub line_made : (c : Address) (digits : List ℕ) → IsCell c → digits ≡ map digit_char (last_digits 16 16 (number_of c * 2 ^ 4 % 2 ^ 64)) → set digits 15 10 ≡ text_of (number_of c) ++ 10 ∷ []
-line_made c digits h is =
-    let size : length digits ≡ 16 = ap length is ∙ length-map (last_digits 16 16 (number_of c * 2 ^ 4 % 2 ^ 64)) digit_char ∙ length-last_digits 16 16 (number_of c * 2 ^ 4 % 2 ^ 64) in
-    sym (take_all 16 (set digits 15 10) (omega (arith, length-set digits 15 10, size))) ∙ take_more_set digits 15 10 (omega (arith, size)) ∙ ap (λ l. l ++ 10 ∷ []) (ap (take 15) is ∙ text_in_front c h)
+-- these digits and a line feed are its line
+pub line_made : (c : Address) (v : ℕ) → IsCell c → v ≡ number_of c → map digit_char (last_digits 16 15 v) ++ 10 ∷ [] ≡ text_of (number_of c) ++ 10 ∷ []
+line_made c v h is = ap (λ m. fifteen m ++ 10 ∷ []) is ∙ ap (λ l. l ++ 10 ∷ []) (sym (cell_text c h))
 
 -- ---- cells whose numbers agree above some digits
 
@@ -69,7 +60,7 @@ ones_below c n h fit =
 
 parts : (w v m n : ℕ) → m + (w + n) ≡ 15 → fifteen v ≡ map digit_char (last_digits 16 m (v / 16 ^ (w + n))) ++ (map digit_char (last_digits 16 w (v / 16 ^ n)) ++ map digit_char (last_digits 16 n v))
 parts w v m n sum =
-    ap (λ k. map digit_char (last_digits 16 k v)) (sym sum) ∙ ap (map digit_char) (last_digits-cut 16 m (w + n) v ∙ ap (λ ds. last_digits 16 m (v / 16 ^ (w + n)) ++ ds) (last_digits-cut 16 w n v))
+    ap (λ k. map digit_char (last_digits 16 k v)) (sym sum) ∙ ap (map digit_char) (last_digits-ancestor_at 16 m (w + n) v ∙ ap (λ ds. last_digits 16 m (v / 16 ^ (w + n)) ++ ds) (last_digits-ancestor_at 16 w n v))
     ∙ map-append digit_char (last_digits 16 m (v / 16 ^ (w + n))) _ ∙ ap (λ ds. map digit_char (last_digits 16 m (v / 16 ^ (w + n))) ++ ds) (map-append digit_char (last_digits 16 w (v / 16 ^ n)) (last_digits 16 n v))
 
 -- the three parts of a text of fifteen digits
@@ -127,7 +118,16 @@ text_before bytes front text at before size line =
 
 -- ---- sixteen bytes that are put at a place, and then some of them anew
 
-pub put_twice : (bytes line part : List ℕ) (w at m n i j p k : ℕ) → length line ≡ 16 → length part ≡ w → m + (w + n) ≡ 16 → at + 16 ≤ length bytes
+-- two elements that are set at a place
+set_two : {A : Type 0} (l : List A) (p : ℕ) (x y : A) → p + 2 ≤ length l → set (set l p x) (p + 1) y ≡ take p l ++ (x ∷ y ∷ drop 2 (drop p l))
+set_two [] p x y room = absurd (omega (arith, room))
+set_two (a ∷ []) zero x y room = absurd (omega (arith, room))
+set_two (a ∷ b ∷ l) zero x y room = refl
+set_two (a ∷ l) (suc p) x y room =
+    let next : suc p + 1 ≡ suc (p + 1) = omega arith in
+    rw next (ap (λ r. a ∷ r) (set_two l p x y (omega (arith, room))))
+
+put_twice : (bytes line part : List ℕ) (w at m n i j p k : ℕ) → length line ≡ 16 → length part ≡ w → m + (w + n) ≡ 16 → at + 16 ≤ length bytes
     → i ≡ 16 → p ≡ at + m → j ≡ w → k ≡ at + 16
     → take k (take p (take at bytes ++ (line ++ drop i (drop at bytes))) ++ (part ++ drop j (drop p (take at bytes ++ (line ++ drop i (drop at bytes))))))
     ≡ take at bytes ++ (take m line ++ (part ++ drop w (drop m line)))
@@ -151,11 +151,30 @@ put_twice bytes line part w at m n i j p k size pair sum room i_is p_is j_is k_i
     ∙ take-append-add a (t ++ (part ++ (d ++ r))) (length t + (length part + (length d + 0))) ∙ ap (λ l. a ++ l) (take-append-add t (part ++ (d ++ r)) (length part + (length d + 0)))
     ∙ ap (λ l. a ++ (t ++ l)) (take-append-add part (d ++ r) (length d + 0) ∙ ap (λ l. part ++ l) (take-append-add d r 0 ∙ append-nil d)))
 
-pub put_once : (bytes line : List ℕ) (at i k : ℕ) → length line ≡ 16 → at + 16 ≤ length bytes → i ≡ 16 → k ≡ at + 16
-    → take k (take at bytes ++ (line ++ drop i (drop at bytes))) ≡ take at bytes ++ line
-put_once bytes line at i k size room i_is k_is =
+two_of : (part : List ℕ) → length part ≡ 2 → get_or part 0 0 ∷ get_or part 1 0 ∷ [] ≡ part
+two_of [] size = absurd (omega (arith, size))
+two_of (x ∷ []) size = absurd (omega (arith, size))
+two_of (x ∷ y ∷ []) size = refl
+two_of (x ∷ y ∷ z ∷ part) size = absurd (omega (arith, size))
+
+-- sixteen bytes at a place, and then two of them anew
+pub put_pair : (bytes line part put : List ℕ) (at m n p k : ℕ) → length line ≡ 16 → length part ≡ 2 → m + (2 + n) ≡ 16 → at + 16 ≤ length bytes → put ≡ take at bytes ++ (line ++ drop 16 (drop at bytes)) → p ≡ at + m → k ≡ at + 16
+    → take k (set (set put p (get_or part 0 0)) (p + 1) (get_or part 1 0)) ≡ take at bytes ++ (take m line ++ (part ++ drop 2 (drop m line)))
+put_pair bytes line part put at m n p k size pair sum room put_is p_is k_is =
     let a = take at bytes in
-    let r = drop i (drop at bytes) in
+    let r = drop 16 (drop at bytes) in
+    let l = a ++ (line ++ r) in
+    let before : length a ≡ at = length-take-le at bytes (omega (arith, room)) in
+    let within : p + 2 ≤ length l = omega (arith, length-append a (line ++ r), length-append line r, before, size, p_is, sum) in
+    ap (λ q. take k (set (set q p (get_or part 0 0)) (p + 1) (get_or part 1 0))) put_is
+    ∙ ap (take k) (set_two l p (get_or part 0 0) (get_or part 1 0) within ∙ ap (λ e. take p l ++ (e ++ drop 2 (drop p l))) (two_of part pair))
+    ∙ put_twice bytes line part 2 at m n 16 2 p k size pair sum room refl p_is refl k_is
+
+pub put_once : (bytes line put : List ℕ) (at k : ℕ) → length line ≡ 16 → at + 16 ≤ length bytes → put ≡ take at bytes ++ (line ++ drop 16 (drop at bytes)) → k ≡ at + 16
+    → take k put ≡ take at bytes ++ line
+put_once bytes line put at k size room put_is k_is =
+    let a = take at bytes in
+    let r = drop 16 (drop at bytes) in
     let before : length a ≡ at = length-take-le at bytes (omega (arith, room)) in
     let all : k ≡ length a + (length line + 0) = omega (arith, k_is, before, size) in
-    ap (λ l. take l (a ++ (line ++ r))) all ∙ take-append-add a (line ++ r) (length line + 0) ∙ ap (λ l. a ++ l) (take-append-add line r 0 ∙ append-nil line)
+    ap (take k) put_is ∙ ap (λ l. take l (a ++ (line ++ r))) all ∙ take-append-add a (line ++ r) (length line + 0) ∙ ap (λ l. a ++ l) (take-append-add line r 0 ∙ append-nil line)

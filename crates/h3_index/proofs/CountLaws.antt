@@ -10,7 +10,7 @@ use Rattle.std.proofs.lemmas.Option.{slice_get-map}
 use Rattle.std.specs.Option.{option_map}
 use Rattle.h3_index.specs.Cell.{Address, IsCell, is_pentagon, is_pentagon_base, leading, number_of, pentagon_bases}
 use Rattle.h3_index.specs.Count.{CellsAreListed, CellsUpToAreListed, PentagonsAreListed, base_cell, cells_of, cells_up_to, pentagons}
-use Rattle.h3_index.specs.Descendants.{IsDescendant, center_at, descendants}
+use Rattle.h3_index.specs.Descendants.{IsDescendant, center_descendant, descendants}
 use Rattle.h3_index.proofs.AncestorLaws.{address_same, center, leading-zeros_after}
 use Rattle.h3_index.proofs.CellLaws.{number_of_is, low_small}
 use Rattle.h3_index.proofs.DescendantLaws.{from_descendants, in_descendants, rising_descendants, size_hexagon, size_pentagon}
@@ -197,21 +197,21 @@ pentagon_base_small b m = let test = each_passes (λ b. nat_lt b 122) pentagon_b
 pentagon_base_is : (b : ℕ) → Contains pentagon_bases b → is_pentagon_base b ≡ true
 pentagon_base_is b m = each_passes is_pentagon_base pentagon_bases refl b m
 
-center_pentagon : (b r : ℕ) → is_pentagon_base b ≡ true → is_pentagon (center_at (base_cell b) r) ≡ true
+center_pentagon : (b r : ℕ) → is_pentagon_base b ≡ true → is_pentagon (center_descendant (base_cell b) r) ≡ true
 center_pentagon b r h = let none : leading (replicate (r - 0) 0) ≡ 0 = leading-zeros_after [] (r - 0) in rw (h, none) refl
 
 each_pentagon : (r : ℕ) → r < 16 → (c : Address) → Contains (pentagons r) c ↔ (IsCell c × ((length c.digits ≡ r) × (is_pentagon c ≡ true)))
 unfolding pentagons
 each_pentagon r h c = (
-  λ m. let t = from_map (λ b. center_at (base_cell b) r) pentagon_bases c m in
+  λ m. let t = from_map (λ b. center_descendant (base_cell b) r) pentagon_bases c m in
       let d = center (base_cell t.0) r (base_valid t.0 (pentagon_base_small t.0 t.1)) (omega arith) h in
       subst (λ x. IsCell x × ((length x.digits ≡ r) × (is_pentagon x ≡ true))) t.2 (d.valid, (d.resolution_is, center_pentagon t.0 r (pentagon_base_is t.0 t.1))),
   λ p. let parts = and_parts (is_pentagon_base c.base) (leading c.digits == 0) p.1.1 in
       let test = parts.1 in
       let none : leading c.digits ≡ 0 = grind (arith, nat_tests) in
       let levels : length c.digits ≡ r - 0 = omega (arith, p.1.0) in
-      let same : center_at (base_cell c.base) r ≡ c = address_same _ c refl (sym (zeros c.digits none ∙ ap (λ n. replicate n 0) levels)) in
-      subst (Contains (map (λ b. center_at (base_cell b) r) pentagon_bases)) same (in_map (λ b. center_at (base_cell b) r) pentagon_bases c.base (any_in c.base pentagon_bases parts.0)),
+      let same : center_descendant (base_cell c.base) r ≡ c = address_same _ c refl (sym (zeros c.digits none ∙ ap (λ n. replicate n 0) levels)) in
+      subst (Contains (map (λ b. center_descendant (base_cell b) r) pentagon_bases)) same (in_map (λ b. center_descendant (base_cell b) r) pentagon_bases c.base (any_in c.base pentagon_bases parts.0)),
 )
 
 -- each number of a list is below those after it
@@ -235,15 +235,15 @@ pub pentagons_listed : PentagonsAreListed
 unfolding pentagons is_ascending
 pentagons_listed r h = record {
   each = each_pentagon r h;
-  ascending = rising_map (λ b. center_at (base_cell b) r) (λ a b ma mb less.
+  ascending = rising_map (λ b. center_descendant (base_cell b) r) (λ a b ma mb less.
       let da = center (base_cell a) r (base_valid a (pentagon_base_small a ma)) (omega arith) h in
       let db = center (base_cell b) r (base_valid b (pentagon_base_small b mb)) (omega arith) h in
-      base_rises (center_at (base_cell a) r) (center_at (base_cell b) r) da.valid db.valid (da.resolution_is ∙ sym db.resolution_is) less) pentagon_bases (λ b m. m) refl;
+      base_rises (center_descendant (base_cell a) r) (center_descendant (base_cell b) r) da.valid db.valid (da.resolution_is ∙ sym db.resolution_is) less) pentagon_bases (λ b m. m) refl;
 }
 
 -- the pentagon in the n-th of the base cells, where there is such a base cell
-pub nth_pentagon : (r : ℕ) (n found : Option ℕ) (P : Type 0) → (found ≡ None → P) → MatchOption n (found ≡ None) (λ k. slice_get pentagon_bases k ≡ found) → MatchOption n P (λ k. slice_get (pentagons r) k ≡ option_map (λ b. center_at (base_cell b) r) found)
+pub nth_pentagon : (r : ℕ) (n found : Option ℕ) (P : Type 0) → (found ≡ None → P) → MatchOption n (found ≡ None) (λ k. slice_get pentagon_bases k ≡ found) → MatchOption n P (λ k. slice_get (pentagons r) k ≡ option_map (λ b. center_descendant (base_cell b) r) found)
 unfolding pentagons
 nth_pentagon r None found P none is = none is
 nth_pentagon r (Some k) found P none is =
-    slice_get-map (λ b. center_at (base_cell b) r) pentagon_bases k ∙ ap (option_map (λ b. center_at (base_cell b) r)) is
+    slice_get-map (λ b. center_descendant (base_cell b) r) pentagon_bases k ∙ ap (option_map (λ b. center_descendant (base_cell b) r)) is

@@ -9,7 +9,7 @@ use Rattle.std.proofs.lemmas.List.{length-drop, take-append-drop}
 use Rattle.std.proofs.lemmas.List.Elements.{Contains-get_or}
 use Rattle.std.proofs.lemmas.Nat.{mul-le}
 use Rattle.h3_index.specs.Cell.{Address, IsCell, leading, is_pentagon, is_pentagon_base, number_of}
-use Rattle.h3_index.specs.Descendants.{along, cut, descendants, IsDescendant}
+use Rattle.h3_index.specs.Descendants.{along, ancestor_at, descendants, IsDescendant}
 use Rattle.h3_index.specs.Laws.{DescendantsAreListed}
 use Rattle.h3_index.specs.Paths.{paths}
 use Rattle.h3_index.proofs.AncestorLaws.{not_zero, address_same, below_append}
@@ -84,7 +84,7 @@ along_descendant c s ds v le fine h =
         ];
       };
       resolution_is = size;
-      under = address_same (cut (along c ds) (length c.digits)) c refl (take-append_seam c.digits ds);
+      under = address_same (ancestor_at (along c ds) (length c.digits)) c refl (take-append_seam c.digits ds);
     }
 
 pub from_descendants : (c x : Address) (s : ℕ) → IsCell c → length c.digits ≤ s → s < 16 → Contains (descendants c s) x → IsDescendant c s x

@@ -13,7 +13,7 @@ use Rattle.h3_index.specs.Cell.{leading}
 use Rattle.h3_index.specs.CellNumber.{digits_in}
 use Rattle.h3_index.specs.Digits.{last_digits}
 use Rattle.h3_index.proofs.DescendantLaws.{leading_after, leading_before}
-use Rattle.h3_index.proofs.DigitsLaws.{eights, last_digits-cut, length-last_digits, shifted}
+use Rattle.h3_index.proofs.DigitsLaws.{eights, last_digits-ancestor_at, length-last_digits, shifted}
 
 -- ---- the digits that are 7
 
@@ -198,7 +198,7 @@ cut_digits : (r m : ℕ) → r < 16 → digits_in m ≡ last_digits 8 r (m / 8 ^
 unfolding digits_in
 cut_digits r m less =
     let all : r + (15 - r) ≡ 15 = omega (arith, less) in
-    rw all at (last_digits-cut 8 r (15 - r) m)
+    rw all at (last_digits-ancestor_at 8 r (15 - r) m)
 
 pub take_digits : (r m : ℕ) → r < 16 → take r (digits_in m) ≡ last_digits 8 r (m / 8 ^ (15 - r))
 take_digits r m less =

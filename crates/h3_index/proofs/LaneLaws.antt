@@ -3,12 +3,15 @@ use Rattle.std.specs.Char.{digit_char, digit_value}
 use Rattle.std.specs.Int.Bits.{bit_and, bit_or}
 use Rattle.std.specs.Int.Digits.{number_from_digits, AllBelowBase}
 use Rattle.std.specs.List.{list_all}
-use Rattle.std.proofs.Common.{ℕ, zero, suc, ◌≡◌, ◌+◌, ◌-◌, ◌*◌, ◌/◌, ◌%◌, ◌^◌, ◌<◌, ◌==◌, nat_lt, nat_le, ltb, List, [], ◌∷◌, ◌++◌, length, map, replicate, cond, not, ◌||◌, true, inl, inr, refl, arith, ap, ap₂, lit<, ◌∙◌, w8, Fits, eqb-true, ltb-true, leb-true}
+use Rattle.std.proofs.Common.{ℕ, zero, suc, ◌≡◌, ◌+◌, ◌-◌, ◌*◌, ◌/◌, ◌%◌, ◌^◌, ◌<◌, ◌==◌, nat_lt, nat_le, ltb, leb, get_or, take, sym, ◌≤◌, List, [], ◌∷◌, ◌++◌, length, map, replicate, cond, not, ◌||◌, true, inl, inr, refl, arith, ap, ap₂, lit<, ◌∙◌, w8, Fits, eqb-true, ltb-true, leb-true}
 use Rattle.std.proofs.lemmas.Bool.{agree_below_at, and_parts, or_cases}
-use Rattle.std.proofs.lemmas.List.{length-map}
+use Rattle.std.proofs.Math.Seq.{take-append_seam}
+use Rattle.std.proofs.lemmas.List.{length-map, map-append}
 use Rattle.std.proofs.lemmas.Nat.{and_block, and_le_r, and_mask, le_or_l, le_or_r}
+use Rattle.std.proofs.lemmas.Simd.{SwzOk, SwzOk-from_below, swz_l}
 use Rattle.h3_index.specs.Digits.{last_digits}
 use Rattle.h3_index.specs.Text.{is_lower_digit}
+use Rattle.h3_index.proofs.DigitsLaws.{last_digits-ancestor_at, length-last_digits, low-last_digits}
 use lib.Lanes.{zip2, sel_l, top, fold_l, pick_l, number_l, digits_l, Each1}
 
 -- ---- the values of bytes
@@ -141,32 +144,43 @@ joined_is ds long small =
 
 -- ---- digits as characters
 
--- what `lettered` computes from n digits
-abbrev pub lettered_of : ℕ → List ℕ → List ℕ
-lettered_of n v =
-    zip2 plus (zip2 plus v (replicate n 48)) (zip2 bit_and (zip2 minus (replicate n 0) (least (excess v (replicate n 9)) (replicate n 1))) (replicate n 39))
+-- the characters of the digits from 0 on
+abbrev pub letters : List ℕ
+letters = 48 ∷ 49 ∷ 50 ∷ 51 ∷ 52 ∷ 53 ∷ 54 ∷ 55 ∷ 56 ∷ 57 ∷ 97 ∷ 98 ∷ 99 ∷ 100 ∷ 101 ∷ 102 ∷ []
 
--- from one of them
-letter : ℕ → ℕ
-letter d =
-    let over = minus (cond (top 7 (is_less d 9)) 9 d) 9 in
-    plus (plus d 48) (bit_and (minus 0 (cond (top 7 (is_less over 1)) over 1)) 39)
+letter_is : (d : ℕ) → d < 16 → cond (leb 128 d) 0 (get_or letters d 0) ≡ digit_char d
+letter_is d less = eqb-true _ _ (agree_below_at (λ d. cond (leb 128 d) 0 (get_or letters d 0) == digit_char d) (λ _. true) 16 d refl less)
 
-lettered_each : (v : List ℕ) → lettered_of (length v) v ≡ map letter v
-unfolding letter
-lettered_each [] = refl
-lettered_each (d ∷ v) = ap (λ l. letter d ∷ l) (lettered_each v)
+lettered_from : (i : ℕ) (v : List ℕ) → i + length v ≤ 16 → AllBelowBase 16 v → swz_l w8 16 letters i v ≡ map digit_char v
+lettered_from i [] fit small = refl
+lettered_from i (d ∷ v) fit small =
+    let first : 16 * (i / 16) + d ≡ d = omega (arith, fit) in
+    rw (first, lettered_from (suc i) v (omega (arith, fit)) small.1) (ap (λ l. l ∷ map digit_char v) (letter_is d small.0))
 
-letter_is : (d : ℕ) → d < 16 → letter d ≡ digit_char d
-unfolding letter
-letter_is d less = eqb-true _ _ (agree_below_at (λ d. letter d == digit_char d) (λ _. true) 16 d refl less)
+pub lettered_is : (v : List ℕ) → length v ≡ 16 → AllBelowBase 16 v → swz_l w8 16 letters 0 v ≡ map digit_char v
+lettered_is v long small = lettered_from 0 v (omega (arith, long)) small
 
-letters_each : (v : List ℕ) → AllBelowBase 16 v → map letter v ≡ map digit_char v
-letters_each [] small = refl
-letters_each (d ∷ v) small = rw (letter_is d small.0, letters_each v small.1) refl
+each_small : (v : List ℕ) → AllBelowBase 16 v → Each1 (λ j. j < 16) v
+each_small [] small = tt
+each_small (d ∷ v) small = (small.0, each_small v small.1)
 
-pub lettered_is : (v : List ℕ) → length v ≡ 16 → AllBelowBase 16 v → lettered_of 16 v ≡ map digit_char v
-lettered_is v long small = (rw long at (lettered_each v)) ∙ letters_each v small
+pub letters_found : (v : List ℕ) → length v ≡ 16 → AllBelowBase 16 v → SwzOk w8 16 16 0 v
+letters_found v long small = SwzOk-from_below w8 16 1 16 0 v refl (omega (arith, long)) (each_small v small)
+
+-- the first fifteen of sixteen lanes, and the last of others
+pub ended_by : (v : List ℕ) → length v ≡ 16 → pick_l 0 (v ++ replicate 16 10) (0 ∷ 1 ∷ 2 ∷ 3 ∷ 4 ∷ 5 ∷ 6 ∷ 7 ∷ 8 ∷ 9 ∷ 10 ∷ 11 ∷ 12 ∷ 13 ∷ 14 ∷ 31 ∷ []) ≡ take 15 v ++ 10 ∷ []
+ended_by v long = by_each 16 (λ v. pick_l 0 (v ++ replicate 16 10) (0 ∷ 1 ∷ 2 ∷ 3 ∷ 4 ∷ 5 ∷ 6 ∷ 7 ∷ 8 ∷ 9 ∷ 10 ∷ 11 ∷ 12 ∷ 13 ∷ 14 ∷ 31 ∷ []) ≡ take 15 v ++ 10 ∷ []) (λ a b c d e f g h i j k l m n o p. refl) v long
+
+-- moved up by one digit, a number has fifteen digits in front of the last
+pub moved_up : (v : ℕ) → take 15 (map digit_char (last_digits 16 16 (v * 2 ^ 4 % 2 ^ 64))) ≡ map digit_char (last_digits 16 15 v)
+moved_up v =
+    let up : v * 2 ^ 4 / 16 ^ 1 ≡ v = omega arith in
+    let front = map digit_char (last_digits 16 15 v) in
+    let size : 15 ≡ length front = sym (length-map (last_digits 16 15 v) digit_char ∙ length-last_digits 16 15 v) in
+    let whole : last_digits 16 16 (v * 2 ^ 4 % 2 ^ 64) ≡ last_digits 16 15 v ++ last_digits 16 1 (v * 2 ^ 4) =
+    low-last_digits 16 16 (v * 2 ^ 4) (lit< tt) ∙ last_digits-ancestor_at 16 15 1 (v * 2 ^ 4) ∙ ap (λ m. last_digits 16 15 m ++ last_digits 16 1 (v * 2 ^ 4)) up in
+    ap (λ l. take 15 (map digit_char l)) whole ∙ ap (take 15) (map-append digit_char (last_digits 16 15 v) (last_digits 16 1 (v * 2 ^ 4)))
+    ∙ ap (λ k. take k (front ++ map digit_char (last_digits 16 1 (v * 2 ^ 4)))) size ∙ take-append_seam front (map digit_char (last_digits 16 1 (v * 2 ^ 4)))
 
 -- ---- digits taken apart
 

@@ -10,8 +10,8 @@ use Rattle.std.proofs.lemmas.List.{length-drop, take-append-drop, append_assoc}
 use Rattle.std.proofs.lemmas.Nat.{pow-add, mul-le, div-mul-add, div-add-mod', mod-mul-add, and_mask, or_block}
 use Rattle.h3_index.specs.Cell.{Address, IsCell, leading, is_pentagon, number_of, padded}
 use Rattle.h3_index.specs.CellNumber.{address_in, IsCellNumber}
-use Rattle.h3_index.specs.Descendants.{along, center_at, child, cut}
-use Rattle.h3_index.proofs.AncestorLaws.{center, cut_cell, length-cut, not_zero}
+use Rattle.h3_index.specs.Descendants.{along, center_descendant, child, ancestor_at}
+use Rattle.h3_index.proofs.AncestorLaws.{center, cut_cell, length-ancestor_at, not_zero}
 use Rattle.h3_index.proofs.CellLaws.{address_in-number_of, below-padded, head_of, is_number_of, low_small, number_of_is}
 use Rattle.h3_index.proofs.DescendantLaws.{along_descendant, below_drop}
 use Rattle.h3_index.proofs.DigitsLaws.{eights, number_append, number_first, number_sevens, number_zeros}
@@ -105,14 +105,14 @@ divided c q h le =
     }
 
 -- what a shift leaves of a cell's number
-pub number_cut : (c : Address) (q : ℕ) → IsCell c → q ≤ length c.digits → (number_of c / 8 ^ (15 - q) + 1) * 8 ^ (15 - q) ≡ number_of (cut c q) + 1 + (length c.digits - q) * 2 ^ 52
+pub number_cut : (c : Address) (q : ℕ) → IsCell c → q ≤ length c.digits → (number_of c / 8 ^ (15 - q) + 1) * 8 ^ (15 - q) ≡ number_of (ancestor_at c q) + 1 + (length c.digits - q) * 2 ^ 52
 number_cut c q h le =
     let d = divided c q h le in
     let shifted : number_of c / 8 ^ (15 - q) ≡ head_of c * 8 ^ q + number_from_digits 8 (take q c.digits) =
     ap (λ n. n / 8 ^ (15 - q)) d.is ∙ div-mul-add (head_of c * 8 ^ q + number_from_digits 8 (take q c.digits)) (8 ^ (15 - q)) (number_from_digits 8 (drop q c.digits ++ replicate (15 - length c.digits) 7)) d.low in
-    let len = length-cut c q le in
-    let there : number_of (cut c q) + 1 ≡ head_of (cut c q) * 2 ^ 45 + (number_from_digits 8 (take q c.digits) + 1) * 8 ^ (15 - q) =
-    next_number (cut c q) (cut_cell c q h le) ∙ ap (λ l. head_of (cut c q) * 2 ^ 45 + (number_from_digits 8 (take q c.digits) + 1) * 8 ^ (15 - l)) len in
+    let len = length-ancestor_at c q le in
+    let there : number_of (ancestor_at c q) + 1 ≡ head_of (ancestor_at c q) * 2 ^ 45 + (number_from_digits 8 (take q c.digits) + 1) * 8 ^ (15 - q) =
+    next_number (ancestor_at c q) (cut_cell c q h le) ∙ ap (λ l. head_of (ancestor_at c q) * 2 ^ 45 + (number_from_digits 8 (take q c.digits) + 1) * 8 ^ (15 - l)) len in
     rw shifted (omega (arith, next_spread (head_of c) (8 ^ q) (number_from_digits 8 (take q c.digits)) (8 ^ (15 - q)) (2 ^ 45) d.total, there, len))
 
 -- the digits, and the 7 after them, without these
@@ -223,8 +223,8 @@ resolution_within n m r h e er =
 
 pub record IsCutForm (n : Address) (m q f r : ℕ) : Type 0 where
   pub fits : f * 2 ^ 52 % 2 ^ 64 + unused q < 2 ^ 64
-  pub is : bit_or (m - r * 2 ^ 52 % 2 ^ 64) (f * 2 ^ 52 % 2 ^ 64 + unused q) ≡ number_of (cut n q)
-  pub valid : IsCell (cut n q)
+  pub is : bit_or (m - r * 2 ^ 52 % 2 ^ 64) (f * 2 ^ 52 % 2 ^ 64 + unused q) ≡ number_of (ancestor_at n q)
+  pub valid : IsCell (ancestor_at n q)
 
 pub cut_form : (n : Address) (m q f r : ℕ) → IsCell n → m ≡ number_of n → r ≡ length n.digits → f ≡ q → q ≤ length n.digits → IsCutForm n m q f r
 cut_form n m q f r h e er ef le =
@@ -245,7 +245,7 @@ cut_form n m q f r h e er ef le =
     let none : 2 ^ k - 1 ≡ 0 * 2 ^ 52 + (2 ^ k - 1) = omega arith in
     let same : bit_or (number_of n) (2 ^ k - 1) ≡ (128 + length n.digits) * 2 ^ 52 + bit_or low (2 ^ k - 1) =
     ap (λ n. bit_or n (2 ^ k - 1)) whole ∙ ap (bit_or ((128 + length n.digits) * 2 ^ 52 + low)) none ∙ or_block 52 (128 + length n.digits) 0 low (2 ^ k - 1) less few ∙ ap (λ a. a * 2 ^ 52 + bit_or low (2 ^ k - 1)) (or_zero_r (128 + length n.digits)) in
-    let all : bit_or (number_of n) (2 ^ k - 1) + 1 ≡ number_of (cut n q) + 1 + (length n.digits - q) * 2 ^ 52 =
+    let all : bit_or (number_of n) (2 ^ k - 1) + 1 ≡ number_of (ancestor_at n q) + 1 + (length n.digits - q) * 2 ^ 52 =
     or_low (number_of n) k ∙ (rw (eights (15 - q)) (number_cut n q h le)) in
     record {
       fits = rw other (omega (arith, few, h.coarse, le));
@@ -276,8 +276,8 @@ pub record IsCenterForm (n : Address) (m s f r : ℕ) : Type 0 where
   pub fits : m + f * 2 ^ 52 % 2 ^ 64 < 2 ^ 64
   pub fits-2 : m + f * 2 ^ 52 % 2 ^ 64 + 1 * 2 ^ (3 * (15 - s)) % 2 ^ 64 < 2 ^ 64
   pub enough : 1 * 2 ^ (3 * (15 - r)) % 2 ^ 64 ≤ m + f * 2 ^ 52 % 2 ^ 64 + 1 * 2 ^ (3 * (15 - s)) % 2 ^ 64
-  pub is : m + f * 2 ^ 52 % 2 ^ 64 + 1 * 2 ^ (3 * (15 - s)) % 2 ^ 64 - 1 * 2 ^ (3 * (15 - r)) % 2 ^ 64 ≡ number_of (center_at n s)
-  pub valid : IsCell (center_at n s)
+  pub is : m + f * 2 ^ 52 % 2 ^ 64 + 1 * 2 ^ (3 * (15 - s)) % 2 ^ 64 - 1 * 2 ^ (3 * (15 - r)) % 2 ^ 64 ≡ number_of (center_descendant n s)
+  pub valid : IsCell (center_descendant n s)
 
 pub center_form : (n : Address) (m s f r r' : ℕ) → IsCell n → m ≡ number_of n → r ≡ length n.digits → r' ≡ length n.digits → f ≡ s - r' → length n.digits ≤ s → s ≤ 15 → IsCenterForm n m s f r
 center_form n m s f r r' h e er er' ef low high =

@@ -11,9 +11,9 @@ use Rattle.std.proofs.lemmas.List.{drop_all, take-append-drop}
 use Rattle.std.proofs.lemmas.Nat.{and_block, and_mask, mod_below, pow_pos, shr_split}
 use Rattle.h3_index.specs.Cell.{Address, IsCell, is_pentagon, is_pentagon_base, leading, number_of}
 use Rattle.h3_index.specs.CellNumber.{IsCellNumber, address_in}
-use Rattle.h3_index.specs.Descendants.{along, child, cut}
+use Rattle.h3_index.specs.Descendants.{along, child, ancestor_at}
 use Rattle.h3_index.specs.Siblings.{has_raised, last_digit, raised}
-use Rattle.h3_index.proofs.AncestorLaws.{cut_cell, length-cut}
+use Rattle.h3_index.proofs.AncestorLaws.{cut_cell, length-ancestor_at}
 use Rattle.h3_index.proofs.CellLaws.{digit-address_in}
 use Rattle.h3_index.proofs.DigitsLaws.{eights}
 use Rattle.h3_index.proofs.MoveLaws.{child_cell, inside_is, made_is, made_valid, number_child, number_small, power_small, shifted}
@@ -31,13 +31,13 @@ last_apart ds some =
     ap (λ l. take (length ds - 1) ds ++ l) (sym end) ∙ take-append-drop (length ds - 1) ds
 
 -- a digit 0 at the end makes no difference to whether a cell is a pentagon
-pub pentagon_above : (c : Address) → 0 < length c.digits → get_or c.digits (length c.digits - 1) 7 ≡ 0 → is_pentagon (cut c (length c.digits - 1)) ≡ is_pentagon c
+pub pentagon_above : (c : Address) → 0 < length c.digits → get_or c.digits (length c.digits - 1) 7 ≡ 0 → is_pentagon (ancestor_at c (length c.digits - 1)) ≡ is_pentagon c
 pentagon_above c some zero_last =
     let front = take (length c.digits - 1) c.digits in
     let whole : front ++ 0 ∷ [] ≡ c.digits = ap (λ d. front ++ d ∷ []) (sym zero_last) ∙ last_apart c.digits some in
     ap (λ n. is_pentagon_base c.base && n == 0) (sym (leading-zero front) ∙ ap leading whole)
 
-back_at : (c : Address) → 0 < length c.digits → along (cut c (length c.digits - 1)) (get_or c.digits (length c.digits - 1) 7 ∷ []) ≡ c
+back_at : (c : Address) → 0 < length c.digits → along (ancestor_at c (length c.digits - 1)) (get_or c.digits (length c.digits - 1) 7 ∷ []) ≡ c
 back_at c some = ap {B = Address} (λ ds. record { base = c.base; digits = ds }) (last_apart c.digits some)
 
 -- what is known of a cell's number and unit
@@ -49,10 +49,10 @@ pub record IsAt (c : Address) (m u : ℕ) : Type 0 where
   pub is : address_in m ≡ c
 
 pub at_cell : (c : Address) (m u : ℕ) → IsCellNumber m → address_in m ≡ c → u ≡ 8 ^ (15 - length c.digits) → IsAt c m u
-at_cell c m u h e unit = record {
+at_cell c m u h e last_digit_step = record {
   cell = rw e at h.valid;
   number = inside_is m c h e;
-  place = sym unit;
+  place = sym last_digit_step;
   code = h;
   is = e;
 }
@@ -173,8 +173,8 @@ raised_at c m u h other not_six rule =
     let less : d < 6 = omega (arith, under_seven, no_six) in
     let none_times : 0 * u ≡ 0 = omega arith in
     let hexagon : is_pentagon c ≡ false = no_pentagon c some (λ z. rule (bits ∙ ap (λ n. n * u) z ∙ none_times)) in
-    let above = cut c (length c.digits - 1) in
-    let size : length above.digits ≡ length c.digits - 1 = length-cut c (length c.digits - 1) (omega arith) in
+    let above = ancestor_at c (length c.digits - 1) in
+    let size : length above.digits ≡ length c.digits - 1 = length-ancestor_at c (length c.digits - 1) (omega arith) in
     let up : IsCell above = cut_cell c (length c.digits - 1) h.cell (omega arith) in
     let coarse : length above.digits < 15 = omega (arith, size, h.cell.coarse, some) in
     let never : is_pentagon above ≡ true → d + 1 ≢ 1 = λ pentagon one. (
@@ -186,9 +186,9 @@ raised_at c m u h other not_six rule =
     let low : number_of above + 2 ^ 52 ≡ number_of c + (7 - d) * 8 ^ (14 - length above.digits) = rw (back_at c some) at (number_child above d up here (omega (arith, less))) in
     let high : number_of above + 2 ^ 52 ≡ number_of (child above (d + 1)) + (7 - (d + 1)) * 8 ^ (14 - length above.digits) = number_child above (d + 1) up next (omega (arith, less)) in
     let left : 14 - length above.digits ≡ 15 - length c.digits = omega (arith, size, some) in
-    let unit : 8 ^ (14 - length above.digits) ≡ u = ap (λ n. 8 ^ n) left ∙ h.place in
+    let last_digit_step : 8 ^ (14 - length above.digits) ≡ u = ap (λ n. 8 ^ n) left ∙ h.place in
     let apart : (7 - d) * u ≡ (7 - (d + 1)) * u + u = (let parts : 7 - d ≡ 7 - (d + 1) + 1 = omega (arith, less) in rw parts (grind arith)) in
-    let grown : m + u ≡ number_of (child above (d + 1)) = omega (arith, h.number, rw unit at low, rw unit at high, apart) in
+    let grown : m + u ≡ number_of (child above (d + 1)) = omega (arith, h.number, rw last_digit_step at low, rw last_digit_step at high, apart) in
     let same : address_in (m + u) ≡ child above (d + 1) = made_is (m + u) (child above (d + 1)) next grown in
     let test : nat_lt d 6 ≡ true = grind (arith, nat_tests) in
     record {

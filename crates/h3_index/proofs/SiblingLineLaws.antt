@@ -2,11 +2,12 @@
 use Rattle.std.specs.Char.{digit_char}
 use Rattle.std.specs.Int.Digits.{number_from_digits}
 use Rattle.std.specs.List.{flat_map}
-use Rattle.std.proofs.Common.{ℕ, zero, suc, ◌≡◌, ◌≢◌, ◌+◌, ◌-◌, ◌*◌, ◌/◌, ◌%◌, ◌^◌, ◌<◌, ◌≤◌, ◌==◌, List, [], ◌∷◌, ◌++◌, length, map, Bool, true, false, ◌&&◌, if◌then◌else◌, refl, arith, sym, ap, ◌∙◌, length-append, append-nil, take, drop, bit_and, lit<}
-use Rattle.std.proofs.Math.Nat.{div-div-eq-div-mul, one-le-pow, pow-le-pow_right, pow-suc}
+use Rattle.std.proofs.Common.{ℕ, zero, suc, ◌≡◌, ◌≢◌, ◌+◌, ◌-◌, ◌*◌, ◌/◌, ◌%◌, ◌^◌, ◌<◌, ◌≤◌, ◌==◌, List, [], ◌∷◌, ◌++◌, length, map, Bool, true, false, ◌&&◌, if◌then◌else◌, refl, arith, sym, ap, ◌∙◌, length-append, append-nil, take, drop, get_or, eqb-true, bit_and, lit<}
+use Rattle.std.proofs.Math.Nat.{div-div-eq-div-mul, one-le-pow, pow-suc}
+use Rattle.std.proofs.lemmas.Bool.{agree_below_at}
 use Rattle.std.proofs.lemmas.Bool.Decides.{nat_tests}
 use Rattle.std.proofs.lemmas.Int.Digits.{number_push}
-use Rattle.std.proofs.lemmas.List.{flat_map_more, take_all}
+use Rattle.std.proofs.lemmas.List.{flat_map_more}
 use Rattle.std.proofs.lemmas.List.Folds.{flat_map-map}
 use Rattle.std.proofs.lemmas.Nat.{and_mask, div-mul-add, mod_below, mul-le, pow-add}
 use Rattle.h3_index.specs.Cell.{Address, IsCell, is_pentagon, number_of}
@@ -14,7 +15,7 @@ use Rattle.h3_index.specs.Descendants.{along, child, children, descendants}
 use Rattle.h3_index.specs.Digits.{last_digits}
 use Rattle.h3_index.specs.Paths.{paths, steps}
 use Rattle.h3_index.specs.Text.{text_of}
-use Rattle.h3_index.proofs.CellLineLaws.{ones_below, some_line_differs}
+use Rattle.h3_index.proofs.CellLineLaws.{line_made, ones_below, some_line_differs}
 use Rattle.h3_index.proofs.DigitsLaws.{eights, low-last_digits, sixteens}
 use Rattle.h3_index.proofs.MoveLaws.{child_cell, next_number}
 
@@ -198,21 +199,21 @@ pub record AreParts (p : Address) (line : List ℕ) (n byte step : ℕ) : Type 0
   pub step_is : step ≡ 2 ^ (bits_after p % 4)
   pub line_is : line ≡ text_of (number_of (child p 0)) ++ 10 ∷ []
 
-pub parts_made : (p first : Address) (raw r n end : ℕ) (line : List ℕ) → IsCell p → length p.digits < 15 → r ≡ length p.digits → first ≡ child p 0 → raw ≡ number_of first → n ≡ 3 * (14 - r) / 4
-    → end ≡ 16 → take end line ≡ text_of (number_of first) ++ 10 ∷ [] → length line ≡ 16
-    → AreParts p line n (bit_and (raw / 2 ^ (4 * n)) 255) (1 * 2 ^ (3 * (14 - r) % 4) % 2 ^ 64)
-parts_made p first raw r n end line h coarse r_is first_is raw_is after whole put size =
-    let b = bits_after p in
+power_listed : (k : ℕ) → k < 4 → get_or (1 ∷ 2 ∷ 4 ∷ 8 ∷ []) k 0 ≡ 2 ^ k
+power_listed k less = eqb-true _ _ (agree_below_at (λ k. get_or (1 ∷ 2 ∷ 4 ∷ 8 ∷ []) k 0 == 2 ^ k) (λ _. true) 4 k refl less)
+
+pub parts_made : (p first : Address) (raw r n low : ℕ) (line : List ℕ) → IsCell p → length p.digits < 15 → r ≡ length p.digits → first ≡ child p 0 → IsCell first → raw ≡ number_of first → n ≡ 3 * (14 - r) / 4 → low ≡ 3 * (14 - r) % 4
+    → line ≡ map digit_char (last_digits 16 15 raw) ++ 10 ∷ []
+    → AreParts p line n (bit_and (raw / 2 ^ (4 * n)) 255) (get_or (1 ∷ 2 ∷ 4 ∷ 8 ∷ []) low 0)
+parts_made p first raw r n low line h coarse r_is first_is cell raw_is after low_is made =
     let number : raw ≡ number_of (child p 0) = raw_is ∙ ap number_of first_is in
-    let four : b % 4 ≤ 4 = omega arith in
-    let few : 2 ^ (b % 4) ≤ 2 ^ 4 = pow-le-pow_right (omega arith) four in
     record {
       valid = h;
       coarse = coarse;
       after = after ∙ ap (λ k. 3 * (14 - k) / 4) r_is;
       byte_is = and_mask (raw / 2 ^ (4 * n)) 8 ∙ ap (λ m. raw / m % 256) (sixteens n) ∙ ap (λ m. m / 16 ^ n % 256) number;
-      step_is = ap (λ k. 1 * 2 ^ (3 * (14 - k) % 4) % 2 ^ 64) r_is ∙ omega (arith, few);
-      line_is = sym (take_all end line (omega (arith, whole, size))) ∙ put ∙ ap (λ c. text_of (number_of c) ++ 10 ∷ []) first_is;
+      step_is = power_listed low (omega (arith, low_is)) ∙ ap (λ k. 2 ^ k) low_is ∙ ap (λ k. 2 ^ (3 * (14 - k) % 4)) r_is;
+      line_is = made ∙ line_made first raw cell raw_is ∙ ap (λ c. text_of (number_of c) ++ 10 ∷ []) first_is;
     }
 
 first_cell : (p : Address) (line : List ℕ) (n byte step : ℕ) → AreParts p line n byte step → IsCell (child p 0)

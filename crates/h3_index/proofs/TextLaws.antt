@@ -42,12 +42,12 @@ reading_none digits = record { same_test = refl; same_value = refl; small = rw (
 pub reading_more : (digits : List ℕ) (i number value : ℕ) → i < length digits → digit_value (get_or digits i 0) < 16 → value ≡ digit_value (get_or digits i 0)
     → IsReading digits i number → IsReading digits (i + 1) (number * 16 + value)
 reading_more digits i number value within small is r =
-    let cut : drop i digits ≡ get_or digits i 0 ∷ drop (i + 1) digits = rw add-one (drop-cons digits i 0 within) in
+    let ancestor_at : drop i digits ≡ get_or digits i 0 ∷ drop (i + 1) digits = rw add-one (drop-cons digits i 0 within) in
     let test : is_digit (get_or digits i 0) 16 ≡ true = grind (arith, nat_tests) in
     let power : 16 ^ (i + 1) ≡ 16 ^ i * 16 = rw add-one (pow-suc 16 i) in
     record {
-      same_test = r.same_test ∙ (rw (cut, test) refl);
-      same_value = r.same_value ∙ (rw (cut, is) refl);
+      same_test = r.same_test ∙ (rw (ancestor_at, test) refl);
+      same_value = r.same_value ∙ (rw (ancestor_at, is) refl);
       small = rw power (omega (arith, r.small, small, is));
     }
 
@@ -75,7 +75,7 @@ reading_all digits i number some short all r =
 
 pub reading_stops : (digits : List ℕ) (i number : ℕ) → 0 < length digits → length digits ≤ 16 → i < length digits → 16 ≤ digit_value (get_or digits i 0) → IsReading digits i number → None ≡ parsed_number digits
 reading_stops digits i number some short within large r =
-    let cut : drop i digits ≡ get_or digits i 0 ∷ drop (i + 1) digits = rw add-one (drop-cons digits i 0 within) in
+    let ancestor_at : drop i digits ≡ get_or digits i 0 ∷ drop (i + 1) digits = rw add-one (drop-cons digits i 0 within) in
     let first : is_digit (get_or digits i 0) 16 ≡ false = grind (arith, nat_tests) in
-    let test : list_all (λ d. is_digit d 16) digits ≡ false = r.same_test ∙ (rw (cut, first) refl) in
+    let test : list_all (λ d. is_digit d 16) digits ≡ false = r.same_test ∙ (rw (ancestor_at, first) refl) in
     sym (parsed digits some short false test)

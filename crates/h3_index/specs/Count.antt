@@ -2,7 +2,7 @@
 use Rattle.std.specs.Prelude.{ℕ, ℤ, pos, negsuc, ◌≡◌, ◌+◌, ◌<◌, ◌≤◌, ◌↔◌, nat_lt, List, map, AllPairs, Contains, Option, Some, None, true, if◌then◌else◌, []}
 use Rattle.std.specs.List.{flat_map, range_with_len}
 use Rattle.h3_index.specs.Cell.{Address, IsCell, is_pentagon, number_of, pentagon_bases, resolution}
-use Rattle.h3_index.specs.Descendants.{center_at, descendants}
+use Rattle.h3_index.specs.Descendants.{center_descendant, descendants}
 
 -- number_below n x: the whole number x, if it is 0 or more and below n
 unfoldable pub number_below : ℕ → ℤ → Option ℕ
@@ -27,7 +27,7 @@ cells_up_to r = flat_map cells_of (range_with_len 0 (r + 1))
 
 -- pentagons r: the pentagons of a resolution, ascending
 unfoldable pub pentagons : ℕ → List Address
-pentagons r = map (λ b. center_at (base_cell b) r) pentagon_bases
+pentagons r = map (λ b. center_descendant (base_cell b) r) pentagon_bases
 
 -- ListsCells P cells: the list holds the cells with a property and nothing else, and ascends
 pub record ListsCells (P : Address → Type 0) (cells : List Address) : Type 0 where

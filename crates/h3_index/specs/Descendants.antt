@@ -6,9 +6,9 @@ use Rattle.std.specs.Prelude.{ℕ, ◌≡◌, ◌+◌, ◌-◌, List, [], ◌∷
 use Rattle.h3_index.specs.Cell.{Address, IsCell, is_pentagon, resolution}
 use Rattle.h3_index.specs.Paths.{paths}
 
--- cut c r: c with its digits up to resolution r
-abbrev pub cut : Address → ℕ → Address
-cut c r = record { base = c.base; digits = take r c.digits }
+-- ancestor_at c r: c with its digits up to resolution r
+abbrev pub ancestor_at : Address → ℕ → Address
+ancestor_at c r = record { base = c.base; digits = take r c.digits }
 
 -- a cell with further digits
 abbrev pub along : Address → List ℕ → Address
@@ -18,15 +18,15 @@ along c ds = record { base = c.base; digits = c.digits ++ ds }
 abbrev pub child : Address → ℕ → Address
 child c d = along c (d ∷ [])
 
--- center_at c s: c with further digits 0 up to resolution s
-abbrev pub center_at : Address → ℕ → Address
-center_at c s = along c (replicate (s - resolution c) 0)
+-- center_descendant c s: c with further digits 0 up to resolution s
+abbrev pub center_descendant : Address → ℕ → Address
+center_descendant c s = along c (replicate (s - resolution c) 0)
 
 -- IsAncestor a c: c cut at the resolution of a is a
 --
 -- both have the same base cell, and the digits of a begin those of c; a cell is an ancestor of itself
 abbrev pub IsAncestor : Address → Address → Type 0
-IsAncestor a c = cut c (resolution a) ≡ a
+IsAncestor a c = ancestor_at c (resolution a) ≡ a
 
 -- IsDescendant c s x: x is a cell of resolution s with the ancestor c
 pub record IsDescendant (c : Address) (s : ℕ) (x : Address) : Type 0 where

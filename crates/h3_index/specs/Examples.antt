@@ -3,7 +3,7 @@ use Rattle.std.specs.Prelude.{◌≡◌, [], ◌∷◌, map, true, false, Some, 
 use Rattle.h3_index.specs.Cell.{Address, is_pentagon, number_of}
 use Rattle.h3_index.specs.CellNumber.{address_in, cell_in}
 use Rattle.h3_index.specs.Count.{base_cell, pentagons}
-use Rattle.h3_index.specs.Descendants.{cut}
+use Rattle.h3_index.specs.Descendants.{ancestor_at}
 use Rattle.h3_index.specs.Edge.{directed_edge, edge_number}
 use Rattle.h3_index.specs.EdgeNumber.{directed_edge_in, edge_in}
 use Rattle.h3_index.specs.Moves.{with_base, with_digit}
@@ -24,7 +24,7 @@ hexagon_read : cell_in 0x85283473fffffff ≡ Some hexagon
 unfolding cell_in address_in number_of
 hexagon_read = refl
 
-hexagon_cut : number_of (cut hexagon 4) ≡ 0x8428347ffffffff
+hexagon_cut : number_of (ancestor_at hexagon 4) ≡ 0x8428347ffffffff
 unfolding number_of
 hexagon_cut = refl
 
@@ -41,11 +41,11 @@ hexagon_raised : number_of (raised hexagon) ≡ 0x85283477fffffff
 unfolding number_of
 hexagon_raised = refl
 
-last_digits_read : map (λ c. last_digit c) (hexagon ∷ cut hexagon 2 ∷ cut hexagon 0 ∷ []) ≡ 4 ∷ 6 ∷ 7 ∷ []
+last_digits_read : map (λ c. last_digit c) (hexagon ∷ ancestor_at hexagon 2 ∷ ancestor_at hexagon 0 ∷ []) ≡ 4 ∷ 6 ∷ 7 ∷ []
 last_digits_read = refl
 
 -- after the digits 4 and 6, at resolution 0, at a pentagon, and beside one
-raised_tests : map (λ c. has_raised c) (hexagon ∷ cut hexagon 2 ∷ cut hexagon 0 ∷ record { base = 4; digits = 0 ∷ 0 ∷ [] } ∷ record { base = 4; digits = 0 ∷ 2 ∷ [] } ∷ []) ≡ true ∷ false ∷ false ∷ false ∷ true ∷ []
+raised_tests : map (λ c. has_raised c) (hexagon ∷ ancestor_at hexagon 2 ∷ ancestor_at hexagon 0 ∷ record { base = 4; digits = 0 ∷ 0 ∷ [] } ∷ record { base = 4; digits = 0 ∷ 2 ∷ [] } ∷ []) ≡ true ∷ false ∷ false ∷ false ∷ true ∷ []
 raised_tests = refl
 
 first_and_last_base_cells : map (λ b. number_of (base_cell b)) (0 ∷ 121 ∷ []) ≡ 0x8001fffffffffff ∷ 0x80f3fffffffffff ∷ []

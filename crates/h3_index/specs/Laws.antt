@@ -4,7 +4,7 @@ use Rattle.std.specs.Cmp.Lexicographic.{slice_cmp}
 use Rattle.std.specs.Ordering.{nat_cmp, ordering_then}
 use Rattle.h3_index.specs.Cell.{Address, IsCell, is_pentagon, number_of, resolution}
 use Rattle.h3_index.specs.CellNumber.{cell_in}
-use Rattle.h3_index.specs.Descendants.{cut, IsDescendant, descendants}
+use Rattle.h3_index.specs.Descendants.{ancestor_at, IsDescendant, descendants}
 use Rattle.h3_index.specs.Edge.{DirectedEdge, IsEdge, edge_number}
 use Rattle.h3_index.specs.Paths.{paths, next_path, AreLinked}
 
@@ -28,7 +28,7 @@ EdgeNumbersFollowFields =
 
 -- CutsAreCells: a cell cut at a resolution up to its own is a cell
 abbrev pub CutsAreCells : Type 0
-CutsAreCells = (c : Address) (r : ℕ) → IsCell c → r ≤ resolution c → IsCell (cut c r)
+CutsAreCells = (c : Address) (r : ℕ) → IsCell c → r ≤ resolution c → IsCell (ancestor_at c r)
 
 -- DescendantsAreListed: `descendants` holds the descendants and nothing else
 abbrev pub DescendantsAreListed : Type 0

@@ -1,7 +1,6 @@
 pub mod Cell
 pub mod CellNumber
 pub mod Count
-pub mod Counted
 pub mod Descendants
 pub mod DigitTest
 pub mod Digits
@@ -14,6 +13,4 @@ pub mod Laws
 pub mod Moves
 pub mod Paths
 pub mod Siblings
-pub mod Stream
-pub mod Streamed
 pub mod Text

@@ -79,7 +79,7 @@ pub fn pentagon(res: i32, n: i32) -> Result<Cell, H3Error>
 {
     let res = resolution_from(res)?;
     match pentagon_base(n) {
-        Some(base) => Ok(Cell::in_base(base).center_at(res)),
+        Some(base) => Ok(Cell::in_base(base).center_descendant(res)),
         None => Err(H3Error::Domain),
     }
 }

@@ -8,13 +8,11 @@ ghost use Rattle.h3_index.specs.Cell.{Address, number_of};
 ghost use Rattle.h3_index.specs.Count.{CellsUpToAreListed};
 ghost use Rattle.h3_index.specs.Edge.{DirectedEdge, edge_number};
 ghost use Rattle.h3_index.specs.declared.error.H3Error.{H3Error};
-ghost use Rattle.h3_index.specs.declared.stream.StreamFault.{StreamFault};
 ghost use Rattle.h3_index.specs.Laws.{EdgeNumbersFollowFields, NumbersFollowFields, NumbersAreRead, NumbersAreUnique, CutsAreCells, DescendantsAreListed, DescendantsAscend, HexagonsHaveSevens, PentagonsHaveFewer, PathsAreChains};
 
 use crate::cell::Cell;
 use crate::edge::Edge;
 use crate::error::H3Error;
-use crate::stream::StreamFault;
 use std::hash::Hash;
 
 /// Cells are equal, ordered and hashed as their numbers are, and numbers are ordered by resolution,
@@ -43,7 +41,7 @@ pub fn edges_compare_by_number()
     ensures fields { EdgeNumbersFollowFields }
 {}
 
-/// A clone of a cell, an edge, an error or a stream's fault is made, and is equal to it.
+/// A clone of a cell, an edge or an error is made, and is equal to it.
 pub fn clones_are_equal()
     ensures cells { (a b : Address) → ⟦<Cell as Clone>⟧.is_clone a b → b ≡ a }
     ensures cells_made { (a : Address) → ⟦<Cell as Clone>⟧.is_infallible a }
@@ -51,8 +49,6 @@ pub fn clones_are_equal()
     ensures edges_made { (a : DirectedEdge) → ⟦<Edge as Clone>⟧.is_infallible a }
     ensures errors { (a b : H3Error) → ⟦<H3Error as Clone>⟧.is_clone a b → b ≡ a }
     ensures errors_made { (a : H3Error) → ⟦<H3Error as Clone>⟧.is_infallible a }
-    ensures faults { (a b : StreamFault) → ⟦<StreamFault as Clone>⟧.is_clone a b → b ≡ a }
-    ensures faults_made { (a : StreamFault) → ⟦<StreamFault as Clone>⟧.is_infallible a }
 {}
 
 /// Cells with the same number are equal.

@@ -1,23 +1,18 @@
-//! H3 indexes: cells, directed edges, the texts of indexes, errors, and the streams
-//! that the `h3` command runs over.
+//! H3 indexes: cells, directed edges, the texts of indexes, and errors.
 #![tactic(auto)]
 
 mod cell;
 mod count;
-mod counted;
 mod display;
 mod edge;
 mod error;
 pub mod laws;
-mod stream;
 mod text;
 
 pub use cell::{Cell, Siblings, is_pentagon_base};
 pub use count::{num_cells, pentagon, res0_cell, resolution_from};
-pub use counted::CountedReader;
 pub use edge::Edge;
 pub use error::H3Error;
-pub use stream::{Sink, Source, StreamFault, Streamed};
 pub use text::{
     index_bytes, is_blank_text, put_cell_line, put_children_lines, read_index, read_plain,
     write_index,

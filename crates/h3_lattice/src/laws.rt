@@ -4,14 +4,11 @@
 ghost use Rattle.std.specs.Prelude.{◌≡◌, ℕ, List};
 ghost use Rattle.h3_lattice.specs.declared.class.Class.{Class};
 ghost use Rattle.h3_lattice.specs.declared.moved.Moved.{Moved};
-ghost use Rattle.h3_lattice.specs.declared.vectors.TestTable.{TestTable};
-ghost use Rattle.h3_lattice.specs.Lifted.{CornersLift, ReversalsLift};
 ghost use Rattle.h3_lattice.specs.Laws.{TurnsAdd, SixTurnsAreNone, OppositesAreThreeTurns, DigitTurnsAdd, SixDigitTurnsAreNone, NoTurnsKeepDigits, SumsExist, SumsAreUnique, SumsReverse, SumsTurn, SumsCloseTriangles};
 
 use crate::class::Class;
 use crate::digits::Digits;
 use crate::moved::Moved;
-use crate::vectors::TestTable;
 
 /// Turns of a direction and of a digit list add up, and six of them are none.
 pub fn turns_add_up()
@@ -33,13 +30,6 @@ pub fn sums_are_lawful()
     ensures triangles { SumsCloseTriangles }
 {}
 
-/// The checks of a table hold of steps too, at every resolution: over sound links, a step back
-/// undoes a step, and the steps in a direction and in the next one are a step apart.
-pub fn checks_lift_to_steps()
-    ensures reversals { ReversalsLift }
-    ensures corners { CornersLift }
-{}
-
 /// A clone is made, and is equal to its original.
 pub fn clones_are_equal()
     ensures classes { (a b : Class) → ⟦<Class as Clone>⟧.is_clone a b → b ≡ a }
@@ -48,6 +38,4 @@ pub fn clones_are_equal()
     ensures digits_made { (a : List ℕ) → ⟦<Digits as Clone>⟧.is_infallible a }
     ensures sums { (a b : Moved) → ⟦<Moved as Clone>⟧.is_clone a b → b ≡ a }
     ensures sums_made { (a : Moved) → ⟦<Moved as Clone>⟧.is_infallible a }
-    ensures tables { (a b : TestTable) → ⟦<TestTable as Clone>⟧.is_clone a b → b ≡ a }
-    ensures tables_made { (a : TestTable) → ⟦<TestTable as Clone>⟧.is_infallible a }
 {}

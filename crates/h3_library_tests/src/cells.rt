@@ -132,7 +132,7 @@ fn pentagons_and_classes_are_returned(rt: HostRuntime) {
 
 /// Whether a cell is raised to the cell expected, or not raised where none is.
 fn raises_to(cell: Cell, expected: Option<u64>) -> bool {
-    match (cell.raised(cell.unit()), expected) {
+    match (cell.raised(cell.last_digit_step()), expected) {
         (Some(next), Some(raw)) => next.raw() == raw,
         (None, None) => true,
         _ => false,
@@ -165,7 +165,7 @@ fn a_unit_is_one_in_the_last_digit(rt: HostRuntime) {
         (0x862834707ffffff, 0x8000000),
     ];
     for (row, (raw, unit)) in ROWS.iter().enumerate() {
-        assert!(rt; holds(&rt, row, cell(&rt, *raw).unit() == *unit));
+        assert!(rt; holds(&rt, row, cell(&rt, *raw).last_digit_step() == *unit));
     }
 }
 

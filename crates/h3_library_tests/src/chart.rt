@@ -7,8 +7,8 @@ use crate::rows::{cell, holds};
 use h3_directions::{DIRECTIONS, Direction};
 use h3_grid::{Disk, step};
 use h3_index::Cell;
-use h3_lattice::BaseTable;
-use h3_lattice::vectors::TestTable;
+use h3_table::BaseTable;
+use h3_table::vectors::TestTable;
 use std::alloc::{AllocError, Global};
 
 /// The moves of a disk of radius 2, and whether each writes a cell. The first seven are those of

@@ -2,7 +2,8 @@
 
 use crate::rows::{differ, holds};
 use h3_directions::{Direction, TableError};
-use h3_index::{H3Error, StreamFault};
+use h3_index::H3Error;
+use h3_streams::StreamFault;
 use std::alloc::AllocError;
 
 /// An error, its number, its name and its text.

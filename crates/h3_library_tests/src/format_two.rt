@@ -4,7 +4,7 @@ use crate::rows::holds;
 use crate::table::{ends, has_link, has_links, is_refused, read};
 use h3_directions::{DIRECTIONS, Direction, TableError};
 use h3_index::is_pentagon_base;
-use h3_lattice::vectors::{TestTable, link};
+use h3_table::vectors::{TestTable, link};
 use std::alloc::{AllocError, Global};
 
 const HEADER: &str = "base,k,j,jk,i,ik,ij,rk,rj,rjk,ri,rik,rij\n";

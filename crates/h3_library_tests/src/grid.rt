@@ -8,8 +8,8 @@ use h3_grid::{
     Disk, Edges, Ring, are_neighbors, disk_len, edge_between, edge_destination, edges_of, step,
 };
 use h3_index::{Cell, Edge, H3Error};
-use h3_lattice::BaseTable;
-use h3_lattice::vectors::TestTable;
+use h3_table::BaseTable;
+use h3_table::vectors::TestTable;
 use std::alloc::Global;
 use std::mem::size_of;
 use std::process::Abort;

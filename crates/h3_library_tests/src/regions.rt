@@ -374,7 +374,7 @@ fn what_one_region_has_beyond_another(rt: HostRuntime) {
 /// The children of the pentagon of base cell 4 at a resolution.
 fn pentagon_children(res: u8) -> [u64; 6] {
     let mut raws = [0; 6];
-    let center = Cell::in_base(4).center_at(res.min(14));
+    let center = Cell::in_base(4).center_descendant(res.min(14));
     if let Ok(items) = children(center, i32::from(res.min(14)) + 1) {
         for (raw, child) in raws.iter_mut().zip(items) {
             *raw = child.raw();
@@ -388,7 +388,7 @@ fn pentagon_children(res: u8) -> [u64; 6] {
 #[test]
 fn pentagons_have_six_children_at_every_level(rt: HostRuntime) {
     for res in 0..15u8 {
-        let pentagon = [Cell::in_base(4).center_at(res).raw()];
+        let pentagon = [Cell::in_base(4).center_descendant(res).raw()];
         let six = pentagon_children(res);
         let (five, one) = (&six[1..], &six[..1]);
         assert!(rt; unites(&rt, &(five, one, &pentagon)) && unites(&rt, &(five, five, five)));

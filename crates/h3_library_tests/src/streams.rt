@@ -3,7 +3,7 @@
 ghost use Rattle.std.specs.Prelude.{◌≤◌, IfOk};
 
 use crate::rows::holds;
-use h3_index::{CountedReader, Sink, Source, StreamFault, Streamed};
+use h3_streams::{CountedReader, Sink, Source, StreamFault, Streamed};
 use std::alloc::AllocError;
 use std::io::{self, Read, Write};
 

@@ -3,9 +3,10 @@
 use crate::rows::holds;
 use h3_directions::{DIRECTIONS, Direction, TableError};
 use h3_fakes::{Faults, FaultySource};
-use h3_index::{Source, StreamFault, Streamed, is_pentagon_base};
-use h3_lattice::BaseTable;
-use h3_lattice::vectors::{TestTable, link};
+use h3_index::is_pentagon_base;
+use h3_streams::{Source, StreamFault, Streamed};
+use h3_table::BaseTable;
+use h3_table::vectors::{TestTable, link};
 use std::alloc::{AllocError, Global};
 use std::mem::{align_of, size_of};
 

@@ -10,11 +10,11 @@ use Rattle.h3_lines.specs.Answer.{Answer, before, refused, written}
 use Rattle.h3_lines.specs.Answering.{Answered, Breaks, EndsBy, Moves, Puts, RefusesEach, TakesSome}
 use Rattle.h3_lines.specs.EachLaws.{answered_then, refuses_then, some_after}
 use Rattle.h3_lines.specs.EachLine.{followed_by, line_answer, lines_answer}
-use Rattle.h3_lines.specs.Writing.{AppendsPart, SinkUse, Takes, TakesPart, Writes, sink_use}
-use Rattle.h3_lines.specs.declared.refusal.AnswerError.TheVariants.{At}
-use Rattle.h3_lines.specs.declared.refusal.Fault.TheVariants.{Memory, Read, Write}
-use Rattle.h3_lines.specs.declared.refusal.Refusal.{Refusal}
-use Rattle.h3_lines.specs.declared.refusal.Refusal.TheVariants.{Error, Fault}
+use Rattle.h3_lines.specs.Write.{AppendsPart, SinkUse, Takes, TakesPart, Writes, sink_use}
+use Rattle.h3_lines.specs.declared.run_error.AnswerError.TheVariants.{At}
+use Rattle.h3_lines.specs.declared.run_error.Fault.TheVariants.{Memory, Read, Write}
+use Rattle.h3_lines.specs.declared.run_error.RunError.{RunError}
+use Rattle.h3_lines.specs.declared.run_error.RunError.TheVariants.{Error, Fault}
 use Rattle.h3_lines.proofs.PlainLines.{nothing_left}
 
 -- a line that parses as an index is not blank
@@ -35,12 +35,12 @@ some_of_whole : (bytes : List ℕ) (out : SinkUse) → TakesPart out bytes → T
 some_of_whole bytes out (inl p, failed) = (record { part = p.part; rest = p.rest; split = p.split; holds = inl p.holds }, failed)
 some_of_whole bytes out (inr whole, failed) = (record { part = bytes; rest = []; split = sym (append-nil bytes); holds = inr whole }, failed)
 
-pub written_takes : (bytes : List ℕ) (out : SinkUse) (r : Result (Unit {0}) Refusal) → Writes (written bytes) r out → OnOk r (Takes out bytes)
+pub written_takes : (bytes : List ℕ) (out : SinkUse) (r : Result (Unit {0}) RunError) → Writes (written bytes) r out → OnOk r (Takes out bytes)
 unfolding Writes
 written_takes bytes out (Ok u) w = w.1
 written_takes bytes out (Err e) w = tt
 
-pub written_fails : (bytes : List ℕ) (out : SinkUse) (r : Result (Unit {0}) Refusal) → 0 < length bytes → Writes (written bytes) r out
+pub written_fails : (bytes : List ℕ) (out : SinkUse) (r : Result (Unit {0}) RunError) → 0 < length bytes → Writes (written bytes) r out
     → IfErr r (λ e. (e ≡ Fault Write) × (0 < length bytes) × TakesSome out bytes)
 unfolding Writes
 written_fails bytes out (Ok u) some w = tt
@@ -84,7 +84,7 @@ module _ {S : Type 0} (taken : S → Option (List ℕ)) (failed : S → Bool) wh
     sound = m.sound;
   }
 
-  pub breaks_then : (all held more : List ℕ) (s t u : S) (e : Refusal) → Moves taken failed all held s t → Breaks held (sink_use taken failed t u) e → Breaks (all ++ more) (sink_use taken failed s u) e
+  pub breaks_then : (all held more : List ℕ) (s t u : S) (e : RunError) → Moves taken failed all held s t → Breaks held (sink_use taken failed t u) e → Breaks (all ++ more) (sink_use taken failed s u) e
   breaks_then all held more s t u e m (is, some, fails) =
       let whole : all ++ more ≡ (m.part ++ held) ++ more = ap (λ l. l ++ more) m.split in
       let enough : 0 < length ((m.part ++ held) ++ more) = omega (arith, length-append (m.part ++ held) more, length-append m.part held, some) in
@@ -124,7 +124,7 @@ module _ {S : Type 0} (taken : S → Option (List ℕ)) (failed : S → Bool) wh
   answered_index {answer} {n} {held} {block} {block'} {at} {end} {s} {t} line m is p =
       answered_then taken failed (λ a. a) [] (line ∷ []) refl m (answered_put answer n block block' at end t line (subst (λ b. Puts b block block' at end) (sym is) p))
 
-  pub refused_index : {answer : Option ℕ → Answer} {n : ℕ} {held held1 held2 : List ℕ} {s t : S} (u : S) (e : Refusal) (lines : List (List ℕ)) → Answered taken failed answer n n held held1 s t [] → held2 ≡ held1
+  pub refused_index : {answer : Option ℕ → Answer} {n : ℕ} {held held1 held2 : List ℕ} {s t : S} (u : S) (e : RunError) (lines : List (List ℕ)) → Answered taken failed answer n n held held1 s t [] → held2 ≡ held1
       → RefusesEach answer n held2 lines e (sink_use taken failed t u) → RefusesEach answer n held lines e (sink_use taken failed s u)
   refused_index {answer} {n} {t = t} u e lines m same r =
       refuses_then taken failed (λ a. a) u [] lines e refl m (subst (λ h. RefusesEach answer n h lines e (sink_use taken failed t u)) same r)
@@ -136,14 +136,14 @@ ends_refused answer n held line later e out is takes =
     subst (λ a. EndsBy (before held a) (Error (At n e)) out) (sym own) ((n, e, refl), refl, subst (Takes out) (sym (append-nil held)) takes)
 
 -- a write of what is held back fails
-pub ends_unwritten : (a : Answer) (held : List ℕ) (e : Refusal) (out : SinkUse) → (e ≡ Fault Write) × (0 < length held) × TakesSome out held → EndsBy (before held a) e out
+pub ends_unwritten : (a : Answer) (held : List ℕ) (e : RunError) (out : SinkUse) → (e ≡ Fault Write) × (0 < length held) × TakesSome out held → EndsBy (before held a) e out
 ends_unwritten a held e out (is, some, (b, failed)) =
     let more : 0 < length (held ++ a.output) = omega (arith, length-append held a.output, some) in
     subst (λ r. EndsBy (before held a) r out) (sym is)
     (more, (record { part = b.part; rest = b.rest ++ a.output; split = ap (λ l. l ++ a.output) b.split ∙ append_assoc b.part b.rest a.output; holds = b.holds }, failed))
 
 -- bytes of an answer that are not all taken
-pub breaks_ends : (answer : Option ℕ → Answer) (n : ℕ) (held text line : List ℕ) (later : List (List ℕ)) (e : Refusal) (out : SinkUse) {a : Answer} → line_answer answer line ≡ a → a ≡ written text → Breaks (held ++ text) out e
+pub breaks_ends : (answer : Option ℕ → Answer) (n : ℕ) (held text line : List ℕ) (later : List (List ℕ)) (e : RunError) (out : SinkUse) {a : Answer} → line_answer answer line ≡ a → a ≡ written text → Breaks (held ++ text) out e
     → RefusesEach answer n held (line ∷ later) e out
 breaks_ends answer n held text line later e out is said breaks =
     let next = lines_answer answer (n + 1) later in

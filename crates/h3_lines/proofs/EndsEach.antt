@@ -5,11 +5,11 @@ use Rattle.h3_lines.specs.Answer.{Answer, before, written}
 use Rattle.h3_lines.specs.Answering.{Answered, EndsBy, RefusesEach}
 use Rattle.h3_lines.specs.EachLine.{AnswersBeforeFault, EndsEach, StopsInPage, TakesBeginning, lines_answer}
 use Rattle.h3_lines.specs.Splitting.{StopsReading, StopsTaking, TakesAll}
-use Rattle.h3_lines.specs.Writing.{Writes, sink_use}
-use Rattle.h3_lines.specs.declared.refusal.AnswerError.{AnswerError}
-use Rattle.h3_lines.specs.declared.refusal.Fault.TheVariants.{Memory, Read, Write}
-use Rattle.h3_lines.specs.declared.refusal.Refusal.{Refusal}
-use Rattle.h3_lines.specs.declared.refusal.Refusal.TheVariants.{Error, Fault}
+use Rattle.h3_lines.specs.Write.{Writes, sink_use}
+use Rattle.h3_lines.specs.declared.run_error.AnswerError.{AnswerError}
+use Rattle.h3_lines.specs.declared.run_error.Fault.TheVariants.{Memory, Read, Write}
+use Rattle.h3_lines.specs.declared.run_error.RunError.{RunError}
+use Rattle.h3_lines.specs.declared.run_error.RunError.TheVariants.{Error, Fault}
 use Rattle.h3_lines.proofs.Written.{writes_after, writes_whole}
 
 module _ {S : Type 0} (taken : S → Option (List ℕ)) (failed : S → Bool) (answer : Option ℕ → Answer) where
@@ -64,10 +64,10 @@ module _ {S : Type 0} (taken : S → Option (List ℕ)) (failed : S → Bool) (a
 
 -- what takes the lines, and how it answers them
 module _ {S V : Type 0} (taken : S → Option (List ℕ)) (failed : S → Bool) (answer_of : V → Option ℕ → Answer) (number : V → ℕ) (held : V → List ℕ) (out : V → S)
-    (takes : V → List (List ℕ) → V → Type 0) (refused : V → List (List ℕ) → V → Refusal → Type 0) (settled : V → Type 0)
+    (takes : V → List (List ℕ) → V → Type 0) (refused : V → List (List ℕ) → V → RunError → Type 0) (settled : V → Type 0)
     (answers : (v w : V) (ls : List (List ℕ)) → takes v ls w → Answered taken failed (answer_of v) (number v) (number w) (held v) (held w) (out v) (out w) ls)
     (same : (v w : V) (ls : List (List ℕ)) → takes v ls w → answer_of w ≡ answer_of v)
-    (refuses : (v w : V) (ls : List (List ℕ)) (e : Refusal) → refused v ls w e → RefusesEach (answer_of v) (number v) (held v) ls e (sink_use taken failed (out v) (out w)))
+    (refuses : (v w : V) (ls : List (List ℕ)) (e : RunError) → refused v ls w e → RefusesEach (answer_of v) (number v) (held v) ls e (sink_use taken failed (out v) (out w)))
     (empty : (v : V) → settled v → held v ≡ []) where
   -- from the first line on, with nothing held back
   from_start : (v w : V) (ls : List (List ℕ)) → number v ≡ 1 → held v ≡ [] → takes v ls w → Answered taken failed (answer_of v) 1 (number w) [] (held w) (out v) (out w) ls
@@ -75,7 +75,7 @@ module _ {S V : Type 0} (taken : S → Option (List ℕ)) (failed : S → Bool) 
       subst (λ h. Answered taken failed (answer_of v) 1 (number w) h (held w) (out v) (out w) ls) none
       (subst (λ n. Answered taken failed (answer_of v) n (number w) (held v) (held w) (out v) (out w) ls) one (answers v w ls t))
 
-  stops_in_page : (v w : V) (e : Refusal) (old new : Option (List ℕ)) → number v ≡ 1 → held v ≡ [] → StopsTaking takes refused settled v w e old new (2 ^ 40) 65536 → StopsInPage (answer_of v) old new
+  stops_in_page : (v w : V) (e : RunError) (old new : Option (List ℕ)) → number v ≡ 1 → held v ≡ [] → StopsTaking takes refused settled v w e old new (2 ^ 40) 65536 → StopsInPage (answer_of v) old new
   stops_in_page v w e old new one none s = record {
     part = s.part;
     last = s.last;
@@ -90,11 +90,11 @@ module _ {S V : Type 0} (taken : S → Option (List ℕ)) (failed : S → Bool) 
     good = ap (λ b. b.ending) (whole_answer taken failed (answer_of v) (empty s.mid s.settles) (from_start v s.mid s.ended one none s.takes));
   }
 
-  refuses_mid : (v w : V) (e : Refusal) (old new : Option (List ℕ)) → (s : StopsTaking takes refused settled v w e old new (2 ^ 40) 65536)
+  refuses_mid : (v w : V) (e : RunError) (old new : Option (List ℕ)) → (s : StopsTaking takes refused settled v w e old new (2 ^ 40) 65536)
       → RefusesEach (answer_of v) (number s.mid) (held s.mid) s.refuses.later e (sink_use taken failed (out s.mid) (out w))
   refuses_mid v w e old new s = subst (λ a. RefusesEach a (number s.mid) (held s.mid) s.refuses.later e (sink_use taken failed (out s.mid) (out w))) (same v s.mid s.ended s.takes) (refuses s.mid w s.refuses.later e s.refuses.refuses)
 
-  stopped : (v w : V) (e : Refusal) (old new : Option (List ℕ)) (had has : Bool) → number v ≡ 1 → held v ≡ [] → has ≡ had → StopsTaking takes refused settled v w e old new (2 ^ 40) 65536
+  stopped : (v w : V) (e : RunError) (old new : Option (List ℕ)) (had has : Bool) → number v ≡ 1 → held v ≡ [] → has ≡ had → StopsTaking takes refused settled v w e old new (2 ^ 40) 65536
       → EndsEach (answer_of v) old new had has (Err e) (sink_use taken failed (out v) (out w))
   unfolding stops_in_page
   stopped v w (Error e) old new had has one none sound s =
@@ -127,7 +127,7 @@ module _ {S V : Type 0} (taken : S → Option (List ℕ)) (failed : S → Bool) 
   }
 
   -- how it ends, by what is known of the reading
-  pub ends_each : (v w : V) (old new : Option (List ℕ)) (had has : Bool) (r : Result (Unit {0}) Refusal) → number v ≡ 1 → held v ≡ [] → OnOk r (TakesAll takes v w old new (2 ^ 40) 65536) → OnOk r (settled w) → OnOk r (has ≡ had)
+  pub ends_each : (v w : V) (old new : Option (List ℕ)) (had has : Bool) (r : Result (Unit {0}) RunError) → number v ≡ 1 → held v ≡ [] → OnOk r (TakesAll takes v w old new (2 ^ 40) 65536) → OnOk r (settled w) → OnOk r (has ≡ had)
       → IfErr r (λ e. ((e ≡ Fault Read) × StopsReading takes settled v w old new (has ≡ true) (2 ^ 40)) ⊎ (StopsTaking takes refused settled v w e old new (2 ^ 40) 65536 × (has ≡ had)))
       → EndsEach (answer_of v) old new had has r (sink_use taken failed (out v) (out w))
   ends_each v w old new had has (Ok u) one none all settles sound stops = (

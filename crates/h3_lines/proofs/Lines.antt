@@ -8,8 +8,8 @@ use Rattle.std.proofs.lemmas.Iterator.{YieldsList}
 use Rattle.std.proofs.lemmas.Iterator.Consumers.{YieldsList-so_far, YieldsList-turn, YieldsList-end}
 use Rattle.h3_index.specs.declared.error.H3Error.{H3Error}
 use Rattle.h3_lines.specs.Answer.{Answer, before, before_items, whole_items}
-use Rattle.h3_lines.specs.Writing.{AppendsUpTo, Writes, sink_use}
-use Rattle.h3_lines.specs.declared.refusal.Refusal.{Refusal}
+use Rattle.h3_lines.specs.Write.{AppendsUpTo, Writes, sink_use}
+use Rattle.h3_lines.specs.declared.run_error.RunError.{RunError}
 use Rattle.h3_lines.proofs.Written.{writes_after}
 
 -- ---- all items: from is the iterator that the loop made of s
@@ -69,7 +69,7 @@ module _ {I : Type 0} (answer : List I → Answer) where
 
   -- the answer to all items is written, where what is held back and the answer to the others are
   pub held_ends : {S : Type 0} (taken : S → Option (List ℕ)) (failed : S → Bool) (first mid last : S) {items : List I} {held : List ℕ} → Held items (taken first) (taken mid) held
-      → (all rest : List I) → all ≡ items ++ rest → failed mid ≡ failed first → (ending : Result (Unit {0}) Refusal)
+      → (all rest : List I) → all ≡ items ++ rest → failed mid ≡ failed first → (ending : Result (Unit {0}) RunError)
       → Writes (before held (answer rest)) ending (sink_use taken failed mid last) → Writes (answer all) ending (sink_use taken failed first last)
   held_ends taken failed first mid last {items} {held} h all rest split same ending writes =
       let is : answer all ≡ before h.done (before held (answer rest)) = ap answer split ∙ h.so_far rest ∙ sym (before_before h.done held (answer rest)) in

@@ -6,7 +6,7 @@ use Rattle.std.proofs.lemmas.List.{get_or-take, take_rest}
 use Rattle.std.proofs.lemmas.List.Elements.{All-from_get_or}
 use Rattle.std.proofs.lemmas.List.Sums.{list_all-from_AllPass}
 use Rattle.h3_lines.specs.List.{lines_of, with_first}
-use Rattle.h3_lines.specs.Reading.{is_unended}
+use Rattle.h3_lines.specs.Taking.{is_unended}
 
 both : (b n : Bool) → (not b && n) ≡ true → (b ≡ false) × (n ≡ true)
 both true n h = absurd (cc)

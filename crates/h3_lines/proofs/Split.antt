@@ -5,12 +5,12 @@ use Rattle.std.proofs.Common.{◌≡◌, ℕ, ◌+◌, ◌-◌, ◌*◌, ◌<◌
 use Rattle.std.proofs.lemmas.Bool.Decides.{nat_tests}
 use Rattle.std.specs.Io.KnownBytes.{Consumes, Keeps}
 use Rattle.std.proofs.KnownBytes.{Consumes-kept, Consumes-nil, Consumes-trans}
-use Rattle.h3_index.specs.Stream.{HasLeft, Pulls}
+use Rattle.h3_streams.specs.Stream.{HasLeft, Pulls}
 use Rattle.h3_index.specs.Text.{parsed_index}
 use Rattle.h3_lines.specs.List.{lines_of}
-use Rattle.h3_lines.specs.Reading.{is_unended}
+use Rattle.h3_lines.specs.Taking.{is_unended}
 use Rattle.h3_lines.specs.Splitting.{BeginsPlain, Goes, ParsesAs, RefusesAfter, StopsReading, StopsTaking, TakesAll}
-use Rattle.h3_lines.specs.declared.refusal.Refusal.{Refusal}
+use Rattle.h3_lines.specs.declared.run_error.RunError.{RunError}
 use Rattle.h3_lines.proofs.ListLines.{is_unended-append, line_goes_on, lines_at_end, lines_at_feed, split_whole}
 use Rattle.h3_lines.proofs.Pages.{all_bytes, at_end, one_at_least, one_less}
 use Rattle.h3_lines.proofs.PlainLines.{digits_unended}
@@ -88,9 +88,9 @@ module _ {V : Type 0} (taken : V → List (List ℕ) → V → Type 0) where
   pub last_taken : {v w : V} (line whole : List ℕ) → whole ≡ line → is_unended line ≡ true → taken v (whole ∷ []) w → taken v (lines_of line) w
   last_taken {v} {w} line whole is h takes' = subst (λ ls. taken v ls w) (ap (λ l. l ∷ []) is ∙ sym (lines_at_end line h)) takes'
 
-module _ {V : Type 0} (refused : V → List (List ℕ) → V → Refusal → Type 0) where
+module _ {V : Type 0} (refused : V → List (List ℕ) → V → RunError → Type 0) where
   -- a line is refused that ends
-  pub refused_ended : {v w : V} {e : Refusal} (line bytes whole rest : List ℕ) → whole ≡ line ++ bytes → is_unended line ≡ true → is_unended bytes ≡ true → ((later : List (List ℕ)) → refused v (whole ∷ later) w e)
+  pub refused_ended : {v w : V} {e : RunError} (line bytes whole rest : List ℕ) → whole ≡ line ++ bytes → is_unended line ≡ true → is_unended bytes ≡ true → ((later : List (List ℕ)) → refused v (whole ∷ later) w e)
       → refused v (lines_of (line ++ (bytes ++ 10 ∷ rest))) w e
   refused_ended {v} {w} {e} line bytes whole rest is h k refuses =
       let ends : lines_of (line ++ (bytes ++ 10 ∷ rest)) ≡ whole ∷ lines_of rest =
@@ -98,7 +98,7 @@ module _ {V : Type 0} (refused : V → List (List ℕ) → V → Refusal → Typ
       subst (λ ls. refused v ls w e) (sym ends) (refuses (lines_of rest))
 
   -- a line is too long
-  pub refused_long : {v w : V} {e : Refusal} (line bytes rest : List ℕ) → is_unended line ≡ true → is_unended bytes ≡ true → 64 < length line + length bytes
+  pub refused_long : {v w : V} {e : RunError} (line bytes rest : List ℕ) → is_unended line ≡ true → is_unended bytes ≡ true → 64 < length line + length bytes
       → ((l : List ℕ) → 64 < length l → (later : List (List ℕ)) → refused v (l ∷ later) w e) → refused v (lines_of (line ++ (bytes ++ rest))) w e
   refused_long {v} {w} {e} line bytes rest h k full refuses =
       let (q, ls, is) = line_goes_on (line ++ bytes) rest (is_unended-append line bytes h k) in
@@ -107,26 +107,26 @@ module _ {V : Type 0} (refused : V → List (List ℕ) → V → Refusal → Typ
       subst (λ l. refused v l w e) (sym ends) (refuses ((line ++ bytes) ++ q) long ls)
 
   -- a plain line is refused
-  pub refused_plain : {v w : V} {e : Refusal} (line bytes after rest : List ℕ) (index : ℕ) → line ≡ [] → BeginsPlain bytes index after
+  pub refused_plain : {v w : V} {e : RunError} (line bytes after rest : List ℕ) (index : ℕ) → line ≡ [] → BeginsPlain bytes index after
       → ((l : List ℕ) → ParsesAs l index → (later : List (List ℕ)) → refused v (l ∷ later) w e) → refused v (lines_of (line ++ (bytes ++ rest))) w e
   refused_plain {v} {w} {e} line bytes after rest index none p refuses =
       let regroup : bytes ++ rest ≡ p.line ++ 10 ∷ (after ++ rest) = ap (λ l. l ++ rest) p.split ∙ append_assoc p.line (10 ∷ after) rest in
       rw (none, regroup) (refused_ended {v = v} {w = w} {e = e} [] p.line p.line (after ++ rest) refl refl p.unended (refuses p.line p.parses))
 
-  pub last_refused : {v w : V} {e : Refusal} (line whole : List ℕ) → whole ≡ line → is_unended line ≡ true → ((later : List (List ℕ)) → refused v (whole ∷ later) w e) → refused v (lines_of line) w e
+  pub last_refused : {v w : V} {e : RunError} (line whole : List ℕ) → whole ≡ line → is_unended line ≡ true → ((later : List (List ℕ)) → refused v (whole ∷ later) w e) → refused v (lines_of line) w e
   last_refused {v} {w} {e} line whole is h refuses = subst (λ ls. refused v ls w e) (ap (λ l. l ∷ []) is ∙ sym (lines_at_end line h)) (refuses [])
 
-module _ {V : Type 0} (taken : V → List (List ℕ) → V → Type 0) (refused : V → List (List ℕ) → V → Refusal → Type 0) (then_refused : (u v w : V) (xs ys : List (List ℕ)) (e : Refusal) → taken u xs v → refused v ys w e → refused u (xs ++ ys) w e) where
+module _ {V : Type 0} (taken : V → List (List ℕ) → V → Type 0) (refused : V → List (List ℕ) → V → RunError → Type 0) (then_refused : (u v w : V) (xs ys : List (List ℕ)) (e : RunError) → taken u xs v → refused v ys w e → refused u (xs ++ ys) w e) where
   -- lines are refused after others were taken
-  pub goes_refused : {u v w : V} {e : Refusal} {line1 bytes1 line2 bytes2 : List ℕ} (rest : List ℕ) → Goes taken u line1 bytes1 v line2 bytes2 → refused v (lines_of (line2 ++ (bytes2 ++ rest))) w e
+  pub goes_refused : {u v w : V} {e : RunError} {line1 bytes1 line2 bytes2 : List ℕ} (rest : List ℕ) → Goes taken u line1 bytes1 v line2 bytes2 → refused v (lines_of (line2 ++ (bytes2 ++ rest))) w e
       → refused u (lines_of (line1 ++ (bytes1 ++ rest))) w e
   goes_refused {u} {v} {w} {e} {line2 = line2} {bytes2 = bytes2} rest g refuses =
       subst (λ ls. refused u ls w e) (sym (g.lines rest)) (then_refused u v w g.ended (lines_of (line2 ++ (bytes2 ++ rest))) e g.takes refuses)
 
-  pub refused_settled : {u v w : V} {e : Refusal} {xs : List (List ℕ)} → taken u xs v → refused v [] w e → refused u xs w e
+  pub refused_settled : {u v w : V} {e : RunError} {xs : List (List ℕ)} → taken u xs v → refused v [] w e → refused u xs w e
   refused_settled {u} {v} {w} {e} {xs} p q = subst (λ ls. refused u ls w e) (append-nil xs) (then_refused u v w xs [] e p q)
 
-  pub refused_after : {u v w : V} {e : Refusal} {first before front : List ℕ} (bytes line after rest : List ℕ) → Goes taken u first front v before bytes → bytes ≡ line ++ 10 ∷ after
+  pub refused_after : {u v w : V} {e : RunError} {first before front : List ℕ} (bytes line after rest : List ℕ) → Goes taken u first front v before bytes → bytes ≡ line ++ 10 ∷ after
       → refused v (lines_of (before ++ (line ++ 10 ∷ (after ++ rest)))) w e → refused u (lines_of (first ++ (front ++ rest))) w e
   refused_after {v = v} {w = w} {e = e} {before = before} bytes line after rest g split refuses =
       let regroup : bytes ++ rest ≡ line ++ 10 ∷ (after ++ rest) = ap (λ l. l ++ rest) split ∙ append_assoc line (10 ∷ after) rest in
@@ -210,7 +210,7 @@ module _ {V : Type 0} (taken : V → List (List ℕ) → V → Type 0) where
       }
 
   -- a line is refused after so many bytes more
-  pub took_refused : (refused : V → List (List ℕ) → V → Refusal → Type 0) (settled : V → Type 0) → {v w w' : V} {e : Refusal} {line : List ℕ} {old now : Option (List ℕ)} {limit reads size : ℕ} → is_unended line ≡ true → length line ≤ 64
+  pub took_refused : (refused : V → List (List ℕ) → V → RunError → Type 0) (settled : V → Type 0) → {v w w' : V} {e : RunError} {line : List ℕ} {old now : Option (List ℕ)} {limit reads size : ℕ} → is_unended line ≡ true → length line ≤ 64
       → Took taken v w line old now limit reads size → settled w → (now' : Option (List ℕ)) (page : List ℕ) (n : ℕ) → Pulls now now' page n → n ≤ size → 0 < reads
       → ((rest : List ℕ) → refused w (lines_of (line ++ (take n page ++ rest))) w' e) → StopsTaking taken refused settled v w' e old now' limit size
   took_refused refused settled {v} {w} {w'} {e} {line} {old} {now} {limit} {reads} {size} h begun t settles now' page n p fits some refuses =
@@ -242,7 +242,7 @@ module _ {V : Type 0} (taken : V → List (List ℕ) → V → Type 0) where
       }
 
   -- the last line is refused
-  pub took_refused_last : (refused : V → List (List ℕ) → V → Refusal → Type 0) (settled : V → Type 0) → {v w w' : V} {e : Refusal} {line : List ℕ} {old now : Option (List ℕ)} {limit reads size : ℕ} → is_unended line ≡ true → length line ≤ 64
+  pub took_refused_last : (refused : V → List (List ℕ) → V → RunError → Type 0) (settled : V → Type 0) → {v w w' : V} {e : RunError} {line : List ℕ} {old now : Option (List ℕ)} {limit reads size : ℕ} → is_unended line ≡ true → length line ≤ 64
       → Took taken v w line old now limit reads size → settled w → (now' : Option (List ℕ)) (page : List ℕ) (n : ℕ) → Pulls now now' page n → n ≡ 0 → 0 < length page → 0 < reads
       → refused w (lines_of line) w' e → StopsTaking taken refused settled v w' e old now' limit size
   took_refused_last refused settled {v} {w} {w'} {e} {line} {old} {now} {limit} {reads} {size} h begun t settles now' page n p none room some refuses =

@@ -3,13 +3,13 @@
 use Rattle.std.specs.Prelude.{◌≡◌, ℕ, ◌<◌, ◌⊎◌, Bool, true, List, [], ◌++◌, length, take, Option, None, Some, Result, Ok, Err}
 use Rattle.std.specs.Io.KnownBytes.{Appends}
 use Rattle.h3_index.specs.declared.error.H3Error.{H3Error}
-use Rattle.h3_lines.specs.declared.refusal.Fault.TheVariants.{Memory, Read, Write}
-use Rattle.h3_lines.specs.declared.refusal.Refusal.{Refusal}
-use Rattle.h3_lines.specs.declared.refusal.Refusal.TheVariants.{Error, Fault}
+use Rattle.h3_lines.specs.declared.run_error.Fault.TheVariants.{Memory, Read, Write}
+use Rattle.h3_lines.specs.declared.run_error.RunError.{RunError}
+use Rattle.h3_lines.specs.declared.run_error.RunError.TheVariants.{Error, Fault}
 use Rattle.h3_lines.specs.Answer.{Answer, before, refused, written}
 use Rattle.h3_lines.specs.Beginning.{SomeBeginning}
 use Rattle.h3_lines.specs.EachLine.{IsAtLine, lines_answer}
-use Rattle.h3_lines.specs.Writing.{SinkUse, Takes}
+use Rattle.h3_lines.specs.Write.{SinkUse, Takes}
 
 -- Puts a old new at end: an answer that is bytes alone is put into a block, from one byte on, up to another
 pub record Puts (a : Answer) (old new : List ℕ) (at end : ℕ) : Type 0 where
@@ -39,14 +39,14 @@ abbrev pub TakesSome : SinkUse → List ℕ → Type 0
 TakesSome sink bytes = SomeBeginning (λ part. Appends sink.before sink.after part ⊎ sink.may_have_taken part) bytes × (sink.has_failed ≡ true)
 
 -- an answer ends by an error at a line, all before it taken, or by a write that fails
-abbrev pub EndsBy : Answer → Refusal → SinkUse → Type 0
+abbrev pub EndsBy : Answer → RunError → SinkUse → Type 0
 EndsBy a (Error e) out = IsAtLine e × (a.ending ≡ Err e) × Takes out a.output
 EndsBy a (Fault Write) out = (0 < length a.output) × TakesSome out a.output
 EndsBy a (Fault Read) out = ⊥
 EndsBy a (Fault Memory) out = ⊥
 
 -- these bytes and the answer to these lines, of which the first is the line n, end so
-abbrev pub RefusesEach : (Option ℕ → Answer) → ℕ → List ℕ → List (List ℕ) → Refusal → SinkUse → Type 0
+abbrev pub RefusesEach : (Option ℕ → Answer) → ℕ → List ℕ → List (List ℕ) → RunError → SinkUse → Type 0
 RefusesEach answer n held lines e out = EndsBy (before held (lines_answer answer n lines)) e out
 
 -- from one moment to a later one, of these bytes some are taken, and these are still held back
@@ -57,5 +57,5 @@ pub record Moves {S : Type 0} (taken : S → Option (List ℕ)) (failed : S → 
   pub sound : failed t ≡ failed s
 
 -- a write fails, and a beginning of these bytes is taken
-abbrev pub Breaks : List ℕ → SinkUse → Refusal → Type 0
+abbrev pub Breaks : List ℕ → SinkUse → RunError → Type 0
 Breaks all sink e = (e ≡ Fault Write) × (0 < length all) × TakesSome sink all

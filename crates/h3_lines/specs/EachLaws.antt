@@ -5,10 +5,10 @@ use Rattle.std.specs.Io.KnownBytes.{Appends}
 use Rattle.h3_lines.specs.Answer.{Answer, before}
 use Rattle.h3_lines.specs.Answering.{Answered, EndsBy, RefusesEach, TakesSome}
 use Rattle.h3_lines.specs.EachLine.{lines_answer}
-use Rattle.h3_lines.specs.Writing.{sink_use}
-use Rattle.h3_lines.specs.declared.refusal.Fault.TheVariants.{Memory, Read, Write}
-use Rattle.h3_lines.specs.declared.refusal.Refusal.{Refusal}
-use Rattle.h3_lines.specs.declared.refusal.Refusal.TheVariants.{Error, Fault}
+use Rattle.h3_lines.specs.Write.{sink_use}
+use Rattle.h3_lines.specs.declared.run_error.Fault.TheVariants.{Memory, Read, Write}
+use Rattle.h3_lines.specs.declared.run_error.RunError.{RunError}
+use Rattle.h3_lines.specs.declared.run_error.RunError.TheVariants.{Error, Fault}
 
 before_before : (xs ys : List ℕ) (a : Answer) → before xs (before ys a) ≡ before (xs ++ ys) a
 before_before xs ys a = ap (λ l. record { output = l; ending = a.ending }) (sym (append_assoc xs ys a.output))
@@ -45,13 +45,13 @@ module _ {S : Type 0} (taken : S → Option (List ℕ)) (failed : S → Bool) wh
     fault,
   )
 
-  pub ends_after : (s t u : S) (a : Answer) (done : List ℕ) (e : Refusal) → Appends (taken s) (taken t) done → failed t ≡ failed s → EndsBy a e (sink_use taken failed t u) → EndsBy (before done a) e (sink_use taken failed s u)
+  pub ends_after : (s t u : S) (a : Answer) (done : List ℕ) (e : RunError) → Appends (taken s) (taken t) done → failed t ≡ failed s → EndsBy a e (sink_use taken failed t u) → EndsBy (before done a) e (sink_use taken failed s u)
   ends_after s t u a done (Error e) grown same (at, ending, takes) = (at, ending, (Appends-trans (taken s) (taken t) (taken u) done a.output grown takes.0, takes.1 ∙ same))
   ends_after s t u a done (Fault Write) grown same w = (let some : 0 < length a.output = w.0 in omega (arith, length-append done a.output), some_after s t u done a.output grown same w.1)
   ends_after s t u a done (Fault Read) grown same never = absurd never
   ends_after s t u a done (Fault Memory) grown same never = absurd never
 
-  pub refuses_then : {F : Type 0} (answer_of : F → Option ℕ → Answer) {f g : F} {n m : ℕ} {h1 h2 : List ℕ} {s t : S} (u : S) (xs ys : List (List ℕ)) (e : Refusal) → g ≡ f → Answered taken failed (answer_of f) n m h1 h2 s t xs
+  pub refuses_then : {F : Type 0} (answer_of : F → Option ℕ → Answer) {f g : F} {n m : ℕ} {h1 h2 : List ℕ} {s t : S} (u : S) (xs ys : List (List ℕ)) (e : RunError) → g ≡ f → Answered taken failed (answer_of f) n m h1 h2 s t xs
       → RefusesEach (answer_of g) m h2 ys e (sink_use taken failed t u) → RefusesEach (answer_of f) n h1 (xs ++ ys) e (sink_use taken failed s u)
   refuses_then answer_of {f} {g} {n} {m} {h1} {h2} {s} {t} u xs ys e same p refuses =
       let rest = lines_answer (answer_of f) m ys in

@@ -2,20 +2,20 @@
 -- index answers to the index that the line parses as, in order, up to the first error, which is told with its line.
 use Rattle.std.specs.Prelude.{◌≡◌, ℕ, ◌+◌, ◌*◌, ◌^◌, ◌<◌, ◌≤◌, ◌==◌, ◌⊎◌, nat_lt, Bool, true, List, [], ◌∷◌, ◌++◌, length, Option, Result, Ok, Err, if◌then◌else◌}
 use Rattle.std.specs.Io.KnownBytes.{Appends, Consumes, Keeps}
-use Rattle.h3_index.specs.Stream.{HasLeft}
+use Rattle.h3_streams.specs.Stream.{HasLeft}
 use Rattle.h3_index.specs.Text.{parsed_index, trimmed}
 use Rattle.h3_index.specs.declared.error.H3Error.{H3Error}
 use Rattle.h3_index.specs.declared.error.H3Error.TheVariants.{Failed}
-use Rattle.h3_lines.specs.declared.refusal.AnswerError.{AnswerError}
-use Rattle.h3_lines.specs.declared.refusal.AnswerError.TheVariants.{Call, At}
-use Rattle.h3_lines.specs.declared.refusal.Fault.TheVariants.{Memory, Read, Write}
-use Rattle.h3_lines.specs.declared.refusal.Refusal.{Refusal}
-use Rattle.h3_lines.specs.declared.refusal.Refusal.TheVariants.{Error, Fault}
+use Rattle.h3_lines.specs.declared.run_error.AnswerError.{AnswerError}
+use Rattle.h3_lines.specs.declared.run_error.AnswerError.TheVariants.{Call, At}
+use Rattle.h3_lines.specs.declared.run_error.Fault.TheVariants.{Memory, Read, Write}
+use Rattle.h3_lines.specs.declared.run_error.RunError.{RunError}
+use Rattle.h3_lines.specs.declared.run_error.RunError.TheVariants.{Error, Fault}
 use Rattle.h3_lines.specs.Answer.{Answer, before, refused, written}
 use Rattle.h3_lines.specs.Beginning.{SomeBeginning}
 use Rattle.h3_lines.specs.List.{lines_of}
 use Rattle.h3_lines.specs.Reads.{IsWithinReads}
-use Rattle.h3_lines.specs.Writing.{IsLeft, SinkUse, Writes}
+use Rattle.h3_lines.specs.Write.{IsLeft, SinkUse, Writes}
 
 -- how the answer to the line with this number ends: an H3 error is told with the number
 abbrev pub ending_at : ℕ → Result (Unit {0}) AnswerError → Result (Unit {0}) AnswerError
@@ -55,7 +55,7 @@ list_answer answer bytes = lines_answer answer 1 (lines_of bytes)
 --
 -- there are bytes of the list, those left in the source where they are known; all of them are read, in reads that may be
 -- made, and the answer is written
-pub record AnswersAll (answer : Option ℕ → Answer) (old new : Option (List ℕ)) (ending : Result (Unit {0}) Refusal) (out : SinkUse) : Type 0 where
+pub record AnswersAll (answer : Option ℕ → Answer) (old new : Option (List ℕ)) (ending : Result (Unit {0}) RunError) (out : SinkUse) : Type 0 where
   pub list : List ℕ
   pub held : HasLeft old list
   pub told : Consumes old new list
@@ -121,7 +121,7 @@ IsAtLine e = (line : ℕ) × (error : H3Error) × (e ≡ At line error)
 --
 -- How the answering of a list ends that is read from a source with the bytes old left, and new after it. Where a line has
 -- an error or a write fails, nothing is read beyond the page.
-abbrev pub EndsEach : (Option ℕ → Answer) → Option (List ℕ) → Option (List ℕ) → Bool → Bool → Result (Unit {0}) Refusal → SinkUse → Type 0
+abbrev pub EndsEach : (Option ℕ → Answer) → Option (List ℕ) → Option (List ℕ) → Bool → Bool → Result (Unit {0}) RunError → SinkUse → Type 0
 EndsEach answer old new had has (Ok u) out = (has ≡ had) × AnswersAll answer old new (Ok u) out
 EndsEach answer old new had has (Err (Error e)) out = (has ≡ had) × IsAtLine e × (stop : StopsInPage answer old new) × Writes (answer_at stop) (Err (Error e)) out
 EndsEach answer old new had has (Err (Fault Write)) out =

@@ -10,12 +10,12 @@ use Rattle.h3_directions.specs.declared.direction.Direction.TheVariants.{I, K}
 use Rattle.h3_directions.specs.declared.error.TableError.TheVariants as in_table
 use Rattle.h3_lines.specs.Answer.{before, cell_line, refused, ring_line, walked}
 use Rattle.h3_lines.specs.List.{lines_of, listed_cells, said_by}
-use Rattle.h3_lines.specs.Refusal.{refusal_line, refusal_status}
-use Rattle.h3_lines.specs.declared.refusal.CellFile.TheVariants.{Region, Zones}
-use Rattle.h3_lines.specs.declared.refusal.AnswerError.TheVariants.{AtAndMore, Column, File, FileAt, Table}
-use Rattle.h3_lines.specs.declared.refusal.ColumnError.TheVariants.{NotFound, NotUnique}
-use Rattle.h3_lines.specs.declared.refusal.Fault.TheVariants.{Memory, Read, Write}
-use Rattle.h3_lines.specs.declared.refusal.Refusal.TheVariants.{Error, Fault}
+use Rattle.h3_lines.specs.RunError.{refusal_line, refusal_status}
+use Rattle.h3_lines.specs.declared.run_error.CellFile.TheVariants.{Region, Zones}
+use Rattle.h3_lines.specs.declared.run_error.AnswerError.TheVariants.{AtAndMore, Column, File, FileAt, Table}
+use Rattle.h3_lines.specs.declared.run_error.ColumnError.TheVariants.{NotFound, NotUnique}
+use Rattle.h3_lines.specs.declared.run_error.Fault.TheVariants.{Memory, Read, Write}
+use Rattle.h3_lines.specs.declared.run_error.RunError.TheVariants.{Error, Fault}
 
 -- ---- lists
 

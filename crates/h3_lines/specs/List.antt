@@ -5,10 +5,10 @@ use Rattle.h3_index.specs.CellNumber.{cell_in}
 use Rattle.h3_index.specs.Text.{parsed_index, trimmed}
 use Rattle.h3_index.specs.declared.error.H3Error.{H3Error}
 use Rattle.h3_index.specs.declared.error.H3Error.TheVariants.{Failed, CellInvalid}
-use Rattle.h3_lines.specs.declared.refusal.AnswerError.TheVariants.{Call}
-use Rattle.h3_lines.specs.declared.refusal.Fault.TheVariants.{Memory, Read, Write}
-use Rattle.h3_lines.specs.declared.refusal.Refusal.{Refusal}
-use Rattle.h3_lines.specs.declared.refusal.Refusal.TheVariants.{Error, Fault}
+use Rattle.h3_lines.specs.declared.run_error.AnswerError.TheVariants.{Call}
+use Rattle.h3_lines.specs.declared.run_error.Fault.TheVariants.{Memory, Read, Write}
+use Rattle.h3_lines.specs.declared.run_error.RunError.{RunError}
+use Rattle.h3_lines.specs.declared.run_error.RunError.TheVariants.{Error, Fault}
 
 -- ---- lines
 
@@ -61,7 +61,7 @@ listed_cells bytes = cells_said (lines_of bytes)
 --
 -- a refusal fits the list: an error is the list's own, out of memory says nothing of it, and a read fault comes only
 -- where reads fail
-abbrev pub RefusesList : Type 0 → Result (List Address) H3Error → Refusal → Type 0
+abbrev pub RefusesList : Type 0 → Result (List Address) H3Error → RunError → Type 0
 RefusesList read_fails list (Error e) = (error : H3Error) × (list ≡ Err error) × (e ≡ Call error)
 RefusesList read_fails list (Fault Memory) = ⊤
 RefusesList read_fails list (Fault Read) = read_fails

@@ -4,10 +4,10 @@ use Rattle.h3_index.specs.Cell.{Address}
 use Rattle.h3_index.specs.declared.error.H3Error.{H3Error}
 use Rattle.h3_lines.specs.List.{cells_said, said_before, said_by}
 use Rattle.h3_lines.specs.Numbered.{RefusesAt, faulty_from}
-use Rattle.h3_lines.specs.Reading.{CountsLines, RefusesLinesAt, SayCells, cells_before, said_lines}
-use Rattle.h3_lines.specs.declared.refusal.Fault.TheVariants.{Memory, Read, Write}
-use Rattle.h3_lines.specs.declared.refusal.Refusal.{Refusal}
-use Rattle.h3_lines.specs.declared.refusal.Refusal.TheVariants.{Error, Fault}
+use Rattle.h3_lines.specs.Taking.{CountsLines, RefusesLinesAt, SayCells, cells_before, said_lines}
+use Rattle.h3_lines.specs.declared.run_error.Fault.TheVariants.{Memory, Read, Write}
+use Rattle.h3_lines.specs.declared.run_error.RunError.{RunError}
+use Rattle.h3_lines.specs.declared.run_error.RunError.TheVariants.{Error, Fault}
 
 said_lines-append : (ls ms : List (List ℕ)) (later : Result (List Address) H3Error) → said_lines (ls ++ ms) later ≡ said_lines ls (said_lines ms later)
 said_lines-append [] ms later = refl
@@ -31,13 +31,13 @@ says_then cells1 cells2 xs ys p q later = said_lines-append xs ys later ∙ p (s
 pub counts_then : (n1 n2 n3 : ℕ) (xs ys : List (List ℕ)) → CountsLines n1 xs n2 → CountsLines n2 ys n3 → CountsLines n1 (xs ++ ys) n3
 counts_then n1 n2 n3 xs ys p q more = ap (faulty_from n1) (append_assoc xs ys more) ∙ p (ys ++ more) ∙ q more
 
-refuses_before : (cells : List Address) (list : Result (List Address) H3Error) (n : ℕ) (e : Refusal) → RefusesAt ⊥ list n e → RefusesAt ⊥ (cells_before cells list) n e
+refuses_before : (cells : List Address) (list : Result (List Address) H3Error) (n : ℕ) (e : RunError) → RefusesAt ⊥ list n e → RefusesAt ⊥ (cells_before cells list) n e
 refuses_before cells list n (Error e) (error, is, at) = (error, ap (cells_before cells) is, at)
 refuses_before cells list n (Fault Memory) h = h
 refuses_before cells list n (Fault Read) h = absurd h
 refuses_before cells list n (Fault Write) h = absurd h
 
-pub refuses_after : (n1 n2 : ℕ) (cells : List Address) (xs ys : List (List ℕ)) (e : Refusal) → SayCells xs cells → CountsLines n1 xs n2 → RefusesLinesAt n2 ys e → RefusesLinesAt n1 (xs ++ ys) e
+pub refuses_after : (n1 n2 : ℕ) (cells : List Address) (xs ys : List (List ℕ)) (e : RunError) → SayCells xs cells → CountsLines n1 xs n2 → RefusesLinesAt n2 ys e → RefusesLinesAt n1 (xs ++ ys) e
 refuses_after n1 n2 cells xs ys e says counts refuses =
     subst (λ list. RefusesAt ⊥ list (faulty_from n1 (xs ++ ys)) e) (sym (cells_said-append xs ys ∙ says (cells_said ys)))
     (subst (λ n. RefusesAt ⊥ (cells_before cells (cells_said ys)) n e) (sym (counts ys)) (refuses_before cells (cells_said ys) (faulty_from n2 ys) e refuses))

@@ -3,11 +3,11 @@ use Rattle.std.specs.Prelude.{◌≡◌, ℕ, ◌+◌, List, [], ◌∷◌, ⊤,
 use Rattle.h3_index.specs.Cell.{Address}
 use Rattle.h3_index.specs.declared.error.H3Error.{H3Error}
 use Rattle.h3_lines.specs.List.{lines_of, said_by}
-use Rattle.h3_lines.specs.declared.refusal.AnswerError.{AnswerError}
-use Rattle.h3_lines.specs.declared.refusal.AnswerError.TheVariants.{Call, At}
-use Rattle.h3_lines.specs.declared.refusal.Fault.TheVariants.{Memory, Read, Write}
-use Rattle.h3_lines.specs.declared.refusal.Refusal.{Refusal}
-use Rattle.h3_lines.specs.declared.refusal.Refusal.TheVariants.{Error, Fault}
+use Rattle.h3_lines.specs.declared.run_error.AnswerError.{AnswerError}
+use Rattle.h3_lines.specs.declared.run_error.AnswerError.TheVariants.{Call, At}
+use Rattle.h3_lines.specs.declared.run_error.Fault.TheVariants.{Memory, Read, Write}
+use Rattle.h3_lines.specs.declared.run_error.RunError.{RunError}
+use Rattle.h3_lines.specs.declared.run_error.RunError.TheVariants.{Error, Fault}
 
 -- this number, where a line says an error; else the later one
 abbrev pub number_of_fault : ℕ → Result (Option Address) H3Error → ℕ → ℕ
@@ -27,7 +27,7 @@ faulty_line bytes = faulty_from 1 (lines_of bytes)
 --
 -- a refusal fits the list: an error is the list's own, told with this number, out of memory says nothing of it, and a
 -- read fault comes only where reads fail
-abbrev pub RefusesAt : Type 0 → Result (List Address) H3Error → ℕ → Refusal → Type 0
+abbrev pub RefusesAt : Type 0 → Result (List Address) H3Error → ℕ → RunError → Type 0
 RefusesAt read_fails list number (Error e) = (error : H3Error) × (list ≡ Err error) × (e ≡ At number error)
 RefusesAt read_fails list number (Fault Memory) = ⊤
 RefusesAt read_fails list number (Fault Read) = read_fails
@@ -39,6 +39,6 @@ without_line (At line e) = Call e
 without_line e = e
 
 -- without_number: a refusal told without the number of its line
-abbrev pub without_number : Refusal → Refusal
+abbrev pub without_number : RunError → RunError
 without_number (Error e) = Error (without_line e)
 without_number (Fault f) = Fault f

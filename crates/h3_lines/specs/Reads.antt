@@ -1,8 +1,31 @@
--- How far a list is read.
-use Rattle.std.specs.Prelude.{◌≡◌, ℕ, ◌+◌, ◌≤◌, ◌*◌, ◌⊎◌, List, [], ◌∷◌, ◌++◌, length, Err, IsOk}
+-- What a source is before a call and after it, and how far a list is read.
+use Rattle.std.specs.Prelude.{◌≡◌, ℕ, ◌+◌, ◌≤◌, ◌*◌, ◌⊎◌, Bool, List, [], ◌∷◌, ◌++◌, length, Option, Some, Err, IsOk}
 use Rattle.h3_index.specs.declared.error.H3Error.{H3Error}
 use Rattle.h3_lines.specs.Beginning.{SomeBeginning}
 use Rattle.h3_lines.specs.List.{cells_said, lines_of, listed_cells}
+
+-- ---- a source
+
+-- SourceUse: what a source had left before a call and has after it, where known, and whether it had failed and has
+pub record SourceUse : Type 0 where
+  pub left : Option (List ℕ)
+  pub left_after : Option (List ℕ)
+  pub had_failed : Bool
+  pub has_failed : Bool
+
+-- source_use: that use of a source, from its two states
+abbrev pub source_use : {S : Type 0} → (S → Option (List ℕ)) → (S → Bool) → S → S → SourceUse
+source_use left failed old new = record { left = left old; left_after = left new; had_failed = failed old; has_failed = failed new }
+
+-- NoReadFails source: no read of it failed
+abbrev pub NoReadFails : SourceUse → Type 0
+NoReadFails source = source.has_failed ≡ source.had_failed
+
+-- IsReadToEnd source: where the bytes left in the source were known, all of them were taken
+abbrev pub IsReadToEnd : SourceUse → Type 0
+IsReadToEnd source = (list : List ℕ) → source.left ≡ Some list → source.left_after ≡ Some []
+
+-- ---- how far it is read
 
 -- IsWithinReads reads page bytes: this many reads of a page of this many bytes can find the end of the bytes
 abbrev pub IsWithinReads : ℕ → ℕ → List ℕ → Type 0
@@ -37,3 +60,8 @@ pub record StopsAtFault (most : ℕ) (list left : List ℕ) : Type 0 where
   pub split : list ≡ before ++ last ++ left
   pub within : length last ≤ most
   pub good : HasNoFaultYet before
+
+-- StopsWithin n source: where the bytes left in the source were known, at most n were taken after bytes in which no line
+-- is known to be faulty
+abbrev pub StopsWithin : ℕ → SourceUse → Type 0
+StopsWithin n source = (list : List ℕ) → source.left ≡ Some list → (left : List ℕ) × (source.left_after ≡ Some left) × StopsAtFault n list left

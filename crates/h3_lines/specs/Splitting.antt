@@ -2,12 +2,12 @@
 -- cite this file.
 use Rattle.std.specs.Prelude.{◌≡◌, ℕ, ◌≤◌, ◌*◌, ◌⊎◌, true, List, [], ◌∷◌, ◌++◌, length, Option, Some}
 use Rattle.std.specs.Io.KnownBytes.{Consumes}
-use Rattle.h3_index.specs.Stream.{HasLeft}
+use Rattle.h3_streams.specs.Stream.{HasLeft}
 use Rattle.h3_index.specs.Text.{parsed_index}
 use Rattle.h3_lines.specs.List.{lines_of}
-use Rattle.h3_lines.specs.Reading.{is_unended}
+use Rattle.h3_lines.specs.Taking.{is_unended}
 use Rattle.h3_lines.specs.Reads.{IsWithinReads}
-use Rattle.h3_lines.specs.declared.refusal.Refusal.{Refusal}
+use Rattle.h3_lines.specs.declared.run_error.RunError.{RunError}
 
 -- a line of at most 64 bytes that parses as this index
 pub record ParsesAs (line : List ℕ) (index : ℕ) : Type 0 where
@@ -52,7 +52,7 @@ pub record StopsReading {V : Type 0} (taken : V → List (List ℕ) → V → Ty
   pub settles : settled w
 
 -- the lines of the bytes are these, and others that are refused from the one moment to the other
-pub record RefusesAfter {V : Type 0} (refused : V → List (List ℕ) → V → Refusal → Type 0) (v w : V) (e : Refusal) (ended : List (List ℕ)) (bytes : List ℕ) : Type 0 where
+pub record RefusesAfter {V : Type 0} (refused : V → List (List ℕ) → V → RunError → Type 0) (v w : V) (e : RunError) (ended : List (List ℕ)) (bytes : List ℕ) : Type 0 where
   pub later : List (List ℕ)
   pub lines : lines_of bytes ≡ ended ++ later
   pub refuses : refused v later w e
@@ -60,7 +60,7 @@ pub record RefusesAfter {V : Type 0} (refused : V → List (List ℕ) → V → 
 -- A line was refused, or a write failed. The source had these bytes, of which a part was read, and then a page more at
 -- most; the lines that end in that part were taken, and of the others one was refused. So many reads of such a page can
 -- find the end of the bytes, or it is refused whatever bytes come after those that were read.
-pub record StopsTaking {V : Type 0} (taken : V → List (List ℕ) → V → Type 0) (refused : V → List (List ℕ) → V → Refusal → Type 0) (settled : V → Type 0) (v w : V) (e : Refusal)
+pub record StopsTaking {V : Type 0} (taken : V → List (List ℕ) → V → Type 0) (refused : V → List (List ℕ) → V → RunError → Type 0) (settled : V → Type 0) (v w : V) (e : RunError)
     (old new : Option (List ℕ)) (reads page : ℕ) : Type 0 where
   pub part : List ℕ
   pub last : List ℕ

@@ -6,25 +6,26 @@ ghost use Rattle.h3_lines.specs.Answer.{Answer, printed, refused};
 ghost use Rattle.h3_lines.specs.Answering.{Answered, Breaks, Moves, Puts, RefusesEach, TakesSome, answer_said};
 ghost use Rattle.h3_lines.specs.EachLaws.{answered_none, answered_then, refuses_then};
 ghost use Rattle.h3_lines.specs.EachLine.{EndsEach, line_answer};
-ghost use Rattle.h3_lines.specs.Writing.{Takes, sink_use};
+ghost use Rattle.h3_lines.specs.Write.{Takes, sink_use};
 ghost use Rattle.h3_lines.specs.declared.line.TheConstants.{BLOCK};
-ghost use Rattle.h3_lines.specs.declared.refusal.Fault.TheVariants.{Write};
-ghost use Rattle.h3_lines.specs.declared.refusal.Refusal.{Refusal};
-ghost use Rattle.h3_lines.specs.declared.refusal.Refusal.TheVariants as refusal;
+ghost use Rattle.h3_lines.specs.declared.run_error.Fault.TheVariants.{Write};
+ghost use Rattle.h3_lines.specs.declared.run_error.RunError.{RunError};
+ghost use Rattle.h3_lines.specs.declared.run_error.RunError.TheVariants as refusal;
 
 use crate::hints::Hints;
 use crate::line::{BLOCK, Line};
-use crate::refusal::{AnswerError, Fault, Refusal};
-use crate::splitting::{LONGEST_LINE, LineTaker, PAGE, READS, take_lines};
+use crate::run_error::{AnswerError, Fault, RunError};
+use crate::splitting::{LONGEST_LINE, LineTaker, MAX_READS, PAGE, take_lines};
 use crate::write::{write_all, write_answer};
-use h3_index::{CountedReader, H3Error, Sink, Source, is_blank_text, read_index};
+use h3_index::{H3Error, is_blank_text, read_index};
+use h3_streams::{CountedReader, Sink, Source};
 use std::alloc::Global;
 
 /// The room that the answer to a line may take.
 pub const ANSWER: usize = 672;
 
 /// A function of one index.
-pub trait IndexFunction {
+pub trait AnswerLine {
     /// What its own command answers to an index, or to a word that parses as none.
     ghost answer_of: { Self → Option ℕ → Answer };
 
@@ -87,7 +88,7 @@ fn index_on(line: &[u8]) -> Result<Option<Option<u64>>, H3Error>
 }
 
 /// Writes the bytes and flushes, if there are any.
-fn write_held<W: Sink>(out: &mut W, bytes: &[u8]) -> Result<(), Refusal>
+fn write_held<W: Sink>(out: &mut W, bytes: &[u8]) -> Result<(), RunError>
     ensures ok { OnOk result (Takes (sink_use W.taken W.has_failed out.old out.new) bytes.now) }
     ensures err { IfErr result (λ e. (e ≡ refusal.Fault Write) × (0 < length bytes.now)
         × TakesSome (sink_use W.taken W.has_failed out.old out.new) bytes.now) }
@@ -100,14 +101,14 @@ fn write_held<W: Sink>(out: &mut W, bytes: &[u8]) -> Result<(), Refusal>
 
 /// Writes the answers held back, and refuses the line with this number.
 #[cold]
-pub(crate) fn refuse<W: Sink>(out: &mut W, held: &[u8], number: u64, error: H3Error) -> Refusal
+pub(crate) fn refuse<W: Sink>(out: &mut W, held: &[u8], number: u64, error: H3Error) -> RunError
     ensures { (answer : Option ℕ → Answer) (line : List ℕ) (later : List (List ℕ)) →
         line_answer answer line ≡ refused error →
         RefusesEach answer number held.now (line ∷ later) result
         (sink_use W.taken W.has_failed out.old out.new) }
 {
     match write_held(out, held) {
-        Ok(()) => Refusal::Error(AnswerError::At(number, error)),
+        Ok(()) => RunError::Error(AnswerError::At(number, error)),
         Err(fault) => fault,
     }
 }
@@ -120,7 +121,7 @@ pub(crate) fn make_room<W: Sink>(
     out: &mut W,
     block: &mut [u8; BLOCK],
     end: usize,
-) -> Result<usize, Refusal>
+) -> Result<usize, RunError>
     requires { end ≤ BLOCK }
     ensures room { IfOk result (λ at. at + ANSWER ≤ BLOCK) }
     ensures ok { IfOk result (λ at.
@@ -164,7 +165,11 @@ pub(crate) trait Answering {
     ghost answer_of: { Self → Option ℕ → Answer };
 
     /// Puts the answer to the index on the next line. What has no room is written.
-    fn answer<'a, W: Sink>(&self, index: Option<u64>, held: &mut Held<'a, W>) -> Result<(), Refusal>
+    fn answer<'a, W: Sink>(
+        &self,
+        index: Option<u64>,
+        held: &mut Held<'a, W>,
+    ) -> Result<(), RunError>
         requires { held.old.number < 2 ^ 63 }
         ensures ok { OnOk result ((line : List ℕ) →
             line_answer (answer_of self.now) line ≡ answer_of self.now index →
@@ -191,7 +196,7 @@ struct Short<'f, F> {
     function: &'f F,
 }
 
-impl<'f, F: IndexFunction> Answering for Short<'f, F> {
+impl<'f, F: AnswerLine> Answering for Short<'f, F> {
     ghost answer_of = { λ f. F.answer_of f.function.now };
 
     #[inline(always)]
@@ -199,7 +204,7 @@ impl<'f, F: IndexFunction> Answering for Short<'f, F> {
         &self,
         index: Option<u64>,
         held: &mut Held<'a, W>,
-    ) -> Result<(), Refusal> {
+    ) -> Result<(), RunError> {
         let at = make_room(held.out, &mut held.block, held.end)?;
         let work = &mut held.work;
         match self
@@ -248,7 +253,7 @@ impl<'a, 'f, W: Sink, A: Answering> LineTaker for Answers<'a, 'f, W, A> {
         (sink_use W.taken W.has_failed v.held.out.now w.held.out.now)
         × (w.held.out.ghost_name ≡ v.held.out.ghost_name) };
 
-    fn take(&mut self, line: &[u8]) -> Result<(), Refusal> {
+    fn take(&mut self, line: &[u8]) -> Result<(), RunError> {
         let held = &mut self.held;
         match index_on(line) {
             Ok(Some(index)) => self.function.answer(index, held),
@@ -264,19 +269,19 @@ impl<'a, 'f, W: Sink, A: Answering> LineTaker for Answers<'a, 'f, W, A> {
     }
 
     #[inline(always)]
-    fn take_index(&mut self, index: u64, after: &[u8]) -> Result<(), Refusal> {
+    fn take_index(&mut self, index: u64, after: &[u8]) -> Result<(), RunError> {
         let held = &mut self.held;
         self.function.aim(index, after, &mut held.work);
         self.function.answer(Some(index), held)
     }
 
-    fn refuse_long(&mut self) -> Refusal {
+    fn refuse_long(&mut self) -> RunError {
         let held = &mut self.held;
         let bytes = &held.block[..held.end];
         refuse(held.out, bytes, held.number, H3Error::Failed)
     }
 
-    fn settle(&mut self) -> Result<(), Refusal> {
+    fn settle(&mut self) -> Result<(), RunError> {
         let held = &mut self.held;
         let bytes = &held.block[..held.end];
         write_held(held.out, bytes)?;
@@ -298,7 +303,7 @@ fn answer_lines<'a, 'f, R: Source, W: Sink, A: Answering>(
     answers: &mut Answers<'a, 'f, W, A>,
     input: &mut R,
     page: &mut [u8],
-) -> Result<(), Refusal>
+) -> Result<(), RunError>
     requires first { answers.old.held.number ≡ 1 }
     requires empty { answers.old.held.end ≡ 0 }
     requires page { length page.old ≡ PAGE }
@@ -308,7 +313,7 @@ fn answer_lines<'a, 'f, R: Source, W: Sink, A: Answering>(
         (sink_use W.taken W.has_failed answers.old.held.out.now answers.new.held.out.now) }
     ensures same { answers.new.held.out.ghost_name ≡ answers.old.held.out.ghost_name }
 {
-    let mut reader = CountedReader::new(&mut *input, READS);
+    let mut reader = CountedReader::new(&mut *input, MAX_READS);
     let ending = take_lines(answers, &mut reader, page);
     // The proof reads what the source is after the reads from this use of it.
     let _ = &*input;
@@ -323,7 +328,7 @@ pub(crate) fn answer_pages<R: Source, W: Sink, A: Answering>(
     input: &mut R,
     out: &mut W,
     page: &mut [u8],
-) -> Result<(), Refusal>
+) -> Result<(), RunError>
     requires { length page.old ≡ PAGE }
     ensures { EndsEach (A.answer_of function.now) (R.left input.old) (R.left input.new)
         (R.has_failed input.old) (R.has_failed input.new) result
@@ -357,16 +362,16 @@ pub(crate) fn answer_pages<R: Source, W: Sink, A: Answering>(
 /// `AnswerError::At` with the line of the first error. `Fault::Read` where a read fails, or the end
 /// is not found in 2^40 reads. `Fault::Write` where a push or a flush fails. `Fault::Memory` where
 /// there is none for the page.
-pub fn answer_each<R: Source, W: Sink, F: IndexFunction>(
+pub fn answer_each<R: Source, W: Sink, F: AnswerLine>(
     alloc: Global,
     function: &F,
     input: &mut R,
     out: &mut W,
-) -> Result<(), Refusal>
+) -> Result<(), RunError>
     ensures { EndsEach (F.answer_of function.now) (R.left input.old) (R.left input.new)
         (R.has_failed input.old) (R.has_failed input.new) result
         (sink_use W.taken W.has_failed out.old out.new) }
 {
-    let mut page = vec![in alloc; 0u8; PAGE].map_err(|_| Refusal::Fault(Fault::Memory))?;
+    let mut page = vec![in alloc; 0u8; PAGE].map_err(|_| RunError::Fault(Fault::Memory))?;
     answer_pages(&Short { function }, input, out, &mut page)
 }

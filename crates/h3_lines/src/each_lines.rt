@@ -7,14 +7,15 @@ ghost use Rattle.h3_index.specs.declared.error.H3Error.{H3Error};
 ghost use Rattle.h3_lines.specs.Answer.{Answer, refused, whole_items};
 ghost use Rattle.h3_lines.specs.Answering.{Breaks, Moves};
 ghost use Rattle.h3_lines.specs.EachLine.{EndsEach};
-ghost use Rattle.h3_lines.specs.GivenLines.{GivesLines};
-ghost use Rattle.h3_lines.specs.Writing.{sink_use};
+ghost use Rattle.h3_lines.specs.EachLines.{GivesLines};
+ghost use Rattle.h3_lines.specs.Write.{sink_use};
 
 use crate::each::{Answering, Held, answer_pages, make_room, refuse};
 use crate::line::{BLOCK, Line};
-use crate::refusal::{Fault, Refusal};
+use crate::run_error::{Fault, RunError};
 use crate::splitting::PAGE;
-use h3_index::{H3Error, Sink, Source};
+use h3_index::H3Error;
+use h3_streams::{Sink, Source};
 use std::alloc::Global;
 
 /// A function of one index that answers by any number of lines.
@@ -63,7 +64,7 @@ fn put_lines<W: Sink, L: Line + Drop, I: Iterator<Item = L> + Drop>(
     out: &mut W,
     block: &mut [u8; BLOCK],
     end: usize,
-) -> Result<usize, Refusal>
+) -> Result<usize, RunError>
     requires can { I.can_next items }
     requires ends { IsFinite (I.remaining items) }
     requires within { end ≤ BLOCK }
@@ -96,7 +97,7 @@ impl<'f, F: LinesFunction> Answering for Long<'f, F> {
         &self,
         index: Option<u64>,
         held: &mut Held<'a, W>,
-    ) -> Result<(), Refusal> {
+    ) -> Result<(), RunError> {
         match self.function.lines(index) {
             Ok(items) => {
                 held.end = put_lines(items, held.out, &mut held.block, held.end)?;
@@ -121,11 +122,11 @@ pub fn answer_each_lines<R: Source, W: Sink, F: LinesFunction>(
     function: &F,
     input: &mut R,
     out: &mut W,
-) -> Result<(), Refusal>
+) -> Result<(), RunError>
     ensures { EndsEach (F.answer_of function.now) (R.left input.old) (R.left input.new)
         (R.has_failed input.old) (R.has_failed input.new) result
         (sink_use W.taken W.has_failed out.old out.new) }
 {
-    let mut page = vec![in alloc; 0u8; PAGE].map_err(|_| Refusal::Fault(Fault::Memory))?;
+    let mut page = vec![in alloc; 0u8; PAGE].map_err(|_| RunError::Fault(Fault::Memory))?;
     answer_pages(&Long { function }, input, out, &mut page)
 }

@@ -3,10 +3,10 @@
 
 ghost use Rattle.std.specs.Prelude.{◌≡◌};
 
-use crate::refusal::Refusal;
+use crate::run_error::RunError;
 
 /// A clone is made, and is equal to what it was made of.
 pub fn clones_are_equal()
-    ensures refusals { (a b : Refusal) → ⟦<Refusal as Clone>⟧.is_clone a b → b ≡ a }
-    ensures refusals_made { (a : Refusal) → ⟦<Refusal as Clone>⟧.is_infallible a }
+    ensures refusals { (a b : RunError) → ⟦<RunError as Clone>⟧.is_clone a b → b ≡ a }
+    ensures refusals_made { (a : RunError) → ⟦<RunError as Clone>⟧.is_infallible a }
 {}

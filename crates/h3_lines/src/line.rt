@@ -2,7 +2,7 @@
 
 ghost use Rattle.std.specs.Prelude.{◌≡◌, ◌+◌, ◌<◌, ◌≤◌, ◌++◌, ◌∷◌, [], ℕ, List, length, take};
 ghost use Rattle.h3_lines.specs.Answer.{AreLines, cell_line, children_lines, count_line, edge_line, number_line, ring_line, ring_line_by, truth_line, zone_line, zone_text};
-ghost use Rattle.h3_lines.specs.LineLaws.{cells_are_lines, last_is_line};
+ghost use Rattle.h3_lines.specs.Line.{cells_are_lines, last_is_line};
 
 use h3_index::{Cell, Edge, Siblings, index_bytes, put_cell_line, put_children_lines};
 use itoa::Buffer;

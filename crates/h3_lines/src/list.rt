@@ -1,21 +1,18 @@
 //! Lists of cells, one a line.
 
 ghost use Rattle.std.proofs.Common.{◌∙◌, ap, append-nil, append_assoc, sym};
-ghost use Rattle.std.specs.Prelude.{◌≡◌, ◌≢◌, ◌≤◌, ◌<◌, ◌*◌, ◌^◌, ◌⊎◌, ◌++◌, ℕ, true, List, [], length, Some, Result, Ok, IsOk, IfOk, IfErr, OnOk, OnErr, IsErrOf};
-ghost use Rattle.h3_index.specs.Cell.{Address};
+ghost use Rattle.std.specs.Prelude.{◌≡◌, ◌<◌, ◌*◌, ◌^◌, ◌++◌, length, IfOk, IfErr};
 ghost use Rattle.h3_index.specs.CellNumber.{cell_in};
-ghost use Rattle.h3_index.specs.Stream.{HasLeft};
-ghost use Rattle.h3_index.specs.declared.error.H3Error.{H3Error};
-ghost use Rattle.h3_lines.specs.List.{RefusesList, listed_cells, said_by, said_by_cell};
-ghost use Rattle.h3_lines.specs.Numbered.{RefusesAt, faulty_line, without_number};
-ghost use Rattle.h3_lines.specs.Reads.{IsListWithinReads, IsWithinReads, StopsAtFault};
-ghost use Rattle.h3_lines.specs.declared.refusal.Fault.TheVariants.{Memory, Read};
-ghost use Rattle.h3_lines.specs.declared.refusal.Refusal.TheVariants as refusal;
+ghost use Rattle.h3_lines.specs.List.{said_by, said_by_cell};
+ghost use Rattle.h3_lines.specs.ListRead.{ListRead, ListRefused, RefusesByError, RefusesByLine};
+ghost use Rattle.h3_lines.specs.Numbered.{without_number};
+ghost use Rattle.h3_lines.specs.Reads.{source_use};
 
-use crate::refusal::{AnswerError, Fault, Refusal};
-use crate::splitting::{LONGEST_LINE, PAGE, READS};
+use crate::run_error::{AnswerError, Fault, RunError};
+use crate::splitting::{LONGEST_LINE, MAX_READS, PAGE};
 use crate::taking::{CellTaker, take_cells, take_list};
-use h3_index::{Cell, H3Error, Source, is_blank_text, read_index};
+use h3_index::{Cell, H3Error, is_blank_text, read_index};
+use h3_streams::Source;
 use std::alloc::Global;
 
 /// The cell with an index, or the error where no cell has it.
@@ -47,8 +44,8 @@ impl CellTaker for Vec<Cell> {
     ghost taken = { λ v cells w. w.items ≡ v.items ++ cells };
 
     #[inline(always)]
-    fn take(&mut self, cell: Cell, _after: &[u8]) -> Result<(), Refusal> {
-        self.push(cell).map_err(|_| Refusal::Fault(Fault::Memory))
+    fn take(&mut self, cell: Cell, _after: &[u8]) -> Result<(), RunError> {
+        self.push(cell).map_err(|_| RunError::Fault(Fault::Memory))
     }
 
     ghost none_taken = { λ v. sym (append-nil v.items) };
@@ -58,41 +55,13 @@ impl CellTaker for Vec<Cell> {
 }
 
 /// The refusal of a list whose lines are told without a number.
-fn told_without_number(refusal: Refusal) -> Refusal
+fn without_line(refusal: RunError) -> RunError
     ensures { result ≡ without_number refusal }
 {
     match refusal {
-        Refusal::Error(AnswerError::At(_, error)) => Refusal::Error(AnswerError::Call(error)),
+        RunError::Error(AnswerError::At(_, error)) => RunError::Error(AnswerError::Call(error)),
         other => other,
     }
-}
-
-/// As `read_list`, but the error of a faulty line is told with its number.
-fn read_numbered_list<R: Source>(
-    alloc: Global,
-    input: &mut R,
-    limit: u64,
-    page: &mut [u8],
-) -> Result<Vec<Cell>, Refusal>
-    requires room { 0 < length page.old }
-    requires few { limit * length page.old < 2 ^ 62 }
-    ensures cells { IfOk result (λ cells. (list : List ℕ) × HasLeft (R.left input.old) list ×
-        IsWithinReads limit (length page.old) list × (listed_cells list ≡ Ok cells.items)) }
-    ensures refused { IfErr result (λ e. (list : List ℕ) × HasLeft (R.left input.old) list ×
-        RefusesAt ((R.has_failed input.new ≡ true) ⊎ (limit ≤ length list))
-        (listed_cells list) (faulty_line list) e ×
-        (e ≢ refusal.Fault Read → e ≢ refusal.Fault Memory
-        → IsListWithinReads limit (length page.old) list)) }
-    ensures whole { IsOk result →
-        (list : List ℕ) → R.left input.old ≡ Some list → R.left input.new ≡ Some [] }
-    ensures stops { OnErr result ((list : List ℕ) → R.left input.old ≡ Some list →
-        (left : List ℕ) × (R.left input.new ≡ Some left) × StopsAtFault (length page.old) list left) }
-    ensures faults { IsErrOf result (refusal.Fault Read) → (list : List ℕ) → R.left input.old ≡ Some list →
-        (left : List ℕ) × (R.left input.new ≡ Some left) × StopsAtFault 0 list left }
-    ensures sound { ¬ (IsErrOf result (refusal.Fault Read))
-        → R.has_failed input.new ≡ R.has_failed input.old }
-{
-    take_list(Vec::new(alloc), input, limit, page)
 }
 
 /// Reads a list in at most a given number of reads, each to a page.
@@ -101,28 +70,17 @@ pub fn read_list<R: Source>(
     input: &mut R,
     limit: u64,
     page: &mut [u8],
-) -> Result<Vec<Cell>, Refusal>
+) -> Result<Vec<Cell>, RunError>
     requires room { 0 < length page.old }
     requires few { limit * length page.old < 2 ^ 62 }
-    ensures cells { IfOk result (λ cells. (list : List ℕ) × HasLeft (R.left input.old) list ×
-        IsWithinReads limit (length page.old) list × (listed_cells list ≡ Ok cells.items)) }
-    ensures refused { IfErr result (λ e. (list : List ℕ) × HasLeft (R.left input.old) list ×
-        RefusesList ((R.has_failed input.new ≡ true) ⊎ (limit ≤ length list))
-        (listed_cells list) e ×
-        (e ≢ refusal.Fault Read → e ≢ refusal.Fault Memory
-        → IsListWithinReads limit (length page.old) list)) }
-    ensures whole { IsOk result →
-        (list : List ℕ) → R.left input.old ≡ Some list → R.left input.new ≡ Some [] }
-    ensures stops { OnErr result ((list : List ℕ) → R.left input.old ≡ Some list →
-        (left : List ℕ) × (R.left input.new ≡ Some left) × StopsAtFault (length page.old) list left) }
-    ensures faults { IsErrOf result (refusal.Fault Read) → (list : List ℕ) → R.left input.old ≡ Some list →
-        (left : List ℕ) × (R.left input.new ≡ Some left) × StopsAtFault 0 list left }
-    ensures sound { ¬ (IsErrOf result (refusal.Fault Read))
-        → R.has_failed input.new ≡ R.has_failed input.old }
+    ensures cells { IfOk result (λ cells. ListRead limit (length page.old)
+        (source_use R.left R.has_failed input.old input.new) cells.items) }
+    ensures refused { IfErr result (ListRefused RefusesByError limit (length page.old)
+        (source_use R.left R.has_failed input.old input.new)) }
 {
-    match read_numbered_list(alloc, input, limit, page) {
+    match take_list(Vec::new(alloc), input, limit, page) {
         Ok(cells) => Ok(cells),
-        Err(refusal) => Err(told_without_number(refusal)),
+        Err(refusal) => Err(without_line(refusal)),
     }
 }
 
@@ -136,30 +94,15 @@ pub fn read_list<R: Source>(
 /// `Failed` for a line of more than 64 bytes or one that parses as no index, and `CellInvalid` for
 /// the index of no cell, the first faulty line's. `Fault::Read` where a read fails, or the end is
 /// not found in 2^40 reads. `Fault::Memory` where there is none for the page or for a cell.
-pub fn read_cells<R: Source>(alloc: Global, input: &mut R) -> Result<Vec<Cell>, Refusal>
-    // That many reads of a page can find the end of the list, or its first faulty line.
-    ensures cells { IfOk result (λ cells. (list : List ℕ) × HasLeft (R.left input.old) list ×
-        IsWithinReads READS PAGE list × (listed_cells list ≡ Ok cells.items)) }
-    ensures refused { IfErr result (λ e. (list : List ℕ) × HasLeft (R.left input.old) list ×
-        RefusesList ((R.has_failed input.new ≡ true) ⊎ (READS ≤ length list))
-        (listed_cells list) e ×
-        (e ≢ refusal.Fault Read → e ≢ refusal.Fault Memory
-        → IsListWithinReads READS PAGE list)) }
-    // All of a list without a faulty line is read, and of any other at most a page more than bytes
-    // in which no line is known to be faulty; so too where memory is refused. Where a read fails, or
-    // no read is left, no line is known to be faulty in what was read.
-    ensures whole { IsOk result →
-        (list : List ℕ) → R.left input.old ≡ Some list → R.left input.new ≡ Some [] }
-    ensures stops { OnErr result ((list : List ℕ) → R.left input.old ≡ Some list →
-        (left : List ℕ) × (R.left input.new ≡ Some left) × StopsAtFault PAGE list left) }
-    ensures faults { IsErrOf result (refusal.Fault Read) → (list : List ℕ) → R.left input.old ≡ Some list →
-        (left : List ℕ) × (R.left input.new ≡ Some left) × StopsAtFault 0 list left }
-    ensures sound { ¬ (IsErrOf result (refusal.Fault Read))
-        → R.has_failed input.new ≡ R.has_failed input.old }
+pub fn read_cells<R: Source>(alloc: Global, input: &mut R) -> Result<Vec<Cell>, RunError>
+    ensures cells { IfOk result (λ cells. ListRead MAX_READS PAGE
+        (source_use R.left R.has_failed input.old input.new) cells.items) }
+    ensures refused { IfErr result (ListRefused RefusesByError MAX_READS PAGE
+        (source_use R.left R.has_failed input.old input.new)) }
 {
     match read_numbered_cells(alloc, input) {
         Ok(cells) => Ok(cells),
-        Err(refusal) => Err(told_without_number(refusal)),
+        Err(refusal) => Err(without_line(refusal)),
     }
 }
 
@@ -170,24 +113,11 @@ pub fn read_cells<R: Source>(alloc: Global, input: &mut R) -> Result<Vec<Cell>, 
 /// with `CellInvalid` for the index of no cell, the first faulty line's. `Fault::Read` where a
 /// read fails, or the end is not found in 2^40 reads. `Fault::Memory` where there is none for the
 /// page or for a cell.
-pub fn read_numbered_cells<R: Source>(alloc: Global, input: &mut R) -> Result<Vec<Cell>, Refusal>
-    // That many reads of a page can find the end of the list, or its first faulty line.
-    ensures cells { IfOk result (λ cells. (list : List ℕ) × HasLeft (R.left input.old) list ×
-        IsWithinReads READS PAGE list × (listed_cells list ≡ Ok cells.items)) }
-    ensures refused { IfErr result (λ e. (list : List ℕ) × HasLeft (R.left input.old) list ×
-        RefusesAt ((R.has_failed input.new ≡ true) ⊎ (READS ≤ length list))
-        (listed_cells list) (faulty_line list) e ×
-        (e ≢ refusal.Fault Read → e ≢ refusal.Fault Memory
-        → IsListWithinReads READS PAGE list)) }
-    // How much of the list is read, as by `read_cells`.
-    ensures whole { IsOk result →
-        (list : List ℕ) → R.left input.old ≡ Some list → R.left input.new ≡ Some [] }
-    ensures stops { OnErr result ((list : List ℕ) → R.left input.old ≡ Some list →
-        (left : List ℕ) × (R.left input.new ≡ Some left) × StopsAtFault PAGE list left) }
-    ensures faults { IsErrOf result (refusal.Fault Read) → (list : List ℕ) → R.left input.old ≡ Some list →
-        (left : List ℕ) × (R.left input.new ≡ Some left) × StopsAtFault 0 list left }
-    ensures sound { ¬ (IsErrOf result (refusal.Fault Read))
-        → R.has_failed input.new ≡ R.has_failed input.old }
+pub fn read_numbered_cells<R: Source>(alloc: Global, input: &mut R) -> Result<Vec<Cell>, RunError>
+    ensures cells { IfOk result (λ cells. ListRead MAX_READS PAGE
+        (source_use R.left R.has_failed input.old input.new) cells.items) }
+    ensures refused { IfErr result (ListRefused RefusesByLine MAX_READS PAGE
+        (source_use R.left R.has_failed input.old input.new)) }
 {
     take_cells(alloc, Vec::new(alloc), input)
 }

@@ -1,25 +1,26 @@
 //! Pages of bytes that are split into lines.
 
 ghost use Rattle.std.specs.Prelude.{◌≡◌, ◌≢◌, ◌≤◌, ◌<◌, ◌+◌, ◌*◌, ◌^◌, ◌⊎◌, ℕ, true, List, [], ◌∷◌, ◌++◌, length, take, IfOk, IfErr, IfSome, IfNone, OnOk};
-ghost use Rattle.h3_index.specs.Counted.{KeepsSource, reads_allowed, source_of};
+ghost use Rattle.h3_streams.specs.Counted.{KeepsSource, reads_allowed, source_of};
 ghost use Rattle.h3_lines.specs.List.{lines_of};
-ghost use Rattle.h3_lines.specs.Reading.{is_unended};
+ghost use Rattle.h3_lines.specs.Taking.{is_unended};
 ghost use Rattle.h3_lines.specs.Splitting.{BeginsPlain, Goes, ParsesAs, StopsReading, StopsTaking, TakesAll};
-ghost use Rattle.h3_lines.specs.declared.refusal.Fault.TheVariants.{Read};
-ghost use Rattle.h3_lines.specs.declared.refusal.Refusal.{Refusal};
-ghost use Rattle.h3_lines.specs.declared.refusal.Refusal.TheVariants as refusal;
+ghost use Rattle.h3_lines.specs.declared.run_error.Fault.TheVariants.{Read};
+ghost use Rattle.h3_lines.specs.declared.run_error.RunError.{RunError};
+ghost use Rattle.h3_lines.specs.declared.run_error.RunError.TheVariants as refusal;
 ghost use Rattle.h3_lines.specs.declared.splitting.TheConstants.{LONGEST_LINE};
 
-use crate::refusal::{Fault, Refusal};
+use crate::run_error::{Fault, RunError};
 use arrayvec::ArrayVec;
-use h3_index::{CountedReader, Source, read_plain};
+use h3_index::read_plain;
+use h3_streams::{CountedReader, Source};
 use memchr::memchr;
 
 /// The bytes that are read at once.
 pub const PAGE: usize = 65536;
 
 /// The reads that a list may take.
-pub const READS: u64 = 1 << 40;
+pub const MAX_READS: u64 = 1 << 40;
 
 /// The bytes that a line may have.
 pub(crate) const LONGEST_LINE: usize = 64;
@@ -39,10 +40,10 @@ pub(crate) trait LineTaker {
     ghost taken: { Self → List (List ℕ) → Self → Type 0 };
 
     /// Of these lines, and any that come after them, one is refused, or a write fails before.
-    ghost refused: { Self → List (List ℕ) → Self → Refusal → Type 0 };
+    ghost refused: { Self → List (List ℕ) → Self → RunError → Type 0 };
 
     /// Takes a line.
-    fn take(&mut self, line: &[u8]) -> Result<(), Refusal>
+    fn take(&mut self, line: &[u8]) -> Result<(), RunError>
         requires few { count self.old < 2 ^ 63 }
         ensures ok { OnOk result (taken self.old (line.now ∷ []) self.new) }
         ensures counted { OnOk result (count self.new ≤ count self.old + 1) }
@@ -50,7 +51,7 @@ pub(crate) trait LineTaker {
             refused self.old (line.now ∷ later) self.new e) };
 
     /// Takes a line that parses as an index, and is followed by these bytes in its page.
-    fn take_index(&mut self, index: u64, after: &[u8]) -> Result<(), Refusal>
+    fn take_index(&mut self, index: u64, after: &[u8]) -> Result<(), RunError>
         requires few { count self.old < 2 ^ 63 }
         ensures ok { OnOk result ((line : List ℕ) → ParsesAs line index →
             taken self.old (line ∷ []) self.new) }
@@ -59,12 +60,12 @@ pub(crate) trait LineTaker {
             (later : List (List ℕ)) → refused self.old (line ∷ later) self.new e) };
 
     /// Refuses a line of more than 64 bytes.
-    fn refuse_long(&mut self) -> Refusal
+    fn refuse_long(&mut self) -> RunError
         ensures { (line : List ℕ) → LONGEST_LINE < length line → (later : List (List ℕ)) →
             refused self.old (line ∷ later) self.new result };
 
     /// Passes on what is held back of the lines taken.
-    fn settle(&mut self) -> Result<(), Refusal>
+    fn settle(&mut self) -> Result<(), RunError>
         ensures ok { OnOk result (taken self.old [] self.new) }
         ensures settled { OnOk result (settled self.new) }
         ensures counted { OnOk result (count self.new ≤ count self.old) }
@@ -76,7 +77,7 @@ pub(crate) trait LineTaker {
     ghost taken_then: { (u v w : Self) (xs ys : List (List ℕ)) → taken u xs v → taken v ys w →
         taken u (xs ++ ys) w };
 
-    ghost refused_then: { (u v w : Self) (xs ys : List (List ℕ)) (e : Refusal) → taken u xs v →
+    ghost refused_then: { (u v w : Self) (xs ys : List (List ℕ)) (e : RunError) → taken u xs v →
         refused v ys w e → refused u (xs ++ ys) w e };
 }
 
@@ -122,7 +123,7 @@ impl LineStart {
     }
 
     /// Keeps more bytes of the line, which is faulty once it has more than it may have.
-    fn keep<V: LineTaker>(&mut self, taker: &mut V, more: &[u8]) -> Result<(), Refusal>
+    fn keep<V: LineTaker>(&mut self, taker: &mut V, more: &[u8]) -> Result<(), RunError>
         requires { is_unended more.now ≡ true }
         ensures kept { OnOk result ((self.new.bytes.items ≡ self.old.bytes.items ++ more.now) ×
             (taker.new ≡ taker.old)) }
@@ -137,7 +138,7 @@ impl LineStart {
     }
 
     /// Ends the line by these bytes, and has it taken.
-    fn end_line<V: LineTaker>(&mut self, taker: &mut V, more: &[u8]) -> Result<(), Refusal>
+    fn end_line<V: LineTaker>(&mut self, taker: &mut V, more: &[u8]) -> Result<(), RunError>
         requires unended { is_unended more.now ≡ true }
         requires few { V.count taker.old < 2 ^ 63 }
         ensures ok { OnOk result (Goes V.taken taker.old self.old.bytes.items
@@ -163,7 +164,7 @@ impl LineStart {
         &self,
         taker: &mut V,
         page: &'b [u8],
-    ) -> Result<&'b [u8], Refusal>
+    ) -> Result<&'b [u8], RunError>
         requires { V.count taker.old + length page.now < 2 ^ 63 }
         ensures ok { IfOk result (λ left. Goes V.taken taker.old self.now.bytes.items page.now
             taker.new self.now.bytes.items left.now) }
@@ -186,7 +187,7 @@ impl LineStart {
     }
 
     /// Has the lines taken that end in a page, and keeps the beginning of the next one.
-    fn take<V: LineTaker>(&mut self, taker: &mut V, page: &[u8]) -> Result<(), Refusal>
+    fn take<V: LineTaker>(&mut self, taker: &mut V, page: &[u8]) -> Result<(), RunError>
         requires { V.count taker.old + length page.now < 2 ^ 63 }
         ensures ok { OnOk result (Goes V.taken taker.old self.old.bytes.items page.now
             taker.new self.new.bytes.items []) }
@@ -204,7 +205,7 @@ impl LineStart {
     }
 
     /// The same, and then nothing is held back.
-    fn take_page<V: LineTaker>(&mut self, taker: &mut V, page: &[u8]) -> Result<(), Refusal>
+    fn take_page<V: LineTaker>(&mut self, taker: &mut V, page: &[u8]) -> Result<(), RunError>
         requires { V.count taker.old + length page.now < 2 ^ 63 }
         ensures ok { OnOk result (Goes V.taken taker.old self.old.bytes.items page.now
             taker.new self.new.bytes.items []) }
@@ -219,7 +220,7 @@ impl LineStart {
     }
 
     /// Has the last line taken, and then nothing is held back.
-    fn finish<V: LineTaker>(self, taker: &mut V) -> Result<(), Refusal>
+    fn finish<V: LineTaker>(self, taker: &mut V) -> Result<(), RunError>
         requires { V.count taker.old < 2 ^ 63 }
         ensures ok { OnOk result (V.taken taker.old (lines_of self.bytes.items) taker.new) }
         ensures settled { OnOk result (V.settled taker.new) }
@@ -236,7 +237,7 @@ pub(crate) fn take_lines<'a, V: LineTaker, R: Source>(
     taker: &mut V,
     reader: &mut CountedReader<'a, R>,
     page: &mut [u8],
-) -> Result<(), Refusal>
+) -> Result<(), RunError>
     requires room { 0 < length page.old }
     requires few { V.count taker.old + reads_allowed reader.old * length page.old < 2 ^ 63 }
     requires settled { V.settled taker.old }
@@ -259,7 +260,7 @@ pub(crate) fn take_lines<'a, V: LineTaker, R: Source>(
     let mut start = LineStart::new();
     loop {
         let Ok(count) = reader.read(page) else {
-            return Err(Refusal::Fault(Fault::Read));
+            return Err(RunError::Fault(Fault::Read));
         };
         if count == 0 {
             return start.finish(taker);

@@ -1,23 +1,24 @@
 //! Lists of cells, one a line, of which each cell is taken as it is read.
 
 ghost use Rattle.std.proofs.Common.{refl};
-ghost use Rattle.std.specs.Prelude.{◌≡◌, ◌≢◌, ◌≤◌, ◌<◌, ◌*◌, ◌+◌, ◌^◌, ◌⊎◌, ◌++◌, ◌∷◌, ⊤, ℕ, true, List, [], length, Some, Result, Ok, Err, IsOk, IfOk, IfErr, OnOk, OnErr, IsErrOf};
+ghost use Rattle.std.specs.Prelude.{◌≡◌, ◌≤◌, ◌<◌, ◌*◌, ◌+◌, ◌^◌, ◌++◌, ◌∷◌, ⊤, ℕ, List, [], length, Result, Err, IsOk, IfOk, IfErr, OnOk};
 ghost use Rattle.h3_index.specs.Cell.{Address};
-ghost use Rattle.h3_index.specs.Stream.{HasLeft};
 ghost use Rattle.h3_index.specs.declared.error.H3Error.{H3Error};
-ghost use Rattle.h3_lines.specs.List.{listed_cells, said_before};
+ghost use Rattle.h3_lines.specs.List.{said_before};
 ghost use Rattle.h3_lines.specs.ListLaws.{counts_then, refuses_after, says_nothing, says_then};
-ghost use Rattle.h3_lines.specs.Numbered.{RefusesAt, faulty_line, number_of_fault};
-ghost use Rattle.h3_lines.specs.Reading.{CountsLines, RefusesLinesAt, SayCells, cells_on};
-ghost use Rattle.h3_lines.specs.Reads.{IsListWithinReads, IsWithinReads, StopsAtFault};
-ghost use Rattle.h3_lines.specs.declared.refusal.AnswerError.TheVariants.{At};
-ghost use Rattle.h3_lines.specs.declared.refusal.Fault.TheVariants.{Memory, Read};
-ghost use Rattle.h3_lines.specs.declared.refusal.Refusal.TheVariants as refusal;
+ghost use Rattle.h3_lines.specs.ListRead.{ListRead, ListRefused, RefusesByLine};
+ghost use Rattle.h3_lines.specs.Numbered.{RefusesAt, number_of_fault};
+ghost use Rattle.h3_lines.specs.Taking.{CountsLines, RefusesLinesAt, SayCells, cells_on};
+ghost use Rattle.h3_lines.specs.Reads.{source_use};
+ghost use Rattle.h3_lines.specs.declared.run_error.AnswerError.TheVariants.{At};
+ghost use Rattle.h3_lines.specs.declared.run_error.Fault.TheVariants.{Memory};
+ghost use Rattle.h3_lines.specs.declared.run_error.RunError.TheVariants as refusal;
 
 use crate::list::{cell_with, read_line};
-use crate::refusal::{AnswerError, Fault, Refusal};
-use crate::splitting::{LineTaker, PAGE, READS, take_lines};
-use h3_index::{Cell, CountedReader, H3Error, Source};
+use crate::run_error::{AnswerError, Fault, RunError};
+use crate::splitting::{LineTaker, MAX_READS, PAGE, take_lines};
+use h3_index::{Cell, H3Error};
+use h3_streams::{CountedReader, Source};
 use std::alloc::Global;
 
 /// What takes the cells of a list, one after another.
@@ -30,7 +31,7 @@ pub trait CellTaker {
 
     /// Takes a cell, whose line is followed by these bytes in its page: by none if it is not plain.
     /// `Fault::Memory` where there is none for it.
-    fn take(&mut self, cell: Cell, after: &[u8]) -> Result<(), Refusal>
+    fn take(&mut self, cell: Cell, after: &[u8]) -> Result<(), RunError>
         requires few { count self.old < 2 ^ 63 }
         ensures ok { OnOk result (taken self.old (cell ∷ []) self.new) }
         ensures counted { count self.new ≤ count self.old + 1 }
@@ -44,12 +45,12 @@ pub trait CellTaker {
 
 /// Has the cell that the line with this number says taken, if it says one.
 #[inline(always)]
-fn take_said<V: CellTaker>(
+fn push_parsed<V: CellTaker>(
     taker: &mut V,
     number: u64,
     said: Result<Option<Cell>, H3Error>,
     after: &[u8],
-) -> Result<(), Refusal>
+) -> Result<(), RunError>
     requires few { V.count taker.old < 2 ^ 63 }
     ensures ok { OnOk result (V.taken taker.old (cells_on said) taker.new) }
     ensures counted { V.count taker.new ≤ V.count taker.old + 1 }
@@ -61,7 +62,7 @@ fn take_said<V: CellTaker>(
     match said {
         Ok(None) => Ok(()),
         Ok(Some(cell)) => taker.take(cell, after),
-        Err(error) => Err(Refusal::Error(AnswerError::At(number, error))),
+        Err(error) => Err(RunError::Error(AnswerError::At(number, error))),
     }
 }
 
@@ -83,25 +84,25 @@ impl<V: CellTaker> LineTaker for NumberedLines<V> {
 
     ghost refused = { λ v lines w e. RefusesLinesAt v.number lines e };
 
-    fn take(&mut self, line: &[u8]) -> Result<(), Refusal> {
+    fn take(&mut self, line: &[u8]) -> Result<(), RunError> {
         let number = self.number;
         self.number += 1;
-        take_said(&mut self.taker, number, read_line(line), &[])
+        push_parsed(&mut self.taker, number, read_line(line), &[])
     }
 
     #[inline(always)]
-    fn take_index(&mut self, index: u64, after: &[u8]) -> Result<(), Refusal> {
+    fn take_index(&mut self, index: u64, after: &[u8]) -> Result<(), RunError> {
         let number = self.number;
         self.number += 1;
-        take_said(&mut self.taker, number, cell_with(index), after)
+        push_parsed(&mut self.taker, number, cell_with(index), after)
     }
 
-    fn refuse_long(&mut self) -> Refusal {
-        Refusal::Error(AnswerError::At(self.number, H3Error::Failed))
+    fn refuse_long(&mut self) -> RunError {
+        RunError::Error(AnswerError::At(self.number, H3Error::Failed))
     }
 
     #[inline(always)]
-    fn settle(&mut self) -> Result<(), Refusal> {
+    fn settle(&mut self) -> Result<(), RunError> {
         Ok(())
     }
 
@@ -124,26 +125,15 @@ pub(crate) fn take_list<V: CellTaker + Drop, R: Source>(
     input: &mut R,
     limit: u64,
     page: &mut [u8],
-) -> Result<V, Refusal>
+) -> Result<V, RunError>
     requires first { V.count taker ≡ 0 }
     requires room { 0 < length page.old }
     requires few { limit * length page.old < 2 ^ 62 }
-    ensures taken { IfOk result (λ after. (list : List ℕ) × HasLeft (R.left input.old) list ×
-        IsWithinReads limit (length page.old) list ×
-        (cells : List Address) × (listed_cells list ≡ Ok cells) × V.taken taker cells after) }
-    ensures refused { IfErr result (λ e. (list : List ℕ) × HasLeft (R.left input.old) list ×
-        RefusesAt ((R.has_failed input.new ≡ true) ⊎ (limit ≤ length list))
-        (listed_cells list) (faulty_line list) e ×
-        (e ≢ refusal.Fault Read → e ≢ refusal.Fault Memory
-        → IsListWithinReads limit (length page.old) list)) }
-    ensures whole { IsOk result →
-        (list : List ℕ) → R.left input.old ≡ Some list → R.left input.new ≡ Some [] }
-    ensures stops { OnErr result ((list : List ℕ) → R.left input.old ≡ Some list →
-        (left : List ℕ) × (R.left input.new ≡ Some left) × StopsAtFault (length page.old) list left) }
-    ensures faults { IsErrOf result (refusal.Fault Read) → (list : List ℕ) → R.left input.old ≡ Some list →
-        (left : List ℕ) × (R.left input.new ≡ Some left) × StopsAtFault 0 list left }
-    ensures sound { ¬ (IsErrOf result (refusal.Fault Read))
-        → R.has_failed input.new ≡ R.has_failed input.old }
+    ensures taken { IfOk result (λ after. (cells : List Address)
+        × ListRead limit (length page.old) (source_use R.left R.has_failed input.old input.new) cells
+        × V.taken taker cells after) }
+    ensures refused { IfErr result (ListRefused RefusesByLine limit (length page.old)
+        (source_use R.left R.has_failed input.old input.new)) }
 {
     let mut lines = NumberedLines { taker, number: 1 };
     let mut reader = CountedReader::new(&mut *input, limit);
@@ -164,27 +154,14 @@ pub fn take_cells<V: CellTaker + Drop, R: Source>(
     alloc: Global,
     taker: V,
     input: &mut R,
-) -> Result<V, Refusal>
+) -> Result<V, RunError>
     requires { V.count taker ≡ 0 }
-    // That many reads of a page can find the end of the list, or its first faulty line.
-    ensures taken { IfOk result (λ after. (list : List ℕ) × HasLeft (R.left input.old) list ×
-        IsWithinReads READS PAGE list ×
-        (cells : List Address) × (listed_cells list ≡ Ok cells) × V.taken taker cells after) }
-    ensures refused { IfErr result (λ e. (list : List ℕ) × HasLeft (R.left input.old) list ×
-        RefusesAt ((R.has_failed input.new ≡ true) ⊎ (READS ≤ length list))
-        (listed_cells list) (faulty_line list) e ×
-        (e ≢ refusal.Fault Read → e ≢ refusal.Fault Memory
-        → IsListWithinReads READS PAGE list)) }
-    // How much of the list is read, as by `read_cells`.
-    ensures whole { IsOk result →
-        (list : List ℕ) → R.left input.old ≡ Some list → R.left input.new ≡ Some [] }
-    ensures stops { OnErr result ((list : List ℕ) → R.left input.old ≡ Some list →
-        (left : List ℕ) × (R.left input.new ≡ Some left) × StopsAtFault PAGE list left) }
-    ensures faults { IsErrOf result (refusal.Fault Read) → (list : List ℕ) → R.left input.old ≡ Some list →
-        (left : List ℕ) × (R.left input.new ≡ Some left) × StopsAtFault 0 list left }
-    ensures sound { ¬ (IsErrOf result (refusal.Fault Read))
-        → R.has_failed input.new ≡ R.has_failed input.old }
+    ensures taken { IfOk result (λ after. (cells : List Address)
+        × ListRead MAX_READS PAGE (source_use R.left R.has_failed input.old input.new) cells
+        × V.taken taker cells after) }
+    ensures refused { IfErr result (ListRefused RefusesByLine MAX_READS PAGE
+        (source_use R.left R.has_failed input.old input.new)) }
 {
-    let mut page = vec![in alloc; 0u8; PAGE].map_err(|_| Refusal::Fault(Fault::Memory))?;
-    take_list(taker, input, READS, &mut page)
+    let mut page = vec![in alloc; 0u8; PAGE].map_err(|_| RunError::Fault(Fault::Memory))?;
+    take_list(taker, input, MAX_READS, &mut page)
 }

@@ -6,11 +6,12 @@ ghost use Rattle.std.specs.Iterator.{AlwaysYields, IsFinite};
 ghost use Rattle.std.specs.List.{flat_map};
 ghost use Rattle.h3_index.specs.declared.error.H3Error.{H3Error};
 ghost use Rattle.h3_lines.specs.Answer.{before, printed, refused, walked, written};
-ghost use Rattle.h3_lines.specs.Writing.{AppendsPart, AppendsUpTo, Writes, sink_use};
+ghost use Rattle.h3_lines.specs.Write.{AppendsPart, AppendsUpTo, Writes, sink_use};
 
 use crate::line::{BLOCK, Line, ROOM};
-use crate::refusal::{AnswerError, Refusal};
-use h3_index::{H3Error, Sink, StreamFault};
+use crate::run_error::{AnswerError, RunError};
+use h3_index::H3Error;
+use h3_streams::{Sink, StreamFault};
 
 /// Writes all of the bytes, in as many pushes as it takes.
 ///
@@ -32,7 +33,7 @@ pub fn write_all<W: Sink>(out: &mut W, bytes: &[u8]) -> Result<(), StreamFault>
 }
 
 /// Writes all of the bytes, and flushes. `Fault::Write` where a push or the flush fails.
-pub fn write_answer<W: Sink>(out: &mut W, answer: &[u8]) -> Result<(), Refusal>
+pub fn write_answer<W: Sink>(out: &mut W, answer: &[u8]) -> Result<(), RunError>
     ensures { Writes (written answer.now) result (sink_use W.taken W.has_failed out.old out.new) }
 {
     write_all(out, answer)?;
@@ -48,7 +49,7 @@ pub fn write_answer<W: Sink>(out: &mut W, answer: &[u8]) -> Result<(), Refusal>
 pub fn write_result<W: Sink, L: Line + Drop>(
     out: &mut W,
     value: Result<L, H3Error>,
-) -> Result<(), Refusal>
+) -> Result<(), RunError>
     ensures { Writes (printed L.line_of value) result
         (sink_use W.taken W.has_failed out.old out.new) }
 {
@@ -87,7 +88,7 @@ fn make_room<W: Sink>(out: &mut W, block: &[u8; BLOCK], end: usize) -> Result<us
 pub fn write_lines<W: Sink, L: Line + Drop, I: Iterator<Item = L> + Drop>(
     out: &mut W,
     items: I,
-) -> Result<(), Refusal>
+) -> Result<(), RunError>
     requires can { I.can_next items }
     requires ends { IsFinite (I.remaining items) }
     ensures { (all : List _) → AlwaysYields I.next_gives (λ x. x) items all →
@@ -104,14 +105,14 @@ pub fn write_lines<W: Sink, L: Line + Drop, I: Iterator<Item = L> + Drop>(
 }
 
 /// Writes the bytes and flushes, if there are any, and then returns the error.
-fn write_refused<W: Sink>(out: &mut W, bytes: &[u8], error: H3Error) -> Result<(), Refusal>
+fn write_refused<W: Sink>(out: &mut W, bytes: &[u8], error: H3Error) -> Result<(), RunError>
     ensures { Writes (before bytes.now (refused error)) result
         (sink_use W.taken W.has_failed out.old out.new) }
 {
     if !bytes.is_empty() {
         write_answer(out, bytes)?;
     }
-    Err(Refusal::Error(AnswerError::Call(error)))
+    Err(RunError::Error(AnswerError::Call(error)))
 }
 
 /// Writes a line for each item of a walk up to its first error, which it then returns. The walk is
@@ -123,7 +124,7 @@ fn write_refused<W: Sink>(out: &mut W, bytes: &[u8], error: H3Error) -> Result<(
 pub fn write_walk<W: Sink, L: Line + Drop, I: Iterator<Item = Result<L, H3Error>> + Drop>(
     out: &mut W,
     walk: I,
-) -> Result<(), Refusal>
+) -> Result<(), RunError>
     requires can { I.can_next walk }
     requires ends { IsFinite (I.remaining walk) }
     ensures { (all : List (Result _ H3Error)) → AlwaysYields I.next_gives (λ x. x) walk all →

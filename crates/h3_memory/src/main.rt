@@ -9,9 +9,9 @@
 use arrayvec::ArrayVec;
 use h3_command::run::run;
 use h3_fakes::{bases_file, table_file};
-use h3_index::Streamed;
-use h3_lattice::vectors::TestTable;
-use h3_requests::{CellFunction, Command};
+use h3_requests::{Command, IndexFunction};
+use h3_streams::Streamed;
+use h3_table::vectors::TestTable;
 use itoa::Buffer;
 use std::alloc::Global;
 use std::io::{self, Write};
@@ -93,7 +93,7 @@ fn main(rt: HostRuntime) -> io::Result<()> {
         (Command::CompactCells, (MIXED, "")),
         (disk, ("", file.as_str())),
         (edge, ("", bases.as_str())),
-        (Command::ForEach(CellFunction::GetResolution), (MIXED, "")),
+        (Command::ForEach(IndexFunction::GetResolution), (MIXED, "")),
         (Command::UniteCells, (OVERLAPPING, "")),
         (Command::IntersectCells, (OVERLAPPING, APART)),
         (Command::SubtractCells, (OVERLAPPING, APART)),

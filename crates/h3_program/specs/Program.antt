@@ -2,18 +2,19 @@
 use Rattle.std.specs.Prelude.{◌≡◌, ◌⊎◌, ◌++◌, ℕ, false, List, [], ◌∷◌, codes, Option, Some, None, string_bytes, Result, Ok, Err}
 use Rattle.std.specs.Io.KnownBytes.{Appends}
 use Rattle.h3_lines.specs.Answer.{written}
-use Rattle.h3_lines.specs.Writing.{AppendsPart, IsLeft, Reports, SinkUse, Writes}
-use Rattle.h3_lines.specs.declared.refusal.Fault.TheVariants as fault
-use Rattle.h3_lines.specs.declared.refusal.Refusal.{Refusal}
-use Rattle.h3_lines.specs.declared.refusal.Refusal.TheVariants as refusal
+use Rattle.h3_lines.specs.Reads.{SourceUse}
+use Rattle.h3_lines.specs.Write.{AppendsPart, IsLeft, Reports, SinkUse, Writes}
+use Rattle.h3_lines.specs.declared.run_error.Fault.TheVariants as fault
+use Rattle.h3_lines.specs.declared.run_error.RunError.{RunError}
+use Rattle.h3_lines.specs.declared.run_error.RunError.TheVariants as refusal
 use Rattle.h3_command.specs.Answer.{Request, reads_list, reads_table, request_of}
-use Rattle.h3_command.specs.Run.{Runs, SourceUse, Streams}
+use Rattle.h3_command.specs.Run.{Runs, Streams}
 use Rattle.h3_words.specs.Options.{path_of}
 use Rattle.h3_words.specs.declared.options.CommandFile.{CommandFile}
 use Rattle.h3_words.specs.declared.options.CommandFile.TheVariants as named
 use Rattle.h3_words.specs.declared.words.Words.{Words}
-use Rattle.h3_words.specs.declared.words.WordsFault.{WordsFault}
-use Rattle.h3_words.specs.declared.words.WordsFault.TheVariants.{Help, Version, Usage, Memory}
+use Rattle.h3_words.specs.declared.words.ArgsError.{ArgsError}
+use Rattle.h3_words.specs.declared.words.ArgsError.TheVariants.{Help, Version, Usage, Memory}
 
 -- a stream before a run and after it
 pub record Change (S : Type 0) : Type 0 where
@@ -71,13 +72,13 @@ version_line = codes "h3 1.3.0" ++ 10 ∷ []
 -- a command is run; help and the version go to standard output, where a write may fail; the text of an invalid command
 -- line goes to standard error, with status 2; out of memory is an error line; where no command is run, nothing is opened
 -- or read
-abbrev pub Follows : {R F : Type 0} → Files F → Result Words WordsFault → ℕ → Change R → Change F → Streams → Type 0
+abbrev pub Follows : {R F : Type 0} → Files F → Result Words ArgsError → ℕ → Change R → Change F → Streams → Type 0
 Follows files (Ok words) status input file s = RunsCommand files words.file (request_of words.rows words.command) status input file s
 Follows files (Err (Help text)) status input file s =
-    ((ending : Result (Unit {0}) Refusal) × Writes (written (string_bytes text)) ending s.out × Reports ending status s.err)
+    ((ending : Result (Unit {0}) RunError) × Writes (written (string_bytes text)) ending s.out × Reports ending status s.err)
     × IsUntouched input × IsUntouched file
 Follows files (Err Version) status input file s =
-    ((ending : Result (Unit {0}) Refusal) × Writes (written version_line) ending s.out × Reports ending status s.err)
+    ((ending : Result (Unit {0}) RunError) × Writes (written version_line) ending s.out × Reports ending status s.err)
     × IsUntouched input × IsUntouched file
 Follows files (Err (Usage text)) status input file s =
     ((status ≡ 2) × IsLeft s.out × WritesLine (string_bytes text) s.err) × IsUntouched input × IsUntouched file

@@ -2,9 +2,9 @@
 
 ghost use Rattle.std.specs.Prelude.{◌≡◌, ◌≤◌, List, ℕ, Option, None, true, false, length, IsErr, IfOk, OnOk, OnErr};
 ghost use Rattle.std.specs.Io.KnownBytes.{Keeps};
-ghost use Rattle.h3_index.specs.Stream.{Pulls};
+ghost use Rattle.h3_streams.specs.Stream.{Pulls};
 
-use h3_index::{Source, StreamFault};
+use h3_streams::{Source, StreamFault};
 
 /// A file cannot be opened.
 #[derive(Debug, Drop)]

@@ -1,19 +1,19 @@
 //! The whole program but for what only the system can give: words, the standard streams, and files.
 
 ghost use Rattle.std.specs.Prelude.{◌≡◌, map, string_bytes, Result};
-ghost use Rattle.h3_lines.specs.Writing.{sink_use};
+ghost use Rattle.h3_lines.specs.Reads.{source_use};
+ghost use Rattle.h3_lines.specs.Write.{sink_use};
 ghost use Rattle.h3_command.specs.Answer.{request_of};
-ghost use Rattle.h3_command.specs.Run.{source_use};
 ghost use Rattle.h3_words.specs.Parse.{ParsesAs};
 ghost use Rattle.h3_words.specs.declared.words.Words.{Words};
-ghost use Rattle.h3_words.specs.declared.words.WordsFault.{WordsFault};
+ghost use Rattle.h3_words.specs.declared.words.ArgsError.{ArgsError};
 ghost use Rattle.h3_program.specs.Program.{Follows, RunsCommand, open_line};
 
 use crate::file::OpenFile;
 use h3_command::run::run_over;
-use h3_index::{Sink, Source};
-use h3_lines::{Fault, Refusal, report, write_all, write_answer};
-use h3_words::{CommandFile, Words, WordsFault, read_words};
+use h3_lines::{Fault, RunError, report, write_all, write_answer};
+use h3_streams::{Sink, Source};
+use h3_words::{ArgsError, CommandFile, Words, read_words};
 use std::alloc::Global;
 
 /// What `h3 --version` prints.
@@ -84,7 +84,7 @@ pub fn run_words<R: Source, F: OpenFile, W: Sink, E: Sink>(
     err: &mut E,
 ) -> u8
     ensures err_kept { result ≡ 0 → err.new ≡ err.old }
-    ensures follows { (parsed : Result Words WordsFault)
+    ensures follows { (parsed : Result Words ArgsError)
         × ParsesAs (map string_bytes words.items) parsed
         × Follows (record {
           opens = F.opens;
@@ -101,12 +101,12 @@ pub fn run_words<R: Source, F: OpenFile, W: Sink, E: Sink>(
 {
     match read_words(alloc, words) {
         Ok(words) => run_command(alloc, &words, input, file, out, err),
-        Err(WordsFault::Help(text)) => report(err, write_answer(out, text.as_bytes())),
-        Err(WordsFault::Version) => report(err, write_answer(out, VERSION_LINE.as_bytes())),
-        Err(WordsFault::Usage(text)) => {
+        Err(ArgsError::Help(text)) => report(err, write_answer(out, text.as_bytes())),
+        Err(ArgsError::Version) => report(err, write_answer(out, VERSION_LINE.as_bytes())),
+        Err(ArgsError::Usage(text)) => {
             let _ = write_all(err, text.as_bytes());
             2
         }
-        Err(WordsFault::Memory) => report(err, Err(Refusal::Fault(Fault::Memory))),
+        Err(ArgsError::Memory) => report(err, Err(RunError::Fault(Fault::Memory))),
     }
 }

@@ -4,7 +4,7 @@ ghost use Rattle.std.specs.Prelude.{⊤};
 
 use crate::file::{OpenFault, OpenFiles};
 use crate::retried::Retried;
-use h3_index::Streamed;
+use h3_streams::Streamed;
 use std::fs;
 use std::rt::Files;
 

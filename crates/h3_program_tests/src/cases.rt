@@ -2,8 +2,9 @@
 
 use h3_command::run::run;
 use h3_fakes::{Faults, FaultySink, FaultySource};
-use h3_index::{Sink, read_index};
-use h3_requests::{CellFunction, Command};
+use h3_index::read_index;
+use h3_requests::{Command, IndexFunction};
+use h3_streams::Sink;
 use std::alloc::Global;
 
 /// No call fails.
@@ -209,7 +210,7 @@ pub fn whole<'a>(command: Command, reads: Reads<'a>, output: &'a str) -> Case<'a
 }
 
 /// The same of a function of each index of a list.
-pub fn for_each<'a>(function: CellFunction, list: &'a str, output: &'a str) -> Case<'a> {
+pub fn for_each<'a>(function: IndexFunction, list: &'a str, output: &'a str) -> Case<'a> {
     whole(Command::ForEach(function), Reads::List(list), output)
 }
 
@@ -423,14 +424,14 @@ pub static LIST_CASES: [Case<'static>; 7] = [
 /// and those that are refused at a line.
 pub static PLURAL_CASES: [Case<'static>; 5] = [
     Case {
-        command: Command::ForEach(CellFunction::CellToParent { res: 4 }),
+        command: Command::ForEach(IndexFunction::CellToParent { res: 4 }),
         reads: Reads::List("85283473fffffff\r\n\n0X85283473FFFFFFF\n"),
         output: "8428347ffffffff\n8428347ffffffff\n",
         line: "",
         status: 0,
     },
     Case {
-        command: Command::ForEach(CellFunction::OriginToDirectedEdges),
+        command: Command::ForEach(IndexFunction::OriginToDirectedEdges),
         reads: Reads::List("8009fffffffffff\n"),
         output: "12009fffffffffff\n13009fffffffffff\n14009fffffffffff\n15009fffffffffff\n\
                  16009fffffffffff\n",
@@ -438,21 +439,21 @@ pub static PLURAL_CASES: [Case<'static>; 5] = [
         status: 0,
     },
     Case {
-        command: Command::ForEach(CellFunction::CellToChildrenSize { res: 15 }),
+        command: Command::ForEach(IndexFunction::CellToChildrenSize { res: 15 }),
         reads: Reads::List("\n8029fffffffffff\n8009fffffffffff\n"),
         output: "4747561509943\n3956301258286\n",
         line: "",
         status: 0,
     },
     Case {
-        command: Command::ForEach(CellFunction::CellToParent { res: 4 }),
+        command: Command::ForEach(IndexFunction::CellToParent { res: 4 }),
         reads: Reads::List("85283473fffffff\n8009fffffffffff\n85283473fffffff\n"),
         output: "8428347ffffffff\n",
         line: "line 2: error 12: E_RES_MISMATCH\n",
         status: 1,
     },
     Case {
-        command: Command::ForEach(CellFunction::OriginToDirectedEdges),
+        command: Command::ForEach(IndexFunction::OriginToDirectedEdges),
         reads: Reads::List("\n81087ffffffffff\n"),
         output: "",
         line: "line 2: error 5: E_CELL_INVALID\n",

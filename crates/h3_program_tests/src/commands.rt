@@ -1,6 +1,6 @@
 //! Which commands are equal.
 
-use h3_requests::{CellFunction, Command};
+use h3_requests::{Command, IndexFunction};
 
 /// A command of each variant, of these words, with each function of one index.
 fn commands(cell: Option<u64>, to: Option<u64>, position: u64, res: i32) -> [Command; 51] {
@@ -44,19 +44,19 @@ fn commands(cell: Option<u64>, to: Option<u64>, position: u64, res: i32) -> [Com
         Command::GetDirectedEdgeOrigin { edge },
         Command::GetDirectedEdgeDestination { edge },
         Command::OriginToDirectedEdges { cell },
-        Command::ForEach(CellFunction::IsValidCell),
-        Command::ForEach(CellFunction::IsValidDirectedEdge),
-        Command::ForEach(CellFunction::GetResolution),
-        Command::ForEach(CellFunction::GetBaseCellNumber),
-        Command::ForEach(CellFunction::IsPentagon),
-        Command::ForEach(CellFunction::IsResClassIII),
-        Command::ForEach(CellFunction::CellToParent { res }),
-        Command::ForEach(CellFunction::CellToCenterChild { res }),
-        Command::ForEach(CellFunction::CellToLastChild { res }),
-        Command::ForEach(CellFunction::CellToChildrenSize { res }),
-        Command::ForEach(CellFunction::CellToChildPos { res }),
-        Command::ForEach(CellFunction::GetDirectedEdgeOrigin),
-        Command::ForEach(CellFunction::OriginToDirectedEdges),
+        Command::ForEach(IndexFunction::IsValidCell),
+        Command::ForEach(IndexFunction::IsValidDirectedEdge),
+        Command::ForEach(IndexFunction::GetResolution),
+        Command::ForEach(IndexFunction::GetBaseCellNumber),
+        Command::ForEach(IndexFunction::IsPentagon),
+        Command::ForEach(IndexFunction::IsResClassIII),
+        Command::ForEach(IndexFunction::CellToParent { res }),
+        Command::ForEach(IndexFunction::CellToCenterChild { res }),
+        Command::ForEach(IndexFunction::CellToLastChild { res }),
+        Command::ForEach(IndexFunction::CellToChildrenSize { res }),
+        Command::ForEach(IndexFunction::CellToChildPos { res }),
+        Command::ForEach(IndexFunction::GetDirectedEdgeOrigin),
+        Command::ForEach(IndexFunction::OriginToDirectedEdges),
         Command::CellsToChildren { res },
         Command::GridDisksUnsafe { k },
         Command::GridDisksDistancesUnsafe { k },

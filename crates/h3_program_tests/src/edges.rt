@@ -3,8 +3,8 @@
 use crate::cases::{answers_over, index_of, refuses, refuses_table, writes};
 use arrayvec::ArrayString;
 use h3_fakes::table_file;
-use h3_lattice::vectors::TestTable;
 use h3_requests::Command;
+use h3_table::vectors::TestTable;
 use std::alloc::Global;
 
 fn neighbors(cell: &str, to: &str) -> Command {

@@ -2,11 +2,11 @@
 
 use crate::words::{CELL, EDGE, read};
 use h3_requests::Command;
-use h3_words::{CommandFile, Words, WordsFault, read_words};
+use h3_words::{ArgsError, CommandFile, Words, read_words};
 use std::alloc::{AllocError, Global};
 
 /// Whether words parse as a command over the table at a path.
-fn are_over(parsed: &Result<Words, WordsFault>, command: Command, path: &str) -> bool {
+fn are_over(parsed: &Result<Words, ArgsError>, command: Command, path: &str) -> bool {
     match parsed {
         Ok(words) => match &words.file {
             Some(CommandFile::Table(table)) => {

@@ -2,12 +2,12 @@
 
 use crate::refused_words::is_invalid;
 use crate::words::read;
-use h3_words::{Words, WordsFault};
+use h3_words::{ArgsError, Words};
 use std::alloc::Global;
 
 /// Whether a line asks for help.
 fn asks_for_help(alloc: Global, line: &str) -> bool {
-    matches!(read(alloc, line), Err(WordsFault::Help(_)))
+    matches!(read(alloc, line), Err(ArgsError::Help(_)))
 }
 
 /// Lines that ask for help.
@@ -53,7 +53,7 @@ fn helps(rt: HostRuntime) {
 
 /// Whether a line asks for the version.
 fn asks_for_version(alloc: Global, line: &str) -> bool {
-    matches!(read(alloc, line), Err(WordsFault::Version))
+    matches!(read(alloc, line), Err(ArgsError::Version))
 }
 
 /// Lines that ask for the version.
@@ -161,9 +161,9 @@ fn lists(text: &str, word: &str) -> bool {
 }
 
 /// Whether words ask for help, and its text lists a command.
-fn help_lists(parsed: &Result<Words, WordsFault>, word: &str) -> bool {
+fn help_lists(parsed: &Result<Words, ArgsError>, word: &str) -> bool {
     match parsed {
-        Err(WordsFault::Help(text)) => lists(text.as_str(), word),
+        Err(ArgsError::Help(text)) => lists(text.as_str(), word),
         _ => false,
     }
 }
@@ -180,7 +180,7 @@ fn help_lists_the_commands(rt: HostRuntime) {
 static GROUPS: [&str; 5] = [
     "Cells:",
     "Hierarchy:",
-    "Over a table of base cells:",
+    "With a table of base cells, made by h3-table:",
     "Directed edges:",
     "Lists on standard input, one index a line:",
 ];
@@ -201,7 +201,7 @@ fn is_grouped(text: &str) -> bool {
 #[test]
 fn help_groups_the_commands(rt: HostRuntime) {
     match read(rt.alloc(), "h3 --help") {
-        Err(WordsFault::Help(text)) => assert!(&rt; is_grouped(text.as_str())),
+        Err(ArgsError::Help(text)) => assert!(&rt; is_grouped(text.as_str())),
         _ => assert!(&rt; false),
     }
 }
@@ -224,7 +224,7 @@ static FILE_HELP: [(&str, &str); 5] = [
 /// Whether a line asks for help that has a text, in lines of at most 80 bytes.
 fn narrow_help_says(alloc: Global, line: &str, said: &str) -> bool {
     match read(alloc, line) {
-        Err(WordsFault::Help(text)) => is_narrow(text.as_str()) && text.contains(said),
+        Err(ArgsError::Help(text)) => is_narrow(text.as_str()) && text.contains(said),
         _ => false,
     }
 }
@@ -366,7 +366,7 @@ fn help_says_how_rows_are_read(rt: HostRuntime) {
 /// Whether a line asks for help that has a text.
 fn help_says(alloc: Global, line: &str, said: &str) -> bool {
     match read(alloc, line) {
-        Err(WordsFault::Help(text)) => text.contains(said),
+        Err(ArgsError::Help(text)) => text.contains(said),
         _ => false,
     }
 }

@@ -1,7 +1,7 @@
 //! What help says of each command and each option.
 
 use crate::words::read;
-use h3_words::WordsFault;
+use h3_words::ArgsError;
 use std::alloc::Global;
 
 /// What each command answers, as the list of commands says it, and as its own help does.
@@ -266,7 +266,7 @@ static ABOUT: [(&str, &str, &str); 51] = [
 /// Whether the help that a line asks for has a line of a form and what is said of it.
 fn help_tells(alloc: Global, line: &str, form: &str, said: &str) -> bool {
     match read(alloc, line) {
-        Err(WordsFault::Help(text)) => tells(text.as_str(), form, said),
+        Err(ArgsError::Help(text)) => tells(text.as_str(), form, said),
         _ => false,
     }
 }
@@ -287,7 +287,7 @@ fn is_told(line: &str, form: &str, said: &str) -> bool {
 /// Whether the help that a line asks for begins with what a command answers.
 fn help_begins(alloc: Global, line: &str, about: &str) -> bool {
     match read(alloc, line) {
-        Err(WordsFault::Help(text)) => text.lines().next() == Some(about),
+        Err(ArgsError::Help(text)) => text.lines().next() == Some(about),
         _ => false,
     }
 }
@@ -347,27 +347,27 @@ static OPTION_TEXTS: [(&str, &str, &str); 22] = [
     (
         "h3 intersectCells -h",
         "--region <region>",
-        "The file of the region, one cell a line",
+        "The region: a file of one cell a line, no header",
     ),
     (
         "h3 subtractCells -h",
         "--region <region>",
-        "The file of the region, one cell a line",
+        "The region: a file of one cell a line, no header",
     ),
     (
         "h3 areCoveredCells -h",
         "--region <region>",
-        "The file of the region, one cell a line",
+        "The region: a file of one cell a line, no header",
     ),
     (
         "h3 cellsToZones -h",
         "--zones <zones>",
-        "The file of the zones, one cell a line",
+        "The zones: a file of one cell a line, no header",
     ),
     (
         "h3 countCellsInZones -h",
         "--zones <zones>",
-        "The file of the zones, one cell a line",
+        "The zones: a file of one cell a line, no header",
     ),
     (
         "h3 gridDiskUnsafe -h",

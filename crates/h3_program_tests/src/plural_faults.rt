@@ -4,7 +4,7 @@ use crate::cases::{NO_FAULT, Streams, WELL, for_each};
 use crate::plurals::answer_to;
 use arrayvec::ArrayString;
 use h3_fakes::{Faults, FaultySink};
-use h3_requests::CellFunction;
+use h3_requests::IndexFunction;
 use std::alloc::Global;
 
 /// The line of a read fault.
@@ -14,7 +14,7 @@ const READ_FAULT: &str = "fault: read\n";
 const WRITE_FAULT: &str = "fault: write\n";
 
 /// A function that answers a cell of resolution 5 with itself.
-const PARENTS: CellFunction = CellFunction::CellToParent { res: 5 };
+const PARENTS: IndexFunction = IndexFunction::CellToParent { res: 5 };
 
 /// The lines that end in the first bytes of a list.
 fn ended_lines(list: &str, bytes: usize) -> &str {
@@ -29,7 +29,7 @@ fn ended_lines(list: &str, bytes: usize) -> &str {
 /// pull is made after it. Where one of those lines is refused, the fault is not met.
 fn stops_at_fault(
     alloc: Global,
-    function: CellFunction,
+    function: IndexFunction,
     list: &str,
     most: usize,
     faults: Faults,
@@ -46,7 +46,7 @@ fn stops_at_fault(
 }
 
 /// Whether that is so of a fault at each pull of a list, whether it passes or not.
-fn stops_at_each_fault(alloc: Global, function: CellFunction, list: &str, most: usize) -> bool {
+fn stops_at_each_fault(alloc: Global, function: IndexFunction, list: &str, most: usize) -> bool {
     for pull in 0..for_each(function, list, "").pulls(most) {
         let stops = stops_at_fault(alloc, function, list, most, Faults::From(pull))
             && stops_at_fault(alloc, function, list, most, Faults::Once(pull));
@@ -58,10 +58,10 @@ fn stops_at_each_fault(alloc: Global, function: CellFunction, list: &str, most: 
 }
 
 /// Functions that refuse different lines, and write different numbers of lines.
-static FUNCTIONS: [CellFunction; 3] = [
-    CellFunction::IsValidCell,
-    CellFunction::CellToParent { res: 0 },
-    CellFunction::OriginToDirectedEdges,
+static FUNCTIONS: [IndexFunction; 3] = [
+    IndexFunction::IsValidCell,
+    IndexFunction::CellToParent { res: 0 },
+    IndexFunction::OriginToDirectedEdges,
 ];
 
 /// Lists of cells and edges, with blank lines, and lines that are refused by some function or each.

@@ -2,14 +2,14 @@
 
 use crate::cases::{Streams, WELL, for_each};
 use h3_fakes::Faults;
-use h3_requests::CellFunction;
+use h3_requests::IndexFunction;
 
 /// Four cells, a page each where 16 bytes are read at once; at resolution 5 their own answer.
 const FOUR: &str = "85283473fffffff\n85283447fffffff\n8528347bfffffff\n85283463fffffff\n";
 
 #[test]
 fn a_page_is_flushed_before_the_next_one_is_read(rt: HostRuntime) {
-    let case = for_each(CellFunction::CellToParent { res: 5 }, FOUR, "");
+    let case = for_each(IndexFunction::CellToParent { res: 5 }, FOUR, "");
     for pages in 0..5u64 {
         let streams = Streams {
             most: 16,

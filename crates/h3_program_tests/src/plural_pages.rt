@@ -4,13 +4,13 @@ use crate::cases::{NO_FAULT, Reads, for_each, whole};
 use crate::plurals::line_at;
 use h3_command::run::run;
 use h3_fakes::{Faults, FaultySink, FaultySource};
-use h3_index::Streamed;
-use h3_requests::{CellFunction, Command};
+use h3_requests::{Command, IndexFunction};
+use h3_streams::Streamed;
 use itoa::Buffer;
 use std::alloc::{AllocError, Global};
 
 /// A function that answers a cell of resolution 5 with itself.
-const PARENTS: CellFunction = CellFunction::CellToParent { res: 5 };
+const PARENTS: IndexFunction = IndexFunction::CellToParent { res: 5 };
 
 /// A list of `count` line feeds, and then a text.
 fn after_line_feeds(alloc: Global, count: usize, text: &str) -> Result<String, AllocError> {
@@ -111,7 +111,7 @@ fn numbers(alloc: Global, count: u32) -> Result<String, AllocError> {
 
 /// Whether the positions of cells among the descendants of their ancestor are these.
 fn has_positions(alloc: Global, list: &[u8], wanted: &str) -> bool {
-    let positions = Command::ForEach(CellFunction::CellToChildPos { res: 5 });
+    let positions = Command::ForEach(IndexFunction::CellToChildPos { res: 5 });
     let mut input = FaultySource::new(list, 65536, NO_FAULT);
     let mut table = FaultySource::new(b"", 0, NO_FAULT);
     let mut out = Streamed::new(Vec::new(alloc));

@@ -2,7 +2,7 @@
 
 use crate::cases::{NO_FAULT, Outcome, Reads, for_each, index_of, whole};
 use arrayvec::ArrayString;
-use h3_requests::{CellFunction, Command};
+use h3_requests::{Command, IndexFunction};
 use itoa::Buffer;
 use std::alloc::Global;
 
@@ -10,42 +10,42 @@ use std::alloc::Global;
 static PIECES: [usize; 4] = [1, 15, 16, 65536];
 
 /// Each function; those of a resolution with this one.
-fn functions(res: i32) -> [CellFunction; 13] {
+fn functions(res: i32) -> [IndexFunction; 13] {
     [
-        CellFunction::IsValidCell,
-        CellFunction::IsValidDirectedEdge,
-        CellFunction::GetResolution,
-        CellFunction::GetBaseCellNumber,
-        CellFunction::IsPentagon,
-        CellFunction::IsResClassIII,
-        CellFunction::CellToParent { res },
-        CellFunction::CellToCenterChild { res },
-        CellFunction::CellToLastChild { res },
-        CellFunction::CellToChildrenSize { res },
-        CellFunction::CellToChildPos { res },
-        CellFunction::GetDirectedEdgeOrigin,
-        CellFunction::OriginToDirectedEdges,
+        IndexFunction::IsValidCell,
+        IndexFunction::IsValidDirectedEdge,
+        IndexFunction::GetResolution,
+        IndexFunction::GetBaseCellNumber,
+        IndexFunction::IsPentagon,
+        IndexFunction::IsResClassIII,
+        IndexFunction::CellToParent { res },
+        IndexFunction::CellToCenterChild { res },
+        IndexFunction::CellToLastChild { res },
+        IndexFunction::CellToChildrenSize { res },
+        IndexFunction::CellToChildPos { res },
+        IndexFunction::GetDirectedEdgeOrigin,
+        IndexFunction::OriginToDirectedEdges,
     ]
 }
 
 /// The command that answers a function for an index alone.
-fn singular(function: CellFunction, index: Option<u64>) -> Command {
+fn singular(function: IndexFunction, index: Option<u64>) -> Command {
     let cell = index;
     let edge = index;
     match function {
-        CellFunction::IsValidCell => Command::IsValidCell { cell },
-        CellFunction::IsValidDirectedEdge => Command::IsValidDirectedEdge { edge },
-        CellFunction::GetResolution => Command::GetResolution { cell },
-        CellFunction::GetBaseCellNumber => Command::GetBaseCellNumber { cell },
-        CellFunction::IsPentagon => Command::IsPentagon { cell },
-        CellFunction::IsResClassIII => Command::IsResClassIII { cell },
-        CellFunction::CellToParent { res } => Command::CellToParent { cell, res },
-        CellFunction::CellToCenterChild { res } => Command::CellToCenterChild { cell, res },
-        CellFunction::CellToLastChild { res } => Command::CellToLastChild { cell, res },
-        CellFunction::CellToChildrenSize { res } => Command::CellToChildrenSize { cell, res },
-        CellFunction::CellToChildPos { res } => Command::CellToChildPos { cell, res },
-        CellFunction::GetDirectedEdgeOrigin => Command::GetDirectedEdgeOrigin { edge },
-        CellFunction::OriginToDirectedEdges => Command::OriginToDirectedEdges { cell },
+        IndexFunction::IsValidCell => Command::IsValidCell { cell },
+        IndexFunction::IsValidDirectedEdge => Command::IsValidDirectedEdge { edge },
+        IndexFunction::GetResolution => Command::GetResolution { cell },
+        IndexFunction::GetBaseCellNumber => Command::GetBaseCellNumber { cell },
+        IndexFunction::IsPentagon => Command::IsPentagon { cell },
+        IndexFunction::IsResClassIII => Command::IsResClassIII { cell },
+        IndexFunction::CellToParent { res } => Command::CellToParent { cell, res },
+        IndexFunction::CellToCenterChild { res } => Command::CellToCenterChild { cell, res },
+        IndexFunction::CellToLastChild { res } => Command::CellToLastChild { cell, res },
+        IndexFunction::CellToChildrenSize { res } => Command::CellToChildrenSize { cell, res },
+        IndexFunction::CellToChildPos { res } => Command::CellToChildPos { cell, res },
+        IndexFunction::GetDirectedEdgeOrigin => Command::GetDirectedEdgeOrigin { edge },
+        IndexFunction::OriginToDirectedEdges => Command::OriginToDirectedEdges { cell },
     }
 }
 
@@ -100,7 +100,7 @@ pub fn line_at(place: usize, error: &str) -> ArrayString<64> {
 }
 
 /// The answers of a function's own command to the lines of a list, up to the first that it refuses.
-pub fn answer_to(alloc: Global, function: CellFunction, list: &str) -> Answer {
+pub fn answer_to(alloc: Global, function: IndexFunction, list: &str) -> Answer {
     let mut answer = Answer {
         output: ArrayString::new(),
         line: ArrayString::new(),
@@ -124,7 +124,7 @@ pub fn answer_to(alloc: Global, function: CellFunction, list: &str) -> Answer {
 
 /// Whether a list, read `most` bytes at a time, is answered as its lines are by the function's own
 /// command.
-fn is_answered_as_alone(alloc: Global, function: CellFunction, list: &str, most: usize) -> bool {
+fn is_answered_as_alone(alloc: Global, function: IndexFunction, list: &str, most: usize) -> bool {
     let run = for_each(function, list, "").read(alloc, most, NO_FAULT);
     answer_to(alloc, function, list).is(&run)
 }
@@ -195,8 +195,8 @@ fn lines_are_answered_as_by_the_function_alone(rt: HostRuntime) {
 fn lines_are_answered_so_after_an_edge(rt: HostRuntime) {
     for line in &LINES {
         let list = among("115283473fffffff\r\n \r\n", line, "\r\n");
-        let is_edge = CellFunction::IsValidDirectedEdge;
-        let origin = CellFunction::GetDirectedEdgeOrigin;
+        let is_edge = IndexFunction::IsValidDirectedEdge;
+        let origin = IndexFunction::GetDirectedEdgeOrigin;
         let right = is_answered_as_alone(rt.alloc(), is_edge, &list, 65536)
             && is_answered_as_alone(rt.alloc(), origin, &list, 65536);
         assert!(&rt; right, "{line}");
@@ -221,7 +221,7 @@ fn each_resolution_is_answered_as_for_one_cell(rt: HostRuntime) {
 /// Whether a function writes this for a list and ends with this line, in pieces of each size.
 fn is_answered(
     alloc: Global,
-    function: CellFunction,
+    function: IndexFunction,
     list: &str,
     output: &str,
     line: &str,
@@ -240,54 +240,54 @@ fn is_answered(
 const TWO: &str = "85283473fffffff\n8009fffffffffff";
 
 /// Functions, lists and the answers.
-static ANSWERS: [(CellFunction, &str, &str); 13] = [
+static ANSWERS: [(IndexFunction, &str, &str); 13] = [
     (
-        CellFunction::IsValidCell,
+        IndexFunction::IsValidCell,
         "85283473fffffff\n0X85283473FFFFFFF\n81087ffffffffff\n80f5fffffffffff\n\
          8109fffffffffff\n885283473fffffff\n115283473fffffff\n0\n",
         "true\ntrue\nfalse\nfalse\nfalse\nfalse\nfalse\nfalse\n",
     ),
     (
-        CellFunction::IsValidDirectedEdge,
+        IndexFunction::IsValidDirectedEdge,
         "125283473fffffff\n11009fffffffffff\n",
         "true\nfalse\n",
     ),
-    (CellFunction::GetResolution, TWO, "5\n0\n"),
-    (CellFunction::GetBaseCellNumber, TWO, "20\n4\n"),
-    (CellFunction::IsPentagon, TWO, "false\ntrue\n"),
-    (CellFunction::IsResClassIII, TWO, "true\nfalse\n"),
+    (IndexFunction::GetResolution, TWO, "5\n0\n"),
+    (IndexFunction::GetBaseCellNumber, TWO, "20\n4\n"),
+    (IndexFunction::IsPentagon, TWO, "false\ntrue\n"),
+    (IndexFunction::IsResClassIII, TWO, "true\nfalse\n"),
     (
-        CellFunction::CellToParent { res: 0 },
+        IndexFunction::CellToParent { res: 0 },
         TWO,
         "8029fffffffffff\n8009fffffffffff\n",
     ),
     (
-        CellFunction::CellToCenterChild { res: 15 },
+        IndexFunction::CellToCenterChild { res: 15 },
         "85283473fffffff\n8f2834700000000\n",
         "8f2834700000000\n8f2834700000000\n",
     ),
     (
-        CellFunction::CellToLastChild { res: 7 },
+        IndexFunction::CellToLastChild { res: 7 },
         "85283473fffffff\n8009fffffffffff\n872834736ffffff\n",
         "872834736ffffff\n8709b6db6ffffff\n872834736ffffff\n",
     ),
     (
-        CellFunction::CellToChildrenSize { res: 15 },
+        IndexFunction::CellToChildrenSize { res: 15 },
         "8029fffffffffff\n8009fffffffffff\n",
         "4747561509943\n3956301258286\n",
     ),
     (
-        CellFunction::CellToChildPos { res: 0 },
+        IndexFunction::CellToChildPos { res: 0 },
         "85283473fffffff\n8209b7fffffffff\n8108bffffffffff\n820817fffffffff\n",
         "2279\n40\n1\n1\n",
     ),
     (
-        CellFunction::GetDirectedEdgeOrigin,
+        IndexFunction::GetDirectedEdgeOrigin,
         "115283473fffffff\n12009fffffffffff\n",
         "85283473fffffff\n8009fffffffffff\n",
     ),
     (
-        CellFunction::OriginToDirectedEdges,
+        IndexFunction::OriginToDirectedEdges,
         TWO,
         "115283473fffffff\n125283473fffffff\n135283473fffffff\n145283473fffffff\n\
          155283473fffffff\n165283473fffffff\n12009fffffffffff\n13009fffffffffff\n\
@@ -304,7 +304,7 @@ fn cells_are_answered(rt: HostRuntime) {
 }
 
 /// Whether a list has no answer of this function, and is read to its end in pieces of each size.
-fn has_no_answer(alloc: Global, function: CellFunction, list: &str) -> bool {
+fn has_no_answer(alloc: Global, function: IndexFunction, list: &str) -> bool {
     let case = for_each(function, list, "");
     for most in &PIECES {
         let run = case.read(alloc, *most, NO_FAULT);
@@ -360,7 +360,7 @@ static REFUSED: [(&str, &str, &str); 6] = [
 
 #[test]
 fn the_first_line_that_is_refused_ends_the_answer(rt: HostRuntime) {
-    let parents = CellFunction::CellToParent { res: 4 };
+    let parents = IndexFunction::CellToParent { res: 4 };
     for (list, output, line) in &REFUSED {
         assert!(&rt;
             is_answered(rt.alloc(), parents, list, output, line),
@@ -370,12 +370,12 @@ fn the_first_line_that_is_refused_ends_the_answer(rt: HostRuntime) {
 }
 
 /// Functions of a resolution, with one out of range.
-static OUT_OF_RANGE: [CellFunction; 5] = [
-    CellFunction::CellToParent { res: 16 },
-    CellFunction::CellToCenterChild { res: 16 },
-    CellFunction::CellToLastChild { res: 16 },
-    CellFunction::CellToChildrenSize { res: 16 },
-    CellFunction::CellToChildPos { res: 16 },
+static OUT_OF_RANGE: [IndexFunction; 5] = [
+    IndexFunction::CellToParent { res: 16 },
+    IndexFunction::CellToCenterChild { res: 16 },
+    IndexFunction::CellToLastChild { res: 16 },
+    IndexFunction::CellToChildrenSize { res: 16 },
+    IndexFunction::CellToChildPos { res: 16 },
 ];
 
 #[test]
@@ -393,7 +393,7 @@ fn a_resolution_out_of_range_is_refused_at_the_first_index(rt: HostRuntime) {
 /// Whether a list is known to be faulty after its first `bytes` bytes: none is read after the pull
 /// that has them.
 fn is_known(alloc: Global, list: &str, bytes: usize) -> bool {
-    let case = for_each(CellFunction::GetResolution, list, "");
+    let case = for_each(IndexFunction::GetResolution, list, "");
     for most in &PIECES {
         let run = case.read(alloc, *most, NO_FAULT);
         let known = bytes.div_ceil((*most).max(1)) as u64;

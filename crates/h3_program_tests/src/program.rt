@@ -3,9 +3,9 @@
 use crate::words::words_of;
 use arrayvec::ArrayVec;
 use h3_fakes::table_file;
-use h3_index::{Sink, Source, Streamed};
-use h3_lattice::vectors::TestTable;
 use h3_program::{NamedFile, OpenFault, OpenFile, OpenFiles, run_words};
+use h3_streams::{Sink, Source, Streamed};
+use h3_table::vectors::TestTable;
 use std::alloc::Global;
 use std::cell::Cell;
 use std::io;

@@ -5,8 +5,8 @@ use crate::cases::{
     whole,
 };
 use h3_fakes::{Faults, bases_file, table_file};
-use h3_lattice::vectors::TestTable;
 use h3_requests::Command;
+use h3_table::vectors::TestTable;
 use std::alloc::Global;
 
 /// Whether the whole answer is given, in as many pulls as that takes.

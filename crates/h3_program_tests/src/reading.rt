@@ -2,15 +2,16 @@
 
 use arrayvec::ArrayVec;
 use h3_fakes::{Faults, FaultySource};
-use h3_index::{Cell, H3Error, Streamed};
-use h3_lines::{AnswerError, Fault, Refusal, read_cells, read_list};
+use h3_index::{Cell, H3Error};
+use h3_lines::{AnswerError, Fault, RunError, read_cells, read_list};
+use h3_streams::Streamed;
 use std::alloc::Global;
 
 /// How many bytes a pull gives at most.
 static PIECES: [usize; 6] = [1, 2, 63, 64, 65, 100000];
 
 /// Reads a list from a source that gives at most `most` bytes a pull and fails after `calls` pulls.
-fn read(alloc: Global, bytes: &[u8], most: usize, calls: u64) -> Result<Vec<Cell>, Refusal> {
+fn read(alloc: Global, bytes: &[u8], most: usize, calls: u64) -> Result<Vec<Cell>, RunError> {
     let mut source = FaultySource::new(bytes, most.max(1), Faults::From(calls));
     read_cells(alloc, &mut source)
 }
@@ -41,7 +42,7 @@ fn lists(alloc: Global, bytes: &[u8], numbers: &[u64]) -> bool {
 }
 
 /// Whether a list, read so, is refused with this error.
-fn refuses_with(alloc: Global, bytes: &[u8], most: usize, calls: u64, error: Refusal) -> bool {
+fn refuses_with(alloc: Global, bytes: &[u8], most: usize, calls: u64, error: RunError) -> bool {
     match read(alloc, bytes, most, calls) {
         Ok(_) => false,
         Err(refusal) => refusal == error,
@@ -56,7 +57,7 @@ fn refuses(alloc: Global, bytes: &[u8], error: H3Error) -> bool {
             bytes,
             *most,
             1000,
-            Refusal::Error(AnswerError::Call(error)),
+            RunError::Error(AnswerError::Call(error)),
         ) {
             return false;
         }
@@ -192,9 +193,9 @@ fn a_read_fault_counts_before_a_faulty_line(rt: HostRuntime) {
     assert!(&rt; EIGHTS.len() == 65);
     for (row, (text, most, calls, counts)) in CUT.iter().enumerate() {
         let refusal = if *counts {
-            Refusal::Fault(Fault::Read)
+            RunError::Fault(Fault::Read)
         } else {
-            Refusal::Error(AnswerError::Call(H3Error::Failed))
+            RunError::Error(AnswerError::Call(H3Error::Failed))
         };
         let refused = refuses_with(rt.alloc(), text.as_bytes(), *most, *calls, refusal);
         assert!(&rt; refused, "row {row}");
@@ -203,7 +204,7 @@ fn a_read_fault_counts_before_a_faulty_line(rt: HostRuntime) {
 
 /// How reading a list in at most three reads of one byte each ends, if these bytes of it are left
 /// then: without an error, or with this one.
-fn ends_in_three(alloc: Global, list: &[u8], left: &[u8], error: Option<Refusal>) -> bool {
+fn ends_in_three(alloc: Global, list: &[u8], left: &[u8], error: Option<RunError>) -> bool {
     let mut source = Streamed::new(list);
     let mut page = [0; 1];
     let read = read_list(alloc, &mut source, 3, &mut page);
@@ -211,17 +212,17 @@ fn ends_in_three(alloc: Global, list: &[u8], left: &[u8], error: Option<Refusal>
 }
 
 /// Lists, what is left of them after three reads, and the error.
-static IN_THREE_READS: [(&str, &str, Option<Refusal>); 4] = [
+static IN_THREE_READS: [(&str, &str, Option<RunError>); 4] = [
     // two reads of a line feed, and one that finds the end
     ("\n\n", "", None),
     // the end is not found, also where all bytes were read
-    ("\n\n\n", "", Some(Refusal::Fault(Fault::Read))),
-    ("\n\n\n\n", "\n", Some(Refusal::Fault(Fault::Read))),
+    ("\n\n\n", "", Some(RunError::Fault(Fault::Read))),
+    ("\n\n\n\n", "\n", Some(RunError::Fault(Fault::Read))),
     // a faulty line that is known by the last read that is allowed
     (
         "0x\n\n",
         "\n",
-        Some(Refusal::Error(AnswerError::Call(H3Error::Failed))),
+        Some(RunError::Error(AnswerError::Call(H3Error::Failed))),
     ),
 ];
 

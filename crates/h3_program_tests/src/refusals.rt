@@ -2,33 +2,33 @@
 
 use h3_directions::TableError;
 use h3_index::H3Error;
-use h3_lines::{AnswerError, CellFile, ColumnError, Fault, Refusal};
+use h3_lines::{AnswerError, CellFile, ColumnError, Fault, RunError};
 
 /// Refusals of each variant.
-static REFUSALS: [Refusal; 23] = [
-    Refusal::Error(AnswerError::Call(H3Error::Failed)),
-    Refusal::Error(AnswerError::Call(H3Error::MemoryAlloc)),
-    Refusal::Error(AnswerError::At(1, H3Error::Failed)),
-    Refusal::Error(AnswerError::At(1, H3Error::MemoryAlloc)),
-    Refusal::Error(AnswerError::At(2, H3Error::Failed)),
-    Refusal::Error(AnswerError::AtAndMore(1, H3Error::Failed, 0)),
-    Refusal::Error(AnswerError::AtAndMore(1, H3Error::Failed, 1)),
-    Refusal::Error(AnswerError::AtAndMore(2, H3Error::Failed, 0)),
-    Refusal::Error(AnswerError::Column(ColumnError::NotFound)),
-    Refusal::Error(AnswerError::Column(ColumnError::NotUnique)),
-    Refusal::Fault(Fault::Memory),
-    Refusal::Fault(Fault::Read),
-    Refusal::Fault(Fault::Write),
-    Refusal::Error(AnswerError::Table(TableError::Missing)),
-    Refusal::Error(AnswerError::Table(TableError::Form(1))),
-    Refusal::Error(AnswerError::Table(TableError::Form(2))),
-    Refusal::Error(AnswerError::FileAt(CellFile::Region, 1, H3Error::Failed)),
-    Refusal::Error(AnswerError::FileAt(CellFile::Zones, 1, H3Error::Failed)),
-    Refusal::Error(AnswerError::FileAt(CellFile::Zones, 2, H3Error::Failed)),
-    Refusal::Error(AnswerError::FileAt(CellFile::Zones, 2, H3Error::CellInvalid)),
-    Refusal::Error(AnswerError::File(CellFile::Region, H3Error::DuplicateInput)),
-    Refusal::Error(AnswerError::File(CellFile::Zones, H3Error::DuplicateInput)),
-    Refusal::Error(AnswerError::File(CellFile::Zones, H3Error::Failed)),
+static REFUSALS: [RunError; 23] = [
+    RunError::Error(AnswerError::Call(H3Error::Failed)),
+    RunError::Error(AnswerError::Call(H3Error::MemoryAlloc)),
+    RunError::Error(AnswerError::At(1, H3Error::Failed)),
+    RunError::Error(AnswerError::At(1, H3Error::MemoryAlloc)),
+    RunError::Error(AnswerError::At(2, H3Error::Failed)),
+    RunError::Error(AnswerError::AtAndMore(1, H3Error::Failed, 0)),
+    RunError::Error(AnswerError::AtAndMore(1, H3Error::Failed, 1)),
+    RunError::Error(AnswerError::AtAndMore(2, H3Error::Failed, 0)),
+    RunError::Error(AnswerError::Column(ColumnError::NotFound)),
+    RunError::Error(AnswerError::Column(ColumnError::NotUnique)),
+    RunError::Fault(Fault::Memory),
+    RunError::Fault(Fault::Read),
+    RunError::Fault(Fault::Write),
+    RunError::Error(AnswerError::Table(TableError::Missing)),
+    RunError::Error(AnswerError::Table(TableError::Form(1))),
+    RunError::Error(AnswerError::Table(TableError::Form(2))),
+    RunError::Error(AnswerError::FileAt(CellFile::Region, 1, H3Error::Failed)),
+    RunError::Error(AnswerError::FileAt(CellFile::Zones, 1, H3Error::Failed)),
+    RunError::Error(AnswerError::FileAt(CellFile::Zones, 2, H3Error::Failed)),
+    RunError::Error(AnswerError::FileAt(CellFile::Zones, 2, H3Error::CellInvalid)),
+    RunError::Error(AnswerError::File(CellFile::Region, H3Error::DuplicateInput)),
+    RunError::Error(AnswerError::File(CellFile::Zones, H3Error::DuplicateInput)),
+    RunError::Error(AnswerError::File(CellFile::Zones, H3Error::Failed)),
 ];
 
 #[test]

@@ -1,12 +1,12 @@
 //! Invalid command lines, and what is said of them.
 
 use crate::words::read;
-use h3_words::WordsFault;
+use h3_words::ArgsError;
 use std::alloc::Global;
 
 /// Whether a line is an invalid command line.
 pub fn is_invalid(alloc: Global, line: &str) -> bool {
-    matches!(read(alloc, line), Err(WordsFault::Usage(_)))
+    matches!(read(alloc, line), Err(ArgsError::Usage(_)))
 }
 
 /// Invalid lines of commands without a file.
@@ -285,7 +285,7 @@ static SAID: [(&str, &str); 16] = [
 /// Whether a line is invalid, and a text is said of it.
 pub fn is_said(alloc: Global, line: &str, said: &str) -> bool {
     match read(alloc, line) {
-        Err(WordsFault::Usage(text)) => text.contains(said),
+        Err(ArgsError::Usage(text)) => text.contains(said),
         _ => false,
     }
 }

@@ -1,8 +1,8 @@
 //! Calls that are interrupted, or fail with another error.
 
 use crate::words::words_of;
-use h3_index::Streamed;
 use h3_program::{NamedFile, Retried, SystemFiles, run_words};
+use h3_streams::Streamed;
 use std::alloc::Global;
 use std::io;
 use std::io::{ErrorKind, Read, Write};

@@ -3,7 +3,7 @@
 use crate::refused_words::{is_invalid, is_said};
 use crate::words::read;
 use h3_requests::{CellField, RowOptions};
-use h3_words::{WordsFault, read_words};
+use h3_words::{ArgsError, read_words};
 use std::alloc::{AllocError, Global};
 
 /// The field that has the cell.
@@ -463,7 +463,7 @@ fn words_with(alloc: Global, option: &str, value: &str) -> Result<Vec<String>, A
 fn may_have(alloc: Global, option: &str, value: &str) -> Option<bool> {
     match read_words(alloc, words_with(alloc, option, value).ok()?) {
         Ok(_) => Some(true),
-        Err(WordsFault::Usage(_)) => Some(false),
+        Err(ArgsError::Usage(_)) => Some(false),
         Err(_) => None,
     }
 }

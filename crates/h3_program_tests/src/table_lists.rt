@@ -5,7 +5,7 @@ use crate::files::pulls_to_end;
 use crate::words::read;
 use h3_command::run::run_over;
 use h3_fakes::{Faults, FaultySink, FaultySource, table_file};
-use h3_lattice::vectors::TestTable;
+use h3_table::vectors::TestTable;
 use std::alloc::Global;
 
 /// The words of a command, the list that it reads, its output, and its line of an H3 error, or

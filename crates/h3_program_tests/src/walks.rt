@@ -6,8 +6,8 @@ use crate::cases::{
 };
 use crate::table_files::without_last;
 use h3_fakes::{changed_file, open_file, table_file};
-use h3_lattice::vectors::TestTable;
 use h3_requests::Command;
+use h3_table::vectors::TestTable;
 
 /// A cell of resolution 0 without pentagons within 2 steps.
 const CENTRE: Option<u64> = Some(0x803dfffffffffff);

@@ -1,7 +1,7 @@
 //! The words of a command line: those of commands without a file.
 
-use h3_requests::{CellFunction, Command};
-use h3_words::{Words, WordsFault, read_words};
+use h3_requests::{Command, IndexFunction};
+use h3_words::{ArgsError, Words, read_words};
 use std::alloc::{AllocError, Global};
 
 /// The words of a line.
@@ -14,10 +14,10 @@ pub fn words_of(alloc: Global, line: &str) -> Result<Vec<String>, AllocError> {
 }
 
 /// What the words of a line parse as.
-pub fn read(alloc: Global, line: &str) -> Result<Words, WordsFault> {
+pub fn read(alloc: Global, line: &str) -> Result<Words, ArgsError> {
     match words_of(alloc, line) {
         Ok(words) => read_words(alloc, words),
-        Err(_) => Err(WordsFault::Memory),
+        Err(_) => Err(ArgsError::Memory),
     }
 }
 
@@ -160,23 +160,23 @@ fn reads_a_cell_and_a_resolution(rt: HostRuntime) {
 }
 
 /// Lines of functions of each index of a list.
-static FUNCTIONS: [(&str, CellFunction); 8] = [
-    ("h3 areValidCells", CellFunction::IsValidCell),
+static FUNCTIONS: [(&str, IndexFunction); 8] = [
+    ("h3 areValidCells", IndexFunction::IsValidCell),
     (
         "h3 areValidDirectedEdges",
-        CellFunction::IsValidDirectedEdge,
+        IndexFunction::IsValidDirectedEdge,
     ),
-    ("h3 getResolutions", CellFunction::GetResolution),
-    ("h3 getBaseCellNumbers", CellFunction::GetBaseCellNumber),
-    ("h3 arePentagons", CellFunction::IsPentagon),
-    ("h3 areResClassIII", CellFunction::IsResClassIII),
+    ("h3 getResolutions", IndexFunction::GetResolution),
+    ("h3 getBaseCellNumbers", IndexFunction::GetBaseCellNumber),
+    ("h3 arePentagons", IndexFunction::IsPentagon),
+    ("h3 areResClassIII", IndexFunction::IsResClassIII),
     (
         "h3 getDirectedEdgeOrigins",
-        CellFunction::GetDirectedEdgeOrigin,
+        IndexFunction::GetDirectedEdgeOrigin,
     ),
     (
         "h3 originsToDirectedEdges",
-        CellFunction::OriginToDirectedEdges,
+        IndexFunction::OriginToDirectedEdges,
     ),
 ];
 
@@ -191,30 +191,30 @@ fn reads_functions_of_each_index_of_a_list(rt: HostRuntime) {
 }
 
 /// Lines of functions of each cell of a list with a resolution.
-static FUNCTIONS_WITH_A_RESOLUTION: [(&str, CellFunction); 6] = [
+static FUNCTIONS_WITH_A_RESOLUTION: [(&str, IndexFunction); 6] = [
     (
         "h3 cellsToParents -r 4",
-        CellFunction::CellToParent { res: 4 },
+        IndexFunction::CellToParent { res: 4 },
     ),
     (
         "h3 cellsToParents --resolution=2147483647",
-        CellFunction::CellToParent { res: 2147483647 },
+        IndexFunction::CellToParent { res: 2147483647 },
     ),
     (
         "h3 cellsToCenterChildren -r +6",
-        CellFunction::CellToCenterChild { res: 6 },
+        IndexFunction::CellToCenterChild { res: 6 },
     ),
     (
         "h3 cellsToLastChildren --resolution 6",
-        CellFunction::CellToLastChild { res: 6 },
+        IndexFunction::CellToLastChild { res: 6 },
     ),
     (
         "h3 cellsToChildrenSizes -r16",
-        CellFunction::CellToChildrenSize { res: 16 },
+        IndexFunction::CellToChildrenSize { res: 16 },
     ),
     (
         "h3 cellsToChildPositions -r=0",
-        CellFunction::CellToChildPos { res: 0 },
+        IndexFunction::CellToChildPos { res: 0 },
     ),
 ];
 

@@ -6,9 +6,9 @@ use crate::cases::{
 };
 use arrayvec::ArrayVec;
 use h3_fakes::{Faults, FaultySink, bases_file};
-use h3_index::Streamed;
-use h3_lattice::vectors::TestTable;
 use h3_requests::Command;
+use h3_streams::Streamed;
+use h3_table::vectors::TestTable;
 use std::alloc::Global;
 
 /// The line of a write fault.

@@ -2,7 +2,7 @@
 
 use h3_fakes::{Faults, FaultySink};
 use h3_index::{Cell, H3Error};
-use h3_lines::{AnswerError, Fault, Refusal, write_lines, write_walk};
+use h3_lines::{AnswerError, Fault, RunError, write_lines, write_walk};
 
 /// The number of decimal digits.
 fn number_of(digits: &[u8]) -> u64 {
@@ -35,14 +35,14 @@ fn many_lines_go_out_by_blocks(rt: HostRuntime) {
     assert!(&rt; write_lines(&mut out, 0..14000u64).is_ok());
     assert!(&rt; out.bytes().len() == 72890 && have_numbers(out.bytes(), 14000));
     let mut out: FaultySink<72890> = FaultySink::new(131072, Faults::From(3));
-    assert!(&rt; write_lines(&mut out, 0..14000u64) == Err(Refusal::Fault(Fault::Write)));
+    assert!(&rt; write_lines(&mut out, 0..14000u64) == Err(RunError::Fault(Fault::Write)));
 }
 
 #[test]
 fn lines_go_out_while_there_is_room(rt: HostRuntime) {
     // 10 * 2 + 90 * 3 + 900 * 4 + 7222 * 5 bytes
     let mut out: FaultySink<40000> = FaultySink::new(65536, Faults::From(4));
-    assert!(&rt; write_lines(&mut out, 0..14000u64) == Err(Refusal::Fault(Fault::Write)));
+    assert!(&rt; write_lines(&mut out, 0..14000u64) == Err(RunError::Fault(Fault::Write)));
     assert!(&rt; out.bytes().len() == 40000);
     assert!(&rt; out.bytes().starts_with(b"0\n1\n2\n") && out.bytes().ends_with(b"8221\n"));
 }
@@ -57,7 +57,7 @@ const TWO_LINES: &[u8] = b"85283473fffffff\n85283473fffffff\n";
 
 /// Whether a walk of two cells, an error and another one ends so over a sink whose calls fail from
 /// this one on, after both lines.
-fn walk_ends(calls: u64, refusal: Refusal) -> bool {
+fn walk_ends(calls: u64, refusal: RunError) -> bool {
     let steps = [cell(), cell(), Err(H3Error::Pentagon), Err(H3Error::Failed)];
     let mut out: FaultySink<64> = FaultySink::new(64, Faults::From(calls));
     let written = write_walk(&mut out, steps.iter().copied());
@@ -66,15 +66,15 @@ fn walk_ends(calls: u64, refusal: Refusal) -> bool {
 
 #[test]
 fn the_lines_of_a_walk_stand_before_its_error(rt: HostRuntime) {
-    assert!(&rt; walk_ends(2, Refusal::Error(AnswerError::Call(H3Error::Pentagon))));
+    assert!(&rt; walk_ends(2, RunError::Error(AnswerError::Call(H3Error::Pentagon))));
     // the flush fails, and is reported in place of the error
-    assert!(&rt; walk_ends(1, Refusal::Fault(Fault::Write)));
+    assert!(&rt; walk_ends(1, RunError::Fault(Fault::Write)));
     // where no line comes before the error, nothing is written or flushed
     let mut out: FaultySink<64> = FaultySink::new(64, Faults::From(0));
     let refused: [Result<Cell, H3Error>; 1] = [Err(H3Error::Pentagon)];
     let written = write_walk(&mut out, refused.iter().copied());
     assert!(&rt;
-        written == Err(Refusal::Error(AnswerError::Call(H3Error::Pentagon))) && out.calls() == 0
+        written == Err(RunError::Error(AnswerError::Call(H3Error::Pentagon))) && out.calls() == 0
     );
 }
 
@@ -108,7 +108,7 @@ fn a_walk_of_many_lines_goes_out_by_blocks(rt: HostRuntime) {
     let mut out: FaultySink<33600> = FaultySink::new(65536, Faults::From(3));
     let written = write_walk(&mut out, steps.iter().copied());
     assert!(&rt;
-        written == Err(Refusal::Error(AnswerError::Call(H3Error::Pentagon)))
+        written == Err(RunError::Error(AnswerError::Call(H3Error::Pentagon)))
             && has_lines(&out, 33584, 3)
     );
 }
@@ -124,7 +124,7 @@ fn a_walk_of_many_lines_ends_at_a_write_fault(rt: HostRuntime) {
         let written = write_walk(&mut out, steps.iter().copied());
         let stopped = out.calls() == *calls && out.bytes().len() == *length;
         assert!(&rt;
-            written == Err(Refusal::Fault(Fault::Write)) && stopped,
+            written == Err(RunError::Fault(Fault::Write)) && stopped,
             "call {fault}"
         );
     }

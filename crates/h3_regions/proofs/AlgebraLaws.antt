@@ -5,7 +5,7 @@ use Rattle.std.specs.List.Sorted.{IsPermutation}
 use Rattle.std.proofs.lemmas.List.Sorted.{All-permutation, Contains-permutation, IsPermutation-sym}
 use Rattle.std.proofs.lemmas.List.Elements.{All-append, Contains-append_cases, Contains-append_left, Contains-append_right}
 use Rattle.h3_index.specs.Cell.{Address, IsCell, resolution}
-use Rattle.h3_index.specs.Descendants.{center_at, cut}
+use Rattle.h3_index.specs.Descendants.{center_descendant, ancestor_at}
 use Rattle.h3_tree.specs.Laws.{CellsFormTrees}
 use Rattle.h3_tree.specs.PostOrder.{post_order_key as key}
 use Rattle.h3_set.specs.Compacted.{compacted}
@@ -73,16 +73,16 @@ module _ (tree : CellsFormTrees) (a b : List Address) (q r : ℕ) (fine : q ≤ 
       elim (cases_lt r q) [
         | inl lt ↦
             let down = tree.center_descendant x q c.below.valid (omega (arith, c.below.resolution_is, lt)) fine in
-            let k = h (center_at x q) (record { by = c.by; member = c.member; below = record { valid = down.valid; resolution_is = down.resolution_is; under = tree.through c.by x (center_at x q) c.below.under down.under } }) in
+            let k = h (center_descendant x q) (record { by = c.by; member = c.member; below = record { valid = down.valid; resolution_is = down.resolution_is; under = tree.through c.by x (center_descendant x q) c.below.under down.under } }) in
             let le : resolution k.by ≤ resolution x = omega (arith, finest_at b k.by k.member, br, c.below.resolution_is) in
-            record { by = k.by; member = k.member; below = record { valid = c.below.valid; resolution_is = c.below.resolution_is; under = tree.ordered k.by x (center_at x q) k.below.under down.under le } }
+            record { by = k.by; member = k.member; below = record { valid = c.below.valid; resolution_is = c.below.resolution_is; under = tree.ordered k.by x (center_descendant x q) k.below.under down.under le } }
         | inr not ↦
             let size : q ≤ resolution x = omega (arith, not, c.below.resolution_is) in
             let over = tree.cut_ancestor x q size in
-            let level = tree.resolution-cut x q size in
-            let coarse : resolution c.by ≤ resolution (cut x q) = omega (arith, finest_at a c.by c.member, aq, level) in
-            let k = h (cut x q) (record { by = c.by; member = c.member; below = record { valid = tree.cut_cell x q c.below.valid size; resolution_is = level; under = tree.ordered c.by (cut x q) x c.below.under over coarse } }) in
-            record { by = k.by; member = k.member; below = record { valid = c.below.valid; resolution_is = c.below.resolution_is; under = tree.through k.by (cut x q) x k.below.under over } }
+            let level = tree.resolution-ancestor_at x q size in
+            let coarse : resolution c.by ≤ resolution (ancestor_at x q) = omega (arith, finest_at a c.by c.member, aq, level) in
+            let k = h (ancestor_at x q) (record { by = c.by; member = c.member; below = record { valid = tree.cut_cell x q c.below.valid size; resolution_is = level; under = tree.ordered c.by (ancestor_at x q) x c.below.under over coarse } }) in
+            record { by = k.by; member = k.member; below = record { valid = c.below.valid; resolution_is = c.below.resolution_is; under = tree.through k.by (ancestor_at x q) x k.below.under over } }
       ]
 
 pub at_one_resolution : CellsFormTrees → CoverageAtOneResolution

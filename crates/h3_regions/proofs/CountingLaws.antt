@@ -12,7 +12,7 @@ use Rattle.h3_index.specs.Cell.{Address}
 use Rattle.h3_index.specs.Descendants.{IsAncestor}
 use Rattle.h3_set.specs.Coverage.{is_ancestor, is_covered}
 use Rattle.h3_set.specs.Laws.{AncestorsAreFound}
-use Rattle.h3_regions.specs.Counts.{AreCounts}
+use Rattle.h3_regions.specs.Counting.{AreCounts}
 use Rattle.h3_regions.specs.Laws.{CountsInParts}
 use Rattle.h3_regions.specs.Zones.{StandsAbove}
 use Rattle.h3_regions.proofs.ListLaws.{any_default}

@@ -9,7 +9,7 @@ use Rattle.h3_tree.specs.Laws.{CellsFormTrees}
 use Rattle.h3_set.specs.Compacted.{compacted}
 use Rattle.h3_set.specs.Coverage.{finest, IsCovered}
 use Rattle.h3_set.specs.Laws.{CoveragesDecideLists}
-use Rattle.h3_regions.specs.Coarsest.{HasAncestor, IsCoarsest}
+use Rattle.h3_regions.specs.Unions.{HasAncestor, IsCoarsest}
 use Rattle.h3_regions.proofs.ListLaws.{all_of, contains_head, contains_tail}
 
 -- ---- the finest resolution

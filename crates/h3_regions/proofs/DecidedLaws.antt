@@ -5,7 +5,7 @@ use Rattle.std.proofs.Common.{ℕ, ◌≡◌, ◌≤◌, ◌↔◌, List, [], �
 use Rattle.std.proofs.lemmas.Bool.{cases_Bool}
 use Rattle.std.proofs.lemmas.List.Elements.{All-contains}
 use Rattle.h3_index.specs.Cell.{Address, IsCell, resolution}
-use Rattle.h3_index.specs.Descendants.{cut, descendants, IsAncestor, IsDescendant}
+use Rattle.h3_index.specs.Descendants.{ancestor_at, descendants, IsAncestor, IsDescendant}
 use Rattle.h3_tree.specs.Laws.{CellsFormTrees}
 use Rattle.h3_set.specs.Compacted.{compacted}
 use Rattle.h3_set.specs.Coverage.{finest, is_covered, IsCovered}
@@ -54,9 +54,9 @@ kept p (y ∷ xs) x m t =
 
 module _ (tree : CellsFormTrees) (cells : List Address) (r : ℕ) (le : finest cells ≤ r) where
   -- what stands above a finer cell stands above its ancestor at r
-  above_cut : (a x : Address) → Contains cells a → IsAncestor a x → r ≤ resolution x → IsAncestor a (cut x r)
+  above_cut : (a x : Address) → Contains cells a → IsAncestor a x → r ≤ resolution x → IsAncestor a (ancestor_at x r)
   above_cut a x m above size =
-      tree.ordered a (cut x r) x above (tree.cut_ancestor x r size) (omega (arith, finest_at cells a m, le, tree.resolution-cut x r size))
+      tree.ordered a (ancestor_at x r) x above (tree.cut_ancestor x r size) (omega (arith, finest_at cells a m, le, tree.resolution-ancestor_at x r size))
 
   module _ (valid : All IsCell cells) (fine : r ≤ 15) where
     listed_covered : (x : Address) → Contains (uncompacted cells r) x → IsCovered cells r x
@@ -78,29 +78,29 @@ module _ (tree : CellsFormTrees) (cells : List Address) (r : ℕ) (le : finest c
       picked_valid = all_of IsCell (filter p (uncompacted cells r)) (λ x m. (picked_at x m).below.valid)
 
       -- those that pass a test cover what is covered and has an ancestor at r that passes
-      picked_covers : (x : Address) → IsCovered (filter p (uncompacted cells r)) 15 x ↔ (IsCovered cells 15 x × (p (cut x r) ≡ true))
+      picked_covers : (x : Address) → IsCovered (filter p (uncompacted cells r)) 15 x ↔ (IsCovered cells 15 x × (p (ancestor_at x r) ≡ true))
       picked_covers x = (
         (λ c.
             let w = kept_from p (uncompacted cells r) c.by c.member in
             let k = picked_at c.by c.member in
-            let same : cut x r ≡ c.by = ap (cut x) (sym k.below.resolution_is) ∙ c.below.under in
+            let same : ancestor_at x r ≡ c.by = ap (ancestor_at x) (sym k.below.resolution_is) ∙ c.below.under in
             (record { by = k.by; member = k.member; below = record { valid = c.below.valid; resolution_is = c.below.resolution_is; under = tree.through k.by c.by x k.below.under c.below.under } }, ap p same ∙ w.1)),
         (λ (c, t).
             let size : r ≤ resolution x = omega (arith, fine, c.below.resolution_is) in
-            let here : IsDescendant c.by r (cut x r) = record { valid = tree.cut_cell x r c.below.valid size; resolution_is = tree.resolution-cut x r size; under = above_cut c.by x c.member c.below.under size } in
-            record { by = cut x r; member = kept p (uncompacted cells r) (cut x r) (covered_listed (cut x r) (record { by = c.by; member = c.member; below = here })) t; below = record { valid = c.below.valid; resolution_is = c.below.resolution_is; under = tree.cut_ancestor x r size } }),
+            let here : IsDescendant c.by r (ancestor_at x r) = record { valid = tree.cut_cell x r c.below.valid size; resolution_is = tree.resolution-ancestor_at x r size; under = above_cut c.by x c.member c.below.under size } in
+            record { by = ancestor_at x r; member = kept p (uncompacted cells r) (ancestor_at x r) (covered_listed (ancestor_at x r) (record { by = c.by; member = c.member; below = here })) t; below = record { valid = c.below.valid; resolution_is = c.below.resolution_is; under = tree.cut_ancestor x r size } }),
       )
 
 -- the test of coverage, of an ancestor that is not coarser than any cell
 module _ (tree : CellsFormTrees) (found : AncestorsAreFound) (cells : List Address) (r : ℕ) (le : finest cells ≤ r) (fine : r ≤ 15) (x : Address) (valid : IsCell x) (level : resolution x ≡ 15) where
-  covered_from : is_covered cells (cut x r) ≡ true → IsCovered cells 15 x
+  covered_from : is_covered cells (ancestor_at x r) ≡ true → IsCovered cells 15 x
   covered_from t =
-      let w = from_covered found cells (cut x r) t in
-      record { by = w.by; member = w.member; below = record { valid = valid; resolution_is = level; under = tree.through w.by (cut x r) x w.above (tree.cut_ancestor x r (omega (arith, level, fine))) } }
+      let w = from_covered found cells (ancestor_at x r) t in
+      record { by = w.by; member = w.member; below = record { valid = valid; resolution_is = level; under = tree.through w.by (ancestor_at x r) x w.above (tree.cut_ancestor x r (omega (arith, level, fine))) } }
 
-  covered_to : IsCovered cells 15 x → is_covered cells (cut x r) ≡ true
+  covered_to : IsCovered cells 15 x → is_covered cells (ancestor_at x r) ≡ true
   covered_to c =
-      covered_true found cells (cut x r) c.by c.member (above_cut tree cells r le c.by x c.member c.below.under (omega (arith, level, fine)))
+      covered_true found cells (ancestor_at x r) c.by c.member (above_cut tree cells r le c.by x c.member c.below.under (omega (arith, level, fine)))
 
 -- ---- regions of what is shared, and of what is left
 
@@ -114,7 +114,7 @@ module _ (tree : CellsFormTrees) (found : AncestorsAreFound) (decide : Coverages
   fine_second : finest b ≤ finest_of_both a b
   fine_second = omega arith
 
-  picked_same : (p : Address → Bool) → ((x : Address) → IsCovered list 15 x ↔ (IsCovered a 15 x × (p (cut x (finest_of_both a b)) ≡ true))) → compacted list ≡ compacted (filter p (uncompacted a (finest_of_both a b)))
+  picked_same : (p : Address → Bool) → ((x : Address) → IsCovered list 15 x ↔ (IsCovered a 15 x × (p (ancestor_at x (finest_of_both a b)) ≡ true))) → compacted list ≡ compacted (filter p (uncompacted a (finest_of_both a b)))
   picked_same p covers =
       let valid = picked_valid tree a (finest_of_both a b) fine_first va fine_both p in
       let picks = picked_covers tree a (finest_of_both a b) fine_first va fine_both p in
@@ -134,7 +134,7 @@ module _ (tree : CellsFormTrees) (found : AncestorsAreFound) (decide : Coverages
       picked_same (λ x. not (is_covered b x)) (λ x. (
         (λ c.
             let w = (covers x).0 c in
-            let out : is_covered b (cut x (finest_of_both a b)) ≡ false = elim (cases_Bool (is_covered b (cut x (finest_of_both a b)))) [
+            let out : is_covered b (ancestor_at x (finest_of_both a b)) ≡ false = elim (cases_Bool (is_covered b (ancestor_at x (finest_of_both a b)))) [
               | inl pass ↦ absurd (w.1 (covered_from tree found b (finest_of_both a b) fine_second fine_both x c.below.valid c.below.resolution_is pass))
               | inr miss ↦ miss
             ] in
@@ -142,7 +142,7 @@ module _ (tree : CellsFormTrees) (found : AncestorsAreFound) (decide : Coverages
         (λ (c, t). (covers x).1 (
           c,
           λ d. (
-              let pass : is_covered b (cut x (finest_of_both a b)) ≡ true = covered_to tree found b (finest_of_both a b) fine_second fine_both x c.below.valid c.below.resolution_is d in
+              let pass : is_covered b (ancestor_at x (finest_of_both a b)) ≡ true = covered_to tree found b (finest_of_both a b) fine_second fine_both x c.below.valid c.below.resolution_is d in
               let never : false ≡ true = sym (ap not pass) ∙ t in
               cc),
         )),

@@ -8,8 +8,8 @@ use Rattle.h3_index.specs.Cell.{Address, IsCell, resolution}
 use Rattle.h3_index.specs.Descendants.{IsAncestor}
 use Rattle.h3_tree.specs.Laws.{CellsFormTrees}
 use Rattle.h3_tree.specs.PostOrder.{post_order_key as key, CellsFormIntervals}
-use Rattle.h3_regions.specs.Coarsest.{HasAncestor}
-use Rattle.h3_regions.specs.Shared.{HoldsShared, IsShared}
+use Rattle.h3_regions.specs.Unions.{HasAncestor}
+use Rattle.h3_regions.specs.Intersection.{HoldsShared, IsShared}
 use Rattle.h3_regions.specs.Region.{IsRegion}
 use Rattle.h3_regions.proofs.IntervalLaws.{before, inside, within}
 use Rattle.h3_regions.proofs.ListLaws.{any_default, contains_at, contains_front, front_at, member_at}
@@ -120,8 +120,8 @@ module _ (tree : CellsFormTrees) (intervals : CellsFormIntervals) where
               ]
             ]
 
-        pub leave : IsSeen a b slots (i + 1) j w
-        leave =
+        pub subtract_cell : IsSeen a b slots (i + 1) j w
+        subtract_cell =
             record {
               in_a = omega (arith, li);
               in_b = s.in_b;

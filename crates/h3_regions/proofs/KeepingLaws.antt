@@ -9,7 +9,7 @@ use Rattle.h3_index.specs.Descendants.{IsAncestor}
 use Rattle.h3_tree.specs.Laws.{CellsFormTrees}
 use Rattle.h3_tree.specs.PostOrder.{post_order_key as key, CellsFormIntervals}
 use Rattle.h3_set.specs.Coverage.{Overlap}
-use Rattle.h3_regions.specs.Coarsest.{IsCoarsest}
+use Rattle.h3_regions.specs.Unions.{IsCoarsest}
 use Rattle.h3_set.specs.Order.{IsInOrder}
 use Rattle.h3_regions.proofs.IntervalLaws.{before, within}
 use Rattle.h3_regions.proofs.ListLaws.{any_default, contains_at, contains_front, front_at}

@@ -13,7 +13,7 @@ use Rattle.h3_tree.specs.declared.iter.Children.{Children}
 use Rattle.h3_set.specs.Coverage.{is_covered}
 use Rattle.h3_set.specs.Laws.{AncestorsAreFound}
 use Rattle.h3_regions.specs.Region.{IsRegion}
-use Rattle.h3_regions.specs.Left.{has_below, left_of}
+use Rattle.h3_regions.specs.Difference.{has_below, left_of}
 use Rattle.h3_regions.proofs.TestLaws.{covered_true, from_below}
 
 -- ---- what is left of a cell
@@ -68,10 +68,6 @@ pub record IsLeaving (f : Address → List Address) (before : List Address) (wri
   pub size : length slots ≡ length before
   pub within : count ≤ length before
   pub put : take count slots ≡ take written before ++ flat_map f seen
-
-pub none_left : (f : Address → List Address) (before : List Address) (written : ℕ) → written ≤ length before → IsLeaving f before written [] before written
-none_left f before written room =
-    record { size = refl; within = room; put = sym (append-nil (take written before)) }
 
 module _ (f : Address → List Address) (before : List Address) (written : ℕ) (seen slots : List Address) (count : ℕ) (cell : Address) (i : IsLeaving f before written seen slots count) where
   pub one_more : (after : List Address) (more : ℕ) → length after ≡ length slots → more ≤ length slots → take more after ≡ take count slots ++ f cell → IsLeaving f before written (seen ++ cell ∷ []) after more

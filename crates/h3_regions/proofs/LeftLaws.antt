@@ -5,14 +5,14 @@ use Rattle.std.proofs.Common.{ℕ, zero, suc, ◌≡◌, ◌+◌, ◌-◌, ◌<�
 use Rattle.std.proofs.lemmas.Bool.{cases_Bool, cases_lt}
 use Rattle.std.proofs.lemmas.List.Elements.{All-contains, Contains-append_cases, Contains-get_or}
 use Rattle.h3_index.specs.Cell.{Address, IsCell, number_of, resolution}
-use Rattle.h3_index.specs.Descendants.{children, cut, IsAncestor, IsDescendant}
+use Rattle.h3_index.specs.Descendants.{children, ancestor_at, IsAncestor, IsDescendant}
 use Rattle.h3_tree.specs.Laws.{CellsFormTrees}
 use Rattle.h3_tree.specs.PostOrder.{post_order_key as key, CellsFormIntervals}
 use Rattle.h3_set.specs.Compacted.{HasChildren}
 use Rattle.h3_set.specs.Coverage.{finest, is_covered, IsCovered, Overlap}
 use Rattle.h3_set.specs.Laws.{AncestorsAreFound}
 use Rattle.h3_regions.specs.Region.{IsRegion}
-use Rattle.h3_regions.specs.Left.{has_below, left_of, left_of_all}
+use Rattle.h3_regions.specs.Difference.{has_below, left_of, left_of_all}
 use Rattle.h3_regions.proofs.IntervalLaws.{before, within}
 use Rattle.h3_regions.proofs.LeavingLaws.{left_gone, left_split, left_whole, splits_coarse}
 use Rattle.h3_regions.proofs.ListLaws.{all_of, contains_cases, contains_head, contains_tail, from_flat, in_flat}
@@ -265,8 +265,8 @@ module _ (tree : CellsFormTrees) (intervals : CellsFormIntervals) where
                 let is : left_of others (suc n) c ≡ flat_map (left_of others n) (children c) = rw same at e in
                 let lt = deeper c valid f g in
                 let k = step_down c y b lt in
-                let rest = covers_rest n (cut y (resolution c + 1)) (omega (arith, level, k.resolution_is)) k.valid y (record { valid = b.valid; resolution_is = b.resolution_is; under = tree.cut_ancestor y (resolution c + 1) (omega (arith, lt, b.resolution_is)) }) out in
-                subst (λ l. IsCovered l r y) (sym is) (record { by = rest.by; member = in_flat (left_of others n) (children c) (cut y (resolution c + 1)) rest.by (of_child c valid coarse (cut y (resolution c + 1)) k) rest.member; below = rest.below })
+                let rest = covers_rest n (ancestor_at y (resolution c + 1)) (omega (arith, level, k.resolution_is)) k.valid y (record { valid = b.valid; resolution_is = b.resolution_is; under = tree.cut_ancestor y (resolution c + 1) (omega (arith, lt, b.resolution_is)) }) out in
+                subst (λ l. IsCovered l r y) (sym is) (record { by = rest.by; member = in_flat (left_of others n) (children c) (ancestor_at y (resolution c + 1)) rest.by (of_child c valid coarse (ancestor_at y (resolution c + 1)) k) rest.member; below = rest.below })
           ]
         where
           out_of : is_covered others c ≡ true → ⊥
@@ -274,14 +274,14 @@ module _ (tree : CellsFormTrees) (intervals : CellsFormIntervals) where
               let h = from_covered found others c t in
               out (record { by = h.by; member = h.member; below = record { valid = b.valid; resolution_is = b.resolution_is; under = tree.through h.by c y h.above b.under } })
 
-          step_down : (c y : Address) → IsDescendant c r y → resolution c < r → IsChild c (cut y (resolution c + 1))
+          step_down : (c y : Address) → IsDescendant c r y → resolution c < r → IsChild c (ancestor_at y (resolution c + 1))
           step_down c y h lt =
               let le : resolution c + 1 ≤ resolution y = omega (arith, lt, h.resolution_is) in
-              let size = tree.resolution-cut y (resolution c + 1) le in
+              let size = tree.resolution-ancestor_at y (resolution c + 1) le in
               record {
                 valid = tree.cut_cell y (resolution c + 1) h.valid le;
                 resolution_is = size;
-                under = tree.ordered c (cut y (resolution c + 1)) y h.under (tree.cut_ancestor y (resolution c + 1) le) (omega (arith, size));
+                under = tree.ordered c (ancestor_at y (resolution c + 1)) y h.under (tree.cut_ancestor y (resolution c + 1) le) (omega (arith, size));
               }
 
     -- ---- what is left of a region
@@ -329,10 +329,10 @@ module _ (tree : CellsFormTrees) (intervals : CellsFormIntervals) where
             elim (cases_lt (resolution p) (resolution w.0)) [
               | inl lt ↦
                   let size : resolution p + 1 ≤ resolution w.0 = omega (arith, lt) in
-                  let level = tree.resolution-cut w.0 (resolution p + 1) size in
+                  let level = tree.resolution-ancestor_at w.0 (resolution p + 1) size in
                   let over = tree.cut_ancestor w.0 (resolution p + 1) size in
-                  let kid : IsChild p (cut w.0 (resolution p + 1)) = record { valid = tree.cut_cell w.0 (resolution p + 1) o_valid size; resolution_is = level; under = tree.ordered p (cut w.0 (resolution p + 1)) w.0 w.2 over (omega (arith, level)) } in
-                  rest_clear (cut w.0 (resolution p + 1)) (h.all (cut w.0 (resolution p + 1)) kid) w.0 w.1 (inl over)
+                  let kid : IsChild p (ancestor_at w.0 (resolution p + 1)) = record { valid = tree.cut_cell w.0 (resolution p + 1) o_valid size; resolution_is = level; under = tree.ordered p (ancestor_at w.0 (resolution p + 1)) w.0 w.2 over (omega (arith, level)) } in
+                  rest_clear (ancestor_at w.0 (resolution p + 1)) (h.all (ancestor_at w.0 (resolution p + 1)) kid) w.0 w.1 (inl over)
               | inr not ↦
                   let same : w.0 ≡ p = tree.same p w.0 w.2 not in
                   clear (inr (subst (λ v. IsAncestor v x) (sym same) k.under))

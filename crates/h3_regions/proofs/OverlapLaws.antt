@@ -6,7 +6,7 @@ use Rattle.h3_index.specs.Cell.{Address}
 use Rattle.h3_set.specs.Coverage.{IsApart, Overlap}
 use Rattle.h3_set.specs.Laws.{OverlapsAreFound}
 use Rattle.h3_set.specs.Refusals.{has_overlap}
-use Rattle.h3_regions.specs.Overlaps.{IsFirstOverlap, IsFirstToOverlap}
+use Rattle.h3_regions.specs.Overlap.{IsFirstOverlap, IsFirstToOverlap}
 use Rattle.h3_regions.proofs.ListLaws.{any_default}
 
 module _ (cells : List Address) (n : ℕ) (room : n < length cells) where

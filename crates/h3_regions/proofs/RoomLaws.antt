@@ -5,14 +5,14 @@ use Rattle.std.proofs.Math.Nat.{mul-le-mul_left}
 use Rattle.std.proofs.lemmas.Bool.{both_ways, cases_Bool, cases_lt}
 use Rattle.std.proofs.lemmas.List.Elements.{All-contains}
 use Rattle.h3_index.specs.Cell.{Address, IsCell, is_pentagon, resolution}
-use Rattle.h3_index.specs.Descendants.{children, cut, IsAncestor}
+use Rattle.h3_index.specs.Descendants.{children, ancestor_at, IsAncestor}
 use Rattle.h3_index.specs.Laws.{HexagonsHaveSevens, PentagonsHaveFewer}
 use Rattle.h3_tree.specs.Laws.{CellsFormTrees}
 use Rattle.h3_tree.specs.PostOrder.{CellsFormIntervals}
 use Rattle.h3_set.specs.Coverage.{is_ancestor, is_covered, IsApart}
 use Rattle.h3_set.specs.Laws.{AncestorsAreFound}
 use Rattle.h3_regions.specs.Region.{IsRegion}
-use Rattle.h3_regions.specs.Left.{has_below, left_of, left_of_all}
+use Rattle.h3_regions.specs.Difference.{has_below, left_of, left_of_all}
 use Rattle.h3_regions.proofs.ListLaws.{contains_cases, contains_head, contains_tail}
 use Rattle.h3_regions.proofs.LeftLaws.{child_of, children_ordered, of_child, pairs_head, pairs_tail, which}
 use Rattle.h3_regions.proofs.LeftLaws.IsCase.{gone, whole, split}
@@ -122,10 +122,6 @@ total_some p (k ∷ ks) x m t =
     ]
 
 module _ (tree : CellsFormTrees) (intervals : CellsFormIntervals) (found : AncestorsAreFound) (hexagons : HexagonsHaveSevens) (pentagons : PentagonsHaveFewer) (others : List Address) (ro : IsRegion others) where
-  -- how many of the others are a cell or stand below it
-  abbrev weight : Address → ℕ
-  weight c = total (λ o. bit (is_ancestor c o)) others
-
   -- no two of cells that do not overlap stand above one
   none_twice : (ks : List Address) → IsApart ks → (o : Address) → AllPairs (λ x y. is_ancestor x o ≡ true → is_ancestor y o ≡ true → ⊥) ks
   none_twice ks apart o i j d lt lj s t =
@@ -175,10 +171,10 @@ module _ (tree : CellsFormTrees) (intervals : CellsFormIntervals) (found : Ances
         elim (cases_lt (resolution c) (resolution w.0)) [
           | inl lt ↦
               let size : resolution c + 1 ≤ resolution w.0 = omega (arith, lt) in
-              let level = tree.resolution-cut w.0 (resolution c + 1) size in
+              let level = tree.resolution-ancestor_at w.0 (resolution c + 1) size in
               let over = tree.cut_ancestor w.0 (resolution c + 1) size in
-              let kid : IsChild c (cut w.0 (resolution c + 1)) = record { valid = tree.cut_cell w.0 (resolution c + 1) v size; resolution_is = level; under = tree.ordered c (cut w.0 (resolution c + 1)) w.0 w.2 over (omega (arith, level)) } in
-              (cut w.0 (resolution c + 1), of_child tree intervals c valid coarse (cut w.0 (resolution c + 1)) kid, below_true found others (cut w.0 (resolution c + 1)) w.0 w.1 over)
+              let kid : IsChild c (ancestor_at w.0 (resolution c + 1)) = record { valid = tree.cut_cell w.0 (resolution c + 1) v size; resolution_is = level; under = tree.ordered c (ancestor_at w.0 (resolution c + 1)) w.0 w.2 over (omega (arith, level)) } in
+              (ancestor_at w.0 (resolution c + 1), of_child tree intervals c valid coarse (ancestor_at w.0 (resolution c + 1)) kid, below_true found others (ancestor_at w.0 (resolution c + 1)) w.0 w.1 over)
           | inr not_finer ↦
               let same : w.0 ≡ c = tree.same c w.0 w.2 not_finer in
               absurd (both_ways (is_covered others c) f (covered_true found others c w.0 w.1 (subst (λ a. IsAncestor a c) (sym same) (tree.own c))))

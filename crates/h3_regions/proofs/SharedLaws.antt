@@ -3,13 +3,13 @@ use Rattle.std.proofs.Common.{ℕ, ◌≡◌, ◌+◌, ◌<◌, ◌⊎◌, ◌�
 use Rattle.std.proofs.lemmas.Bool.{cases_lt}
 use Rattle.std.proofs.lemmas.List.Elements.{All-contains, Contains-get_or}
 use Rattle.h3_index.specs.Cell.{Address, IsCell, resolution}
-use Rattle.h3_index.specs.Descendants.{center_at, IsAncestor, IsDescendant}
+use Rattle.h3_index.specs.Descendants.{center_descendant, IsAncestor, IsDescendant}
 use Rattle.h3_tree.specs.Laws.{CellsFormTrees}
 use Rattle.h3_tree.specs.PostOrder.{post_order_key as key}
 use Rattle.h3_set.specs.Compacted.{HasChildren}
 use Rattle.h3_set.specs.Coverage.{IsApart, IsCovered}
-use Rattle.h3_regions.specs.Coarsest.{HasAncestor}
-use Rattle.h3_regions.specs.Shared.{HoldsShared, IsShared}
+use Rattle.h3_regions.specs.Unions.{HasAncestor}
+use Rattle.h3_regions.specs.Intersection.{HoldsShared, IsShared}
 use Rattle.h3_regions.specs.Region.{IsRegion}
 use Rattle.h3_regions.proofs.ListLaws.{all_of, one_of}
 
@@ -96,7 +96,7 @@ module _ (tree : CellsFormTrees) where
     no_set : (p : Address) → ¬ HasChildren (Contains L) p
     no_set p h =
         let c = tree.center_descendant p (resolution p + 1) h.valid (omega arith) (omega (arith, h.coarse)) in
-        let y = center_at p (resolution p + 1) in
+        let y = center_descendant p (resolution p + 1) in
         elim (holds.shared y (h.all y c)) [
           | inl in_a ↦ ra.no_siblings p (record { valid = h.valid; coarse = h.coarse; all = children_in a b ra rb L holds.shared p y h c in_a.0 })
           | inr in_b ↦ rb.no_siblings p (record { valid = h.valid; coarse = h.coarse; all = children_in b a rb ra L (λ x m. turn a b x (holds.shared x m)) p y h c in_b.0 })

@@ -9,7 +9,7 @@ use Rattle.h3_tree.specs.Laws.{CellsFormTrees}
 use Rattle.h3_tree.specs.PostOrder.{CellsFormIntervals}
 use Rattle.h3_set.specs.Coverage.{is_ancestor, is_covered, IsApart, Overlap}
 use Rattle.h3_set.specs.Laws.{AncestorsAreFound}
-use Rattle.h3_regions.specs.Counts.{count_in, count_outside}
+use Rattle.h3_regions.specs.Counting.{count_in, count_outside}
 use Rattle.h3_regions.specs.Laws.{CountsAddUp}
 use Rattle.h3_regions.specs.Zones.{by_number}
 use Rattle.h3_regions.proofs.NumberLaws.{number_apart, number_members}

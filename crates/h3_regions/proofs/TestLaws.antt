@@ -11,9 +11,9 @@ use Rattle.h3_tree.specs.Laws.{CellsFormTrees}
 use Rattle.h3_tree.specs.PostOrder.{post_order_key as key, CellsFormIntervals}
 use Rattle.h3_set.specs.Coverage.{is_ancestor, is_covered, Overlap}
 use Rattle.h3_set.specs.Laws.{AncestorsAreFound}
-use Rattle.h3_regions.specs.Coarsest.{HasAncestor}
+use Rattle.h3_regions.specs.Unions.{HasAncestor}
 use Rattle.h3_regions.specs.Region.{IsRegion}
-use Rattle.h3_regions.specs.Left.{has_below, lowest_key}
+use Rattle.h3_regions.specs.Difference.{has_below, lowest_key}
 use Rattle.h3_regions.specs.Zones.{IsFirstPlace}
 use Rattle.h3_regions.proofs.IntervalLaws.{before, inside, within}
 use Rattle.h3_regions.proofs.ListLaws.{member_at}

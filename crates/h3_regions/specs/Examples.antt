@@ -6,7 +6,7 @@ use Rattle.h3_index.specs.Descendants.{child, descendants}
 use Rattle.h3_index.specs.Paths.{paths}
 use Rattle.h3_set.specs.Compacted.{compacted}
 use Rattle.h3_regions.specs.Algebra.{difference, intersection}
-use Rattle.h3_regions.specs.Counts.{count_in, count_outside}
+use Rattle.h3_regions.specs.Counting.{count_in, count_outside}
 use Rattle.h3_regions.specs.Zones.{zone_of}
 
 -- children of the base cell 20, a hexagon, and of 4, a pentagon

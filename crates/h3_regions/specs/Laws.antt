@@ -5,7 +5,7 @@ use Rattle.h3_index.specs.Cell.{Address, IsCell, number_of}
 use Rattle.h3_set.specs.Compacted.{compacted}
 use Rattle.h3_set.specs.Coverage.{finest, is_ancestor, is_covered, IsApart, IsCovered}
 use Rattle.h3_regions.specs.Algebra.{difference, intersection}
-use Rattle.h3_regions.specs.Counts.{AreCounts, count_in, count_outside}
+use Rattle.h3_regions.specs.Counting.{AreCounts, count_in, count_outside}
 use Rattle.h3_regions.specs.Region.{IsRegion}
 use Rattle.h3_regions.specs.Zones.{by_number, zone_of}
 

@@ -1,11 +1,11 @@
 pub mod Algebra
-pub mod Coarsest
-pub mod Counts
+pub mod Counting
+pub mod Difference
 pub mod Examples
 pub mod FirstPlaces
+pub mod Intersection
 pub mod Laws
-pub mod Left
-pub mod Overlaps
+pub mod Overlap
 pub mod Region
-pub mod Shared
+pub mod Unions
 pub mod Zones

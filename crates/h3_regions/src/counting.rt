@@ -2,7 +2,7 @@
 
 ghost use Rattle.std.specs.Prelude.{◌≡◌, ◌+◌, ◌-◌, ◌^◌, ◌<◌, ◌≤◌, ◌++◌, ◌∷◌, [], ℕ, List, Contains, length, map, replicate, sum, take, drop};
 ghost use Rattle.h3_index.specs.Cell.{Address};
-ghost use Rattle.h3_regions.specs.Counts.{AreCounts, count_in, count_outside};
+ghost use Rattle.h3_regions.specs.Counting.{AreCounts, count_in, count_outside};
 ghost use Rattle.h3_regions.specs.Laws.{CountsInParts, ZonesAreOne};
 ghost use Rattle.h3_regions.specs.Zones.{IsZones};
 

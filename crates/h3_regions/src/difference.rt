@@ -6,7 +6,7 @@ ghost use Rattle.h3_set.specs.Coverage.{finest, is_covered, IsCovered};
 ghost use Rattle.h3_regions.specs.Algebra.{difference};
 ghost use Rattle.h3_regions.specs.Laws.{RegionsAreUnique};
 ghost use Rattle.h3_regions.specs.Region.{IsRegion};
-ghost use Rattle.h3_regions.specs.Left.{has_below, left_of, left_of_all, lowest_key};
+ghost use Rattle.h3_regions.specs.Difference.{has_below, left_of, left_of_all, lowest_key};
 ghost use Rattle.h3_regions.specs.Zones.{IsFirstPlace};
 
 use crate::laws::coverages_decide_regions;
@@ -23,7 +23,7 @@ use h3_tree::{children_at, post_order_key};
 fn lowest_key(cell: Cell) -> u64
     ensures { result ≡ lowest_key cell }
 {
-    post_order_key(cell).saturating_sub(cell.unit() - 1)
+    post_order_key(cell).saturating_sub(cell.last_digit_step() - 1)
 }
 
 /// Whether a region covers a cell, where the first place whose cell's key is not below the lowest one
@@ -70,7 +70,7 @@ fn has_below(cells: &[Cell], cell: Cell, first: usize) -> bool
 /// written, and returns how many are written then; `None` where the slots do not suffice. Those of the
 /// region are looked for from a place on, which may be any, and which is then where those of the next
 /// cell may be looked for.
-fn leave(
+fn subtract_cell(
     cell: Cell,
     others: &[Cell],
     slots: &mut [Cell],
@@ -101,7 +101,7 @@ fn leave(
     }
     let mut count = written;
     for child in children_at(cell, cell.resolution() + 1) {
-        match leave(child, others, slots, count, place) {
+        match subtract_cell(child, others, slots, count, place) {
             Some(more) => count = more,
             None => return None,
         }
@@ -120,7 +120,7 @@ fn leave_all(cells: &[Cell], others: &[Cell], slots: &mut [Cell]) -> Option<usiz
     let mut count = 0;
     let mut place: usize = 0;
     for cell in cells {
-        match leave(*cell, others, slots, count, &mut place) {
+        match subtract_cell(*cell, others, slots, count, &mut place) {
             Some(more) => count = more,
             None => return None,
         }

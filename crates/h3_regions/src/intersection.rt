@@ -4,7 +4,7 @@ ghost use Rattle.std.specs.Prelude.{◌≡◌, ◌+◌, ◌≤◌, ◌↔◌, �
 ghost use Rattle.h3_index.specs.Cell.{Address};
 ghost use Rattle.h3_set.specs.Coverage.{IsCovered};
 ghost use Rattle.h3_regions.specs.Algebra.{intersection};
-ghost use Rattle.h3_regions.specs.Shared.{HoldsShared, IsShared};
+ghost use Rattle.h3_regions.specs.Intersection.{HoldsShared, IsShared};
 ghost use Rattle.h3_regions.specs.Laws.{RegionsAreUnique};
 ghost use Rattle.h3_regions.specs.Region.{IsRegion};
 

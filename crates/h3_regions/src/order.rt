@@ -24,5 +24,5 @@ pub(crate) fn is_below(cell: Cell, later: Cell) -> bool
     ensures { IsTrue result ↔ IsAncestor later cell }
 {
     cells_form_intervals();
-    post_order_key(later) - post_order_key(cell) < later.unit()
+    post_order_key(later) - post_order_key(cell) < later.last_digit_step()
 }

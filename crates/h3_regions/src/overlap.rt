@@ -3,7 +3,7 @@
 ghost use Rattle.std.specs.Prelude.{◌≡◌, ◌+◌, ◌<◌, ◌≤◌, ◌↔◌, length, take, true, All, IfNone, IfSome, IsTrue, None};
 ghost use Rattle.h3_set.specs.Coverage.{IsApart, Overlap};
 ghost use Rattle.h3_set.specs.Refusals.{has_overlap};
-ghost use Rattle.h3_regions.specs.Overlaps.{IsFirstOverlap, IsFirstToOverlap};
+ghost use Rattle.h3_regions.specs.Overlap.{IsFirstOverlap, IsFirstToOverlap};
 
 use crate::order::{are_cells, is_below};
 use h3_index::Cell;

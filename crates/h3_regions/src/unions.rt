@@ -7,7 +7,7 @@ ghost use Rattle.h3_tree.specs.PostOrder.{post_order_key};
 ghost use Rattle.h3_set.specs.Compacted.{compacted, IsCompacted};
 ghost use Rattle.h3_set.specs.Coverage.{finest, IsApart, IsCovered};
 ghost use Rattle.h3_set.specs.Order.{IsInOrder};
-ghost use Rattle.h3_regions.specs.Coarsest.{IsCoarsest};
+ghost use Rattle.h3_regions.specs.Unions.{IsCoarsest};
 ghost use Rattle.h3_regions.specs.Region.{IsRegion};
 
 use crate::order::are_cells;
@@ -21,7 +21,7 @@ use h3_tree::post_order_key;
 
 /// How many of some cells in order, the first ones, stay where a cell comes after them: all but
 /// those below it.
-fn staying(kept: &[Cell], cell: Cell) -> usize
+fn kept_len(kept: &[Cell], cell: Cell) -> usize
     requires valid { All IsCell kept.now }
     requires in_order { IsInOrder kept.now }
     requires last { All (λ a. post_order_key a ≤ post_order_key cell) kept.now }
@@ -32,10 +32,10 @@ fn staying(kept: &[Cell], cell: Cell) -> usize
 {
     cells_form_intervals();
     let key = post_order_key(cell);
-    let unit = cell.unit();
+    let last_digit_step = cell.last_digit_step();
     let mut n = kept.len();
     while n > 0 {
-        if key - post_order_key(kept[n - 1]) >= unit {
+        if key - post_order_key(kept[n - 1]) >= last_digit_step {
             return n;
         }
         n -= 1;
@@ -57,7 +57,7 @@ fn keep_coarsest(cells: &mut [Cell]) -> usize
     let mut written: usize = 0;
     for i in 0..cells.len() {
         let cell = cells[i];
-        let stay = staying(&cells[..written], cell);
+        let stay = kept_len(&cells[..written], cell);
         cells[stay] = cell;
         written = stay + 1;
     }

@@ -136,7 +136,7 @@ pub(crate) fn place_at(cells: &[Cell], cell: Cell, first: usize) -> Option<usize
         return None;
     }
     let member = cells[first];
-    if post_order_key(member) - key < member.unit() {
+    if post_order_key(member) - key < member.last_digit_step() {
         Some(first)
     } else {
         None

@@ -3,7 +3,7 @@
 /// A function of one index: a command in the singular answers it for a word, one in the plural for
 /// each line of a list, and the library for C for an index or each of a column.
 #[derive(Clone, Copy, Debug, Eq, PartialEq)]
-pub enum CellFunction {
+pub enum IndexFunction {
     /// `isValidCell`
     IsValidCell,
 
@@ -241,5 +241,5 @@ pub enum Command {
     GetDirectedEdgeDestinations,
 
     /// What a function of one index returns for each index of a list.
-    ForEach(CellFunction),
+    ForEach(IndexFunction),
 }

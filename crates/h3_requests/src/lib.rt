@@ -5,5 +5,5 @@ mod command;
 pub mod laws;
 mod rows;
 
-pub use command::{CellFunction, Command};
+pub use command::{Command, IndexFunction};
 pub use rows::{CellField, RowOptions, is_separator};

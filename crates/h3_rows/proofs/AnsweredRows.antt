@@ -8,10 +8,10 @@ use Rattle.h3_rows.specs.Answering.{Answered, EndsBy}
 use Rattle.h3_rows.specs.EachLaws.{some_after}
 use Rattle.h3_rows.specs.Row.{Piece}
 use Rattle.h3_rows.specs.RowsAnswer.{State}
-use Rattle.h3_lines.specs.Writing.{AppendsPart, SinkUse, Takes, TakesPart, Writes, sink_use}
-use Rattle.h3_lines.specs.declared.refusal.Refusal.{Refusal}
-use Rattle.h3_lines.specs.declared.refusal.Fault.TheVariants.{Memory, Read, Write}
-use Rattle.h3_lines.specs.declared.refusal.Refusal.TheVariants.{Error, Fault}
+use Rattle.h3_lines.specs.Write.{AppendsPart, SinkUse, Takes, TakesPart, Writes, sink_use}
+use Rattle.h3_lines.specs.declared.run_error.RunError.{RunError}
+use Rattle.h3_lines.specs.declared.run_error.Fault.TheVariants.{Memory, Read, Write}
+use Rattle.h3_lines.specs.declared.run_error.RunError.TheVariants.{Error, Fault}
 
 -- ---- bytes that are written
 
@@ -23,12 +23,12 @@ some_of_whole : (bytes : List ℕ) (out : SinkUse) → TakesPart out bytes → T
 some_of_whole bytes out (inl p, failed) = (record { part = p.part; rest = p.rest; split = p.split; holds = inl p.holds }, failed)
 some_of_whole bytes out (inr whole, failed) = (record { part = bytes; rest = []; split = sym (append-nil bytes); holds = inr whole }, failed)
 
-pub written_takes : (bytes : List ℕ) (out : SinkUse) (r : Result (Unit {0}) Refusal) → Writes (written bytes) r out → OnOk r (Takes out bytes)
+pub written_takes : (bytes : List ℕ) (out : SinkUse) (r : Result (Unit {0}) RunError) → Writes (written bytes) r out → OnOk r (Takes out bytes)
 unfolding Writes
 written_takes bytes out (Ok u) w = w.1
 written_takes bytes out (Err e) w = tt
 
-pub written_fails : (bytes : List ℕ) (out : SinkUse) (r : Result (Unit {0}) Refusal) → 0 < length bytes → Writes (written bytes) r out
+pub written_fails : (bytes : List ℕ) (out : SinkUse) (r : Result (Unit {0}) RunError) → 0 < length bytes → Writes (written bytes) r out
     → IfErr r (λ e. (e ≡ Fault Write) × (0 < length bytes) × TakesSome out bytes)
 unfolding Writes
 written_fails bytes out (Ok u) some w = tt
@@ -58,13 +58,13 @@ module _ {S : Type 0} (taken : S → Option (List ℕ)) (failed : S → Bool) wh
   pub moves_none : (held : List ℕ) (s : S) → Moves taken failed held held s s
   moves_none held s = record { part = []; split = refl; grown = Appends-nil (taken s); sound = refl }
 
-  pub breaks_then : (all held more : List ℕ) (s t u : S) (e : Refusal) → Moves taken failed all held s t → Breaks (held ++ more) (sink_use taken failed t u) e → Breaks (all ++ more) (sink_use taken failed s u) e
+  pub breaks_then : (all held more : List ℕ) (s t u : S) (e : RunError) → Moves taken failed all held s t → Breaks (held ++ more) (sink_use taken failed t u) e → Breaks (all ++ more) (sink_use taken failed s u) e
   breaks_then all held more s t u e m b =
       let is : all ++ more ≡ m.part ++ (held ++ more) = ap (λ l. l ++ more) m.split ∙ append_assoc m.part held more in
       let some : 0 < length (m.part ++ (held ++ more)) = omega (arith, length-append m.part (held ++ more), b.1) in
       (b.0, subst (λ l. 0 < length l) (sym is) some, subst (TakesSome (sink_use taken failed s u)) (sym is) (some_after taken failed s t u m.part (held ++ more) m.grown m.sound b.2))
 
-pub breaks_more : (xs ys : List ℕ) (sink : SinkUse) (e : Refusal) → Breaks xs sink e → Breaks (xs ++ ys) sink e
+pub breaks_more : (xs ys : List ℕ) (sink : SinkUse) (e : RunError) → Breaks xs sink e → Breaks (xs ++ ys) sink e
 breaks_more xs ys sink e (is, some, (b, failed)) =
     let more : 0 < length (xs ++ ys) = omega (arith, length-append xs ys, some) in
     (is, more, (record { part = b.part; rest = b.rest ++ ys; split = ap (λ l. l ++ ys) b.split ∙ append_assoc b.part b.rest ys; holds = b.holds }, failed))
@@ -74,7 +74,7 @@ row_bytes held row answer ending separator =
     append_assoc ((held ++ row) ++ (separator ∷ [])) answer ending ∙ append_assoc (held ++ row) (separator ∷ []) (answer ++ ending) ∙ append_assoc held row (separator ∷ (answer ++ ending))
 
 -- bytes of an answer that are not all taken
-pub breaks_ends : (held text : List ℕ) (next : Answer) (e : Refusal) (sink : SinkUse) → Breaks (held ++ text) sink e → EndsBy (before held (before text next)) e sink
+pub breaks_ends : (held text : List ℕ) (next : Answer) (e : RunError) (sink : SinkUse) → Breaks (held ++ text) sink e → EndsBy (before held (before text next)) e sink
 breaks_ends held text next e sink b =
     let (is, some, takes) = breaks_more (held ++ text) next.output sink e b in
     let same : (held ++ text) ++ next.output ≡ held ++ (text ++ next.output) = append_assoc held text next.output in

@@ -10,11 +10,6 @@ take_front : (xs ys : List ℕ) → take (length xs) (xs ++ ys) ≡ xs
 take_front [] ys = refl
 take_front (x ∷ xs) ys = ap (λ l. x ∷ l) (take_front xs ys)
 
-pub take_put : (block more copied after : List ℕ) (held : ℕ) → copied ≡ more → held ≤ length block → take (held + length more) (take held block ++ (copied ++ after)) ≡ take held block ++ more
-take_put block more copied after held is within =
-    let front : length (take held block) ≡ held = length-take-le held block within in
-    rw is (ap (λ n. take (n + length more) (take held block ++ (more ++ after))) (sym front) ∙ take-append-add (take held block) (more ++ after) (length more) ∙ ap (λ l. take held block ++ l) (take_front more after))
-
 pub short_take : (l : List ℕ) (n : ℕ) → n ≤ 65536 → length (take n l) ≤ 65536
 short_take l n within = omega (arith, length-take {A = ℕ})
 

@@ -3,11 +3,11 @@ use Rattle.std.proofs.Common.{◌≡◌, ℕ, ◌^◌, ◌⊎◌, Bool, true, Li
 use Rattle.std.proofs.KnownBytes.{Appends-trans}
 use Rattle.h3_lines.specs.Answer.{Answer, before, written}
 use Rattle.h3_lines.specs.EachLine.{TakesBeginning}
-use Rattle.h3_lines.specs.Writing.{SinkUse, Writes, sink_use}
-use Rattle.h3_lines.specs.declared.refusal.AnswerError.{AnswerError}
-use Rattle.h3_lines.specs.declared.refusal.Fault.TheVariants.{Memory, Read, Write}
-use Rattle.h3_lines.specs.declared.refusal.Refusal.{Refusal}
-use Rattle.h3_lines.specs.declared.refusal.Refusal.TheVariants.{Error, Fault}
+use Rattle.h3_lines.specs.Write.{SinkUse, Writes, sink_use}
+use Rattle.h3_lines.specs.declared.run_error.AnswerError.{AnswerError}
+use Rattle.h3_lines.specs.declared.run_error.Fault.TheVariants.{Memory, Read, Write}
+use Rattle.h3_lines.specs.declared.run_error.RunError.{RunError}
+use Rattle.h3_lines.specs.declared.run_error.RunError.TheVariants.{Error, Fault}
 use Rattle.h3_rows.specs.Answering.{Answered, EndsBy, RefusesEach}
 use Rattle.h3_rows.specs.EndsRows.{AnswersAll, AnswersBeforeFault, EndsRows, StopsInPage}
 use Rattle.h3_rows.specs.Row.{Piece}
@@ -39,7 +39,7 @@ module _ {S : Type 0} (taken : S → Option (List ℕ)) (failed : S → Bool) (a
       subst (λ b. Writes b (Ok tt) (sink_use taken failed s t)) (sym (begun_whole none a)) (writes_whole a.part (sink_use taken failed s t) (a.grown, a.sound))
 
   -- what is last is written after rows that are answered to their end
-  last_written : (last : State → Answer) {v w : State} {s t : S} (u : S) {h : List ℕ} {ls : List Piece} (r : Result (Unit {0}) Refusal) → h ≡ [] → Answered taken failed answer v w [] h s t ls → Writes (last w) r (sink_use taken failed t u)
+  last_written : (last : State → Answer) {v w : State} {s t : S} (u : S) {h : List ℕ} {ls : List Piece} (r : Result (Unit {0}) RunError) → h ≡ [] → Answered taken failed answer v w [] h s t ls → Writes (last w) r (sink_use taken failed t u)
       → Writes (answer last v ls) r (sink_use taken failed s u)
   last_written last {w = w} {s} {t} u r none a writes =
       subst (λ b. Writes b r (sink_use taken failed s u)) (sym (whole_answer last none a)) (writes_after taken failed s t u (last w) a.part r a.grown a.sound writes)
@@ -80,16 +80,16 @@ module _ {S : Type 0} (taken : S → Option (List ℕ)) (failed : S → Bool) (a
 -- what takes the rows, and how it answers them
 module _ {S V : Type 0} (qs : Bool) (taken : S → Option (List ℕ)) (failed : S → Bool) (answer_of : V → (State → Answer) → State → List Piece → Answer) (none_left : (v : V) (last : State → Answer) (s : State) → answer_of v last s [] ≡ last s)
     (state : V → State) (held : V → List ℕ) (out : V → S)
-    (takes : V → List Piece → V → Type 0) (refused : V → List Piece → V → Refusal → Type 0) (settled : V → Type 0)
+    (takes : V → List Piece → V → Type 0) (refused : V → List Piece → V → RunError → Type 0) (settled : V → Type 0)
     (answers : (v w : V) (ls : List Piece) → takes v ls w → Answered taken failed (answer_of v) (state v) (state w) (held v) (held w) (out v) (out w) ls)
     (same : (v w : V) (ls : List Piece) → takes v ls w → answer_of w ≡ answer_of v)
-    (refuses : (v w : V) (ls : List Piece) (e : Refusal) → refused v ls w e → RefusesEach (answer_of v) (state v) (held v) ls e (sink_use taken failed (out v) (out w)))
+    (refuses : (v w : V) (ls : List Piece) (e : RunError) → refused v ls w e → RefusesEach (answer_of v) (state v) (held v) ls e (sink_use taken failed (out v) (out w)))
     (empty : (v : V) → settled v → held v ≡ []) where
   -- with nothing held back at first
   from_start : (v w : V) (ls : List Piece) → held v ≡ [] → takes v ls w → Answered taken failed (answer_of v) (state v) (state w) [] (held w) (out v) (out w) ls
   from_start v w ls none t = subst (λ h. Answered taken failed (answer_of v) (state v) (state w) h (held w) (out v) (out w) ls) none (answers v w ls t)
 
-  stops_in_page : (v w : V) (e : Refusal) (old new : Option (List ℕ)) → held v ≡ [] → StopsTaking qs takes refused settled v w e old new (2 ^ 40) 65536 → StopsInPage qs (answer_of v nothing_last (state v)) old new
+  stops_in_page : (v w : V) (e : RunError) (old new : Option (List ℕ)) → held v ≡ [] → StopsTaking qs takes refused settled v w e old new (2 ^ 40) 65536 → StopsInPage qs (answer_of v nothing_last (state v)) old new
   stops_in_page v w e old new none s = record {
     part = s.part;
     last = s.last;
@@ -104,11 +104,11 @@ module _ {S V : Type 0} (qs : Bool) (taken : S → Option (List ℕ)) (failed : 
     good = ap (λ b. b.ending) (begun_whole taken failed (answer_of v) (none_left v) (empty s.mid s.settles) (from_start v s.mid s.ended none s.takes));
   }
 
-  refuses_mid : (v w : V) (e : Refusal) (old new : Option (List ℕ)) → (s : StopsTaking qs takes refused settled v w e old new (2 ^ 40) 65536)
+  refuses_mid : (v w : V) (e : RunError) (old new : Option (List ℕ)) → (s : StopsTaking qs takes refused settled v w e old new (2 ^ 40) 65536)
       → RefusesEach (answer_of v) (state s.mid) (held s.mid) s.refuses.later e (sink_use taken failed (out s.mid) (out w))
   refuses_mid v w e old new s = subst (λ a. RefusesEach a (state s.mid) (held s.mid) s.refuses.later e (sink_use taken failed (out s.mid) (out w))) (same v s.mid s.ended s.takes) (refuses s.mid w s.refuses.later e s.refuses.refuses)
 
-  stopped : (last : State → Answer) (v w : V) (e : Refusal) (old new : Option (List ℕ)) (had has : Bool) → held v ≡ [] → has ≡ had → StopsTaking qs takes refused settled v w e old new (2 ^ 40) 65536
+  stopped : (last : State → Answer) (v w : V) (e : RunError) (old new : Option (List ℕ)) (had has : Bool) → held v ≡ [] → has ≡ had → StopsTaking qs takes refused settled v w e old new (2 ^ 40) 65536
       → EndsRows qs (answer_of v last (state v)) (answer_of v nothing_last (state v)) old new had has (Err e) (sink_use taken failed (out v) (out w))
   unfolding stops_in_page
   stopped last v w (Error e) old new had has none sound s = (
@@ -144,7 +144,7 @@ module _ {S V : Type 0} (qs : Bool) (taken : S → Option (List ℕ)) (failed : 
   }
 
   -- a read fails, or a row ends the answer, or a write fails
-  pub ends_early : (last : State → Answer) (v w : V) (old new : Option (List ℕ)) (had has : Bool) (e : Refusal) → held v ≡ []
+  pub ends_early : (last : State → Answer) (v w : V) (old new : Option (List ℕ)) (had has : Bool) (e : RunError) → held v ≡ []
       → ((e ≡ Fault Read) × StopsReading qs takes settled v w old new (has ≡ true) (2 ^ 40)) ⊎ (StopsTaking qs takes refused settled v w e old new (2 ^ 40) 65536 × (has ≡ had))
       → EndsRows qs (answer_of v last (state v)) (answer_of v nothing_last (state v)) old new had has (Err e) (sink_use taken failed (out v) (out w))
   ends_early last v w old new had has e none (inr (s, kept)) = stopped last v w e old new had has none kept s
@@ -153,7 +153,7 @@ module _ {S V : Type 0} (qs : Bool) (taken : S → Option (List ℕ)) (failed : 
   ends_early last v w old new had has (Fault Memory) none (inl (is, s)) = absurd (cc is)
   ends_early last v w old new had has (Error e) none (inl (is, s)) = absurd (cc is)
 
-  all_answered : (last : State → Answer) (v w : V) (u : S) (old new : Option (List ℕ)) (r : Result (Unit {0}) Refusal) → held v ≡ [] → TakesAll qs takes v w old new (2 ^ 40) 65536 → settled w
+  all_answered : (last : State → Answer) (v w : V) (u : S) (old new : Option (List ℕ)) (r : Result (Unit {0}) RunError) → held v ≡ [] → TakesAll qs takes v w old new (2 ^ 40) 65536 → settled w
       → Writes (last (state w)) r (sink_use taken failed (out w) u) → AnswersAll qs (answer_of v last (state v)) old new r (sink_use taken failed (out v) u)
   all_answered last v w u old new r none all settles writes = record {
     list = all.bytes;
@@ -164,7 +164,7 @@ module _ {S V : Type 0} (qs : Bool) (taken : S → Option (List ℕ)) (failed : 
   }
 
   -- all rows are answered, and then what is last is written
-  pub ends_late : (last : State → Answer) (v w : V) (u : S) (old new : Option (List ℕ)) (had has : Bool) (r : Result (Unit {0}) Refusal) → held v ≡ [] → TakesAll qs takes v w old new (2 ^ 40) 65536 → settled w → has ≡ had
+  pub ends_late : (last : State → Answer) (v w : V) (u : S) (old new : Option (List ℕ)) (had has : Bool) (r : Result (Unit {0}) RunError) → held v ≡ [] → TakesAll qs takes v w old new (2 ^ 40) 65536 → settled w → has ≡ had
       → Writes (last (state w)) r (sink_use taken failed (out w) u) → EndsRows qs (answer_of v last (state v)) (answer_of v nothing_last (state v)) old new had has r (sink_use taken failed (out v) u)
   unfolding Writes
   ends_late last v w u old new had has (Ok x) none all settles sound writes = (sound, all_answered last v w u old new (Ok x) none all settles writes)
@@ -174,6 +174,6 @@ module _ {S V : Type 0} (qs : Bool) (taken : S → Option (List ℕ)) (failed : 
   ends_late last v w u old new had has (Err (Fault Memory)) none all settles sound never = absurd never
 
 -- the same of what the source is then
-pub ends_at : {R : Type 0} (left : R → Option (List ℕ)) (failed : R → Bool) (after x : R) (qs : Bool) (whole begun : List Piece → Answer) (old : Option (List ℕ)) (had : Bool) (r : Result (Unit {0}) Refusal) (sink : SinkUse) → x ≡ after
+pub ends_at : {R : Type 0} (left : R → Option (List ℕ)) (failed : R → Bool) (after x : R) (qs : Bool) (whole begun : List Piece → Answer) (old : Option (List ℕ)) (had : Bool) (r : Result (Unit {0}) RunError) (sink : SinkUse) → x ≡ after
     → EndsRows qs whole begun old (left after) had (failed after) r sink → EndsRows qs whole begun old (left x) had (failed x) r sink
 ends_at left failed after x qs whole begun old had r sink is ends = subst (λ s. EndsRows qs whole begun old (left s) had (failed s) r sink) (sym is) ends

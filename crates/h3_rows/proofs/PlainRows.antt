@@ -69,9 +69,6 @@ module _ (separator : ℕ) (quotes : Bool) (quote : (34 == separator) ≡ false)
       let q : (separator == quote_or_feed quotes) ≡ false = elim quotes as (λ t. (separator == quote_or_feed t) ≡ false) [ true ↦ grind (arith, nat_tests) | false ↦ f ] in
       rw (f, q) refl
 
-  pub passes_none : (before : ℕ) (bytes : List ℕ) → PassesFields separator quotes before before bytes bytes
-  passes_none before bytes = record { front = []; split = refl; plain = refl; passed = λ more. refl }
-
   -- a field is passed over
   pub passes_more : (before left : ℕ) (bytes rest field after : List ℕ) → 0 < left → PassesFields separator quotes before left bytes rest → rest ≡ field ++ separator ∷ after
       → list_all (λ b. not (is_byte3 separator 10 (quote_or_feed quotes) b)) field ≡ true → PassesFields separator quotes before (left - 1) bytes after

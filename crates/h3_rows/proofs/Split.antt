@@ -4,17 +4,12 @@ use Rattle.std.proofs.Common.{◌≡◌, ℕ, ◌+◌, ◌*◌, ◌<◌, ◌≤�
 use Rattle.std.proofs.Math.Seq.{drop-append-add}
 use Rattle.std.specs.Io.KnownBytes.{Consumes, Keeps}
 use Rattle.std.proofs.KnownBytes.{Consumes-kept, Consumes-nil, Consumes-trans}
-use Rattle.h3_index.specs.Stream.{HasLeft, Pulls}
-use Rattle.h3_lines.specs.declared.refusal.Refusal.{Refusal}
+use Rattle.h3_streams.specs.Stream.{HasLeft, Pulls}
+use Rattle.h3_lines.specs.declared.run_error.RunError.{RunError}
 use Rattle.h3_rows.specs.Row.{Piece, pieces_of, rows_of, without_last_nothing}
 use Rattle.h3_rows.specs.Splitting.{Goes, RefusesAfter, StopsReading, StopsTaking, TakesAll, TakesFirst, Uncut}
 use Rattle.h3_rows.proofs.Pages.{all_bytes, at_end, one_at_least, one_less}
 use Rattle.h3_rows.proofs.Pieces.{cut_at_end, cut_at_mark, cut_goes_on, first_piece, uncut_then}
-
-pub cut_shorter : (bytes before after : List ℕ) (mark : ℕ) → bytes ≡ before ++ mark ∷ after → length after + 1 ≤ length bytes
-cut_shorter bytes before after mark split =
-    let whole : length bytes ≡ length before + length (mark ∷ after) = ap length split ∙ length-append before (mark ∷ after) in
-    omega (arith, whole)
 
 pub cut_length : (bytes before after : List ℕ) (mark : ℕ) → bytes ≡ before ++ mark ∷ after → length before + length after + 1 ≡ length bytes
 cut_length bytes before after mark split =
@@ -110,9 +105,9 @@ module _ {V : Type 0} (qs : Bool) (taken : V → List Piece → V → Type 0) wh
   pub last_taken : {v w : V} {o : Bool} (line whole : List ℕ) → whole ≡ line → 0 < length line → Uncut 10 qs false line o → taken v ((whole, o) ∷ []) w → taken v (rows_of qs line) w
   last_taken {v} {w} {o} line whole is some h takes' = subst (λ ls. taken v ls w) (ap (λ l. (l, o) ∷ []) is ∙ sym (row_at_end qs line o some h)) takes'
 
-module _ {V : Type 0} (qs : Bool) (refused : V → List Piece → V → Refusal → Type 0) where
+module _ {V : Type 0} (qs : Bool) (refused : V → List Piece → V → RunError → Type 0) where
   -- a row is refused that ends
-  pub refused_ended : {v w : V} {e : Refusal} {o : Bool} (line bytes whole rest : List ℕ) → whole ≡ line ++ bytes → Uncut 10 qs false line o → Uncut 10 qs o bytes false → ((later : List Piece) → refused v ((whole, false) ∷ later) w e)
+  pub refused_ended : {v w : V} {e : RunError} {o : Bool} (line bytes whole rest : List ℕ) → whole ≡ line ++ bytes → Uncut 10 qs false line o → Uncut 10 qs o bytes false → ((later : List Piece) → refused v ((whole, false) ∷ later) w e)
       → refused v (rows_of qs (line ++ (bytes ++ 10 ∷ rest))) w e
   refused_ended {v} {w} {e} line bytes whole rest is h k refuses =
       let u = uncut_then 10 qs line bytes h k in
@@ -122,7 +117,7 @@ module _ {V : Type 0} (qs : Bool) (refused : V → List Piece → V → Refusal 
       subst (λ ls. refused v ls w e) (sym ends) (refuses (rows_of qs rest))
 
   -- a row is too long
-  pub refused_long : {v w : V} {e : Refusal} {o o' : Bool} (line bytes rest : List ℕ) → Uncut 10 qs false line o → Uncut 10 qs o bytes o' → 65536 < length line + length bytes
+  pub refused_long : {v w : V} {e : RunError} {o o' : Bool} (line bytes rest : List ℕ) → Uncut 10 qs false line o → Uncut 10 qs o bytes o' → 65536 < length line + length bytes
       → ((p : Piece) → 65536 < length p.0 → (later : List Piece) → refused v (p ∷ later) w e) → refused v (rows_of qs (line ++ (bytes ++ rest))) w e
   refused_long {v} {w} {e} line bytes rest h k full refuses =
       let (p, t, ps, is) = cut_goes_on 10 qs false (line ++ bytes) rest (uncut_then 10 qs line bytes h k).uncut in
@@ -131,20 +126,20 @@ module _ {V : Type 0} (qs : Bool) (refused : V → List Piece → V → Refusal 
       let ends : rows_of qs (line ++ (bytes ++ rest)) ≡ ((line ++ bytes) ++ p, t) ∷ more = ap (rows_of qs) (sym (append_assoc line bytes rest)) ∙ ap without_last_nothing is ∙ kept in
       subst (λ l. refused v l w e) (sym ends) (refuses ((line ++ bytes) ++ p, t) long more)
 
-  pub last_refused : {v w : V} {e : Refusal} {o : Bool} (line whole : List ℕ) → whole ≡ line → 0 < length line → Uncut 10 qs false line o → ((later : List Piece) → refused v ((whole, o) ∷ later) w e) → refused v (rows_of qs line) w e
+  pub last_refused : {v w : V} {e : RunError} {o : Bool} (line whole : List ℕ) → whole ≡ line → 0 < length line → Uncut 10 qs false line o → ((later : List Piece) → refused v ((whole, o) ∷ later) w e) → refused v (rows_of qs line) w e
   last_refused {v} {w} {e} {o} line whole is some h refuses = subst (λ ls. refused v ls w e) (ap (λ l. (l, o) ∷ []) is ∙ sym (row_at_end qs line o some h)) (refuses [])
 
-module _ {V : Type 0} (qs : Bool) (taken : V → List Piece → V → Type 0) (refused : V → List Piece → V → Refusal → Type 0) (then_refused : (u v w : V) (xs ys : List Piece) (e : Refusal) → taken u xs v → refused v ys w e → refused u (xs ++ ys) w e) where
+module _ {V : Type 0} (qs : Bool) (taken : V → List Piece → V → Type 0) (refused : V → List Piece → V → RunError → Type 0) (then_refused : (u v w : V) (xs ys : List Piece) (e : RunError) → taken u xs v → refused v ys w e → refused u (xs ++ ys) w e) where
   -- lines are refused after others were taken
-  pub goes_refused : {u v w : V} {e : Refusal} {line1 bytes1 line2 bytes2 : List ℕ} (rest : List ℕ) → Goes qs taken u line1 bytes1 v line2 bytes2 → refused v (rows_of qs (line2 ++ (bytes2 ++ rest))) w e
+  pub goes_refused : {u v w : V} {e : RunError} {line1 bytes1 line2 bytes2 : List ℕ} (rest : List ℕ) → Goes qs taken u line1 bytes1 v line2 bytes2 → refused v (rows_of qs (line2 ++ (bytes2 ++ rest))) w e
       → refused u (rows_of qs (line1 ++ (bytes1 ++ rest))) w e
   goes_refused {u} {v} {w} {e} {line1} {bytes1} {line2} {bytes2} rest g refuses =
       subst (λ ls. refused u ls w e) (sym (rows_go qs (line1 ++ (bytes1 ++ rest)) (line2 ++ (bytes2 ++ rest)) g.ended (g.rows rest))) (then_refused u v w g.ended (rows_of qs (line2 ++ (bytes2 ++ rest))) e g.takes refuses)
 
-  pub refused_settled : {u v w : V} {e : Refusal} {xs : List Piece} → taken u xs v → refused v [] w e → refused u xs w e
+  pub refused_settled : {u v w : V} {e : RunError} {xs : List Piece} → taken u xs v → refused v [] w e → refused u xs w e
   refused_settled {u} {v} {w} {e} {xs} p q = subst (λ ls. refused u ls w e) (append-nil xs) (then_refused u v w xs [] e p q)
 
-  pub refused_after : {u v w : V} {e : Refusal} {first before front : List ℕ} (bytes line after rest : List ℕ) → Goes qs taken u first front v before bytes → bytes ≡ line ++ 10 ∷ after
+  pub refused_after : {u v w : V} {e : RunError} {first before front : List ℕ} (bytes line after rest : List ℕ) → Goes qs taken u first front v before bytes → bytes ≡ line ++ 10 ∷ after
       → refused v (rows_of qs (before ++ (line ++ 10 ∷ (after ++ rest)))) w e → refused u (rows_of qs (first ++ (front ++ rest))) w e
   refused_after {v = v} {w = w} {e = e} {before = before} bytes line after rest g split refuses =
       let regroup : bytes ++ rest ≡ line ++ 10 ∷ (after ++ rest) = ap (λ l. l ++ rest) split ∙ append_assoc line (10 ∷ after) rest in
@@ -229,7 +224,7 @@ module _ {V : Type 0} (qs : Bool) (taken : V → List Piece → V → Type 0) wh
       }
 
   -- a line is refused after so many bytes more
-  pub took_refused : (refused : V → List Piece → V → Refusal → Type 0) (settled : V → Type 0) → {v w w' : V} {e : Refusal} {line : List ℕ} {o : Bool} {old now : Option (List ℕ)} {limit reads size : ℕ} → Uncut 10 qs false line o → length line ≤ 65536
+  pub took_refused : (refused : V → List Piece → V → RunError → Type 0) (settled : V → Type 0) → {v w w' : V} {e : RunError} {line : List ℕ} {o : Bool} {old now : Option (List ℕ)} {limit reads size : ℕ} → Uncut 10 qs false line o → length line ≤ 65536
       → Took qs taken v w line old now limit reads size → settled w → (now' : Option (List ℕ)) (page : List ℕ) (n : ℕ) → Pulls now now' page n → n ≤ size → 0 < reads
       → ((rest : List ℕ) → refused w (rows_of qs (line ++ (take n page ++ rest))) w' e) → StopsTaking qs taken refused settled v w' e old now' limit size
   took_refused refused settled {v} {w} {w'} {e} {line} {o} {old} {now} {limit} {reads} {size} h begun t settles now' page n p fits some refuses =
@@ -261,7 +256,7 @@ module _ {V : Type 0} (qs : Bool) (taken : V → List Piece → V → Type 0) wh
       }
 
   -- the last line is refused
-  pub took_refused_last : (refused : V → List Piece → V → Refusal → Type 0) (settled : V → Type 0) → {v w w' : V} {e : Refusal} {line : List ℕ} {o : Bool} {old now : Option (List ℕ)} {limit reads size : ℕ} → Uncut 10 qs false line o → length line ≤ 65536
+  pub took_refused_last : (refused : V → List Piece → V → RunError → Type 0) (settled : V → Type 0) → {v w w' : V} {e : RunError} {line : List ℕ} {o : Bool} {old now : Option (List ℕ)} {limit reads size : ℕ} → Uncut 10 qs false line o → length line ≤ 65536
       → Took qs taken v w line old now limit reads size → settled w → (now' : Option (List ℕ)) (page : List ℕ) (n : ℕ) → Pulls now now' page n → n ≡ 0 → 0 < length page → 0 < reads
       → refused w (rows_of qs line) w' e → StopsTaking qs taken refused settled v w' e old now' limit size
   took_refused_last refused settled {v} {w} {w'} {e} {line} {o} {old} {now} {limit} {reads} {size} h begun t settles now' page n p none room some refuses =

@@ -8,8 +8,8 @@ use Rattle.h3_index.specs.declared.error.H3Error.{H3Error}
 use Rattle.h3_index.specs.declared.error.H3Error.TheVariants.{Failed}
 use Rattle.h3_lines.specs.Answer.{Answer, written}
 use Rattle.h3_lines.specs.EachLine.{then_answer}
-use Rattle.h3_lines.specs.declared.refusal.AnswerError.{AnswerError}
-use Rattle.h3_lines.specs.declared.refusal.AnswerError.TheVariants as ending_by
+use Rattle.h3_lines.specs.declared.run_error.AnswerError.{AnswerError}
+use Rattle.h3_lines.specs.declared.run_error.AnswerError.TheVariants as ending_by
 use Rattle.h3_rows.specs.Laws.{IsWholeOrRefused, RowsGiveBack, RowsStand, RowsStandUntil, answered_so, numbered, own_lines, with_own}
 use Rattle.h3_rows.specs.Row.{Piece, cut, next_number, row_body, rows_of, turned, with_first, without_last_nothing}
 use Rattle.h3_rows.specs.RowsAnswer.{Form, State, Step, answer_said, beside, ends, faulty, goes_on, is_malformed, row_said, row_step, row_with, rows_then}
@@ -79,10 +79,6 @@ rows_stand form answer k s (p ∷ ps) known good =
     joined ∙ ap (λ l. l ++ later.output) stands.output ∙ ap (λ l. own_lines form answer k (s.number, p) ++ l) (rest ∙ ap (λ n. flat_map (own_lines form answer k) (numbered n ps)) stands.number)
 
 -- ---- up to the row that ends the answer
-
--- a step that ends the answer writes nothing, if no rows are held back
-ends_silent : (s : State) (e : H3Error) → s.pending ≡ [] → (ends s e).answer.output ≡ []
-ends_silent s e none = none
 
 faulty_silent : (form : Form) (s : State) (line : List ℕ) (e : H3Error) (b : Bool) (by : AnswerError) → form.keeps_going ≡ b → s.pending ≡ [] → (faulty form s line e).answer.ending ≡ Err by → (faulty form s line e).answer.output ≡ []
 faulty_silent form s line e true by goes none bad = absurd (let stops : (let r : Result (Unit {0}) AnswerError = Ok tt in r) ≡ Err by = rw goes at bad in cc)

@@ -5,11 +5,11 @@ use Rattle.std.specs.Io.KnownBytes.{Appends}
 use Rattle.h3_index.specs.declared.error.H3Error.{H3Error}
 use Rattle.h3_index.specs.declared.error.H3Error.TheVariants.{Failed}
 use Rattle.h3_lines.specs.Answer.{Answer, before, written}
-use Rattle.h3_lines.specs.Writing.{SinkUse, Takes}
-use Rattle.h3_lines.specs.declared.refusal.AnswerError.TheVariants.{At}
-use Rattle.h3_lines.specs.declared.refusal.ColumnError.{ColumnError}
-use Rattle.h3_lines.specs.declared.refusal.Refusal.{Refusal}
-use Rattle.h3_lines.specs.declared.refusal.Refusal.TheVariants.{Error}
+use Rattle.h3_lines.specs.Write.{SinkUse, Takes}
+use Rattle.h3_lines.specs.declared.run_error.AnswerError.TheVariants.{At}
+use Rattle.h3_lines.specs.declared.run_error.ColumnError.{ColumnError}
+use Rattle.h3_lines.specs.declared.run_error.RunError.{RunError}
+use Rattle.h3_lines.specs.declared.run_error.RunError.TheVariants.{Error}
 use Rattle.h3_lines.specs.Answering.{Breaks, Moves}
 use Rattle.h3_rows.specs.Answering.{Answered, EndsBy, StepEnds, StepsTo, held_of, pending_of, state_of}
 use Rattle.h3_rows.specs.Row.{Piece, ends_in_return, next_number, row_body}
@@ -22,20 +22,11 @@ pub both_parts : (b : Option ℕ) (bytes : List ℕ) → held_of b bytes ++ pend
 both_parts None bytes = refl
 both_parts (Some k) bytes = append-nil bytes
 
--- what is held back is written, or not, before an error
-pub held_refused : (n : ℕ) (held : List ℕ) (e : H3Error) (sink : SinkUse) → Takes sink held → EndsBy (record { output = held; ending = Err (At n e) }) (Error (At n e)) sink
-held_refused n held e sink takes = (refl, takes)
-
 -- a row ends the answer
-pub refused_ends : (step : Step) (s : RowState) (bytes : List ℕ) (e : H3Error) (r : Refusal) (sink : SinkUse) → step ≡ ends (state_of s bytes) e → EndsBy (record { output = bytes; ending = Err (At s.number e) }) r sink → StepEnds step (held_of s.before bytes) r sink
+pub refused_ends : (step : Step) (s : RowState) (bytes : List ℕ) (e : H3Error) (r : RunError) (sink : SinkUse) → step ≡ ends (state_of s bytes) e → EndsBy (record { output = bytes; ending = Err (At s.number e) }) r sink → StepEnds step (held_of s.before bytes) r sink
 refused_ends step s bytes e r sink is h =
     subst (λ x. StepEnds x (held_of s.before bytes) r sink) (sym is)
     (λ next. subst (λ l. EndsBy (record { output = l; ending = Err (At s.number e) }) r sink) (sym (both_parts s.before bytes)) h)
-
--- the same of a row with an error, where the run does not go on
-pub faulty_ends : (form : Form) (step : Step) (s : RowState) (line bytes : List ℕ) (e : H3Error) (r : Refusal) (sink : SinkUse) → form.keeps_going ≡ false → step ≡ faulty form (state_of s bytes) line e
-    → EndsBy (record { output = bytes; ending = Err (At s.number e) }) r sink → StepEnds step (held_of s.before bytes) r sink
-faulty_ends form step s line bytes e r sink stops is h = refused_ends step s bytes e r sink (is ∙ (rw stops refl)) h
 
 -- ---- after a header
 
@@ -56,13 +47,13 @@ module _ (s a : RowState) (k : ℕ) (known : s.before ≡ Some k) (line bytes : 
       record { text = row_with form.separator line form.empty; is = is ∙ after; moves = rw (b, known) m }
 
 -- bytes of a row's answer that are not all taken
-pub breaks_step : (s : RowState) (k : ℕ) (line text bytes : List ℕ) (step : Step) (e : Refusal) (sink : SinkUse) → s.before ≡ Some k → step ≡ goes_on (state_of s bytes) line text → Breaks (bytes ++ text) sink e → StepEnds step (held_of s.before bytes) e sink
+pub breaks_step : (s : RowState) (k : ℕ) (line text bytes : List ℕ) (step : Step) (e : RunError) (sink : SinkUse) → s.before ≡ Some k → step ≡ goes_on (state_of s bytes) line text → Breaks (bytes ++ text) sink e → StepEnds step (held_of s.before bytes) e sink
 breaks_step s k line text bytes step e sink known is b =
     let held : held_of s.before bytes ≡ bytes = rw known refl in
     subst (λ x. StepEnds x (held_of s.before bytes) e sink) (sym is)
     (λ next. subst (λ l. EndsBy (before l (before text next)) e sink) (sym held) (breaks_ends bytes text next e sink b))
 
-pub breaks_faulty : (form : Form) (s : RowState) (k : ℕ) (line bytes : List ℕ) (error : H3Error) (step : Step) (e : Refusal) (sink : SinkUse) → form.keeps_going ≡ true → s.before ≡ Some k → step ≡ faulty form (state_of s bytes) line error
+pub breaks_faulty : (form : Form) (s : RowState) (k : ℕ) (line bytes : List ℕ) (error : H3Error) (step : Step) (e : RunError) (sink : SinkUse) → form.keeps_going ≡ true → s.before ≡ Some k → step ≡ faulty form (state_of s bytes) line error
     → Breaks (bytes ++ row_with form.separator line form.empty) sink e → StepEnds step (held_of s.before bytes) e sink
 breaks_faulty form s k line bytes error step e sink goes known is b =
     let held : held_of s.before bytes ≡ bytes = rw known refl in
@@ -71,7 +62,7 @@ breaks_faulty form s k line bytes error step e sink goes known is b =
     (λ next. rw goes (subst (λ l. EndsBy (before l (before text next)) e sink) (sym held) (breaks_ends bytes text next e sink b)))
 
 -- a header that is not all taken
-pub breaks_header : (form : Form) (s : RowState) (line bytes : List ℕ) (column : Result ℕ ColumnError) (before' : ℕ) (e : Refusal) (sink : SinkUse) → s.before ≡ None → column ≡ Ok before' → Breaks (bytes ++ row_with form.separator line form.name) sink e
+pub breaks_header : (form : Form) (s : RowState) (line bytes : List ℕ) (column : Result ℕ ColumnError) (before' : ℕ) (e : RunError) (sink : SinkUse) → s.before ≡ None → column ≡ Ok before' → Breaks (bytes ++ row_with form.separator line form.name) sink e
     → StepEnds (header_step form (state_of s bytes) line column) (held_of s.before bytes) e sink
 breaks_header form s line bytes column before' e sink known is b next = rw (known, is) (breaks_ends [] (bytes ++ row_with form.separator line form.name) next e sink b)
 

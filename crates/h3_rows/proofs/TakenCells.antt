@@ -3,11 +3,11 @@ use Rattle.std.proofs.Common.{◌≡◌, ℕ, ◌^◌, ◌⊎◌, Bool, true, fa
 use Rattle.std.specs.Io.KnownBytes.{Consumes}
 use Rattle.std.proofs.KnownBytes.{Consumes-nil}
 use Rattle.h3_index.specs.Cell.{Address}
-use Rattle.h3_index.specs.Stream.{HasLeft}
-use Rattle.h3_lines.specs.declared.refusal.AnswerError.{AnswerError}
-use Rattle.h3_lines.specs.declared.refusal.Fault.TheVariants.{Memory, Read, Write}
-use Rattle.h3_lines.specs.declared.refusal.Refusal.{Refusal}
-use Rattle.h3_lines.specs.declared.refusal.Refusal.TheVariants.{Error, Fault}
+use Rattle.h3_streams.specs.Stream.{HasLeft}
+use Rattle.h3_lines.specs.declared.run_error.AnswerError.{AnswerError}
+use Rattle.h3_lines.specs.declared.run_error.Fault.TheVariants.{Memory, Read, Write}
+use Rattle.h3_lines.specs.declared.run_error.RunError.{RunError}
+use Rattle.h3_lines.specs.declared.run_error.RunError.TheVariants.{Error, Fault}
 use Rattle.h3_rows.specs.Row.{Piece, rows_of}
 use Rattle.h3_rows.specs.RowCells.{AllRowsRead, RefusesRows, RowsReadTo, begun_cells, cells_before, cells_end, cells_of, cells_then}
 use Rattle.h3_rows.specs.RowCellsLaws.{HaveCells, RefusesCells}
@@ -25,16 +25,16 @@ no_error form rows cells m after have = ap (cells_then (λ b. Ok []) form 1 (bef
 all_cells : (form : Form) (rows : List Piece) (cells : List Address) (m : ℕ) (after : Option ℕ) → Begins form rows cells m after → cells_of form rows ≡ cells_before cells (cells_end form.choice after)
 all_cells form rows cells m after have = ap (cells_then (cells_end form.choice) form 1 (before_first form.has_header form.choice)) (sym (append-nil rows)) ∙ have (cells_end form.choice) []
 
-module _ {V : Type 0} (form : V → Form) (number : V → ℕ) (fields : V → Option ℕ) (takes : V → List Piece → V → Type 0) (refused : V → List Piece → V → Refusal → Type 0) (settled : V → Type 0)
+module _ {V : Type 0} (form : V → Form) (number : V → ℕ) (fields : V → Option ℕ) (takes : V → List Piece → V → Type 0) (refused : V → List Piece → V → RunError → Type 0) (settled : V → Type 0)
     (have : (v w : V) (rows : List Piece) → takes v rows w → (cells : List Address) × HaveCells (form v) (number v) (fields v) rows cells (number w) (fields w))
     (same : (v w : V) (rows : List Piece) → takes v rows w → form w ≡ form v)
-    (refuses : (v w : V) (rows : List Piece) (e : Refusal) → refused v rows w e → RefusesCells (form v) (number v) (fields v) rows e) where
+    (refuses : (v w : V) (rows : List Piece) (e : RunError) → refused v rows w e → RefusesCells (form v) (number v) (fields v) rows e) where
   begins : (v w : V) (rows : List Piece) → number v ≡ 1 → fields v ≡ before_first (form v).has_header (form v).choice → takes v rows w → (cells : List Address) × Begins (form v) rows cells (number w) (fields w)
   begins v w rows first start t =
       let (cells, h) = have v w rows t in
       (cells, subst (λ b. HaveCells (form v) 1 b rows cells (number w) (fields w)) start (subst (λ n. HaveCells (form v) n (fields v) rows cells (number w) (fields w)) first h))
 
-  read_to : (v w : V) (e : Refusal) (old new : Option (List ℕ)) → number v ≡ 1 → fields v ≡ before_first (form v).has_header (form v).choice → StopsTaking (form v).quotes takes refused settled v w e old new (2 ^ 40) 65536 → RowsReadTo (form v) 65536 old new
+  read_to : (v w : V) (e : RunError) (old new : Option (List ℕ)) → number v ≡ 1 → fields v ≡ before_first (form v).has_header (form v).choice → StopsTaking (form v).quotes takes refused settled v w e old new (2 ^ 40) 65536 → RowsReadTo (form v) 65536 old new
   read_to v w e old new first start s =
       let (cells, h) = begins v s.mid s.ended first start s.takes in
       record {
@@ -51,7 +51,7 @@ module _ {V : Type 0} (form : V → Form) (number : V → ℕ) (fields : V → O
         good = no_error (form v) s.ended cells (number s.mid) (fields s.mid) h;
       }
 
-  pub stops : (v w : V) (e : Refusal) (old new : Option (List ℕ)) (had has : Bool) → number v ≡ 1 → fields v ≡ before_first (form v).has_header (form v).choice → has ≡ had
+  pub stops : (v w : V) (e : RunError) (old new : Option (List ℕ)) (had has : Bool) → number v ≡ 1 → fields v ≡ before_first (form v).has_header (form v).choice → has ≡ had
       → StopsTaking (form v).quotes takes refused settled v w e old new (2 ^ 40) 65536 → RefusesRows (form v) old new had has e
   unfolding read_to
   stops v w (Error e) old new had has first start sound s =
@@ -84,7 +84,7 @@ module _ {V : Type 0} (form : V → Form) (number : V → ℕ) (fields : V → O
         subst (λ l. (has ≡ true) ⊎ (2 ^ 40 ≤ length (l ++ s.rest))) (sym (append-nil s.part)) s.why,
       )
 
-  pub refused_early : (v w : V) (old new : Option (List ℕ)) (had has : Bool) (e : Refusal) → number v ≡ 1 → fields v ≡ before_first (form v).has_header (form v).choice
+  pub refused_early : (v w : V) (old new : Option (List ℕ)) (had has : Bool) (e : RunError) → number v ≡ 1 → fields v ≡ before_first (form v).has_header (form v).choice
       → ((e ≡ Fault Read) × StopsReading (form v).quotes takes settled v w old new (has ≡ true) (2 ^ 40)) ⊎ (StopsTaking (form v).quotes takes refused settled v w e old new (2 ^ 40) 65536 × (has ≡ had)) → RefusesRows (form v) old new had has e
   refused_early v w old new had has e first start (inr (s, kept)) = stops v w e old new had has first start kept s
   refused_early v w old new had has (Fault Read) first start (inl (is, s)) = read_fails v w old new had has first start s
@@ -119,7 +119,7 @@ no_memory form old had =
     (refl, record { part = []; last = []; rest = rest; held = held; told = Consumes-nil old; short = omega arith; ended = []; unended = ([], false); rows = refl; cells = []; good = refl })
 
 -- the same of what the source is then
-pub refused_at : {R : Type 0} (left : R → Option (List ℕ)) (failed : R → Bool) (after x : R) (form : Form) (old : Option (List ℕ)) (had : Bool) (e : Refusal) → x ≡ after
+pub refused_at : {R : Type 0} (left : R → Option (List ℕ)) (failed : R → Bool) (after x : R) (form : Form) (old : Option (List ℕ)) (had : Bool) (e : RunError) → x ≡ after
     → RefusesRows form old (left after) had (failed after) e → RefusesRows form old (left x) had (failed x) e
 refused_at left failed after x form old had e is r = subst (λ s. RefusesRows form old (left s) had (failed s) e) (sym is) r
 

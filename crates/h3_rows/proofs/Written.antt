@@ -3,11 +3,11 @@ use Rattle.std.proofs.Common.{◌≡◌, ℕ, Bool, List, [], ◌∷◌, ◌++�
 use Rattle.std.proofs.KnownBytes.{Appends-nil, Appends-trans}
 use Rattle.std.specs.Io.KnownBytes.{Appends}
 use Rattle.h3_lines.specs.Answer.{Answer, before, written}
-use Rattle.h3_lines.specs.Writing.{AppendsPart, IsErrorAlone, SinkUse, Takes, TakesPart, Writes, sink_use}
-use Rattle.h3_lines.specs.declared.refusal.AnswerError.{AnswerError}
-use Rattle.h3_lines.specs.declared.refusal.Fault.TheVariants.{Memory, Read, Write}
-use Rattle.h3_lines.specs.declared.refusal.Refusal.{Refusal}
-use Rattle.h3_lines.specs.declared.refusal.Refusal.TheVariants.{Error, Fault}
+use Rattle.h3_lines.specs.Write.{AppendsPart, IsErrorAlone, SinkUse, Takes, TakesPart, Writes, sink_use}
+use Rattle.h3_lines.specs.declared.run_error.AnswerError.{AnswerError}
+use Rattle.h3_lines.specs.declared.run_error.Fault.TheVariants.{Memory, Read, Write}
+use Rattle.h3_lines.specs.declared.run_error.RunError.{RunError}
+use Rattle.h3_lines.specs.declared.run_error.RunError.TheVariants.{Error, Fault}
 
 -- ---- `Writes`, by how a run ends
 
@@ -23,23 +23,6 @@ nothing_whole taken failed s bytes none = rw none (refl, (Appends-nil (taken s),
 pub nothing_refused : {S : Type 0} (taken : S → Option (List ℕ)) (failed : S → Bool) (s : S) (e : AnswerError) → Writes (record { output = []; ending = Err e }) (Err (Error e)) (sink_use taken failed s s)
 unfolding Writes
 nothing_refused taken failed s e = (refl, (Appends-nil (taken s), refl))
-
--- an answer that is written to its end has no error
-whole_is_no_error : (bytes : List ℕ) → IsErrorAlone (written bytes) → ⊥
-whole_is_no_error bytes r = let never : IsErr (written bytes).ending = r.1 in cc
-
-whole_has_no_error : (bytes : List ℕ) (e : AnswerError) → (written bytes).ending ≡ Err e → ⊥
-whole_has_no_error bytes e is = cc
-
--- a push failed
-pub writes_part : (bytes : List ℕ) (out : SinkUse) → AppendsPart out.before out.after bytes → out.has_failed ≡ true → Writes (written bytes) (Err (Fault Write)) out
-unfolding Writes
-writes_part bytes out p failed = (whole_is_no_error bytes, (inl p, failed))
-
--- all was pushed, and the flush then failed
-pub writes_unflushed : (bytes : List ℕ) (out : SinkUse) → out.may_have_taken bytes → out.has_failed ≡ true → Writes (written bytes) (Err (Fault Write)) out
-unfolding Writes
-writes_unflushed bytes out whole failed = (whole_is_no_error bytes, (inr whole, failed))
 
 -- ---- `Writes` of an answer by parts of it
 
@@ -63,7 +46,7 @@ module _ {S : Type 0} (taken : S → Option (List ℕ)) (failed : S → Bool) (f
       (inr (whole, Appends-trans (taken first) (taken mid) (taken whole) done bytes grown more, sound ∙ same, kept), fault)
 
   -- an answer that is written after bytes that were
-  pub writes_after : (a : Answer) (done : List ℕ) (ending : Result (Unit {0}) Refusal) → Appends (taken first) (taken mid) done → failed mid ≡ failed first
+  pub writes_after : (a : Answer) (done : List ℕ) (ending : Result (Unit {0}) RunError) → Appends (taken first) (taken mid) done → failed mid ≡ failed first
       → Writes a ending (sink_use taken failed mid last) → Writes (before done a) ending (sink_use taken failed first last)
   unfolding Writes
   writes_after a done (Ok u) grown same w = (w.0, (Appends-trans (taken first) (taken mid) (taken last) done a.output grown w.1.0, w.1.1 ∙ same))

@@ -5,10 +5,10 @@ use Rattle.std.specs.Io.KnownBytes.{Appends}
 use Rattle.h3_lines.specs.Answer.{Answer, before, written}
 use Rattle.h3_lines.specs.Answering.{Breaks, Moves, TakesSome}
 use Rattle.h3_lines.specs.EachLine.{then_answer}
-use Rattle.h3_lines.specs.Writing.{SinkUse, Takes}
-use Rattle.h3_lines.specs.declared.refusal.Fault.TheVariants.{Memory, Read, Write}
-use Rattle.h3_lines.specs.declared.refusal.Refusal.{Refusal}
-use Rattle.h3_lines.specs.declared.refusal.Refusal.TheVariants.{Error, Fault}
+use Rattle.h3_lines.specs.Write.{SinkUse, Takes}
+use Rattle.h3_lines.specs.declared.run_error.Fault.TheVariants.{Memory, Read, Write}
+use Rattle.h3_lines.specs.declared.run_error.RunError.{RunError}
+use Rattle.h3_lines.specs.declared.run_error.RunError.TheVariants.{Error, Fault}
 use Rattle.h3_rows.specs.Row.{Piece, cut}
 use Rattle.h3_rows.specs.Plain.{is_plain}
 use Rattle.h3_rows.specs.RowsAnswer.{Form, State, Step, goes_on, row_step, rows_with}
@@ -59,14 +59,14 @@ module _ {S : Type 0} (taken : S → Option (List ℕ)) (failed : S → Bool) wh
     pub sound : failed new ≡ failed old
 
 -- an answer ends by its error, all before it taken, or by a write that fails
-abbrev pub EndsBy : Answer → Refusal → SinkUse → Type 0
+abbrev pub EndsBy : Answer → RunError → SinkUse → Type 0
 EndsBy a (Error e) out = (a.ending ≡ Err e) × Takes out a.output
 EndsBy a (Fault Write) out = (0 < length a.output) × TakesSome out a.output
 EndsBy a (Fault Read) out = ⊥
 EndsBy a (Fault Memory) out = ⊥
 
 -- these bytes and the answer to these rows, in this state, end so, whatever is last
-abbrev pub RefusesEach : ((State → Answer) → State → List Piece → Answer) → State → List ℕ → List Piece → Refusal → SinkUse → Type 0
+abbrev pub RefusesEach : ((State → Answer) → State → List Piece → Answer) → State → List ℕ → List Piece → RunError → SinkUse → Type 0
 RefusesEach answer s held rows e out = (last : State → Answer) → EndsBy (before held (answer last s rows)) e out
 
 -- a row is answered by bytes alone, which are put after what is held back, and the state after it is this
@@ -76,7 +76,7 @@ pub record StepsTo {S : Type 0} (taken : S → Option (List ℕ)) (failed : S �
   pub moves : Moves taken failed (held ++ text) held' s t
 
 -- a row ends the answer so, or a write fails, whatever comes after the row
-abbrev pub StepEnds : Step → List ℕ → Refusal → SinkUse → Type 0
+abbrev pub StepEnds : Step → List ℕ → RunError → SinkUse → Type 0
 StepEnds step held e out = (next : Answer) → EndsBy (before held (then_answer step.answer.output step.answer.ending next)) e out
 
 -- the bytes begin with a plain row of so many bytes, and its answer, bytes alone, is put after what is held back
@@ -99,7 +99,7 @@ pub record PutsBeside {S : Type 0} (taken : S → Option (List ℕ)) (failed : S
   pub moves : Moves taken failed (held ++ rows_with separator line text) held' s t
 
 -- the same, and a write fails
-pub record BreaksBeside (answer : Answer) (separator : ℕ) (line held : List ℕ) (sink : SinkUse) (e : Refusal) : Type 0 where
+pub record BreaksBeside (answer : Answer) (separator : ℕ) (line held : List ℕ) (sink : SinkUse) (e : RunError) : Type 0 where
   pub text : List ℕ
   pub is : answer ≡ written text
   pub breaks : Breaks (held ++ rows_with separator line text) sink e
@@ -111,7 +111,7 @@ pub record PutsCell {S : Type 0} (taken : S → Option (List ℕ)) (failed : S �
   pub moves : Moves taken failed (held ++ text) held' s t
 
 -- the same, and a write fails
-pub record BreaksCell (step : State → Step) (line held : List ℕ) (sink : SinkUse) (e : Refusal) : Type 0 where
+pub record BreaksCell (step : State → Step) (line held : List ℕ) (sink : SinkUse) (e : RunError) : Type 0 where
   pub text : List ℕ
   pub is : (state : State) → step state ≡ goes_on state line text
   pub breaks : Breaks (held ++ text) sink e

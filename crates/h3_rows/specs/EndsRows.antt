@@ -1,14 +1,14 @@
 -- How the answering of a list ends, row by row.
 use Rattle.std.specs.Prelude.{◌≡◌, ℕ, ◌*◌, ◌^◌, ◌≤◌, ◌⊎◌, Bool, true, List, [], ◌∷◌, ◌++◌, length, Option, Result, Ok, Err}
 use Rattle.std.specs.Io.KnownBytes.{Consumes, Keeps}
-use Rattle.h3_index.specs.Stream.{HasLeft}
+use Rattle.h3_streams.specs.Stream.{HasLeft}
 use Rattle.h3_lines.specs.Answer.{Answer}
 use Rattle.h3_lines.specs.EachLine.{TakesBeginning}
 use Rattle.h3_lines.specs.Reads.{IsWithinReads}
-use Rattle.h3_lines.specs.Writing.{IsLeft, SinkUse, Writes}
-use Rattle.h3_lines.specs.declared.refusal.Fault.TheVariants.{Memory, Read, Write}
-use Rattle.h3_lines.specs.declared.refusal.Refusal.{Refusal}
-use Rattle.h3_lines.specs.declared.refusal.Refusal.TheVariants.{Error, Fault}
+use Rattle.h3_lines.specs.Write.{IsLeft, SinkUse, Writes}
+use Rattle.h3_lines.specs.declared.run_error.Fault.TheVariants.{Memory, Read, Write}
+use Rattle.h3_lines.specs.declared.run_error.RunError.{RunError}
+use Rattle.h3_lines.specs.declared.run_error.RunError.TheVariants.{Error, Fault}
 use Rattle.h3_rows.specs.Row.{Piece, pieces_of, rows_of}
 
 -- What is answered to the rows of a list, `whole`, and to the first rows of one of which more may come, `begun`: by
@@ -18,7 +18,7 @@ use Rattle.h3_rows.specs.Row.{Piece, pieces_of, rows_of}
 --
 -- there are bytes of the list, those left in the source where they are known; all of them are read, in reads that may be
 -- made, and the answer is written
-pub record AnswersAll (quotes : Bool) (whole : List Piece → Answer) (old new : Option (List ℕ)) (ending : Result (Unit {0}) Refusal) (out : SinkUse) : Type 0 where
+pub record AnswersAll (quotes : Bool) (whole : List Piece → Answer) (old new : Option (List ℕ)) (ending : Result (Unit {0}) RunError) (out : SinkUse) : Type 0 where
   pub list : List ℕ
   pub held : HasLeft old list
   pub told : Consumes old new list
@@ -70,7 +70,7 @@ answer_at {quotes} whole s = whole (rows_of quotes (s.part ++ s.last ++ s.rest))
 -- How the answering of a list ends that is read from a source with the bytes old left, and new after it. Where a row ends
 -- the answer or a write fails, nothing is read beyond the page. An error may also come at the end of the list, as the first
 -- one of a run that went on.
-abbrev pub EndsRows : Bool → (List Piece → Answer) → (List Piece → Answer) → Option (List ℕ) → Option (List ℕ) → Bool → Bool → Result (Unit {0}) Refusal → SinkUse → Type 0
+abbrev pub EndsRows : Bool → (List Piece → Answer) → (List Piece → Answer) → Option (List ℕ) → Option (List ℕ) → Bool → Bool → Result (Unit {0}) RunError → SinkUse → Type 0
 EndsRows quotes whole begun old new had has (Ok u) out = (has ≡ had) × AnswersAll quotes whole old new (Ok u) out
 EndsRows quotes whole begun old new had has (Err (Error e)) out =
     (has ≡ had) × (AnswersAll quotes whole old new (Err (Error e)) out ⊎ ((stop : StopsInPage quotes begun old new) × Writes (answer_at whole stop) (Err (Error e)) out))

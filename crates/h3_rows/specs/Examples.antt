@@ -3,8 +3,8 @@ use Rattle.std.specs.Prelude.{map, ◌≡◌, ℕ, Bool, true, false, List, [], 
 use Rattle.h3_index.specs.Text.{parsed_index}
 use Rattle.h3_index.specs.declared.error.H3Error.TheVariants.{Failed}
 use Rattle.h3_lines.specs.Answer.{Answer, refused, written}
-use Rattle.h3_lines.specs.declared.refusal.AnswerError.TheVariants.{At, AtAndMore, Column}
-use Rattle.h3_lines.specs.declared.refusal.ColumnError.TheVariants.{NotFound, NotUnique}
+use Rattle.h3_lines.specs.declared.run_error.AnswerError.TheVariants.{At, AtAndMore, Column}
+use Rattle.h3_lines.specs.declared.run_error.ColumnError.TheVariants.{NotFound, NotUnique}
 use Rattle.h3_rows.specs.RowsAnswer.{After, Form, Named, column_of, empty_answer, list_answer, pair_names}
 
 -- a function that answers any index by a word, and refuses a text that is none

@@ -2,18 +2,18 @@
 use Rattle.std.specs.Prelude.{◌≡◌, ℕ, ◌^◌, ◌≤◌, ◌==◌, ◌⊎◌, Bool, true, List, [], ◌∷◌, ◌++◌, length, Option, None, Some, Result, Ok, Err, if◌then◌else◌}
 use Rattle.std.specs.Io.KnownBytes.{Consumes}
 use Rattle.h3_index.specs.Cell.{Address}
-use Rattle.h3_index.specs.Stream.{HasLeft}
+use Rattle.h3_streams.specs.Stream.{HasLeft}
 use Rattle.h3_index.specs.declared.error.H3Error.{H3Error}
 use Rattle.h3_index.specs.declared.error.H3Error.TheVariants.{Failed}
 use Rattle.h3_lines.specs.List.{said_by_index}
 use Rattle.h3_lines.specs.Reads.{IsWithinReads}
-use Rattle.h3_lines.specs.declared.refusal.AnswerError.{AnswerError}
-use Rattle.h3_lines.specs.declared.refusal.AnswerError.TheVariants as ending_by
-use Rattle.h3_lines.specs.declared.refusal.ColumnError.{ColumnError}
-use Rattle.h3_lines.specs.declared.refusal.ColumnError.TheVariants.{NotFound}
-use Rattle.h3_lines.specs.declared.refusal.Fault.TheVariants.{Memory, Read, Write}
-use Rattle.h3_lines.specs.declared.refusal.Refusal.{Refusal}
-use Rattle.h3_lines.specs.declared.refusal.Refusal.TheVariants.{Error, Fault}
+use Rattle.h3_lines.specs.declared.run_error.AnswerError.{AnswerError}
+use Rattle.h3_lines.specs.declared.run_error.AnswerError.TheVariants as ending_by
+use Rattle.h3_lines.specs.declared.run_error.ColumnError.{ColumnError}
+use Rattle.h3_lines.specs.declared.run_error.ColumnError.TheVariants.{NotFound}
+use Rattle.h3_lines.specs.declared.run_error.Fault.TheVariants.{Memory, Read, Write}
+use Rattle.h3_lines.specs.declared.run_error.RunError.{RunError}
+use Rattle.h3_lines.specs.declared.run_error.RunError.TheVariants.{Error, Fault}
 use Rattle.h3_rows.specs.Row.{Piece, next_number, pieces_of, read_of, row_body, rows_of}
 use Rattle.h3_rows.specs.RowsAnswer.{After, Choice, Form, Named, before_first, chosen_in, is_malformed, row_said}
 use Rattle.h3_rows.specs.declared.said.Said.{Said}
@@ -117,7 +117,7 @@ pub record RowsReadTo (form : Form) (most : ℕ) (old new : Option (List ℕ)) :
 
 -- RefusesRows: how the reading of the cells of rows is refused: by the list's own error, with at most a page read beyond
 -- rows without one; for want of memory; or by a read that fails, or the last one that may be made
-abbrev pub RefusesRows : Form → Option (List ℕ) → Option (List ℕ) → Bool → Bool → Refusal → Type 0
+abbrev pub RefusesRows : Form → Option (List ℕ) → Option (List ℕ) → Bool → Bool → RunError → Type 0
 RefusesRows form old new had has (Error e) =
     (has ≡ had) × (AllRowsRead form (Err e) old new ⊎ ((stop : RowsReadTo form 65536 old new) × (cells_of form (rows_of form.quotes (stop.part ++ stop.last ++ stop.rest)) ≡ Err e)))
 RefusesRows form old new had has (Fault Memory) = (has ≡ had) × RowsReadTo form 65536 old new

@@ -8,10 +8,10 @@ use Rattle.h3_requests.specs.declared.rows.CellField.{CellField}
 use Rattle.h3_requests.specs.declared.rows.CellField.TheVariants.{Number, Column}
 use Rattle.h3_lines.specs.Answer.{Answer, written}
 use Rattle.h3_lines.specs.EachLine.{then_answer}
-use Rattle.h3_lines.specs.declared.refusal.AnswerError.{AnswerError}
-use Rattle.h3_lines.specs.declared.refusal.AnswerError.TheVariants as ending_by
-use Rattle.h3_lines.specs.declared.refusal.ColumnError.{ColumnError}
-use Rattle.h3_lines.specs.declared.refusal.ColumnError.TheVariants.{NotFound, NotUnique}
+use Rattle.h3_lines.specs.declared.run_error.AnswerError.{AnswerError}
+use Rattle.h3_lines.specs.declared.run_error.AnswerError.TheVariants as ending_by
+use Rattle.h3_lines.specs.declared.run_error.ColumnError.{ColumnError}
+use Rattle.h3_lines.specs.declared.run_error.ColumnError.TheVariants.{NotFound, NotUnique}
 use Rattle.h3_rows.specs.Row.{Piece, cut, field_text, next_number, piece_at, quotes_are_sound, read_of, row_body, row_ending, rows_of}
 use Rattle.h3_rows.specs.declared.state.Kept.{Kept}
 use Rattle.h3_rows.specs.declared.said.Said.{Said}

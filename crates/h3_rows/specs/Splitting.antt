@@ -2,9 +2,9 @@
 -- cite this file.
 use Rattle.std.specs.Prelude.{◌≡◌, ℕ, ◌≤◌, ◌*◌, ◌⊎◌, Bool, true, false, List, [], ◌∷◌, ◌++◌, length, Option}
 use Rattle.std.specs.Io.KnownBytes.{Consumes}
-use Rattle.h3_index.specs.Stream.{HasLeft}
+use Rattle.h3_streams.specs.Stream.{HasLeft}
 use Rattle.h3_lines.specs.Reads.{IsWithinReads}
-use Rattle.h3_lines.specs.declared.refusal.Refusal.{Refusal}
+use Rattle.h3_lines.specs.declared.run_error.RunError.{RunError}
 use Rattle.h3_rows.specs.Row.{Piece, is_uncut, inside_after, pieces_of, rows_of}
 
 -- no mark cuts the bytes, and this is whether the place after them is inside
@@ -56,7 +56,7 @@ pub record StopsReading {V : Type 0} (q : Bool) (taken : V → List Piece → V 
   pub settles : settled w
 
 -- the rows of the bytes are these, and others that are refused from the one moment to the other
-pub record RefusesAfter {V : Type 0} (q : Bool) (refused : V → List Piece → V → Refusal → Type 0) (v w : V) (e : Refusal) (ended : List Piece) (bytes : List ℕ) : Type 0 where
+pub record RefusesAfter {V : Type 0} (q : Bool) (refused : V → List Piece → V → RunError → Type 0) (v w : V) (e : RunError) (ended : List Piece) (bytes : List ℕ) : Type 0 where
   pub later : List Piece
   pub rows : rows_of q bytes ≡ ended ++ later
   pub refuses : refused v later w e
@@ -64,7 +64,7 @@ pub record RefusesAfter {V : Type 0} (q : Bool) (refused : V → List Piece → 
 -- A row was refused, or a write failed. The source had these bytes, of which a part was read, and then a page more at
 -- most; the rows that end in that part were taken, and of the others one was refused. So many reads of such a page can
 -- find the end of the bytes, or it is refused whatever bytes come after those that were read.
-pub record StopsTaking {V : Type 0} (q : Bool) (taken : V → List Piece → V → Type 0) (refused : V → List Piece → V → Refusal → Type 0) (settled : V → Type 0) (v w : V) (e : Refusal)
+pub record StopsTaking {V : Type 0} (q : Bool) (taken : V → List Piece → V → Type 0) (refused : V → List Piece → V → RunError → Type 0) (settled : V → Type 0) (v w : V) (e : RunError)
     (old new : Option (List ℕ)) (reads page : ℕ) : Type 0 where
   pub part : List ℕ
   pub last : List ℕ

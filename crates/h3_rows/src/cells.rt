@@ -15,9 +15,10 @@ use crate::reading::{is_malformed, read_row};
 use crate::said::Said;
 use crate::splitting::{RowStart, RowTaker, take_rows};
 use crate::state::{RowState, first_state};
-use h3_index::{Cell, CountedReader, H3Error, Source};
-use h3_lines::{AnswerError, CellTaker, ColumnError, Fault, PAGE, READS, Refusal};
+use h3_index::{Cell, H3Error};
+use h3_lines::{AnswerError, CellTaker, ColumnError, Fault, MAX_READS, PAGE, RunError};
 use h3_requests::{CellField, RowOptions};
+use h3_streams::{CountedReader, Source};
 use std::alloc::Global;
 
 /// The cell of a row, `None` if it is missing.
@@ -99,7 +100,7 @@ impl<'f, V: CellTaker> RowTaker for RowCells<'f, V> {
     ghost refused = { λ v rows w e.
         RefusesCells (form_of v.options.now []) v.state.number v.state.before rows e };
 
-    fn take(&mut self, row: &[u8], inside: bool) -> Result<(), Refusal> {
+    fn take(&mut self, row: &[u8], inside: bool) -> Result<(), RunError> {
         match find_cell(self.options, self.state, row, inside) {
             Ok((None, state)) => {
                 self.state = state;
@@ -109,15 +110,15 @@ impl<'f, V: CellTaker> RowTaker for RowCells<'f, V> {
                 self.state = state;
                 self.taker.take(cell, &[])
             }
-            Err(error) => Err(Refusal::Error(error)),
+            Err(error) => Err(RunError::Error(error)),
         }
     }
 
-    fn refuse_long(&mut self) -> Refusal {
-        Refusal::Error(AnswerError::At(self.state.number, H3Error::Failed))
+    fn refuse_long(&mut self) -> RunError {
+        RunError::Error(AnswerError::At(self.state.number, H3Error::Failed))
     }
 
-    fn settle(&mut self) -> Result<(), Refusal> {
+    fn settle(&mut self) -> Result<(), RunError> {
         Ok(())
     }
 
@@ -155,7 +156,7 @@ fn take_pages<V: CellTaker + Drop, R: Source>(
     input: &mut R,
     begun: RowStart,
     page: &mut [u8],
-) -> Result<V, Refusal>
+) -> Result<V, RunError>
     requires first { V.count taker ≡ 0 }
     requires begun { begun.held ≡ 0 }
     requires quotes { begun.quotes ≡ options.now.quotes }
@@ -172,7 +173,7 @@ fn take_pages<V: CellTaker + Drop, R: Source>(
         options,
         state: first_state(options),
     };
-    let mut reader = CountedReader::new(&mut *input, READS);
+    let mut reader = CountedReader::new(&mut *input, MAX_READS);
     let reading = take_rows(&mut rows, &mut reader, begun, page);
     // The proof reads what the source is after the reads from this use of it.
     let _ = &*input;
@@ -186,7 +187,7 @@ fn take_pages<V: CellTaker + Drop, R: Source>(
             } = rows;
             Ok(taker)
         }
-        Err(error) => Err(Refusal::Error(error)),
+        Err(error) => Err(RunError::Error(error)),
     }
 }
 
@@ -202,7 +203,7 @@ pub fn take_row_cells<V: CellTaker + Drop, R: Source>(
     taker: V,
     options: &RowOptions,
     input: &mut R,
-) -> Result<V, Refusal>
+) -> Result<V, RunError>
     requires { V.count taker ≡ 0 }
     ensures taken { IfOk result (λ after. (cells : List Address)
         × AllRowsRead (form_of options.now []) (Ok cells) (R.left input.old) (R.left input.new)
@@ -212,6 +213,6 @@ pub fn take_row_cells<V: CellTaker + Drop, R: Source>(
         (R.left input.old) (R.left input.new) (R.has_failed input.old) (R.has_failed input.new) e) }
 {
     let begun = RowStart::new(alloc, options.quotes)?;
-    let mut page = vec![in alloc; 0u8; PAGE].map_err(|_| Refusal::Fault(Fault::Memory))?;
+    let mut page = vec![in alloc; 0u8; PAGE].map_err(|_| RunError::Fault(Fault::Memory))?;
     take_pages(taker, options, input, begun, &mut page)
 }

@@ -3,10 +3,10 @@
 ghost use Rattle.std.proofs.Common.{◌∙◌, refl};
 ghost use Rattle.std.specs.Prelude.{◌≡◌, ◌+◌, ◌<◌, ◌≤◌, ◌++◌, ◌∷◌, ◌^◌, [], ℕ, List, length, Option, None, Some, Err, option_map, string_bytes, take, IfOk, IfErr, IfNone, IfSome, OnOk};
 ghost use Rattle.h3_lines.specs.Answer.{Answer, written};
-ghost use Rattle.h3_lines.specs.Writing.{Takes, Writes, sink_use};
+ghost use Rattle.h3_lines.specs.Write.{Takes, Writes, sink_use};
 ghost use Rattle.h3_lines.specs.declared.line.TheConstants.{BLOCK};
-ghost use Rattle.h3_lines.specs.declared.refusal.AnswerError.TheVariants.{At};
-ghost use Rattle.h3_lines.specs.declared.refusal.Refusal.{Refusal};
+ghost use Rattle.h3_lines.specs.declared.run_error.AnswerError.TheVariants.{At};
+ghost use Rattle.h3_lines.specs.declared.run_error.RunError.{RunError};
 ghost use Rattle.h3_lines.specs.Answering.{Breaks, Moves};
 ghost use Rattle.h3_rows.specs.Answering.{Answered, BreaksCell, EndsBy, PutsCell, PutsPlain, RefusesEach, StepEnds, StepsTo, held_of, state_of};
 ghost use Rattle.h3_rows.specs.EachLaws.{answered_none, answered_then, refuses_then};
@@ -25,12 +25,13 @@ use crate::said::Said;
 use crate::splitting::{RowStart, RowTaker, take_rows};
 use crate::state::{RowState, first_state};
 use crate::write::{put_bytes, put_row};
-use h3_index::{CountedReader, H3Error, Sink, Source, read_plain};
+use h3_index::{H3Error, read_plain};
 use h3_lines::{
-    ANSWER, AnswerError, BLOCK, ColumnError, Fault, IndexFunction, PAGE, READS, Refusal,
+    ANSWER, AnswerError, AnswerLine, BLOCK, ColumnError, Fault, MAX_READS, PAGE, RunError,
     write_answer,
 };
 use h3_requests::{CellField, RowOptions};
+use h3_streams::{CountedReader, Sink, Source};
 use std::alloc::Global;
 
 /// How rows are answered: in which form, and by which function.
@@ -43,7 +44,7 @@ struct RowJob<'f, F> {
 }
 
 /// Writes the bytes and flushes, if there are any.
-fn write_held<W: Sink>(out: &mut W, bytes: &[u8]) -> Result<(), Refusal>
+fn write_held<W: Sink>(out: &mut W, bytes: &[u8]) -> Result<(), RunError>
     ensures whole { Writes (written bytes.now) result
         (sink_use W.taken W.has_failed out.old out.new) }
     ensures ok { OnOk result (Takes (sink_use W.taken W.has_failed out.old out.new) bytes.now) }
@@ -58,12 +59,12 @@ fn write_held<W: Sink>(out: &mut W, bytes: &[u8]) -> Result<(), Refusal>
 
 /// Writes what is held back, and refuses the row with this number.
 #[cold]
-fn refuse<W: Sink>(out: &mut W, held: &[u8], number: u64, error: H3Error) -> Refusal
+fn refuse<W: Sink>(out: &mut W, held: &[u8], number: u64, error: H3Error) -> RunError
     ensures { EndsBy (record { output = held.now; ending = Err (At number error) })
         result (sink_use W.taken W.has_failed out.old out.new) }
 {
     match write_held(out, held) {
-        Ok(()) => Refusal::Error(AnswerError::At(number, error)),
+        Ok(()) => RunError::Error(AnswerError::At(number, error)),
         Err(fault) => fault,
     }
 }
@@ -89,7 +90,7 @@ fn put_empty<W: Sink>(
     end: usize,
     state: RowState,
     row: &[u8],
-) -> Result<(usize, RowState), Refusal>
+) -> Result<(usize, RowState), RunError>
     requires within { end ≤ BLOCK }
     requires few { state.number + length row.now < 2 ^ 63 }
     ensures within { IfOk result (λ r. r.0 ≤ BLOCK) }
@@ -121,7 +122,7 @@ fn put_pair_names<W: Sink>(
     end: usize,
     options: &RowOptions,
     row: &[u8],
-) -> Result<usize, Refusal>
+) -> Result<usize, RunError>
     requires { end ≤ BLOCK }
     ensures within { IfOk result (λ last. last ≤ BLOCK) }
     ensures ok { IfOk result (λ last. Moves W.taken W.has_failed
@@ -147,7 +148,7 @@ fn put_named<'f, W: Sink, F>(
     end: usize,
     job: &RowJob<'f, F>,
     row: &[u8],
-) -> Result<usize, Refusal>
+) -> Result<usize, RunError>
     requires { end ≤ BLOCK }
     ensures within { IfOk result (λ last. last ≤ BLOCK) }
     ensures ok { IfOk result (λ last. Moves W.taken W.has_failed
@@ -190,7 +191,7 @@ fn put_unanswered<'f, W: Sink, F>(
     end: usize,
     job: &RowJob<'f, F>,
     row: &[u8],
-) -> Result<usize, Refusal>
+) -> Result<usize, RunError>
     requires { end ≤ BLOCK }
     ensures within { IfOk result (λ last. last ≤ BLOCK) }
     ensures ok { IfOk result (λ last. Moves W.taken W.has_failed
@@ -224,7 +225,7 @@ fn put_header<'f, W: Sink, F>(
     job: &RowJob<'f, F>,
     state: RowState,
     row: &[u8],
-) -> Result<(usize, RowState), Refusal>
+) -> Result<(usize, RowState), RunError>
     requires within { end ≤ BLOCK }
     requires awaited { state.before ≡ None }
     requires few { state.number + length row.now < 2 ^ 63 }
@@ -250,7 +251,7 @@ fn put_header<'f, W: Sink, F>(
     let read = read_of(state.number, row_body(row));
     let before = match chosen_field(job.options, job.name, read) {
         Ok(before) => before,
-        Err(error) => return Err(Refusal::Error(AnswerError::Column(error))),
+        Err(error) => return Err(RunError::Error(AnswerError::Column(error))),
     };
     let last = put_named(out, block, end, job, row)?;
     Ok((last, state.headed(row, before)))
@@ -266,7 +267,7 @@ fn answer_cell<'f, W: Sink, F: RowFunction>(
     number: u64,
     before: usize,
     row: &[u8],
-) -> Result<Result<usize, H3Error>, Refusal>
+) -> Result<Result<usize, H3Error>, RunError>
     requires { end ≤ BLOCK }
     ensures within { IfOk result (λ o. IfOk o (λ last. last ≤ BLOCK)) }
     ensures ok { IfOk result (λ o. IfOk o (λ last. PutsCell W.taken W.has_failed
@@ -316,7 +317,7 @@ fn put_cell<'f, W: Sink, F: RowFunction>(
     state: RowState,
     before: usize,
     row: &[u8],
-) -> Result<(usize, RowState), Refusal>
+) -> Result<(usize, RowState), RunError>
     requires within { end ≤ BLOCK }
     requires known { state.before ≡ Some before }
     requires few { state.number + length row.now < 2 ^ 63 }
@@ -359,7 +360,7 @@ fn put_answer<'f, W: Sink, F: RowFunction>(
     state: RowState,
     row: &[u8],
     inside: bool,
-) -> Result<(usize, RowState), Refusal>
+) -> Result<(usize, RowState), RunError>
     requires within { end ≤ BLOCK }
     requires few { state.number + length row.now < 2 ^ 63 }
     ensures within { IfOk result (λ r. r.0 ≤ BLOCK) }
@@ -436,7 +437,7 @@ fn end_answer<W: Sink>(
     held: &[u8],
     options: &RowOptions,
     state: RowState,
-) -> Result<(), Refusal>
+) -> Result<(), RunError>
     ensures { Writes (end_of (choice_of options.now.field) (state_of state held.now) state.before)
         result (sink_use W.taken W.has_failed out.old out.new) }
 {
@@ -445,12 +446,12 @@ fn end_answer<W: Sink>(
             None => Ok(()),
             Some(kept) => {
                 let error = AnswerError::AtAndMore(kept.number, kept.error, kept.more);
-                Err(Refusal::Error(error))
+                Err(RunError::Error(error))
             }
         },
         (None, CellField::Number(_)) => write_held(out, held),
         (None, CellField::Column(_)) => {
-            Err(Refusal::Error(AnswerError::Column(ColumnError::NotFound)))
+            Err(RunError::Error(AnswerError::Column(ColumnError::NotFound)))
         }
     }
 }
@@ -491,7 +492,7 @@ impl<'a, 'f, W: Sink, F: RowFunction> RowTaker for RowAnswers<'a, 'f, W, F> {
         rows e (sink_use W.taken W.has_failed v.out.now w.out.now)
         × (w.out.ghost_name ≡ v.out.ghost_name) };
 
-    fn take(&mut self, row: &[u8], inside: bool) -> Result<(), Refusal> {
+    fn take(&mut self, row: &[u8], inside: bool) -> Result<(), RunError> {
         let (end, state) = put_answer(
             self.out,
             &mut self.block,
@@ -527,12 +528,12 @@ impl<'a, 'f, W: Sink, F: RowFunction> RowTaker for RowAnswers<'a, 'f, W, F> {
         Some(size)
     }
 
-    fn refuse_long(&mut self) -> Refusal {
+    fn refuse_long(&mut self) -> RunError {
         let held = &self.block[..self.end];
         refuse(self.out, held, self.state.number, H3Error::Failed)
     }
 
-    fn settle(&mut self) -> Result<(), Refusal> {
+    fn settle(&mut self) -> Result<(), RunError> {
         if let None = self.state.before {
             return Ok(());
         }
@@ -566,7 +567,7 @@ fn answer_input<'a, 'f, R: Source, W: Sink, F: RowFunction>(
     input: &mut R,
     begun: RowStart,
     page: &mut [u8],
-) -> Result<(), Refusal>
+) -> Result<(), RunError>
     requires first { state_of answers.old.state (take answers.old.end answers.old.block)
         ≡ start
         (columns_form answers.old.job.now.options.now answers.old.job.now.name.now
@@ -590,7 +591,7 @@ fn answer_input<'a, 'f, R: Source, W: Sink, F: RowFunction>(
         (sink_use W.taken W.has_failed answers.old.out.now answers.new.out.now) }
     ensures same { answers.new.out.ghost_name ≡ answers.old.out.ghost_name }
 {
-    let mut reader = CountedReader::new(&mut *input, READS);
+    let mut reader = CountedReader::new(&mut *input, MAX_READS);
     let reading = take_rows(answers, &mut reader, begun, page);
     // The proof reads what the source is after the reads from this use of it.
     let _ = &*input;
@@ -608,7 +609,7 @@ fn answer_pages<'f, R: Source, W: Sink, F: RowFunction>(
     out: &mut W,
     begun: RowStart,
     page: &mut [u8],
-) -> Result<(), Refusal>
+) -> Result<(), RunError>
     requires begun { begun.held ≡ 0 }
     requires quotes { begun.quotes ≡ job.now.options.now.quotes }
     requires page { length page.old ≡ PAGE }
@@ -647,7 +648,7 @@ pub(crate) fn answer_input_by<R: Source, W: Sink, F: RowFunction>(
     function: &F,
     input: &mut R,
     out: &mut W,
-) -> Result<(), Refusal>
+) -> Result<(), RunError>
     ensures { EndsRows options.now.quotes
         (rows_answer (columns_form options.now name.now is_pair) (F.answer_of function.now))
         (begun_answer (columns_form options.now name.now is_pair) (F.answer_of function.now))
@@ -656,7 +657,7 @@ pub(crate) fn answer_input_by<R: Source, W: Sink, F: RowFunction>(
         (sink_use W.taken W.has_failed out.old out.new) }
 {
     let begun = RowStart::new(alloc, options.quotes)?;
-    let mut page = vec![in alloc; 0u8; PAGE].map_err(|_| Refusal::Fault(Fault::Memory))?;
+    let mut page = vec![in alloc; 0u8; PAGE].map_err(|_| RunError::Fault(Fault::Memory))?;
     let job = RowJob {
         options,
         name,
@@ -680,14 +681,14 @@ pub(crate) fn answer_input_by<R: Source, W: Sink, F: RowFunction>(
 /// nothing written. `Fault::Read` where a read fails, or the end is not found in 2^40 reads.
 /// `Fault::Write` where a push or a flush fails. `Fault::Memory` where there is none for the page
 /// and a row.
-pub fn answer_rows<R: Source, W: Sink, F: IndexFunction>(
+pub fn answer_rows<R: Source, W: Sink, F: AnswerLine>(
     alloc: Global,
     options: &RowOptions,
     name: &[u8],
     function: &F,
     input: &mut R,
     out: &mut W,
-) -> Result<(), Refusal>
+) -> Result<(), RunError>
     ensures { EndsRows options.now.quotes
         (rows_answer (form_of options.now name.now) (F.answer_of function.now))
         (begun_answer (form_of options.now name.now) (F.answer_of function.now))

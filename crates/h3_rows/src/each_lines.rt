@@ -4,7 +4,7 @@ ghost use Rattle.std.specs.Prelude.{◌≡◌, ◌≤◌, ◌++◌, ℕ, List, l
 ghost use Rattle.std.specs.Iterator.{AlwaysYields, IsFinite};
 ghost use Rattle.std.specs.List.{flat_map};
 ghost use Rattle.h3_lines.specs.Answering.{Breaks, Moves};
-ghost use Rattle.h3_lines.specs.Writing.{sink_use};
+ghost use Rattle.h3_lines.specs.Write.{sink_use};
 ghost use Rattle.h3_rows.specs.EndsRows.{EndsRows};
 ghost use Rattle.h3_rows.specs.RowForm.{columns_form};
 ghost use Rattle.h3_rows.specs.RowsAnswer.{begun_answer, rows_answer, rows_with};
@@ -12,9 +12,10 @@ ghost use Rattle.h3_rows.specs.RowsAnswer.{begun_answer, rows_answer, rows_with}
 use crate::each::answer_input_by;
 use crate::function::{RowFunction, Workspace};
 use crate::write::put_rows;
-use h3_index::{H3Error, Sink, Source};
-use h3_lines::{BLOCK, Line, LinesFunction, Refusal};
+use h3_index::H3Error;
+use h3_lines::{BLOCK, Line, LinesFunction, RunError};
 use h3_requests::RowOptions;
+use h3_streams::{Sink, Source};
 use std::alloc::Global;
 
 /// Puts a row once for each line of the items of an iterator, with that line, after the bytes held
@@ -27,7 +28,7 @@ fn put_lines_beside<W: Sink, L: Line + Drop, I: Iterator<Item = L> + Drop>(
     end: usize,
     separator: u8,
     row: &[u8],
-) -> Result<usize, Refusal>
+) -> Result<usize, RunError>
     requires can { I.can_next items }
     requires ends { IsFinite (I.remaining items) }
     requires within { end ≤ BLOCK }
@@ -67,7 +68,7 @@ impl<'f, F: LinesFunction> RowFunction for Long<'f, F> {
         end: usize,
         separator: u8,
         row: &[u8],
-    ) -> Result<Result<usize, H3Error>, Refusal> {
+    ) -> Result<Result<usize, H3Error>, RunError> {
         match self.function.lines(index) {
             Ok(items) => {
                 let last = put_lines_beside(items, out, work, block, end, separator, row)?;
@@ -107,7 +108,7 @@ pub fn answer_rows_lines<R: Source, W: Sink, F: LinesFunction>(
     function: &F,
     input: &mut R,
     out: &mut W,
-) -> Result<(), Refusal>
+) -> Result<(), RunError>
     ensures { EndsRows options.now.quotes
         (rows_answer (columns_form options.now name.now is_pair) (F.answer_of function.now))
         (begun_answer (columns_form options.now name.now is_pair) (F.answer_of function.now))

@@ -3,12 +3,13 @@
 ghost use Rattle.std.specs.Prelude.{◌≡◌, ◌+◌, ◌≤◌, ℕ, Option, take, IfOk, IfErr, IfNone, IfSome};
 ghost use Rattle.h3_lines.specs.Answer.{Answer, refused};
 ghost use Rattle.h3_lines.specs.Answering.{Puts};
-ghost use Rattle.h3_lines.specs.Writing.{sink_use};
+ghost use Rattle.h3_lines.specs.Write.{sink_use};
 ghost use Rattle.h3_rows.specs.Answering.{BreaksBeside, PutsBeside};
 
 use crate::write::put_rows;
-use h3_index::{H3Error, Sink};
-use h3_lines::{ANSWER, BLOCK, IndexFunction, Refusal};
+use h3_index::H3Error;
+use h3_lines::{ANSWER, AnswerLine, BLOCK, RunError};
+use h3_streams::Sink;
 
 /// What a function of one index works with.
 #[derive(Drop)]
@@ -34,7 +35,7 @@ pub(crate) trait RowFunction {
         end: usize,
         separator: u8,
         row: &[u8],
-    ) -> Result<Result<usize, H3Error>, Refusal>
+    ) -> Result<Result<usize, H3Error>, RunError>
         requires { end ≤ BLOCK }
         ensures within { IfOk result (λ o. IfOk o (λ last. last ≤ BLOCK)) }
         ensures ok { IfOk result (λ o. IfOk o (λ last.
@@ -69,7 +70,7 @@ pub(crate) struct Short<'f, F> {
     pub(crate) function: &'f F,
 }
 
-impl<'f, F: IndexFunction> RowFunction for Short<'f, F> {
+impl<'f, F: AnswerLine> RowFunction for Short<'f, F> {
     ghost answer_of = { λ f. F.answer_of f.function.now };
 
     #[inline(always)]
@@ -82,7 +83,7 @@ impl<'f, F: IndexFunction> RowFunction for Short<'f, F> {
         end: usize,
         separator: u8,
         row: &[u8],
-    ) -> Result<Result<usize, H3Error>, Refusal> {
+    ) -> Result<Result<usize, H3Error>, RunError> {
         let text = &mut work.text;
         match self.function.put(index, &mut work.place, text, 0) {
             Ok(last) => {

@@ -1,16 +1,16 @@
 //! Pages of bytes that are split into rows.
 
 ghost use Rattle.std.specs.Prelude.{◌≡◌, ◌≤◌, ◌<◌, ◌+◌, ◌*◌, ◌^◌, ◌⊎◌, ◌==◌, ℕ, Bool, true, false, List, [], ◌∷◌, ◌++◌, length, take, drop, IfOk, IfErr, IfSome, IfNone, OnOk};
-ghost use Rattle.h3_index.specs.Counted.{KeepsSource, reads_allowed, source_of};
-ghost use Rattle.h3_lines.specs.declared.refusal.Refusal.{Refusal};
-ghost use Rattle.h3_lines.specs.declared.refusal.Fault.TheVariants.{Memory, Read};
-ghost use Rattle.h3_lines.specs.declared.refusal.Refusal.TheVariants as refusal;
+ghost use Rattle.h3_streams.specs.Counted.{KeepsSource, reads_allowed, source_of};
+ghost use Rattle.h3_lines.specs.declared.run_error.RunError.{RunError};
+ghost use Rattle.h3_lines.specs.declared.run_error.Fault.TheVariants.{Memory, Read};
+ghost use Rattle.h3_lines.specs.declared.run_error.RunError.TheVariants as refusal;
 ghost use Rattle.h3_rows.specs.Row.{Piece, rows_of};
 ghost use Rattle.h3_rows.specs.Splitting.{CutsAt, Goes, StopsReading, StopsTaking, TakesAll, TakesFirst, Uncut};
 ghost use Rattle.h3_rows.specs.declared.splitting.TheConstants.{LONGEST};
 
-use h3_index::{CountedReader, Source};
-use h3_lines::{Fault, Refusal};
+use h3_lines::{Fault, RunError};
+use h3_streams::{CountedReader, Source};
 use memchr::{memchr, memchr2};
 use std::alloc::Global;
 
@@ -29,10 +29,10 @@ pub(crate) trait RowTaker {
     ghost taken: { Self → List Piece → Self → Type 0 };
 
     /// Of these rows, and any that come after them, one is refused, or a write fails before.
-    ghost refused: { Self → List Piece → Self → Refusal → Type 0 };
+    ghost refused: { Self → List Piece → Self → RunError → Type 0 };
 
     /// Takes a row. `inside` tells that a quote is open at its end: then it is the last one.
-    fn take(&mut self, row: &[u8], inside: bool) -> Result<(), Refusal>
+    fn take(&mut self, row: &[u8], inside: bool) -> Result<(), RunError>
         requires few { count self.old + length row.now < 2 ^ 63 }
         ensures ok { OnOk result (taken self.old ((row.now, inside) ∷ []) self.new) }
         ensures counted { OnOk result (count self.new ≤ count self.old + length row.now + 1) }
@@ -54,12 +54,12 @@ pub(crate) trait RowTaker {
     }
 
     /// Refuses a row of more than 65,536 bytes.
-    fn refuse_long(&mut self) -> Refusal
+    fn refuse_long(&mut self) -> RunError
         ensures { (p : Piece) → LONGEST < length p.0 → (later : List Piece) →
             refused self.old (p ∷ later) self.new result };
 
     /// Passes on what is held back of the rows taken.
-    fn settle(&mut self) -> Result<(), Refusal>
+    fn settle(&mut self) -> Result<(), RunError>
         ensures ok { OnOk result (taken self.old [] self.new) }
         ensures settled { OnOk result (settled self.new) }
         ensures counted { OnOk result (count self.new ≤ count self.old) }
@@ -71,7 +71,7 @@ pub(crate) trait RowTaker {
     ghost taken_then: { (u v w : Self) (xs ys : List Piece) → taken u xs v → taken v ys w →
         taken u (xs ++ ys) w };
 
-    ghost refused_then: { (u v w : Self) (xs ys : List Piece) (e : Refusal) → taken u xs v →
+    ghost refused_then: { (u v w : Self) (xs ys : List Piece) (e : RunError) → taken u xs v →
         refused v ys w e → refused u (xs ++ ys) w e };
 }
 
@@ -146,11 +146,11 @@ pub(crate) struct RowStart {
 
 impl RowStart {
     /// At the start of a row.
-    pub(crate) fn new(alloc: Global, quotes: bool) -> Result<Self, Refusal>
+    pub(crate) fn new(alloc: Global, quotes: bool) -> Result<Self, RunError>
         ensures ok { IfOk result (λ s. (s.held ≡ 0) × (s.quotes ≡ quotes)) }
         ensures err { IfErr result (λ e. e ≡ refusal.Fault Memory) }
     {
-        let bytes = vec![in alloc; 0u8; LONGEST].map_err(|_| Refusal::Fault(Fault::Memory))?;
+        let bytes = vec![in alloc; 0u8; LONGEST].map_err(|_| RunError::Fault(Fault::Memory))?;
         Ok(RowStart {
             quotes,
             bytes,
@@ -160,7 +160,12 @@ impl RowStart {
     }
 
     /// Keeps more bytes of the row, which is faulty once it has more than it may have.
-    fn keep<V: RowTaker>(&mut self, taker: &mut V, more: &[u8], inside: bool) -> Result<(), Refusal>
+    fn keep<V: RowTaker>(
+        &mut self,
+        taker: &mut V,
+        more: &[u8],
+        inside: bool,
+    ) -> Result<(), RunError>
         requires uncut { Uncut 10 self.old.quotes self.old.inside more.now inside }
         requires outside { self.old.quotes ≡ false → inside ≡ false }
         ensures kept { OnOk result ((take self.new.held self.new.bytes.items
@@ -182,7 +187,7 @@ impl RowStart {
     }
 
     /// Ends the row by these bytes, and has it taken.
-    fn end_row<V: RowTaker>(&mut self, taker: &mut V, more: &[u8]) -> Result<(), Refusal>
+    fn end_row<V: RowTaker>(&mut self, taker: &mut V, more: &[u8]) -> Result<(), RunError>
         requires uncut { Uncut 10 self.old.quotes self.old.inside more.now false }
         requires few { V.count taker.old + self.old.held + length more.now < 2 ^ 63 }
         ensures ok { OnOk result (Goes self.old.quotes V.taken taker.old
@@ -229,7 +234,7 @@ impl RowStart {
     }
 
     /// Has the rows taken that end in a page, and keeps the beginning of the next one.
-    fn take<V: RowTaker>(&mut self, taker: &mut V, page: &[u8]) -> Result<(), Refusal>
+    fn take<V: RowTaker>(&mut self, taker: &mut V, page: &[u8]) -> Result<(), RunError>
         requires { V.count taker.old + self.old.held + length page.now < 2 ^ 63 }
         ensures ok { OnOk result (Goes self.old.quotes V.taken taker.old
             (take self.old.held self.old.bytes.items) page.now
@@ -254,7 +259,7 @@ impl RowStart {
     }
 
     /// The same, and then nothing is held back.
-    fn take_page<V: RowTaker>(&mut self, taker: &mut V, page: &[u8]) -> Result<(), Refusal>
+    fn take_page<V: RowTaker>(&mut self, taker: &mut V, page: &[u8]) -> Result<(), RunError>
         requires { V.count taker.old + self.old.held + length page.now < 2 ^ 63 }
         ensures ok { OnOk result (Goes self.old.quotes V.taken taker.old
             (take self.old.held self.old.bytes.items) page.now
@@ -272,7 +277,7 @@ impl RowStart {
     }
 
     /// Has the last row taken, and then nothing is held back.
-    fn finish<V: RowTaker>(self, taker: &mut V) -> Result<(), Refusal>
+    fn finish<V: RowTaker>(self, taker: &mut V) -> Result<(), RunError>
         requires { V.count taker.old + self.held < 2 ^ 63 }
         ensures ok { OnOk result (V.taken taker.old
             (rows_of self.quotes (take self.held self.bytes.items)) taker.new) }
@@ -294,7 +299,7 @@ pub(crate) fn take_rows<'a, V: RowTaker, R: Source>(
     reader: &mut CountedReader<'a, R>,
     start: RowStart,
     page: &mut [u8],
-) -> Result<(), Refusal>
+) -> Result<(), RunError>
     requires first { start.held ≡ 0 }
     requires room { 0 < length page.old }
     requires few { V.count taker.old + reads_allowed reader.old * length page.old < 2 ^ 63 }
@@ -318,7 +323,7 @@ pub(crate) fn take_rows<'a, V: RowTaker, R: Source>(
     let mut begun = start;
     loop {
         let Ok(count) = reader.read(page) else {
-            return Err(Refusal::Fault(Fault::Read));
+            return Err(RunError::Fault(Fault::Read));
         };
         if count == 0 {
             return begun.finish(taker);

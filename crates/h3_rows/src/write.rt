@@ -1,14 +1,14 @@
 //! Rows that are written to a sink, with bytes held back in a block.
 
 ghost use Rattle.std.specs.Prelude.{◌≡◌, ◌≤◌, ◌<◌, ◌+◌, ◌++◌, ◌∷◌, [], ℕ, List, length, take, IfOk, IfErr, OnOk};
-ghost use Rattle.h3_lines.specs.Writing.{Takes, sink_use};
+ghost use Rattle.h3_lines.specs.Write.{Takes, sink_use};
 ghost use Rattle.h3_lines.specs.Answering.{Breaks, Moves};
 ghost use Rattle.h3_rows.specs.RowsAnswer.{rows_with, row_with};
 
 use crate::fields::{row_body, row_ending};
 use crate::splitting::split;
-use h3_index::Sink;
-use h3_lines::{BLOCK, Refusal, write_all, write_answer};
+use h3_lines::{BLOCK, RunError, write_all, write_answer};
+use h3_streams::Sink;
 
 /// Puts bytes after those that are held back in a block up to `end`, and returns where they end now.
 /// Where they do not fit, what is held back is written first, and what is longer than a block is
@@ -18,7 +18,7 @@ pub(crate) fn put_bytes<W: Sink>(
     block: &mut [u8; BLOCK],
     end: usize,
     bytes: &[u8],
-) -> Result<usize, Refusal>
+) -> Result<usize, RunError>
     requires { end ≤ BLOCK }
     ensures within { IfOk result (λ last. last ≤ BLOCK) }
     ensures ok { IfOk result (λ last. Moves W.taken W.has_failed
@@ -48,7 +48,7 @@ pub(crate) fn put_row<W: Sink>(
     row: &[u8],
     answer: &[u8],
     ending: &[u8],
-) -> Result<usize, Refusal>
+) -> Result<usize, RunError>
     requires { end ≤ BLOCK }
     ensures within { IfOk result (λ last. last ≤ BLOCK) }
     ensures ok { IfOk result (λ last. Moves W.taken W.has_failed
@@ -72,7 +72,7 @@ pub(crate) fn put_rows<W: Sink>(
     separator: u8,
     line: &[u8],
     text: &[u8],
-) -> Result<usize, Refusal>
+) -> Result<usize, RunError>
     requires { end ≤ BLOCK }
     ensures within { IfOk result (λ last. last ≤ BLOCK) }
     ensures ok { IfOk result (λ last. Moves W.taken W.has_failed

@@ -4,7 +4,7 @@ use Rattle.std.proofs.Math.Nat.{one-le-pow}
 use Rattle.std.proofs.lemmas.Bool.{cases_lt}
 use Rattle.std.proofs.lemmas.List.Elements.{All-contains, Contains-append_cases, Contains-append_left, Contains-append_right, Contains-get_or}
 use Rattle.h3_index.specs.Cell.{Address, IsCell}
-use Rattle.h3_index.specs.Descendants.{center_at, children, cut, IsAncestor}
+use Rattle.h3_index.specs.Descendants.{center_descendant, children, ancestor_at, IsAncestor}
 use Rattle.h3_tree.specs.Laws.{CellsFormTrees}
 use Rattle.h3_tree.specs.PostOrder.{post_order_key as key, CellsFormIntervals}
 use Rattle.h3_set.specs.Closing.{IsReduction, IsRising, StandsFor}
@@ -35,7 +35,7 @@ module _ (tree : CellsFormTrees) (intervals : CellsFormIntervals) (A K B : List 
         (tree.listed p (length p.digits + 1) valid_p (omega arith) (omega (arith, coarse)) c).0 (subst (λ l. Contains l c) is m)
 
     abbrev center : Address
-    center = center_at p (length p.digits + 1)
+    center = center_descendant p (length p.digits + 1)
 
     center_child : IsChild p center
     center_child = tree.center_descendant p (length p.digits + 1) valid_p (omega arith) (omega (arith, coarse))
@@ -53,7 +53,7 @@ module _ (tree : CellsFormTrees) (intervals : CellsFormIntervals) (A K B : List 
     in_last x m = Contains-append_right A (K ++ B) x (Contains-append_right K B x m)
 
     -- the child of p on the way down to a cell below it
-    way : (x : Address) → IsCell x → IsAncestor p x → length p.digits < length x.digits → IsChild p (cut x (length p.digits + 1)) × IsAncestor (cut x (length p.digits + 1)) x
+    way : (x : Address) → IsCell x → IsAncestor p x → length p.digits < length x.digits → IsChild p (ancestor_at x (length p.digits + 1)) × IsAncestor (ancestor_at x (length p.digits + 1)) x
     way x v over finer = (
       step_down tree p x (length x.digits) (record { valid = v; resolution_is = refl; under = over }) finer,
       tree.cut_ancestor x (length p.digits + 1) (omega (arith, finer)),
@@ -79,8 +79,8 @@ module _ (tree : CellsFormTrees) (intervals : CellsFormIntervals) (A K B : List 
                 | inr same ↦ absurd (omega (arith, low, some, center_keys.0, ap key (tree.same p a over same)))
                 | inl finer ↦
                     let w = way a v over finer in
-                    let n = before_set a (cut a (length p.digits + 1)) m (kid (cut a (length p.digits + 1)) w.0) in
-                    let r = within intervals (cut a (length p.digits + 1)) a w.0.valid v w.1 in
+                    let n = before_set a (ancestor_at a (length p.digits + 1)) m (kid (ancestor_at a (length p.digits + 1)) w.0) in
+                    let r = within intervals (ancestor_at a (length p.digits + 1)) a w.0.valid v w.1 in
                     absurd (omega (arith, n, r.1))
               ]
         ]
@@ -104,8 +104,8 @@ module _ (tree : CellsFormTrees) (intervals : CellsFormIntervals) (A K B : List 
                       | inr same ↦ absurd (omega (arith, below, ap key (tree.same p b over same)))
                       | inl finer ↦
                           let w = way b v over finer in
-                          let n = after_set (cut b (length p.digits + 1)) b (kid (cut b (length p.digits + 1)) w.0) m in
-                          let r = within intervals (cut b (length p.digits + 1)) b w.0.valid v w.1 in
+                          let n = after_set (ancestor_at b (length p.digits + 1)) b (kid (ancestor_at b (length p.digits + 1)) w.0) m in
+                          let r = within intervals (ancestor_at b (length p.digits + 1)) b w.0.valid v w.1 in
                           absurd (omega (arith, n, some, r.0))
                     ]
               ]
@@ -153,8 +153,8 @@ module _ (tree : CellsFormTrees) (intervals : CellsFormIntervals) (A K B : List 
                 let over : IsAncestor p x = subst (λ z. IsAncestor z x) (sym e) c.below.under in
                 let w = way x c.below.valid over (omega (arith, coarse, c.below.resolution_is)) in
                 record {
-                  by = cut x (length p.digits + 1);
-                  member = Contains-append_right A (K ++ B) (cut x (length p.digits + 1)) (Contains-append_left K B (cut x (length p.digits + 1)) (kid (cut x (length p.digits + 1)) w.0));
+                  by = ancestor_at x (length p.digits + 1);
+                  member = Contains-append_right A (K ++ B) (ancestor_at x (length p.digits + 1)) (Contains-append_left K B (ancestor_at x (length p.digits + 1)) (kid (ancestor_at x (length p.digits + 1)) w.0));
                   below = record { valid = c.below.valid; resolution_is = c.below.resolution_is; under = w.1 };
                 }
           ]

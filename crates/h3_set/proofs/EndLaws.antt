@@ -6,7 +6,7 @@ use Rattle.std.proofs.lemmas.List.Elements.{All-contains, Contains-append_left, 
 use Rattle.std.proofs.lemmas.Slice.{drop-append-drop}
 use Rattle.h3_index.specs.Cell.{Address, IsCell}
 use Rattle.h3_index.specs.Count.{CellsUpToAreListed}
-use Rattle.h3_index.specs.Descendants.{center_at, child, children, cut, descendants}
+use Rattle.h3_index.specs.Descendants.{center_descendant, child, children, ancestor_at, descendants}
 use Rattle.h3_tree.specs.Laws.{CellsFormTrees}
 use Rattle.h3_tree.specs.PostOrder.{CellsFormIntervals}
 use Rattle.h3_set.specs.Closing.{IsClosing, HasNoSet, IsReduction, IsRising, ReducesTo, StandsFor}
@@ -22,7 +22,7 @@ use Rattle.h3_set.proofs.TreeLaws.{address_same}
 parent_of_step : (p : Address) (d : ℕ) → parent_of (child p d) ≡ p
 parent_of_step p d =
     let e : length (p.digits ++ d ∷ []) - 1 ≡ length p.digits = omega (arith, length-append p.digits (d ∷ [])) in
-    ap (λ n. cut (child p d) n) e ∙ address_same (cut (child p d) (length p.digits)) p refl (take_at p.digits (d ∷ []) (length p.digits) refl)
+    ap (λ n. ancestor_at (child p d) n) e ∙ address_same (ancestor_at (child p d) (length p.digits)) p refl (take_at p.digits (d ∷ []) (length p.digits) refl)
 
 pub front_within : (xs : List Address) (a b : ℕ) (y : Address) → a ≤ b → Contains (take a xs) y → Contains (take b xs) y
 front_within xs a b y le m =
@@ -124,9 +124,6 @@ module _ (tree : CellsFormTrees) (intervals : CellsFormIntervals) where
       let after : take from cells ++ (p ∷ rest) ≡ take (from + 1) (set cells from p) ++ rest = sym (ap (λ l. l ++ rest) (take_more_set cells from p lt) ∙ append_assoc (take from cells) (p ∷ []) rest) in
       subst (λ l. IsReduction (cells ++ rest) l) after (subst (λ l. IsReduction l (take from cells ++ (p ∷ rest))) whole r)
 
-pub leads_same : (cells : List Address) → ReducesTo cells cells
-leads_same cells rest h = same_list (cells ++ rest) h
-
 pub leads_on : (a b c : List Address) → ReducesTo a b → ReducesTo b c → ReducesTo a c
 leads_on a b c f g rest h =
     let r = f rest h in
@@ -190,12 +187,6 @@ before_written cells w p lt =
     let size : length (take w cells) ≡ length (take (w + 1) (set cells w p)) - 1 = omega (arith, ap length is, length-append (take w cells) (p ∷ [])) in
     ap (λ l. take (length (take (w + 1) (set cells w p)) - 1) l) is ∙ take_at (take w cells) (p ∷ []) (length (take (w + 1) (set cells w p)) - 1) size
 
-pub last_written : (cells : List Address) (w : ℕ) (p : Address) → w < length cells → drop (length (take (w + 1) (set cells w p)) - 1) (take (w + 1) (set cells w p)) ≡ p ∷ []
-last_written cells w p lt =
-    let is = take_more_set cells w p lt in
-    let size : length (take (w + 1) (set cells w p)) - 1 ≡ length (take w cells) = omega (arith, ap length is, length-append (take w cells) (p ∷ [])) in
-    ap (λ l. drop (length (take (w + 1) (set cells w p)) - 1) l) is ∙ ap (λ n. drop n (take w cells ++ p ∷ [])) size ∙ drop-append_seam (take w cells) (p ∷ [])
-
 -- the next cell stands for itself, and the parent of a set that comes next for the set
 module _ (tree : CellsFormTrees) (all cells : List Address) (w i : ℕ) (inv : IsClosing all cells w i) (lt : i < length cells) (f : Address) (is : f ≡ get_or cells i f) where
   next_at : get_or (drop i cells) 0 f ≡ f
@@ -213,7 +204,7 @@ module _ (tree : CellsFormTrees) (all cells : List Address) (w i : ℕ) (inv : I
   pub one_stands : StandsFor f (take 1 (drop i cells))
   one_stands = inl (take_more (drop i cells) 0 f some_left ∙ ap (λ x. x ∷ []) next_at)
 
-  pub set_stands : (level n : ℕ) (p : Address) → 0 < level → length f.digits ≡ level → p ≡ cut f (level - 1) → IsCell p → take n (drop i cells) ≡ descendants (parent_of f) level → StandsFor p (take n (drop i cells))
+  pub set_stands : (level n : ℕ) (p : Address) → 0 < level → length f.digits ≡ level → p ≡ ancestor_at f (level - 1) → IsCell p → take n (drop i cells) ≡ descendants (parent_of f) level → StandsFor p (take n (drop i cells))
   set_stands level n p pos at is_cut valid found =
       let above = above_is f p level at is_cut in
       let up = above_level tree f level at pos in
@@ -232,7 +223,7 @@ pass_begins tree all h =
   where
     no_child : (p : Address) → HasChildren (Contains {X = Address} []) p → ⊥
     no_child p c =
-        let m = c.all (center_at p (length p.digits + 1)) (tree.center_descendant p (length p.digits + 1) c.valid (omega arith) (omega (arith, c.coarse))) in
+        let m = c.all (center_descendant p (length p.digits + 1)) (tree.center_descendant p (length p.digits + 1) c.valid (omega arith) (omega (arith, c.coarse))) in
         omega (arith, m.1)
 
 -- at its end

@@ -6,7 +6,7 @@ use Rattle.std.proofs.lemmas.Nat.{mod_below}
 use Rattle.std.proofs.lemmas.List.Elements.{Contains-get_or}
 use Rattle.std.proofs.lemmas.Bool.{cases_lt}
 use Rattle.h3_index.specs.Cell.{Address, number_of, IsCell}
-use Rattle.h3_index.specs.Descendants.{cut, IsAncestor, IsDescendant}
+use Rattle.h3_index.specs.Descendants.{ancestor_at, IsAncestor, IsDescendant}
 use Rattle.h3_tree.specs.Laws.{CellsFormTrees}
 use Rattle.h3_tree.specs.PostOrder.{post_order_key as key, CellsFormIntervals}
 use Rattle.h3_set.specs.Compacted.{HasChildren}
@@ -48,7 +48,7 @@ module _ (tree : CellsFormTrees) (intervals : CellsFormIntervals) where
           | inl e ↦ subst (IsChild p) (sym e) hx
           | inr finer ↦
               let c = step_down tree p z (length z.digits) below finer in
-              let is = one_of L apart (cut z (length p.digits + 1)) z (complete.all (cut z (length p.digits + 1)) c) m (tree.cut_ancestor z (length p.digits + 1) (omega (arith, finer))) in
+              let is = one_of L apart (ancestor_at z (length p.digits + 1)) z (complete.all (ancestor_at z (length p.digits + 1)) c) m (tree.cut_ancestor z (length p.digits + 1) (omega (arith, finer))) in
               subst (IsChild p) is c
         ]
 

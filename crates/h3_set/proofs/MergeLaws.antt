@@ -5,7 +5,7 @@ use Rattle.std.proofs.lemmas.Bool.{cases_lt}
 use Rattle.std.proofs.lemmas.List.{get_or-set_same, get_or-set_other, get_or-drop, get_or-take, length-drop, length-take, take_more, take_more_set, take-append-drop}
 use Rattle.std.proofs.lemmas.List.Elements.{Contains-get_or, Contains-append_left, Contains-append_right, Contains-append_cases, Contains-push_cases}
 use Rattle.h3_index.specs.Cell.{Address, IsCell}
-use Rattle.h3_index.specs.Descendants.{cut, descendants, IsAncestor, IsDescendant}
+use Rattle.h3_index.specs.Descendants.{ancestor_at, descendants, IsAncestor, IsDescendant}
 use Rattle.h3_tree.specs.Laws.{CellsFormTrees}
 use Rattle.h3_set.specs.Compacted.{parent_of, HasChildren}
 use Rattle.h3_set.specs.Coverage.{Overlap}
@@ -110,7 +110,7 @@ module _ (tree : CellsFormTrees) (intervals : CellsFormIntervals) (all : List Ad
 
     module _ (level : length x.digits ≡ q) where
       here_level : length (parent_of x).digits + 1 ≡ q
-      here_level = omega (arith, level, pos, tree.resolution-cut x (length x.digits - 1) (omega arith))
+      here_level = omega (arith, level, pos, tree.resolution-ancestor_at x (length x.digits - 1) (omega arith))
 
       child_of : IsDescendant (parent_of x) q x
       child_of =
@@ -239,10 +239,10 @@ module _ (tree : CellsFormTrees) (intervals : CellsFormIntervals) (all : List Ad
                         absurd (omega (arith, less, ap key same))
                     | inl finer ↦
                         let c = step_down tree (parent_of x) (get_or all j d) (length (get_or all j d).digits) (record { valid = hz; resolution_is = refl; under = over }) finer in
-                        let m = listed_below (cut (get_or all j d) (length (parent_of x).digits + 1)) (child_level (cut (get_or all j d) (length (parent_of x).digits + 1)) c) in
+                        let m = listed_below (ancestor_at (get_or all j d) (length (parent_of x).digits + 1)) (child_level (ancestor_at (get_or all j d) (length (parent_of x).digits + 1)) c) in
                         let few : m.0 < k = omega (arith, m.1, count) in
-                        let place : get_or all (i + m.0) d ≡ cut (get_or all j d) (length (parent_of x).digits + 1) =
-                        sym (get_or-drop i all m.0 d) ∙ sym (get_or-take k (drop i all) m.0 d few) ∙ ap (λ l. get_or l m.0 d) found_all ∙ any_default (descendants (parent_of x) q) m.0 d (cut (get_or all j d) (length (parent_of x).digits + 1)) m.1 ∙ m.2 in
+                        let place : get_or all (i + m.0) d ≡ ancestor_at (get_or all j d) (length (parent_of x).digits + 1) =
+                        sym (get_or-drop i all m.0 d) ∙ sym (get_or-take k (drop i all) m.0 d few) ∙ ap (λ l. get_or l m.0 d) found_all ∙ any_default (descendants (parent_of x) q) m.0 d (ancestor_at (get_or all j d) (length (parent_of x).digits + 1)) m.1 ∙ m.2 in
                         absurd (apart (i + m.0) j d (omega (arith, few, le)) lj (inl (subst (λ v. IsAncestor v (get_or all j d)) (sym place) (tree.cut_ancestor (get_or all j d) (length (parent_of x).digits + 1) (omega (arith, finer))))))
                   ]
             ]

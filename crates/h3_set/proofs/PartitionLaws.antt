@@ -6,7 +6,7 @@ use Rattle.std.proofs.lemmas.List.Elements.{All-contains, Contains-append_cases,
 use Rattle.std.proofs.lemmas.List.Sorted.{IsPermutation-sym}
 use Rattle.h3_index.specs.Cell.{Address, IsCell, resolution}
 use Rattle.h3_index.specs.Count.{CellsUpToAreListed}
-use Rattle.h3_index.specs.Descendants.{center_at, cut, IsAncestor, IsDescendant}
+use Rattle.h3_index.specs.Descendants.{center_descendant, ancestor_at, IsAncestor, IsDescendant}
 use Rattle.h3_tree.specs.Laws.{CellsFormTrees}
 use Rattle.h3_set.specs.Compacted.{compacted, IsCompacted}
 use Rattle.h3_set.specs.Coverage.{finest, IsApart, IsCovered, Overlap}
@@ -99,20 +99,20 @@ module _ (tree : CellsFormTrees) (all_cells : CellsUpToAreListed) where
   finer_one L M q r le coarse h x c =
       let size : q ≤ length x.digits = omega (arith, le, c.below.resolution_is) in
       let over = tree.cut_ancestor x q size in
-      let level = tree.resolution-cut x q size in
-      let covered = h (cut x q) (record {
+      let level = tree.resolution-ancestor_at x q size in
+      let covered = h (ancestor_at x q) (record {
         by = c.by;
         member = c.member;
         below = record {
           valid = tree.cut_cell x q c.below.valid size;
           resolution_is = level;
-          under = tree.ordered c.by (cut x q) x c.below.under over (omega (arith, level, coarse c.by c.member));
+          under = tree.ordered c.by (ancestor_at x q) x c.below.under over (omega (arith, level, coarse c.by c.member));
         };
       }) in
       record {
         by = covered.by;
         member = covered.member;
-        below = record { valid = c.below.valid; resolution_is = c.below.resolution_is; under = tree.through covered.by (cut x q) x covered.below.under over };
+        below = record { valid = c.below.valid; resolution_is = c.below.resolution_is; under = tree.through covered.by (ancestor_at x q) x covered.below.under over };
       }
 
   -- they do so at each finer one
@@ -270,8 +270,8 @@ module _ (tree : CellsFormTrees) (all_cells : CellsUpToAreListed) where
   across_one : (r : ℕ) (L M : List Address) → r ≤ 15 → ((c : Address) → Contains M c → IsCell c) → ((c : Address) → Contains M c → resolution c ≤ r) → ((x : Address) → IsCovered L r x → ¬ IsCovered M r x) → (a b : Address) → Contains L a → Contains M b → ¬ IsAncestor a b
   across_one r L M fine v le out a b m n above =
       let down = tree.center_descendant b r (v b n) (le b n) fine in
-      let x = center_at b r in
-      out (center_at b r) (over_covers L r a (center_at b r) m (record { valid = down.valid; resolution_is = down.resolution_is; under = tree.through a b (center_at b r) above down.under })) (over_covers M r b (center_at b r) n down)
+      let x = center_descendant b r in
+      out (center_descendant b r) (over_covers L r a (center_descendant b r) m (record { valid = down.valid; resolution_is = down.resolution_is; under = tree.through a b (center_descendant b r) above down.under })) (over_covers M r b (center_descendant b r) n down)
 
   parts_apart : (r : ℕ) (parts : List (List Address)) → r ≤ 15 → ((c : Address) → Contains (joined parts) c → IsCell c) → ((c : Address) → Contains (joined parts) c → resolution c ≤ r) → IsApart (joined parts) → IsApart (flat_map compacted parts)
   parts_apart r [] fine h le apart = apart

@@ -41,7 +41,7 @@ fn siblings_at_end(cells: &[Cell], last: Cell) -> usize
     if last.digit(level.max(1)) != 6 {
         return 0;
     }
-    let above = last.cut(level - 1);
+    let above = last.ancestor_at(level - 1);
     let count = usize::from(7 - u8::from(above.is_pentagon()));
     if cells.len() < count {
         return 0;
@@ -75,7 +75,7 @@ fn close_once(cells: &mut [Cell]) -> usize
         return len;
     }
     let from = len - count;
-    cells[from] = last.cut(last.resolution() - 1);
+    cells[from] = last.ancestor_at(last.resolution() - 1);
     from + 1
 }
 
@@ -140,7 +140,7 @@ fn close_ahead(cells: &mut [Cell], read: usize, written: usize, level: u8) -> (u
         if count == 0 {
             return (i, w);
         }
-        let parent = first.cut(level - 1);
+        let parent = first.ancestor_at(level - 1);
         cells[w] = parent;
         i += count;
         w = close(&mut cells[..w + 1], parent);

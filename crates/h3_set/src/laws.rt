@@ -3,7 +3,7 @@
 
 ghost use Rattle.std.specs.Prelude.{◌≡◌};
 ghost use Rattle.h3_set.specs.Laws.{AncestorsAreFound, ApartInAnyOrder, CompactedListsAreCompacted, CompactedListsAreTheOnlyOnes, CompactedListsAreUnique, CompactedListsCoverAlike, CompactedListsCoverOnce, CompactedListsHoldTheTops, CoveragesDecideLists, ListsCompactInParts, OneResolutionCoversItself, OneResolutionIsApart, OverlapsAreFound, ReducedListsAreCompacted, ReducedListsAreReordered};
-ghost use Rattle.h3_set.specs.Uncompact.{cells_left};
+ghost use Rattle.h3_set.specs.Iter.{cells_left};
 ghost use Rattle.h3_set.specs.declared.iter.Uncompact.{Uncompact};
 ghost use Rattle.h3_set.specs.declared.rounds.Compaction.{Compaction};
 

@@ -16,4 +16,4 @@ pub use compact::{compact_cells, compact_in_order, compact_in_place};
 pub use iter::Uncompact;
 pub use order::{has_overlap, put_in_order};
 pub use rounds::Compaction;
-pub use uncompaction::uncompact;
+pub use uncompaction::{resolution_below_all, uncompact};

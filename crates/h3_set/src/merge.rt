@@ -36,7 +36,7 @@ pub(crate) fn siblings_at_front(cells: &[Cell], first: Cell, level: u8) -> usize
     if own != level {
         return 0;
     }
-    let above = first.cut(level - 1);
+    let above = first.ancestor_at(level - 1);
     let skipped = u8::from(above.is_pentagon());
     let count = usize::from(7 - skipped);
     if cells.len() < count {
@@ -72,7 +72,7 @@ pub(crate) fn merge_runs(cells: &mut [Cell], level: u8) -> usize
         let cell = cells[i];
         let count = siblings_at_front(&cells[i..], cell, level);
         if count > 0 {
-            cells[written] = cell.cut(level - 1);
+            cells[written] = cell.ancestor_at(level - 1);
             i += count;
         } else {
             cells[written] = cell;

@@ -40,7 +40,7 @@ pub fn has_overlap(cells: &[Cell]) -> bool
         let cell = cells[i];
         // `before` comes before `cell`; where it does not come before all cells below `cell`, whose
         // keys with its own are as many as its unit, it is one of them.
-        if post_order_key(cell) < post_order_key(before) + cell.unit() {
+        if post_order_key(cell) < post_order_key(before) + cell.last_digit_step() {
             return true;
         }
     }

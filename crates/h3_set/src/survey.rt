@@ -24,7 +24,7 @@ pub(crate) fn survey(cells: &[Cell]) -> (u8, bool)
         let next = post_order_key(*cell) + 1;
         // without a branch: the last cell comes before this one and all cells below it, whose keys
         // are as many as the cell's unit
-        rises = rises & (end + cell.unit() <= next);
+        rises = rises & (end + cell.last_digit_step() <= next);
         end = next;
     }
     (finest, rises)

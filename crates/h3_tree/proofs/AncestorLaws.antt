@@ -5,7 +5,7 @@ use Rattle.std.proofs.lemmas.Bool.Decides.{nat_tests}
 use Rattle.std.proofs.lemmas.List.{length-take, length-take-le}
 use Rattle.h3_index.specs.Cell.{Address, is_pentagon, IsCell}
 use Rattle.h3_index.specs.Count.{number_below, resolution_of}
-use Rattle.h3_index.specs.Descendants.{center_at, cut, descendants, IsAncestor}
+use Rattle.h3_index.specs.Descendants.{center_descendant, ancestor_at, descendants, IsAncestor}
 use Rattle.h3_index.specs.Laws.{CutsAreCells, DescendantsAreListed, DescendantsAscend, IsChain, PathsAreChains}
 use Rattle.h3_tree.specs.Laws.{CellsFormTrees}
 
@@ -24,11 +24,11 @@ take_whole (suc q) (x ∷ xs) h = ap (λ ys. x ∷ ys) (take_whole q xs (omega (
 same : (b : ℕ) (xs ys : List ℕ) → xs ≡ ys → ◌≡◌ {A = Address} (record { base = b; digits = xs }) (record { base = b; digits = ys })
 same b xs ys e = ap {B = Address} (λ zs. record { base = b; digits = zs }) e
 
-cut-cut : (c : Address) (p q : ℕ) → p ≤ q → cut (cut c q) p ≡ cut c p
-cut-cut c p q h = same c.base _ _ (take-take p q c.digits h)
+ancestor_at-ancestor_at : (c : Address) (p q : ℕ) → p ≤ q → ancestor_at (ancestor_at c q) p ≡ ancestor_at c p
+ancestor_at-ancestor_at c p q h = same c.base _ _ (take-take p q c.digits h)
 
-length-cut : (c : Address) (r : ℕ) → r ≤ length c.digits → length (cut c r).digits ≡ r
-length-cut c r h = length-take-le r c.digits h
+length-ancestor_at : (c : Address) (r : ℕ) → r ≤ length c.digits → length (ancestor_at c r).digits ≡ r
+length-ancestor_at c r h = length-take-le r c.digits h
 
 no_finer : (a c : Address) → IsAncestor a c → length a.digits ≤ length c.digits
 no_finer a c h =
@@ -44,7 +44,7 @@ none_beyond a c res valid above at_res none =
     let some : number_below 16 (pos (length a.digits)) ≡ Some (length a.digits) = rw test refl in
     absurd (cc (sym some ∙ ap resolution_of at_res ∙ none))
 
-center_listed : (c : Address) (s : ℕ) → IsChain (is_pentagon c) (s - length c.digits) → Contains (descendants c s) (center_at c s)
+center_listed : (c : Address) (s : ℕ) → IsChain (is_pentagon c) (s - length c.digits) → Contains (descendants c s) (center_descendant c s)
 unfolding descendants
 center_listed c s h = rw h.is (0, omega arith, refl)
 
@@ -53,15 +53,15 @@ trees cells listed ascending chains =
     record {
       own = λ c. same c.base _ _ (take-length c.digits);
       through = λ a b c p q.
-          sym (cut-cut c (length a.digits) (length b.digits) (no_finer a b p)) ∙ ap (λ x. cut x (length a.digits)) q ∙ p;
+          sym (ancestor_at-ancestor_at c (length a.digits) (length b.digits) (no_finer a b p)) ∙ ap (λ x. ancestor_at x (length a.digits)) q ∙ p;
       ordered = λ a b c p q le.
-          ap (λ y. cut y (length a.digits)) (sym q) ∙ cut-cut c (length a.digits) (length b.digits) le ∙ p;
+          ap (λ y. ancestor_at y (length a.digits)) (sym q) ∙ ancestor_at-ancestor_at c (length a.digits) (length b.digits) le ∙ p;
       no_finer = no_finer;
       same = λ a c p le. sym (same c.base _ _ (take_whole (length a.digits) c.digits le)) ∙ p;
-      cut_ancestor = λ c r le. rw (length-cut c r le) refl;
-      resolution-cut = length-cut;
+      cut_ancestor = λ c r le. rw (length-ancestor_at c r le) refl;
+      resolution-ancestor_at = length-ancestor_at;
       cut_cell = cells;
-      center_descendant = λ c s v le fine. (listed c s v le fine (center_at c s)).0 (center_listed c s (chains (is_pentagon c) (s - length c.digits)));
+      center_descendant = λ c s v le fine. (listed c s v le fine (center_descendant c s)).0 (center_listed c s (chains (is_pentagon c) (s - length c.digits)));
       listed = listed;
       ascending = ascending;
     }

@@ -6,7 +6,7 @@ use Rattle.std.proofs.lemmas.List.{append_assoc, map-append}
 use Rattle.std.proofs.lemmas.List.Concat.{get_or-flat_map}
 use Rattle.std.proofs.lemmas.List.Folds.{length-flat_map-take}
 use Rattle.h3_index.specs.Cell.{Address, IsCell, leading, is_pentagon, is_pentagon_base}
-use Rattle.h3_index.specs.Descendants.{along, child, cut, descendants}
+use Rattle.h3_index.specs.Descendants.{along, child, ancestor_at, descendants}
 use Rattle.h3_index.specs.Laws.{HexagonsHaveSevens}
 use Rattle.h3_index.specs.Paths.{next_step, paths, steps}
 use Rattle.h3_tree.proofs.FollowingLaws.{address_same, not_zero}
@@ -44,10 +44,10 @@ not_deleted m d v p e =
     v.not_deleted b.0 (leading-last m.digits d b.1 ∙ e)
 
 -- a cell is the child of its parent
-pub child-cut : (c : Address) (d : ℕ) → 0 < length c.digits → get_or c.digits (length c.digits - 1) 7 ≡ d → child (cut c (length c.digits - 1)) d ≡ c
-child-cut c d some e =
+pub child-ancestor_at : (c : Address) (d : ℕ) → 0 < length c.digits → get_or c.digits (length c.digits - 1) 7 ≡ d → child (ancestor_at c (length c.digits - 1)) d ≡ c
+child-ancestor_at c d some e =
     let next : suc (length c.digits - 1) ≡ length c.digits = omega arith in
-    address_same (child (cut c (length c.digits - 1)) d) c refl
+    address_same (child (ancestor_at c (length c.digits - 1)) d) c refl
     (ap (λ k. take (length c.digits - 1) c.digits ++ k ∷ []) (sym e) ∙ sym (take-suc c.digits (length c.digits - 1) 7 (omega arith)) ∙ ap (λ n. take n c.digits) next ∙ take-length c.digits)
 
 -- ---- the descendants of the children, one after another

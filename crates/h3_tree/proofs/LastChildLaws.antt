@@ -6,7 +6,7 @@ use Rattle.std.proofs.Math.Seq.{take-append_seam}
 use Rattle.std.proofs.lemmas.Int.Digits.{number_after_append}
 use Rattle.std.proofs.lemmas.List.{append_assoc, length-drop, take-append-drop}
 use Rattle.h3_index.specs.Cell.{Address, IsCell, leading, number_of}
-use Rattle.h3_index.specs.Descendants.{along, center_at, child, cut, IsDescendant}
+use Rattle.h3_index.specs.Descendants.{along, center_descendant, child, ancestor_at, IsDescendant}
 use Rattle.h3_tree.specs.LastChild.{last_at, ChildrenFormRanges}
 use Rattle.h3_tree.specs.Laws.{CellsFormTrees}
 use Rattle.h3_tree.proofs.FollowingLaws.{address_same, not_zero}
@@ -23,22 +23,6 @@ pub record IsOnWay (c : Address) (s : ℕ) (x : Address) : Type 0 where
   pub is : x ≡ last_at c (length x.digits)
   pub not_coarser : length c.digits ≤ length x.digits
   pub not_finer : length x.digits ≤ s
-
-pub way_more : (c : Address) (s : ℕ) (x y : Address) → IsOnWay c s x → length x.digits < s → y ≡ child x 6 → IsOnWay c s y
-way_more c s x y h lt e = subst (IsOnWay c s) (sym e) (made (length x.digits - length c.digits) refl)
-  where
-    size : length (x.digits ++ 6 ∷ []) ≡ length x.digits + 1
-    size = length-append x.digits (6 ∷ [])
-
-    made : (k : ℕ) → k ≡ length x.digits - length c.digits → IsOnWay c s (child x 6)
-    made k d =
-        let more : length (x.digits ++ 6 ∷ []) - length c.digits ≡ suc k = omega (arith, size, d, h.not_coarser) in
-        let digits : x.digits ≡ c.digits ++ replicate k 6 = rw d (ap (λ y. y.digits) h.is) in
-        record {
-          is = address_same (child x 6) (last_at c (length (x.digits ++ 6 ∷ []))) (ap (λ y. y.base) h.is) (rw more (ap (λ ds. ds ++ 6 ∷ []) digits ∙ append_assoc c.digits (replicate k 6) (6 ∷ []) ∙ ap (λ ds. c.digits ++ ds) (one_more k)));
-          not_coarser = omega (arith, size, h.not_coarser);
-          not_finer = omega (arith, size, lt);
-        }
 
 -- ---- its number
 
@@ -107,7 +91,7 @@ last_descendant c s v le fine =
         not_deleted = λ t. not_deleted c.digits (s - length c.digits) (v.not_deleted t);
       };
       resolution_is = last_size c s 6 le;
-      under = address_same (cut (last_at c s) (length c.digits)) c refl (take-append_seam c.digits (replicate (s - length c.digits) 6));
+      under = address_same (ancestor_at (last_at c s) (length c.digits)) c refl (take-append_seam c.digits (replicate (s - length c.digits) 6));
     }
 
 -- ---- the range
@@ -135,11 +119,11 @@ by_key x y hx hy e h =
     let same : length x.digits * 2 ^ 52 ≡ length y.digits * 2 ^ 52 = ap (λ n. n * 2 ^ 52) e in
     omega (arith, number_is x hx, number_is y hy, same, h)
 
-pub not_before_center : (c x : Address) (s : ℕ) → IsDescendant c s (center_at c s) → IsDescendant c s x → number_of (center_at c s) ≤ number_of x
+pub not_before_center : (c x : Address) (s : ℕ) → IsDescendant c s (center_descendant c s) → IsDescendant c s x → number_of (center_descendant c s) ≤ number_of x
 not_before_center c x s center h =
     let w = below c x s h in
     let size : length {A = ℕ} (replicate (s - length c.digits) 0) ≡ length w.digits = length-replicate {A = ℕ} (s - length c.digits) 0 ∙ sym w.size in
-    by_key (center_at c s) x center.valid h.valid (center.resolution_is ∙ sym h.resolution_is) (rw w.is (key_no_more c (replicate (s - length c.digits) 0) w.digits size (no_more_zeros (s - length c.digits) w.digits)))
+    by_key (center_descendant c s) x center.valid h.valid (center.resolution_is ∙ sym h.resolution_is) (rw w.is (key_no_more c (replicate (s - length c.digits) 0) w.digits size (no_more_zeros (s - length c.digits) w.digits)))
 
 pub not_after_last : (c x : Address) (s : ℕ) → IsCell (last_at c s) → length (last_at c s).digits ≡ s → IsDescendant c s x → number_of x ≤ number_of (last_at c s)
 not_after_last c x s last long h =
@@ -154,13 +138,13 @@ way_end c s x y h end valid below_it =
     let is : x ≡ last_at c s = rw size at h.is in
     subst (λ z. number_of y ≤ number_of z) (sym is) (not_after_last c y s (subst IsCell is valid) (sym (ap (λ z. length z.digits) is) ∙ size) below_it)
 
-between : (c x : Address) (s : ℕ) → IsCell c → IsCell x → IsDescendant c s (center_at c s) → IsDescendant c s (last_at c s) → (number_of (center_at c s) ≤ number_of x) × (number_of x ≤ number_of (last_at c s)) → IsDescendant c s x
+between : (c x : Address) (s : ℕ) → IsCell c → IsCell x → IsDescendant c s (center_descendant c s) → IsDescendant c s (last_at c s) → (number_of (center_descendant c s) ≤ number_of x) × (number_of x ≤ number_of (last_at c s)) → IsDescendant c s x
 between c x s hc hx center last h =
-    let low = number_is (center_at c s) center.valid in
+    let low = number_is (center_descendant c s) center.valid in
     let high = number_is (last_at c s) last.valid in
     let own = number_is x hx in
-    let size : length x.digits ≡ s = omega (arith, h.0, h.1, low, high, own, center.resolution_is, last.resolution_is, whole_small (center_at c s) center.valid, whole_small (last_at c s) last.valid, whole_small x hx) in
-    let from = within c (center_at c s) hc center.valid center.under in
+    let size : length x.digits ≡ s = omega (arith, h.0, h.1, low, high, own, center.resolution_is, last.resolution_is, whole_small (center_descendant c s) center.valid, whole_small (last_at c s) last.valid, whole_small x hx) in
+    let from = within c (center_descendant c s) hc center.valid center.under in
     let to = within c (last_at c s) hc last.valid last.under in
     record {
       valid = hx;

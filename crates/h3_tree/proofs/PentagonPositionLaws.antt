@@ -10,7 +10,7 @@ use Rattle.std.proofs.lemmas.Int.Digits.{number_lt}
 use Rattle.std.proofs.lemmas.List.{length-drop, length-take-le}
 use Rattle.std.proofs.lemmas.Nat.{leading_length}
 use Rattle.h3_index.specs.Cell.{Address, IsCell, is_pentagon}
-use Rattle.h3_index.specs.Descendants.{child, cut, descendants}
+use Rattle.h3_index.specs.Descendants.{child, ancestor_at, descendants}
 use Rattle.h3_index.specs.Laws.{CutsAreCells}
 use Rattle.h3_tree.specs.Known.{DescendantsAreKnown}
 use Rattle.h3_tree.specs.Positions.{position_under}
@@ -58,36 +58,36 @@ number_zero b ds = number_first b 0 ds ∙ omega arith
 -- ---- one level
 
 module _ (laws : DescendantsAreKnown) (cuts : CutsAreCells) (c : Address) (l d : ℕ) (v : IsCell c) (lt : l < length c.digits) (e : d ≡ get_or c.digits l 7) where
-  next_pentagon : is_pentagon (cut c (l + 1)) ≡ (is_pentagon (cut c l) && d == 0)
+  next_pentagon : is_pentagon (ancestor_at c (l + 1)) ≡ (is_pentagon (ancestor_at c l) && d == 0)
   next_pentagon =
       let last = last_of_cut cuts c l d v lt e in
-      ap is_pentagon (sym (ap (λ m. child m d) (sym (cut_address c l lt)) ∙ whole_cell laws (cut c (l + 1)) (length c.digits) d last)) ∙ pentagon-child (cut c l) d
+      ap is_pentagon (sym (ap (λ m. child m d) (sym (cut_address c l lt)) ∙ whole_cell laws (ancestor_at c (l + 1)) (length c.digits) d last)) ∙ pentagon-child (ancestor_at c l) d
 
-  under_zero : d ≡ 0 → position_under (cut c l) c ≡ position_under (cut c (l + 1)) c
+  under_zero : d ≡ 0 → position_under (ancestor_at c l) c ≡ position_under (ancestor_at c (l + 1)) c
   under_zero z =
       let last = last_of_cut cuts c l d v lt e in
-      let before = before_center laws (cut c (l + 1)) (length c.digits) d last z in
-      let none : 0 + position_under (cut c (l + 1)) c ≡ position_under (cut c (l + 1)) c = omega arith in
+      let before = before_center laws (ancestor_at c (l + 1)) (length c.digits) d last z in
+      let none : 0 + position_under (ancestor_at c (l + 1)) c ≡ position_under (ancestor_at c (l + 1)) c = omega arith in
       ap (λ m. position_under m c) (sym (cut_address c l lt)) ∙ before.ahead c (cut_above c (l + 1) v (omega arith)) ∙ none
 
-  above_pentagon : is_pentagon (cut c l) ≡ true → is_pentagon (cut (cut c (l + 1)) (length (cut c (l + 1)).digits - 1)) ≡ true
+  above_pentagon : is_pentagon (ancestor_at c l) ≡ true → is_pentagon (ancestor_at (ancestor_at c (l + 1)) (length (ancestor_at c (l + 1)).digits - 1)) ≡ true
   above_pentagon h = ap is_pentagon (cut_address c l lt) ∙ h
 
-  under_two : is_pentagon (cut c l) ≡ true → d ≢ 0 → 2 ≤ d
-  under_two h nz = after_deleted laws (cut c (l + 1)) (length c.digits) d (last_of_cut cuts c l d v lt e) (above_pentagon h) nz
+  under_two : is_pentagon (ancestor_at c l) ≡ true → d ≢ 0 → 2 ≤ d
+  under_two h nz = after_deleted laws (ancestor_at c (l + 1)) (length c.digits) d (last_of_cut cuts c l d v lt e) (above_pentagon h) nz
 
-  under_some : (n : ℕ) → n ≡ length c.digits - (l + 1) → is_pentagon (cut c l) ≡ true → d ≢ 0 → position_under (cut c l) c ≡ 1 + 5 * ((7 ^ n - 1) / 6) + (d - 2) * 7 ^ n + position_under (cut c (l + 1)) c
+  under_some : (n : ℕ) → n ≡ length c.digits - (l + 1) → is_pentagon (ancestor_at c l) ≡ true → d ≢ 0 → position_under (ancestor_at c l) c ≡ 1 + 5 * ((7 ^ n - 1) / 6) + (d - 2) * 7 ^ n + position_under (ancestor_at c (l + 1)) c
   under_some n levels h nz =
       let last = last_of_cut cuts c l d v lt e in
-      let m = cut (cut c (l + 1)) (length (cut c (l + 1)).digits - 1) in
+      let m = ancestor_at (ancestor_at c (l + 1)) (length (ancestor_at c (l + 1)).digits - 1) in
       let size : length (take (l + 1) c.digits) ≡ l + 1 = length-take-le (l + 1) c.digits (omega arith) in
       let outer : 7 ^ n ≡ 7 ^ (length c.digits - length (take (l + 1) c.digits)) = ap (λ k. 7 ^ k) (omega (arith, levels, size)) in
       let long : length (take l c.digits) ≡ l = length-take-le l c.digits (omega (arith, lt)) in
-      let deep : length c.digits - length (child (cut c l) 0).digits ≡ n = omega (arith, levels, long, length-append (take l c.digits) (0 ∷ [])) in
-      let inner : is_pentagon (child (cut c l) 0) ≡ true = pentagon-child (cut c l) 0 ∙ (rw h refl) in
-      let center : 1 + 5 * ((7 ^ n - 1) / 6) ≡ length (descendants (child (cut c l) 0) (length c.digits)) =
-      sym (laws.pentagons (child (cut c l) 0) (length c.digits) inner ∙ ap (λ k. 1 + 5 * ((7 ^ k - 1) / 6)) deep) in
-      let before = before_pentagon laws (cut c (l + 1)) (length c.digits) d last (1 + 5 * ((7 ^ n - 1) / 6)) (7 ^ n) (above_pentagon h) nz (center ∙ ap (λ m. length (descendants (child m 0) (length c.digits))) (sym (cut_address c l lt))) outer in
+      let deep : length c.digits - length (child (ancestor_at c l) 0).digits ≡ n = omega (arith, levels, long, length-append (take l c.digits) (0 ∷ [])) in
+      let inner : is_pentagon (child (ancestor_at c l) 0) ≡ true = pentagon-child (ancestor_at c l) 0 ∙ (rw h refl) in
+      let center : 1 + 5 * ((7 ^ n - 1) / 6) ≡ length (descendants (child (ancestor_at c l) 0) (length c.digits)) =
+      sym (laws.pentagons (child (ancestor_at c l) 0) (length c.digits) inner ∙ ap (λ k. 1 + 5 * ((7 ^ k - 1) / 6)) deep) in
+      let before = before_pentagon laws (ancestor_at c (l + 1)) (length c.digits) d last (1 + 5 * ((7 ^ n - 1) / 6)) (7 ^ n) (above_pentagon h) nz (center ∙ ap (λ m. length (descendants (child m 0) (length c.digits))) (sym (cut_address c l lt))) outer in
       ap (λ m. position_under m c) (sym (cut_address c l lt)) ∙ before.ahead c (cut_above c (l + 1) v (omega arith))
 
 -- ---- all levels
@@ -97,7 +97,7 @@ pub record IsBelowPentagon (c : Address) (q : ℕ) : Type 0 where
   pub places : ℕ
   pub small : number_from_digits 8 (drop q c.digits) < 8 ^ places
   pub least : 0 < places → 8 ^ (places - 1) ≤ number_from_digits 8 (drop q c.digits)
-  pub is : position_under (cut c q) c + deleted places ≡ number_from_digits 7 (drop q c.digits)
+  pub is : position_under (ancestor_at c q) c + deleted places ≡ number_from_digits 7 (drop q c.digits)
 
 below_all : (q : ℕ) (ds : List ℕ) → length ds ≤ q → drop q ds ≡ []
 below_all zero [] h = refl
@@ -121,10 +121,10 @@ no_zero d h e = grind (arith, nat_tests)
 is_zero : (d : ℕ) → (d == 0) ≡ true → d ≡ 0
 is_zero d h = grind (arith, nat_tests)
 
-pub below_pentagon : DescendantsAreKnown → CutsAreCells → (c : Address) (n q : ℕ) → IsCell c → q + n ≡ length c.digits → is_pentagon (cut c q) ≡ true → IsBelowPentagon c q
+pub below_pentagon : DescendantsAreKnown → CutsAreCells → (c : Address) (n q : ℕ) → IsCell c → q + n ≡ length c.digits → is_pentagon (ancestor_at c q) ≡ true → IsBelowPentagon c q
 below_pentagon laws cuts c zero q v le h =
     let none = below_all q c.digits (omega (arith, le)) in
-    let here : 0 ≡ position_under (cut c q) c = counted_end laws c q q 0 v (omega (arith, le)) (record { is = omega arith }) in
+    let here : 0 ≡ position_under (ancestor_at c q) c = counted_end laws c q q 0 v (omega (arith, le)) (record { is = omega arith }) in
     record {
       places = 0;
       small = rw (none, pow-zero 8) (lit< tt);
@@ -140,10 +140,10 @@ below_pentagon laws cuts c (suc n) q v le h =
     split : drop q c.digits ≡ get_or c.digits q 7 ∷ drop (q + 1) c.digits
     split = let next : suc q ≡ q + 1 = omega arith in rw next at (drop-cons c.digits q 7 lt)
 
-    by_digit : (b : Bool) → (get_or c.digits q 7 == 0) ≡ b → (is_pentagon (cut c (q + 1)) ≡ true → IsBelowPentagon c (q + 1)) → IsBelowPentagon c q
+    by_digit : (b : Bool) → (get_or c.digits q 7 == 0) ≡ b → (is_pentagon (ancestor_at c (q + 1)) ≡ true → IsBelowPentagon c (q + 1)) → IsBelowPentagon c q
     by_digit true e deeper =
         let z = is_zero (get_or c.digits q 7) e in
-        let pentagon : is_pentagon (cut c (q + 1)) ≡ true = next_pentagon laws cuts c q (get_or c.digits q 7) v lt refl ∙ (rw (h, e) refl) in
+        let pentagon : is_pentagon (ancestor_at c (q + 1)) ≡ true = next_pentagon laws cuts c q (get_or c.digits q 7) v lt refl ∙ (rw (h, e) refl) in
         let rest = deeper pentagon in
         let same : drop q c.digits ≡ 0 ∷ drop (q + 1) c.digits = split ∙ ap (λ d. d ∷ drop (q + 1) c.digits) z in
         let eight : number_from_digits 8 (drop q c.digits) ≡ number_from_digits 8 (drop (q + 1) c.digits) = ap (λ ds. number_from_digits 8 ds) same ∙ number_zero 8 (drop (q + 1) c.digits) in
@@ -157,7 +157,7 @@ below_pentagon laws cuts c (suc n) q v le h =
     by_digit false e deeper =
         let d = get_or c.digits q 7 in
         let nz = no_zero (get_or c.digits q 7) e in
-        let hexagon : is_pentagon (cut c (q + 1)) ≡ false = next_pentagon laws cuts c q (get_or c.digits q 7) v lt refl ∙ (rw (h, e) refl) in
+        let hexagon : is_pentagon (ancestor_at c (q + 1)) ≡ false = next_pentagon laws cuts c q (get_or c.digits q 7) v lt refl ∙ (rw (h, e) refl) in
         let rest = position_in_sevens laws cuts c (q + 1) v (omega (arith, lt)) hexagon in
         let long : length (drop (q + 1) c.digits) ≡ n = omega (arith, le, length-drop (q + 1) c.digits) in
         let eight : number_from_digits 8 (drop q c.digits) ≡ get_or c.digits q 7 * 8 ^ n + number_from_digits 8 (drop (q + 1) c.digits) =

@@ -12,7 +12,7 @@ use Rattle.std.proofs.lemmas.Int.Digits.{number_after_append, number_after_lt}
 use Rattle.std.proofs.lemmas.List.{length-drop, length-take-le, take-append-drop, take-append-le}
 use Rattle.std.proofs.lemmas.Nat.{mul-le}
 use Rattle.h3_index.specs.Cell.{Address, IsCell, number_of, padded}
-use Rattle.h3_index.specs.Descendants.{cut, IsAncestor}
+use Rattle.h3_index.specs.Descendants.{ancestor_at, IsAncestor}
 use Rattle.h3_tree.specs.PostOrder.{post_order_key, CellsFormIntervals}
 
 -- ---- numbers of base 8 with a front
@@ -144,7 +144,7 @@ ancestor_from a x ha hx e =
     let both = same_digits x.base a.base (take (length a.digits) (padded x.digits)) (take (length a.digits) (padded a.digits)) of_x of_a (size_x ∙ sym size_a) e in
     let is : take (length a.digits) (padded x.digits) ≡ a.digits = both.1 ∙ own_digits a in
     let le : length a.digits ≤ length x.digits = within_digits x.digits (length a.digits) (15 - length x.digits) (omega (arith, ha.coarse, hx.coarse)) (subst (AllBelowBase 7) (sym is) ha.digits_small) in
-    address_same (cut x (length a.digits)) a both.0 (sym (take-append-le (length a.digits) x.digits (replicate (15 - length x.digits) 7) le) ∙ is)
+    address_same (ancestor_at x (length a.digits)) a both.0 (sym (take-append-le (length a.digits) x.digits (replicate (15 - length x.digits) 7) le) ∙ is)
 
 one_more : (f p : ℕ) → (f + 1) * p ≡ f * p + p
 one_more f p = grind arith

@@ -11,12 +11,12 @@ use Rattle.std.proofs.lemmas.List.Elements.{Contains-get_or}
 use Rattle.std.proofs.lemmas.Nat.{div-add-mod', div_below, mod_below}
 use Rattle.std.proofs.lemmas.Option.{get_or_from_slice_get, slice_get-get_or, slice_get_within}
 use Rattle.h3_index.specs.Cell.{Address, IsCell, is_pentagon}
-use Rattle.h3_index.specs.Descendants.{child, cut, descendants, IsDescendant}
+use Rattle.h3_index.specs.Descendants.{child, ancestor_at, descendants, IsDescendant}
 use Rattle.h3_index.specs.Laws.{CutsAreCells}
 use Rattle.h3_index.specs.Paths.{next_step}
 use Rattle.h3_tree.specs.Known.{DescendantsAreKnown}
 use Rattle.h3_tree.specs.Positions.{position_under, HasPosition}
-use Rattle.h3_tree.proofs.BlockLaws.{IsBlock, block_at, child-cut, get-block, length-blocks, not_deleted, offset, outer_size, pentagon-child}
+use Rattle.h3_tree.proofs.BlockLaws.{IsBlock, block_at, child-ancestor_at, get-block, length-blocks, not_deleted, offset, outer_size, pentagon-child}
 use Rattle.h3_tree.proofs.FollowingLaws.{address_same, digit_small}
 use Rattle.h3_tree.proofs.PositionLaws.{get-position_under, members_have_positions, position_under-get, size_small, size_some}
 use Rattle.h3_tree.proofs.SizeLaws.{sevens_some}
@@ -61,7 +61,7 @@ offset_hexagon false outer (suc d) h =
 
 pub record HasBefore (c : Address) (s before : ℕ) : Type 0 where
   pub small : before ≤ 4747561509943
-  pub ahead : (x : Address) → IsDescendant c s x → position_under (cut c (length c.digits - 1)) x ≡ before + position_under c x
+  pub ahead : (x : Address) → IsDescendant c s x → position_under (ancestor_at c (length c.digits - 1)) x ≡ before + position_under c x
 
 before_of : DescendantsAreKnown → (m c : Address) (s d before : ℕ) → child m d ≡ c → IsCell m → IsCell c → s ≤ 15 → IsBlock m s d before → (before ≤ 4747561509943) × ((x : Address) → IsDescendant c s x → position_under m x ≡ before + position_under c x)
 before_of laws m c s d before e v w high b =
@@ -74,7 +74,7 @@ before_of laws m c s d before e v w high b =
 -- d is the last digit of a cell that is not coarser than s
 pub record IsLastDigit (c : Address) (s d : ℕ) : Type 0 where
   pub valid : IsCell c
-  pub parent_valid : IsCell (cut c (length c.digits - 1))
+  pub parent_valid : IsCell (ancestor_at c (length c.digits - 1))
   pub some : 0 < length c.digits
   pub low : length c.digits ≤ s
   pub high : s ≤ 15
@@ -88,30 +88,30 @@ module _ (laws : DescendantsAreKnown) (c : Address) (s d : ℕ) (h : IsLastDigit
   parent_power : s - length c.digits ≡ s - length (take (length c.digits - 1) c.digits) - 1
   parent_power = omega (arith, parent_level, h.some)
 
-  pub whole_cell : child (cut c (length c.digits - 1)) d ≡ c
-  whole_cell = child-cut c d h.some h.is
+  pub whole_cell : child (ancestor_at c (length c.digits - 1)) d ≡ c
+  whole_cell = child-ancestor_at c d h.some h.is
 
-  before_at : (center outer : ℕ) → center ≡ length (descendants (child (cut c (length c.digits - 1)) 0) s) → outer ≡ 7 ^ (s - length c.digits) → HasBefore c s (offset (is_pentagon (cut c (length c.digits - 1))) center outer d)
+  before_at : (center outer : ℕ) → center ≡ length (descendants (child (ancestor_at c (length c.digits - 1)) 0) s) → outer ≡ 7 ^ (s - length c.digits) → HasBefore c s (offset (is_pentagon (ancestor_at c (length c.digits - 1))) center outer d)
   before_at center outer e o =
-      let b = block_at laws.hexagons (cut c (length c.digits - 1)) s d center outer (omega (arith, parent_level, h.some, h.low)) e (o ∙ ap (λ n. 7 ^ n) parent_power) h.small (not_deleted (cut c (length c.digits - 1)) d (subst IsCell (sym whole_cell) h.valid)) in
-      let f = before_of laws (cut c (length c.digits - 1)) c s d (offset (is_pentagon (cut c (length c.digits - 1))) center outer d) whole_cell h.parent_valid h.valid h.high b in
+      let b = block_at laws.hexagons (ancestor_at c (length c.digits - 1)) s d center outer (omega (arith, parent_level, h.some, h.low)) e (o ∙ ap (λ n. 7 ^ n) parent_power) h.small (not_deleted (ancestor_at c (length c.digits - 1)) d (subst IsCell (sym whole_cell) h.valid)) in
+      let f = before_of laws (ancestor_at c (length c.digits - 1)) c s d (offset (is_pentagon (ancestor_at c (length c.digits - 1))) center outer d) whole_cell h.parent_valid h.valid h.high b in
       record { small = f.0; ahead = f.1 }
 
   pub before_center : d ≡ 0 → HasBefore c s 0
   before_center z =
-      rw z at (before_at (length (descendants (child (cut c (length c.digits - 1)) 0) s)) (7 ^ (s - length c.digits)) refl refl)
+      rw z at (before_at (length (descendants (child (ancestor_at c (length c.digits - 1)) 0) s)) (7 ^ (s - length c.digits)) refl refl)
 
-  pub before_hexagon : (outer : ℕ) → is_pentagon (cut c (length c.digits - 1)) ≡ false → outer ≡ 7 ^ (s - length c.digits) → HasBefore c s (d * outer)
+  pub before_hexagon : (outer : ℕ) → is_pentagon (ancestor_at c (length c.digits - 1)) ≡ false → outer ≡ 7 ^ (s - length c.digits) → HasBefore c s (d * outer)
   before_hexagon outer hexagon o =
-      let center = hexagon_size laws (cut c (length c.digits - 1)) s 0 outer hexagon (o ∙ ap (λ n. 7 ^ n) parent_power) in
-      subst (HasBefore c s) (offset_hexagon (is_pentagon (cut c (length c.digits - 1))) outer d hexagon) (before_at outer outer (sym center) o)
+      let center = hexagon_size laws (ancestor_at c (length c.digits - 1)) s 0 outer hexagon (o ∙ ap (λ n. 7 ^ n) parent_power) in
+      subst (HasBefore c s) (offset_hexagon (is_pentagon (ancestor_at c (length c.digits - 1))) outer d hexagon) (before_at outer outer (sym center) o)
 
-  pub after_deleted : is_pentagon (cut c (length c.digits - 1)) ≡ true → d ≢ 0 → 2 ≤ d
+  pub after_deleted : is_pentagon (ancestor_at c (length c.digits - 1)) ≡ true → d ≢ 0 → 2 ≤ d
   after_deleted pentagon nz =
-      let one : d ≢ 1 = not_deleted (cut c (length c.digits - 1)) d (subst IsCell (sym whole_cell) h.valid) pentagon in
+      let one : d ≢ 1 = not_deleted (ancestor_at c (length c.digits - 1)) d (subst IsCell (sym whole_cell) h.valid) pentagon in
       omega (arith, nz, one)
 
-  pub before_pentagon : (center outer : ℕ) → is_pentagon (cut c (length c.digits - 1)) ≡ true → d ≢ 0 → center ≡ length (descendants (child (cut c (length c.digits - 1)) 0) s) → outer ≡ 7 ^ (s - length c.digits) → HasBefore c s (center + (d - 2) * outer)
+  pub before_pentagon : (center outer : ℕ) → is_pentagon (ancestor_at c (length c.digits - 1)) ≡ true → d ≢ 0 → center ≡ length (descendants (child (ancestor_at c (length c.digits - 1)) 0) s) → outer ≡ 7 ^ (s - length c.digits) → HasBefore c s (center + (d - 2) * outer)
   before_pentagon center outer pentagon nz e o =
       subst (λ p. HasBefore c s (center + (d - next_step p 0) * outer)) pentagon (rw (no_zero d nz) at (before_at center outer e o))
 
@@ -222,7 +222,7 @@ pub reached_end : (c : Address) (s place level left : ℕ) (m : Address) → s �
 reached_end c s place level left m le within h =
     let all : take (length m.digits) (get_or (descendants c s) place c).digits ≡ (get_or (descendants c s) place c).digits =
     take_all (length m.digits) (get_or (descendants c s) place c).digits (omega (arith, h.level_is, le, h.below.descendant.resolution_is)) in
-    let same : get_or (descendants c s) place c ≡ m = sym (address_same (cut (get_or (descendants c s) place c) (length m.digits)) (get_or (descendants c s) place c) refl all) ∙ h.below.descendant.under in
+    let same : get_or (descendants c s) place c ≡ m = sym (address_same (ancestor_at (get_or (descendants c s) place c) (length m.digits)) (get_or (descendants c s) place c) refl all) ∙ h.below.descendant.under in
     slice_get-get_or (descendants c s) place c within ∙ ap Some same
 
 pub reached_place : DescendantsAreKnown → (c : Address) (s place : ℕ) (m : Address) → IsCell c → length c.digits ≤ s → s ≤ 15 → slice_get (descendants c s) place ≡ Some m → HasPosition c s m place
@@ -236,20 +236,20 @@ reached_place laws c s place m v low high e =
 -- ---- the sum of a position
 
 pub record IsCounted (c : Address) (q level so_far : ℕ) : Type 0 where
-  pub is : so_far + position_under (cut c level) c ≡ position_under (cut c q) c
+  pub is : so_far + position_under (ancestor_at c level) c ≡ position_under (ancestor_at c q) c
 
 cut_twice : (l : ℕ) (ds : List ℕ) → l < length ds → take (length (take (l + 1) ds) - 1) (take (l + 1) ds) ≡ take l ds
 cut_twice l ds lt =
     let size : length (take (l + 1) ds) - 1 ≡ l = omega (arith, length-take-le (l + 1) ds (omega arith)) in
     rw size (take-take l (l + 1) ds (omega arith))
 
-pub cut_address : (c : Address) (l : ℕ) → l < length c.digits → cut (cut c (l + 1)) (length (cut c (l + 1)).digits - 1) ≡ cut c l
+pub cut_address : (c : Address) (l : ℕ) → l < length c.digits → ancestor_at (ancestor_at c (l + 1)) (length (ancestor_at c (l + 1)).digits - 1) ≡ ancestor_at c l
 cut_address c l lt =
-    address_same (cut (cut c (l + 1)) (length (cut c (l + 1)).digits - 1)) (cut c l) refl (cut_twice l c.digits lt)
+    address_same (ancestor_at (ancestor_at c (l + 1)) (length (ancestor_at c (l + 1)).digits - 1)) (ancestor_at c l) refl (cut_twice l c.digits lt)
 
-pub cut_above : (c : Address) (q : ℕ) → IsCell c → q ≤ length c.digits → IsDescendant (cut c q) (length c.digits) c
+pub cut_above : (c : Address) (q : ℕ) → IsCell c → q ≤ length c.digits → IsDescendant (ancestor_at c q) (length c.digits) c
 cut_above c q v le =
-    record { valid = v; resolution_is = refl; under = ap (λ n. cut c n) (length-take-le q c.digits le) }
+    record { valid = v; resolution_is = refl; under = ap (λ n. ancestor_at c n) (length-take-le q c.digits le) }
 
 alone : DescendantsAreKnown → (c : Address) → length (descendants c (length c.digits)) ≡ 1
 alone laws c =
@@ -259,10 +259,10 @@ alone laws c =
       | inr h ↦ laws.hexagons c (length c.digits) h ∙ rw none refl
     ]
 
-pub counted_end : DescendantsAreKnown → (c : Address) (q l so_far : ℕ) → IsCell c → length c.digits ≤ l → IsCounted c q l so_far → so_far ≡ position_under (cut c q) c
+pub counted_end : DescendantsAreKnown → (c : Address) (q l so_far : ℕ) → IsCell c → length c.digits ≤ l → IsCounted c q l so_far → so_far ≡ position_under (ancestor_at c q) c
 counted_end laws c q l so_far v le h =
-    let same : cut c l ≡ c = address_same (cut c l) c refl (take_all l c.digits le) in
-    let self : IsDescendant c (length c.digits) c = record { valid = v; resolution_is = refl; under = address_same (cut c (length c.digits)) c refl (take-length c.digits) } in
+    let same : ancestor_at c l ≡ c = address_same (ancestor_at c l) c refl (take_all l c.digits le) in
+    let self : IsDescendant c (length c.digits) c = record { valid = v; resolution_is = refl; under = address_same (ancestor_at c (length c.digits)) c refl (take-length c.digits) } in
     let at = get-position_under laws c c (length c.digits) v (omega arith) (omega (arith, v.coarse)) self in
     let none : position_under c c ≡ 0 = omega (arith, at.within, alone laws c) in
     omega (arith, h.is, ap (λ m. position_under m c) same, none)
@@ -271,10 +271,10 @@ counted_end laws c q l so_far v le h =
 
 -- the digits up to a level are the number so far
 pub record IsInSevens (c : Address) (q level so_far : ℕ) : Type 0 where
-  pub hexagon : is_pentagon (cut c level) ≡ false
-  pub is : so_far * 7 ^ (length c.digits - level) + position_under (cut c level) c ≡ position_under (cut c q) c
+  pub hexagon : is_pentagon (ancestor_at c level) ≡ false
+  pub is : so_far * 7 ^ (length c.digits - level) + position_under (ancestor_at c level) c ≡ position_under (ancestor_at c q) c
 
-pub last_of_cut : CutsAreCells → (c : Address) (l d : ℕ) → IsCell c → l < length c.digits → d ≡ get_or c.digits l 7 → IsLastDigit (cut c (l + 1)) (length c.digits) d
+pub last_of_cut : CutsAreCells → (c : Address) (l d : ℕ) → IsCell c → l < length c.digits → d ≡ get_or c.digits l 7 → IsLastDigit (ancestor_at c (l + 1)) (length c.digits) d
 last_of_cut cuts c l d v lt e =
     let size : length (take (l + 1) c.digits) ≡ l + 1 = length-take-le (l + 1) c.digits (omega arith) in
     let last : length (take (l + 1) c.digits) - 1 ≡ l = omega (arith, size) in
@@ -300,24 +300,24 @@ sevens_step : DescendantsAreKnown → CutsAreCells → (c : Address) (q l so_far
 sevens_step laws cuts c q l so_far d v lt e h =
     let last = last_of_cut cuts c l d v lt e in
     let size : length (take (l + 1) c.digits) ≡ l + 1 = length-take-le (l + 1) c.digits (omega arith) in
-    let above : cut (cut c (l + 1)) (length (cut c (l + 1)).digits - 1) ≡ cut c l = cut_address c l lt in
-    let hexagon : is_pentagon (cut (cut c (l + 1)) (length (cut c (l + 1)).digits - 1)) ≡ false = ap is_pentagon above ∙ h.hexagon in
+    let above : ancestor_at (ancestor_at c (l + 1)) (length (ancestor_at c (l + 1)).digits - 1) ≡ ancestor_at c l = cut_address c l lt in
+    let hexagon : is_pentagon (ancestor_at (ancestor_at c (l + 1)) (length (ancestor_at c (l + 1)).digits - 1)) ≡ false = ap is_pentagon above ∙ h.hexagon in
     let power : 7 ^ (length c.digits - (l + 1)) ≡ 7 ^ (length c.digits - length (take (l + 1) c.digits)) = ap (λ n. 7 ^ (length c.digits - n)) (sym size) in
-    let before = before_hexagon laws (cut c (l + 1)) (length c.digits) d last (7 ^ (length c.digits - (l + 1))) hexagon power in
-    let ahead : position_under (cut c l) c ≡ d * 7 ^ (length c.digits - (l + 1)) + position_under (cut c (l + 1)) c =
+    let before = before_hexagon laws (ancestor_at c (l + 1)) (length c.digits) d last (7 ^ (length c.digits - (l + 1))) hexagon power in
+    let ahead : position_under (ancestor_at c l) c ≡ d * 7 ^ (length c.digits - (l + 1)) + position_under (ancestor_at c (l + 1)) c =
     ap (λ m. position_under m c) (sym above) ∙ before.ahead c (cut_above c (l + 1) v (omega arith)) in
     let next : suc (length c.digits - (l + 1)) ≡ length c.digits - l = omega arith in
-    let whole : so_far * 7 ^ suc (length c.digits - (l + 1)) + position_under (cut c l) c ≡ position_under (cut c q) c = rw next h.is in
+    let whole : so_far * 7 ^ suc (length c.digits - (l + 1)) + position_under (ancestor_at c l) c ≡ position_under (ancestor_at c q) c = rw next h.is in
     record {
-      hexagon = ap is_pentagon (sym (ap (λ m. child m d) (sym above) ∙ whole_cell laws (cut c (l + 1)) (length c.digits) d last)) ∙ pentagon-child (cut c l) d ∙ (rw h.hexagon refl);
-      is = sevens_more so_far d (7 ^ (length c.digits - (l + 1))) (position_under (cut c l) c) (position_under (cut c (l + 1)) c) (position_under (cut c q) c) (length c.digits - (l + 1)) refl ahead whole;
+      hexagon = ap is_pentagon (sym (ap (λ m. child m d) (sym above) ∙ whole_cell laws (ancestor_at c (l + 1)) (length c.digits) d last)) ∙ pentagon-child (ancestor_at c l) d ∙ (rw h.hexagon refl);
+      is = sevens_more so_far d (7 ^ (length c.digits - (l + 1))) (position_under (ancestor_at c l) c) (position_under (ancestor_at c (l + 1)) c) (position_under (ancestor_at c q) c) (length c.digits - (l + 1)) refl ahead whole;
     }
 
-sevens_end : DescendantsAreKnown → (c : Address) (q l so_far : ℕ) → IsCell c → length c.digits ≤ l → IsInSevens c q l so_far → so_far ≡ position_under (cut c q) c
+sevens_end : DescendantsAreKnown → (c : Address) (q l so_far : ℕ) → IsCell c → length c.digits ≤ l → IsInSevens c q l so_far → so_far ≡ position_under (ancestor_at c q) c
 sevens_end laws c q l so_far v le h =
     let none : length c.digits - l ≡ 0 = omega arith in
     let one : so_far * 7 ^ (length c.digits - l) ≡ so_far = rw none (omega arith) in
-    counted_end laws c q l so_far v le (record { is = ap (λ n. n + position_under (cut c l) c) (sym one) ∙ h.is })
+    counted_end laws c q l so_far v le (record { is = ap (λ n. n + position_under (ancestor_at c l) c) (sym one) ∙ h.is })
 
 any_default : (ds : List ℕ) (i a b : ℕ) → i < length ds → get_or ds i a ≡ get_or ds i b
 any_default [] i a b lt = absurd (omega (arith, lt))
@@ -325,7 +325,7 @@ any_default (d ∷ ds) zero a b lt = refl
 any_default (d ∷ ds) (suc i) a b lt = any_default ds i a b (omega (arith, lt))
 
 -- the first n digits below a hexagon
-in_sevens : DescendantsAreKnown → CutsAreCells → (c : Address) (q n : ℕ) → IsCell c → q + n ≤ length c.digits → is_pentagon (cut c q) ≡ false → IsInSevens c q (q + n) (number_from_digits 7 (take n (drop q c.digits)))
+in_sevens : DescendantsAreKnown → CutsAreCells → (c : Address) (q n : ℕ) → IsCell c → q + n ≤ length c.digits → is_pentagon (ancestor_at c q) ≡ false → IsInSevens c q (q + n) (number_from_digits 7 (take n (drop q c.digits)))
 in_sevens laws cuts c q zero v le h =
     let none : q + 0 ≡ q = omega arith in
     rw none (record { hexagon = h; is = omega arith })
@@ -339,7 +339,7 @@ in_sevens laws cuts c q (suc n) v le h =
     rw (next, more) (sevens_step laws cuts c q (q + n) (number_from_digits 7 (take n (drop q c.digits))) (get_or c.digits (q + n) 7) v (omega (arith, le)) refl (in_sevens laws cuts c q n v (omega (arith, le)) h))
 
 -- all of them
-pub position_in_sevens : DescendantsAreKnown → CutsAreCells → (c : Address) (q : ℕ) → IsCell c → q ≤ length c.digits → is_pentagon (cut c q) ≡ false → number_from_digits 7 (drop q c.digits) ≡ position_under (cut c q) c
+pub position_in_sevens : DescendantsAreKnown → CutsAreCells → (c : Address) (q : ℕ) → IsCell c → q ≤ length c.digits → is_pentagon (ancestor_at c q) ≡ false → number_from_digits 7 (drop q c.digits) ≡ position_under (ancestor_at c q) c
 position_in_sevens laws cuts c q v le h =
     let n = length c.digits - q in
     let end : q + (length c.digits - q) ≡ length c.digits = omega (arith, le) in

@@ -1,10 +1,10 @@
 pub mod Children
 pub mod Examples
-pub mod SiblingGroups
-pub mod Following
+pub mod Iter
 pub mod Known
 pub mod LastChild
+pub mod Laws
 pub mod Positions
 pub mod PostOrder
 pub mod Refusals
-pub mod Laws
+pub mod SiblingGroups

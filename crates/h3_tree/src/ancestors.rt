@@ -4,7 +4,7 @@
 ghost use Rattle.std.specs.Prelude.{◌≡◌, pos, IfOk, unsigned_abs};
 ghost use Rattle.std.specs.Result.{result_err};
 ghost use Rattle.h3_index.specs.Cell.{Address, IsCell, resolution};
-ghost use Rattle.h3_index.specs.Descendants.{cut, IsAncestor};
+ghost use Rattle.h3_index.specs.Descendants.{ancestor_at, IsAncestor};
 ghost use Rattle.h3_tree.specs.Refusals.{parent_refusal};
 
 use h3_index::{Cell, H3Error, resolution_from};
@@ -16,7 +16,7 @@ use h3_index::{Cell, H3Error, resolution_from};
 /// than the cell's.
 pub fn parent(cell: Cell, res: i32) -> Result<Cell, H3Error>
     ensures refused { result_err result ≡ parent_refusal (resolution cell) res }
-    ensures is { IfOk result (λ ancestor. ancestor ≡ cut cell (unsigned_abs res)) }
+    ensures is { IfOk result (λ ancestor. ancestor ≡ ancestor_at cell (unsigned_abs res)) }
     ensures ancestor { IfOk result (λ ancestor. IsCell ancestor × IsAncestor ancestor cell
         × (pos (resolution ancestor) ≡ res)) }
 
@@ -30,5 +30,5 @@ pub fn parent(cell: Cell, res: i32) -> Result<Cell, H3Error>
     if u64::from(r) > u64::from(own) {
         return Err(H3Error::ResMismatch);
     }
-    Ok(cell.cut(r))
+    Ok(cell.ancestor_at(r))
 }

@@ -5,7 +5,7 @@ ghost use Rattle.std.specs.Prelude.{◌≡◌, ◌+◌, ◌-◌, ◌*◌, ◌/�
 ghost use Rattle.std.specs.List.{flat_map};
 ghost use Rattle.std.specs.Result.{result_err};
 ghost use Rattle.h3_index.specs.Cell.{Address, is_pentagon, IsCell, number_of, resolution};
-ghost use Rattle.h3_index.specs.Descendants.{center_at, children, descendants, IsDescendant};
+ghost use Rattle.h3_index.specs.Descendants.{center_descendant, children, descendants, IsDescendant};
 ghost use Rattle.h3_tree.specs.Children.{children_left};
 ghost use Rattle.h3_tree.specs.LastChild.{last_at};
 ghost use Rattle.h3_tree.specs.SiblingGroups.{parents_left};
@@ -36,11 +36,11 @@ pub fn resolution_below(cell: Cell, res: i32) -> Result<u8, H3Error>
 /// `ResDomain` where the resolution is outside the cell's own to 15.
 pub fn center_child(cell: Cell, res: i32) -> Result<Cell, H3Error>
     ensures refused { result_err result ≡ descent_refusal (resolution cell) res }
-    ensures zeros { IfOk result (λ child. child ≡ center_at cell (unsigned_abs res)) }
+    ensures zeros { IfOk result (λ child. child ≡ center_descendant cell (unsigned_abs res)) }
     ensures descendant { IfOk result (λ child. IsDescendant cell (unsigned_abs res) child) }
 {
     let r = resolution_below(cell, res)?;
-    Ok(cell.center_at(r))
+    Ok(cell.center_descendant(r))
 }
 
 /// The last descendant of a cell at a resolution, which is the one with the greatest number: its

@@ -4,7 +4,7 @@ ghost use Rattle.std.specs.Prelude.{◌≡◌, ◌≤◌, ◌-◌, ◌^◌};
 ghost use Rattle.std.specs.Iterator.{YieldsFirst, item_count};
 ghost use Rattle.h3_index.specs.Cell.{IsCell, resolution};
 ghost use Rattle.h3_index.specs.Descendants.{descendants};
-ghost use Rattle.h3_tree.specs.Following.{following};
+ghost use Rattle.h3_tree.specs.Iter.{following};
 
 use crate::descendants::size_at;
 use h3_index::Cell;
@@ -21,13 +21,13 @@ fn following(cell: Cell) -> Cell
     while r > 0 {
         let digit = cell.digit(r);
         if digit != 6 {
-            let above = cell.cut(r - 1);
+            let above = cell.ancestor_at(r - 1);
             let step = if digit == 0 && above.is_pentagon() {
                 2
             } else {
                 digit + 1
             };
-            return above.child(step).center_at(resolution);
+            return above.child(step).center_descendant(resolution);
         }
         r -= 1;
     }
@@ -36,11 +36,11 @@ fn following(cell: Cell) -> Cell
 
 /// The next cell, which six times in seven has the same parent. The cell's unit is given.
 #[inline(always)]
-fn next_cell(cell: Cell, unit: u64) -> Cell
-    requires { unit ≡ 8 ^ (15 - resolution cell) }
+fn next_cell(cell: Cell, last_digit_step: u64) -> Cell
+    requires { last_digit_step ≡ 8 ^ (15 - resolution cell) }
     ensures { result ≡ following cell }
 {
-    match cell.raised(unit) {
+    match cell.raised(last_digit_step) {
         Some(next) => next,
         None => following(cell),
     }
@@ -51,9 +51,9 @@ fn next_cell(cell: Cell, unit: u64) -> Cell
 #[derive(Clone, Copy, Debug)]
 pub struct Children {
     next: Cell,
-    unit: u64,
+    last_digit_step: u64,
     left: u64,
-    ghost unit_is: { unit ≡ 8 ^ (15 - resolution next) },
+    ghost unit_is: { last_digit_step ≡ 8 ^ (15 - resolution next) },
 }
 
 impl Children {
@@ -67,10 +67,10 @@ impl Children {
         ensures valid { IsCell cell }
     {
         paths_are_chains();
-        let next = cell.center_at(r);
+        let next = cell.center_descendant(r);
         Children {
             next,
-            unit: next.unit(),
+            last_digit_step: next.last_digit_step(),
             left: size_at(cell, r),
         }
     }
@@ -94,7 +94,7 @@ impl Iterator for Children {
         self.left -= 1;
         // After the last cell none is asked for: a list of one cell is common.
         if self.left > 0 {
-            self.next = next_cell(self.next, self.unit);
+            self.next = next_cell(self.next, self.last_digit_step);
         }
         Some(cell)
     }

@@ -7,6 +7,7 @@ ghost use Rattle.h3_tree.specs.declared.iter.Children.{Children};
 ghost use Rattle.h3_tree.specs.LastChild.{ChildrenFormRanges};
 ghost use Rattle.h3_tree.specs.Laws.{CellsFormTrees};
 ghost use Rattle.h3_tree.specs.PostOrder.{CellsFormIntervals};
+ghost use Rattle.h3_tree.specs.SiblingGroups.{DescendantsAreChildren};
 
 use crate::iter::Children;
 use h3_index::laws::{cuts_are_cells, descendants_are_listed, paths_are_chains};
@@ -35,6 +36,12 @@ pub fn children_form_ranges()
 {
     cells_form_trees();
 }
+
+/// A cell's descendants at a resolution are the children of those one level above, those of one
+/// parent after those of another.
+pub fn descendants_are_children()
+    ensures { DescendantsAreChildren }
+{}
 
 /// A clone of `Children` is made, and has the same cells still to come.
 pub fn clones_go_on()

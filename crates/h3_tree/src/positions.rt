@@ -4,7 +4,7 @@
 ghost use Rattle.std.specs.Prelude.{◌≡◌, ◌+◌, ◌-◌, ◌/◌, ◌^◌, ◌<◌, ◌≤◌, ℕ, true, false, length, IfOk, Some, slice_get, unsigned_abs};
 ghost use Rattle.std.specs.Result.{result_err};
 ghost use Rattle.h3_index.specs.Cell.{Address, IsCell, is_pentagon, resolution};
-ghost use Rattle.h3_index.specs.Descendants.{cut, descendants, IsDescendant};
+ghost use Rattle.h3_index.specs.Descendants.{ancestor_at, descendants, IsDescendant};
 ghost use Rattle.h3_tree.specs.Known.{DescendantsAreKnown};
 ghost use Rattle.h3_tree.specs.Positions.{position_under, HasPosition, MembersHavePositions, PositionsHaveMembers};
 ghost use Rattle.h3_tree.specs.Refusals.{parent_refusal, position_refusal};
@@ -80,8 +80,8 @@ fn member_at(position: u64, cell: Cell, r: u8) -> Cell
 #[inline(always)]
 fn position_below_hexagon(cell: Cell, ancestor_res: u8) -> u64
     requires not_finer { ancestor_res ≤ resolution cell }
-    requires hexagon { is_pentagon (cut cell ancestor_res) ≡ false }
-    ensures { result ≡ position_under (cut cell ancestor_res) cell }
+    requires hexagon { is_pentagon (ancestor_at cell ancestor_res) ≡ false }
+    ensures { result ≡ position_under (ancestor_at cell ancestor_res) cell }
 {
     descendants_are_known();
     cuts_are_cells();
@@ -106,8 +106,8 @@ fn deleted_below(digits: u64) -> u64
 #[inline(always)]
 fn position_below_pentagon(cell: Cell, ancestor_res: u8) -> u64
     requires not_finer { ancestor_res ≤ resolution cell }
-    requires pentagon { is_pentagon (cut cell ancestor_res) ≡ true }
-    ensures { result ≡ position_under (cut cell ancestor_res) cell }
+    requires pentagon { is_pentagon (ancestor_at cell ancestor_res) ≡ true }
+    ensures { result ≡ position_under (ancestor_at cell ancestor_res) cell }
 {
     descendants_are_known();
     cuts_are_cells();
@@ -125,7 +125,7 @@ fn position_below_pentagon(cell: Cell, ancestor_res: u8) -> u64
 pub fn child_pos(cell: Cell, parent_res: i32) -> Result<u64, H3Error>
     ensures refused { result_err result ≡ parent_refusal (resolution cell) parent_res }
     ensures is { IfOk result (λ position.
-        position ≡ position_under (cut cell (unsigned_abs parent_res)) cell) }
+        position ≡ position_under (ancestor_at cell (unsigned_abs parent_res)) cell) }
 {
     let ancestor = parent(cell, parent_res)?;
     if ancestor.is_pentagon() {

@@ -1,7 +1,7 @@
 -- A plain call passes: no step of the parse fails.
-use Rattle.std.proofs.Common.{◌≡◌, ◌⊎◌, ◌∙◌, ◌≤◌, ◌+◌, ◌&&◌, ◌||◌, ◌==◌, ◌++◌, ℕ, ℤ, Bool, cond, true, false, not, refl, sym, ap, ap₂, subst, arith, List, [], ◌∷◌, map, length, drop, Option, Some, None, is_some, inl, inr, true≢false, codes}
+use Rattle.std.proofs.Common.{◌≡◌, ◌⊎◌, ◌∙◌, ◌≤◌, ◌+◌, ◌&&◌, ◌||◌, ◌==◌, ◌++◌, ℕ, ℤ, Bool, cond, true, false, not, refl, sym, ap, ap₂, subst, arith, List, [], ◌∷◌, length, drop, Option, Some, None, is_some, inl, inr, true≢false, codes}
 use Rattle.std.specs.Char.{encode_utf8}
-use Rattle.std.specs.Prelude.{slice_get, slice_index, option_and_then, option_map, unwrap_or, find, fold}
+use Rattle.std.specs.Prelude.{⊤, filter_map, slice_get, slice_index, option_and_then, option_map, unwrap_or, find}
 use Rattle.std.specs.List.{list_any}
 use Rattle.std.specs.Option.{option_map_or}
 use Rattle.std.specs.Str.{bytes_eq, chars}
@@ -10,19 +10,16 @@ use Rattle.clap.specs.Lexer.{long_of, long_of_rest, short_of, short_of_rest, str
 use Rattle.std.proofs.lemmas.Bool.{ne_eqb}
 use Rattle.clap.specs.ValueTests.{accepts}
 use Rattle.clap.proofs.ValueTestLemmas.{Accepts-accepts}
-use Rattle.clap.specs.Walk.{Names, answers_to, finished, nothing_held, walk, Outcome, trailing, attached_value, after_flag, bundle_step, done, flag_met, reacted, used, long_met, long_or_other, option_met, plain, plain_word, short_met, short_or_plain, Held, Row, Rule, Step, Text, Waiting, Walk, after_step, arg_by_id, arg_by_long, arg_by_short, bundle_met, has_long, has_row, has_short, idle, next, option, settled, used_by_id, walked, word_met}
+use Rattle.clap.specs.Walk.{finished, nothing_held, Outcome, trailing, attached_value, after_flag, bundle_step, done, flag_met, reacted, used, long_met, long_or_other, option_met, plain, plain_word, short_met, short_or_plain, Held, Row, Rule, Step, Text, Waiting, Walk, after_step, arg_by_id, arg_by_long, arg_by_short, bundle_met, has_long, has_row, has_short, idle, next, option, settled, used_by_id, walked, word_met}
 use Rattle.clap.specs.Kinds.{Kinds, or_else}
 use Rattle.clap.specs.Values.{refused_kind}
 use Rattle.clap.specs.Takes.{is_given}
 use Rattle.clap.specs.Facts.{explicit_source}
-use Rattle.clap.specs.Simple.{Shape, entered, label_of, names_of, rows_at}
 use Rattle.clap.specs.declared.builder.value_parser.ValueParser.TheVariants.{Signed, String}
 use Rattle.clap.specs.declared.error.kind.ErrorKind.TheVariants as kind
 use Rattle.h3_words.specs.Commands.{command_names, app, word_of, options_of}
-use Rattle.h3_words.specs.declared.commands.CommandName.{CommandName}
-use Rattle.h3_words.proofs.Names.{word_named}
-use Rattle.h3_words.proofs.Top.{app_done, first_met, first_state, keeps_stop, leaf, stopped_at, top_done}
-use Rattle.clap.specs.Faults.{react_fault, check_fault, defaults_fault, entered_fault, fault_of, given_default_fault, level_fault, other_fault, bundle_fault, bundle_step_fault, flag_word_fault, long_fault, option_fault, short_fault, flags_fault, settle_fault, step_fault, turn_fault, use_fault, walk_fault, word_fault}
+use Rattle.h3_words.proofs.Named.{fault_named, first_of_all}
+use Rattle.clap.specs.Faults.{react_fault, defaults_fault, fault_of, given_default_fault, level_fault, bundle_fault, bundle_step_fault, flag_word_fault, long_fault, option_fault, short_fault, flags_fault, settle_fault, step_fault, turn_fault, use_fault, walk_fault, word_fault}
 use Rattle.h3_words.specs.Call.{IsPlainCall, IsPlainValue, Use, names_for, value_words, words_of}
 use Rattle.h3_words.proofs.Uses.{AreUses, IsListed, are_uses, contains, uses_in, uses_in-uses_of}
 use Rattle.h3_words.proofs.Lexed.{given, is_long, is_short, named, named_by, spelled}
@@ -31,7 +28,7 @@ use Rattle.h3_words.specs.Given.{given_by}
 use Rattle.h3_words.specs.Rows.{rows_agree}
 use Rattle.h3_words.specs.Options.{IsWithin, number_from, number_up_to, id_of, is_flag, is_required, long_name, parser_done, short_name}
 use Rattle.h3_words.specs.declared.options.CommandOption.{CommandOption}
-use Rattle.h3_words.specs.declared.options.CommandOption.TheVariants.{Cell, Resolution, Radius, To, Position, Edge, Table, Region, Zones, Field, Column, Header, Separator, Csv, As, KeepGoing}
+use Rattle.h3_words.specs.declared.options.CommandOption.TheVariants.{Cell, Resolution, Radius, Header, Csv, KeepGoing}
 use Rattle.h3_words.proofs.Leaf.{Holds, by_flag, flag_is, rule_as, short_plain, takes_no_value, takes_value, unnamed, value_is, written_used, long_is, mine, no_default, short_is, walks, Differs, Which, at_word, bytes_same, differ, done_rule, done_rules, help_done, idle_held, leaf_done, longs_differ, or_false, row_of_option, shorts_differ, used_fresh, value_state, walk_end}
 
 -- how a word names an option
@@ -40,42 +37,41 @@ data NameForm (q : CommandOption) (word : Text) : Type 0 where
   short_form : (y : ℕ) → long_of word ≡ None → short_of word ≡ Some (y ∷ []) → slice_get (chars (y ∷ [])) 0 ≡ Some y → drop (length (encode_utf8 y)) (y ∷ []) ≡ []
       → is_short q y ≡ true → has_short help_done y ≡ false → bytes_eq word (45 ∷ 45 ∷ []) ≡ false → NameForm q word
 
-name_form : (q : CommandOption) (word : Text) → IsListed word (names_for q) → NameForm q word
+-- a word of this long name names the option by it
+abbrev LongForm : CommandOption → Option Text → Type 0
+LongForm q None = ⊤
+LongForm q (Some n) = (long_of (codes "--" ++ n) ≡ Some (n, None)) × (is_long q n ≡ true) × (has_long help_done n ≡ false) × (bytes_eq (codes "--" ++ n) (45 ∷ 45 ∷ []) ≡ false)
+
+long_form_of : (q : CommandOption) → LongForm q (long_name q)
+long_form_of Radius = tt
+long_form_of q = (refl, refl, refl, refl)
+
+-- a word of this short name names the option by it
+abbrev ShortForm : CommandOption → Option ℕ → Type 0
+ShortForm q None = ⊤
+ShortForm q (Some y) = (long_of (45 ∷ y ∷ []) ≡ None) × (short_of (45 ∷ y ∷ []) ≡ Some (y ∷ [])) × (slice_get (chars (y ∷ [])) 0 ≡ Some y) × (drop (length (encode_utf8 y)) (y ∷ []) ≡ [])
+    × (is_short q y ≡ true) × (has_short help_done y ≡ false) × (bytes_eq (45 ∷ y ∷ []) (45 ∷ 45 ∷ []) ≡ false)
+
+short_form_of : (q : CommandOption) → ShortForm q (short_name q)
 unfolding chars encode_utf8
-name_form Cell word (inl e) = subst (NameForm Cell) e (short_form 99 refl refl refl refl refl refl refl)
-name_form Cell word (inr (inl e)) = subst (NameForm Cell) e (long_form (codes "cell") refl refl refl refl)
-name_form Cell word (inr (inr e)) = absurd e
-name_form Resolution word (inl e) = subst (NameForm Resolution) e (short_form 114 refl refl refl refl refl refl refl)
-name_form Resolution word (inr (inl e)) = subst (NameForm Resolution) e (long_form (codes "resolution") refl refl refl refl)
-name_form Resolution word (inr (inr e)) = absurd e
-name_form Radius word (inl e) = subst (NameForm Radius) e (short_form 107 refl refl refl refl refl refl refl)
-name_form Radius word (inr e) = absurd e
-name_form To word (inl e) = subst (NameForm To) e (long_form (codes "to") refl refl refl refl)
-name_form To word (inr e) = absurd e
-name_form Position word (inl e) = subst (NameForm Position) e (long_form (codes "position") refl refl refl refl)
-name_form Position word (inr e) = absurd e
-name_form Edge word (inl e) = subst (NameForm Edge) e (long_form (codes "edge") refl refl refl refl)
-name_form Edge word (inr e) = absurd e
-name_form Table word (inl e) = subst (NameForm Table) e (long_form (codes "table") refl refl refl refl)
-name_form Table word (inr e) = absurd e
-name_form Region word (inl e) = subst (NameForm Region) e (long_form (codes "region") refl refl refl refl)
-name_form Region word (inr e) = absurd e
-name_form Zones word (inl e) = subst (NameForm Zones) e (long_form (codes "zones") refl refl refl refl)
-name_form Zones word (inr e) = absurd e
-name_form Field word (inl e) = subst (NameForm Field) e (long_form (codes "field") refl refl refl refl)
-name_form Field word (inr e) = absurd e
-name_form Column word (inl e) = subst (NameForm Column) e (long_form (codes "column") refl refl refl refl)
-name_form Column word (inr e) = absurd e
-name_form Header word (inl e) = subst (NameForm Header) e (long_form (codes "header") refl refl refl refl)
-name_form Header word (inr e) = absurd e
-name_form Separator word (inl e) = subst (NameForm Separator) e (long_form (codes "separator") refl refl refl refl)
-name_form Separator word (inr e) = absurd e
-name_form Csv word (inl e) = subst (NameForm Csv) e (long_form (codes "csv") refl refl refl refl)
-name_form Csv word (inr e) = absurd e
-name_form As word (inl e) = subst (NameForm As) e (long_form (codes "as") refl refl refl refl)
-name_form As word (inr e) = absurd e
-name_form KeepGoing word (inl e) = subst (NameForm KeepGoing) e (long_form (codes "keep-going") refl refl refl refl)
-name_form KeepGoing word (inr e) = absurd e
+short_form_of Cell = (refl, refl, refl, refl, refl, refl, refl)
+short_form_of Resolution = (refl, refl, refl, refl, refl, refl, refl)
+short_form_of Radius = (refl, refl, refl, refl, refl, refl, refl)
+short_form_of q = tt
+
+name_form : (q : CommandOption) (word : Text) → IsListed word (names_for q) → NameForm q word
+name_form q word is = go (short_name q) (long_name q) (short_form_of q) (long_form_of q) is
+  where
+    go : (short : Option ℕ) (long : Option Text) → ShortForm q short → LongForm q long
+        → IsListed word (filter_map (λ name. name) (option_map (λ c. codes "-" ++ c ∷ []) short ∷ option_map (λ n. codes "--" ++ n) long ∷ [])) → NameForm q word
+    go None None s l e = absurd e
+    go None (Some n) s l (inl e) = subst (NameForm q) e (long_form n l.0 l.1 l.2 l.3)
+    go None (Some n) s l (inr e) = absurd e
+    go (Some y) None s l (inl e) = subst (NameForm q) e (short_form y s.0 s.1 s.2 s.3 s.4 s.5 s.6)
+    go (Some y) None s l (inr e) = absurd e
+    go (Some y) (Some n) s l (inl e) = subst (NameForm q) e (short_form y s.0 s.1 s.2 s.3 s.4 s.5 s.6)
+    go (Some y) (Some n) s l (inr (inl e)) = subst (NameForm q) e (long_form n l.0 l.1 l.2 l.3)
+    go (Some y) (Some n) s l (inr (inr e)) = absurd e
 
 -- a search that only q passes finds it
 only_found : (p : Rule → Bool) (q : CommandOption) (os : List CommandOption) → IsListed q os → p (done_rule q) ≡ true → ((x : CommandOption) → Differs q x → p (done_rule x) ≡ false)
@@ -413,54 +409,6 @@ leaf_passes name os us fits once most =
 
 -- ---- the whole command line
 
-and_false : (b : Bool) → (b && false) ≡ false
-and_false true = refl
-and_false false = refl
-
--- a search among what a function makes of the items of a list
-find_map : {X Y : Type 0} (f : X → Y) (p : Y → Bool) (q : X → Bool) → ((x : X) → p (f x) ≡ q x) → (xs : List X) → find p (map f xs) ≡ option_map f (find q xs)
-find_map f p q same [] = refl
-find_map f p q same (x ∷ xs) = ap₂ (λ b later. cond b (Some (f x)) later) (same x) (find_map f p q same xs) ∙ go (q x)
-  where
-    go : (b : Bool) → cond b (Some (f x)) (option_map f (find q xs)) ≡ option_map f (cond b (Some x) (find q xs))
-    go true = refl
-    go false = refl
-
-name_found : (k : CommandName) → find (λ s. answers_to (word_of k) (label_of s)) (map leaf command_names) ≡ Some (leaf k)
-name_found k = find_map leaf (λ s. answers_to (word_of k) (label_of s)) (λ x. bytes_eq (word_of x) (word_of k)) (λ x. or_false (bytes_eq (word_of x) (word_of k))) command_names
-    ∙ ap (option_map leaf) (word_named k)
-
-name_first : (k : CommandName) → find (answers_to (word_of k)) (names_of (app_done command_names)) ≡ Some (label_of (leaf k))
-name_first k = find_map label_of (answers_to (word_of k)) (λ s. answers_to (word_of k) (label_of s)) (λ s. refl) (map leaf command_names) ∙ ap (option_map label_of) (name_found k)
-
-stopped_passes : (names : Names) (name : Text) (before words : List Text) → walk_fault top_done names (stopped_at name before) words ≡ []
-unfolding walk_fault walked
-stopped_passes names name before [] = refl
-stopped_passes names name before (x ∷ words) = stopped_passes names name (before ++ x ∷ []) words
-
-top_turn : (k : CommandName) (rest : List Text) → (walk_fault top_done (names_of (app_done command_names)) (at_word nothing_held idle) (word_of k ∷ rest) ≡ [])
-    × (walk (done_rules []) (names_of (app_done command_names)) nothing_held (word_of k ∷ rest) ≡ stopped_at (word_of k) rest)
-unfolding walk_fault walked
-top_turn k rest = (
-  ap (λ r. or_else (or_else (other_fault top_done (option_map (λ s. s.0) r) (word_of k) (idle_held [] None)) (step_fault top_done 1 (first_met (word_of k) r).0 (first_met (word_of k) r).1))
-      (walk_fault top_done (names_of (app_done command_names)) (first_state (word_of k) r) rest)) (name_first k)
-      ∙ ap (λ b. or_else (or_else (cond b (kind.DisplayHelp ∷ kind.InvalidSubcommand ∷ []) []) []) (walk_fault top_done (names_of (app_done command_names)) (stopped_at (word_of k) []) rest)) (and_false (bytes_eq (word_of k) (codes "help")))
-      ∙ stopped_passes (names_of (app_done command_names)) (word_of k) [] rest,
-  ap (λ r. fold (walked (done_rules []) (names_of (app_done command_names))) (first_state (word_of k) r) rest) (name_first k) ∙ keeps_stop (names_of (app_done command_names)) (word_of k) [] rest,
-)
-
-pub app_passes : (program : Text) (k : CommandName) (rest : List Text) → level_fault (leaf k) [] nothing_held rest false [] ≡ [] → fault_of app (program ∷ word_of k ∷ rest) ≡ []
-unfolding defaults_fault
-app_passes program k rest f =
-    let a = app_done command_names in
-    let names = names_of a in
-    let turn = top_turn k rest in
-    ap₂ or_else turn.0
-    (ap (λ (w : Walk). or_else (entered_fault a w.stopped) (or_else (settle_fault (done_rules []) false w.held) (or_else (defaults_fault (settled (done_rules []) w.held).rows (done_rules []))
-    (check_fault top_done (finished (done_rules []) w.held) (is_some (entered a w.stopped)))))) turn.1
-    ∙ ap (λ (r : Option Shape). or_else (option_map_or (λ s. level_fault s [] nothing_held rest false []) r []) (check_fault top_done [] (is_some (option_map (λ s. rows_at s rest) r)))) (name_found k)
-    ∙ ap (λ x. or_else x []) f)
-
 -- where the words are a plain call, no step of the parse fails
 pub call_passes : (words : List Text) → IsPlainCall words → fault_of app words ≡ []
 call_passes words h =
@@ -469,7 +417,7 @@ call_passes words h =
     let once : (o : CommandOption) → IsListed o os → is_required o ≡ true → uses_in o h.uses ≡ 1 = λ o is needed. uses_in-uses_of o h.uses ∙ h.required o (contains os o is) needed in
     let most : (o : CommandOption) → uses_in o h.uses ≤ 1 = λ o. subst (λ n. n ≤ 1) (sym (uses_in-uses_of o h.uses)) (h.once o) in
     ap (fault_of app) h.words_are
-    ∙ app_passes h.program h.name (words_of h.uses) (leaf_passes (word_of h.name) os h.uses uses once most)
+    ∙ fault_named command_names h.name (words_of h.uses) (first_of_all h.name) ∙ leaf_passes (word_of h.name) os h.uses uses once most
 
 -- and the options of rows in it agree
 pub call_agrees : (words : List Text) → IsPlainCall words → rows_agree (λ o. own.given o (drop 2 words)) ≡ true

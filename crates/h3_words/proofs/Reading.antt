@@ -1,10 +1,10 @@
 -- From a parse that succeeds to what the words ask for.
-use Rattle.std.proofs.Common.{◌≡◌, ◌∙◌, true, false, refl, sym, ap, ap₂, subst, List, [], ◌∷◌, ◌||◌, drop, is_some, Option, Some, None, inl, inr}
-use Rattle.std.specs.Prelude.{Box, option_map, option_and_then, slice_get}
-use Rattle.std.specs.Box.{box_value}
+use Rattle.std.proofs.Common.{◌≡◌, ◌∙◌, Bool, cond, true, false, refl, sym, ap, ap₂, subst, List, [], ◌∷◌, ◌||◌, drop, is_some, Option, Some, None, inl, inr}
+use Rattle.std.specs.Prelude.{find, option_map, option_and_then, slice_get}
+use Rattle.std.specs.Str.{bytes_eq}
+use Rattle.std.proofs.lemmas.Slice.Eq.{bytes_eq-Decides}
 use Rattle.clap.specs.Kinds.{HasKind, IsAmong}
-use Rattle.clap.specs.Matches.{subcommand_name_of}
-use Rattle.clap.specs.Simple.{App, HasMatchesOf, is_simple, subcommand_of, subcommand_rows, subcommand_rows_of}
+use Rattle.clap.specs.Simple.{App, HasMatchesOf, is_simple, subcommand_of, subcommand_rows_of}
 use Rattle.clap.specs.Faults.{fault_of, is_simple_and_free}
 use Rattle.clap.specs.Values.{kind_of}
 use Rattle.clap.specs.Walk.{Row, Text, first_of, rows_of}
@@ -13,18 +13,16 @@ use Rattle.clap.proofs.ValueTestLemmas.{accepts-Accepts}
 use Rattle.clap.specs.declared.error.Error.{Error}
 use Rattle.clap.specs.declared.error.kind.ErrorKind.TheVariants.{DisplayHelp, OutOfMemory}
 use Rattle.clap.specs.declared.parser.matches.ArgMatches.{ArgMatches}
-use Rattle.clap.specs.declared.parser.matches.ArgMatches.TheViews.{out-ArgMatches, out-SubCommand}
 use Rattle.clap.specs.declared.parser.matches.Found.{Found}
-use Rattle.clap.specs.declared.parser.matches.SubCommand.{SubCommand}
-use Rattle.h3_words.specs.Commands.{app, name_of_command, word_of, options_of}
+use Rattle.h3_words.specs.Commands.{app, app_with, command_names, command_of, name_of_command, word_of, options_of}
 use Rattle.h3_words.specs.Faults.{IsFaultOf, IsRefusalOf, IsReportedAs}
 use Rattle.h3_words.specs.Given.{given}
 use Rattle.h3_words.proofs.Uses.{listed_of}
 use Rattle.h3_words.specs.Options.{id_of, parser_done}
 use Rattle.h3_words.specs.Values.{AreFound, IsAccepted, HasFile, HasValues, AsksFor}
 use Rattle.h3_words.specs.declared.words.Words.{Words}
-use Rattle.h3_words.specs.declared.words.WordsFault.{WordsFault}
-use Rattle.h3_words.specs.declared.words.WordsFault.TheVariants.{Help, Version, Usage, Memory}
+use Rattle.h3_words.specs.declared.words.ArgsError.{ArgsError}
+use Rattle.h3_words.specs.declared.words.ArgsError.TheVariants.{Help, Version, Usage, Memory}
 use Rattle.h3_words.specs.declared.options.CommandOption.{CommandOption}
 use Rattle.h3_words.specs.declared.commands.CommandName.{CommandName}
 use Rattle.h3_words.proofs.Lexed as lexed
@@ -36,17 +34,62 @@ use Rattle.h3_requests.specs.declared.rows.CellField.{CellField}
 use Rattle.h3_requests.specs.declared.rows.CellField.TheVariants as field
 use Rattle.h3_requests.specs.declared.rows.RowOptions.{RowOptions}
 use Rattle.std.specs.Option.{option_map_or}
+use Rattle.h3_words.proofs.Named.{alone_is_free, alone_is_simple, alone_rows, same_fault, whole_fault}
+use Rattle.h3_words.proofs.Names.{word_named}
 use Rattle.h3_words.proofs.Top.{app_enters, app_is_simple}
 
-is_simple_app : is_simple app ≡ true
-is_simple_app = refl
+pub some_same : {X : Type 0} (x y : X) → Some x ≡ Some y → x ≡ y
+some_same x y e = cc
+
+some_none : {X : Type 0} (x : X) → Some x ≡ None → ⊥
+some_none x e = cc
+
+-- the word after the program's name is the command's, and the words after it follow
+pub names_word : (k : CommandName) (ws : List Text) → command_of ws ≡ Some k → (slice_get ws 1 ≡ Some (word_of k)) × (drop 1 ws ≡ word_of k ∷ drop 2 ws)
+names_word k [] e = cc
+names_word k (program ∷ []) e = cc
+names_word k (program ∷ word ∷ rest) e =
+    let same = (bytes_eq-Decides (word_of k) word).0 (find_passes (λ x. bytes_eq (word_of x) word) command_names k e) in
+    (ap (λ w. Some w) (sym same), ap (λ w. w ∷ rest) (sym same))
+  where
+    find_passes : {X : Type 0} (p : X → Bool) (xs : List X) (x : X) → find p xs ≡ Some x → p x ≡ true
+    find_passes p [] x found = cc
+    find_passes p (y ∷ ys) x found = go (p y) refl (find_passes p ys x) found
+      where
+        go : (b : Bool) → p y ≡ b → (find p ys ≡ Some x → p x ≡ true) → cond b (Some y) (find p ys) ≡ Some x → p x ≡ true
+        go true hit later found2 = subst (λ z. p z ≡ true) (some_same y x found2) hit
+        go false hit later found2 = later found2
+
+-- where no step of the parse fails, the words name a command
+pub names_command : (ws : List Text) → fault_of app ws ≡ [] → command_of ws ≡ None → ⊥
+names_command ws f none =
+    let e = app_enters ws f in
+    some_none e.0 (sym (word_named e.0) ∙ sym (ap (option_and_then (λ w. find (λ k. bytes_eq (word_of k) w) command_names)) (first_left ws (word_of e.0) e.1 e.2)) ∙ none)
+  where
+    first_left : (words : List Text) (name : Text) (rest : List Text) → drop 1 words ≡ name ∷ rest → slice_get words 1 ≡ Some name
+    first_left [] name rest e2 = cc
+    first_left (program ∷ words) name rest e2 = ap (λ t. slice_get t 0) e2
+
+-- what `clap` is given is simple, and fails at the words as the whole command line does
+pub record Stands (a : App) (ws : List Text) : Type 0 where
+  pub simple : is_simple_and_free a ≡ true
+  pub fault : fault_of a ws ≡ fault_of app ws
+
+pub stands_whole : (a : App) (ws : List Text) → a ≡ app → Stands a ws
+stands_whole a ws is = record { simple = ap is_simple_and_free is ∙ app_is_simple; fault = ap (λ b. fault_of b ws) is }
+
+pub stands_alone : (k : CommandName) (a : App) (ws : List Text) → command_of ws ≡ Some k → a ≡ app_with (k ∷ []) → Stands a ws
+stands_alone k a ws named is = record {
+  simple = ap is_simple_and_free is ∙ alone_is_free k;
+  fault = ap (λ b. fault_of b ws) is ∙ same_fault k ws (drop 2 ws) (names_word k ws named).1;
+}
 
 -- the fault that is reported of an error of the parse
-pub fault_reported : (a : App) (ws given_words : List Text) (e : Error) → a ≡ app → given_words ≡ ws → (is_simple_and_free a ≡ true → HasKind (fault_of a given_words) e)
-    → (f : WordsFault) → IsReportedAs (kind_of e) f → IsFaultOf (fault_of app ws) f
-fault_reported a ws given_words e is same kinds f reported = go f reported (subst (λ k. HasKind k e) (ap₂ fault_of is same) (kinds (ap is_simple_and_free is ∙ app_is_simple)))
+pub fault_reported : (a : App) (ws : List Text) (e : Error) → Stands a ws → (is_simple_and_free a ≡ true → HasKind (fault_of a ws) e)
+    → (f : ArgsError) → IsReportedAs (kind_of e) f → IsFaultOf (fault_of app ws) f
+fault_reported a ws e stands kinds f reported = go f reported (subst (λ k. HasKind k e) stands.fault (kinds stands.simple))
   where
-    go : (f : WordsFault) → IsReportedAs (kind_of e) f → HasKind (fault_of app ws) e → IsFaultOf (fault_of app ws) f
+    go : (f : ArgsError) → IsReportedAs (kind_of e) f → HasKind (fault_of app ws) e → IsFaultOf (fault_of app ws) f
     go (Help text) reported (inl memory) = let bad : OutOfMemory ≡ DisplayHelp = sym memory ∙ reported in cc
     go (Help text) reported (inr among) = subst (λ k. IsAmong k (fault_of app ws)) reported among
     go (Usage text) reported (inl memory) = absurd (reported.1 memory)
@@ -55,35 +98,18 @@ fault_reported a ws given_words e is same kinds f reported = go f reported (subs
     go Memory reported has = tt
 
 -- where no step of the parse fails, memory was wanted
-pub only_memory : (ws : List Text) (f : WordsFault) → IsFaultOf (fault_of app ws) f → fault_of app ws ≡ [] → f ≡ Memory
+pub only_memory : (ws : List Text) (f : ArgsError) → IsFaultOf (fault_of app ws) f → fault_of app ws ≡ [] → f ≡ Memory
 only_memory ws f fault none = go f (subst (λ k. IsFaultOf k f) none fault)
   where
-    go : (f : WordsFault) → IsFaultOf [] f → f ≡ Memory
+    go : (f : ArgsError) → IsFaultOf [] f → f ≡ Memory
     go (Help text) bad = absurd bad
     go (Usage text) bad = absurd bad.1
     go Version bad = absurd bad
     go Memory fine = refl
 
 -- where the parse has no fault, the words have none
-pub passed : (a : App) (ws given_words : List Text) → a ≡ app → given_words ≡ ws → (is_simple_and_free a ≡ true → fault_of a given_words ≡ []) → fault_of app ws ≡ []
-passed a ws given_words is same none =
-    sym (ap₂ fault_of is same) ∙ none (ap is_simple_and_free is ∙ app_is_simple)
-
--- the command that the parse met, and what it found
-abbrev pub Met : List Text → Text → Found → Type 0
-Met ws name found = (k : CommandName) × (rest : List Text) × (drop 1 ws ≡ word_of k ∷ rest) × (name ≡ word_of k) × AreFound k (λ o. given o rest) found
-
-pub some_same : {X : Type 0} (x y : X) → Some x ≡ Some y → x ≡ y
-some_same x y e = cc
-
-module _ {Z : Type 0} where
-  name_rows : (o : Option (Box SubCommand Z)) (name : Text) (rows : List Row) → subcommand_rows o ≡ Some (name, rows)
-      → option_map (λ b. (out-SubCommand (box_value b)).name.now) o ≡ Some name
-  name_rows None name rows e = cc
-  name_rows (Some b) name rows e = ap (option_map (λ (p : Text × List Row). p.0)) e
-
-name_by_rows : (m : ArgMatches) (name : Text) (rows : List Row) → subcommand_rows_of m ≡ Some (name, rows) → subcommand_name_of m ≡ Some name
-name_by_rows m name rows e = name_rows (out-ArgMatches m).subcommand name rows e
+pub passed : (a : App) (ws : List Text) → Stands a ws → (is_simple_and_free a ≡ true → fault_of a ws ≡ []) → fault_of app ws ≡ []
+passed a ws stands none = sym stands.fault ∙ none stands.simple
 
 accepted_by : (o : CommandOption) (s : Option Text) → Passes o s → IsAccepted o s
 accepted_by o None passes = tt
@@ -102,40 +128,28 @@ reads_found k rest found rows same reads o = record {
   wanted = λ is needed. ap is_some (given_same o rest) ∙ (reads o).wanted (listed_of (options_of k) o is) needed;
 }
 
-pub met : (a : App) (ws given_words : List Text) (m : ArgMatches) (name : Text) (found : Found) → a ≡ app → given_words ≡ ws
-    → (is_simple_and_free a ≡ true → fault_of a given_words ≡ []) → HasMatchesOf a given_words m
-    → Some name ≡ subcommand_name_of m → Some (rows_of found) ≡ option_map (λ p. p.1) (subcommand_rows_of m) → Met ws name found
-met a ws given_words m name found is same none matches named rows =
-    let e = app_enters ws (passed a ws given_words is same none) in
-    let sub = (matches (ap is_simple is ∙ is_simple_app)).1 ∙ ap₂ subcommand_of is same ∙ e.4 in (
-      e.0,
-      e.1,
-      e.2,
-      some_same _ _ (named ∙ name_by_rows m _ _ sub),
-      reads_found e.0 e.1 found _ (some_same _ _ (rows ∙ ap (option_map (λ (p : Text × List Row). p.1)) sub)) (leaf_reads (word_of e.0) (options_of e.0) e.1 e.3),
-    )
+-- what a parse of the command's words found is what they give
+pub met : (k : CommandName) (a : App) (ws : List Text) (m : ArgMatches) (found : Found) → command_of ws ≡ Some k → a ≡ app_with (k ∷ [])
+    → (is_simple_and_free a ≡ true → fault_of a ws ≡ []) → HasMatchesOf a ws m
+    → Some (rows_of found) ≡ option_map (λ p. p.1) (subcommand_rows_of m) → AreFound k (λ o. given o (drop 2 ws)) found
+met k a ws m found named is none matches rows =
+    let at = (names_word k ws named).1 in
+    let sub = (matches (ap is_simple is ∙ alone_is_simple k)).1 ∙ ap (λ b. subcommand_of b ws) is ∙ alone_rows k ws (drop 2 ws) at in
+    let passes = sym (whole_fault k ws (drop 2 ws) at) ∙ passed a ws (stands_alone k a ws named is) none in
+    reads_found k (drop 2 ws) found _ (some_same _ _ (rows ∙ ap (option_map (λ (p : Text × List Row). p.1)) sub)) (leaf_reads (word_of k) (options_of k) (drop 2 ws) passes)
 
-pub some_none : {X : Type 0} (x : X) → Some x ≡ None → ⊥
-some_none x e = cc
-
-second : (ws : List Text) (name : Text) (rest : List Text) → drop 1 ws ≡ name ∷ rest → (slice_get ws 1 ≡ Some name) × (drop 2 ws ≡ rest)
-second [] name rest e = cc
-second (program ∷ ws) name rest e = (ap (λ t. slice_get t 0) e, ap (drop 1) e)
-
--- the command that the parse met, with its values, is what the words ask for
-pub asks_for : (ws : List Text) (name : Text) (found : Found) (m : Met ws name found) {k : CommandName} → m.0 ≡ k → (asked : Words) → name_of_command asked.command ≡ k
+-- the command that the words name, with its values, is what they ask for
+pub asks_for : (k : CommandName) (ws : List Text) (found : Found) → command_of ws ≡ Some k → AreFound k (λ o. given o (drop 2 ws)) found
+    → (asked : Words) → name_of_command asked.command ≡ k
     → ((text : CommandOption → Option Text) → AreFound k text found → HasValues text asked.command)
     → ((text : CommandOption → Option Text) → AreFound k text found → HasFile text k asked.file)
     → ((text : CommandOption → Option Text) → AreFound k text found → HasRows text asked.rows) → AsksFor ws asked
-asks_for ws name found m {k} same asked is has names rows_are =
-    let two = second ws (word_of m.0) m.1 m.2 in
-    let are_found = subst (λ x. AreFound x (λ o. given o m.1) found) same m.4 in record {
-      command = two.0 ∙ ap (λ x. Some (word_of x)) (same ∙ sym is);
-      values = subst (λ rest. HasValues (λ o. given o rest) asked.command) (sym two.1) (has (λ o. given o m.1) are_found);
-      file = subst (λ rest. HasFile (λ o. given o rest) (name_of_command asked.command) asked.file) (sym two.1)
-          (subst (λ x. HasFile (λ o. given o m.1) x asked.file) (sym is) (names (λ o. given o m.1) are_found));
-      rows = subst (λ rest. HasRows (λ o. given o rest) asked.rows) (sym two.1) (rows_are (λ o. given o m.1) are_found);
-    }
+asks_for k ws found named are asked is has names rows_are = record {
+  command = (names_word k ws named).0 ∙ ap (λ x. Some (word_of x)) (sym is);
+  values = has (λ o. given o (drop 2 ws)) are;
+  file = subst (λ x. HasFile (λ o. given o (drop 2 ws)) x asked.file) (sym is) (names (λ o. given o (drop 2 ws)) are);
+  rows = rows_are (λ o. given o (drop 2 ws)) are;
+}
 
 -- ---- the options of rows
 
@@ -161,12 +175,9 @@ rows_alike f g e (Some rows) has = record {
     cell (field.Number n) is = (is.0, sym (e Field) ∙ is.1, is.2, is.3)
     cell (field.Column name) is = sym (e Column) ∙ is
 
--- what a parse that met a command found is what the words give
-texts_alike : (ws : List Text) (name : Text) (found : Found) (m : Met ws name found) → Alike (found_texts found) (λ o. given o (drop 2 ws))
-texts_alike ws name found m o = (m.4 o).same ∙ ap (given o) (sym (second ws (word_of m.0) m.1 m.2).1)
-
-pub agree_found : (ws : List Text) (name : Text) (found : Found) (m : Met ws name found) → rows_agree (found_texts found) ≡ rows_agree (λ o. given o (drop 2 ws))
-agree_found ws name found m = agree_alike (found_texts found) (λ o. given o (drop 2 ws)) (texts_alike ws name found m)
+-- the options of rows agree in what a parse found as they do in what the words give
+pub agree_found : (k : CommandName) (text : CommandOption → Option Text) (found : Found) → AreFound k text found → rows_agree (found_texts found) ≡ rows_agree text
+agree_found k text found are = agree_alike (found_texts found) text (λ o. (are o).same)
 
 -- options of rows that are what a parse found are what each text says that it found
 pub rows_are : (k : CommandName) (found : Found) (rows : Option RowOptions) → rows_agree (found_texts found) ≡ true
@@ -176,7 +187,7 @@ rows_are k found rows agree has text are = rows_alike (found_texts found) text (
     (has agree (subst (IsAccepted Field) (sym (are Field).same) (are Field).accepted))
 
 -- what is reported of the parse is a refusal of the words
-pub refused : (ws : List Text) (f : WordsFault) → IsFaultOf (fault_of app ws) f → IsRefusalOf ws f
+pub refused : (ws : List Text) (f : ArgsError) → IsFaultOf (fault_of app ws) f → IsRefusalOf ws f
 refused ws (Help text) fault = fault
 refused ws (Usage text) fault = inl fault
 refused ws Version fault = fault

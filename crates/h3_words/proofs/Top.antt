@@ -1,17 +1,16 @@
 -- The whole command line: the first word names a command, whose words follow.
 use Rattle.std.proofs.Common.{◌≡◌, ◌∙◌, ◌++◌, Bool, cond, true, false, refl, sym, ap, List, [], ◌∷◌, map, drop, Option, Some, None, is_some, codes, append_assoc, append-nil}
 use Rattle.std.specs.Prelude.{option_map, find, fold}
-use Rattle.std.specs.Option.{option_map_or}
 use Rattle.std.specs.Str.{bytes_eq}
 use Rattle.std.proofs.lemmas.Slice.Eq.{bytes_eq-Decides}
-use Rattle.clap.specs.Walk.{Held, Names, Step, Text, Walk, after_step, answers_to, arg_by_id, idle, nothing_held, rows_after, subcommand_or_other, walk, walked}
-use Rattle.clap.specs.Simple.{App, Shape, entered, label_of, names_of, new_shape, rows_at, subcommand_of}
+use Rattle.clap.specs.Walk.{Held, Names, Step, Text, Walk, after_step, answers_to, arg_by_id, idle, nothing_held, subcommand_or_other, walk, walked}
+use Rattle.clap.specs.Simple.{App, Shape, entered, label_of, names_of, new_shape}
 use Rattle.clap.specs.Kinds.{Kinds, or_else}
 use Rattle.clap.specs.Faults.{built_fault, defaults_fault, entered_fault, fault_of, is_simple_and_free, level_fault, other_fault, settle_fault, step_fault, walk_fault}
 use Rattle.clap.specs.declared.error.kind.ErrorKind.TheVariants as kind
 use Rattle.h3_words.specs.Commands.{command_names, app, word_of, options_of}
 use Rattle.h3_words.specs.Options.{id_of}
-use Rattle.h3_words.proofs.Leaf.{Turn, alone, attached, dashes, other, at_word, bytes_same, cons_nil, dash_turn, done_rule, done_rules, idle_held, leaf_done, or_false, or_nil}
+use Rattle.h3_words.proofs.Leaf.{Turn, alone, attached, dashes, other, at_word, cons_nil, dash_turn, done_rule, done_rules, idle_held, leaf_done, or_false, or_nil}
 use Rattle.h3_words.specs.declared.options.CommandOption.{CommandOption}
 use Rattle.h3_words.specs.declared.options.CommandOption.TheVariants.{Cell}
 use Rattle.h3_words.specs.declared.commands.CommandName.{CommandName}
@@ -35,20 +34,17 @@ app_is_simple = refl
 
 -- what a search for the word among the commands finds
 data Named (ks : List CommandName) (word : Text) : Option (Text × List Text) → Type 0 where
-  is_name : (k : CommandName) → bytes_eq (word_of k) word ≡ true → find (λ s. answers_to (word_of k) (label_of s)) (map leaf ks) ≡ Some (leaf k) → Named ks word (Some (label_of (leaf k)))
+  is_name : (k : CommandName) → bytes_eq (word_of k) word ≡ true → Named ks word (Some (label_of (leaf k)))
   no_name : Named ks word None
 
-named_later : (word : Text) (x : CommandName) (ks : List CommandName) (r : Option (Text × List Text)) → bytes_eq (word_of x) word ≡ false → Named ks word r → Named (x ∷ ks) word r
-named_later word x ks _ e (is_name k same at) = is_name k same
-    (ap (λ b. cond b (Some (leaf x)) (find (λ s. answers_to (word_of k) (label_of s)) (map leaf ks)))
-    (or_false (bytes_eq (word_of x) (word_of k)) ∙ ap (bytes_eq (word_of x)) ((bytes_eq-Decides (word_of k) word).0 same) ∙ e) ∙ at)
-named_later word x ks _ e no_name = no_name
+named_later : (word : Text) (x : CommandName) (ks : List CommandName) (r : Option (Text × List Text)) → Named ks word r → Named (x ∷ ks) word r
+named_later word x ks _ (is_name k same) = is_name k same
+named_later word x ks _ no_name = no_name
 
 named_step : (word : Text) (x : CommandName) (ks : List CommandName) (r : Option (Text × List Text)) → Named ks word r → (b : Bool) → answers_to word (label_of (leaf x)) ≡ b
     → Named (x ∷ ks) word (cond b (Some (label_of (leaf x))) r)
 named_step word x ks r later true e = is_name x (sym (or_false (bytes_eq (word_of x) word)) ∙ e)
-    (ap (λ b. cond b (Some (leaf x)) (find (λ s. answers_to (word_of x) (label_of s)) (map leaf ks))) (or_false (bytes_eq (word_of x) (word_of x)) ∙ bytes_same (word_of x)))
-named_step word x ks r later false e = named_later word x ks r (sym (or_false (bytes_eq (word_of x) word)) ∙ e) later
+named_step word x ks r later false e = named_later word x ks r later
 
 named_in : (word : Text) (ks : List CommandName) → Named ks word (find (answers_to word) (names_of (app_done ks)))
 named_in word [] = no_name
@@ -69,12 +65,9 @@ no_option_at_top : (q : CommandOption) → arg_by_id (done_rules []) (id_of q) �
 no_option_at_top Cell e = cc
 no_option_at_top q e = cc
 
--- the words name a command of the list, whose words pass
-abbrev pub Enters : List CommandName → List Text → Type 0
-Enters ks words = (k : CommandName) × (rest : List Text) × (words ≡ word_of k ∷ rest)
-    × (find (λ s. answers_to (word_of k) (label_of s)) (map leaf ks) ≡ Some (leaf k))
-    × (level_fault (leaf k) [] nothing_held rest false [] ≡ [])
-    × (entered (app_done ks) (walk (done_rules []) (names_of (app_done ks)) nothing_held words).stopped ≡ Some (word_of k, rows_after (done_rules (options_of k)) [] rest))
+-- the words name a command
+abbrev pub Enters : List Text → Type 0
+Enters words = (k : CommandName) × (rest : List Text) × (words ≡ word_of k ∷ rest)
 
 -- a level that enters no command fails
 missing : (ks : List CommandName) (words : List Text) → level_fault top_done (names_of (app_done ks)) nothing_held words false [] ≡ [] → ⊥
@@ -134,29 +127,17 @@ first_fault ks word rest r e f =
     (two.0, two.1, one.1)
 
 first_word : (ks : List CommandName) (word : Text) (rest : List Text) (r : Option (Text × List Text)) → Named ks word r → find (answers_to word) (names_of (app_done ks)) ≡ r
-    → level_at ks (word ∷ rest) (walk (done_rules []) (names_of (app_done ks)) nothing_held (word ∷ rest)).stopped ≡ [] → Enters ks (word ∷ rest)
-first_word ks word rest _ (is_name k same at) e f =
-    let stop = stop_is ks word rest _ e ∙ ap (λ (w : Walk). w.stopped) (keeps_stop (names_of (app_done ks)) (word_of k) [] rest) in
-    let g : level_at ks (word ∷ rest) (Some (word_of k, rest)) ≡ [] = sym (ap (level_at ks (word ∷ rest)) stop) ∙ f in
-    let inner = (or_nil (entered_fault (app_done ks) (Some (word_of k, rest))) _ (or_nil _ _ g).1).0 in (
-      k,
-      rest,
-      ap (λ x. x ∷ rest) (sym ((bytes_eq-Decides (word_of k) word).0 same)),
-      at,
-      sym (ap (λ r. option_map_or (λ s. level_fault s [] nothing_held rest false []) r []) at) ∙ inner,
-      ap (entered (app_done ks)) stop ∙ ap (option_map (λ s. rows_at s rest)) at,
-    )
+    → level_at ks (word ∷ rest) (walk (done_rules []) (names_of (app_done ks)) nothing_held (word ∷ rest)).stopped ≡ [] → Enters (word ∷ rest)
+first_word ks word rest _ (is_name k same) e f = (k, rest, ap (λ x. x ∷ rest) (sym ((bytes_eq-Decides (word_of k) word).0 same)))
 first_word ks word rest _ no_name e f =
     let faults = first_fault ks word rest None e (or_nil _ _ f).0 in
     absurd (none_case ks word rest (first_met word None) (dash_turn [] Cell word idle [] None (bytes_eq word (45 ∷ 45 ∷ [])) refl faults.0) faults.1 faults.2
     (λ none. missing ks (word ∷ rest) (sym (ap (level_at ks (word ∷ rest)) (stop_is ks word rest None e ∙ none)) ∙ f)))
 
-enters : (ks : List CommandName) (words : List Text) → built_fault (app_done ks) nothing_held words ≡ [] → Enters ks words
+enters : (ks : List CommandName) (words : List Text) → built_fault (app_done ks) nothing_held words ≡ [] → Enters words
 enters ks [] f = absurd (missing ks [] f)
 enters ks (word ∷ rest) f = first_word ks word rest _ (named_in word ks) refl f
 
--- where no step fails, the words name a command, whose rows the parse gives
-pub app_enters : (words : List Text) → fault_of app words ≡ []
-    → (k : CommandName) × (rest : List Text) × (drop 1 words ≡ word_of k ∷ rest) × (level_fault (leaf k) [] nothing_held rest false [] ≡ [])
-    × (subcommand_of app words ≡ Some (word_of k, rows_after (done_rules (options_of k)) [] rest))
-app_enters words f = let h = enters command_names (drop 1 words) f in (h.0, h.1, h.2, h.4, h.5)
+-- where no step fails, the words name a command
+pub app_enters : (words : List Text) → fault_of app words ≡ [] → Enters (drop 1 words)
+app_enters words f = enters command_names (drop 1 words) f

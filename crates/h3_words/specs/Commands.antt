@@ -1,11 +1,12 @@
 -- The commands, and the command line that is given to `clap`.
-use Rattle.std.specs.Prelude.{Bool, ℕ, ℤ, pos, List, [], ◌∷◌, Option, map, true, false, codes}
+use Rattle.std.specs.Prelude.{Bool, ℕ, ℤ, pos, List, [], ◌∷◌, Option, map, find, slice_get, option_and_then, true, codes}
 use Rattle.std.specs.List.{list_any}
 use Rattle.std.specs.Str.{bytes_eq}
 use Rattle.clap.specs.Words.{App, Shape, Text}
 use Rattle.clap.specs.Simple.{new_shape}
+use Rattle.clap.specs.Walk.{is_empty}
 use Rattle.h3_words.specs.Options.{id_of, rule_for}
-use Rattle.h3_requests.specs.declared.command.CellFunction.TheVariants as each
+use Rattle.h3_requests.specs.declared.command.IndexFunction.TheVariants as each
 use Rattle.h3_requests.specs.declared.command.Command.{Command}
 use Rattle.h3_requests.specs.declared.command.Command.TheVariants as command
 use Rattle.h3_words.specs.declared.options.CommandOption.{CommandOption}
@@ -183,13 +184,21 @@ leaf_with name os = record (new_shape name) { rules = map rule_for os }
 abbrev pub shape_for : CommandName → Shape
 shape_for k = leaf_with (word_of k) (options_of k)
 
--- app: the whole command line as `clap` takes it
-abbrev pub app : App
-app = record {
+-- app_with names: the command line that has these commands, as `clap` takes it
+abbrev pub app_with : List CommandName → App
+app_with ks = record {
   top = record (new_shape (codes "h3")) {
     subcommand_required = true;
     disable_help_subcommand = true;
-    is_leaf = false;
+    is_leaf = is_empty ks;
   };
-  subs = map shape_for command_names;
+  subs = map shape_for ks;
 }
+
+-- app: the whole command line as `clap` takes it
+abbrev pub app : App
+app = app_with command_names
+
+-- command_of words: the command that the word after the program's name names, if it names one
+abbrev pub command_of : List Text → Option CommandName
+command_of words = option_and_then (λ word. find (λ k. bytes_eq (word_of k) word) command_names) (slice_get words 1)

@@ -9,11 +9,11 @@ use Rattle.h3_words.specs.Rows.{rows_agree}
 use Rattle.h3_words.specs.Values.{AsksFor}
 use Rattle.h3_words.specs.Version.{asks_version}
 use Rattle.h3_words.specs.declared.words.Words.{Words}
-use Rattle.h3_words.specs.declared.words.WordsFault.{WordsFault}
-use Rattle.h3_words.specs.declared.words.WordsFault.TheVariants.{Memory, Version}
+use Rattle.h3_words.specs.declared.words.ArgsError.{ArgsError}
+use Rattle.h3_words.specs.declared.words.ArgsError.TheVariants.{Memory, Version}
 
 -- ParsesAs words parsed: what words parse as, or why they do not
-pub record ParsesAs (words : List Text) (parsed : Result Words WordsFault) : Type 0 where
+pub record ParsesAs (words : List Text) (parsed : Result Words ArgsError) : Type 0 where
   pub read : IfOk parsed (AsksFor words)
   pub accepted : OnOk parsed (fault_of app words ≡ [])
   pub agreed : OnOk parsed (rows_agree (λ o. given o (drop 2 words)) ≡ true)

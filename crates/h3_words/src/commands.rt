@@ -4,7 +4,7 @@ ghost use Rattle.std.specs.Prelude.{◌≡◌, Option, IfOk, find, false, option
 ghost use Rattle.std.specs.Str.{bytes_eq};
 ghost use Rattle.clap.specs.Words.{Text, app_of, found_of, shape_of};
 ghost use Rattle.clap.specs.declared.builder.command.Command.TheViews.{out-Command};
-ghost use Rattle.h3_words.specs.Commands.{Number, app, command_names, has_option, name_of_command, options_of, shape_for, values_of_command, word_of};
+ghost use Rattle.h3_words.specs.Commands.{Number, app_with, command_names, has_option, name_of_command, options_of, shape_for, values_of_command, word_of};
 ghost use Rattle.h3_words.specs.Values.{AreFound, AreRead, HasFile, HasPath, IsRead};
 ghost use Rattle.h3_words.specs.declared.options.CommandOption.{CommandOption};
 ghost use Rattle.h3_words.specs.declared.options.CommandOption.TheVariants.{Position, Radius, Resolution};
@@ -12,11 +12,10 @@ ghost use Rattle.h3_words.specs.declared.options.CommandOption.TheVariants.{Posi
 use crate::help::HELP;
 use crate::options::CommandFile;
 use crate::options::CommandOption::{
-    self, As, Cell, Column, Csv, Edge, Field, Header, KeepGoing, Position, Radius, Region,
-    Resolution, Separator, Table, To, Zones,
+    self, Cell, Edge, Position, Radius, Region, Resolution, Table, To, Zones,
 };
 use clap::{ArgMatches, Command as Parser};
-use h3_requests::{CellFunction, Command};
+use h3_requests::{Command, IndexFunction};
 use std::alloc::{AllocError, Global};
 
 /// The name of a command.
@@ -75,7 +74,8 @@ pub enum CommandName {
     OriginsToDirectedEdges,
 }
 
-static COMMAND_NAMES: [CommandName; 51] = [
+/// All names of commands.
+pub(crate) static COMMAND_NAMES: [CommandName; 51] = [
     CommandName::IsValidCell,
     CommandName::GetResolution,
     CommandName::GetBaseCellNumber,
@@ -129,30 +129,6 @@ static COMMAND_NAMES: [CommandName; 51] = [
     CommandName::OriginsToDirectedEdges,
 ];
 
-/// The word and the options of a command.
-#[derive(Drop)]
-struct Entry {
-    /// The word that names the command.
-    word: &'static str,
-
-    /// The options that the command has.
-    options: &'static [CommandOption],
-}
-
-// These options, and those of a command that answers about its list as a whole.
-macro_rules! with_list_options {
-    ($($own:ident)?) => {
-        &[$($own,)? Field, Column, Header, Separator, Csv]
-    };
-}
-
-// These options, and those of a command that answers its list line by line.
-macro_rules! with_line_options {
-    ($($own:ident),*) => {
-        &[$($own,)* Field, Column, Header, Separator, Csv, As, KeepGoing]
-    };
-}
-
 // A command with the values of these options, each asked for by what has the name of its field.
 macro_rules! asked {
     ($command:ident, $($field:ident),+) => {
@@ -161,219 +137,6 @@ macro_rules! asked {
 }
 
 impl CommandName {
-    /// The command's word and options.
-    fn entry(self) -> Entry
-        ensures word { result.word.now ≡ word_of self }
-        ensures options { result.options.now ≡ options_of self }
-    {
-        match self {
-            CommandName::IsValidCell => Entry {
-                word: "isValidCell",
-                options: &[Cell],
-            },
-            CommandName::GetResolution => Entry {
-                word: "getResolution",
-                options: &[Cell],
-            },
-            CommandName::GetBaseCellNumber => Entry {
-                word: "getBaseCellNumber",
-                options: &[Cell],
-            },
-            CommandName::IsPentagon => Entry {
-                word: "isPentagon",
-                options: &[Cell],
-            },
-            CommandName::IsResClassIII => Entry {
-                word: "isResClassIII",
-                options: &[Cell],
-            },
-            CommandName::GetNumCells => Entry {
-                word: "getNumCells",
-                options: &[Resolution],
-            },
-            CommandName::GetRes0Cells => Entry {
-                word: "getRes0Cells",
-                options: &[],
-            },
-            CommandName::GetPentagons => Entry {
-                word: "getPentagons",
-                options: &[Resolution],
-            },
-            CommandName::CellToParent => Entry {
-                word: "cellToParent",
-                options: &[Cell, Resolution],
-            },
-            CommandName::CellToCenterChild => Entry {
-                word: "cellToCenterChild",
-                options: &[Cell, Resolution],
-            },
-            CommandName::CellToLastChild => Entry {
-                word: "cellToLastChild",
-                options: &[Cell, Resolution],
-            },
-            CommandName::CellToChildren => Entry {
-                word: "cellToChildren",
-                options: &[Cell, Resolution],
-            },
-            CommandName::CellToChildrenSize => Entry {
-                word: "cellToChildrenSize",
-                options: &[Cell, Resolution],
-            },
-            CommandName::CellToChildPos => Entry {
-                word: "cellToChildPos",
-                options: &[Cell, Resolution],
-            },
-            CommandName::ChildPosToCell => Entry {
-                word: "childPosToCell",
-                options: &[Position, Cell, Resolution],
-            },
-            CommandName::CompactCells => Entry {
-                word: "compactCells",
-                options: with_list_options!(),
-            },
-            CommandName::UncompactCells => Entry {
-                word: "uncompactCells",
-                options: with_list_options!(Resolution),
-            },
-            CommandName::UncompactCellsSize => Entry {
-                word: "uncompactCellsSize",
-                options: with_list_options!(Resolution),
-            },
-            CommandName::UniteCells => Entry {
-                word: "uniteCells",
-                options: with_list_options!(),
-            },
-            CommandName::IntersectCells => Entry {
-                word: "intersectCells",
-                options: with_list_options!(Region),
-            },
-            CommandName::SubtractCells => Entry {
-                word: "subtractCells",
-                options: with_list_options!(Region),
-            },
-            CommandName::AreCoveredCells => Entry {
-                word: "areCoveredCells",
-                options: with_line_options!(Region),
-            },
-            CommandName::CellsToZones => Entry {
-                word: "cellsToZones",
-                options: with_line_options!(Zones),
-            },
-            CommandName::CountCellsInZones => Entry {
-                word: "countCellsInZones",
-                options: with_list_options!(Zones),
-            },
-            CommandName::GridDiskUnsafe => Entry {
-                word: "gridDiskUnsafe",
-                options: &[Cell, Radius, Table],
-            },
-            CommandName::GridDiskDistancesUnsafe => Entry {
-                word: "gridDiskDistancesUnsafe",
-                options: &[Cell, Radius, Table],
-            },
-            CommandName::GridRingUnsafe => Entry {
-                word: "gridRingUnsafe",
-                options: &[Cell, Radius, Table],
-            },
-            CommandName::AreNeighborCells => Entry {
-                word: "areNeighborCells",
-                options: &[Cell, To, Table],
-            },
-            CommandName::CellsToDirectedEdge => Entry {
-                word: "cellsToDirectedEdge",
-                options: &[Cell, To, Table],
-            },
-            CommandName::IsValidDirectedEdge => Entry {
-                word: "isValidDirectedEdge",
-                options: &[Edge],
-            },
-            CommandName::GetDirectedEdgeOrigin => Entry {
-                word: "getDirectedEdgeOrigin",
-                options: &[Edge],
-            },
-            CommandName::GetDirectedEdgeDestination => Entry {
-                word: "getDirectedEdgeDestination",
-                options: &[Edge, Table],
-            },
-            CommandName::OriginToDirectedEdges => Entry {
-                word: "originToDirectedEdges",
-                options: &[Cell],
-            },
-            CommandName::AreValidCells => Entry {
-                word: "areValidCells",
-                options: with_line_options!(),
-            },
-            CommandName::AreValidDirectedEdges => Entry {
-                word: "areValidDirectedEdges",
-                options: with_line_options!(),
-            },
-            CommandName::GetResolutions => Entry {
-                word: "getResolutions",
-                options: with_line_options!(),
-            },
-            CommandName::GetBaseCellNumbers => Entry {
-                word: "getBaseCellNumbers",
-                options: with_line_options!(),
-            },
-            CommandName::ArePentagons => Entry {
-                word: "arePentagons",
-                options: with_line_options!(),
-            },
-            CommandName::AreResClassIII => Entry {
-                word: "areResClassIII",
-                options: with_line_options!(),
-            },
-            CommandName::CellsToParents => Entry {
-                word: "cellsToParents",
-                options: with_line_options!(Resolution),
-            },
-            CommandName::CellsToCenterChildren => Entry {
-                word: "cellsToCenterChildren",
-                options: with_line_options!(Resolution),
-            },
-            CommandName::CellsToLastChildren => Entry {
-                word: "cellsToLastChildren",
-                options: with_line_options!(Resolution),
-            },
-            CommandName::CellsToChildren => Entry {
-                word: "cellsToChildren",
-                options: with_line_options!(Resolution),
-            },
-            CommandName::CellsToChildrenSizes => Entry {
-                word: "cellsToChildrenSizes",
-                options: with_line_options!(Resolution),
-            },
-            CommandName::CellsToChildPositions => Entry {
-                word: "cellsToChildPositions",
-                options: with_line_options!(Resolution),
-            },
-            CommandName::GridDisksUnsafe => Entry {
-                word: "gridDisksUnsafe",
-                options: with_line_options!(Radius, Table),
-            },
-            CommandName::GridDisksDistancesUnsafe => Entry {
-                word: "gridDisksDistancesUnsafe",
-                options: with_line_options!(Radius, Table),
-            },
-            CommandName::GridRingsUnsafe => Entry {
-                word: "gridRingsUnsafe",
-                options: with_line_options!(Radius, Table),
-            },
-            CommandName::GetDirectedEdgeOrigins => Entry {
-                word: "getDirectedEdgeOrigins",
-                options: with_line_options!(),
-            },
-            CommandName::GetDirectedEdgeDestinations => Entry {
-                word: "getDirectedEdgeDestinations",
-                options: with_line_options!(Table),
-            },
-            CommandName::OriginsToDirectedEdges => Entry {
-                word: "originsToDirectedEdges",
-                options: with_line_options!(),
-            },
-        }
-    }
-
     /// The word that names the command.
     pub(crate) fn word<'a>(self) -> &'a str
         ensures { result.now ≡ word_of self }
@@ -461,39 +224,39 @@ impl CommandName {
             CommandName::GetDirectedEdgeOrigin => asked!(GetDirectedEdgeOrigin, edge),
             CommandName::GetDirectedEdgeDestination => asked!(GetDirectedEdgeDestination, edge),
             CommandName::OriginToDirectedEdges => asked!(OriginToDirectedEdges, cell),
-            CommandName::AreValidCells => Command::ForEach(CellFunction::IsValidCell),
+            CommandName::AreValidCells => Command::ForEach(IndexFunction::IsValidCell),
             CommandName::AreValidDirectedEdges => Command::ForEach(
-                CellFunction::IsValidDirectedEdge,
+                IndexFunction::IsValidDirectedEdge,
             ),
-            CommandName::GetResolutions => Command::ForEach(CellFunction::GetResolution),
-            CommandName::GetBaseCellNumbers => Command::ForEach(CellFunction::GetBaseCellNumber),
-            CommandName::ArePentagons => Command::ForEach(CellFunction::IsPentagon),
-            CommandName::AreResClassIII => Command::ForEach(CellFunction::IsResClassIII),
-            CommandName::CellsToParents => Command::ForEach(CellFunction::CellToParent {
+            CommandName::GetResolutions => Command::ForEach(IndexFunction::GetResolution),
+            CommandName::GetBaseCellNumbers => Command::ForEach(IndexFunction::GetBaseCellNumber),
+            CommandName::ArePentagons => Command::ForEach(IndexFunction::IsPentagon),
+            CommandName::AreResClassIII => Command::ForEach(IndexFunction::IsResClassIII),
+            CommandName::CellsToParents => Command::ForEach(IndexFunction::CellToParent {
                 res: res(),
             }),
-            CommandName::CellsToCenterChildren => Command::ForEach(CellFunction::CellToCenterChild {
-                res: res(),
-            }),
-            CommandName::CellsToLastChildren => Command::ForEach(CellFunction::CellToLastChild {
+            CommandName::CellsToCenterChildren => Command::ForEach(
+                IndexFunction::CellToCenterChild { res: res() },
+            ),
+            CommandName::CellsToLastChildren => Command::ForEach(IndexFunction::CellToLastChild {
                 res: res(),
             }),
             CommandName::CellsToChildren => asked!(CellsToChildren, res),
-            CommandName::CellsToChildrenSizes => Command::ForEach(CellFunction::CellToChildrenSize {
-                res: res(),
-            }),
-            CommandName::CellsToChildPositions => Command::ForEach(CellFunction::CellToChildPos {
+            CommandName::CellsToChildrenSizes => Command::ForEach(
+                IndexFunction::CellToChildrenSize { res: res() },
+            ),
+            CommandName::CellsToChildPositions => Command::ForEach(IndexFunction::CellToChildPos {
                 res: res(),
             }),
             CommandName::GridDisksUnsafe => asked!(GridDisksUnsafe, k),
             CommandName::GridDisksDistancesUnsafe => asked!(GridDisksDistancesUnsafe, k),
             CommandName::GridRingsUnsafe => asked!(GridRingsUnsafe, k),
             CommandName::GetDirectedEdgeOrigins => Command::ForEach(
-                CellFunction::GetDirectedEdgeOrigin,
+                IndexFunction::GetDirectedEdgeOrigin,
             ),
             CommandName::GetDirectedEdgeDestinations => Command::GetDirectedEdgeDestinations,
             CommandName::OriginsToDirectedEdges => Command::ForEach(
-                CellFunction::OriginToDirectedEdges,
+                IndexFunction::OriginToDirectedEdges,
             ),
         }
     }
@@ -551,15 +314,18 @@ impl CommandName {
     }
 }
 
-/// The whole command line as `clap` takes it.
-pub(crate) fn command_line<'a>(alloc: Global) -> Result<Parser<'a>, AllocError>
-    ensures { IfOk result (λ parser. app_of parser ≡ app) }
+/// The command line that has these commands, as `clap` takes it.
+pub(crate) fn command_line<'a>(
+    alloc: Global,
+    names: &[CommandName],
+) -> Result<Parser<'a>, AllocError>
+    ensures { IfOk result (λ parser. app_of parser ≡ app_with names.now) }
 {
     let mut parser = Parser::new(alloc, "h3")
         .override_help(HELP)
         .subcommand_required(true)
         .disable_help_subcommand(true);
-    for name in &COMMAND_NAMES {
+    for name in names {
         parser = parser.subcommand(name.parser(alloc)?)?;
     }
     Ok(parser)

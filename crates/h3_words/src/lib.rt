@@ -6,7 +6,8 @@ mod commands;
 mod help;
 mod options;
 mod rows;
+mod table;
 mod words;
 
 pub use options::CommandFile;
-pub use words::{Words, WordsFault, read_words};
+pub use words::{ArgsError, Words, read_words};

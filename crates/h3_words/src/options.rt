@@ -4,8 +4,12 @@ ghost use Rattle.std.specs.Prelude.{◌≡◌, ◌≤ℤ◌, ℤ, Some, false, i
 ghost use Rattle.std.specs.Str.Parse.{signed_digits_value};
 ghost use Rattle.clap.specs.Words.{IsSignedIn, Text, first_value, found_of, rule_of};
 ghost use Rattle.h3_index.specs.Text.{parsed_index};
-ghost use Rattle.h3_words.specs.Options.{id_of, is_flag, is_required, named_rule, number_from, number_up_to, path_of, rule_for};
+ghost use Rattle.h3_words.specs.Options.{id_of, is_flag, is_required, long_name, named_rule, number_from, number_up_to, path_of, rule_for, short_name};
 
+use CommandOption::{
+    As, Cell, Column, Csv, Edge, Field, Header, KeepGoing, Position, Radius, Region, Resolution,
+    Separator, Table, To, Zones,
+};
 use clap::{Arg, ArgAction, ArgMatches, value_parser};
 use h3_index::read_index;
 use std::alloc::Global;
@@ -88,103 +92,200 @@ impl CommandFile {
     }
 }
 
+/// An option: its names, what help says of it, and what its value may be.
+#[derive(Drop)]
+struct OptionEntry<'a> {
+    /// The id of the option in `clap`.
+    id: &'a str,
+
+    /// The character after one hyphen.
+    short: Option<char>,
+
+    /// The name after two hyphens.
+    long: Option<&'a str>,
+
+    /// The least that a number of the option may be.
+    least: i64,
+
+    /// The most that a number of the option may be; `None` where its value is any text. Which
+    /// numbers are resolutions, the command decides.
+    most: Option<i64>,
+
+    /// Whether each command that has the option requires it: it is none of those of rows.
+    is_required: bool,
+
+    /// Whether the option is a flag, which takes no value.
+    is_flag: bool,
+
+    /// What help says of the option.
+    about: &'a str,
+}
+
+// An option that each command which has it requires: its id, its short and its long name, the most
+// that its number may be, and what help says of it.
+macro_rules! required {
+    ($id:literal, $short:expr, $long:expr, $most:expr, $about:literal) => {
+        OptionEntry {
+            id: $id,
+            short: $short,
+            long: $long,
+            least: 0,
+            most: $most,
+            is_required: true,
+            is_flag: false,
+            about: $about,
+        }
+    };
+}
+
+// An option of rows, which may be left out: its id and its long name, whether it is a flag, and
+// what help says of it.
+macro_rules! of_rows {
+    ($id:literal, $long:literal, $is_flag:literal, $about:literal) => {
+        OptionEntry {
+            id: $id,
+            short: None,
+            long: Some($long),
+            least: 0,
+            most: None,
+            is_required: false,
+            is_flag: $is_flag,
+            about: $about,
+        }
+    };
+}
+
 impl CommandOption {
+    /// The option's line in the table of all options.
+    fn entry<'a>(self) -> OptionEntry<'a>
+        ensures id { result.id.now ≡ id_of self }
+        ensures short { result.short ≡ short_name self }
+        ensures long { option_map (λ name. name.now) result.long ≡ long_name self }
+        ensures least { result.least ≡ number_from self }
+        ensures most { result.most ≡ number_up_to self }
+        ensures required { result.is_required ≡ is_required self }
+        ensures flag { result.is_flag ≡ is_flag self }
+    {
+        match self {
+            Cell => required!(
+                "cell",
+                Some('c'),
+                Some("cell"),
+                None,
+                "A cell's index in hexadecimal"
+            ),
+            Resolution => required!(
+                "resolution",
+                Some('r'),
+                Some("resolution"),
+                Some(i64::from(i32::MAX)),
+                "A resolution, 0 to 15"
+            ),
+            Radius => required!(
+                "k",
+                Some('k'),
+                None,
+                Some(i64::from(i32::MAX)),
+                "A radius, from 0: how many steps of the grid"
+            ),
+            To => required!(
+                "to",
+                None,
+                Some("to"),
+                None,
+                "A second cell's index in hexadecimal"
+            ),
+            Position => required!(
+                "position",
+                None,
+                Some("position"),
+                Some(i64::MAX),
+                "A position, from 0"
+            ),
+            Edge => required!(
+                "edge",
+                None,
+                Some("edge"),
+                None,
+                "A directed edge's index in hexadecimal"
+            ),
+            Table => required!(
+                "table",
+                None,
+                Some("table"),
+                None,
+                "The file of the table of base cells"
+            ),
+            Region => required!(
+                "region",
+                None,
+                Some("region"),
+                None,
+                "The region: a file of one cell a line, no header"
+            ),
+            Zones => required!(
+                "zones",
+                None,
+                Some("zones"),
+                None,
+                "The zones: a file of one cell a line, no header"
+            ),
+            Field => OptionEntry {
+                least: 1,
+                most: Some(i64::from(u16::MAX)),
+                ..of_rows!(
+                    "number",
+                    "field",
+                    false,
+                    "Read rows; the number of the cell's field"
+                )
+            },
+            Column => of_rows!(
+                "column",
+                "column",
+                false,
+                "Read rows under a header; the cell's column"
+            ),
+            Header => of_rows!(
+                "header",
+                "header",
+                true,
+                "With --field: the first row is a header"
+            ),
+            Separator => of_rows!(
+                "separator",
+                "separator",
+                false,
+                "The byte between fields [tab; with --csv: comma]"
+            ),
+            Csv => of_rows!("csv", "csv", true, "Fields may be quoted, as in CSV"),
+            As => of_rows!(
+                "name",
+                "as",
+                false,
+                "With a header: the name of the new column"
+            ),
+            KeepGoing => of_rows!(
+                "keep-going",
+                "keep-going",
+                true,
+                "Leave the answer of a bad row empty, and go on"
+            ),
+        }
+    }
+
     /// The id of the option in `clap`.
     pub(crate) fn id<'a>(self) -> &'a str
         ensures { result.now ≡ id_of self }
     {
-        match self {
-            CommandOption::Cell => "cell",
-            CommandOption::Resolution => "resolution",
-            CommandOption::Radius => "k",
-            CommandOption::To => "to",
-            CommandOption::Position => "position",
-            CommandOption::Edge => "edge",
-            CommandOption::Table => "table",
-            CommandOption::Region => "region",
-            CommandOption::Zones => "zones",
-            CommandOption::Field => "number",
-            CommandOption::Column => "column",
-            CommandOption::Header => "header",
-            CommandOption::Separator => "separator",
-            CommandOption::Csv => "csv",
-            CommandOption::As => "name",
-            CommandOption::KeepGoing => "keep-going",
-        }
+        self.entry().id
     }
 
-    /// What help says of the option.
-    fn about<'a>(self) -> &'a str {
-        match self {
-            CommandOption::Cell => "A cell's index in hexadecimal",
-            CommandOption::Resolution => "A resolution, 0 to 15",
-            CommandOption::Radius => "A radius, from 0: how many steps of the grid",
-            CommandOption::To => "A second cell's index in hexadecimal",
-            CommandOption::Position => "A position, from 0",
-            CommandOption::Edge => "A directed edge's index in hexadecimal",
-            CommandOption::Table => "The file of the table of base cells",
-            CommandOption::Region => "The file of the region, one cell a line",
-            CommandOption::Zones => "The file of the zones, one cell a line",
-            CommandOption::Field => "Read rows; the number of the cell's field",
-            CommandOption::Column => "Read rows under a header; the cell's column",
-            CommandOption::Header => "With --field: the first row is a header",
-            CommandOption::Separator => "The byte between fields [tab; with --csv: comma]",
-            CommandOption::Csv => "Fields may be quoted, as in CSV",
-            CommandOption::As => "With a header: the name of the new column",
-            CommandOption::KeepGoing => "Leave the answer of a bad row empty, and go on",
-        }
-    }
-
-    /// Whether each command that has the option requires it: it is none of those of rows.
+    /// Whether each command that has the option requires it.
     pub(crate) fn is_required(self) -> bool
         ensures { result ≡ is_required self }
     {
-        match self {
-            CommandOption::Field => false,
-            CommandOption::Column => false,
-            CommandOption::Header => false,
-            CommandOption::Separator => false,
-            CommandOption::Csv => false,
-            CommandOption::As => false,
-            CommandOption::KeepGoing => false,
-            _ => true,
-        }
-    }
-
-    /// Whether the option is a flag, which takes no value.
-    fn is_flag(self) -> bool
-        ensures { result ≡ is_flag self }
-    {
-        match self {
-            CommandOption::Header => true,
-            CommandOption::Csv => true,
-            CommandOption::KeepGoing => true,
-            _ => false,
-        }
-    }
-
-    /// The least that a number of the option may be.
-    fn least(self) -> i64
-        ensures { result ≡ number_from self }
-    {
-        match self {
-            CommandOption::Field => 1,
-            _ => 0,
-        }
-    }
-
-    /// The most that a number of the option may be; `None` where its value is any text. Which
-    /// numbers are resolutions, the command decides.
-    fn most(self) -> Option<i64>
-        ensures { result ≡ number_up_to self }
-    {
-        match self {
-            CommandOption::Resolution => Some(i64::from(i32::MAX)),
-            CommandOption::Radius => Some(i64::from(i32::MAX)),
-            CommandOption::Position => Some(i64::MAX),
-            CommandOption::Field => Some(i64::from(u16::MAX)),
-            _ => None,
-        }
+        self.entry().is_required
     }
 
     /// The option with its names, as `clap` takes it.
@@ -192,26 +293,15 @@ impl CommandOption {
         ensures rule { rule_of result ≡ named_rule self }
         ensures local { result.global ≡ false }
     {
-        let argument = Arg::new(alloc, self.id())
-            .required(self.is_required())
+        let entry = self.entry();
+        let argument = Arg::new(alloc, entry.id)
+            .required(entry.is_required)
             .action(ArgAction::Set);
-        match self {
-            CommandOption::Cell => argument.short('c').long("cell"),
-            CommandOption::Resolution => argument.short('r').long("resolution"),
-            CommandOption::Radius => argument.short('k'),
-            CommandOption::To => argument.long("to"),
-            CommandOption::Position => argument.long("position"),
-            CommandOption::Edge => argument.long("edge"),
-            CommandOption::Table => argument.long("table"),
-            CommandOption::Region => argument.long("region"),
-            CommandOption::Zones => argument.long("zones"),
-            CommandOption::Field => argument.long("field"),
-            CommandOption::Column => argument.long("column"),
-            CommandOption::Header => argument.long("header"),
-            CommandOption::Separator => argument.long("separator"),
-            CommandOption::Csv => argument.long("csv"),
-            CommandOption::As => argument.long("as"),
-            CommandOption::KeepGoing => argument.long("keep-going"),
+        match (entry.short, entry.long) {
+            (Some(short), Some(long)) => argument.short(short).long(long),
+            (Some(short), None) => argument.short(short),
+            (None, Some(long)) => argument.long(long),
+            (None, None) => argument,
         }
     }
 
@@ -220,7 +310,7 @@ impl CommandOption {
         ensures rule { rule_of result ≡ named_rule self }
         ensures local { result.global ≡ false }
     {
-        let argument = self.named(alloc).help(self.about());
+        let argument = self.named(alloc).help(self.entry().about);
         if self.is_required() {
             return argument;
         }
@@ -233,11 +323,12 @@ impl CommandOption {
         ensures local { result.global ≡ false }
     {
         let argument = self.described(alloc);
-        if self.is_flag() {
+        let entry = self.entry();
+        if entry.is_flag {
             return argument.num_args(0).default_missing_value("true");
         }
-        match self.most() {
-            Some(most) => argument.value_parser(value_parser!(i64).range(self.least()..=most)),
+        match entry.most {
+            Some(most) => argument.value_parser(value_parser!(i64).range(entry.least..=most)),
             None => argument,
         }
     }
@@ -276,8 +367,9 @@ impl CommandOption {
             → number_up_to self ≡ Some most → IsSignedIn (number_from self) most text
             → result ≡ signed_digits_value 10 text }
     {
-        let least = self.least();
-        let most = self.most().unwrap_or(least);
+        let entry = self.entry();
+        let least = entry.least;
+        let most = entry.most.unwrap_or(least);
         match matches.get_str(self.id()) {
             Some(text) => text.parse::<i64>().unwrap_or(least).clamp(least, most),
             None => least,

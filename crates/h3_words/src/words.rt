@@ -1,17 +1,17 @@
 //! The words of a command line.
 
-ghost use Rattle.std.specs.Prelude.{◌≡◌, [], true, false, drop, Err, IfOk, IfErr, OnOk, map, string_bytes};
+ghost use Rattle.std.specs.Prelude.{◌≡◌, [], true, false, drop, Err, IfOk, IfErr, None, OnOk, Some, map, string_bytes};
 ghost use Rattle.clap.specs.Words.{fault_of, kind_of};
 ghost use Rattle.h3_words.specs.Call.{IsPlainCall};
-ghost use Rattle.h3_words.specs.Commands.{app};
-ghost use Rattle.h3_words.specs.Faults.{IsRefusalOf, IsReportedAs};
+ghost use Rattle.h3_words.specs.Commands.{app, command_of};
+ghost use Rattle.h3_words.specs.Faults.{IsFaultOf, IsRefusalOf, IsReportedAs};
 ghost use Rattle.h3_words.specs.Given.{given};
 ghost use Rattle.h3_words.specs.Rows.{rows_agree};
 ghost use Rattle.h3_words.specs.Values.{AsksFor};
 ghost use Rattle.h3_words.specs.Version.{asks_version};
-ghost use Rattle.h3_words.specs.declared.words.WordsFault.TheVariants.{Memory, Version};
+ghost use Rattle.h3_words.specs.declared.words.ArgsError.TheVariants.{Memory, Version};
 
-use crate::commands::{CommandName, command_line};
+use crate::commands::{COMMAND_NAMES, CommandName, command_line};
 use crate::options::CommandFile;
 use crate::rows::{row_options, rows_agree, rows_fault};
 use clap::error::ErrorKind;
@@ -33,7 +33,7 @@ pub struct Words {
 
 /// Why there is no command to run.
 #[derive(Debug, Drop)]
-pub enum WordsFault {
+pub enum ArgsError {
     /// Help was asked for: its text.
     Help(String),
 
@@ -47,28 +47,33 @@ pub enum WordsFault {
     Memory,
 }
 
-impl From<AllocError> for WordsFault {
+impl From<AllocError> for ArgsError {
     ghost from_gives = { λ _ fault. fault ≡ Memory };
 
-    fn from(_error: AllocError) -> WordsFault {
-        WordsFault::Memory
+    fn from(_error: AllocError) -> ArgsError {
+        ArgsError::Memory
     }
 }
 
-impl WordsFault {
-    /// The error that `clap` found in the words, with its text.
-    fn from_parse(alloc: Global, error: clap::Error, words: &[String]) -> WordsFault
+impl ArgsError {
+    /// The error that `clap` found in the words, taken as those of these commands, with its text.
+    fn from_parse(
+        alloc: Global,
+        error: clap::Error,
+        names: &[CommandName],
+        words: &[String],
+    ) -> ArgsError
         ensures { IsReportedAs (kind_of error) result }
     {
         if error.kind() == ErrorKind::OutOfMemory {
-            return WordsFault::Memory;
+            return ArgsError::Memory;
         }
-        match text_of(alloc, &error, words) {
+        match text_of(alloc, &error, names, words) {
             Ok(text) => match error.kind() {
-                ErrorKind::DisplayHelp => WordsFault::Help(text),
-                _ => WordsFault::Usage(text),
+                ErrorKind::DisplayHelp => ArgsError::Help(text),
+                _ => ArgsError::Usage(text),
             },
-            Err(_) => WordsFault::Memory,
+            Err(_) => ArgsError::Memory,
         }
     }
 }
@@ -106,12 +111,19 @@ fn with_negatives_joined(alloc: Global, words: &[String]) -> Result<Vec<String>,
     Ok(joined)
 }
 
-/// The text of an error that `clap` found in the words. It takes a negative number for an option
-/// that there is not, so where one stands in the place of a number, the text is that of the number.
-fn text_of(alloc: Global, error: &clap::Error, words: &[String]) -> Result<String, AllocError> {
+/// The text of an error that `clap` found in the words, taken as those of these commands. It takes a
+/// negative number for an option that there is not, so where one stands in the place of a number, the
+/// text is that of the number.
+fn text_of(
+    alloc: Global,
+    error: &clap::Error,
+    names: &[CommandName],
+    words: &[String],
+) -> Result<String, AllocError> {
     if error.kind() == ErrorKind::UnknownArgument {
         let joined = with_negatives_joined(alloc, words)?;
-        if let Err(of_number) = command_line(alloc)?.try_get_matches_from(joined.as_slice()) {
+        let parser = command_line(alloc, names)?;
+        if let Err(of_number) = parser.try_get_matches_from(joined.as_slice()) {
             match of_number.kind() {
                 ErrorKind::ValueValidation => return format!(in alloc; "{of_number}"),
                 ErrorKind::OutOfMemory => return Err(AllocError),
@@ -132,29 +144,50 @@ fn asks_for_version(words: &[String]) -> bool
     }
 }
 
-/// Parses the words of a command line that does not ask for the version.
-fn parse_words(alloc: Global, words: Vec<String>) -> Result<Words, WordsFault>
-    ensures read { IfOk result (AsksFor (map string_bytes words.items)) }
-    ensures accepted { OnOk result (fault_of app (map string_bytes words.items) ≡ []) }
-    ensures agreed { OnOk result
-        (rows_agree (λ option. given option (drop 2 (map string_bytes words.items))) ≡ true) }
-    ensures taken { IsPlainCall (map string_bytes words.items)
-        → IfErr result (λ fault. fault ≡ Memory) }
-    ensures faults { IfErr result (IsRefusalOf (map string_bytes words.items)) }
+/// The command that the word after the program's name names.
+fn named_command(words: &[String]) -> Option<CommandName>
+    ensures { result ≡ command_of (map string_bytes words.now) }
 {
-    let parser = command_line(alloc)?;
-    let matches = match parser.try_get_matches_from(words.as_slice()) {
+    CommandName::named_by(words.get(1)?.as_str())
+}
+
+/// Why the words, of which the second names no command, ask for none.
+fn without_command(alloc: Global, words: &[String]) -> ArgsError
+    requires unnamed { command_of (map string_bytes words.now) ≡ None }
+    ensures { IsFaultOf (fault_of app (map string_bytes words.now)) result }
+{
+    let parser = match command_line(alloc, &COMMAND_NAMES) {
+        Ok(parser) => parser,
+        Err(_) => return ArgsError::Memory,
+    };
+    match parser.try_get_matches_from(words) {
+        Ok(_) => unreachable!(),
+        Err(error) => ArgsError::from_parse(alloc, error, &COMMAND_NAMES, words),
+    }
+}
+
+/// Parses the words of the command, which the second of them names. `clap` is given no other
+/// command: it would look at none, and what it builds of all takes most of a call's time.
+fn parse_command(alloc: Global, name: CommandName, words: &[String]) -> Result<Words, ArgsError>
+    requires named { command_of (map string_bytes words.now) ≡ Some name }
+    ensures read { IfOk result (AsksFor (map string_bytes words.now)) }
+    ensures accepted { OnOk result (fault_of app (map string_bytes words.now) ≡ []) }
+    ensures agreed { OnOk result
+        (rows_agree (λ option. given option (drop 2 (map string_bytes words.now))) ≡ true) }
+    ensures taken { IsPlainCall (map string_bytes words.now)
+        → IfErr result (λ fault. fault ≡ Memory) }
+    ensures faults { IfErr result (IsRefusalOf (map string_bytes words.now)) }
+{
+    let parser = command_line(alloc, &[name])?;
+    let matches = match parser.try_get_matches_from(words) {
         Ok(matches) => matches,
-        Err(error) => return Err(WordsFault::from_parse(alloc, error, words.as_slice())),
+        Err(error) => return Err(ArgsError::from_parse(alloc, error, &[name], words)),
     };
-    let Some((word, inner)) = matches.subcommand() else {
-        unreachable!()
-    };
-    let Some(name) = CommandName::named_by(word) else {
+    let Some((_, inner)) = matches.subcommand() else {
         unreachable!()
     };
     if !rows_agree(inner) {
-        return Err(WordsFault::Usage(rows_fault(alloc, name.list_usage(), inner)?));
+        return Err(ArgsError::Usage(rows_fault(alloc, name.list_usage(), inner)?));
     }
     Ok(Words {
         command: name.command(inner),
@@ -163,14 +196,30 @@ fn parse_words(alloc: Global, words: Vec<String>) -> Result<Words, WordsFault>
     })
 }
 
+/// Parses the words of a command line that does not ask for the version.
+fn parse_words(alloc: Global, words: &[String]) -> Result<Words, ArgsError>
+    ensures read { IfOk result (AsksFor (map string_bytes words.now)) }
+    ensures accepted { OnOk result (fault_of app (map string_bytes words.now) ≡ []) }
+    ensures agreed { OnOk result
+        (rows_agree (λ option. given option (drop 2 (map string_bytes words.now))) ≡ true) }
+    ensures taken { IsPlainCall (map string_bytes words.now)
+        → IfErr result (λ fault. fault ≡ Memory) }
+    ensures faults { IfErr result (IsRefusalOf (map string_bytes words.now)) }
+{
+    match named_command(words) {
+        Some(name) => parse_command(alloc, name, words),
+        None => Err(without_command(alloc, words)),
+    }
+}
+
 /// Parses the words of a command line, of which the first is the program's name.
 ///
-/// [`WordsFault::Version`] where the second word is `-V` or `--version`, whatever follows;
-/// [`WordsFault::Help`] where they ask for help, [`WordsFault::Usage`] where the command line is
+/// [`ArgsError::Version`] where the second word is `-V` or `--version`, whatever follows;
+/// [`ArgsError::Help`] where they ask for help, [`ArgsError::Usage`] where the command line is
 /// invalid: it is not a command with each option that it requires, none twice, each value in range,
 /// and those of rows with what they go with; and
-/// [`WordsFault::Memory`] where there is no memory for the parse.
-pub fn read_words(alloc: Global, words: Vec<String>) -> Result<Words, WordsFault>
+/// [`ArgsError::Memory`] where there is no memory for the parse.
+pub fn read_words(alloc: Global, words: Vec<String>) -> Result<Words, ArgsError>
     ensures read { IfOk result (AsksFor (map string_bytes words.items)) }
     ensures accepted { OnOk result (fault_of app (map string_bytes words.items) ≡ []) }
     ensures agreed { OnOk result
@@ -182,7 +231,7 @@ pub fn read_words(alloc: Global, words: Vec<String>) -> Result<Words, WordsFault
         → IfErr result (IsRefusalOf (map string_bytes words.items)) }
 {
     if asks_for_version(words.as_slice()) {
-        return Err(WordsFault::Version);
+        return Err(ArgsError::Version);
     }
-    parse_words(alloc, words)
+    parse_words(alloc, words.as_slice())
 }

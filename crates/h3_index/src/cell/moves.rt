@@ -3,7 +3,7 @@
 ghost use Rattle.std.specs.Prelude.{◌≡◌, ◌≢◌, ◌<◌, ◌≤◌, true, false};
 ghost use Rattle.h3_index.specs.Cell.{IsCell, is_pentagon, is_pentagon_base, resolution};
 ghost use Rattle.h3_index.specs.Count.{base_cell};
-ghost use Rattle.h3_index.specs.Descendants.{center_at, child, cut};
+ghost use Rattle.h3_index.specs.Descendants.{center_descendant, child, ancestor_at};
 ghost use Rattle.h3_index.specs.Moves.{with_base, with_digit};
 
 use super::Cell;
@@ -22,9 +22,9 @@ impl Cell {
 
     /// The ancestor at a resolution that is not finer than the cell's:
     /// the digits above it are dropped.
-    pub fn cut(self, r: u8) -> Cell
+    pub fn ancestor_at(self, r: u8) -> Cell
         requires { r ≤ resolution self }
-        ensures is { result ≡ cut self r }
+        ensures is { result ≡ ancestor_at self r }
         ensures valid { IsCell result }
     {
         let own = u64::from(self.resolution()) << 52;
@@ -52,10 +52,10 @@ impl Cell {
 
     /// The descendant at a resolution that is not coarser than the cell's
     /// whose further digits are 0.
-    pub fn center_at(self, r: u8) -> Cell
+    pub fn center_descendant(self, r: u8) -> Cell
         requires not_coarser { resolution self ≤ r }
         requires at_most_fifteen { r ≤ 15 }
-        ensures is { result ≡ center_at self r }
+        ensures is { result ≡ center_descendant self r }
         ensures valid { IsCell result }
     {
         let places = 3 * (15 - self.resolution());

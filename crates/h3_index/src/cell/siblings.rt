@@ -47,7 +47,7 @@ impl Cell {
     /// How much one more in its last digit adds to the cell's number. It is the same for all cells
     /// of a resolution, so a walk over them need not find the bits of that digit for each.
     #[inline(always)]
-    pub fn unit(self) -> u64
+    pub fn last_digit_step(self) -> u64
         ensures is { result ≡ 8 ^ (15 - resolution self) }
         ensures valid { IsCell self }
     {
@@ -55,20 +55,23 @@ impl Cell {
     }
 
     /// The cell under the same parent whose last digit is one more; `None` where there is none,
-    /// which is so at resolution 0, after the digit 6, and at a pentagon. The cell's `unit` must be
+    /// which is so at resolution 0, after the digit 6, and at a pentagon. The cell's `last_digit_step` must be
     /// given.
     #[inline(always)]
-    pub fn raised(self, unit: u64) -> Option<Cell>
-        requires { unit ≡ 8 ^ (15 - resolution self) }
+    pub fn raised(self, last_digit_step: u64) -> Option<Cell>
+        requires { last_digit_step ≡ 8 ^ (15 - resolution self) }
         ensures is { IfSome result (λ next. next ≡ raised self) }
         ensures some { is_some result ≡ has_raised self }
     {
-        let last = self.raw & 7 * unit;
-        if unit == 1 << 45 || last == 6 * unit || last == 0 && self.is_pentagon() {
+        let last = self.raw & 7 * last_digit_step;
+        if last_digit_step == 1 << 45
+            || last == 6 * last_digit_step
+            || last == 0 && self.is_pentagon()
+        {
             return None;
         }
         Some(Cell {
-            raw: self.raw + unit,
+            raw: self.raw + last_digit_step,
         })
     }
 }

@@ -1,6 +1,6 @@
 //! Sixteen hexadecimal digits at once, each in a lane of a vector.
 
-ghost use Rattle.std.specs.Prelude.{◌≡◌, ◌++◌, length, map, true};
+ghost use Rattle.std.specs.Prelude.{◌≡◌, ◌++◌, ◌∷◌, [], length, map, true};
 ghost use Rattle.std.specs.Char.{digit_char, digit_value};
 ghost use Rattle.std.specs.Int.Digits.{number_from_digits, AllBelowBase};
 ghost use Rattle.std.specs.List.{list_all};
@@ -89,11 +89,7 @@ fn lettered(digits: u8x16) -> u8x16
     requires digits { AllBelowBase 16 digits }
     ensures { result ≡ map digit_char digits }
 {
-    let over = digits
-        .saturating_sub(u8x16::splat(9))
-        .simd_min(u8x16::splat(1));
-    let letters = (u8x16::splat(0) - over) & u8x16::splat(39);
-    digits + u8x16::splat(48) + letters
+    u8x16::from_array(*b"0123456789abcdef").swizzle_dyn(digits)
 }
 
 /// The sixteen hexadecimal digits of a number, in lower case.
@@ -102,4 +98,16 @@ pub(crate) fn write_sixteen(number: u64) -> [u8; 16]
     ensures { result ≡ map digit_char (last_digits 16 16 number) }
 {
     lettered(apart(number)).to_array()
+}
+
+/// The last fifteen hexadecimal digits of a number, in lower case, and a line feed, each in a lane.
+#[inline(always)]
+pub(crate) fn line_lanes(number: u64) -> u8x16
+    ensures { result ≡ map digit_char (last_digits 16 15 number) ++ 10 ∷ [] }
+{
+    let digits = lettered(apart(number << 4));
+    digits.shuffle(
+        u8x16::splat(b'\n'),
+        [0, 1, 2, 3, 4, 5, 6, 7, 8, 9, 10, 11, 12, 13, 14, 31],
+    )
 }

@@ -8,27 +8,45 @@ ghost use Rattle.h3_index.specs.Descendants.{children};
 ghost use Rattle.h3_index.specs.Digits.{last_digits};
 ghost use Rattle.h3_index.specs.Text.{text_of};
 
-use super::lanes::write_sixteen;
+use super::lanes::line_lanes;
 use super::pairs::pair;
 use crate::cell::Cell;
+use std::simd::prelude::*;
+use std::simd::u8x16;
 
 /// The bytes of a cell's line: the fifteen digits of its text, and a line feed.
 const LINE: usize = 16;
 
-/// Puts a line whose hexadecimal digits before the last `after` are those of a byte, and all others
-/// those of another line.
+/// What one more in a child's own digit adds to a byte of two hexadecimal digits, by the number of
+/// bits below the digit in it.
+static STEPS: [u64; 4] = [1, 2, 4, 8];
+
+/// Puts sixteen bytes into others from `at` on.
 #[inline(always)]
-fn put_sibling(line: &[u8; LINE], byte: u64, after: usize, bytes: &mut [u8], at: usize) -> usize
+fn put_line(line: u8x16, bytes: &mut [u8], at: usize)
+    requires sixteen { length line ≡ LINE }
+    requires room { at + LINE ≤ length bytes.old }
+    ensures { bytes.new ≡ take at bytes.old ++ (line ++ drop LINE (drop at bytes.old)) }
+{
+    line.copy_to_slice(&mut bytes[at..]);
+}
+
+/// Puts a line whose two hexadecimal digits after the first `before` are those of a byte, and all
+/// others those of another line.
+#[inline(always)]
+fn put_sibling(line: u8x16, byte: u64, before: usize, bytes: &mut [u8], at: usize) -> usize
+    requires sixteen { length line ≡ LINE }
     requires byte { byte < 256 }
-    requires within { after ≤ 13 }
+    requires within { before ≤ 13 }
     requires room { at + LINE ≤ length bytes.old }
     ensures end { result ≡ at + LINE }
-    ensures line { take result bytes.new ≡ take at bytes.old ++ (take (13 - after) line.now
-        ++ (map digit_char (last_digits 16 2 byte) ++ drop 2 (drop (13 - after) line.now))) }
+    ensures line { take result bytes.new ≡ take at bytes.old ++ (take before line
+        ++ (map digit_char (last_digits 16 2 byte) ++ drop 2 (drop before line))) }
 {
-    bytes[at..at + LINE].copy_from_slice(line);
-    let two = at + 13 - after;
-    bytes[two..two + 2].copy_from_slice(&pair(byte));
+    put_line(line, bytes, at);
+    let digits = pair(byte);
+    bytes[at + before] = digits[0];
+    bytes[at + before + 1] = digits[1];
     at + LINE
 }
 
@@ -42,10 +60,7 @@ pub fn put_cell_line(cell: Cell, bytes: &mut [u8], at: usize) -> usize
         ≡ take at bytes.old ++ (text_of (number_of cell) ++ 10 ∷ []) }
     ensures text { take (at + 15) bytes.new ≡ take at bytes.old ++ text_of (number_of cell) }
 {
-    // the number without the zero in front
-    let mut line = write_sixteen(cell.raw() << 4);
-    line[LINE - 1] = b'\n';
-    bytes[at..at + LINE].copy_from_slice(&line);
+    put_line(line_lanes(cell.raw()), bytes, at);
     at + LINE
 }
 
@@ -63,20 +78,21 @@ pub fn put_children_lines(parent: Cell, bytes: &mut [u8], at: usize) -> usize
         ++ flat_map (λ c. text_of (number_of c) ++ 10 ∷ []) (children parent) }
 {
     let first = parent.child(0);
-    let mut line = [0; LINE];
-    put_cell_line(first, &mut line, 0);
+    let number = first.raw();
+    let line = line_lanes(number);
     // A child's own digit lies in the two hexadecimal digits of a byte, that of the first child
     // and a number of steps.
     let places = 3 * (14 - parent.resolution());
     let after = usize::from(places / 4);
-    let byte = first.raw() >> (4 * after) & 255;
-    let step = 1 << (places % 4);
-    let mut end = put_sibling(&line, byte, after, bytes, at);
+    let byte = number >> (4 * after) & 255;
+    let step = STEPS[usize::from(places % 4)];
+    let before = 13 - after;
+    let mut end = put_sibling(line, byte, before, bytes, at);
     if !parent.is_pentagon() {
-        end = put_sibling(&line, byte + step, after, bytes, end);
+        end = put_sibling(line, byte + step, before, bytes, end);
     }
     for digit in 2..7 {
-        end = put_sibling(&line, byte + digit * step, after, bytes, end);
+        end = put_sibling(line, byte + digit * step, before, bytes, end);
     }
     end
 }

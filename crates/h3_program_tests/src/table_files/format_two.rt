@@ -5,10 +5,11 @@ use crate::cases::{BESIDE, HEXAGON, PENTAGON_LINE, Row, answers_row_over, refuse
 use h3_directions::Direction;
 use h3_fakes::bases_file;
 use h3_grid::step;
-use h3_index::{Cell, Streamed};
-use h3_lattice::BaseTable;
-use h3_lattice::vectors::TestTable;
+use h3_index::Cell;
 use h3_requests::Command;
+use h3_streams::Streamed;
+use h3_table::BaseTable;
+use h3_table::vectors::TestTable;
 use std::alloc::Global;
 
 /// A disk around a cell of resolution 0.

@@ -1,6 +1,6 @@
 use Rattle.std.proofs.Common.{◌≡◌, ◌∙◌, ◌++◌, ◌∷◌, [], ◌+◌, ◌<◌, ◌==◌, length, map, take, refl, sym, ap, arith}
 use Rattle.std.specs.Result.{result_unwrap_or}
-use Rattle.h3_c.specs.Columns.{first_code}
+use Rattle.h3_c.specs.Column.{first_code}
 use Rattle.h3_c.specs.Lists.{laid_over}
 use Rattle.h3_c.proofs.Columns.{few-next, length-up_to, missed-next, tells, up_to-next, values-next, whole}
 use Rattle.h3_c.proofs.column.fill_values.Goals as goal

@@ -1,6 +1,6 @@
 use Rattle.std.proofs.Common.{◌≡◌, ◌≤◌, ◌==◌, map, take}
 use Rattle.std.specs.Result.{result_unwrap_or}
-use Rattle.h3_c.specs.Columns.{first_code}
+use Rattle.h3_c.specs.Column.{first_code}
 use Rattle.h3_c.specs.Lists.{laid_over}
 use Rattle.h3_c.proofs.column.fill_values.Given as goal
 

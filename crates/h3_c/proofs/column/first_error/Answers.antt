@@ -1,6 +1,6 @@
 use Rattle.std.proofs.Common.{◌≡◌, ◌∙◌, ◌++◌, ◌∷◌, [], ◌+◌, length, map, take, refl, sym, ap, arith}
 use Rattle.std.proofs.lemmas.List.{length-map}
-use Rattle.h3_c.specs.Columns.{first_code}
+use Rattle.h3_c.specs.Column.{first_code}
 use Rattle.h3_c.proofs.Columns.{code-ok, found, place-none, up_to-next, whole}
 use Rattle.h3_c.proofs.column.first_error.Goals as goal
 

@@ -1,5 +1,5 @@
 use Rattle.std.proofs.Common.{◌≡◌, map, take}
-use Rattle.h3_c.specs.Columns.{first_code}
+use Rattle.h3_c.specs.Column.{first_code}
 use Rattle.h3_c.proofs.column.first_error.Given as goal
 
 abbrev pub invariant-loop-place : goal.invariant-loop-place

@@ -4,8 +4,8 @@ use Rattle.std.proofs.lemmas.Int.{to_z-of_z}
 use Rattle.std.proofs.lemmas.Iterator.Consumers.{YieldsList-from_first}
 use Rattle.h3_index.specs.Cell.{Address}
 use Rattle.h3_index.specs.declared.error.H3Error.{H3Error}
-use Rattle.h3_lattice.specs.BaseTable.{link_of}
-use Rattle.h3_lattice.specs.Links.{Links}
+use Rattle.h3_table.specs.BaseTable.{link_of}
+use Rattle.h3_table.specs.Links.{Links}
 use Rattle.h3_grid.specs.Refusals.{disk_refusal}
 use Rattle.h3_grid.specs.Walks.{disk}
 use Rattle.h3_functions.specs.DiskCells.{disk_cells_left}

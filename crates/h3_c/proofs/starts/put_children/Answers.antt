@@ -6,7 +6,7 @@ use Rattle.h3_index.specs.Cell.{Address}
 use Rattle.h3_index.specs.declared.error.H3Error.{H3Error}
 use Rattle.h3_functions.specs.Hierarchy.{cell_to_children, cell_to_children_size}
 use Rattle.h3_functions.specs.Inspection.{for_value}
-use Rattle.h3_c.specs.Columns.{first_code}
+use Rattle.h3_c.specs.Column.{first_code}
 use Rattle.h3_c.specs.Descendants.{end_after}
 use Rattle.h3_c.specs.Lists.{indexes, laid_over}
 use Rattle.h3_c.specs.Starts.{all_children, child_sizes, fitting, sizes_of}

@@ -1,5 +1,5 @@
 use Rattle.std.proofs.Common.{◌≡◌, ◌≤◌, ◌==◌, length, take}
-use Rattle.h3_c.specs.Columns.{first_code}
+use Rattle.h3_c.specs.Column.{first_code}
 use Rattle.h3_c.specs.Lists.{laid_over, indexes}
 use Rattle.h3_c.specs.Starts.{all_children, child_sizes}
 use Rattle.h3_c.proofs.starts.put_children.Given as goal

@@ -1,5 +1,5 @@
 use Rattle.std.proofs.Common.{◌≡◌, ◌≤◌, ◌==◌, map, take}
-use Rattle.h3_c.specs.Columns.{first_code}
+use Rattle.h3_c.specs.Column.{first_code}
 use Rattle.h3_c.specs.Lists.{laid_over}
 use Rattle.h3_c.specs.Starts.{greatest_place, sizes_of, starts_from}
 use Rattle.h3_c.proofs.StartLaws.{total}

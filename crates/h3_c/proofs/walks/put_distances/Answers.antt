@@ -3,9 +3,9 @@ use Rattle.std.specs.Prelude.{unsigned_abs}
 use Rattle.std.proofs.lemmas.Int.{to_z-of_z}
 use Rattle.std.proofs.lemmas.Iterator.Consumers.{YieldsList-from_first}
 use Rattle.h3_index.specs.Cell.{Address}
-use Rattle.h3_lattice.specs.BaseTable.{link_of}
-use Rattle.h3_lattice.specs.Links.{Links}
-use Rattle.h3_grid.specs.Disk.{disk_left}
+use Rattle.h3_table.specs.BaseTable.{link_of}
+use Rattle.h3_table.specs.Links.{Links}
+use Rattle.h3_grid.specs.Disks.{disk_left}
 use Rattle.h3_grid.specs.Refusals.{disk_refusal}
 use Rattle.h3_grid.specs.Walks.{disk}
 use Rattle.h3_functions.specs.Hierarchy.{unless}

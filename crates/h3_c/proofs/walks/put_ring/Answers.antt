@@ -3,10 +3,10 @@ use Rattle.std.specs.Prelude.{unsigned_abs}
 use Rattle.std.proofs.lemmas.Int.{to_z-of_z}
 use Rattle.std.proofs.lemmas.Iterator.Consumers.{YieldsList-from_first}
 use Rattle.h3_index.specs.Cell.{Address}
-use Rattle.h3_lattice.specs.BaseTable.{link_of}
-use Rattle.h3_lattice.specs.Links.{Links}
+use Rattle.h3_table.specs.BaseTable.{link_of}
+use Rattle.h3_table.specs.Links.{Links}
 use Rattle.h3_grid.specs.Refusals.{ring_refusal}
-use Rattle.h3_grid.specs.Ring.{ring_left}
+use Rattle.h3_grid.specs.Rings.{ring_left}
 use Rattle.h3_grid.specs.Walks.{ring}
 use Rattle.h3_functions.specs.Hierarchy.{unless}
 use Rattle.h3_c.specs.Walks.{walk_code, walk_over}

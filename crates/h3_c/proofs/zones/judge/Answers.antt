@@ -1,6 +1,6 @@
 use Rattle.std.proofs.Common.{◌≡◌, ◌+◌, ◌≢◌, suc, take, take_all, None, sym, ap, ◌∙◌, subst, arith, rules}
 use Rattle.h3_index.specs.Error.{error_number}
-use Rattle.h3_c.specs.Columns.{first_code, first_place}
+use Rattle.h3_c.specs.Column.{first_code, first_place}
 use Rattle.h3_c.specs.Sets.{cells_in}
 use Rattle.h3_c.specs.Zones.{judged}
 use Rattle.h3_c.proofs.CellsIn.{some-snoc}

@@ -1,16 +1,16 @@
-use Rattle.std.proofs.Common.{◌≡◌, [], arith, length, refl, replicate, rules, subst, sym}
+use Rattle.std.proofs.Common.{◌≡◌, [], arith, inl, length, refl, replicate, rules, subst, sym}
 use Rattle.std.proofs.lemmas.Grind.{common_steps}
-use Rattle.h3_lines.specs.declared.refusal.Fault.TheVariants.{Memory}
-use Rattle.h3_lines.specs.declared.refusal.Refusal.TheVariants.{Fault}
+use Rattle.h3_lines.specs.Reads.{source_use}
+use Rattle.h3_lines.specs.declared.run_error.Fault.TheVariants.{Memory}
+use Rattle.h3_lines.specs.declared.run_error.RunError.TheVariants.{Fault}
 use Rattle.std.proofs.KnownBytes.{Keeps-refl}
 use Rattle.std.proofs.lemmas.Result.{err_from_is_err_and}
-use Rattle.h3_lines.specs.Writing.{sink_use}
-use Rattle.h3_regions.specs.Counts.{AreCounts}
+use Rattle.h3_lines.specs.Write.{sink_use}
+use Rattle.h3_regions.specs.Counting.{AreCounts}
 use Rattle.h3_command.specs.Files.{counts_answer}
 use Rattle.h3_command.specs.Rows.{list_form}
-use Rattle.h3_command.specs.Run.{source_use}
 use Rattle.h3_command.proofs.Endings.{list_unread}
-use Rattle.h3_command.proofs.ListedCells.{numbered_answered, numbered_unanswered}
+use Rattle.h3_command.proofs.ListedCells.{numbered_ends, numbered_unanswered}
 use Rattle.h3_command.proofs.counts.answer_counts.Goals as goal
 
 pub returns-in_err-tally : goal.returns-in_err-tally
@@ -39,4 +39,4 @@ returns g c =
     let told : AreCounts zones cells c.in_ok-tally.tally.counts.items others = rw c.over.ensures at taken.1 [] start in
     let wrote = rw (c.over-2.ensures, c.deref.ensures.value) at c.write_counts.ensures in
     let input = source_use g.R.Source.left g.R.Source.has_failed c.args.input.now c.take_listed.new.input in
-    numbered_answered (list_form c.args.rows.now) (counts_answer zones) cells input _ out gives (wrote cells told)
+    numbered_ends (list_form c.args.rows.now) (counts_answer zones) cells input _ out gives (inl (wrote cells told))

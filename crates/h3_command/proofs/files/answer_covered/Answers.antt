@@ -1,9 +1,10 @@
 use Rattle.std.proofs.Common.{codes, subst}
 use Rattle.std.proofs.lemmas.List.Sorted.{IsPermutation-sym}
 use Rattle.h3_set.specs.Compacted.{compacted}
-use Rattle.h3_lines.specs.Writing.{sink_use}
+use Rattle.h3_lines.specs.Reads.{source_use}
+use Rattle.h3_lines.specs.Write.{sink_use}
 use Rattle.h3_command.specs.Rows.{rows_form}
-use Rattle.h3_command.specs.Run.{EndsLines, source_use}
+use Rattle.h3_command.specs.Run.{EndsLines}
 use Rattle.h3_command.proofs.Combined.{covered_alike}
 use Rattle.h3_command.proofs.files.answer_covered.Goals as goal
 

@@ -1,13 +1,13 @@
-use Rattle.std.proofs.Common.{◌∙◌, subst, sym, ◌↔◌, ◌≡◌, All}
-use Rattle.h3_index.specs.Cell.{IsCell}
+use Rattle.std.proofs.Common.{◌∙◌, subst, sym, ◌↔◌, ◌≡◌}
+use Rattle.h3_regions.specs.Region.{IsRegion}
 use Rattle.h3_set.specs.Coverage.{IsCovered}
 use Rattle.h3_command.proofs.Combined.{fine}
 use Rattle.h3_command.proofs.files.left_within.Goals as goal
 
-pub returns-in-Some-clause-valid : goal.returns-in-Some-clause-valid
-returns-in-Some-clause-valid c =
+pub returns-in-Some-clause-region : goal.returns-in-Some-clause-region
+returns-in-Some-clause-region c =
     let is : c.in_ok-left-in-Some.left.items ≡ c.in-Some.left = c.in_ok-left-in-Some.ensures.ok ∙ c.cells-in-Some.ensures.is in
-    subst (All IsCell) (sym is) c.in-Some.ensures.region.valid
+    subst IsRegion (sym is) c.in-Some.ensures.region
 
 pub returns-in-Some-clause-covers : goal.returns-in-Some-clause-covers
 returns-in-Some-clause-covers c x =

@@ -1,19 +1,15 @@
 use Rattle.std.proofs.Common.{[], ◌≡◌, ◌++◌}
-use Rattle.h3_lines.specs.List.{RefusesList, listed_cells}
+use Rattle.h3_lines.specs.Reads.{source_use}
 use Rattle.h3_rows.specs.RowForm.{form_of}
-use Rattle.h3_command.specs.Run.{GivesRows, ReadFails, source_use}
-use Rattle.h3_command.proofs.ListedCells.{items_given, lines_read, lines_refused, rows_given}
+use Rattle.h3_command.specs.Run.{GivesRows}
+use Rattle.h3_command.proofs.ListedCells.{items_given, rows_given}
 use Rattle.h3_command.proofs.listed.read_listed.Goals as goal
 
 pub returns-in-None-clause-cells : goal.returns-in-None-clause-cells
-returns-in-None-clause-cells g c =
-    let input = source_use g.R.Source.left g.R.Source.has_failed c.args.input.now c.read_cells.new.input in
-    rw c.in-None.is (lines_read (λ v. v.items) input c.read_cells.result c.read_cells.ensures.cells c.read_cells.ensures.whole c.read_cells.ensures.sound)
+returns-in-None-clause-cells g c = rw c.in-None.is c.read_cells.ensures.cells
 
 pub returns-in-None-clause-refused : goal.returns-in-None-clause-refused
-returns-in-None-clause-refused g c =
-    let input = source_use g.R.Source.left g.R.Source.has_failed c.args.input.now c.read_cells.new.input in
-    rw c.in-None.is (lines_refused (λ list. RefusesList (ReadFails input list) (listed_cells list)) input c.read_cells.result c.read_cells.ensures.refused c.read_cells.ensures.stops c.read_cells.ensures.faults c.read_cells.ensures.sound)
+returns-in-None-clause-refused g c = rw c.in-None.is c.read_cells.ensures.refused
 
 pub returns-in-Some-clause-cells : goal.returns-in-Some-clause-cells
 returns-in-Some-clause-cells g c =

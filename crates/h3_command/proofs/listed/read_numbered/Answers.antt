@@ -1,6 +1,6 @@
 use Rattle.h3_command.specs.Listed.{GivesCells}
 use Rattle.h3_command.specs.Rows.{list_form}
-use Rattle.h3_command.specs.Run.{source_use}
+use Rattle.h3_lines.specs.Reads.{source_use}
 use Rattle.h3_command.proofs.ListedCells.{items_given}
 use Rattle.h3_command.proofs.listed.read_numbered.Goals as goal
 

@@ -1,20 +1,14 @@
 use Rattle.std.proofs.Common.{[]}
-use Rattle.h3_lines.specs.List.{listed_cells}
-use Rattle.h3_lines.specs.Numbered.{RefusesAt, faulty_line}
+use Rattle.h3_lines.specs.Reads.{source_use}
 use Rattle.h3_rows.specs.RowForm.{form_of}
-use Rattle.h3_command.specs.Run.{ReadFails, source_use}
-use Rattle.h3_command.proofs.ListedCells.{lines_given, lines_refused, rows_given}
+use Rattle.h3_command.proofs.ListedCells.{rows_given}
 use Rattle.h3_command.proofs.listed.take_listed.Goals as goal
 
 pub returns-in-None-clause-taken : goal.returns-in-None-clause-taken
-returns-in-None-clause-taken g c =
-    let input = source_use g.R.Source.left g.R.Source.has_failed c.args.input.now c.take_cells.new.input in
-    rw c.in-None.is (lines_given (g.V.CellTaker.taken c.args.taker) input c.take_cells.result c.take_cells.ensures.taken c.take_cells.ensures.whole c.take_cells.ensures.sound)
+returns-in-None-clause-taken g c = rw c.in-None.is c.take_cells.ensures.taken
 
 pub returns-in-None-clause-refused : goal.returns-in-None-clause-refused
-returns-in-None-clause-refused g c =
-    let input = source_use g.R.Source.left g.R.Source.has_failed c.args.input.now c.take_cells.new.input in
-    rw c.in-None.is (lines_refused (λ list. RefusesAt (ReadFails input list) (listed_cells list) (faulty_line list)) input c.take_cells.result c.take_cells.ensures.refused c.take_cells.ensures.stops c.take_cells.ensures.faults c.take_cells.ensures.sound)
+returns-in-None-clause-refused g c = rw c.in-None.is c.take_cells.ensures.refused
 
 pub returns-in-Some-clause-taken : goal.returns-in-Some-clause-taken
 returns-in-Some-clause-taken g c =

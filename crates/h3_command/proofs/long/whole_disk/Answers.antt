@@ -3,10 +3,10 @@ use Rattle.std.specs.Prelude.{unsigned_abs}
 use Rattle.std.proofs.lemmas.Int.{to_z-of_z}
 use Rattle.std.proofs.lemmas.Iterator.Consumers.{YieldsList-from_first}
 use Rattle.std.proofs.lemmas.Result.{err_from_is_err_and, IfOk-weaker}
-use Rattle.h3_grid.specs.Disk.{disk_left}
+use Rattle.h3_grid.specs.Disks.{disk_left}
 use Rattle.h3_grid.specs.Refusals.{disk_refusal}
 use Rattle.h3_grid.specs.Walks.{disk}
-use Rattle.h3_lattice.specs.BaseTable.{link_of}
+use Rattle.h3_table.specs.BaseTable.{link_of}
 use Rattle.h3_lines.specs.Answer.{whole_items}
 use Rattle.h3_command.proofs.WholeWalks.{walk_begun}
 use Rattle.h3_command.proofs.long.whole_disk.Goals as goal

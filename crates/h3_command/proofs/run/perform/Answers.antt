@@ -32,22 +32,22 @@ returns-in-CellsToChildren-clause-ends g c =
 pub returns-in-GridDisksUnsafe-clause-ends : goal.returns-in-GridDisksUnsafe-clause-ends
 returns-in-GridDisksUnsafe-clause-ends g c =
     let k = c.in-GridDisksUnsafe.k in
-    rw c.in-GridDisksUnsafe.is (rw (to_z-of_z w32 k (search rules)) at c.grid_disks_unsafe.ensures)
+    rw c.in-GridDisksUnsafe.is (rw (to_z-of_z w32 k (search rules)) at c.answer_over_table.ensures)
 
 pub returns-in-GridDisksDistancesUnsafe-clause-ends : goal.returns-in-GridDisksDistancesUnsafe-clause-ends
 returns-in-GridDisksDistancesUnsafe-clause-ends g c =
     let k = c.in-GridDisksDistancesUnsafe.k in
-    rw c.in-GridDisksDistancesUnsafe.is (rw (to_z-of_z w32 k (search rules)) at c.grid_disks_distances_unsafe.ensures)
+    rw c.in-GridDisksDistancesUnsafe.is (rw (to_z-of_z w32 k (search rules)) at c.answer_over_table-in-GridDisksDistancesUnsafe.ensures)
 
 pub returns-in-GridRingsUnsafe-clause-ends : goal.returns-in-GridRingsUnsafe-clause-ends
 returns-in-GridRingsUnsafe-clause-ends g c =
     let k = c.in-GridRingsUnsafe.k in
-    rw c.in-GridRingsUnsafe.is (rw (to_z-of_z w32 k (search rules)) at c.grid_rings_unsafe.ensures)
+    rw c.in-GridRingsUnsafe.is (rw (to_z-of_z w32 k (search rules)) at c.answer_over_table-in-GridRingsUnsafe.ensures)
 
 pub returns-in-UncompactCells-clause-ends : goal.returns-in-UncompactCells-clause-ends
 returns-in-UncompactCells-clause-ends g c =
     let res = c.in-UncompactCells.res in
-    rw c.in-UncompactCells.is (rw (to_z-of_z w32 res (search rules)) at c.uncompact_cells.ensures)
+    rw c.in-UncompactCells.is (rw (to_z-of_z w32 res (search rules)) at c.answer_whole-in-UncompactCells.ensures)
 
 pub returns-in-UncompactCellsSize-clause-ends : goal.returns-in-UncompactCellsSize-clause-ends
 returns-in-UncompactCellsSize-clause-ends g c =

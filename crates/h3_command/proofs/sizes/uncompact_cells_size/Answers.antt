@@ -1,15 +1,15 @@
-use Rattle.std.proofs.Common.{w32, to_z, of_z, ◌∙◌, ℤ, ap, ◌≡◌, ℕ, [], Option, Some, None, refl, rules, subst}
+use Rattle.std.proofs.Common.{w32, to_z, of_z, ◌∙◌, ℤ, ap, ◌≡◌, ℕ, [], Option, Some, None, refl, rules, subst, inl}
 use Rattle.std.specs.Prelude.{IfSome}
 use Rattle.std.proofs.KnownBytes.{Keeps-refl}
 use Rattle.std.proofs.lemmas.Int.{to_z-of_z}
 use Rattle.std.proofs.lemmas.Result.{err_from_is_err_and}
 use Rattle.h3_lines.specs.Answer.{number_line, printed}
-use Rattle.h3_lines.specs.Writing.{sink_use}
+use Rattle.h3_lines.specs.Reads.{source_use}
+use Rattle.h3_lines.specs.Write.{sink_use}
 use Rattle.h3_functions.specs.Sets.{uncompact_cells_size}
 use Rattle.h3_command.specs.Rows.{list_form}
-use Rattle.h3_command.specs.Run.{source_use}
-use Rattle.h3_command.specs.Sizing.{IsSizeOf}
-use Rattle.h3_command.proofs.ListedCells.{numbered_answered, numbered_unanswered}
+use Rattle.h3_command.specs.Sizes.{IsSizeOf}
+use Rattle.h3_command.proofs.ListedCells.{numbered_ends, numbered_unanswered}
 use Rattle.h3_command.proofs.sizes.uncompact_cells_size.Goals as goal
 
 started : (resolution : Option ℕ) (r : ℕ) (P : ℕ → Type 0) → IfSome resolution (λ s. r ≡ s) → P r → IfSome resolution P
@@ -37,4 +37,4 @@ returns g c =
     ∙ ap (λ (x : ℤ). uncompact_cells_size x cells) same in
     let out = sink_use g.W.Sink.taken g.W.Sink.has_failed c.args.out.now c.write_result.new.out in
     let input = source_use g.R.Source.left g.R.Source.has_failed c.args.input.now c.take_listed.new.input in
-    numbered_answered (list_form c.args.rows.now) (λ cells. printed number_line (uncompact_cells_size res cells)) cells input _ out gives (rw told at c.write_result.ensures)
+    numbered_ends (list_form c.args.rows.now) (λ cells. printed number_line (uncompact_cells_size res cells)) cells input _ out gives (inl (rw told at c.write_result.ensures))

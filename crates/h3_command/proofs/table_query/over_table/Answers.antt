@@ -1,7 +1,7 @@
 use Rattle.std.proofs.Common.{refl, sym}
 use Rattle.std.proofs.KnownBytes.{Keeps-refl}
 use Rattle.std.proofs.lemmas.Result.{err_from_is_err_and}
-use Rattle.h3_lattice.specs.BaseTable.{link_of}
+use Rattle.h3_table.specs.BaseTable.{link_of}
 use Rattle.h3_command.specs.TableQuery.{table_answer}
 use Rattle.h3_command.proofs.Endings.{table_answered, table_refused_so, value_refused}
 use Rattle.h3_command.proofs.table_query.over_table.Goals as goal

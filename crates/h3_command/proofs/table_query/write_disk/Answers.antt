@@ -4,7 +4,7 @@ use Rattle.std.proofs.KnownBytes.{Keeps-refl}
 use Rattle.std.proofs.lemmas.Int.{to_z-of_z}
 use Rattle.h3_grid.specs.Refusals.{disk_refusal}
 use Rattle.h3_grid.specs.Walks.{disk}
-use Rattle.h3_lattice.specs.BaseTable.{link_of}
+use Rattle.h3_table.specs.BaseTable.{link_of}
 use Rattle.h3_lines.specs.Answer.{cell_line}
 use Rattle.h3_functions.specs.DiskCells.{disk_cells_left}
 use Rattle.h3_functions.specs.Walks.{without_ring}

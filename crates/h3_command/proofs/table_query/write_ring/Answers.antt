@@ -4,8 +4,8 @@ use Rattle.std.proofs.KnownBytes.{Keeps-refl}
 use Rattle.std.proofs.lemmas.Int.{to_z-of_z}
 use Rattle.h3_grid.specs.Refusals.{ring_refusal}
 use Rattle.h3_grid.specs.Walks.{ring}
-use Rattle.h3_lattice.specs.BaseTable.{link_of}
-use Rattle.h3_grid.specs.Ring.{ring_left}
+use Rattle.h3_table.specs.BaseTable.{link_of}
+use Rattle.h3_grid.specs.Rings.{ring_left}
 use Rattle.h3_lines.specs.Answer.{cell_line}
 use Rattle.h3_command.proofs.Written.{walk_unbegun, walk_written}
 use Rattle.h3_command.proofs.table_query.write_ring.Goals as goal

@@ -1,4 +1,4 @@
-use Rattle.h3_lattice.specs.BaseTable.{link_of}
+use Rattle.h3_table.specs.BaseTable.{link_of}
 use Rattle.h3_grid.proofs.DirectedEdgeLaws.{IsFound, edge-none, edge-refused, edge_found}
 use Rattle.h3_grid.proofs.directed_edges.edge_between.Goals as goal
 use Rattle.h3_grid.proofs.directed_edges.edge_between.Goals.{After-from_parts}

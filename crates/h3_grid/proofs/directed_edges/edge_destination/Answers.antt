@@ -1,5 +1,5 @@
 use Rattle.std.proofs.Common.{refl, sym, ap, ◌∙◌}
-use Rattle.h3_lattice.specs.BaseTable.{link_of}
+use Rattle.h3_table.specs.BaseTable.{link_of}
 use Rattle.h3_grid.specs.Neighbors.{neighbor}
 use Rattle.h3_grid.proofs.DirectedEdgeLaws.{LeadsNowhere, LeadsTo, leads_nowhere, leads_to}
 use Rattle.h3_grid.proofs.directed_edges.edge_destination.Goals as goal

@@ -1,5 +1,5 @@
 use Rattle.std.proofs.Common.{Ok, sym, ap, ◌∙◌}
-use Rattle.h3_lattice.specs.BaseTable.{link_of}
+use Rattle.h3_table.specs.BaseTable.{link_of}
 use Rattle.h3_grid.proofs.NeighborLaws.{result-refused, result-same, result-given}
 use Rattle.h3_grid.proofs.neighbors.are_neighbors.Goals as goal
 

@@ -1,5 +1,5 @@
 use Rattle.std.proofs.Common.{unsigned_abs}
-use Rattle.h3_lattice.specs.BaseTable.{link_of}
+use Rattle.h3_table.specs.BaseTable.{link_of}
 use Rattle.h3_grid.proofs.rings.ring_is_lawful.Goals as goal
 
 pub returns : goal.returns

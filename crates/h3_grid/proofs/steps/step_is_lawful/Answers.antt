@@ -1,4 +1,4 @@
-use Rattle.h3_lattice.specs.BaseTable.{link_of}
+use Rattle.h3_table.specs.BaseTable.{link_of}
 use Rattle.h3_grid.proofs.steps.step_is_lawful.Goals as goal
 
 pub returns-clause-states : goal.returns-clause-states

@@ -1,5 +1,5 @@
 use Rattle.std.proofs.Common.{rules, take, ap}
-use Rattle.h3_index.specs.Counted.{source_of}
+use Rattle.h3_streams.specs.Counted.{source_of}
 use Rattle.h3_lines.proofs.EndsEach.{ends_each}
 use Rattle.h3_lines.proofs.each.answer_lines.Goals as goal
 

@@ -1,7 +1,7 @@
 use Rattle.std.proofs.Common.{◌≡◌, ◌<◌, ◌≤◌, ◌-◌, ◌∷◌, [], ◌++◌, ℕ, get_or, length, take, set, arith, refl, length-take-le, ap, ◌∙◌, sym}
 use Rattle.std.proofs.lemmas.List.{take_more_set}
 use Rattle.std.proofs.lemmas.Result.{err_from_is_err_and}
-use Rattle.h3_lines.specs.Writing.{sink_use}
+use Rattle.h3_lines.specs.Write.{sink_use}
 use Rattle.h3_lines.proofs.AnsweredLines.{last_left, moves_none, some_of_part}
 use Rattle.h3_lines.proofs.each.make_room.Goals as goal
 

@@ -1,4 +1,4 @@
-use Rattle.h3_lines.specs.Writing.{sink_use}
+use Rattle.h3_lines.specs.Write.{sink_use}
 use Rattle.h3_lines.proofs.AnsweredLines.{ends_refused, ends_unwritten}
 use Rattle.h3_lines.proofs.each.refuse.Goals as goal
 

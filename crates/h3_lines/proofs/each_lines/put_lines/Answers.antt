@@ -5,7 +5,7 @@ use Rattle.std.proofs.lemmas.Result.{err_from_is_err_and}
 use Rattle.std.specs.Iterator.{Yields}
 use Rattle.std.specs.List.{flat_map}
 use Rattle.h3_lines.specs.Answering.{Breaks, Moves}
-use Rattle.h3_lines.specs.Writing.{sink_use}
+use Rattle.h3_lines.specs.Write.{sink_use}
 use Rattle.h3_lines.proofs.AnsweredLines.{breaks_then, moves_none, moves_on, moves_put}
 use Rattle.h3_lines.proofs.Lines.{split_at, whole_at}
 use Rattle.h3_lines.proofs.each_lines.put_lines.Goals as goal

@@ -1,5 +1,5 @@
 use Rattle.std.proofs.Common.{length, take_all, sym, ◌∙◌, ap, arith}
-use Rattle.h3_lines.specs.Reading.{is_unended}
+use Rattle.h3_lines.specs.Taking.{is_unended}
 use Rattle.h3_lines.proofs.ListLines.{unended_below, split_whole}
 use Rattle.h3_lines.proofs.splitting.split_line.Goals as goal
 

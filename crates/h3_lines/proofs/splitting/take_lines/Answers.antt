@@ -1,6 +1,6 @@
 use Rattle.std.proofs.Common.{◌≡◌, ◌<◌, ◌≤◌, ◌+◌, ◌*◌, ◌∙◌, ℕ, length, length-take, take, refl, inl, inr, arith}
 use Rattle.std.proofs.lemmas.Result.{err_from_is_err_and, on_ok_weaker, IfErr-weaker}
-use Rattle.h3_index.specs.Counted.{reads_allowed, source_of}
+use Rattle.h3_streams.specs.Counted.{reads_allowed, source_of}
 use Rattle.h3_lines.proofs.Pages.{one_less}
 use Rattle.h3_lines.proofs.Split.{took_all, took_more, took_none, took_refused, took_refused_last, took_stopped}
 use Rattle.h3_lines.proofs.splitting.take_lines.Goals as goal

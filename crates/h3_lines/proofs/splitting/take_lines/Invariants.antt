@@ -1,5 +1,5 @@
 use Rattle.std.proofs.Common.{◌≡◌, ◌≤◌, ◌+◌, ◌*◌, length}
-use Rattle.h3_index.specs.Counted.{KeepsSource, reads_allowed, source_of}
+use Rattle.h3_streams.specs.Counted.{KeepsSource, reads_allowed, source_of}
 use Rattle.h3_lines.proofs.Split.{Took}
 use Rattle.h3_lines.proofs.splitting.take_lines.Given as goal
 

@@ -3,7 +3,7 @@ use Rattle.std.proofs.lemmas.Result.{err_from_is_err_and}
 use Rattle.std.specs.Iterator.{Yields}
 use Rattle.std.specs.List.{flat_map}
 use Rattle.h3_lines.specs.Answer.{written}
-use Rattle.h3_lines.specs.Writing.{Writes, sink_use}
+use Rattle.h3_lines.specs.Write.{Writes, sink_use}
 use Rattle.h3_lines.proofs.Lines.{held_ends, held_more, held_none, split_at, whole_at}
 use Rattle.h3_lines.proofs.Written.{begins_part}
 use Rattle.h3_lines.proofs.write.write_lines.Goals as goal

@@ -1,7 +1,7 @@
 use Rattle.std.proofs.Common.{refl}
 use Rattle.std.proofs.KnownBytes.{Appends-nil}
 use Rattle.std.proofs.lemmas.Result.{err_from_is_err_and}
-use Rattle.h3_lines.specs.Writing.{Writes}
+use Rattle.h3_lines.specs.Write.{Writes}
 use Rattle.h3_lines.proofs.write.write_result.Goals as goal
 
 pub returns-in_err-value : goal.returns-in_err-value

@@ -1,9 +1,9 @@
 use Rattle.std.proofs.Common.{rules, ◌≡◌, ℕ, List, [], Option, Bool, true, false, refl, sym, ap, ◌∙◌, append-nil, string_bytes}
 use Rattle.std.specs.Prelude.{Result, Ok, Err, OnOk, OnErr}
 use Rattle.std.specs.Io.KnownBytes.{Appends}
-use Rattle.h3_index.specs.declared.stream.StreamFault.{StreamFault}
-use Rattle.h3_lines.specs.Writing.{AppendsPart}
-use Rattle.h3_words.specs.declared.words.WordsFault.TheVariants.{Usage}
+use Rattle.h3_streams.specs.declared.stream.StreamFault.{StreamFault}
+use Rattle.h3_lines.specs.Write.{AppendsPart}
+use Rattle.h3_words.specs.declared.words.ArgsError.TheVariants.{Usage}
 use Rattle.h3_program.proofs.program.run_words.Goals as goal
 
 -- what a write of all bytes leaves, whether it fails or not

@@ -1,6 +1,6 @@
 use Rattle.std.proofs.Common.{◌+◌, ◌-◌, take, drop, refl, arith, sym}
 use Rattle.h3_index.specs.Cell.{resolution}
-use Rattle.h3_regions.specs.Left.{left_of, left_of_all}
+use Rattle.h3_regions.specs.Difference.{left_of, left_of_all}
 use Rattle.h3_regions.proofs.LeavingLaws.{one_then, take_whole, too_many}
 use Rattle.h3_regions.proofs.difference.leave_all.Goals as goal
 

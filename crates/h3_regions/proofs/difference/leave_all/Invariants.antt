@@ -1,6 +1,6 @@
 use Rattle.std.proofs.Common.{◌-◌, take}
 use Rattle.h3_index.specs.Cell.{resolution}
-use Rattle.h3_regions.specs.Left.{left_of}
+use Rattle.h3_regions.specs.Difference.{left_of}
 use Rattle.h3_regions.proofs.LeavingLaws.{IsLeaving}
 use Rattle.h3_regions.proofs.difference.leave_all.Given as goal
 

@@ -5,7 +5,7 @@ use Rattle.std.proofs.lemmas.List.Sorted.{length_permutation}
 use Rattle.h3_set.specs.Coverage.{IsCovered}
 use Rattle.h3_regions.specs.Algebra.{difference}
 use Rattle.h3_regions.specs.Region.{IsRegion}
-use Rattle.h3_regions.specs.Left.{left_of_all}
+use Rattle.h3_regions.specs.Difference.{left_of_all}
 use Rattle.h3_regions.proofs.CoverageLaws.{fine_within}
 use Rattle.h3_regions.proofs.LeftLaws.{rest_covers, rest_region}
 use Rattle.h3_regions.proofs.RoomLaws.{small}

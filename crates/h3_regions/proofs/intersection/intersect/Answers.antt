@@ -2,7 +2,7 @@ use Rattle.std.specs.List.Sorted.{IsPermutation}
 use Rattle.std.proofs.Common.{take, Contains, sym, subst}
 use Rattle.h3_set.specs.Coverage.{IsCovered}
 use Rattle.h3_regions.specs.Algebra.{intersection}
-use Rattle.h3_regions.specs.Shared.{HoldsShared}
+use Rattle.h3_regions.specs.Intersection.{HoldsShared}
 use Rattle.h3_regions.proofs.SharedLaws.{shared_covers, shared_region}
 use Rattle.h3_regions.proofs.DecidedLaws.{intersection_list}
 use Rattle.h3_regions.proofs.intersection.intersect.Goals as goal

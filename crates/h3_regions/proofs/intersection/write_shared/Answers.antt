@@ -3,7 +3,7 @@ use Rattle.std.proofs.lemmas.Bool.{both_ways}
 use Rattle.h3_index.specs.Cell.{Address}
 use Rattle.h3_tree.specs.PostOrder.{post_order_key as key}
 use Rattle.h3_regions.proofs.ListLaws.{any_default}
-use Rattle.h3_regions.proofs.IntersectionLaws.{leave, met, turned, write}
+use Rattle.h3_regions.proofs.IntersectionLaws.{subtract_cell, met, turned, write}
 use Rattle.h3_regions.proofs.intersection.write_shared.Goals as goal
 use Rattle.h3_regions.proofs.intersection.write_shared.Goals.{then-is_below, else-is_below, then-is_below-2, else-is_below-2}
 
@@ -24,7 +24,7 @@ loop-i-preserved-then-post_order_key c =
       | then-is_below w ↦
           rw (w.slots-is, w.written-is) (write tree intervals a b c.loop-i.slots c.requires.first_list c.requires.second_list c.loop-i.i c.loop-i.j c.loop-i.written c.loop-i.invariant x y li lj x_is y_is le (c.is_below.ensures.0 w.if-is_below.true))
       | else-is_below w ↦
-          rw (w.slots-is, w.written-is) (leave tree intervals a b c.loop-i.slots c.requires.first_list c.requires.second_list c.loop-i.i c.loop-i.j c.loop-i.written c.loop-i.invariant x y li lj x_is y_is le (λ above. both_ways c.is_below.result w.if-is_below.false (c.is_below.ensures.1 above)))
+          rw (w.slots-is, w.written-is) (subtract_cell tree intervals a b c.loop-i.slots c.requires.first_list c.requires.second_list c.loop-i.i c.loop-i.j c.loop-i.written c.loop-i.invariant x y li lj x_is y_is le (λ above. both_ways c.is_below.result w.if-is_below.false (c.is_below.ensures.1 above)))
     ]
 
 pub loop-i-preserved : goal.loop-i-preserved
@@ -45,7 +45,7 @@ loop-i-preserved c =
       | then-is_below-2 w ↦
           rw (w.slots-is, w.written-is) (turned b a _ (c.loop-i.j + 1) c.loop-i.i _ (write tree intervals b a c.loop-i.slots c.requires.second_list c.requires.first_list c.loop-i.j c.loop-i.i c.loop-i.written s y x lj li y_is x_is le (c.is_below-else-post_order_key.ensures.0 w.if-is_below-2.true)))
       | else-is_below-2 w ↦
-          rw (w.slots-is, w.written-is) (turned b a _ (c.loop-i.j + 1) c.loop-i.i _ (leave tree intervals b a c.loop-i.slots c.requires.second_list c.requires.first_list c.loop-i.j c.loop-i.i c.loop-i.written s y x lj li y_is x_is le (λ above. both_ways c.is_below-else-post_order_key.result w.if-is_below-2.false (c.is_below-else-post_order_key.ensures.1 above))))
+          rw (w.slots-is, w.written-is) (turned b a _ (c.loop-i.j + 1) c.loop-i.i _ (subtract_cell tree intervals b a c.loop-i.slots c.requires.second_list c.requires.first_list c.loop-i.j c.loop-i.i c.loop-i.written s y x lj li y_is x_is le (λ above. both_ways c.is_below-else-post_order_key.result w.if-is_below-2.false (c.is_below-else-post_order_key.ensures.1 above))))
     ]
 
 pub returns-else-j-second-clause-shared : goal.returns-else-j-second-clause-shared

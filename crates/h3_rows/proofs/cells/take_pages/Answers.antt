@@ -1,7 +1,7 @@
 use Rattle.std.proofs.Common.{[], ap, inl, rules}
 use Rattle.std.proofs.lemmas.Result.{err_from_is_err_and}
-use Rattle.h3_index.specs.Counted.{source_of}
-use Rattle.h3_lines.specs.declared.refusal.Refusal.TheVariants.{Error}
+use Rattle.h3_streams.specs.Counted.{source_of}
+use Rattle.h3_lines.specs.declared.run_error.RunError.TheVariants.{Error}
 use Rattle.h3_rows.specs.RowForm.{form_of}
 use Rattle.h3_rows.proofs.TakenCells.{read_all, read_at, read_none, refused_at, refused_early}
 use Rattle.h3_rows.proofs.cells.take_pages.Goals as goal

@@ -1,7 +1,7 @@
 use Rattle.std.proofs.Common.{◌≡◌, Err, ap, refl, rules, subst, take}
 use Rattle.std.proofs.lemmas.Result.{err_from_is_err_and}
-use Rattle.h3_index.specs.Counted.{source_of}
-use Rattle.h3_lines.specs.Writing.{sink_use}
+use Rattle.h3_streams.specs.Counted.{source_of}
+use Rattle.h3_lines.specs.Write.{sink_use}
 use Rattle.h3_rows.specs.Answering.{held_of, state_of}
 use Rattle.h3_rows.specs.EndsRows.{EndsRows}
 use Rattle.h3_rows.specs.RowForm.{columns_form}

@@ -1,6 +1,6 @@
 use Rattle.std.proofs.Common.{[], refl}
-use Rattle.h3_lines.specs.declared.refusal.AnswerError.TheVariants.{AtAndMore, Column}
-use Rattle.h3_lines.specs.declared.refusal.ColumnError.TheVariants.{NotFound}
+use Rattle.h3_lines.specs.declared.run_error.AnswerError.TheVariants.{AtAndMore, Column}
+use Rattle.h3_lines.specs.declared.run_error.ColumnError.TheVariants.{NotFound}
 use Rattle.h3_rows.proofs.Written.{nothing_refused, nothing_whole}
 use Rattle.h3_rows.proofs.each.end_answer.Goals as goal
 

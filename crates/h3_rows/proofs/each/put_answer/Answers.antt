@@ -1,7 +1,7 @@
 use Rattle.std.proofs.Common.{◌≡◌, ◌==◌, ◌∙◌, false, length, refl, subst, sym, take, true}
 use Rattle.std.proofs.lemmas.Result.{IfErr-weaker}
 use Rattle.h3_index.specs.declared.error.H3Error.TheVariants.{Failed}
-use Rattle.h3_lines.specs.Writing.{sink_use}
+use Rattle.h3_lines.specs.Write.{sink_use}
 use Rattle.h3_rows.specs.Answering.{StepEnds, held_of, state_of}
 use Rattle.h3_rows.specs.Row.{read_of, row_body}
 use Rattle.h3_rows.specs.RowForm.{columns_form}

@@ -1,6 +1,6 @@
 use Rattle.std.proofs.Common.{◌≡◌, ◌++◌, ◌∷◌, [], refl, take, subst, append_assoc}
 use Rattle.std.proofs.lemmas.Result.{err_from_is_err_and}
-use Rattle.h3_lines.specs.Writing.{sink_use}
+use Rattle.h3_lines.specs.Write.{sink_use}
 use Rattle.h3_lines.specs.Answering.{Breaks, Moves}
 use Rattle.h3_rows.specs.Answering.{state_of}
 use Rattle.h3_rows.specs.RowsAnswer.{empty_step, goes_on}

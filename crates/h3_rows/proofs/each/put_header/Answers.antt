@@ -1,6 +1,6 @@
 use Rattle.std.proofs.Common.{sym, take}
 use Rattle.std.proofs.lemmas.Result.{err_from_is_err_and}
-use Rattle.h3_lines.specs.Writing.{sink_use}
+use Rattle.h3_lines.specs.Write.{sink_use}
 use Rattle.h3_rows.specs.RowForm.{columns_form}
 use Rattle.h3_rows.proofs.Steps.{breaks_header}
 use Rattle.h3_rows.proofs.each.put_header.Goals as goal

@@ -1,7 +1,7 @@
 use Rattle.std.proofs.Common.{◌≡◌, ◌++◌, ◌∷◌, [], take, subst, ap, option_map, string_bytes, ◌∙◌}
 use Rattle.std.proofs.lemmas.Result.{err_from_is_err_and, IfOk-weaker, IfErr-weaker}
 use Rattle.h3_lines.specs.Answering.{Breaks, Moves}
-use Rattle.h3_lines.specs.Writing.{sink_use}
+use Rattle.h3_lines.specs.Write.{sink_use}
 use Rattle.h3_rows.specs.Row.{row_body, row_ending}
 use Rattle.h3_rows.specs.RowsAnswer.{pair_names, row_with}
 use Rattle.h3_rows.proofs.AnsweredRows.{breaks_more, breaks_then, moves_then}

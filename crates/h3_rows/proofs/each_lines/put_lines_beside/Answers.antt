@@ -4,7 +4,7 @@ use Rattle.std.proofs.lemmas.Result.{err_from_is_err_and}
 use Rattle.std.specs.Iterator.{Yields}
 use Rattle.std.specs.List.{flat_map}
 use Rattle.h3_lines.specs.Answering.{Breaks, Moves}
-use Rattle.h3_lines.specs.Writing.{sink_use}
+use Rattle.h3_lines.specs.Write.{sink_use}
 use Rattle.h3_rows.specs.RowsAnswer.{rows_with}
 use Rattle.h3_rows.proofs.AnsweredRows.{breaks_more, breaks_then, moves_none, moves_then}
 use Rattle.h3_rows.proofs.Beside.{all_lines, with_more}

@@ -1,5 +1,5 @@
 use Rattle.std.proofs.Common.{◌≡◌, ◌≤◌, ◌+◌, ◌*◌, length, take}
-use Rattle.h3_index.specs.Counted.{KeepsSource, reads_allowed, source_of}
+use Rattle.h3_streams.specs.Counted.{KeepsSource, reads_allowed, source_of}
 use Rattle.h3_rows.proofs.Split.{Took}
 use Rattle.h3_rows.proofs.splitting.take_rows.Given as goal
 

@@ -1,6 +1,6 @@
 use Rattle.std.proofs.Common.{◌<◌, ◌++◌, [], length, take, arith, refl, append-nil, length-append, sym}
 use Rattle.std.proofs.lemmas.Result.{err_from_is_err_and}
-use Rattle.h3_lines.specs.Writing.{sink_use}
+use Rattle.h3_lines.specs.Write.{sink_use}
 use Rattle.h3_rows.proofs.AnsweredRows.{breaks_then, moves_all, moves_then, some_of_part}
 use Rattle.h3_rows.proofs.write.put_bytes.Goals as goal
 

@@ -1,6 +1,6 @@
 use Rattle.std.proofs.Common.{◌++◌, ◌∷◌, [], take, subst, append_assoc, ◌∙◌}
 use Rattle.std.proofs.lemmas.Result.{err_from_is_err_and, IfOk-weaker, IfErr-weaker}
-use Rattle.h3_lines.specs.Writing.{sink_use}
+use Rattle.h3_lines.specs.Write.{sink_use}
 use Rattle.h3_lines.specs.Answering.{Breaks, Moves}
 use Rattle.h3_rows.proofs.AnsweredRows.{breaks_more, breaks_then, moves_then, row_bytes}
 use Rattle.h3_rows.proofs.write.put_row.Goals as goal

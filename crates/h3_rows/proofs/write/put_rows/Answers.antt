@@ -1,6 +1,6 @@
 use Rattle.std.proofs.Common.{◌≡◌, ◌++◌, [], take, sym, ap, ◌∙◌, refl, subst, append-nil, append_assoc}
 use Rattle.std.proofs.lemmas.Result.{err_from_is_err_and}
-use Rattle.h3_lines.specs.Writing.{sink_use}
+use Rattle.h3_lines.specs.Write.{sink_use}
 use Rattle.h3_lines.specs.Answering.{Breaks, Moves}
 use Rattle.h3_rows.specs.RowsAnswer.{row_with, rows_with}
 use Rattle.h3_rows.proofs.AnsweredRows.{breaks_more, breaks_then, moves_none, moves_then}

@@ -1,7 +1,7 @@
 use Rattle.std.proofs.Common.{◌≡◌, ◌≢◌, ◌+◌, ◌-◌, ◌<◌, length, take, drop, set, arith, sym, ap, subst, ◌∙◌}
 use Rattle.std.proofs.lemmas.List.{take-set, take_all}
 use Rattle.std.specs.List.{Contains}
-use Rattle.h3_index.specs.Descendants.{children, cut}
+use Rattle.h3_index.specs.Descendants.{children, ancestor_at}
 use Rattle.h3_set.specs.Closing.{HasNoSet, IsRising}
 use Rattle.h3_set.specs.Compacted.{parent_of}
 use Rattle.h3_set.proofs.ClosedLaws.{front_closed, none_closed}
@@ -24,9 +24,9 @@ returns-clause-leads c =
     let n = c.siblings_at_end-count.result in
     let many : 0 < c.siblings_at_end-count.result = omega (arith, c.if-count-eq0.false) in
     let found = c.siblings_at_end-count.ensures in
-    let is : c.cut.result ≡ parent_of x = c.cut.ensures.is ∙ ap (λ k. cut x (k - 1)) c.resolution.ensures.number in
-    let size : length (parent_of x).digits ≡ length x.digits - 1 = tree.resolution-cut x (length x.digits - 1) (omega arith) in
-    set_leads tree c.cells_form_intervals.ensures cells (length cells - n) c.cut.result (omega (arith, many, c.requires.some)) c.cut.ensures.valid (omega (arith, ap (λ z. length z.digits) is, size, found.level many, c.resolution.ensures.valid.coarse)) (found.siblings many ∙ ap children (sym is))
+    let is : c.ancestor_at.result ≡ parent_of x = c.ancestor_at.ensures.is ∙ ap (λ k. ancestor_at x (k - 1)) c.resolution.ensures.number in
+    let size : length (parent_of x).digits ≡ length x.digits - 1 = tree.resolution-ancestor_at x (length x.digits - 1) (omega arith) in
+    set_leads tree c.cells_form_intervals.ensures cells (length cells - n) c.ancestor_at.result (omega (arith, many, c.requires.some)) c.ancestor_at.ensures.valid (omega (arith, ap (λ z. length z.digits) is, size, found.level many, c.resolution.ensures.valid.coarse)) (found.siblings many ∙ ap children (sym is))
 
 pub returns-clause-closed : goal.returns-clause-closed
 returns-clause-closed c =
@@ -35,5 +35,5 @@ returns-clause-closed c =
     let many : 0 < c.siblings_at_end-count.result = omega (arith, c.if-count-eq0.false) in
     let two : 1 < c.siblings_at_end-count.result = c.siblings_at_end-count.ensures.many many in
     let back : from + 1 - 1 ≡ from = omega arith in
-    let same : take (from + 1 - 1) (set cells from c.cut.result) ≡ take from cells = ap (λ k. take k (set cells from c.cut.result)) back ∙ take-set cells from c.cut.result in
-    front_closed (take (from + 1 - 1) (set cells from c.cut.result)) (take (length cells - 1) cells) (λ y m. front_within cells from (length cells - 1) y (omega (arith, two)) (subst (λ l. Contains l y) same m)) c.requires.closed
+    let same : take (from + 1 - 1) (set cells from c.ancestor_at.result) ≡ take from cells = ap (λ k. take k (set cells from c.ancestor_at.result)) back ∙ take-set cells from c.ancestor_at.result in
+    front_closed (take (from + 1 - 1) (set cells from c.ancestor_at.result)) (take (length cells - 1) cells) (λ y m. front_within cells from (length cells - 1) y (omega (arith, two)) (subst (λ l. Contains l y) same m)) c.requires.closed

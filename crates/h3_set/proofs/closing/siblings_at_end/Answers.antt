@@ -23,8 +23,8 @@ pub returns-then-cells-count-clause-none : goal.returns-then-cells-count-clause-
 returns-then-cells-count-clause-none c = λ z pos i is.
     let x = c.args.last in
     let level : length c.args.last.digits ≡ c.resolution-level.result = sym c.resolution-level.ensures.number in
-    let above = above_is x c.cut-above.result c.resolution-level.result level c.cut-above.ensures.is in
-    let k : Skips (parent_of c.args.last) c.from.result = skips_of (parent_of x) c.cut-above.result c.from.result c.is_pentagon.result above c.is_pentagon.ensures c.from.ensures in
+    let above = above_is x c.ancestor_at-above.result c.resolution-level.result level c.ancestor_at-above.ensures.is in
+    let k : Skips (parent_of c.args.last) c.from.result = skips_of (parent_of x) c.ancestor_at-above.result c.from.result c.is_pentagon.result above c.is_pentagon.ensures c.from.ensures in
     let room = enough c.cells_form_trees.ensures c.args.cells.now x c.requires c.resolution-level.result c.from.result level (omega (arith, pos, level)) k i is in
     omega (arith, room, c.if-cells-count.true, c.from-count.ensures)
 
@@ -39,8 +39,8 @@ returns-then-siblings_at_front-count-clause-none c = λ z pos i is.
     let f = c.index-cells-from.result in
     let level : length c.args.last.digits ≡ c.resolution-level.result = sym c.resolution-level.ensures.number in
     let some : 0 < c.resolution-level.result = omega (arith, pos, level) in
-    let above = above_is x c.cut-above.result c.resolution-level.result level c.cut-above.ensures.is in
-    let k : Skips (parent_of c.args.last) c.from.result = skips_of (parent_of x) c.cut-above.result c.from.result c.is_pentagon.result above c.is_pentagon.ensures c.from.ensures in
+    let above = above_is x c.ancestor_at-above.result c.resolution-level.result level c.ancestor_at-above.ensures.is in
+    let k : Skips (parent_of c.args.last) c.from.result = skips_of (parent_of x) c.ancestor_at-above.result c.from.result c.is_pentagon.result above c.is_pentagon.ensures c.from.ensures in
     let same : c.from-count.result ≡ 7 - c.from.result = c.from-count.ensures in
     let here : c.index-cells-from.result ≡ get_or c.args.cells.now (length c.args.cells.now - (7 - c.from.result)) c.index-cells-from.result = c.index-cells-from.is ∙ ap (λ m. get_or cells (length c.args.cells.now - m) f) same in
     let at_f = first_level tree cells x c.requires q s level some k i is f here in
@@ -58,8 +58,8 @@ returns-clause-siblings c = λ any.
     let cells = c.args.cells.now in
     let f = c.index-cells-from.result in
     let level : length c.args.last.digits ≡ c.resolution-level.result = sym c.resolution-level.ensures.number in
-    let above = above_is x c.cut-above.result c.resolution-level.result level c.cut-above.ensures.is in
-    let k : Skips (parent_of c.args.last) c.from.result = skips_of (parent_of x) c.cut-above.result c.from.result c.is_pentagon.result above c.is_pentagon.ensures c.from.ensures in
+    let above = above_is x c.ancestor_at-above.result c.resolution-level.result level c.ancestor_at-above.ensures.is in
+    let k : Skips (parent_of c.args.last) c.from.result = skips_of (parent_of x) c.ancestor_at-above.result c.from.result c.is_pentagon.result above c.is_pentagon.ensures c.from.ensures in
     let same : c.from-count.result ≡ 7 - c.from.result = c.from-count.ensures in
     let equal = c.if-siblings_at_front-count.false in
     let some : 0 < c.siblings_at_front.result = omega (arith, equal, any) in

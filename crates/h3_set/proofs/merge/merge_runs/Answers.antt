@@ -1,6 +1,6 @@
 use Rattle.std.proofs.Common.{◌≡◌, ◌-◌, ◌<◌, ◌∙◌, length, take, drop, arith, sym, ap}
 use Rattle.std.proofs.lemmas.List.{take_rest}
-use Rattle.h3_index.specs.Descendants.{cut}
+use Rattle.h3_index.specs.Descendants.{ancestor_at}
 use Rattle.h3_set.specs.Compacted.{parent_of}
 use Rattle.h3_set.proofs.Seen.{IsRoundSoFar}
 use Rattle.h3_set.proofs.SeenLaws.{round_from, round_to}
@@ -21,7 +21,7 @@ loop-i-preserved c =
     elim c.if-count-gt0.branch [
       | then-count-gt0 w ↦
           let level = found.ensures.level w.if-count-gt0.true in
-          let above : w.cut.result ≡ parent_of x = w.cut.ensures.is ∙ ap (λ k. cut x (k - 1)) (sym level) in
+          let above : w.ancestor_at.result ≡ parent_of x = w.ancestor_at.ensures.is ∙ ap (λ k. ancestor_at x (k - 1)) (sym level) in
           rw (w.cells-is, w.i-is, above) (merge_run_in_order tree c.cells_form_intervals.ensures all c.args.level c.requires.some_level c.requires.apart c.requires.in_order c.requires.valid c.loop-i.i c.loop-i.written now x inv lt c.index-cells-i.is level found.result w.if-count-gt0.true (found.ensures.count w.if-count-gt0.true) (rw tail at (found.ensures.siblings w.if-count-gt0.true)) c.loop-i.invariant.in_order c.loop-i.invariant.before)
       | else-count-gt0 w ↦
           rw (w.cells-is, w.i-is) (merge_cases_in_order tree c.cells_form_intervals.ensures all c.args.level c.requires.some_level c.requires.apart c.requires.in_order c.requires.valid c.loop-i.i c.loop-i.written now x inv lt c.index-cells-i.is (λ level h. found.ensures.none (omega arith) level (rw (← tail) at h)) c.loop-i.invariant.in_order c.loop-i.invariant.before)

@@ -11,7 +11,7 @@ pub overflow_add-next : goal.overflow_add-next
 overflow_add-next c = omega (arith, c.post_order_key-next.ensures.is, key_small c.cell-item.result)
 
 pub overflow_add-rises : goal.overflow_add-rises
-overflow_add-rises c = omega (arith, c.loop-cell.invariant.end_small, c.unit.ensures.is, block_small (resolution c.cell-item.result))
+overflow_add-rises c = omega (arith, c.loop-cell.invariant.end_small, c.last_digit_step.ensures.is, block_small (resolution c.cell-item.result))
 
 pub loop-cell-preserved : goal.loop-cell-preserved
 loop-cell-preserved c =
@@ -26,7 +26,7 @@ loop-cell-preserved c =
       small = omega (arith, c.max-finest.ensures, c.resolution.ensures.number, c.resolution.ensures.valid.coarse, before.small);
       valid = within_more IsCell cells i x c.loop-cell-test.true c.cell-item.is before.valid c.resolution.ensures.valid;
       end_small = omega (arith, c.post_order_key-next.ensures.is, key_small x);
-      rise = rise_more cells i c.loop-cell.end (c.post_order_key-next.result + 1) c.unit.result x c.loop-cell.rises c.unit.ensures.is c.loop-cell-test.true c.cell-item.is (ap (λ n. n + 1) c.post_order_key-next.ensures.is) before.rise;
+      rise = rise_more cells i c.loop-cell.end (c.post_order_key-next.result + 1) c.last_digit_step.result x c.loop-cell.rises c.last_digit_step.ensures.is c.loop-cell-test.true c.cell-item.is (ap (λ n. n + 1) c.post_order_key-next.ensures.is) before.rise;
     }
 
 pub returns-clause-rises : goal.returns-clause-rises

@@ -1,7 +1,7 @@
 use Rattle.std.proofs.Common.{sym, ◌≡◌, ◌+◌, ◌-◌, drop, length, arith}
 use Rattle.std.specs.Int.Digits.{number_from_digits}
 use Rattle.h3_tree.specs.Positions.{position_under}
-use Rattle.h3_index.specs.Descendants.{cut}
+use Rattle.h3_index.specs.Descendants.{ancestor_at}
 use Rattle.h3_tree.proofs.PentagonPositionLaws.{below_pentagon, deleted}
 use Rattle.h3_tree.proofs.WalkLaws.{digits_below}
 use Rattle.h3_tree.proofs.positions.position_below_pentagon.Goals as goal
@@ -14,7 +14,7 @@ pub deleted_below-requires : goal.deleted_below-requires
 deleted_below-requires c =
     rw c.digits_below-digits.ensures.number (digits_below c.args.cell c.args.ancestor_res c.digits_below-digits.ensures.valid).fifteen
 
-shown : (c : goal.After-deleted_below) → position_under (cut c.args.cell c.args.ancestor_res) c.args.cell + c.deleted_below.result ≡ c.in_base_seven.result
+shown : (c : goal.After-deleted_below) → position_under (ancestor_at c.args.cell c.args.ancestor_res) c.args.cell + c.deleted_below.result ≡ c.in_base_seven.result
 shown c =
     let below = digits_below c.args.cell c.args.ancestor_res c.digits_below-digits.ensures.valid in
     let here = below_pentagon c.descendants_are_known.ensures c.cuts_are_cells.ensures c.args.cell (length c.args.cell.digits - c.args.ancestor_res) c.args.ancestor_res c.digits_below-digits.ensures.valid (omega (arith, c.requires.not_finer)) c.requires.pentagon in

@@ -1,5 +1,5 @@
 use Rattle.std.proofs.Common.{◌++◌, ◌∷◌, [], ◌∙◌, None, ap}
-use Rattle.h3_regions.specs.Counts.{count_in}
+use Rattle.h3_regions.specs.Counting.{count_in}
 use Rattle.h3_regions.specs.Zones.{by_number}
 use Rattle.h3_command.specs.CountLines.{in_passes, lines_left}
 use Rattle.h3_command.specs.Files.{zone_counts}

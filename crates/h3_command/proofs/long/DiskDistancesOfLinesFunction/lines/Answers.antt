@@ -3,13 +3,13 @@ use Rattle.std.proofs.lemmas.Int.{to_z-of_z}
 use Rattle.std.specs.List.{flat_map}
 use Rattle.std.proofs.lemmas.List.Folds.{flat_map-map}
 use Rattle.std.proofs.lemmas.Iterator.Consumers.{YieldsList-from_first}
-use Rattle.h3_grid.specs.Disk.{disk_left}
-use Rattle.h3_lattice.specs.BaseTable.{link_of}
+use Rattle.h3_grid.specs.Disks.{disk_left}
+use Rattle.h3_table.specs.BaseTable.{link_of}
 use Rattle.h3_lines.specs.Answer.{ring_line_by, whole_items, written}
 use Rattle.h3_functions.specs.Walks.{grid_disk_distances_unsafe}
 use Rattle.h3_command.specs.Given.{cell_given}
 use Rattle.h3_command.specs.LongAnswers.{whole_walk}
-use Rattle.h3_command.specs.LongLines.{distance_lines_left, good, ring_cell}
+use Rattle.h3_command.specs.Long.{distance_lines_left, good, ring_cell}
 use Rattle.h3_command.proofs.WholeWalks.{good_items, printed_items}
 use Rattle.h3_command.proofs.long.DiskDistancesOfLinesFunction.lines.Goals as goal
 

@@ -2,15 +2,15 @@ use Rattle.std.proofs.Common.{w32, rules, of_z, to_z, ◌≡◌, ℤ, Ok, Err, m
 use Rattle.std.specs.Prelude.{unsigned_abs}
 use Rattle.std.proofs.lemmas.Int.{to_z-of_z}
 use Rattle.std.proofs.lemmas.Iterator.Consumers.{YieldsList-from_first}
-use Rattle.h3_grid.specs.Disk.{disk_left}
+use Rattle.h3_grid.specs.Disks.{disk_left}
 use Rattle.h3_grid.specs.Refusals.{disk_refusal}
 use Rattle.h3_grid.specs.Walks.{disk}
-use Rattle.h3_lattice.specs.BaseTable.{link_of}
+use Rattle.h3_table.specs.BaseTable.{link_of}
 use Rattle.h3_lines.specs.Answer.{cell_lines, whole_items}
 use Rattle.h3_functions.specs.Walks.{grid_disk_distances_unsafe, grid_disk_unsafe}
 use Rattle.h3_command.specs.Given.{cell_given}
 use Rattle.h3_command.specs.LongAnswers.{whole_walk}
-use Rattle.h3_command.specs.LongLines.{disk_lines_left, good}
+use Rattle.h3_command.specs.Long.{disk_lines_left, good}
 use Rattle.h3_command.proofs.WholeWalks.{dropped_good, dropped_refused, printed_items, printed_refused}
 use Rattle.h3_command.proofs.long.DiskOfLinesFunction.lines.Goals as goal
 

@@ -1,13 +1,13 @@
 use Rattle.std.proofs.Common.{w32, rules, of_z, to_z, ◌≡◌, ℤ, Ok, refl, subst, sym, ◌∙◌}
 use Rattle.std.proofs.lemmas.Int.{to_z-of_z}
 use Rattle.std.proofs.lemmas.Iterator.Consumers.{YieldsList-from_first}
-use Rattle.h3_grid.specs.Ring.{ring_left}
-use Rattle.h3_lattice.specs.BaseTable.{link_of}
+use Rattle.h3_grid.specs.Rings.{ring_left}
+use Rattle.h3_table.specs.BaseTable.{link_of}
 use Rattle.h3_lines.specs.Answer.{cell_lines, whole_items}
 use Rattle.h3_functions.specs.Walks.{grid_ring_unsafe}
 use Rattle.h3_command.specs.Given.{cell_given}
 use Rattle.h3_command.specs.LongAnswers.{whole_walk}
-use Rattle.h3_command.specs.LongLines.{good, ring_lines_left}
+use Rattle.h3_command.specs.Long.{good, ring_lines_left}
 use Rattle.h3_command.proofs.WholeWalks.{good_items, printed_items}
 use Rattle.h3_command.proofs.long.RingOfLinesFunction.lines.Goals as goal
 

@@ -10,7 +10,7 @@ use Rattle.h3_index.specs.declared.error.H3Error.{H3Error}
 use Rattle.h3_index.specs.declared.error.H3Error.TheVariants.{ResDomain}
 use Rattle.h3_tree.specs.Refusals.{descent_refusal}
 use Rattle.h3_set.specs.Uncompaction.{uncompacted}
-use Rattle.h3_command.specs.Sizing.{IsSizeOf}
+use Rattle.h3_command.specs.Sizes.{IsSizeOf}
 use Rattle.h3_command.proofs.sizes.SizeCellTaker.take.Goals as goal
 
 -- ---- which cells are refused

@@ -1,7 +1,7 @@
 use Rattle.std.proofs.Common.{◌≡◌, ◌∷◌, ℤ, Ok, ap, arith, unsigned_abs, to_z, of_z, w32, ◌∙◌}
 use Rattle.std.proofs.lemmas.Int.{ints}
-use Rattle.h3_lattice.specs.BaseTable.{link_of}
-use Rattle.h3_grid.specs.Disk.{disk_left}
+use Rattle.h3_table.specs.BaseTable.{link_of}
+use Rattle.h3_grid.specs.Disks.{disk_left}
 use Rattle.h3_grid.specs.Steps.{state}
 use Rattle.h3_grid.specs.Walks.{disk, followed}
 use Rattle.h3_grid.proofs.MoveLaws.{left-all}

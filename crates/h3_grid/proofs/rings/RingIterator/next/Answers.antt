@@ -1,6 +1,6 @@
 use Rattle.std.proofs.Common.{◌-◌, ap, arith}
-use Rattle.h3_lattice.specs.BaseTable.{link_of}
-use Rattle.h3_grid.specs.Ring.{ring_left}
+use Rattle.h3_table.specs.BaseTable.{link_of}
+use Rattle.h3_grid.specs.Rings.{ring_left}
 use Rattle.h3_grid.specs.Steps.{state}
 use Rattle.h3_grid.specs.Walks.{ring_round}
 use Rattle.h3_grid.proofs.ListLaws.{progresses, yields_from}

@@ -14,13 +14,13 @@ pub put_sibling-end-requires-then-not-is_pentagon-clause-byte :
     goal.put_sibling-end-requires-then-not-is_pentagon-clause-byte
 put_sibling-end-requires-then-not-is_pentagon-clause-byte c =
     let p = c.args.parent in
-    let h = parts_made p c.child-first.result c.raw.result c.resolution.result c.from-after.result c.put_cell_line.result c.put_cell_line.new.bytes c.resolution.ensures.valid c.requires.coarse c.resolution.ensures.number c.child-first.ensures.is c.raw.ensures.number c.from-after.ensures c.put_cell_line.ensures.end c.put_cell_line.ensures.line c.put_cell_line.auto.bytes in
+    let h = parts_made p c.child-first.result c.raw-number.result c.resolution.result c.from-after.result c.from.result c.line_lanes-line.result c.resolution.ensures.valid c.requires.coarse c.resolution.ensures.number c.child-first.ensures.is c.raw-number.ensures.valid c.raw-number.ensures.number c.from-after.ensures c.from.ensures c.line_lanes-line.ensures in
     byte_small p _ _ _ _ 1 _ h (omega arith) (λ t. absurd (cc (sym c.is_pentagon.ensures ∙ c.if-not-is_pentagon.true, t))) (omega arith)
 
 pub loop-digit-init : goal.loop-digit-init
 loop-digit-init c =
     let p = c.args.parent in
-    let h = parts_made p c.child-first.result c.raw.result c.resolution.result c.from-after.result c.put_cell_line.result c.put_cell_line.new.bytes c.resolution.ensures.valid c.requires.coarse c.resolution.ensures.number c.child-first.ensures.is c.raw.ensures.number c.from-after.ensures c.put_cell_line.ensures.end c.put_cell_line.ensures.line c.put_cell_line.auto.bytes in
+    let h = parts_made p c.child-first.result c.raw-number.result c.resolution.result c.from-after.result c.from.result c.line_lanes-line.result c.resolution.ensures.valid c.requires.coarse c.resolution.ensures.number c.child-first.ensures.is c.raw-number.ensures.valid c.raw-number.ensures.number c.from-after.ensures c.from.ensures c.line_lanes-line.ensures in
     let front = take c.args.at c.args.bytes.now in
     let first : take c.put_sibling-end.result c.put_sibling-end.new.bytes ≡ front ++ line (child p 0) =
     c.put_sibling-end.ensures.line ∙ ap (λ l. front ++ l) (child_line p _ _ _ _ 0 _ h (omega arith) (λ _ e. omega (arith, e)) (omega arith)) in
@@ -43,7 +43,7 @@ pub put_sibling-end-requires-in-loop-digit-clause-byte :
     goal.put_sibling-end-requires-in-loop-digit-clause-byte
 put_sibling-end-requires-in-loop-digit-clause-byte c =
     let p = c.args.parent in
-    let h = parts_made p c.child-first.result c.raw.result c.resolution.result c.from-after.result c.put_cell_line.result c.put_cell_line.new.bytes c.resolution.ensures.valid c.requires.coarse c.resolution.ensures.number c.child-first.ensures.is c.raw.ensures.number c.from-after.ensures c.put_cell_line.ensures.end c.put_cell_line.ensures.line c.put_cell_line.auto.bytes in
+    let h = parts_made p c.child-first.result c.raw-number.result c.resolution.result c.from-after.result c.from.result c.line_lanes-line.result c.resolution.ensures.valid c.requires.coarse c.resolution.ensures.number c.child-first.ensures.is c.raw-number.ensures.valid c.raw-number.ensures.number c.from-after.ensures c.from.ensures c.line_lanes-line.ensures in
     let d = c.loop-digit.digit in
     byte_small p _ _ _ _ d _ h c.loop-digit-test.true (λ _ e. omega (arith, e, c.loop-digit.auto.digit)) refl
 
@@ -55,7 +55,7 @@ put_sibling-end-requires-in-loop-digit-clause-room c =
 pub loop-digit-preserved : goal.loop-digit-preserved
 loop-digit-preserved c =
     let p = c.args.parent in
-    let h = parts_made p c.child-first.result c.raw.result c.resolution.result c.from-after.result c.put_cell_line.result c.put_cell_line.new.bytes c.resolution.ensures.valid c.requires.coarse c.resolution.ensures.number c.child-first.ensures.is c.raw.ensures.number c.from-after.ensures c.put_cell_line.ensures.end c.put_cell_line.ensures.line c.put_cell_line.auto.bytes in
+    let h = parts_made p c.child-first.result c.raw-number.result c.resolution.result c.from-after.result c.from.result c.line_lanes-line.result c.resolution.ensures.valid c.requires.coarse c.resolution.ensures.number c.child-first.ensures.is c.raw-number.ensures.valid c.raw-number.ensures.number c.from-after.ensures c.from.ensures c.line_lanes-line.ensures in
     let d = c.loop-digit.digit in
     let more = steps_more (is_pentagon p) d c.loop-digit.auto.digit in
     rw more (record {

@@ -1,5 +1,5 @@
 use Rattle.std.proofs.Common.{◌∷◌, ◌∙◌}
-use Rattle.h3_lines.specs.Writing.{sink_use}
+use Rattle.h3_lines.specs.Write.{sink_use}
 use Rattle.std.proofs.lemmas.Result.{err_from_is_err_and}
 use Rattle.h3_lines.proofs.AnsweredLines.{answered_by, answered_index, ends_unwritten, refused_index}
 use Rattle.h3_lines.proofs.each.ShortAnswering.answer.Goals as goal
@@ -14,5 +14,5 @@ returns-in-Ok-clause-ok g c line is = answered_index g.W.Sink.taken g.W.Sink.has
 
 pub returns-in-Err-clause-err : goal.returns-in-Err-clause-err
 returns-in-Err-clause-err g c line is later =
-    let answer = g.F.IndexFunction.answer_of c.args.self.now.function.now in
+    let answer = g.F.AnswerLine.answer_of c.args.self.now.function.now in
     refused_index g.W.Sink.taken g.W.Sink.has_failed {answer = answer} {n = c.args.held.now.number} c.refuse.new.out _ (line ∷ later) (answered_by g.W.Sink.taken g.W.Sink.has_failed answer c.args.held.now.number _ _ _ _ c.in_ok-at.ensures.ok) c.in-Err.ensures.kept (c.refuse.ensures answer line later (is ∙ c.in-Err.ensures.err))

@@ -1,6 +1,6 @@
 use Rattle.std.proofs.Common.{take}
 use Rattle.std.proofs.lemmas.Result.{err_from_is_err_and}
-use Rattle.h3_lines.specs.Writing.{sink_use}
+use Rattle.h3_lines.specs.Write.{sink_use}
 use Rattle.h3_lines.proofs.AnsweredLines.{breaks_ends}
 use Rattle.h3_lines.proofs.each_lines.LongAnswering.answer.Goals as goal
 

@@ -1,14 +1,14 @@
 use Rattle.std.proofs.lemmas.Result.{IfErr-weaker}
-use Rattle.h3_lines.specs.Reading.{cells_on}
+use Rattle.h3_lines.specs.Taking.{cells_on}
 use Rattle.h3_lines.proofs.Listed.{counts_said, ok_both, refuses_said, said_parsed, says_line}
 use Rattle.h3_lines.proofs.taking.NumberedLinesLineTaker.take_index.Goals as goal
 
 pub returns-clause-err : goal.returns-clause-err
 returns-clause-err g c =
-    IfErr-weaker c.take_said.result _ _ (λ e refuses line parses later. refuses_said c.args.self.now.number line later c.cell_with.result e (said_parsed line c.args.index c.cell_with.result parses c.cell_with.ensures) refuses) c.take_said.ensures.err
+    IfErr-weaker c.push_parsed.result _ _ (λ e refuses line parses later. refuses_said c.args.self.now.number line later c.cell_with.result e (said_parsed line c.args.index c.cell_with.result parses c.cell_with.ensures) refuses) c.push_parsed.ensures.err
 
 pub returns-clause-ok : goal.returns-clause-ok
 returns-clause-ok g c =
-    ok_both c.take_said.result (λ taken said line parses.
+    ok_both c.push_parsed.result (λ taken said line parses.
     let says = said_parsed line c.args.index c.cell_with.result parses c.cell_with.ensures in
-    (cells_on c.cell_with.result, says_line line c.cell_with.result says said, taken, counts_said c.args.self.now.number line c.cell_with.result says said)) c.take_said.ensures.ok c.take_said.ensures.said
+    (cells_on c.cell_with.result, says_line line c.cell_with.result says said, taken, counts_said c.args.self.now.number line c.cell_with.result says said)) c.push_parsed.ensures.ok c.push_parsed.ensures.said

@@ -1,6 +1,6 @@
 use Rattle.std.proofs.Common.{refl, take}
 use Rattle.h3_index.specs.declared.error.H3Error.TheVariants.{Failed}
-use Rattle.h3_lines.specs.Writing.{sink_use}
+use Rattle.h3_lines.specs.Write.{sink_use}
 use Rattle.h3_rows.specs.Answering.{state_of}
 use Rattle.h3_rows.specs.RowForm.{columns_form}
 use Rattle.h3_rows.specs.RowsAnswer.{row_step, rows_then}

@@ -26,15 +26,15 @@ returns-in-Some-clause-rule c =
     let fits : SFits w64 c.in-Some.most = search rules in
     let start = range_inclusive_start c.new.result in
     let end = range_inclusive_end c.new.result in
-    let low : SFits w64 c.least.result = search rules in
-    let least : start ≡ number_from o = c.new.ensures.start ∙ to_z-of_z w64 c.least.result low ∙ c.least.ensures in
+    let low : SFits w64 c.entry-entry.result.least = search rules in
+    let least : start ≡ number_from o = c.new.ensures.start ∙ to_z-of_z w64 c.entry-entry.result.least low ∙ c.entry-entry.ensures.least in
     let most : end ≡ c.in-Some.most = c.new.ensures.end ∙ to_z-of_z w64 c.in-Some.most fits in
     let range : c.range.result ≡ between (number_from o) c.in-Some.most =
     subst (λ p. NarrowsTo p (Some start) (Some end) c.range.result) c.value_parser.ensures c.range.ensures ∙ ap₂ between least most in
     let parser : c.value_parser-in-Some.result.value_parser ≡ parser_for o =
     made.given.1 ∙ ap (λ p. Some p) (made.given.2 ∙ range)
-    ∙ ap (option_map (between (number_from o))) (sym c.in-Some.is ∙ c.most.ensures) ∙ within o in
-    let plain : false ≡ is_flag o = sym c.if-is_flag.false ∙ c.is_flag.ensures in
+    ∙ ap (option_map (between (number_from o))) (sym c.in-Some.is ∙ c.entry-entry.ensures.most) ∙ within o in
+    let plain : false ≡ is_flag o = sym c.if-entry.false ∙ c.entry-entry.ensures.flag in
     ap rule_of made.others
     ∙ ap (λ (r : Rule). record r { parser = c.value_parser-in-Some.result.value_parser }) c.described-argument.ensures.rule
     ∙ ap (λ p. record (named_rule o) { parser = p }) parser

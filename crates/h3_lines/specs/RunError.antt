@@ -1,0 +1,143 @@
+-- The line and the exit status of a refusal.
+use Rattle.std.specs.Prelude.{ℕ, ◌==◌, List, [], ◌∷◌, ◌++◌, codes, decimal, Result, Ok, Err, if◌then◌else◌}
+use Rattle.h3_index.specs.Error.{error_name, error_number}
+use Rattle.h3_index.specs.declared.error.H3Error.{H3Error}
+use Rattle.h3_index.specs.declared.error.H3Error.TheVariants.{MemoryAlloc}
+use Rattle.h3_directions.specs.Direction.{digit_of}
+use Rattle.h3_directions.specs.declared.direction.Direction.{Direction}
+use Rattle.h3_directions.specs.declared.error.TableError.{TableError}
+use Rattle.h3_directions.specs.declared.error.TableError.TheVariants as in_table
+use Rattle.h3_lines.specs.declared.run_error.AnswerError.{AnswerError}
+use Rattle.h3_lines.specs.declared.run_error.AnswerError.TheVariants.{Call, At, AtAndMore, Column, Table, FileAt, File}
+use Rattle.h3_lines.specs.declared.run_error.CellFile.{CellFile}
+use Rattle.h3_lines.specs.declared.run_error.CellFile.TheVariants.{Region, Zones}
+use Rattle.h3_lines.specs.declared.run_error.ColumnError.{ColumnError}
+use Rattle.h3_lines.specs.declared.run_error.ColumnError.TheVariants.{NotFound, NotUnique}
+use Rattle.h3_lines.specs.declared.run_error.Fault as system
+use Rattle.h3_lines.specs.declared.run_error.Fault.TheVariants.{Memory, Read, Write}
+use Rattle.h3_lines.specs.declared.run_error.RunError.{RunError}
+use Rattle.h3_lines.specs.declared.run_error.RunError.TheVariants.{Error, Fault}
+
+-- the number of an H3 error and its name, as `error 9: E_PENTAGON`
+abbrev pub error_line : H3Error → List ℕ
+error_line e = codes "error " ++ decimal (error_number e) ++ codes ": " ++ error_name e ++ 10 ∷ []
+
+-- error_line_at line e: the line of an H3 error at a line of a list
+abbrev pub error_line_at : ℕ → H3Error → List ℕ
+error_line_at line e = codes "line " ++ decimal line ++ codes ": " ++ error_line e
+
+-- more_words more: how many errors more followed the first, as ` and 6 more`; no words where none did
+abbrev pub more_words : ℕ → List ℕ
+more_words more = if more == 0 then [] else codes " and " ++ decimal more ++ codes " more"
+
+-- kept_line row e more: the line of a run that went on after an error at a row, and after so many more: that of the first
+-- one, with their number, as `line 12: error 5: E_CELL_INVALID and 6 more`
+abbrev pub kept_line : ℕ → H3Error → ℕ → List ℕ
+kept_line row e more =
+    codes "line " ++ decimal row ++ codes ": error " ++ decimal (error_number e) ++ codes ": " ++ error_name e ++ more_words more ++ 10 ∷ []
+
+-- column_line e: the line of a column that is not one field of the header
+abbrev pub column_line : ColumnError → List ℕ
+column_line NotFound = codes "column: not found" ++ 10 ∷ []
+column_line NotUnique = codes "column: not unique" ++ 10 ∷ []
+
+-- words and a number, as `table: form 5`
+abbrev pub numbered_line : List ℕ → ℕ → List ℕ
+numbered_line words n = words ++ decimal n ++ 10 ∷ []
+
+-- words, a base cell and the digit of a direction, as `table: reversal 30 4`
+abbrev pub link_line : List ℕ → ℕ → Direction → List ℕ
+link_line words base d = words ++ decimal base ++ 32 ∷ decimal (digit_of d) ++ 10 ∷ []
+
+-- the line of a read that failed
+abbrev pub read_fault_line : List ℕ
+read_fault_line = codes "fault: read" ++ 10 ∷ []
+
+-- table_line e: the line of an error of a base cell table
+abbrev pub table_line : TableError → List ℕ
+table_line in_table.Read = read_fault_line
+table_line in_table.Memory = error_line MemoryAlloc
+table_line (in_table.Form row) = numbered_line (codes "table: form ") row
+table_line (in_table.Range row) = numbered_line (codes "table: range ") row
+table_line (in_table.Repeated row) = numbered_line (codes "table: repeated ") row
+table_line in_table.Missing = codes "table: missing" ++ 10 ∷ []
+table_line (in_table.Neighbours base) = numbered_line (codes "table: neighbours ") base
+table_line (in_table.Reversal base d) = link_line (codes "table: reversal ") base d
+table_line (in_table.Corner base d) = link_line (codes "table: corner ") base d
+
+-- the word by which error lines name a file of cells
+abbrev pub file_word : CellFile → List ℕ
+file_word Region = codes "region"
+file_word Zones = codes "zones"
+
+-- the line of an error of a file of cells, as `region: line 12: error 5: E_CELL_INVALID`
+abbrev pub file_line : CellFile → List ℕ → List ℕ
+file_line file line = file_word file ++ codes ": " ++ line
+
+-- answer_error_line e: the line on standard error of an answer's error
+abbrev pub answer_error_line : AnswerError → List ℕ
+answer_error_line (Call e) = error_line e
+answer_error_line (At line e) = error_line_at line e
+answer_error_line (AtAndMore row e more) = kept_line row e more
+answer_error_line (Column e) = column_line e
+answer_error_line (Table e) = table_line e
+answer_error_line (FileAt file line e) = file_line file (error_line_at line e)
+answer_error_line (File file e) = file_line file (error_line e)
+
+-- fault_line f: that of a fault
+abbrev pub fault_line : system.Fault → List ℕ
+fault_line Memory = error_line MemoryAlloc
+fault_line Read = read_fault_line
+fault_line Write = codes "fault: write" ++ 10 ∷ []
+
+-- refusal_line r: the line on standard error of a refusal
+abbrev pub refusal_line : RunError → List ℕ
+refusal_line (Error e) = answer_error_line e
+refusal_line (Fault f) = fault_line f
+
+-- answer_error_status e: the exit status of an answer's error: 1 for an H3 error, 3 for a column that is not in the header
+-- once, and 3 for an error of a base cell table that is neither out of memory nor a read that failed
+abbrev pub answer_error_status : AnswerError → ℕ
+answer_error_status (Call e) = 1
+answer_error_status (At line e) = 1
+answer_error_status (AtAndMore row e more) = 1
+answer_error_status (Column e) = 3
+answer_error_status (Table in_table.Read) = 4
+answer_error_status (Table in_table.Memory) = 1
+answer_error_status (Table e) = 3
+answer_error_status (FileAt file line e) = 1
+answer_error_status (File file e) = 1
+
+-- fault_status f: that of a fault: 4 for one of a stream, and 1 for out of memory, which is an H3 error
+abbrev pub fault_status : system.Fault → ℕ
+fault_status Memory = 1
+fault_status Read = 4
+fault_status Write = 4
+
+-- refusal_status r: the exit status of a refusal
+abbrev pub refusal_status : RunError → ℕ
+refusal_status (Error e) = answer_error_status e
+refusal_status (Fault f) = fault_status f
+
+-- table_refusal e: the refusal that an error of a table becomes
+--
+-- the refusal for an error of a base cell table: a read that failed and out of memory are faults, as for a list
+abbrev pub table_refusal : TableError → RunError
+table_refusal in_table.Read = Fault Read
+table_refusal in_table.Memory = Fault Memory
+table_refusal e = Error (Table e)
+
+-- ending_of r: how a run ends whose answer ends so
+abbrev pub ending_of : Result (Unit {0}) AnswerError → Result (Unit {0}) RunError
+ending_of (Ok u) = Ok u
+ending_of (Err e) = Err (Error e)
+
+-- ending_line r: the line of an ending: that of its refusal, or none
+abbrev pub ending_line : Result (Unit {0}) RunError → List ℕ
+ending_line (Ok u) = []
+ending_line (Err r) = refusal_line r
+
+-- ending_status r: its exit status: that of its refusal, or 0
+abbrev pub ending_status : Result (Unit {0}) RunError → ℕ
+ending_status (Ok u) = 0
+ending_status (Err r) = refusal_status r

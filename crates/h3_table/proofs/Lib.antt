@@ -1,0 +1,14 @@
+pub mod ByteLaws
+pub mod ClosedLaws
+pub mod FaultLaws
+pub mod FieldLaws
+pub mod FirstLaws
+pub mod FormLaws
+pub mod KindLaws
+pub mod LiftedLaws
+pub mod ReadingLaws
+pub mod RecordLaws
+pub mod SlotLaws
+pub mod SoundLaws
+pub mod TableLaws
+pub mod TakingLaws

@@ -1,0 +1,15 @@
+pub mod BaseTable
+pub mod Checks
+pub mod Closed
+pub mod Examples
+pub mod Fields
+pub mod First
+pub mod Format
+pub mod FormatOne
+pub mod FormatTwo
+pub mod Lifted
+pub mod Links
+pub mod Records
+pub mod Slots
+pub mod Table
+pub mod Vectors

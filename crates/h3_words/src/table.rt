@@ -1,0 +1,615 @@
+//! The table of the commands: their words, their options, and what help says of them.
+
+ghost use Rattle.std.specs.Prelude.{◌≡◌};
+ghost use Rattle.h3_words.specs.Commands.{options_of, word_of};
+
+use crate::commands::CommandName;
+use crate::options::CommandOption::{
+    self, As, Cell, Column, Csv, Edge, Field, Header, KeepGoing, Position, Radius, Region,
+    Resolution, Separator, Table, To, Zones,
+};
+
+/// A command: its word, its options, and what help says of it.
+#[derive(Drop)]
+pub(crate) struct Entry<'a> {
+    /// The word that names the command.
+    pub(crate) word: &'a str,
+
+    /// The options that the command has.
+    pub(crate) options: &'static [CommandOption],
+
+    /// What help says of the command.
+    pub(crate) about: &'a str,
+
+    /// What help of the command ends with: the errors beside an invalid command line, in the order
+    /// in which they are looked for, and an example.
+    pub(crate) notes: &'a str,
+
+    /// The usage of a command that reads a list, which shows how one is given; `clap` makes that of
+    /// any other.
+    pub(crate) usage: Option<&'a str>,
+}
+
+// These options, and those of a command that answers about its list as a whole.
+macro_rules! with_list_options {
+    ($($own:ident)?) => {
+        &[$($own,)? Field, Column, Header, Separator, Csv]
+    };
+}
+
+// These options, and those of a command that answers its list line by line.
+macro_rules! with_line_options {
+    ($($own:ident),*) => {
+        &[$($own,)* Field, Column, Header, Separator, Csv, As, KeepGoing]
+    };
+}
+
+// What the notes of several commands share, with the example of each: a macro, since `concat!`
+// takes literals alone. What is said before the errors comes first.
+macro_rules! notes {
+    (index $($first:literal)*, $example:literal) => {
+        notes!(errors $($first)*; "1 not an index, ", $example)
+    };
+    (cell $($first:literal)*, $example:literal) => {
+        notes!(errors $($first)*; "1 not an index, 5 not a valid cell, ", $example)
+    };
+    (edge $($first:literal)*, $example:literal) => {
+        notes!(errors $($first)*; "1 not an index, 6 not a valid edge, ", $example)
+    };
+    (resolution, $example:literal) => {
+        notes!(errors; "4 not a resolution, ", $example)
+    };
+    (ancestor $($first:literal)*, $example:literal) => {
+        notes!(
+            errors $($first)*;
+            "1 not an index, 5 not a valid cell, 4 not a resolution,\n\
+            12 a resolution finer than the cell's, ",
+            $example
+        )
+    };
+    (descendants $($first:literal)*, $example:literal) => {
+        notes!(
+            errors $($first)*;
+            "1 not an index, 5 not a valid cell,\n\
+            4 not a resolution from the cell's to 15, ",
+            $example
+        )
+    };
+    (below $($first:literal)?, $example:literal) => {
+        notes!(
+            errors $($first)?;
+            "1 not an index, 5 not a valid cell, 4 not a resolution,\n\
+            12 a resolution coarser than a cell's, ",
+            $example
+        )
+    };
+    (list $errors:ident, $example:literal) => {
+        notes!(
+            $errors "The first error is reported with its line, as line 2: error 1: E_FAILED.\n",
+            $example
+        )
+    };
+    (overlaps, $example:literal) => {
+        notes!(region "The cells of either may repeat and overlap.\n", $example)
+    };
+    (region $first:literal, $example:literal) => {
+        notes!(file $first, "region", "", "\n" " ", "", $example)
+    };
+    (zones $($first:literal)?, $example:literal) => {
+        notes!(
+            file $($first)? "The zone of a cell is the one that is the cell or its ancestor.\n",
+            "zones",
+            ", overlapping\nzones as zones: error 10: E_DUPLICATE_INPUT",
+            " " "\n",
+            "10 overlapping zones,\n",
+            $example
+        )
+    };
+    // The line ends before "be opened is" or after it.
+    (
+        file $($first:literal)+,
+        $kind:literal,
+        $overlap:literal,
+        $before:literal $after:literal,
+        $errors:literal,
+        $example:literal
+    ) => {
+        notes!(
+            errors $($first)+
+            "The first error is reported with its line, as line 2: error 5: E_CELL_INVALID,\n\
+            one in the file as " $kind ": line 2: error 5: E_CELL_INVALID" $overlap
+            ". A file that cannot" $before "be opened is" $after $kind
+            ": open, status 3; a read that fails is fault: read, status 4.\n";
+            "1 not an index, 5 not a valid cell, " $errors,
+            $example
+        )
+    };
+    (radius $($first:literal)*, $example:literal) => {
+        notes!(table $($first)*; "1 not an index, 5 not a valid cell,\n", " ", $example)
+    };
+    (walks, $example:literal) => {
+        notes!(
+            radius "The first error is reported with its line, as line 2: error 1: E_FAILED.\n"
+            "A walk that meets an error prints none of its cells.\n",
+            $example
+        )
+    };
+    (destination $($first:literal)?, $example:literal) => {
+        notes!(table $($first)?; "1 not an index, 6 not a valid edge,\n", " ", $example)
+    };
+    (neighbors $errors:literal, $end:literal, $example:literal) => {
+        notes!(
+            table "Error 1 or 5 is that of -c, if it has one, else that of --to.\n";
+            "1 not an index, 5 not a valid cell, 12 different resolutions,\n" $errors,
+            $end,
+            $example
+        )
+    };
+    (table $($first:literal)*; $($errors:literal)+, $end:literal, $example:literal) => {
+        notes!(
+            errors $($first)*;
+            $($errors)+ "9 a step that starts or ends in a pentagon base cell," $end,
+            $example "\nTo make a table from H3's source: h3-table baseCells.c -o h3.csv"
+        )
+    };
+    (errors $($first:literal)*; $($errors:literal)+, $($example:literal)+) => {
+        concat!(
+            $($first,)*
+            "Errors: ",
+            $($errors,)+
+            "13 out of memory\nExample: ",
+            $($example),+
+        )
+    };
+}
+
+impl CommandName {
+    /// The command's line in the table of all commands.
+    pub(crate) fn entry<'a>(self) -> Entry<'a>
+        ensures word { result.word.now ≡ word_of self }
+        ensures options { result.options.now ≡ options_of self }
+    {
+        match self {
+            CommandName::IsValidCell => Entry {
+                word: "isValidCell",
+                options: &[Cell],
+                about: "Whether an index is a valid cell",
+                notes: notes!(index, "h3 isValidCell -c 85283473fffffff"),
+                usage: None,
+            },
+            CommandName::GetResolution => Entry {
+                word: "getResolution",
+                options: &[Cell],
+                about: "The resolution of a cell",
+                notes: notes!(cell, "h3 getResolution -c 85283473fffffff"),
+                usage: None,
+            },
+            CommandName::GetBaseCellNumber => Entry {
+                word: "getBaseCellNumber",
+                options: &[Cell],
+                about: "The base cell of a cell",
+                notes: notes!(cell, "h3 getBaseCellNumber -c 85283473fffffff"),
+                usage: None,
+            },
+            CommandName::IsPentagon => Entry {
+                word: "isPentagon",
+                options: &[Cell],
+                about: "Whether a cell is a pentagon",
+                notes: notes!(cell, "h3 isPentagon -c 85283473fffffff"),
+                usage: None,
+            },
+            CommandName::IsResClassIII => Entry {
+                word: "isResClassIII",
+                options: &[Cell],
+                about: "Whether the resolution of a cell is Class III",
+                notes: notes!(cell, "h3 isResClassIII -c 85283473fffffff"),
+                usage: None,
+            },
+            CommandName::GetNumCells => Entry {
+                word: "getNumCells",
+                options: &[Resolution],
+                about: "How many cells a resolution has",
+                notes: notes!(resolution, "h3 getNumCells -r 5"),
+                usage: None,
+            },
+            CommandName::GetRes0Cells => Entry {
+                word: "getRes0Cells",
+                options: &[],
+                about: "The 122 cells of resolution 0",
+                notes: notes!(errors; "", "h3 getRes0Cells"),
+                usage: None,
+            },
+            CommandName::GetPentagons => Entry {
+                word: "getPentagons",
+                options: &[Resolution],
+                about: "The twelve pentagons of a resolution",
+                notes: notes!(resolution, "h3 getPentagons -r 5"),
+                usage: None,
+            },
+            CommandName::CellToParent => Entry {
+                word: "cellToParent",
+                options: &[Cell, Resolution],
+                about: "The ancestor of a cell at a resolution",
+                notes: notes!(ancestor, "h3 cellToParent -c 85283473fffffff -r 4"),
+                usage: None,
+            },
+            CommandName::CellToCenterChild => Entry {
+                word: "cellToCenterChild",
+                options: &[Cell, Resolution],
+                about: "The center descendant of a cell at a resolution",
+                notes: notes!(descendants, "h3 cellToCenterChild -c 85283473fffffff -r 6"),
+                usage: None,
+            },
+            CommandName::CellToLastChild => Entry {
+                word: "cellToLastChild",
+                options: &[Cell, Resolution],
+                about: "The last descendant of a cell at a resolution, which has the greatest number",
+                notes: notes!(
+                    descendants "The cells of the resolution from the center descendant to the last one, by\n\
+                    number, are the cell's descendants there, and no others.\n",
+                    "h3 cellToLastChild -c 85283473fffffff -r 6"
+                ),
+                usage: None,
+            },
+            CommandName::CellToChildren => Entry {
+                word: "cellToChildren",
+                options: &[Cell, Resolution],
+                about: "The descendants of a cell at a resolution, ascending",
+                notes: notes!(descendants, "h3 cellToChildren -c 85283473fffffff -r 6"),
+                usage: None,
+            },
+            CommandName::CellToChildrenSize => Entry {
+                word: "cellToChildrenSize",
+                options: &[Cell, Resolution],
+                about: "How many descendants a cell has at a resolution",
+                notes: notes!(descendants, "h3 cellToChildrenSize -c 85283473fffffff -r 6"),
+                usage: None,
+            },
+            CommandName::CellToChildPos => Entry {
+                word: "cellToChildPos",
+                options: &[Cell, Resolution],
+                about: "The position of a cell among the descendants of its ancestor at a resolution",
+                notes: notes!(ancestor, "h3 cellToChildPos -c 85283473fffffff -r 4"),
+                usage: None,
+            },
+            CommandName::ChildPosToCell => Entry {
+                word: "childPosToCell",
+                options: &[Position, Cell, Resolution],
+                about: "The descendant of a cell at a position among those at a resolution",
+                notes: notes!(
+                    errors;
+                    "1 not an index, 5 not a valid cell, 4 not a resolution,\n\
+                    12 a resolution coarser than the cell's, 2 position out of range,\n",
+                    "h3 childPosToCell --position 3 -c 85283473fffffff -r 6"
+                ),
+                usage: None,
+            },
+            CommandName::CompactCells => Entry {
+                word: "compactCells",
+                options: with_list_options!(),
+                about: "Compact the list of cells on standard input, of any resolutions; overlapping cells are error 10",
+                notes: notes!(
+                    errors "A complete set of siblings becomes its parent. If cells overlap: uniteCells.\n"
+                    "With --field 1, an error is reported with its line.\n";
+                    "1 not an index, 5 not a valid cell, 10 overlapping cells,\n",
+                    "h3 compactCells < cells"
+                ),
+                usage: Some("h3 compactCells < cells"),
+            },
+            CommandName::UncompactCells => Entry {
+                word: "uncompactCells",
+                options: with_list_options!(Resolution),
+                about: "The descendants at a resolution of each cell listed on standard input",
+                notes: notes!(
+                    below "With --field 1, an error is reported with its line.\n",
+                    "h3 uncompactCells -r 6 < cells"
+                ),
+                usage: Some("h3 uncompactCells --resolution <resolution> < cells"),
+            },
+            CommandName::UncompactCellsSize => Entry {
+                word: "uncompactCellsSize",
+                options: with_list_options!(Resolution),
+                about: "How many cells uncompactCells prints for the cells listed on standard input",
+                notes: notes!(
+                    below "Cells that repeat or overlap count again. The first faulty line is reported\n\
+                    with its number, as line 2: error 5: E_CELL_INVALID.\n",
+                    "h3 uncompactCellsSize -r 6 < cells"
+                ),
+                usage: Some("h3 uncompactCellsSize --resolution <resolution> < cells"),
+            },
+            CommandName::UniteCells => Entry {
+                word: "uniteCells",
+                options: with_list_options!(),
+                about: "Union of the cells on standard input, compacted; they may repeat and overlap",
+                notes: notes!(list cell, "h3 uniteCells < cells"),
+                usage: Some("h3 uniteCells < cells"),
+            },
+            CommandName::IntersectCells => Entry {
+                word: "intersectCells",
+                options: with_list_options!(Region),
+                about: "Intersection of the cells on standard input and a region, compacted",
+                notes: notes!(overlaps, "h3 intersectCells --region region < cells"),
+                usage: Some("h3 intersectCells --region <region> < cells"),
+            },
+            CommandName::SubtractCells => Entry {
+                word: "subtractCells",
+                options: with_list_options!(Region),
+                about: "The cells on standard input minus a region, compacted",
+                notes: notes!(overlaps, "h3 subtractCells --region region < cells"),
+                usage: Some("h3 subtractCells --region <region> < cells"),
+            },
+            CommandName::AreCoveredCells => Entry {
+                word: "areCoveredCells",
+                options: with_line_options!(Region),
+                about: "Whether a region covers each cell listed on standard input",
+                notes: notes!(
+                    region "A region covers its cells and their descendants; its cells may overlap.\n",
+                    "h3 areCoveredCells --region region < cells"
+                ),
+                usage: Some("h3 areCoveredCells --region <region> < cells"),
+            },
+            CommandName::CellsToZones => Entry {
+                word: "cellsToZones",
+                options: with_line_options!(Zones),
+                about: "The zone of each cell listed on standard input, or 0 if it has none",
+                notes: notes!(
+                    zones,
+                    "h3 cellsToZones --zones zones < cells\n\
+                    Of a CSV file: h3 cellsToZones --zones zones --csv --column cell < trips.csv"
+                ),
+                usage: Some("h3 cellsToZones --zones <zones> < cells"),
+            },
+            CommandName::CountCellsInZones => Entry {
+                word: "countCellsInZones",
+                options: with_list_options!(Zones),
+                about: "Count the cells on standard input in each zone, and those in none",
+                notes: notes!(
+                    zones "Each line has a zone and its count; the last one has 0 and the count of cells\n\
+                    in no zone. ",
+                    "h3 countCellsInZones --zones zones < cells"
+                ),
+                usage: Some("h3 countCellsInZones --zones <zones> < cells"),
+            },
+            CommandName::GridDiskUnsafe => Entry {
+                word: "gridDiskUnsafe",
+                options: &[Cell, Radius, Table],
+                about: "The cells within a radius of a cell, ring by ring",
+                notes: notes!(
+                    radius,
+                    "h3 gridDiskUnsafe -c 85283473fffffff -k 1 --table h3.csv"
+                ),
+                usage: None,
+            },
+            CommandName::GridDiskDistancesUnsafe => Entry {
+                word: "gridDiskDistancesUnsafe",
+                options: &[Cell, Radius, Table],
+                about: "The cells within a radius of a cell, each with the number of its ring",
+                notes: notes!(
+                    radius,
+                    "h3 gridDiskDistancesUnsafe -c 85283473fffffff -k 1 --table h3.csv"
+                ),
+                usage: None,
+            },
+            CommandName::GridRingUnsafe => Entry {
+                word: "gridRingUnsafe",
+                options: &[Cell, Radius, Table],
+                about: "The cells of the ring of a radius around a cell",
+                notes: notes!(
+                    radius,
+                    "h3 gridRingUnsafe -c 85283473fffffff -k 1 --table h3.csv"
+                ),
+                usage: None,
+            },
+            CommandName::AreNeighborCells => Entry {
+                word: "areNeighborCells",
+                options: &[Cell, To, Table],
+                about: "Whether two cells are neighbors",
+                notes: notes!(
+                    neighbors "",
+                    " ",
+                    "h3 areNeighborCells -c 85283473fffffff --to 85283477fffffff --table h3.csv"
+                ),
+                usage: None,
+            },
+            CommandName::CellsToDirectedEdge => Entry {
+                word: "cellsToDirectedEdge",
+                options: &[Cell, To, Table],
+                about: "The directed edge from a cell to its neighbor",
+                notes: notes!(
+                    neighbors "11 not neighbors, ",
+                    "\n",
+                    "h3 cellsToDirectedEdge -c 85283473fffffff --to 85283477fffffff --table h3.csv"
+                ),
+                usage: None,
+            },
+            CommandName::IsValidDirectedEdge => Entry {
+                word: "isValidDirectedEdge",
+                options: &[Edge],
+                about: "Whether an index is a valid directed edge",
+                notes: notes!(index, "h3 isValidDirectedEdge --edge 115283473fffffff"),
+                usage: None,
+            },
+            CommandName::GetDirectedEdgeOrigin => Entry {
+                word: "getDirectedEdgeOrigin",
+                options: &[Edge],
+                about: "The cell that a directed edge leaves",
+                notes: notes!(edge, "h3 getDirectedEdgeOrigin --edge 115283473fffffff"),
+                usage: None,
+            },
+            CommandName::GetDirectedEdgeDestination => Entry {
+                word: "getDirectedEdgeDestination",
+                options: &[Edge, Table],
+                about: "The cell that a directed edge leads to",
+                notes: notes!(
+                    destination,
+                    "h3 getDirectedEdgeDestination --edge 115283473fffffff --table h3.csv"
+                ),
+                usage: None,
+            },
+            CommandName::OriginToDirectedEdges => Entry {
+                word: "originToDirectedEdges",
+                options: &[Cell],
+                about: "The directed edges that leave a cell",
+                notes: notes!(cell, "h3 originToDirectedEdges -c 85283473fffffff"),
+                usage: None,
+            },
+            CommandName::AreValidCells => Entry {
+                word: "areValidCells",
+                options: with_line_options!(),
+                about: "Whether each index listed on standard input is a valid cell",
+                notes: notes!(list index, "h3 areValidCells < cells"),
+                usage: Some("h3 areValidCells < cells"),
+            },
+            CommandName::AreValidDirectedEdges => Entry {
+                word: "areValidDirectedEdges",
+                options: with_line_options!(),
+                about: "Whether each index listed on standard input is a valid directed edge",
+                notes: notes!(list index, "h3 areValidDirectedEdges < edges"),
+                usage: Some("h3 areValidDirectedEdges < edges"),
+            },
+            CommandName::GetResolutions => Entry {
+                word: "getResolutions",
+                options: with_line_options!(),
+                about: "The resolution of each cell listed on standard input",
+                notes: notes!(list cell, "h3 getResolutions < cells"),
+                usage: Some("h3 getResolutions < cells"),
+            },
+            CommandName::GetBaseCellNumbers => Entry {
+                word: "getBaseCellNumbers",
+                options: with_line_options!(),
+                about: "The base cell of each cell listed on standard input",
+                notes: notes!(list cell, "h3 getBaseCellNumbers < cells"),
+                usage: Some("h3 getBaseCellNumbers < cells"),
+            },
+            CommandName::ArePentagons => Entry {
+                word: "arePentagons",
+                options: with_line_options!(),
+                about: "Whether each cell listed on standard input is a pentagon",
+                notes: notes!(list cell, "h3 arePentagons < cells"),
+                usage: Some("h3 arePentagons < cells"),
+            },
+            CommandName::AreResClassIII => Entry {
+                word: "areResClassIII",
+                options: with_line_options!(),
+                about: "Whether the resolution of each cell listed on standard input is Class III",
+                notes: notes!(list cell, "h3 areResClassIII < cells"),
+                usage: Some("h3 areResClassIII < cells"),
+            },
+            CommandName::CellsToParents => Entry {
+                word: "cellsToParents",
+                options: with_line_options!(Resolution),
+                about: "The ancestor at a resolution of each cell listed on standard input",
+                notes: notes!(
+                    list ancestor,
+                    "h3 cellsToParents -r 4 < cells\n\
+                    Of a CSV file: h3 cellsToParents -r 4 --csv --column cell < trips.csv"
+                ),
+                usage: Some("h3 cellsToParents --resolution <resolution> < cells"),
+            },
+            CommandName::CellsToCenterChildren => Entry {
+                word: "cellsToCenterChildren",
+                options: with_line_options!(Resolution),
+                about: "The center descendant at a resolution of each cell listed on standard input",
+                notes: notes!(
+                    list descendants,
+                    "h3 cellsToCenterChildren -r 6 < cells"
+                ),
+                usage: Some("h3 cellsToCenterChildren --resolution <resolution> < cells"),
+            },
+            CommandName::CellsToLastChildren => Entry {
+                word: "cellsToLastChildren",
+                options: with_line_options!(Resolution),
+                about: "The last descendant at a resolution of each cell listed on standard input",
+                notes: notes!(
+                    list descendants,
+                    "h3 cellsToLastChildren -r 6 < cells"
+                ),
+                usage: Some("h3 cellsToLastChildren --resolution <resolution> < cells"),
+            },
+            CommandName::CellsToChildren => Entry {
+                word: "cellsToChildren",
+                options: with_line_options!(Resolution),
+                about: "The descendants at a resolution of each cell listed on standard input, ascending",
+                notes: notes!(
+                    list descendants,
+                    "h3 cellsToChildren -r 6 < cells"
+                ),
+                usage: Some("h3 cellsToChildren --resolution <resolution> < cells"),
+            },
+            CommandName::CellsToChildrenSizes => Entry {
+                word: "cellsToChildrenSizes",
+                options: with_line_options!(Resolution),
+                about: "How many descendants at a resolution each cell listed on standard input has",
+                notes: notes!(
+                    list descendants,
+                    "h3 cellsToChildrenSizes -r 6 < cells"
+                ),
+                usage: Some("h3 cellsToChildrenSizes --resolution <resolution> < cells"),
+            },
+            CommandName::CellsToChildPositions => Entry {
+                word: "cellsToChildPositions",
+                options: with_line_options!(Resolution),
+                about: "The position of each cell listed on standard input among the descendants of its ancestor at a resolution",
+                notes: notes!(
+                    list ancestor,
+                    "h3 cellsToChildPositions -r 4 < cells"
+                ),
+                usage: Some("h3 cellsToChildPositions --resolution <resolution> < cells"),
+            },
+            CommandName::GridDisksUnsafe => Entry {
+                word: "gridDisksUnsafe",
+                options: with_line_options!(Radius, Table),
+                about: "The cells within a radius of each cell listed on standard input, ring by ring",
+                notes: notes!(walks, "h3 gridDisksUnsafe -k 1 --table h3.csv < cells"),
+                usage: Some("h3 gridDisksUnsafe -k <k> --table <table> < cells"),
+            },
+            CommandName::GridDisksDistancesUnsafe => Entry {
+                word: "gridDisksDistancesUnsafe",
+                options: with_line_options!(Radius, Table),
+                about: "The cells within a radius of each cell on standard input, each with its ring",
+                notes: notes!(
+                    walks,
+                    "h3 gridDisksDistancesUnsafe -k 1 --table h3.csv < cells"
+                ),
+                usage: Some("h3 gridDisksDistancesUnsafe -k <k> --table <table> < cells"),
+            },
+            CommandName::GridRingsUnsafe => Entry {
+                word: "gridRingsUnsafe",
+                options: with_line_options!(Radius, Table),
+                about: "The cells of the ring of a radius around each cell listed on standard input",
+                notes: notes!(walks, "h3 gridRingsUnsafe -k 1 --table h3.csv < cells"),
+                usage: Some("h3 gridRingsUnsafe -k <k> --table <table> < cells"),
+            },
+            CommandName::GetDirectedEdgeOrigins => Entry {
+                word: "getDirectedEdgeOrigins",
+                options: with_line_options!(),
+                about: "The cell that each directed edge listed on standard input leaves",
+                notes: notes!(
+                    list edge,
+                    "h3 getDirectedEdgeOrigins < edges"
+                ),
+                usage: Some("h3 getDirectedEdgeOrigins < edges"),
+            },
+            CommandName::GetDirectedEdgeDestinations => Entry {
+                word: "getDirectedEdgeDestinations",
+                options: with_line_options!(Table),
+                about: "The cell that each directed edge listed on standard input leads to",
+                notes: notes!(
+                    list destination,
+                    "h3 getDirectedEdgeDestinations --table h3.csv < edges"
+                ),
+                usage: Some("h3 getDirectedEdgeDestinations --table <table> < edges"),
+            },
+            CommandName::OriginsToDirectedEdges => Entry {
+                word: "originsToDirectedEdges",
+                options: with_line_options!(),
+                about: "The directed edges that leave each cell listed on standard input",
+                notes: notes!(
+                    list cell,
+                    "h3 originsToDirectedEdges < cells"
+                ),
+                usage: Some("h3 originsToDirectedEdges < cells"),
+            },
+        }
+    }
+}
