@@ -77,8 +77,7 @@ pub(crate) const HELP: &str = "Inspect, traverse and compact H3 cells\n\n\
 impl CommandName {
     /// The usage of a command that reads a list, and of any other its word.
     pub(crate) fn list_usage<'a>(self) -> &'a str {
-        let entry = self.entry();
-        entry.usage.unwrap_or(entry.word)
+        self.texts().usage.unwrap_or(self.word())
     }
 
     /// The command with its texts of help, and without its options.
@@ -86,11 +85,11 @@ impl CommandName {
         ensures app { app_of result ≡ new_app (word_of self) }
         ensures local { (out-Command result).has_globals ≡ false }
     {
-        let entry = self.entry();
-        let parser = Parser::new(alloc, entry.word)
-            .about(entry.about)
-            .after_help(entry.notes);
-        match entry.usage {
+        let texts = self.texts();
+        let parser = Parser::new(alloc, self.word())
+            .about(texts.about)
+            .after_help(texts.notes);
+        match texts.usage {
             Some(usage) => parser.override_usage(usage),
             None => parser,
         }

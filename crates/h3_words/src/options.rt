@@ -4,7 +4,7 @@ ghost use Rattle.std.specs.Prelude.{◌≡◌, ◌≤ℤ◌, ℤ, Some, false, i
 ghost use Rattle.std.specs.Str.Parse.{signed_digits_value};
 ghost use Rattle.clap.specs.Words.{IsSignedIn, Text, first_value, found_of, rule_of};
 ghost use Rattle.h3_index.specs.Text.{parsed_index};
-ghost use Rattle.h3_words.specs.Options.{id_of, is_flag, is_required, long_name, named_rule, number_from, number_up_to, path_of, rule_for, short_name};
+ghost use Rattle.h3_words.specs.Options.{id_of, is_required, named_rule, number_from, number_up_to, option_entry, path_of, rule_for};
 
 use CommandOption::{
     As, Cell, Column, Csv, Edge, Field, Header, KeepGoing, Position, Radius, Region, Resolution,
@@ -158,13 +158,15 @@ macro_rules! of_rows {
 impl CommandOption {
     /// The option's line in the table of all options.
     fn entry<'a>(self) -> OptionEntry<'a>
-        ensures id { result.id.now ≡ id_of self }
-        ensures short { result.short ≡ short_name self }
-        ensures long { option_map (λ name. name.now) result.long ≡ long_name self }
-        ensures least { result.least ≡ number_from self }
-        ensures most { result.most ≡ number_up_to self }
-        ensures required { result.is_required ≡ is_required self }
-        ensures flag { result.is_flag ≡ is_flag self }
+        ensures { record {
+          id = result.id.now;
+          short = result.short;
+          long = option_map (λ name. name.now) result.long;
+          least = result.least;
+          most = result.most;
+          is_required = result.is_required;
+          is_flag = result.is_flag;
+        } ≡ option_entry self }
     {
         match self {
             Cell => required!(

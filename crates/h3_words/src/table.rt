@@ -1,7 +1,7 @@
 //! The table of the commands: their words, their options, and what help says of them.
 
 ghost use Rattle.std.specs.Prelude.{◌≡◌};
-ghost use Rattle.h3_words.specs.Commands.{options_of, word_of};
+ghost use Rattle.h3_words.specs.Commands.{entry_of};
 
 use crate::commands::CommandName;
 use crate::options::CommandOption::{
@@ -9,7 +9,7 @@ use crate::options::CommandOption::{
     Resolution, Separator, Table, To, Zones,
 };
 
-/// A command: its word, its options, and what help says of it.
+/// A command: its word and its options.
 #[derive(Drop)]
 pub(crate) struct Entry<'a> {
     /// The word that names the command.
@@ -17,8 +17,12 @@ pub(crate) struct Entry<'a> {
 
     /// The options that the command has.
     pub(crate) options: &'static [CommandOption],
+}
 
-    /// What help says of the command.
+/// What help says of a command.
+#[derive(Drop)]
+pub(crate) struct HelpTexts<'a> {
+    /// The line in the list of all commands.
     pub(crate) about: &'a str,
 
     /// What help of the command ends with: the errors beside an invalid command line, in the order
@@ -166,83 +170,273 @@ macro_rules! notes {
 impl CommandName {
     /// The command's line in the table of all commands.
     pub(crate) fn entry<'a>(self) -> Entry<'a>
-        ensures word { result.word.now ≡ word_of self }
-        ensures options { result.options.now ≡ options_of self }
+        ensures { record {
+          word = result.word.now;
+          options = result.options.now;
+        } ≡ entry_of self }
     {
         match self {
             CommandName::IsValidCell => Entry {
                 word: "isValidCell",
                 options: &[Cell],
-                about: "Whether an index is a valid cell",
-                notes: notes!(index, "h3 isValidCell -c 85283473fffffff"),
-                usage: None,
             },
             CommandName::GetResolution => Entry {
                 word: "getResolution",
                 options: &[Cell],
-                about: "The resolution of a cell",
-                notes: notes!(cell, "h3 getResolution -c 85283473fffffff"),
-                usage: None,
             },
             CommandName::GetBaseCellNumber => Entry {
                 word: "getBaseCellNumber",
                 options: &[Cell],
-                about: "The base cell of a cell",
-                notes: notes!(cell, "h3 getBaseCellNumber -c 85283473fffffff"),
-                usage: None,
             },
             CommandName::IsPentagon => Entry {
                 word: "isPentagon",
                 options: &[Cell],
-                about: "Whether a cell is a pentagon",
-                notes: notes!(cell, "h3 isPentagon -c 85283473fffffff"),
-                usage: None,
             },
             CommandName::IsResClassIII => Entry {
                 word: "isResClassIII",
                 options: &[Cell],
-                about: "Whether the resolution of a cell is Class III",
-                notes: notes!(cell, "h3 isResClassIII -c 85283473fffffff"),
-                usage: None,
             },
             CommandName::GetNumCells => Entry {
                 word: "getNumCells",
                 options: &[Resolution],
-                about: "How many cells a resolution has",
-                notes: notes!(resolution, "h3 getNumCells -r 5"),
-                usage: None,
             },
             CommandName::GetRes0Cells => Entry {
                 word: "getRes0Cells",
                 options: &[],
-                about: "The 122 cells of resolution 0",
-                notes: notes!(errors; "", "h3 getRes0Cells"),
-                usage: None,
             },
             CommandName::GetPentagons => Entry {
                 word: "getPentagons",
                 options: &[Resolution],
-                about: "The twelve pentagons of a resolution",
-                notes: notes!(resolution, "h3 getPentagons -r 5"),
-                usage: None,
             },
             CommandName::CellToParent => Entry {
                 word: "cellToParent",
                 options: &[Cell, Resolution],
-                about: "The ancestor of a cell at a resolution",
-                notes: notes!(ancestor, "h3 cellToParent -c 85283473fffffff -r 4"),
-                usage: None,
             },
             CommandName::CellToCenterChild => Entry {
                 word: "cellToCenterChild",
                 options: &[Cell, Resolution],
-                about: "The center descendant of a cell at a resolution",
-                notes: notes!(descendants, "h3 cellToCenterChild -c 85283473fffffff -r 6"),
-                usage: None,
             },
             CommandName::CellToLastChild => Entry {
                 word: "cellToLastChild",
                 options: &[Cell, Resolution],
+            },
+            CommandName::CellToChildren => Entry {
+                word: "cellToChildren",
+                options: &[Cell, Resolution],
+            },
+            CommandName::CellToChildrenSize => Entry {
+                word: "cellToChildrenSize",
+                options: &[Cell, Resolution],
+            },
+            CommandName::CellToChildPos => Entry {
+                word: "cellToChildPos",
+                options: &[Cell, Resolution],
+            },
+            CommandName::ChildPosToCell => Entry {
+                word: "childPosToCell",
+                options: &[Position, Cell, Resolution],
+            },
+            CommandName::CompactCells => Entry {
+                word: "compactCells",
+                options: with_list_options!(),
+            },
+            CommandName::UncompactCells => Entry {
+                word: "uncompactCells",
+                options: with_list_options!(Resolution),
+            },
+            CommandName::UncompactCellsSize => Entry {
+                word: "uncompactCellsSize",
+                options: with_list_options!(Resolution),
+            },
+            CommandName::UniteCells => Entry {
+                word: "uniteCells",
+                options: with_list_options!(),
+            },
+            CommandName::IntersectCells => Entry {
+                word: "intersectCells",
+                options: with_list_options!(Region),
+            },
+            CommandName::SubtractCells => Entry {
+                word: "subtractCells",
+                options: with_list_options!(Region),
+            },
+            CommandName::AreCoveredCells => Entry {
+                word: "areCoveredCells",
+                options: with_line_options!(Region),
+            },
+            CommandName::CellsToZones => Entry {
+                word: "cellsToZones",
+                options: with_line_options!(Zones),
+            },
+            CommandName::CountCellsInZones => Entry {
+                word: "countCellsInZones",
+                options: with_list_options!(Zones),
+            },
+            CommandName::GridDiskUnsafe => Entry {
+                word: "gridDiskUnsafe",
+                options: &[Cell, Radius, Table],
+            },
+            CommandName::GridDiskDistancesUnsafe => Entry {
+                word: "gridDiskDistancesUnsafe",
+                options: &[Cell, Radius, Table],
+            },
+            CommandName::GridRingUnsafe => Entry {
+                word: "gridRingUnsafe",
+                options: &[Cell, Radius, Table],
+            },
+            CommandName::AreNeighborCells => Entry {
+                word: "areNeighborCells",
+                options: &[Cell, To, Table],
+            },
+            CommandName::CellsToDirectedEdge => Entry {
+                word: "cellsToDirectedEdge",
+                options: &[Cell, To, Table],
+            },
+            CommandName::IsValidDirectedEdge => Entry {
+                word: "isValidDirectedEdge",
+                options: &[Edge],
+            },
+            CommandName::GetDirectedEdgeOrigin => Entry {
+                word: "getDirectedEdgeOrigin",
+                options: &[Edge],
+            },
+            CommandName::GetDirectedEdgeDestination => Entry {
+                word: "getDirectedEdgeDestination",
+                options: &[Edge, Table],
+            },
+            CommandName::OriginToDirectedEdges => Entry {
+                word: "originToDirectedEdges",
+                options: &[Cell],
+            },
+            CommandName::AreValidCells => Entry {
+                word: "areValidCells",
+                options: with_line_options!(),
+            },
+            CommandName::AreValidDirectedEdges => Entry {
+                word: "areValidDirectedEdges",
+                options: with_line_options!(),
+            },
+            CommandName::GetResolutions => Entry {
+                word: "getResolutions",
+                options: with_line_options!(),
+            },
+            CommandName::GetBaseCellNumbers => Entry {
+                word: "getBaseCellNumbers",
+                options: with_line_options!(),
+            },
+            CommandName::ArePentagons => Entry {
+                word: "arePentagons",
+                options: with_line_options!(),
+            },
+            CommandName::AreResClassIII => Entry {
+                word: "areResClassIII",
+                options: with_line_options!(),
+            },
+            CommandName::CellsToParents => Entry {
+                word: "cellsToParents",
+                options: with_line_options!(Resolution),
+            },
+            CommandName::CellsToCenterChildren => Entry {
+                word: "cellsToCenterChildren",
+                options: with_line_options!(Resolution),
+            },
+            CommandName::CellsToLastChildren => Entry {
+                word: "cellsToLastChildren",
+                options: with_line_options!(Resolution),
+            },
+            CommandName::CellsToChildren => Entry {
+                word: "cellsToChildren",
+                options: with_line_options!(Resolution),
+            },
+            CommandName::CellsToChildrenSizes => Entry {
+                word: "cellsToChildrenSizes",
+                options: with_line_options!(Resolution),
+            },
+            CommandName::CellsToChildPositions => Entry {
+                word: "cellsToChildPositions",
+                options: with_line_options!(Resolution),
+            },
+            CommandName::GridDisksUnsafe => Entry {
+                word: "gridDisksUnsafe",
+                options: with_line_options!(Radius, Table),
+            },
+            CommandName::GridDisksDistancesUnsafe => Entry {
+                word: "gridDisksDistancesUnsafe",
+                options: with_line_options!(Radius, Table),
+            },
+            CommandName::GridRingsUnsafe => Entry {
+                word: "gridRingsUnsafe",
+                options: with_line_options!(Radius, Table),
+            },
+            CommandName::GetDirectedEdgeOrigins => Entry {
+                word: "getDirectedEdgeOrigins",
+                options: with_line_options!(),
+            },
+            CommandName::GetDirectedEdgeDestinations => Entry {
+                word: "getDirectedEdgeDestinations",
+                options: with_line_options!(Table),
+            },
+            CommandName::OriginsToDirectedEdges => Entry {
+                word: "originsToDirectedEdges",
+                options: with_line_options!(),
+            },
+        }
+    }
+
+    /// What help says of the command.
+    pub(crate) fn texts<'a>(self) -> HelpTexts<'a> {
+        match self {
+            CommandName::IsValidCell => HelpTexts {
+                about: "Whether an index is a valid cell",
+                notes: notes!(index, "h3 isValidCell -c 85283473fffffff"),
+                usage: None,
+            },
+            CommandName::GetResolution => HelpTexts {
+                about: "The resolution of a cell",
+                notes: notes!(cell, "h3 getResolution -c 85283473fffffff"),
+                usage: None,
+            },
+            CommandName::GetBaseCellNumber => HelpTexts {
+                about: "The base cell of a cell",
+                notes: notes!(cell, "h3 getBaseCellNumber -c 85283473fffffff"),
+                usage: None,
+            },
+            CommandName::IsPentagon => HelpTexts {
+                about: "Whether a cell is a pentagon",
+                notes: notes!(cell, "h3 isPentagon -c 85283473fffffff"),
+                usage: None,
+            },
+            CommandName::IsResClassIII => HelpTexts {
+                about: "Whether the resolution of a cell is Class III",
+                notes: notes!(cell, "h3 isResClassIII -c 85283473fffffff"),
+                usage: None,
+            },
+            CommandName::GetNumCells => HelpTexts {
+                about: "How many cells a resolution has",
+                notes: notes!(resolution, "h3 getNumCells -r 5"),
+                usage: None,
+            },
+            CommandName::GetRes0Cells => HelpTexts {
+                about: "The 122 cells of resolution 0",
+                notes: notes!(errors; "", "h3 getRes0Cells"),
+                usage: None,
+            },
+            CommandName::GetPentagons => HelpTexts {
+                about: "The twelve pentagons of a resolution",
+                notes: notes!(resolution, "h3 getPentagons -r 5"),
+                usage: None,
+            },
+            CommandName::CellToParent => HelpTexts {
+                about: "The ancestor of a cell at a resolution",
+                notes: notes!(ancestor, "h3 cellToParent -c 85283473fffffff -r 4"),
+                usage: None,
+            },
+            CommandName::CellToCenterChild => HelpTexts {
+                about: "The center descendant of a cell at a resolution",
+                notes: notes!(descendants, "h3 cellToCenterChild -c 85283473fffffff -r 6"),
+                usage: None,
+            },
+            CommandName::CellToLastChild => HelpTexts {
                 about: "The last descendant of a cell at a resolution, which has the greatest number",
                 notes: notes!(
                     descendants "The cells of the resolution from the center descendant to the last one, by\n\
@@ -251,30 +445,22 @@ impl CommandName {
                 ),
                 usage: None,
             },
-            CommandName::CellToChildren => Entry {
-                word: "cellToChildren",
-                options: &[Cell, Resolution],
+            CommandName::CellToChildren => HelpTexts {
                 about: "The descendants of a cell at a resolution, ascending",
                 notes: notes!(descendants, "h3 cellToChildren -c 85283473fffffff -r 6"),
                 usage: None,
             },
-            CommandName::CellToChildrenSize => Entry {
-                word: "cellToChildrenSize",
-                options: &[Cell, Resolution],
+            CommandName::CellToChildrenSize => HelpTexts {
                 about: "How many descendants a cell has at a resolution",
                 notes: notes!(descendants, "h3 cellToChildrenSize -c 85283473fffffff -r 6"),
                 usage: None,
             },
-            CommandName::CellToChildPos => Entry {
-                word: "cellToChildPos",
-                options: &[Cell, Resolution],
+            CommandName::CellToChildPos => HelpTexts {
                 about: "The position of a cell among the descendants of its ancestor at a resolution",
                 notes: notes!(ancestor, "h3 cellToChildPos -c 85283473fffffff -r 4"),
                 usage: None,
             },
-            CommandName::ChildPosToCell => Entry {
-                word: "childPosToCell",
-                options: &[Position, Cell, Resolution],
+            CommandName::ChildPosToCell => HelpTexts {
                 about: "The descendant of a cell at a position among those at a resolution",
                 notes: notes!(
                     errors;
@@ -284,9 +470,7 @@ impl CommandName {
                 ),
                 usage: None,
             },
-            CommandName::CompactCells => Entry {
-                word: "compactCells",
-                options: with_list_options!(),
+            CommandName::CompactCells => HelpTexts {
                 about: "Compact the list of cells on standard input, of any resolutions; overlapping cells are error 10",
                 notes: notes!(
                     errors "A complete set of siblings becomes its parent. If cells overlap: uniteCells.\n"
@@ -296,9 +480,7 @@ impl CommandName {
                 ),
                 usage: Some("h3 compactCells < cells"),
             },
-            CommandName::UncompactCells => Entry {
-                word: "uncompactCells",
-                options: with_list_options!(Resolution),
+            CommandName::UncompactCells => HelpTexts {
                 about: "The descendants at a resolution of each cell listed on standard input",
                 notes: notes!(
                     below "With --field 1, an error is reported with its line.\n",
@@ -306,9 +488,7 @@ impl CommandName {
                 ),
                 usage: Some("h3 uncompactCells --resolution <resolution> < cells"),
             },
-            CommandName::UncompactCellsSize => Entry {
-                word: "uncompactCellsSize",
-                options: with_list_options!(Resolution),
+            CommandName::UncompactCellsSize => HelpTexts {
                 about: "How many cells uncompactCells prints for the cells listed on standard input",
                 notes: notes!(
                     below "Cells that repeat or overlap count again. The first faulty line is reported\n\
@@ -317,30 +497,22 @@ impl CommandName {
                 ),
                 usage: Some("h3 uncompactCellsSize --resolution <resolution> < cells"),
             },
-            CommandName::UniteCells => Entry {
-                word: "uniteCells",
-                options: with_list_options!(),
+            CommandName::UniteCells => HelpTexts {
                 about: "Union of the cells on standard input, compacted; they may repeat and overlap",
                 notes: notes!(list cell, "h3 uniteCells < cells"),
                 usage: Some("h3 uniteCells < cells"),
             },
-            CommandName::IntersectCells => Entry {
-                word: "intersectCells",
-                options: with_list_options!(Region),
+            CommandName::IntersectCells => HelpTexts {
                 about: "Intersection of the cells on standard input and a region, compacted",
                 notes: notes!(overlaps, "h3 intersectCells --region region < cells"),
                 usage: Some("h3 intersectCells --region <region> < cells"),
             },
-            CommandName::SubtractCells => Entry {
-                word: "subtractCells",
-                options: with_list_options!(Region),
+            CommandName::SubtractCells => HelpTexts {
                 about: "The cells on standard input minus a region, compacted",
                 notes: notes!(overlaps, "h3 subtractCells --region region < cells"),
                 usage: Some("h3 subtractCells --region <region> < cells"),
             },
-            CommandName::AreCoveredCells => Entry {
-                word: "areCoveredCells",
-                options: with_line_options!(Region),
+            CommandName::AreCoveredCells => HelpTexts {
                 about: "Whether a region covers each cell listed on standard input",
                 notes: notes!(
                     region "A region covers its cells and their descendants; its cells may overlap.\n",
@@ -348,9 +520,7 @@ impl CommandName {
                 ),
                 usage: Some("h3 areCoveredCells --region <region> < cells"),
             },
-            CommandName::CellsToZones => Entry {
-                word: "cellsToZones",
-                options: with_line_options!(Zones),
+            CommandName::CellsToZones => HelpTexts {
                 about: "The zone of each cell listed on standard input, or 0 if it has none",
                 notes: notes!(
                     zones,
@@ -359,9 +529,7 @@ impl CommandName {
                 ),
                 usage: Some("h3 cellsToZones --zones <zones> < cells"),
             },
-            CommandName::CountCellsInZones => Entry {
-                word: "countCellsInZones",
-                options: with_list_options!(Zones),
+            CommandName::CountCellsInZones => HelpTexts {
                 about: "Count the cells on standard input in each zone, and those in none",
                 notes: notes!(
                     zones "Each line has a zone and its count; the last one has 0 and the count of cells\n\
@@ -370,9 +538,7 @@ impl CommandName {
                 ),
                 usage: Some("h3 countCellsInZones --zones <zones> < cells"),
             },
-            CommandName::GridDiskUnsafe => Entry {
-                word: "gridDiskUnsafe",
-                options: &[Cell, Radius, Table],
+            CommandName::GridDiskUnsafe => HelpTexts {
                 about: "The cells within a radius of a cell, ring by ring",
                 notes: notes!(
                     radius,
@@ -380,9 +546,7 @@ impl CommandName {
                 ),
                 usage: None,
             },
-            CommandName::GridDiskDistancesUnsafe => Entry {
-                word: "gridDiskDistancesUnsafe",
-                options: &[Cell, Radius, Table],
+            CommandName::GridDiskDistancesUnsafe => HelpTexts {
                 about: "The cells within a radius of a cell, each with the number of its ring",
                 notes: notes!(
                     radius,
@@ -390,9 +554,7 @@ impl CommandName {
                 ),
                 usage: None,
             },
-            CommandName::GridRingUnsafe => Entry {
-                word: "gridRingUnsafe",
-                options: &[Cell, Radius, Table],
+            CommandName::GridRingUnsafe => HelpTexts {
                 about: "The cells of the ring of a radius around a cell",
                 notes: notes!(
                     radius,
@@ -400,9 +562,7 @@ impl CommandName {
                 ),
                 usage: None,
             },
-            CommandName::AreNeighborCells => Entry {
-                word: "areNeighborCells",
-                options: &[Cell, To, Table],
+            CommandName::AreNeighborCells => HelpTexts {
                 about: "Whether two cells are neighbors",
                 notes: notes!(
                     neighbors "",
@@ -411,9 +571,7 @@ impl CommandName {
                 ),
                 usage: None,
             },
-            CommandName::CellsToDirectedEdge => Entry {
-                word: "cellsToDirectedEdge",
-                options: &[Cell, To, Table],
+            CommandName::CellsToDirectedEdge => HelpTexts {
                 about: "The directed edge from a cell to its neighbor",
                 notes: notes!(
                     neighbors "11 not neighbors, ",
@@ -422,23 +580,17 @@ impl CommandName {
                 ),
                 usage: None,
             },
-            CommandName::IsValidDirectedEdge => Entry {
-                word: "isValidDirectedEdge",
-                options: &[Edge],
+            CommandName::IsValidDirectedEdge => HelpTexts {
                 about: "Whether an index is a valid directed edge",
                 notes: notes!(index, "h3 isValidDirectedEdge --edge 115283473fffffff"),
                 usage: None,
             },
-            CommandName::GetDirectedEdgeOrigin => Entry {
-                word: "getDirectedEdgeOrigin",
-                options: &[Edge],
+            CommandName::GetDirectedEdgeOrigin => HelpTexts {
                 about: "The cell that a directed edge leaves",
                 notes: notes!(edge, "h3 getDirectedEdgeOrigin --edge 115283473fffffff"),
                 usage: None,
             },
-            CommandName::GetDirectedEdgeDestination => Entry {
-                word: "getDirectedEdgeDestination",
-                options: &[Edge, Table],
+            CommandName::GetDirectedEdgeDestination => HelpTexts {
                 about: "The cell that a directed edge leads to",
                 notes: notes!(
                     destination,
@@ -446,58 +598,42 @@ impl CommandName {
                 ),
                 usage: None,
             },
-            CommandName::OriginToDirectedEdges => Entry {
-                word: "originToDirectedEdges",
-                options: &[Cell],
+            CommandName::OriginToDirectedEdges => HelpTexts {
                 about: "The directed edges that leave a cell",
                 notes: notes!(cell, "h3 originToDirectedEdges -c 85283473fffffff"),
                 usage: None,
             },
-            CommandName::AreValidCells => Entry {
-                word: "areValidCells",
-                options: with_line_options!(),
+            CommandName::AreValidCells => HelpTexts {
                 about: "Whether each index listed on standard input is a valid cell",
                 notes: notes!(list index, "h3 areValidCells < cells"),
                 usage: Some("h3 areValidCells < cells"),
             },
-            CommandName::AreValidDirectedEdges => Entry {
-                word: "areValidDirectedEdges",
-                options: with_line_options!(),
+            CommandName::AreValidDirectedEdges => HelpTexts {
                 about: "Whether each index listed on standard input is a valid directed edge",
                 notes: notes!(list index, "h3 areValidDirectedEdges < edges"),
                 usage: Some("h3 areValidDirectedEdges < edges"),
             },
-            CommandName::GetResolutions => Entry {
-                word: "getResolutions",
-                options: with_line_options!(),
+            CommandName::GetResolutions => HelpTexts {
                 about: "The resolution of each cell listed on standard input",
                 notes: notes!(list cell, "h3 getResolutions < cells"),
                 usage: Some("h3 getResolutions < cells"),
             },
-            CommandName::GetBaseCellNumbers => Entry {
-                word: "getBaseCellNumbers",
-                options: with_line_options!(),
+            CommandName::GetBaseCellNumbers => HelpTexts {
                 about: "The base cell of each cell listed on standard input",
                 notes: notes!(list cell, "h3 getBaseCellNumbers < cells"),
                 usage: Some("h3 getBaseCellNumbers < cells"),
             },
-            CommandName::ArePentagons => Entry {
-                word: "arePentagons",
-                options: with_line_options!(),
+            CommandName::ArePentagons => HelpTexts {
                 about: "Whether each cell listed on standard input is a pentagon",
                 notes: notes!(list cell, "h3 arePentagons < cells"),
                 usage: Some("h3 arePentagons < cells"),
             },
-            CommandName::AreResClassIII => Entry {
-                word: "areResClassIII",
-                options: with_line_options!(),
+            CommandName::AreResClassIII => HelpTexts {
                 about: "Whether the resolution of each cell listed on standard input is Class III",
                 notes: notes!(list cell, "h3 areResClassIII < cells"),
                 usage: Some("h3 areResClassIII < cells"),
             },
-            CommandName::CellsToParents => Entry {
-                word: "cellsToParents",
-                options: with_line_options!(Resolution),
+            CommandName::CellsToParents => HelpTexts {
                 about: "The ancestor at a resolution of each cell listed on standard input",
                 notes: notes!(
                     list ancestor,
@@ -506,9 +642,7 @@ impl CommandName {
                 ),
                 usage: Some("h3 cellsToParents --resolution <resolution> < cells"),
             },
-            CommandName::CellsToCenterChildren => Entry {
-                word: "cellsToCenterChildren",
-                options: with_line_options!(Resolution),
+            CommandName::CellsToCenterChildren => HelpTexts {
                 about: "The center descendant at a resolution of each cell listed on standard input",
                 notes: notes!(
                     list descendants,
@@ -516,9 +650,7 @@ impl CommandName {
                 ),
                 usage: Some("h3 cellsToCenterChildren --resolution <resolution> < cells"),
             },
-            CommandName::CellsToLastChildren => Entry {
-                word: "cellsToLastChildren",
-                options: with_line_options!(Resolution),
+            CommandName::CellsToLastChildren => HelpTexts {
                 about: "The last descendant at a resolution of each cell listed on standard input",
                 notes: notes!(
                     list descendants,
@@ -526,9 +658,7 @@ impl CommandName {
                 ),
                 usage: Some("h3 cellsToLastChildren --resolution <resolution> < cells"),
             },
-            CommandName::CellsToChildren => Entry {
-                word: "cellsToChildren",
-                options: with_line_options!(Resolution),
+            CommandName::CellsToChildren => HelpTexts {
                 about: "The descendants at a resolution of each cell listed on standard input, ascending",
                 notes: notes!(
                     list descendants,
@@ -536,9 +666,7 @@ impl CommandName {
                 ),
                 usage: Some("h3 cellsToChildren --resolution <resolution> < cells"),
             },
-            CommandName::CellsToChildrenSizes => Entry {
-                word: "cellsToChildrenSizes",
-                options: with_line_options!(Resolution),
+            CommandName::CellsToChildrenSizes => HelpTexts {
                 about: "How many descendants at a resolution each cell listed on standard input has",
                 notes: notes!(
                     list descendants,
@@ -546,9 +674,7 @@ impl CommandName {
                 ),
                 usage: Some("h3 cellsToChildrenSizes --resolution <resolution> < cells"),
             },
-            CommandName::CellsToChildPositions => Entry {
-                word: "cellsToChildPositions",
-                options: with_line_options!(Resolution),
+            CommandName::CellsToChildPositions => HelpTexts {
                 about: "The position of each cell listed on standard input among the descendants of its ancestor at a resolution",
                 notes: notes!(
                     list ancestor,
@@ -556,16 +682,12 @@ impl CommandName {
                 ),
                 usage: Some("h3 cellsToChildPositions --resolution <resolution> < cells"),
             },
-            CommandName::GridDisksUnsafe => Entry {
-                word: "gridDisksUnsafe",
-                options: with_line_options!(Radius, Table),
+            CommandName::GridDisksUnsafe => HelpTexts {
                 about: "The cells within a radius of each cell listed on standard input, ring by ring",
                 notes: notes!(walks, "h3 gridDisksUnsafe -k 1 --table h3.csv < cells"),
                 usage: Some("h3 gridDisksUnsafe -k <k> --table <table> < cells"),
             },
-            CommandName::GridDisksDistancesUnsafe => Entry {
-                word: "gridDisksDistancesUnsafe",
-                options: with_line_options!(Radius, Table),
+            CommandName::GridDisksDistancesUnsafe => HelpTexts {
                 about: "The cells within a radius of each cell on standard input, each with its ring",
                 notes: notes!(
                     walks,
@@ -573,16 +695,12 @@ impl CommandName {
                 ),
                 usage: Some("h3 gridDisksDistancesUnsafe -k <k> --table <table> < cells"),
             },
-            CommandName::GridRingsUnsafe => Entry {
-                word: "gridRingsUnsafe",
-                options: with_line_options!(Radius, Table),
+            CommandName::GridRingsUnsafe => HelpTexts {
                 about: "The cells of the ring of a radius around each cell listed on standard input",
                 notes: notes!(walks, "h3 gridRingsUnsafe -k 1 --table h3.csv < cells"),
                 usage: Some("h3 gridRingsUnsafe -k <k> --table <table> < cells"),
             },
-            CommandName::GetDirectedEdgeOrigins => Entry {
-                word: "getDirectedEdgeOrigins",
-                options: with_line_options!(),
+            CommandName::GetDirectedEdgeOrigins => HelpTexts {
                 about: "The cell that each directed edge listed on standard input leaves",
                 notes: notes!(
                     list edge,
@@ -590,9 +708,7 @@ impl CommandName {
                 ),
                 usage: Some("h3 getDirectedEdgeOrigins < edges"),
             },
-            CommandName::GetDirectedEdgeDestinations => Entry {
-                word: "getDirectedEdgeDestinations",
-                options: with_line_options!(Table),
+            CommandName::GetDirectedEdgeDestinations => HelpTexts {
                 about: "The cell that each directed edge listed on standard input leads to",
                 notes: notes!(
                     list destination,
@@ -600,9 +716,7 @@ impl CommandName {
                 ),
                 usage: Some("h3 getDirectedEdgeDestinations --table <table> < edges"),
             },
-            CommandName::OriginsToDirectedEdges => Entry {
-                word: "originsToDirectedEdges",
-                options: with_line_options!(),
+            CommandName::OriginsToDirectedEdges => HelpTexts {
                 about: "The directed edges that leave each cell listed on standard input",
                 notes: notes!(
                     list cell,
