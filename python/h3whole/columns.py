@@ -183,7 +183,7 @@ _IS_ONE = bytes(byte == 1 for byte in range(256))
 
 
 def _truths_of(items: "array[int]") -> "array[int]":
-    """Whether each item is 1, in a byte: of 1, 0 and -1 the lowest byte tells."""
+    """Whether each item is 1, as a byte: the lowest bytes of 1, 0 and -1 differ."""
     lowest = items.tobytes()[0 if sys.byteorder == "little" else items.itemsize - 1 :: items.itemsize]
     return array("b", lowest.translate(_IS_ONE))
 

@@ -12,6 +12,8 @@ use core::str::FromStr;
 ///
 /// Cells are ordered by their numbers: by resolution, then base cell, then digits.
 ///
+/// # Examples
+///
 /// ```
 /// use h3whole::{Cell, Error, Resolution};
 ///
@@ -30,51 +32,63 @@ pub struct Cell(pub(crate) NonZeroU64);
 index!(Cell, ffi::is_valid_cell, Error::CellInvalid);
 
 impl Cell {
-    /// The 122 cells of resolution 0, ascending: H3's `getRes0Cells`.
+    /// Returns the 122 cells of resolution 0, ascending: H3's `getRes0Cells`.
     pub fn base_cells() -> [Cell; 122] {
         ffi::base_cells()
             .expect("there are 122 cells of resolution 0")
             .map(Self::known)
     }
 
-    /// The resolution: H3's `getResolution`.
+    /// Returns the resolution: H3's `getResolution`.
     pub fn resolution(self) -> Resolution {
         Resolution::try_from(ffi::resolution(self.raw())).expect("a cell has a resolution")
     }
 
-    /// The base cell, 0 to 121: H3's `getBaseCellNumber`.
+    /// Returns the base cell, 0 to 121: H3's `getBaseCellNumber`.
     pub fn base_cell(self) -> u8 {
         u8::try_from(ffi::base_cell(self.raw())).expect("a cell has a base cell")
     }
 
-    /// Whether the cell is a pentagon: H3's `isPentagon`.
+    /// Returns whether the cell is a pentagon: H3's `isPentagon`.
     pub fn is_pentagon(self) -> bool {
         ffi::is_pentagon(self.raw()) == 1
     }
 
-    /// Whether the resolution is Class III, which is odd: H3's `isResClassIII`.
+    /// Returns whether the resolution is Class III, which is odd: H3's `isResClassIII`.
     pub fn is_class3(self) -> bool {
         ffi::is_class3(self.raw()) == 1
     }
 
-    /// The ancestor at a resolution: H3's `cellToParent`. `ResMismatch` if the resolution is
-    /// finer than the cell's.
+    /// Returns the ancestor at a resolution: H3's `cellToParent`.
+    ///
+    /// # Errors
+    ///
+    /// `ResMismatch` if the resolution is finer than the cell's.
     pub fn parent(self, resolution: Resolution) -> Result<Cell, Error> {
         ffi::parent(self.raw(), resolution.into()).map(Self::known)
     }
 
-    /// The descendant in the center: H3's `cellToCenterChild`. `ResDomain` if the resolution is
-    /// coarser than the cell's.
+    /// Returns the descendant in the center: H3's `cellToCenterChild`.
+    ///
+    /// # Errors
+    ///
+    /// `ResDomain` if the resolution is coarser than the cell's.
     pub fn center_child(self, resolution: Resolution) -> Result<Cell, Error> {
         ffi::center_child(self.raw(), resolution.into()).map(Self::known)
     }
 
-    /// The last descendant at a resolution, which is the greatest one; not a function of H3.
-    /// `ResDomain` if the resolution is coarser than the cell's.
+    /// Returns the last descendant at a resolution, which is the greatest one; not a function of
+    /// H3.
     ///
     /// Cells are ordered by their numbers. From the center child to the last child, the cells of
     /// that resolution are the descendants of this cell, and no others: a slice in that order has
     /// them side by side.
+    ///
+    /// # Errors
+    ///
+    /// `ResDomain` if the resolution is coarser than the cell's.
+    ///
+    /// # Examples
     ///
     /// ```
     /// use h3whole::{Cell, Error, Resolution};
@@ -89,14 +103,23 @@ impl Cell {
         ffi::last_child(self.raw(), resolution.into()).map(Self::known)
     }
 
-    /// How many descendants there are at a resolution: H3's `cellToChildrenSize`. `ResDomain` if
-    /// the resolution is coarser than the cell's.
+    /// Returns how many descendants there are at a resolution: H3's `cellToChildrenSize`.
+    ///
+    /// # Errors
+    ///
+    /// `ResDomain` if the resolution is coarser than the cell's.
     pub fn children_count(self, resolution: Resolution) -> Result<u64, Error> {
         ffi::children_size(self.raw(), resolution.into()).map(i64::unsigned_abs)
     }
 
-    /// An iterator over the descendants at a resolution, ascending. It takes no memory, and finds
-    /// each by its position. `ResDomain` if the resolution is coarser than the cell's.
+    /// Returns an iterator over the descendants at a resolution, ascending. It takes no memory, and
+    /// finds each by its position.
+    ///
+    /// # Errors
+    ///
+    /// `ResDomain` if the resolution is coarser than the cell's.
+    ///
+    /// # Examples
     ///
     /// ```
     /// use h3whole::{Cell, Error, Resolution};
@@ -115,22 +138,34 @@ impl Cell {
         })
     }
 
-    /// The descendants at a resolution, ascending: H3's `cellToChildren`. `ResDomain` if the
-    /// resolution is coarser than the cell's, `MemoryAlloc` if there is no memory for them.
+    /// Returns the descendants at a resolution, ascending: H3's `cellToChildren`.
+    ///
+    /// # Errors
+    ///
+    /// - `ResDomain` if the resolution is coarser than the cell's.
+    /// - `MemoryAlloc` if there is no memory for them.
     pub fn children_vec(self, resolution: Resolution) -> Result<Vec<Cell>, Error> {
         let count = self.children_count(resolution)?;
         let count = usize::try_from(count).map_err(|_| Error::MemoryAlloc)?;
         ffi::children(self.raw(), resolution.into(), count)
     }
 
-    /// The position, from 0 on, among the descendants of the ancestor at a resolution: H3's
-    /// `cellToChildPos`. `ResMismatch` if the resolution is finer than the cell's.
+    /// Returns the position, from 0 on, among the descendants of the ancestor at a resolution: H3's
+    /// `cellToChildPos`.
+    ///
+    /// # Errors
+    ///
+    /// `ResMismatch` if the resolution is finer than the cell's.
     pub fn child_position(self, resolution: Resolution) -> Result<u64, Error> {
         ffi::child_position(self.raw(), resolution.into()).map(i64::unsigned_abs)
     }
 
-    /// The descendant that has this position: H3's `childPosToCell`. `ResMismatch` if the
-    /// resolution is coarser than the cell's, `Domain` if no descendant has the position.
+    /// Returns the descendant that has this position: H3's `childPosToCell`.
+    ///
+    /// # Errors
+    ///
+    /// - `ResMismatch` if the resolution is coarser than the cell's.
+    /// - `Domain` if no descendant has the position.
     pub fn child_at(self, position: u64, resolution: Resolution) -> Result<Cell, Error> {
         // no descendant has a position that is no i64
         let position = i64::try_from(position).unwrap_or(i64::MAX);

@@ -5,6 +5,8 @@
 //! returned, with its place. If `out` is shorter than the column the error is `MemoryBounds`, and
 //! nothing is written; [`children`] writes as many as fit. The rest of `out` keeps its values.
 //!
+//! # Examples
+//!
 //! ```
 //! use h3whole::{columns, Error, Resolution};
 //!
@@ -112,6 +114,8 @@ columns! {
     /// `out[i + 1]`, which is the place after them. `MemoryBounds` is also the error if children
     /// end at a place that is not an `i64`; `at` is then the place of the first such index, and the
     /// places before are written.
+    ///
+    /// # Examples
     ///
     /// ```
     /// use h3whole::{columns, Resolution};

@@ -7,6 +7,8 @@ use core::str::FromStr;
 /// A directed edge: the step from a cell in one direction. It holds the index of one: converting a
 /// number that is not a valid edge is an error.
 ///
+/// # Examples
+///
 /// ```
 /// use h3whole::{Cell, Edge, Error};
 ///

@@ -7,6 +7,8 @@
 //! Without the default feature `std` the crate takes `core` and `alloc` alone, and its errors do not
 //! implement `std::error::Error`. The archive that it links takes the C library.
 //!
+//! # Examples
+//!
 //! ```
 //! use h3whole::{compact, Cell, Resolution};
 //!

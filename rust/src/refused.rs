@@ -7,6 +7,8 @@ use core::fmt;
 ///
 /// It compares with an [`Error`], and `?` makes one of it.
 ///
+/// # Examples
+///
 /// ```
 /// use h3whole::{Cell, Error};
 ///

@@ -16,6 +16,8 @@ use core::slice;
 /// [`intersection`](Region::intersection) and [`difference`](Region::difference) return an error
 /// instead. Two regions are equal if they cover the same.
 ///
+/// # Examples
+///
 /// ```
 /// use h3whole::{Cell, Error, Region, Resolution};
 ///
@@ -34,7 +36,11 @@ pub struct Region {
 }
 
 impl Region {
-    /// What the cells cover, which may repeat and overlap. `MemoryAlloc` if there is no memory.
+    /// Returns the region of what the cells cover, which may repeat and overlap.
+    ///
+    /// # Errors
+    ///
+    /// `MemoryAlloc` if there is no memory.
     pub fn of(cells: &[Cell]) -> Result<Region, Error> {
         Self::known(ffi::unite(cells)?)
     }
@@ -45,7 +51,11 @@ impl Region {
         Ok(Region { cells, order })
     }
 
-    /// What this region or the other covers. `MemoryAlloc` if there is no memory.
+    /// Returns what this region or the other covers.
+    ///
+    /// # Errors
+    ///
+    /// `MemoryAlloc` if there is no memory.
     pub fn union(&self, other: &Region) -> Result<Region, Error> {
         let mut both = Vec::new();
         both.try_reserve_exact(self.len() + other.len())
@@ -55,13 +65,21 @@ impl Region {
         Self::of(&both)
     }
 
-    /// What both regions cover. `MemoryAlloc` if there is no memory.
+    /// Returns what both regions cover.
+    ///
+    /// # Errors
+    ///
+    /// `MemoryAlloc` if there is no memory.
     pub fn intersection(&self, other: &Region) -> Result<Region, Error> {
         Self::known(ffi::intersect(&self.cells, &other.cells)?)
     }
 
-    /// What this region covers and the other does not. `MemoryAlloc` if there is no memory. It
-    /// may have more cells than both: up to 90 more for each of the other.
+    /// Returns what this region covers and the other does not. It may have more cells than both: up
+    /// to 90 more for each of the other.
+    ///
+    /// # Errors
+    ///
+    /// `MemoryAlloc` if there is no memory.
     pub fn difference(&self, other: &Region) -> Result<Region, Error> {
         Self::known(ffi::subtract(&self.cells, &other.cells)?)
     }
@@ -166,6 +184,8 @@ impl Sub for &Region {
 /// once a fourth as many cells were looked up: a table, which is kept, so a column can come in parts.
 /// A call with as many cells as zones, or more, takes 8 more for each zone while it lasts.
 ///
+/// # Examples
+///
 /// ```
 /// use h3whole::{Cell, Error, Zones};
 ///
@@ -184,8 +204,12 @@ pub struct Zones {
 }
 
 impl Zones {
-    /// The cells as zones. `MemoryAlloc` if there is no memory; `DuplicateInput` if a cell is
-    /// there twice, or together with an ancestor of it.
+    /// Returns the cells as zones.
+    ///
+    /// # Errors
+    ///
+    /// - `MemoryAlloc` if there is no memory.
+    /// - `DuplicateInput` if a cell is there twice, or together with an ancestor of it.
     pub fn new(cells: &[Cell]) -> Result<Zones, Error> {
         let order = Order::of(cells)?;
         Ok(Zones { order })
@@ -196,15 +220,22 @@ impl Zones {
         zone_of(&self.order, cell)
     }
 
-    /// The zone of each cell of a column. `MemoryAlloc` if there is no memory.
+    /// Returns the zone of each cell of a column.
+    ///
+    /// # Errors
+    ///
+    /// `MemoryAlloc` if there is no memory.
     pub fn zones_of(&self, cells: &[Cell]) -> Result<Vec<Option<Cell>>, Error> {
         let mut zones = filled(None, cells.len())?;
         self.order.zones_of(cells, &mut zones)?;
         Ok(zones)
     }
 
-    /// Counts the cells of a column in each zone, and in none. `MemoryAlloc` if there is no
-    /// memory.
+    /// Counts the cells of a column in each zone, and in none.
+    ///
+    /// # Errors
+    ///
+    /// `MemoryAlloc` if there is no memory.
     pub fn count(&self, cells: &[Cell]) -> Result<Counts<'_>, Error> {
         let mut counts = filled(0, self.len())?;
         let others = self.order.count(cells, &mut counts)?;

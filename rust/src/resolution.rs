@@ -48,6 +48,8 @@ impl Resolution {
 
     /// How many cells the resolution has: H3's `getNumCells`.
     ///
+    /// # Examples
+    ///
     /// ```
     /// use h3whole::Resolution;
     ///
@@ -60,6 +62,8 @@ impl Resolution {
     }
 
     /// The next finer resolution; `None` for the finest.
+    ///
+    /// # Examples
     ///
     /// ```
     /// use h3whole::Resolution;

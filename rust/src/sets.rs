@@ -1,9 +1,15 @@
 use crate::{ffi, Cell, Error, Resolution};
 use alloc::vec::Vec;
 
-/// The shortest list of cells that covers the same as the given ones, ascending: H3's
-/// `compactCells`. `DuplicateInput` if a cell is there twice, or together with an ancestor of it;
-/// `MemoryAlloc` if there is no memory. [`find_overlap`] returns which cells overlap.
+/// Returns the shortest list of cells that covers the same as the given ones, ascending: H3's
+/// `compactCells`. [`find_overlap`] returns which cells overlap.
+///
+/// # Errors
+///
+/// - `DuplicateInput` if a cell is there twice, or together with an ancestor of it.
+/// - `MemoryAlloc` if there is no memory.
+///
+/// # Examples
 ///
 /// ```
 /// use h3whole::{compact, uncompact, Cell, Error, Resolution};
@@ -20,9 +26,15 @@ pub fn compact(cells: &[Cell]) -> Result<Vec<Cell>, Error> {
     ffi::compact(cells)
 }
 
-/// The places of two cells that overlap: of the first one that overlaps an earlier one, and of the first that
-/// it overlaps. They are the reason why [`compact`] or [`Zones::new`](crate::Zones::new) returned
-/// `DuplicateInput`; `None` if no two overlap. `MemoryAlloc` if there is no memory.
+/// Returns the places of two cells that overlap, or `None`: of the first one that overlaps an
+/// earlier one, and of the first that it overlaps. They are the reason why [`compact`] or
+/// [`Zones::new`](crate::Zones::new) returned `DuplicateInput`.
+///
+/// # Errors
+///
+/// `MemoryAlloc` if there is no memory.
+///
+/// # Examples
 ///
 /// ```
 /// use h3whole::{find_overlap, Cell, Error, Resolution};
@@ -38,9 +50,13 @@ pub fn find_overlap(cells: &[Cell]) -> Result<Option<(usize, usize)>, Error> {
     Ok(Some((at, earlier)).filter(|_| at < cells.len()))
 }
 
-/// The descendants at a resolution of the first cell, ascending, then those of the second, and so
-/// on: H3's `uncompactCells`. `ResMismatch` if a cell is finer; `MemoryAlloc` if there is no
-/// memory for them.
+/// Returns the descendants at a resolution of the first cell, ascending, then those of the second,
+/// and so on: H3's `uncompactCells`.
+///
+/// # Errors
+///
+/// - `ResMismatch` if a cell is finer.
+/// - `MemoryAlloc` if there is no memory for them.
 pub fn uncompact(cells: &[Cell], resolution: Resolution) -> Result<Vec<Cell>, Error> {
     let mut count = 0u64;
     for cell in cells {

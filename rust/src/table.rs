@@ -10,6 +10,8 @@ use core::fmt;
 ///
 /// It takes 1,465 bytes and owns nothing; it may be cloned, and read from many threads at once.
 ///
+/// # Examples
+///
 /// ```
 /// use h3whole::{Cell, Error, Table};
 ///
@@ -43,22 +45,37 @@ use core::fmt;
 pub struct Table(RawTable);
 
 impl Table {
-    /// The table in the bytes of a file, in one of the two formats that `tools/h3-table` writes.
+    /// Returns the table in the bytes of a file, in one of the two formats that `tools/h3-table`
+    /// writes.
+    ///
+    /// # Errors
+    ///
+    /// The first [`TableError`] of the file, in the order in which they are declared.
     pub fn from_csv(file: &[u8]) -> Result<Table, TableError> {
         ffi::read_table(file).map(Table).map_err(TableError::from)
     }
 
-    /// The cells within k steps of a cell, ring by ring: H3's `gridDiskUnsafe`. `Domain` if k is
-    /// not an `i32`; `MemoryAlloc` if there is no memory for 3k(k + 1) + 1 cells; `Pentagon` if a
-    /// step meets a pentagon base cell.
+    /// Returns the cells within k steps of a cell, ring by ring: H3's `gridDiskUnsafe`.
+    ///
+    /// # Errors
+    ///
+    /// - `Domain` if k is not an `i32`.
+    /// - `MemoryAlloc` if there is no memory for 3k(k + 1) + 1 cells.
+    /// - `Pentagon` if a step meets a pentagon base cell.
     pub fn grid_disk_unsafe(&self, origin: Cell, k: u32) -> Result<Vec<Cell>, Error> {
         let radius = radius(k)?;
         ffi::disk(&self.0, origin.raw(), radius, disk_len(k)?)
     }
 
-    /// The disks of cells, one after another: H3's `gridDisksUnsafe`. Each has 3k(k + 1) + 1 cells,
-    /// in the order of [`Table::grid_disk_unsafe`]. Errors are those of that, with the first cell that
-    /// they are about; `Domain` and `MemoryAlloc` are not about a cell.
+    /// Returns the disks of cells, one after another: H3's `gridDisksUnsafe`. Each has 3k(k + 1) +
+    /// 1 cells, in the order of [`Table::grid_disk_unsafe`].
+    ///
+    /// # Errors
+    ///
+    /// Those of [`Table::grid_disk_unsafe`], with the first cell that they are about; `Domain` and
+    /// `MemoryAlloc` are not about a cell.
+    ///
+    /// # Examples
     ///
     /// ```
     /// # use h3whole::{Cell, Error, Table};
@@ -79,8 +96,12 @@ impl Table {
             .map_err(|(error, at)| ColumnError::of_cell(error, at, origins))
     }
 
-    /// The cells within k steps of a cell, each with its ring, 0 to k: H3's `gridDiskDistancesUnsafe`. Errors as of
-    /// [`Table::grid_disk_unsafe`].
+    /// Returns the cells within k steps of a cell, each with its ring, 0 to k: H3's
+    /// `gridDiskDistancesUnsafe`.
+    ///
+    /// # Errors
+    ///
+    /// Those of [`Table::grid_disk_unsafe`].
     pub fn grid_disk_distances_unsafe(
         &self,
         origin: Cell,
@@ -100,30 +121,44 @@ impl Table {
         Ok(found)
     }
 
-    /// The cells at k steps from a cell: H3's `gridRingUnsafe`. Errors as of
-    /// [`Table::grid_disk_unsafe`], and for k = 0 none.
+    /// Returns the cells at k steps from a cell: H3's `gridRingUnsafe`.
+    ///
+    /// # Errors
+    ///
+    /// Those of [`Table::grid_disk_unsafe`], and for k = 0 none.
     pub fn grid_ring_unsafe(&self, origin: Cell, k: u32) -> Result<Vec<Cell>, Error> {
         let radius = radius(k)?;
         let count = usize::try_from(6 * u64::from(k)).map_err(|_| Error::MemoryAlloc)?;
         ffi::ring(&self.0, origin.raw(), radius, count.max(1))
     }
 
-    /// Whether a step leads from the one cell to the other: H3's `areNeighborCells`. `ResMismatch`
-    /// if their resolutions differ; then, for different cells, `Pentagon` if the base cell of
-    /// either is a pentagon.
+    /// Returns whether a step leads from the one cell to the other: H3's `areNeighborCells`.
+    ///
+    /// # Errors
+    ///
+    /// - `ResMismatch` if their resolutions differ.
+    /// - `Pentagon` if the cells differ and the base cell of either is a pentagon.
     pub fn are_neighbors(&self, a: Cell, b: Cell) -> Result<bool, Error> {
         ffi::are_neighbors(&self.0, a.raw(), b.raw())
     }
 
-    /// The edge from a cell to a neighbor: H3's `cellsToDirectedEdge`. `ResMismatch`, then
-    /// `NotNeighbors` if both are the same, then `Pentagon` if the base cell of either is a
-    /// pentagon, then `NotNeighbors`.
+    /// Returns the edge from a cell to a neighbor: H3's `cellsToDirectedEdge`.
+    ///
+    /// # Errors
+    ///
+    /// - `ResMismatch` if their resolutions differ.
+    /// - `NotNeighbors` if both are the same.
+    /// - `Pentagon` if the base cell of either is a pentagon.
+    /// - `NotNeighbors` if no step leads from the one to the other.
     pub fn edge_between(&self, origin: Cell, destination: Cell) -> Result<Edge, Error> {
         ffi::edge_between(&self.0, origin.raw(), destination.raw()).map(Edge::known)
     }
 
-    /// The cell that an edge leads to: H3's `getDirectedEdgeDestination`. `Pentagon` if the base
-    /// cell of the edge's origin, or of that cell, is a pentagon.
+    /// Returns the cell that an edge leads to: H3's `getDirectedEdgeDestination`.
+    ///
+    /// # Errors
+    ///
+    /// `Pentagon` if the base cell of the edge's origin, or of that cell, is a pentagon.
     pub fn edge_destination(&self, edge: Edge) -> Result<Cell, Error> {
         ffi::edge_destination(&self.0, edge.raw()).map(Cell::known)
     }

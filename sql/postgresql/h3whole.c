@@ -520,7 +520,7 @@ void _PG_init(void)
 {
 	DefineCustomStringVariable("h3whole.base_cells",
 							   "The base cell table of the functions that walk from cell to cell.",
-							   "NAME stands for extension/h3whole/NAME.csv in the server's folder of shared files.",
+							   "NAME means extension/h3whole/NAME.csv in the server's folder of shared files.",
 							   &table_name, "", PGC_USERSET, 0, check_table, assign_table, NULL);
 #if PG_VERSION_NUM >= 150000
 	MarkGUCPrefixReserved("h3whole");

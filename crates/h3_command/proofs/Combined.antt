@@ -5,7 +5,7 @@ use Rattle.h3_index.specs.Cell.{Address, IsCell}
 use Rattle.h3_set.specs.Compacted.{compacted}
 use Rattle.h3_set.specs.Coverage.{finest, is_covered, IsCovered}
 use Rattle.h3_functions.specs.Inspection.{for_value}
-use Rattle.h3_command.specs.Given.{cell_given}
+use Rattle.h3_command.specs.Required.{cell_given}
 use Rattle.h3_regions.specs.Algebra.{difference, intersection}
 use Rattle.h3_regions.specs.Laws.{CoveragesDecideDifferences, CoveragesDecideIntersections}
 use Rattle.h3_regions.specs.Zones.{by_number, zone_of}

@@ -8,7 +8,7 @@ use Rattle.h3_index.specs.Edge.{DirectedEdge, directed_edge, has_edge}
 use Rattle.h3_index.specs.declared.error.H3Error.{H3Error}
 use Rattle.h3_directions.specs.Direction.{digit_of, directions}
 use Rattle.h3_grid.specs.DirectedEdges.{edges_from}
-use Rattle.h3_grid.specs.Edges.{edges_left}
+use Rattle.h3_grid.specs.Iter.{edges_left}
 use Rattle.h3_grid.specs.declared.iter.Edges.{Edges}
 use Rattle.h3_functions.specs.Edges.{origin_to_directed_edges}
 use Rattle.h3_functions.specs.Inspection.{cell_from, for_value}

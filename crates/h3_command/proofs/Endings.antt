@@ -27,9 +27,9 @@ use Rattle.h3_command.specs.Answer.{Request, about_list, about_numbered_list, ab
 use Rattle.h3_command.specs.Files.{file_cells, unless_refused}
 use Rattle.h3_command.specs.Answer.Request.{of_file_and_lines, of_file_and_list, of_lines, of_list, of_numbered_list, of_table, of_table_and_lines, plain}
 use Rattle.h3_command.specs.Run.{Answers, Ends, EndsLines, EndsList, EndsNumberedList, Gives, IsReadSoFar, IsReadWhole, ReadFails, RefusesFile, RefusesInput, RefusesTableFile, Runs, RunsOutOfMemory, Streams, WritesOfList, WritesOfNumberedList, WritesOfRows, WritesReading}
-use Rattle.h3_rows.specs.EndsRows.{EndsRows}
-use Rattle.h3_rows.specs.RowCells.{RefusesRows}
-use Rattle.h3_rows.specs.EndsRows.{answer_at as rows_at}
+use Rattle.h3_rows.specs.Each.{EndsRows}
+use Rattle.h3_rows.specs.Cells.{RefusesRows}
+use Rattle.h3_rows.specs.Each.{answer_at as rows_at}
 use Rattle.h3_rows.specs.RowsAnswer.{Form, begun_answer, rows_answer}
 use Rattle.h3_rows.specs.RowsAnswer.{list_answer as row_answers}
 use Rattle.h3_command.specs.Rows.{listed_answer}

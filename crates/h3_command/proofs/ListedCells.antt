@@ -8,7 +8,7 @@ use Rattle.h3_lines.specs.Write.{IsLeft, SinkUse}
 use Rattle.h3_lines.specs.declared.run_error.Fault.TheVariants.{Memory}
 use Rattle.h3_lines.specs.declared.run_error.RunError.{RunError}
 use Rattle.h3_lines.specs.declared.run_error.RunError.TheVariants.{Fault}
-use Rattle.h3_rows.specs.RowCells.{AllRowsRead}
+use Rattle.h3_rows.specs.Cells.{AllRowsRead}
 use Rattle.h3_rows.specs.RowsAnswer.{Form}
 use Rattle.h3_command.specs.Listed.{GivesCells, RefusesCells, RefusesNumbered}
 use Rattle.h3_command.specs.Run.{EndsList, EndsNumberedList, GivesRows, IsReadSoFar, WritesUnlessMemory}

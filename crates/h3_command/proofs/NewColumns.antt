@@ -30,7 +30,7 @@ use Rattle.h3_rows.specs.Row.{Piece, cut, inside_after, is_uncut, turned, with_f
 use Rattle.h3_rows.specs.RowsAnswer.{each_with, row_with}
 use Rattle.h3_command.specs.Answer.{answer_for, shown, with_table}
 use Rattle.h3_command.specs.Files.{cell_to_zone, is_covered_cell}
-use Rattle.h3_command.specs.Given.{cell_given, edge_given, index_given}
+use Rattle.h3_command.specs.Required.{cell_given, edge_given, index_given}
 use Rattle.h3_command.specs.LongAnswers.{between_parts, whole_walk}
 use Rattle.h3_command.specs.NewColumns.{AnswersAreWords, AnswersBy, AreAnswerLines, AreLinesOf, IsPairOfWords, IsWord, RowsStandOnce, WordPairsAreKept, WordPairsAreUncut, WordsAreFields, WordsAreKept, is_lower_or_digit, is_plain}
 use Rattle.h3_command.specs.TableLists.{destination_of}

@@ -16,7 +16,7 @@ use Rattle.h3_tree.specs.SiblingGroups.{DescendantsAreChildren}
 use Rattle.h3_lines.specs.Answer.{cell_line, cell_lines, children_lines}
 use Rattle.h3_functions.specs.Hierarchy.{cell_to_children, unless}
 use Rattle.h3_functions.specs.Inspection.{cell_from, for_value}
-use Rattle.h3_command.specs.Given.{cell_given, index_given}
+use Rattle.h3_command.specs.Required.{cell_given, index_given}
 use Rattle.h3_command.specs.Long.{child_item_lines, items_below}
 use Rattle.h3_command.specs.declared.long.ChildItem.{ChildItem}
 use Rattle.h3_command.specs.declared.long.ChildItem.TheVariants.{Group, One}

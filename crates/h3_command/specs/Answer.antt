@@ -24,7 +24,7 @@ use Rattle.h3_functions.specs.Sets.{compact_cells, uncompact_cells, uncompact_ce
 use Rattle.h3_functions.specs.Walks.{grid_disk_distances_unsafe, grid_disk_unsafe, grid_ring_unsafe}
 use Rattle.h3_set.specs.Compacted.{compacted}
 use Rattle.h3_command.specs.Files.{counts_answer, covered_answer, file_cells, left_answer, shared_answer, unless_refused, zone_answer}
-use Rattle.h3_command.specs.Given.{cell_given, edge_given, index_given}
+use Rattle.h3_command.specs.Required.{cell_given, edge_given, index_given}
 use Rattle.h3_command.specs.LongAnswers.{between_parts, children_for, disk_distances_for, disk_for, ring_for}
 use Rattle.h3_command.specs.TableLists.{destination_answer}
 use Rattle.h3_requests.specs.declared.command.IndexFunction.{IndexFunction}
@@ -33,7 +33,7 @@ use Rattle.h3_requests.specs.declared.command.Command.{Command}
 use Rattle.h3_requests.specs.declared.command.Command.TheVariants as command
 use Rattle.h3_requests.specs.declared.rows.RowOptions.{RowOptions}
 use Rattle.h3_rows.specs.Row.{rows_of}
-use Rattle.h3_rows.specs.RowCells.{cells_of}
+use Rattle.h3_rows.specs.Cells.{cells_of}
 use Rattle.h3_rows.specs.RowsAnswer.{Form}
 use Rattle.h3_command.specs.Rows.{function_name, list_form, listed_answer, pair_form, rows_form}
 

@@ -15,7 +15,7 @@ use Rattle.h3_table.specs.declared.vectors.TestTable.TheVariants.{Plain}
 use Rattle.h3_directions.specs.declared.error.TableError.TheVariants as fault
 use Rattle.h3_grid.specs.DirectedEdges.{edge_between, edge_destination, edges_from}
 use Rattle.h3_grid.specs.Neighbors.{are_neighbors, neighbor, pair_refusal}
-use Rattle.h3_grid.specs.Search.{candidates, digit_lists, found_sum, step_of}
+use Rattle.h3_grid.specs.Steps.{candidates, digit_lists, found_sum, step_of}
 use Rattle.h3_lines.specs.Answer.{refused, table_refused, written}
 use Rattle.h3_lines.specs.EachLine.{list_answer}
 use Rattle.h3_lines.specs.declared.run_error.AnswerError.TheVariants.{At}

@@ -13,7 +13,7 @@ use Rattle.h3_table.specs.Vectors.{test_link}
 use Rattle.h3_directions.specs.declared.error.TableError.TheVariants as fault
 use Rattle.h3_table.specs.declared.vectors.TestTable.TheVariants.{Plain}
 use Rattle.h3_grid.specs.Moves.{moves, ring_moves}
-use Rattle.h3_grid.specs.Search.{candidates, digit_lists, found_sum, step_of}
+use Rattle.h3_grid.specs.Steps.{candidates, digit_lists, found_sum, step_of}
 use Rattle.h3_grid.specs.Walks.{disk, followed}
 use Rattle.h3_set.specs.Compacted.{compacted}
 use Rattle.h3_lines.specs.declared.run_error.AnswerError.TheVariants.{At}

@@ -17,7 +17,7 @@ use Rattle.h3_lines.specs.declared.run_error.AnswerError.{AnswerError}
 use Rattle.h3_lines.specs.declared.run_error.AnswerError.TheVariants.{File, FileAt}
 use Rattle.h3_lines.specs.declared.run_error.CellFile.{CellFile}
 use Rattle.h3_lines.specs.declared.run_error.CellFile.TheVariants.{Region, Zones}
-use Rattle.h3_command.specs.Given.{cell_given}
+use Rattle.h3_command.specs.Required.{cell_given}
 
 -- ---- how a file is judged
 

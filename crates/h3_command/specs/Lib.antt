@@ -6,12 +6,12 @@ pub mod EdgeExamples
 pub mod Examples
 pub mod FileQuery
 pub mod Files
-pub mod Given
 pub mod Listed
 pub mod Long
 pub mod LongAnswers
 pub mod LongExamples
 pub mod NewColumns
+pub mod Required
 pub mod Rows
 pub mod Run
 pub mod Sizes

@@ -5,7 +5,7 @@ use Rattle.h3_index.specs.Cell.{Address}
 use Rattle.h3_lines.specs.ListRead.{ListRead, ListRefused, RefusesByError, RefusesByLine}
 use Rattle.h3_lines.specs.Reads.{SourceUse}
 use Rattle.h3_lines.specs.declared.run_error.RunError.{RunError}
-use Rattle.h3_rows.specs.RowCells.{RefusesRows}
+use Rattle.h3_rows.specs.Cells.{RefusesRows}
 use Rattle.h3_rows.specs.RowsAnswer.{Form}
 use Rattle.h3_command.specs.Run.{GivesRows}
 

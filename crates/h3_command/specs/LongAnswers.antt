@@ -10,7 +10,7 @@ use Rattle.h3_functions.specs.Hierarchy.{cell_to_children}
 use Rattle.h3_functions.specs.Inspection.{for_value}
 use Rattle.h3_functions.specs.Walks.{Walk, grid_disk_distances_unsafe, grid_disk_unsafe, grid_ring_unsafe}
 use Rattle.h3_requests.specs.declared.rows.RowOptions.{RowOptions}
-use Rattle.h3_command.specs.Given.{cell_given, index_given}
+use Rattle.h3_command.specs.Required.{cell_given, index_given}
 
 -- children_for res index: a line for each child of the cell at the resolution
 abbrev pub children_for : ℤ → Option ℕ → Answer

@@ -19,8 +19,8 @@ use Rattle.h3_lines.specs.EachLine.{EndsEach}
 use Rattle.h3_lines.specs.List.{listed_cells}
 use Rattle.h3_lines.specs.Reads.{IsListWithinReads, IsReadToEnd, IsWithinReads, NoReadFails, SourceUse, StopsWithin}
 use Rattle.h3_lines.specs.RunError.{ending_of}
-use Rattle.h3_rows.specs.EndsRows.{EndsRows}
-use Rattle.h3_rows.specs.RowCells.{AllRowsRead, RefusesRows}
+use Rattle.h3_rows.specs.Each.{EndsRows}
+use Rattle.h3_rows.specs.Cells.{AllRowsRead, RefusesRows}
 use Rattle.h3_rows.specs.RowsAnswer.{Form, begun_answer, rows_answer}
 use Rattle.h3_command.specs.Files.{file_cells}
 use Rattle.h3_command.specs.Answer.{Request, about_list, about_numbered_list, about_table, answer_to, reads_list_after, reads_table, takes_memory}

@@ -6,7 +6,7 @@ use Rattle.h3_table.specs.Links.{Links}
 use Rattle.h3_functions.specs.Edges.{get_directed_edge_destination}
 use Rattle.h3_functions.specs.Inspection.{for_value}
 use Rattle.h3_lines.specs.Answer.{Answer, cell_line, printed}
-use Rattle.h3_command.specs.Given.{edge_given}
+use Rattle.h3_command.specs.Required.{edge_given}
 
 -- the cell to which the edge with an index leads
 abbrev pub destination_of : Links → Option ℕ → Result Address H3Error

@@ -9,7 +9,7 @@ ghost use Rattle.h3_lines.specs.Reads.{source_use};
 ghost use Rattle.h3_lines.specs.Write.{Writes, sink_use};
 ghost use Rattle.h3_functions.specs.Hierarchy.{cell_to_children, child_pos_to_cell};
 ghost use Rattle.h3_functions.specs.Inspection.{for_value};
-ghost use Rattle.h3_command.specs.Given.{index_given};
+ghost use Rattle.h3_command.specs.Required.{index_given};
 ghost use Rattle.h3_command.specs.LongAnswers.{children_for};
 ghost use Rattle.h3_command.specs.Rows.{rows_form};
 ghost use Rattle.h3_command.specs.Run.{EndsLines};

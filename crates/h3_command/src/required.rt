@@ -1,7 +1,7 @@
 //! The indexes of words, `None` where a word parses as none.
 
 ghost use Rattle.std.specs.Prelude.{◌≡◌};
-ghost use Rattle.h3_command.specs.Given.{cell_given, edge_given, index_given};
+ghost use Rattle.h3_command.specs.Required.{cell_given, edge_given, index_given};
 
 use h3_functions::{cell_from, edge_from};
 use h3_index::{Cell, Edge, H3Error};

@@ -2,7 +2,7 @@
 
 ghost use Rattle.std.specs.Prelude.{◌≡◌};
 ghost use Rattle.std.specs.Iterator.{YieldsFirst};
-ghost use Rattle.h3_grid.specs.Edges.{edges_left};
+ghost use Rattle.h3_grid.specs.Iter.{edges_left};
 ghost use Rattle.h3_functions.specs.Edges.{edge_from, get_directed_edge_origin, is_valid_directed_edge, origin_to_directed_edges};
 ghost use Rattle.h3_functions.specs.Items.{Lists};
 

@@ -14,8 +14,7 @@ use Rattle.h3_table.specs.Links.{IsSound, Links}
 use Rattle.h3_grid.specs.Chart.{RingAgrees, RingsAgree, disk_states}
 use Rattle.h3_grid.specs.Laws.{IsState, WritesCells}
 use Rattle.h3_grid.specs.Moves.{moves, sides}
-use Rattle.h3_grid.specs.Search.{step_of}
-use Rattle.h3_grid.specs.Steps.{State, state}
+use Rattle.h3_grid.specs.Steps.{State, state, step_of}
 use Rattle.h3_grid.specs.Walks.{closed, disk, followed, or_refused, ring, ring_round, stepped}
 use Rattle.h3_grid.proofs.ChartLaws.{closes, outward}
 use Rattle.h3_grid.proofs.DiskChartLaws.{map-two, states_list, walk}

@@ -13,8 +13,7 @@ use Rattle.h3_table.specs.Lifted.{CornersLift, Reached, Reaches, ReversalsLift, 
 use Rattle.h3_table.specs.Links.{IsHexagonBase, IsSound, Links}
 use Rattle.h3_lattice.specs.Moved.{IsSum}
 use Rattle.h3_grid.specs.Laws.{IsState, OverSoundLinks, StepsCloseTriangles, StepsLeave, StepsDiffer, StepsReachStates, StepsReverse}
-use Rattle.h3_grid.specs.Search.{step_of}
-use Rattle.h3_grid.specs.Steps.{Leads, State, crossed, led_to, state}
+use Rattle.h3_grid.specs.Steps.{Leads, State, crossed, led_to, state, step_of}
 use Rattle.h3_grid.proofs.DiskLaws.{unit_moves}
 use Rattle.h3_grid.proofs.InsideLaws.{SumLaws, TurnLaws, crossed_is, digits_back, leads, sum_inside, turned_one}
 use Rattle.h3_grid.proofs.LinearLaws.{points}

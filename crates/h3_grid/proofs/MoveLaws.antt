@@ -7,8 +7,7 @@ use Rattle.h3_directions.specs.declared.direction.Direction.{Direction}
 use Rattle.h3_directions.specs.declared.direction.Direction.TheVariants.{I}
 use Rattle.h3_table.specs.Links.{Links}
 use Rattle.h3_grid.specs.Moves.{Move, moves, ring_moves, side_moves, sides, silent, write}
-use Rattle.h3_grid.specs.Search.{step_of}
-use Rattle.h3_grid.specs.Steps.{State}
+use Rattle.h3_grid.specs.Steps.{State, step_of}
 use Rattle.h3_grid.specs.Walks.{followed, noted}
 use Rattle.h3_grid.specs.Counters.{moves_left, side_before}
 

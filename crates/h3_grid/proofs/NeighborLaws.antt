@@ -15,8 +15,7 @@ use Rattle.h3_table.specs.Links.{IsSound, Links}
 use Rattle.h3_lattice.specs.Moved.{IsSum}
 use Rattle.h3_grid.specs.Laws.{IsState, OverSoundLinks, StepsLeave, StepsDiffer}
 use Rattle.h3_grid.specs.Neighbors.{AreNeighbors, BothOrdersAgree, DirectionsAreFound, DirectionsDiffer, NeighborsAreFound, NeighborsAreMutual, NeighborsDiffer, are_neighbors, direction_to, is_same, is_some_same, neighbor, neighbor_refusal, pair_refusal}
-use Rattle.h3_grid.specs.Search.{step_of}
-use Rattle.h3_grid.specs.Steps.{Leads, State, led_to, state}
+use Rattle.h3_grid.specs.Steps.{Leads, State, led_to, state, step_of}
 use Rattle.h3_grid.proofs.BackLaws.{crossed_over}
 use Rattle.h3_grid.proofs.InsideLaws.{SumLaws, crossed_is, leads}
 use Rattle.h3_grid.proofs.LatticeLaws.{StepLawsHold}

@@ -8,8 +8,7 @@ use Rattle.h3_directions.specs.declared.direction.Direction.{Direction}
 use Rattle.h3_directions.specs.declared.direction.Direction.TheVariants.{I}
 use Rattle.h3_table.specs.Links.{Links}
 use Rattle.h3_grid.specs.Moves.{sides}
-use Rattle.h3_grid.specs.Search.{step_of}
-use Rattle.h3_grid.specs.Steps.{State, state}
+use Rattle.h3_grid.specs.Steps.{State, state, step_of}
 use Rattle.h3_grid.specs.Walks.{closed, or_refused, ring, ring_round, stepped}
 use Rattle.h3_grid.proofs.MoveLaws.{sides_from}
 use Rattle.h3_grid.specs.Counters.{directions_left, side_before}

@@ -13,8 +13,7 @@ use Rattle.h3_directions.specs.Direction.{turned}
 use Rattle.h3_lattice.specs.Laws.{SumsExist, SumsAreUnique}
 use Rattle.h3_table.specs.Links.{Links}
 use Rattle.h3_lattice.specs.Moved.{IsSum}
-use Rattle.h3_grid.specs.Search.{StepsAreFound, candidates, digit_lists, found_sum, is_expansion, same_point, carried, step_of}
-use Rattle.h3_grid.specs.Steps.{IsStep, State, led_to}
+use Rattle.h3_grid.specs.Steps.{IsStep, State, StepsAreFound, candidates, carried, digit_lists, found_sum, is_expansion, led_to, same_point, step_of}
 use Rattle.h3_grid.proofs.ListLaws.{find_one, from_flat, from_map, in_flat, in_map}
 
 -- ---- all candidates

@@ -11,8 +11,7 @@ use Rattle.h3_table.specs.Links.{IsSound, Links}
 use Rattle.h3_grid.specs.Chart.{states_from}
 use Rattle.h3_grid.specs.Laws.{IsState, OverSoundLinks, StepsReachStates}
 use Rattle.h3_grid.specs.Moves.{Move, ring_moves, side_moves, silent, write}
-use Rattle.h3_grid.specs.Search.{step_of}
-use Rattle.h3_grid.specs.Steps.{State}
+use Rattle.h3_grid.specs.Steps.{State, step_of}
 use Rattle.h3_grid.specs.Walks.{followed}
 use Rattle.h3_grid.proofs.DiskLaws.{all_ok, began, went, states-nil}
 

@@ -10,8 +10,7 @@ use Rattle.h3_table.specs.Vectors.{test_link}
 use Rattle.h3_grid.specs.Chart.{HasStatesOf, IsChart, IsVisit, disk_states, states_from}
 use Rattle.h3_grid.specs.Laws.{WritesCells}
 use Rattle.h3_grid.specs.Moves.{moves, ring_moves, ring_places, spiral}
-use Rattle.h3_grid.specs.Search.{candidates, digit_lists, found_sum, step_of}
-use Rattle.h3_grid.specs.Steps.{State, state}
+use Rattle.h3_grid.specs.Steps.{State, candidates, digit_lists, found_sum, state, step_of}
 use Rattle.h3_grid.specs.Walks.{disk, followed}
 
 -- of this disk, which lies in nineteen base cells, no step is refused: so all that is said of such disks holds of it

@@ -8,8 +8,7 @@ use Rattle.h3_directions.specs.Direction.{opposite, turned, turned_once}
 use Rattle.h3_lattice.specs.Expansion.{place}
 use Rattle.h3_table.specs.Links.{IsHexagonBase, IsSound, Links}
 use Rattle.h3_grid.specs.Moves.{moves, spiral, sums_from}
-use Rattle.h3_grid.specs.Search.{step_of}
-use Rattle.h3_grid.specs.Steps.{State}
+use Rattle.h3_grid.specs.Steps.{State, step_of}
 use Rattle.h3_grid.specs.Walks.{disk}
 
 -- ---- steps

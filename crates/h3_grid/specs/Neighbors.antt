@@ -11,8 +11,7 @@ use Rattle.h3_index.specs.declared.error.H3Error.TheVariants.{Pentagon, ResMisma
 use Rattle.h3_directions.specs.declared.direction.Direction.{Direction}
 use Rattle.h3_directions.specs.Direction.{directions}
 use Rattle.h3_table.specs.Links.{Links}
-use Rattle.h3_grid.specs.Search.{step_of}
-use Rattle.h3_grid.specs.Steps.{state}
+use Rattle.h3_grid.specs.Steps.{state, step_of}
 
 -- neighbor link x d: the cell of the step of x, with rotation 0, in the direction d; none where the step is refused
 unfoldable pub neighbor : Links → Address → Direction → Option Address

@@ -8,8 +8,7 @@ use Rattle.h3_directions.specs.declared.direction.Direction.{Direction}
 use Rattle.h3_directions.specs.declared.direction.Direction.TheVariants.{I}
 use Rattle.h3_table.specs.Links.{Links}
 use Rattle.h3_grid.specs.Moves.{Move, moves, sides}
-use Rattle.h3_grid.specs.Search.{step_of}
-use Rattle.h3_grid.specs.Steps.{State, state}
+use Rattle.h3_grid.specs.Steps.{State, state, step_of}
 
 -- the rest of a walk from the state that a step leads to, or the error where the step is refused
 abbrev pub or_refused : {A : Type 0} → Option State → (State → List (Result A H3Error)) → List (Result A H3Error)

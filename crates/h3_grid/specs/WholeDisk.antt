@@ -3,7 +3,7 @@ use Rattle.std.specs.Prelude.{◌≡◌, ℕ, List, All}
 use Rattle.h3_index.specs.Cell.{Address}
 use Rattle.h3_table.specs.Links.{Links}
 use Rattle.h3_grid.specs.Chart.{HasStatesOf, IsChart, LeadsAlongPaths}
-use Rattle.h3_grid.specs.Distance.{HasDistances}
+use Rattle.h3_grid.specs.DiskDistances.{HasDistances}
 use Rattle.h3_grid.specs.Laws.{IsChartedInside}
 
 -- IsWholeDisk link c k cells: `IsChartedInside` where all cells are in one base cell, `HasStatesOf`, `IsChart`,

@@ -4,7 +4,7 @@ ghost use Rattle.std.specs.Prelude.{◌≡◌, IfOk, IfErr, MatchOption};
 ghost use Rattle.h3_index.specs.Cell.{Address};
 ghost use Rattle.h3_table.specs.BaseTable.{link_of};
 ghost use Rattle.h3_grid.specs.DirectedEdges.{IsDestination, IsEdgeBetween, ListsEdges, edge_between, edge_destination, edge_refusal, edges_from};
-ghost use Rattle.h3_grid.specs.Edges.{edges_left};
+ghost use Rattle.h3_grid.specs.Iter.{edges_left};
 ghost use Rattle.h3_grid.specs.Neighbors.{AreNeighbors, DirectionsAreFound, DirectionsDiffer};
 
 use crate::iter::Edges;

@@ -8,7 +8,7 @@ ghost use Rattle.h3_index.specs.Cell.{is_pentagon_base, resolution};
 ghost use Rattle.h3_table.specs.BaseTable.{link_of};
 ghost use Rattle.h3_grid.specs.Chart.{ChartsLeadAlongPaths, DisksAreCharts, OriginsAreAlone, RingsAgree, StatesAreWritten};
 ghost use Rattle.h3_grid.specs.Counters.{side_before};
-ghost use Rattle.h3_grid.specs.Distance.{RingsAreDistances, SpiralsHoldSums};
+ghost use Rattle.h3_grid.specs.DiskDistances.{RingsAreDistances, SpiralsHoldSums};
 ghost use Rattle.h3_grid.specs.Laws.{DisksHaveSizes, DisksInsideAreCharted, IfWritten, MovesFollowTheSpiral, SpiralsAreSimple, SpiralsHaveSizes};
 ghost use Rattle.h3_grid.specs.Refusals.{disk_refusal};
 ghost use Rattle.h3_grid.specs.Walks.{disk};

@@ -21,7 +21,7 @@ pub struct Edges {
 }
 
 impl Edges {
-    ghost use Rattle.h3_grid.specs.Edges.{edges_left};
+    ghost use Rattle.h3_grid.specs.Iter.{edges_left};
 
     /// The edges that leave a cell: six, or five without direction 1 (K) at a pentagon.
     pub(crate) fn from(origin: Cell) -> Edges
@@ -44,7 +44,7 @@ impl Edges {
 }
 
 impl Iterator for Edges {
-    ghost use Rattle.h3_grid.specs.Edges.{edges_left};
+    ghost use Rattle.h3_grid.specs.Iter.{edges_left};
 
     type Item = Edge;
 

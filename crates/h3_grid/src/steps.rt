@@ -6,8 +6,7 @@ ghost use Rattle.h3_directions.specs.Direction.{turned};
 ghost use Rattle.h3_index.specs.Cell.{is_pentagon_base, resolution, IsCell};
 ghost use Rattle.h3_table.specs.BaseTable.{link_of};
 ghost use Rattle.h3_grid.specs.Laws.{OverSoundLinks, StepsCloseTriangles, StepsDiffer, StepsLeave, StepsReachStates, StepsReverse};
-ghost use Rattle.h3_grid.specs.Search.{step_of, StepsAreFound};
-ghost use Rattle.h3_grid.specs.Steps.{state, IsStep};
+ghost use Rattle.h3_grid.specs.Steps.{IsStep, StepsAreFound, state, step_of};
 
 use h3_directions::Direction;
 use h3_index::{Cell, H3Error, is_pentagon_base};

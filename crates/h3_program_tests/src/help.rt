@@ -331,7 +331,7 @@ static LIST_USAGES: [(&str, &str); 27] = [
 ];
 
 /// Lines that ask for help of a command that reads rows, and what it says of them.
-static ROWS_HELP: [(&str, &str); 19] = [
+static ROWS_HELP: [(&str, &str); 24] = [
     ("h3 cellsToParents --help", "\nRows:\n"),
     ("h3 cellsToParents --help", "--field <number>"),
     ("h3 cellsToParents --help", "--column <column>"),
@@ -342,7 +342,28 @@ static ROWS_HELP: [(&str, &str); 19] = [
     ("h3 cellsToParents --help", "--keep-going "),
     (
         "h3 cellsToParents --help",
-        "\nOf a CSV file: h3 cellsToParents -r 4 --csv --column cell < trips.csv\n",
+        "\nOf a CSV file, each row with its answer at the end:\n\
+        h3 cellsToParents -r 4 --csv --column cell < trips.csv\n",
+    ),
+    (
+        "h3 areValidDirectedEdges --help",
+        "\nh3 areValidDirectedEdges --csv --column edge < trips.csv\n",
+    ),
+    (
+        "h3 cellsToZones --help",
+        "\nOf a CSV file, each row with its zone at the end:\n",
+    ),
+    (
+        "h3 originsToDirectedEdges --help",
+        "\nOf a CSV file, each row once for each answer, which is at the end:\n",
+    ),
+    (
+        "h3 uniteCells --help",
+        "\nOf a CSV file, whose cells are the list:\nh3 uniteCells --csv ",
+    ),
+    (
+        "h3 gridDisksUnsafe --help",
+        "\nThe table cannot be the pipe of the list.\n",
     ),
     ("h3 getResolutions --help", "\nRows:\n"),
     ("h3 areCoveredCells --help", "--keep-going "),

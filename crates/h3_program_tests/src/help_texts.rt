@@ -387,7 +387,7 @@ static OPTION_TEXTS: [(&str, &str, &str); 22] = [
     (
         "h3 gridRingUnsafe -h",
         "--table <table>",
-        "The file of the table of base cells",
+        "The base cell table: a file that h3-table makes",
     ),
     (
         "h3 areNeighborCells -h",
@@ -397,7 +397,7 @@ static OPTION_TEXTS: [(&str, &str, &str); 22] = [
     (
         "h3 cellsToDirectedEdge -h",
         "--table <table>",
-        "The file of the table of base cells",
+        "The base cell table: a file that h3-table makes",
     ),
     (
         "h3 isValidDirectedEdge -h",

@@ -9,7 +9,7 @@ use Rattle.h3_lines.specs.declared.run_error.Fault.TheVariants.{Memory, Read, Wr
 use Rattle.h3_lines.specs.declared.run_error.RunError.{RunError}
 use Rattle.h3_lines.specs.declared.run_error.RunError.TheVariants.{Error, Fault}
 use Rattle.h3_rows.specs.Answering.{Answered, EndsBy, RefusesEach}
-use Rattle.h3_rows.specs.EndsRows.{AnswersAll, AnswersBeforeFault, EndsRows, StopsInPage}
+use Rattle.h3_rows.specs.Each.{AnswersAll, AnswersBeforeFault, EndsRows, StopsInPage}
 use Rattle.h3_rows.specs.Row.{Piece}
 use Rattle.h3_rows.specs.RowsAnswer.{State}
 use Rattle.h3_rows.specs.Splitting.{StopsReading, StopsTaking, TakesAll}

@@ -9,8 +9,8 @@ use Rattle.h3_lines.specs.declared.run_error.Fault.TheVariants.{Memory, Read, Wr
 use Rattle.h3_lines.specs.declared.run_error.RunError.{RunError}
 use Rattle.h3_lines.specs.declared.run_error.RunError.TheVariants.{Error, Fault}
 use Rattle.h3_rows.specs.Row.{Piece, rows_of}
-use Rattle.h3_rows.specs.RowCells.{AllRowsRead, RefusesRows, RowsReadTo, begun_cells, cells_before, cells_end, cells_of, cells_then}
-use Rattle.h3_rows.specs.RowCellsLaws.{HaveCells, RefusesCells}
+use Rattle.h3_rows.specs.Cells.{AllRowsRead, RefusesRows, RowsReadTo, begun_cells, cells_before, cells_end, cells_of, cells_then}
+use Rattle.h3_rows.specs.CellsLaws.{HaveCells, RefusesCells}
 use Rattle.h3_rows.specs.RowsAnswer.{Form, before_first}
 use Rattle.h3_rows.specs.Splitting.{StopsReading, StopsTaking, TakesAll}
 use Rattle.h3_rows.proofs.Pages.{some_held}

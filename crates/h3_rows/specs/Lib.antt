@@ -1,13 +1,13 @@
 pub mod Answering
+pub mod Cells
+pub mod CellsLaws
+pub mod Each
 pub mod EachLaws
-pub mod EndsRows
 pub mod Examples
 pub mod Lanes
 pub mod Laws
 pub mod Plain
 pub mod Row
-pub mod RowCells
-pub mod RowCellsLaws
 pub mod RowForm
 pub mod RowsAnswer
 pub mod Splitting

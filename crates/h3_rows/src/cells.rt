@@ -4,8 +4,8 @@ ghost use Rattle.std.proofs.Common.{◌∙◌, refl};
 ghost use Rattle.std.specs.Prelude.{◌≡◌, ◌+◌, ◌*◌, ◌<◌, ◌≤◌, ◌++◌, ◌∷◌, ◌^◌, ⊤, ℕ, List, [], length, Ok, Err, IfOk, IfErr, OnOk};
 ghost use Rattle.h3_index.specs.Cell.{Address};
 ghost use Rattle.h3_rows.specs.Row.{next_number};
-ghost use Rattle.h3_rows.specs.RowCells.{AllRowsRead, RefusesRows, cell_list, cell_said, cells_end, row_found};
-ghost use Rattle.h3_rows.specs.RowCellsLaws.{HaveCells, RefusesCells, have_none, have_then, refuses_after};
+ghost use Rattle.h3_rows.specs.Cells.{AllRowsRead, RefusesRows, cell_list, cell_said, cells_end, row_found};
+ghost use Rattle.h3_rows.specs.CellsLaws.{HaveCells, RefusesCells, have_none, have_then, refuses_after};
 ghost use Rattle.h3_rows.specs.RowForm.{form_of};
 ghost use Rattle.h3_rows.specs.RowsAnswer.{choice_of, row_said};
 

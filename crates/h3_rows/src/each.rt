@@ -10,7 +10,7 @@ ghost use Rattle.h3_lines.specs.declared.run_error.RunError.{RunError};
 ghost use Rattle.h3_lines.specs.Answering.{Breaks, Moves};
 ghost use Rattle.h3_rows.specs.Answering.{Answered, BreaksCell, EndsBy, PutsCell, PutsPlain, RefusesEach, StepEnds, StepsTo, held_of, state_of};
 ghost use Rattle.h3_rows.specs.EachLaws.{answered_none, answered_then, refuses_then};
-ghost use Rattle.h3_rows.specs.EndsRows.{EndsRows};
+ghost use Rattle.h3_rows.specs.Each.{EndsRows};
 ghost use Rattle.h3_rows.specs.Row.{read_of, row_body};
 ghost use Rattle.h3_rows.specs.RowForm.{columns_form, form_of};
 ghost use Rattle.h3_rows.specs.RowsAnswer.{State, answer_said, begun_answer, choice_of, chosen_in, empty_answer, empty_step, end_of, faulty, goes_on, header_step, pair_names, row_said, row_step, row_with, rows_answer, rows_then, start};

@@ -5,7 +5,7 @@ ghost use Rattle.std.specs.Iterator.{AlwaysYields, IsFinite};
 ghost use Rattle.std.specs.List.{flat_map};
 ghost use Rattle.h3_lines.specs.Answering.{Breaks, Moves};
 ghost use Rattle.h3_lines.specs.Write.{sink_use};
-ghost use Rattle.h3_rows.specs.EndsRows.{EndsRows};
+ghost use Rattle.h3_rows.specs.Each.{EndsRows};
 ghost use Rattle.h3_rows.specs.RowForm.{columns_form};
 ghost use Rattle.h3_rows.specs.RowsAnswer.{begun_answer, rows_answer, rows_with};
 

@@ -216,7 +216,7 @@ impl CommandOption {
                 None,
                 Some("table"),
                 None,
-                "The file of the table of base cells"
+                "The base cell table: a file that h3-table makes"
             ),
             Region => required!(
                 "region",

@@ -51,62 +51,97 @@ macro_rules! with_line_options {
 // What the notes of several commands share, with the example of each: a macro, since `concat!`
 // takes literals alone. What is said before the errors comes first.
 macro_rules! notes {
-    (index $($first:literal)*, $example:literal) => {
-        notes!(errors $($first)*; "1 not an index, ", $example)
+    (index $($first:literal)*, $($example:literal)+) => {
+        notes!(errors $($first)*; "1 not an index, ", $($example)+)
     };
-    (cell $($first:literal)*, $example:literal) => {
-        notes!(errors $($first)*; "1 not an index, 5 not a valid cell, ", $example)
+    (cell $($first:literal)*, $($example:literal)+) => {
+        notes!(errors $($first)*; "1 not an index, 5 not a valid cell, ", $($example)+)
     };
-    (edge $($first:literal)*, $example:literal) => {
-        notes!(errors $($first)*; "1 not an index, 6 not a valid edge, ", $example)
+    (edge $($first:literal)*, $($example:literal)+) => {
+        notes!(errors $($first)*; "1 not an index, 6 not a valid edge, ", $($example)+)
     };
     (resolution, $example:literal) => {
         notes!(errors; "4 not a resolution, ", $example)
     };
-    (ancestor $($first:literal)*, $example:literal) => {
+    (ancestor $($first:literal)*, $($example:literal)+) => {
         notes!(
             errors $($first)*;
             "1 not an index, 5 not a valid cell, 4 not a resolution,\n\
             12 a resolution finer than the cell's, ",
-            $example
+            $($example)+
         )
     };
-    (descendants $($first:literal)*, $example:literal) => {
+    (descendants $($first:literal)*, $($example:literal)+) => {
         notes!(
             errors $($first)*;
             "1 not an index, 5 not a valid cell,\n\
             4 not a resolution from the cell's to 15, ",
-            $example
+            $($example)+
         )
     };
-    (below $($first:literal)?, $example:literal) => {
+    (below $($first:literal)*, $($example:literal)+) => {
         notes!(
-            errors $($first)?;
+            errors $($first)*;
             "1 not an index, 5 not a valid cell, 4 not a resolution,\n\
             12 a resolution coarser than a cell's, ",
-            $example
+            $($example)+
         )
     };
-    (list $errors:ident, $example:literal) => {
+    (overlapping $($first:literal)*, $($example:literal)+) => {
         notes!(
-            $errors "The first error is reported with its line, as line 2: error 1: E_FAILED.\n",
-            $example
+            errors $($first)*;
+            "1 not an index, 5 not a valid cell, 10 overlapping cells,\n",
+            $($example)+
         )
     };
-    (overlaps, $example:literal) => {
-        notes!(region "The cells of either may repeat and overlap.\n", $example)
-    };
-    (region $first:literal, $example:literal) => {
-        notes!(file $first, "region", "", "\n" " ", "", $example)
-    };
-    (zones $($first:literal)?, $example:literal) => {
+    // Of a command that answers its list line by line, with one line or with any number of them: its
+    // errors, the command with its options, and what a line of the list has.
+    (each $errors:ident, $command:literal, $item:literal) => {
         notes!(
-            file $($first)? "The zone of a cell is the one that is the cell or its ancestor.\n",
+            rows $errors "The first error is reported with its line, as line 2: error 1: E_FAILED.\n",
+            "each row with its answer at the end",
+            $command,
+            $item
+        )
+    };
+    (several $errors:ident, $command:literal, $item:literal) => {
+        notes!(
+            rows $errors "The first error is reported with its line, as line 2: error 1: E_FAILED.\n",
+            "each row once for each answer, which is at the end",
+            $command,
+            $item
+        )
+    };
+    // Of one that answers about its list as a whole.
+    (whole $errors:ident $($first:literal)*, $command:literal) => {
+        notes!(rows $errors $($first)*, "whose cells are the list", $command, "cell")
+    };
+    (
+        rows $errors:ident $($first:literal)*,
+        $printed:literal,
+        $command:literal,
+        $item:literal
+    ) => {
+        notes!(
+            $errors $($first)*,
+            $command " < " $item "s\nOf a CSV file, " $printed ":\n"
+            $command " --csv --column " $item " < trips.csv"
+        )
+    };
+    (overlaps $($first:literal)*, $($example:literal)+) => {
+        notes!(region $($first)* "The cells of either may repeat and overlap.\n", $($example)+)
+    };
+    (region $($first:literal)+, $($example:literal)+) => {
+        notes!(file $($first)+, "region", "", "\n" " ", "", $($example)+)
+    };
+    (zones $($first:literal)*, $($example:literal)+) => {
+        notes!(
+            file $($first)* "The zone of a cell is the one that is the cell or its ancestor.\n",
             "zones",
             ", overlapping\nzones as zones: error 10: E_DUPLICATE_INPUT",
             " " "\n",
             "10 overlapping zones,\n",
-            $example
+            $($example)+
         )
     };
     // The line ends before "be opened is" or after it.
@@ -116,30 +151,34 @@ macro_rules! notes {
         $overlap:literal,
         $before:literal $after:literal,
         $errors:literal,
-        $example:literal
+        $($example:literal)+
     ) => {
         notes!(
             errors $($first)+
             "The first error is reported with its line, as line 2: error 5: E_CELL_INVALID,\n\
             one in the file as " $kind ": line 2: error 5: E_CELL_INVALID" $overlap
             ". A file that cannot" $before "be opened is" $after $kind
-            ": open, status 3; a read that fails is fault: read, status 4.\n";
+            ": open, status 3; a read that fails is fault: read, status 4.\n\
+            A - means a file of that name. The file cannot be the pipe of the list.\n";
             "1 not an index, 5 not a valid cell, " $errors,
-            $example
+            $($example)+
         )
     };
-    (radius $($first:literal)*, $example:literal) => {
-        notes!(table $($first)*; "1 not an index, 5 not a valid cell,\n", " ", $example)
+    (radius $($first:literal)*, $($example:literal)+) => {
+        notes!(table $($first)*; "1 not an index, 5 not a valid cell,\n", " ", $($example)+)
     };
-    (walks, $example:literal) => {
+    (walks $($first:literal)*, $($example:literal)+) => {
         notes!(
-            radius "The first error is reported with its line, as line 2: error 1: E_FAILED.\n"
-            "A walk that meets an error prints none of its cells.\n",
-            $example
+            radius $($first)* "A walk that meets an error prints none of its cells.\n\
+            The table cannot be the pipe of the list.\n",
+            $($example)+
         )
     };
-    (destination $($first:literal)?, $example:literal) => {
-        notes!(table $($first)?; "1 not an index, 6 not a valid edge,\n", " ", $example)
+    (destination $($first:literal)*, $($example:literal)+) => {
+        notes!(table $($first)*; "1 not an index, 6 not a valid edge,\n", " ", $($example)+)
+    };
+    (destinations $($first:literal)*, $($example:literal)+) => {
+        notes!(destination $($first)* "The table cannot be the pipe of the list.\n", $($example)+)
     };
     (neighbors $errors:literal, $end:literal, $example:literal) => {
         notes!(
@@ -149,11 +188,13 @@ macro_rules! notes {
             $example
         )
     };
-    (table $($first:literal)*; $($errors:literal)+, $end:literal, $example:literal) => {
+    (table $($first:literal)*; $($errors:literal)+, $end:literal, $($example:literal)+) => {
         notes!(
-            errors $($first)*;
+            errors $($first)*
+            "A refused table has status 3: table: form 1 if the file is not a table, and\n\
+            table: open if it cannot be opened. A - means a file of that name.\n";
             $($errors)+ "9 a step that starts or ends in a pentagon base cell," $end,
-            $example "\nTo make a table from H3's source: h3-table baseCells.c -o h3.csv"
+            $($example)+ "\nTo make a table from H3's source: h3-table baseCells.c -o h3.csv"
         )
     };
     (errors $($first:literal)*; $($errors:literal)+, $($example:literal)+) => {
@@ -473,68 +514,78 @@ impl CommandName {
             CommandName::CompactCells => HelpTexts {
                 about: "Compact the list of cells on standard input, of any resolutions; overlapping cells are error 10",
                 notes: notes!(
-                    errors "A complete set of siblings becomes its parent. If cells overlap: uniteCells.\n"
-                    "With --field 1, an error is reported with its line.\n";
-                    "1 not an index, 5 not a valid cell, 10 overlapping cells,\n",
-                    "h3 compactCells < cells"
+                    whole overlapping
+                    "A complete set of siblings becomes its parent. If cells overlap: uniteCells.\n"
+                    "With --field 1, an error is reported with its line.\n",
+                    "h3 compactCells"
                 ),
                 usage: Some("h3 compactCells < cells"),
             },
             CommandName::UncompactCells => HelpTexts {
                 about: "The descendants at a resolution of each cell listed on standard input",
                 notes: notes!(
-                    below "With --field 1, an error is reported with its line.\n",
-                    "h3 uncompactCells -r 6 < cells"
+                    whole below "With --field 1, an error is reported with its line.\n",
+                    "h3 uncompactCells -r 6"
                 ),
                 usage: Some("h3 uncompactCells --resolution <resolution> < cells"),
             },
             CommandName::UncompactCellsSize => HelpTexts {
                 about: "How many cells uncompactCells prints for the cells listed on standard input",
                 notes: notes!(
-                    below "Cells that repeat or overlap count again. The first faulty line is reported\n\
+                    whole below
+                    "Cells that repeat or overlap count again. The first faulty line is reported\n\
                     with its number, as line 2: error 5: E_CELL_INVALID.\n",
-                    "h3 uncompactCellsSize -r 6 < cells"
+                    "h3 uncompactCellsSize -r 6"
                 ),
                 usage: Some("h3 uncompactCellsSize --resolution <resolution> < cells"),
             },
             CommandName::UniteCells => HelpTexts {
                 about: "Union of the cells on standard input, compacted; they may repeat and overlap",
-                notes: notes!(list cell, "h3 uniteCells < cells"),
+                notes: notes!(
+                    whole cell
+                    "The first error is reported with its line, as line 2: error 1: E_FAILED.\n",
+                    "h3 uniteCells"
+                ),
                 usage: Some("h3 uniteCells < cells"),
             },
             CommandName::IntersectCells => HelpTexts {
                 about: "Intersection of the cells on standard input and a region, compacted",
-                notes: notes!(overlaps, "h3 intersectCells --region region < cells"),
+                notes: notes!(whole overlaps, "h3 intersectCells --region region"),
                 usage: Some("h3 intersectCells --region <region> < cells"),
             },
             CommandName::SubtractCells => HelpTexts {
                 about: "The cells on standard input minus a region, compacted",
-                notes: notes!(overlaps, "h3 subtractCells --region region < cells"),
+                notes: notes!(whole overlaps, "h3 subtractCells --region region"),
                 usage: Some("h3 subtractCells --region <region> < cells"),
             },
             CommandName::AreCoveredCells => HelpTexts {
                 about: "Whether a region covers each cell listed on standard input",
                 notes: notes!(
-                    region "A region covers its cells and their descendants; its cells may overlap.\n",
-                    "h3 areCoveredCells --region region < cells"
+                    rows region
+                    "A region covers its cells and their descendants; its cells may overlap.\n",
+                    "each row with its answer at the end",
+                    "h3 areCoveredCells --region region",
+                    "cell"
                 ),
                 usage: Some("h3 areCoveredCells --region <region> < cells"),
             },
             CommandName::CellsToZones => HelpTexts {
                 about: "The zone of each cell listed on standard input, or 0 if it has none",
                 notes: notes!(
-                    zones,
-                    "h3 cellsToZones --zones zones < cells\n\
-                    Of a CSV file: h3 cellsToZones --zones zones --csv --column cell < trips.csv"
+                    rows zones,
+                    "each row with its zone at the end",
+                    "h3 cellsToZones --zones zones",
+                    "cell"
                 ),
                 usage: Some("h3 cellsToZones --zones <zones> < cells"),
             },
             CommandName::CountCellsInZones => HelpTexts {
                 about: "Count the cells on standard input in each zone, and those in none",
                 notes: notes!(
-                    zones "Each line has a zone and its count; the last one has 0 and the count of cells\n\
+                    whole zones
+                    "Each line has a zone and its count; the last one has 0 and the count of cells\n\
                     in no zone. ",
-                    "h3 countCellsInZones --zones zones < cells"
+                    "h3 countCellsInZones --zones zones"
                 ),
                 usage: Some("h3 countCellsInZones --zones <zones> < cells"),
             },
@@ -605,123 +656,100 @@ impl CommandName {
             },
             CommandName::AreValidCells => HelpTexts {
                 about: "Whether each index listed on standard input is a valid cell",
-                notes: notes!(list index, "h3 areValidCells < cells"),
+                notes: notes!(each index, "h3 areValidCells", "cell"),
                 usage: Some("h3 areValidCells < cells"),
             },
             CommandName::AreValidDirectedEdges => HelpTexts {
                 about: "Whether each index listed on standard input is a valid directed edge",
-                notes: notes!(list index, "h3 areValidDirectedEdges < edges"),
+                notes: notes!(each index, "h3 areValidDirectedEdges", "edge"),
                 usage: Some("h3 areValidDirectedEdges < edges"),
             },
             CommandName::GetResolutions => HelpTexts {
                 about: "The resolution of each cell listed on standard input",
-                notes: notes!(list cell, "h3 getResolutions < cells"),
+                notes: notes!(each cell, "h3 getResolutions", "cell"),
                 usage: Some("h3 getResolutions < cells"),
             },
             CommandName::GetBaseCellNumbers => HelpTexts {
                 about: "The base cell of each cell listed on standard input",
-                notes: notes!(list cell, "h3 getBaseCellNumbers < cells"),
+                notes: notes!(each cell, "h3 getBaseCellNumbers", "cell"),
                 usage: Some("h3 getBaseCellNumbers < cells"),
             },
             CommandName::ArePentagons => HelpTexts {
                 about: "Whether each cell listed on standard input is a pentagon",
-                notes: notes!(list cell, "h3 arePentagons < cells"),
+                notes: notes!(each cell, "h3 arePentagons", "cell"),
                 usage: Some("h3 arePentagons < cells"),
             },
             CommandName::AreResClassIII => HelpTexts {
                 about: "Whether the resolution of each cell listed on standard input is Class III",
-                notes: notes!(list cell, "h3 areResClassIII < cells"),
+                notes: notes!(each cell, "h3 areResClassIII", "cell"),
                 usage: Some("h3 areResClassIII < cells"),
             },
             CommandName::CellsToParents => HelpTexts {
                 about: "The ancestor at a resolution of each cell listed on standard input",
                 notes: notes!(
-                    list ancestor,
-                    "h3 cellsToParents -r 4 < cells\n\
-                    Of a CSV file: h3 cellsToParents -r 4 --csv --column cell < trips.csv"
+                    each ancestor,
+                    "h3 cellsToParents -r 4",
+                    "cell"
                 ),
                 usage: Some("h3 cellsToParents --resolution <resolution> < cells"),
             },
             CommandName::CellsToCenterChildren => HelpTexts {
                 about: "The center descendant at a resolution of each cell listed on standard input",
-                notes: notes!(
-                    list descendants,
-                    "h3 cellsToCenterChildren -r 6 < cells"
-                ),
+                notes: notes!(each descendants, "h3 cellsToCenterChildren -r 6", "cell"),
                 usage: Some("h3 cellsToCenterChildren --resolution <resolution> < cells"),
             },
             CommandName::CellsToLastChildren => HelpTexts {
                 about: "The last descendant at a resolution of each cell listed on standard input",
-                notes: notes!(
-                    list descendants,
-                    "h3 cellsToLastChildren -r 6 < cells"
-                ),
+                notes: notes!(each descendants, "h3 cellsToLastChildren -r 6", "cell"),
                 usage: Some("h3 cellsToLastChildren --resolution <resolution> < cells"),
             },
             CommandName::CellsToChildren => HelpTexts {
                 about: "The descendants at a resolution of each cell listed on standard input, ascending",
-                notes: notes!(
-                    list descendants,
-                    "h3 cellsToChildren -r 6 < cells"
-                ),
+                notes: notes!(several descendants, "h3 cellsToChildren -r 6", "cell"),
                 usage: Some("h3 cellsToChildren --resolution <resolution> < cells"),
             },
             CommandName::CellsToChildrenSizes => HelpTexts {
                 about: "How many descendants at a resolution each cell listed on standard input has",
-                notes: notes!(
-                    list descendants,
-                    "h3 cellsToChildrenSizes -r 6 < cells"
-                ),
+                notes: notes!(each descendants, "h3 cellsToChildrenSizes -r 6", "cell"),
                 usage: Some("h3 cellsToChildrenSizes --resolution <resolution> < cells"),
             },
             CommandName::CellsToChildPositions => HelpTexts {
                 about: "The position of each cell listed on standard input among the descendants of its ancestor at a resolution",
-                notes: notes!(
-                    list ancestor,
-                    "h3 cellsToChildPositions -r 4 < cells"
-                ),
+                notes: notes!(each ancestor, "h3 cellsToChildPositions -r 4", "cell"),
                 usage: Some("h3 cellsToChildPositions --resolution <resolution> < cells"),
             },
             CommandName::GridDisksUnsafe => HelpTexts {
                 about: "The cells within a radius of each cell listed on standard input, ring by ring",
-                notes: notes!(walks, "h3 gridDisksUnsafe -k 1 --table h3.csv < cells"),
+                notes: notes!(several walks, "h3 gridDisksUnsafe -k 1 --table h3.csv", "cell"),
                 usage: Some("h3 gridDisksUnsafe -k <k> --table <table> < cells"),
             },
             CommandName::GridDisksDistancesUnsafe => HelpTexts {
                 about: "The cells within a radius of each cell on standard input, each with its ring",
-                notes: notes!(
-                    walks,
-                    "h3 gridDisksDistancesUnsafe -k 1 --table h3.csv < cells"
-                ),
+                notes: notes!(several walks, "h3 gridDisksDistancesUnsafe -k 1 --table h3.csv", "cell"),
                 usage: Some("h3 gridDisksDistancesUnsafe -k <k> --table <table> < cells"),
             },
             CommandName::GridRingsUnsafe => HelpTexts {
                 about: "The cells of the ring of a radius around each cell listed on standard input",
-                notes: notes!(walks, "h3 gridRingsUnsafe -k 1 --table h3.csv < cells"),
+                notes: notes!(several walks, "h3 gridRingsUnsafe -k 1 --table h3.csv", "cell"),
                 usage: Some("h3 gridRingsUnsafe -k <k> --table <table> < cells"),
             },
             CommandName::GetDirectedEdgeOrigins => HelpTexts {
                 about: "The cell that each directed edge listed on standard input leaves",
-                notes: notes!(
-                    list edge,
-                    "h3 getDirectedEdgeOrigins < edges"
-                ),
+                notes: notes!(each edge, "h3 getDirectedEdgeOrigins", "edge"),
                 usage: Some("h3 getDirectedEdgeOrigins < edges"),
             },
             CommandName::GetDirectedEdgeDestinations => HelpTexts {
                 about: "The cell that each directed edge listed on standard input leads to",
                 notes: notes!(
-                    list destination,
-                    "h3 getDirectedEdgeDestinations --table h3.csv < edges"
+                    each destinations,
+                    "h3 getDirectedEdgeDestinations --table h3.csv",
+                    "edge"
                 ),
                 usage: Some("h3 getDirectedEdgeDestinations --table <table> < edges"),
             },
             CommandName::OriginsToDirectedEdges => HelpTexts {
                 about: "The directed edges that leave each cell listed on standard input",
-                notes: notes!(
-                    list cell,
-                    "h3 originsToDirectedEdges < cells"
-                ),
+                notes: notes!(several cell, "h3 originsToDirectedEdges", "cell"),
                 usage: Some("h3 originsToDirectedEdges < cells"),
             },
         }

@@ -5,7 +5,7 @@ use Rattle.std.proofs.lemmas.Result.{err_from_is_err_and}
 use Rattle.h3_index.specs.Cell.{resolution}
 use Rattle.h3_tree.specs.Refusals.{descent_refusal}
 use Rattle.h3_lines.specs.Answer.{cell_lines, written}
-use Rattle.h3_command.specs.Given.{cell_given}
+use Rattle.h3_command.specs.Required.{cell_given}
 use Rattle.h3_command.proofs.SiblingGroups.{no_cell, of_cell}
 use Rattle.h3_command.proofs.Written.{answered_refused, answered_unless}
 use Rattle.h3_command.proofs.children.cell_to_children.Goals as goal

@@ -1,6 +1,6 @@
 use Rattle.std.proofs.Common.{◌+◌, ◌≤◌, arith, ap, length}
 use Rattle.std.specs.Iterator.{Yields, YieldsFirst}
-use Rattle.h3_grid.specs.Edges.{edges_left}
+use Rattle.h3_grid.specs.Iter.{edges_left}
 use Rattle.h3_lines.specs.Answer.{edge_lines, printed}
 use Rattle.h3_command.proofs.EdgeLines.{all_edges, at_most_six}
 use Rattle.h3_command.proofs.per_index.put_edges.Goals as goal

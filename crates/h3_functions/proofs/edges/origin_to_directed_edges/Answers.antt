@@ -1,6 +1,6 @@
 use Rattle.std.proofs.lemmas.Iterator.Consumers.{YieldsList-from_first}
 use Rattle.h3_grid.specs.DirectedEdges.{edges_from}
-use Rattle.h3_grid.specs.Edges.{edges_left}
+use Rattle.h3_grid.specs.Iter.{edges_left}
 use Rattle.h3_functions.proofs.edges.origin_to_directed_edges.Goals as goal
 
 pub returns : goal.returns

@@ -3,7 +3,7 @@ use Rattle.std.proofs.lemmas.Result.{err_from_is_err_and}
 use Rattle.h3_streams.specs.Counted.{source_of}
 use Rattle.h3_lines.specs.Write.{sink_use}
 use Rattle.h3_rows.specs.Answering.{held_of, state_of}
-use Rattle.h3_rows.specs.EndsRows.{EndsRows}
+use Rattle.h3_rows.specs.Each.{EndsRows}
 use Rattle.h3_rows.specs.RowForm.{columns_form}
 use Rattle.h3_rows.specs.RowsAnswer.{end_of, rows_then, start}
 use Rattle.h3_rows.proofs.EndsRows.{ends_at, ends_early, ends_late, nothing_last}

@@ -9,7 +9,7 @@ use Rattle.h3_tree.specs.Refusals.{descent_refusal}
 use Rattle.h3_lines.specs.Answer.{cell_lines, printed, written}
 use Rattle.h3_functions.specs.Hierarchy.{cell_to_children}
 use Rattle.h3_functions.specs.Inspection.{for_value}
-use Rattle.h3_command.specs.Given.{cell_given, index_given}
+use Rattle.h3_command.specs.Required.{cell_given, index_given}
 use Rattle.h3_command.specs.Long.{child_lines_left, items_below}
 use Rattle.h3_command.proofs.SiblingGroups.{item_lines, of_cell}
 use Rattle.h3_command.proofs.WholeWalks.{unless_fits}

@@ -7,7 +7,7 @@ use Rattle.h3_grid.specs.Disks.{disk_left}
 use Rattle.h3_table.specs.BaseTable.{link_of}
 use Rattle.h3_lines.specs.Answer.{ring_line_by, whole_items, written}
 use Rattle.h3_functions.specs.Walks.{grid_disk_distances_unsafe}
-use Rattle.h3_command.specs.Given.{cell_given}
+use Rattle.h3_command.specs.Required.{cell_given}
 use Rattle.h3_command.specs.LongAnswers.{whole_walk}
 use Rattle.h3_command.specs.Long.{distance_lines_left, good, ring_cell}
 use Rattle.h3_command.proofs.WholeWalks.{good_items, printed_items}

@@ -8,7 +8,7 @@ use Rattle.h3_grid.specs.Walks.{disk}
 use Rattle.h3_table.specs.BaseTable.{link_of}
 use Rattle.h3_lines.specs.Answer.{cell_lines, whole_items}
 use Rattle.h3_functions.specs.Walks.{grid_disk_distances_unsafe, grid_disk_unsafe}
-use Rattle.h3_command.specs.Given.{cell_given}
+use Rattle.h3_command.specs.Required.{cell_given}
 use Rattle.h3_command.specs.LongAnswers.{whole_walk}
 use Rattle.h3_command.specs.Long.{disk_lines_left, good}
 use Rattle.h3_command.proofs.WholeWalks.{dropped_good, dropped_refused, printed_items, printed_refused}

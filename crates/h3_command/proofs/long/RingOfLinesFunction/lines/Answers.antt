@@ -5,7 +5,7 @@ use Rattle.h3_grid.specs.Rings.{ring_left}
 use Rattle.h3_table.specs.BaseTable.{link_of}
 use Rattle.h3_lines.specs.Answer.{cell_lines, whole_items}
 use Rattle.h3_functions.specs.Walks.{grid_ring_unsafe}
-use Rattle.h3_command.specs.Given.{cell_given}
+use Rattle.h3_command.specs.Required.{cell_given}
 use Rattle.h3_command.specs.LongAnswers.{whole_walk}
 use Rattle.h3_command.specs.Long.{good, ring_lines_left}
 use Rattle.h3_command.proofs.WholeWalks.{good_items, printed_items}

@@ -1,5 +1,5 @@
 use Rattle.std.proofs.Common.{sym, ◌∙◌}
-use Rattle.h3_grid.specs.Edges.{edges_left}
+use Rattle.h3_grid.specs.Iter.{edges_left}
 use Rattle.h3_grid.proofs.DirectedEdgeLaws.{from_one, from_two, listed}
 use Rattle.h3_grid.proofs.iter.Edges.from.Goals as goal
 

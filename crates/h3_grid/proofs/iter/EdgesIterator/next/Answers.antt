@@ -1,6 +1,6 @@
 use Rattle.std.proofs.Common.{subst}
 use Rattle.h3_index.specs.Edge.{IsEdge}
-use Rattle.h3_grid.specs.Edges.{edges_left}
+use Rattle.h3_grid.specs.Iter.{edges_left}
 use Rattle.h3_grid.proofs.DirectedEdgeLaws.{ended, next_edge, past_end}
 use Rattle.h3_grid.proofs.ListLaws.{progresses}
 use Rattle.h3_grid.proofs.iter.EdgesIterator.next.Goals as goal

@@ -7,7 +7,7 @@ use Rattle.h3_lines.specs.declared.run_error.Fault.TheVariants.{Memory, Read, Wr
 use Rattle.h3_lines.specs.declared.run_error.RunError.{RunError}
 use Rattle.h3_lines.specs.declared.run_error.RunError.TheVariants.{Error, Fault}
 use Rattle.h3_rows.specs.Row.{Piece}
-use Rattle.h3_rows.specs.RowCells.{cells_before, cells_then}
+use Rattle.h3_rows.specs.Cells.{cells_before, cells_then}
 use Rattle.h3_rows.specs.RowsAnswer.{Form}
 
 -- these rows, from a number on, have these cells and no error, and the next row has another number
