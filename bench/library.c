@@ -1,5 +1,5 @@
 /* Measures the functions of libh3whole against the plain ones of plain_library.rs, and those over
- * columns and descendants against the best forms known too: all in turn, several times, and the
+ * columns, zones and descendants against the best forms known too: all in turn, several times, and the
  * ratios of the best times. What they write is compared.
  *
  * library [ROW ..]    the rows whose names contain a given word; all, if none is given */
@@ -27,6 +27,7 @@ size_t plain_uncompactCells(const H3Index *cells, size_t n, H3Index *out, size_t
 size_t best_uncompactCells(const H3Index *cells, size_t n, H3Index *out, size_t room, int res);
 void plain_zones(H3Index *zones, size_t n);
 H3Error plain_cellsToZones(const H3Index *zones, size_t zoneCount, const H3Index *cells, size_t n, H3Index *out);
+H3Error best_cellsToZones(const H3Index *zones, size_t zoneCount, const H3Index *cells, size_t n, H3Index *out);
 H3Error plain_countCellsInZones(const H3Index *zones, size_t zoneCount, const H3Index *cells, size_t n, int64_t *counts,
                                 int64_t *others);
 size_t plain_intersectCells(const H3Index *first, size_t n, const H3Index *second, size_t m, H3Index *out, size_t room);
@@ -42,7 +43,9 @@ size_t plain_subtractCells(const H3Index *first, size_t n, const H3Index *second
 #define ZONES 100000
 /* so many cells of resolutions 7 to 9 has each of two regions, less those that lie in others */
 #define AREAS 1100000
-static H3Index *cells, *sorted, *ordered, *shuffled, *out, *zones, *plain_ones, *areas[2];
+/* and cells of resolution 5 */
+#define MILLION 1000000
+static H3Index *cells, *sorted, *ordered, *shuffled, *out, *zones, *plain_ones, *million, *plain_million, *areas[2];
 static size_t area[2];
 static size_t at;
 
@@ -107,6 +110,10 @@ CALL(plain_uncompact_two, plain_uncompactCells(ordered, N / 49, out, N / 49 * 49
 CALL(best_uncompact_two, best_uncompactCells(ordered, N / 49, out, N / 49 * 49, 10))
 CALL(children_of_each, h3w_cellsToChildren(ordered, N / 7, 9, out, N / 7 * 7, &at) ? 0 : N / 7 * 7)
 
+CALL(uncompact_same, h3w_uncompactCells(ordered, LIST, out, LIST, 8) ? 0 : LIST)
+CALL(plain_uncompact_same, plain_uncompactCells(ordered, LIST, out, LIST, 8))
+CALL(best_uncompact_same, best_uncompactCells(ordered, LIST, out, LIST, 8))
+
 static const H3Index world = WORLD;
 CALL(children, h3w_cellToChildren(world, 8, out, LIST) ? 0 : LIST)
 CALL(plain_children, plain_uncompactCells(&world, 1, out, LIST, 8))
@@ -122,7 +129,12 @@ CALL(zones_of, h3w_cellsToZones(zones, ZONES, cells, N, out, N, &at))
 CALL(plain_zones_of, plain_cellsToZones(plain_ones, ZONES, cells, N, out))
 CALL(zones_of_sorted, h3w_cellsToZones(zones, ZONES, sorted, N, out, N, &at))
 CALL(plain_zones_of_sorted, plain_cellsToZones(plain_ones, ZONES, sorted, N, out))
-static uint32_t table[2 * ZONES];
+CALL(best_zones_of, best_cellsToZones(plain_ones, ZONES, cells, N, out))
+CALL(zones_of_million, h3w_cellsToZones(million, MILLION, cells, N, out, N, &at))
+CALL(plain_zones_of_million, plain_cellsToZones(plain_million, MILLION, cells, N, out))
+CALL(best_zones_of_million, best_cellsToZones(plain_million, MILLION, cells, N, out))
+static uint32_t *table;
+CALL(million_by_table, h3w_cellsToZonesByTable(million, MILLION, cells, N, table, 2 * MILLION, out, N, &at))
 CALL(zones_by_table, h3w_cellsToZonesByTable(zones, ZONES, cells, N, table, 2 * ZONES, out, N, &at))
 CALL(zones_by_table_sorted, h3w_cellsToZonesByTable(zones, ZONES, sorted, N, table, 2 * ZONES, out, N, &at))
 /* in a table that is written once, in parts */
@@ -193,14 +205,20 @@ static const struct {
     {"compactCells of 159 of 160 cells, shuffled, from C", compact_part, plain_compact_part, NULL},
     {"uncompactCells of 1428571 cells, from C", uncompact, plain_uncompact, best_uncompact},
     {"uncompactCells of 204081 cells, two levels down, from C", uncompact_two, plain_uncompact_two, best_uncompact_two},
+    {"uncompactCells of 5764801 cells, at their resolution, from C", uncompact_same, plain_uncompact_same,
+     best_uncompact_same},
     {"cellsToChildren of 1428571 cells, from C", children_of_each, plain_uncompact, best_uncompact},
     {"cellToChildren, 5764801 of one cell, from C", children, plain_children, best_children},
     {"uniteCells of 5764801 cells, shuffled, against compactCells, from C", unite_shuffled, compact_shuffled, NULL},
     {"intersectCells of two regions of a million cells, from C", intersect, plain_intersect, NULL},
     {"subtractCells of two regions of a million cells, from C", subtract, plain_subtract, NULL},
-    {"cellsToZones of 10000000 cells in 100000 zones, from C", zones_of, plain_zones_of, NULL},
+    {"cellsToZones of 10000000 cells in 100000 zones, from C", zones_of, plain_zones_of, best_zones_of},
+    {"cellsToZones of 10000000 cells in 1000000 zones, from C", zones_of_million, plain_zones_of_million,
+     best_zones_of_million},
     {"cellsToZones of 10000000 cells in 100000 zones, ascending, from C", zones_of_sorted, plain_zones_of_sorted, NULL},
-    {"cellsToZonesByTable of 10000000 cells in 100000 zones, from C", zones_by_table, plain_zones_of, NULL},
+    {"cellsToZonesByTable of 10000000 cells in 100000 zones, from C", zones_by_table, plain_zones_of, best_zones_of},
+    {"cellsToZonesByTable of 10000000 cells in 1000000 zones, from C", million_by_table, plain_zones_of_million,
+     best_zones_of_million},
     {"cellsToZonesInTable of 10000000 cells in 100000 zones, 240000 at a time, from C", zones_in_table, plain_zones_of,
      NULL},
     {"cellsToZonesByTable of 10000000 cells in 100000 zones, ascending, from C", zones_by_table_sorted,
@@ -301,6 +319,20 @@ static void fill_zones(void) {
     plain_zones(plain_ones, ZONES);
 }
 
+/* A million cells of resolution 5, as zones. */
+static void fill_million(void) {
+    size_t count, i;
+    million = array(), plain_million = array();
+    table = (uint32_t *)(void *)array();
+    for (i = 0; i < N; i++)
+        if (h3w_cellToParent(cells[i], 5, &out[i])) exit(11);
+    qsort(out, N, sizeof *out, by_number);
+    for (i = count = 0; i < N; i++)
+        if (!i || out[i] != out[i - 1]) plain_million[count++] = out[i];
+    if (count < MILLION || h3w_zones(plain_million, MILLION, million, MILLION)) exit(12);
+    plain_zones(plain_million, MILLION);
+}
+
 /* Two regions of about a million cells, each of ancestors of other cells. */
 static void fill_areas(void) {
     size_t side, i;
@@ -317,6 +349,7 @@ int main(int count, char **words) {
     int i;
     fill();
     fill_zones();
+    fill_million();
     fill_areas();
     for (row = 0; row < sizeof rows / sizeof *rows; row++) {
         for (i = 1; i < count && !strstr(rows[row].name, words[i]); i++) {

@@ -260,7 +260,7 @@ fn congruence(state: &mut u64) -> u64 {
     *state >> 33
 }
 
-fn key(cell: u64) -> u64 {
+pub fn key(cell: u64) -> u64 {
     cell & (1 << 52) - 1
 }
 
@@ -290,16 +290,23 @@ fn look_up(rounds: u64, percent: u64, sorted: bool) -> u64 {
     let mut sum = 0u64;
     for _ in 0..rounds {
         for cell in std::hint::black_box(&cells) {
-            let key_of_cell = key(*cell);
-            let place = zones.partition_point(|zone| key(*zone) < key_of_cell);
-            if let Some(zone) = zones.get(place)
-                && key(*zone) - key_of_cell < 1 << (3 * (15 - resolution(*zone)))
-            {
-                sum = sum.wrapping_add(*zone);
-            }
+            sum = sum.wrapping_add(zone_of(&zones, *cell).unwrap_or(0));
         }
     }
     sum
+}
+
+/// The cells of a file.
+pub fn cells_of_file(path: &str) -> io::Result<Vec<u64>> {
+    let text = fs::read_to_string(path)?;
+    Ok(text.lines().map(|line| cell_of(read_index(line.as_bytes()).expect("an index"))).collect())
+}
+
+/// The zone of a cell, of zones in ascending order of their keys.
+fn zone_of(zones: &[u64], cell: u64) -> Option<u64> {
+    let place = zones.partition_point(|zone| key(*zone) < key(cell));
+    let step = |zone: u64| 1 << (3 * (15 - resolution(zone)));
+    zones.get(place).copied().filter(|zone| key(*zone) - key(cell) < step(*zone))
 }
 
 fn write_cells(out: &mut Page<impl Write>, cells: impl Iterator<Item = u64>) -> io::Result<()> {
@@ -531,6 +538,14 @@ fn main() -> io::Result<()> {
         ["places", res] => {
             let res = res.parse().expect("a resolution");
             for_indexes(|index| out.put_number(position(cell_of(index), res)))?
+        }
+        ["lookup", zones] => {
+            let mut zones = cells_of_file(zones)?;
+            zones.sort_unstable_by_key(|zone| key(*zone));
+            for_indexes(|index| match zone_of(&zones, cell_of(index)) {
+                Some(zone) => out.put(zone),
+                None => out.put_text(b"0\n"),
+            })?
         }
         ["positions", places] => {
             let cell = 0x8009fffffffffff;

@@ -6,6 +6,8 @@
 mod columns;
 #[path = "best/descendants.rs"]
 mod descendants;
+#[path = "best/zones.rs"]
+mod lookup;
 #[path = "plain.rs"]
 mod plain;
 mod regions;
@@ -302,6 +304,27 @@ unsafe extern "C" fn plain_cellsToZones(
             Err(5)
         }
     })
+}
+
+/// # Safety
+/// The pointers point to as many elements as there are zones, n and n.
+#[unsafe(no_mangle)]
+unsafe extern "C" fn best_cellsToZones(
+    zones: *const u64,
+    count: usize,
+    cells: *const u64,
+    n: usize,
+    out: *mut u64,
+) -> u32 {
+    let zones = lookup::Zones::of(unsafe { from_raw_parts(zones, count) }.to_vec());
+    let (cells, out) = unsafe { (from_raw_parts(cells, n), from_raw_parts_mut(out, n)) };
+    // (all are cells)
+    if !cells.iter().all(|cell| columns::is_valid(*cell)) {
+        return 5;
+    }
+    let mut places = out.iter_mut();
+    zones.each(cells, |zone| *places.next().expect("a place") = zone.unwrap_or(0));
+    0
 }
 
 /// # Safety

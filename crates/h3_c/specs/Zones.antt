@@ -15,7 +15,7 @@ use Rattle.h3_c.specs.Lists.{indexes, laid_over}
 use Rattle.h3_c.specs.Outcome.{code_of}
 use Rattle.h3_c.specs.Sets.{cells_in, for_cells}
 use Rattle.h3_c.specs.declared.zones.Lookup.{Lookup}
-use Rattle.h3_c.specs.declared.zones.Lookup.TheVariants.{Near, ByTable, InTable}
+use Rattle.h3_c.specs.declared.zones.Lookup.TheVariants.{Near, InTable}
 
 -- ---- zones, prepared
 
@@ -41,7 +41,6 @@ pub record AreZonesOver (hs old new : List ℕ) : Type 0 where
 -- the zones in which cells are looked up; private contracts alone cite it
 abbrev pub zones_in : Lookup → List Address
 zones_in (Near zones) = zones
-zones_in (ByTable zones) = zones
 zones_in (InTable zones) = zones
 
 -- ---- the zones of cells

@@ -23,10 +23,7 @@ use h3_functions::cell_from;
 use h3_index::laws::numbers_are_read;
 use h3_index::{Cell, H3Error};
 use h3_regions::laws::zones_are_lawful;
-use h3_regions::{
-    AHEAD, TabledZones, ZoneIndex, Zones, count_next, count_next_indexed, count_next_tabled,
-    find_overlap, order_zones, write_table,
-};
+use h3_regions::{AHEAD, TabledZones, Zones, count_next, find_overlap, order_zones, write_table};
 use std::alloc::Global;
 
 /// Puts the indexes of cells, in the order of zones, into the first slots. Returns 0, or the number
@@ -73,36 +70,50 @@ pub extern "C" fn h3w_zonesTable(zones: &[Cell], table: &mut [u32])
     write_table(&Zones::over(zones), table);
 }
 
-/// Zones in which cells are looked up: each from where the last one was found, by a table that is
-/// written for the call, or in one that was written before.
+/// Zones in which cells are looked up, alone or with a table.
 #[derive(Drop)]
 enum Lookup<'a> {
     Near(Zones<'a>),
-    ByTable(ZoneIndex<'a>),
     InTable(TabledZones<'a>),
 }
 
 impl<'a> Lookup<'a> {
+    /// Zones with a table, which is written here.
+    fn by_table(zones: &Zones<'a>, table: &'a mut [u32]) -> Lookup<'a>
+        ensures { zones_in result ≡ zones.now }
+    {
+        write_table(zones, table);
+        Lookup::InTable(TabledZones::over(zones, table))
+    }
+
+    /// The zones.
+    #[inline(always)]
+    fn zones(&self) -> Zones<'a>
+        ensures { result ≡ zones_in self.now }
+    {
+        match self {
+            Lookup::Near(zones) => Zones::over(zones.cells()),
+            Lookup::InTable(tabled) => tabled.zones(),
+        }
+    }
+
     /// The zone of a cell, which may be looked for from a place on, as `Zones::zone_near` does.
     #[inline(always)]
     fn zone_of(&self, cell: Cell, place: &mut usize) -> Option<Cell>
         ensures { result ≡ zone_of (zones_in self.now) cell }
     {
-        match self {
-            Lookup::Near(zones) => zones.zone_near(cell, place),
-            Lookup::ByTable(index) => index.zone_of(cell),
-            Lookup::InTable(tabled) => tabled.zone_of(cell),
-        }
+        self.zones().zone_near(cell, place)
     }
 
     /// Where the next indexes are looked for, as `Zones::look_ahead` has it; `None` if the first one's
-    /// zone is near the last place, or a table has a place of its own for each.
+    /// zone is near the last place.
     #[inline(always)]
     fn look_ahead(&self, indexes: &[u64], place: usize) -> Option<[usize; AHEAD]> {
-        match (self, indexes.first()) {
-            (Lookup::Near(zones), Some(first)) if !zones.is_near(*first, place) => {
-                Some(zones.look_ahead(indexes))
-            }
+        match indexes.first() {
+            Some(first) if !self.zones().is_near(*first, place) => Some(match self {
+                Lookup::Near(zones) => zones.look_ahead(indexes),
+                Lookup::InTable(tabled) => tabled.look_ahead(indexes),
+            }),
             _ => None,
         }
     }
@@ -123,11 +134,7 @@ impl<'a> Lookup<'a> {
         ensures { (cells : List Address) → AreCounts (zones_in self.now) cells counts.old others
             → AreCounts (zones_in self.now) (cells ++ cell ∷ []) counts.new result }
     {
-        match self {
-            Lookup::Near(zones) => count_next(zones, cell, counts, others, place),
-            Lookup::ByTable(index) => count_next_indexed(index, cell, counts, others),
-            Lookup::InTable(tabled) => count_next_tabled(tabled, cell, counts, others),
-        }
+        count_next(&self.zones(), cell, counts, others, place)
     }
 }
 
@@ -194,7 +201,7 @@ pub extern "C" fn h3w_cellsToZonesByTable(
     ensures place { at.new
         ≡ place_over (map (λ h. cell_to_zone zones.now h) cells.now) (length out.old) at.old }
 {
-    let zones = Lookup::ByTable(ZoneIndex::of(&Zones::over(zones), table));
+    let zones = Lookup::by_table(&Zones::over(zones), table);
     fill(&ZonesOf { zones }, cells, NULL, out, at)
 }
 
@@ -282,7 +289,7 @@ pub extern "C" fn h3w_areCoveredCellsByTable(
     ensures place { at.new ≡ place_over
         (map (λ h. truth_of (is_covered_cell zones.now h)) cells.now) (length out.old) at.old }
 {
-    let zones = Lookup::ByTable(ZoneIndex::of(&Zones::over(zones), table));
+    let zones = Lookup::by_table(&Zones::over(zones), table);
     fill(&CoveredBy { zones }, cells, NO_NUMBER, out, at)
 }
 
@@ -437,7 +444,7 @@ pub extern "C" fn h3w_countCellsInZonesByTable(
     ensures all { result ≡ 0 →
         sum (take (length zones.now) counts.new) + others.new ≡ length cells.now }
 {
-    let lookup = Lookup::ByTable(ZoneIndex::of(&Zones::over(zones), table));
+    let lookup = Lookup::by_table(&Zones::over(zones), table);
     count_judged(&lookup, zones.len(), cells, counts, others, at)
 }
 

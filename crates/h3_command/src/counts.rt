@@ -13,12 +13,12 @@ ghost use Rattle.h3_command.specs.Run.{EndsNumberedList};
 ghost use Rattle.h3_command.specs.Counts.{CountsMore, counts_none, counts_then};
 
 use crate::count_lines::CountLines;
-use crate::files::look_ahead;
+use crate::files::{look_ahead, table_of};
 use crate::listed::take_listed;
 use h3_index::Cell;
-use h3_lines::{CellTaker, Fault, Hints, RunError, write_lines};
+use h3_lines::{CellTaker, Fault, LINES, RunError, write_lines};
 use h3_regions::laws::zones_are_lawful;
-use h3_regions::{Zones, count_next};
+use h3_regions::{TabledZones, Zones, count_next};
 use h3_requests::RowOptions;
 use h3_streams::{Sink, Source};
 use std::alloc::Global;
@@ -30,7 +30,7 @@ struct Tally<'z> {
     counts: Vec<u64>,
     others: u64,
     place: usize,
-    hints: Hints,
+    tabled: TabledZones<'z>,
     ghost size: { length counts.items ≡ length zones },
 }
 
@@ -41,14 +41,8 @@ impl<'z> CellTaker for Tally<'z> {
         CountsMore t.zones t.counts.items t.others cells u.counts.items u.others };
 
     #[inline(always)]
-    fn take(&mut self, cell: Cell, after: &[u8]) -> Result<(), RunError> {
-        look_ahead(
-            &self.zones,
-            cell.raw(),
-            after,
-            &mut self.hints,
-            &mut self.place,
-        );
+    fn take(&mut self, cell: Cell, place: Option<usize>) -> Result<(), RunError> {
+        self.place = place.unwrap_or(self.place);
         self.others = count_next(
             &self.zones,
             cell,
@@ -57,6 +51,16 @@ impl<'z> CellTaker for Tally<'z> {
             &mut self.place,
         );
         Ok(())
+    }
+
+    #[inline(always)]
+    fn looks_ahead(&self) -> bool {
+        true
+    }
+
+    #[inline(always)]
+    fn look_ahead(&self, indexes: &[u64]) -> Option<[usize; LINES]> {
+        look_ahead(&self.tabled, indexes, self.place)
     }
 
     ghost none_taken = { λ t. (refl, counts_none t.zones t.counts.items t.others) };
@@ -98,14 +102,16 @@ pub(crate) fn answer_counts<R: Source, W: Sink>(
         (sink_use W.taken W.has_failed out.old out.new) }
 {
     zones_are_lawful();
+    let in_order = Zones::over(zones);
+    let table = table_of(alloc, &in_order)?;
     let counts = vec![in alloc; 0u64; zones.len()].map_err(|_| RunError::Fault(Fault::Memory))?;
     let tally = Tally {
         zones: Zones::over(zones),
         counts,
         others: 0,
         place: 0,
-        hints: Hints::new(),
+        tabled: TabledZones::over(&in_order, &table),
     };
     let tally = take_listed(alloc, tally, rows, input)?;
-    write_counts(&Zones::over(zones), &tally.counts, tally.others, out)
+    write_counts(&in_order, &tally.counts, tally.others, out)
 }

@@ -28,11 +28,13 @@ use crate::required::cell_given;
 use crate::rows::answer_listed;
 use h3_index::{Cell, H3Error};
 use h3_lines::{
-    AnswerError, AnswerLine, BLOCK, CellFile, Fault, Hints, RunError, indexes_ahead, put_result,
+    AnswerError, AnswerLine, BLOCK, CellFile, Fault, LINES, RunError, put_result,
     read_numbered_cells, write_lines,
 };
 use h3_regions::laws::{coverages_decide_combinations, zones_are_lawful};
-use h3_regions::{AHEAD, Region, Zones, intersect, order_by_number, order_zones, subtract};
+use h3_regions::{
+    Region, TabledZones, Zones, intersect, order_by_number, order_zones, subtract, write_table,
+};
 use h3_requests::RowOptions;
 use h3_streams::{Sink, Source};
 use std::alloc::Global;
@@ -261,35 +263,31 @@ fn cell_to_zone(
     Ok(zones.zone_near(cell, place))
 }
 
-/// Sets the place at which the zone of the cell with an index is looked for, whose line is followed
-/// by these bytes in its page: the zones of the cells on the next lines are looked for with it. At the
-/// end of a page the place stays as it is.
-#[inline(always)]
-pub(crate) fn look_ahead(
-    zones: &Zones,
-    index: u64,
-    after: &[u8],
-    hints: &mut Hints,
-    place: &mut usize,
-) {
-    if hints.are_used() {
-        refill(zones, index, after, hints, *place);
-    }
-    hints.advance(place);
+/// How many places a table of zones has at most: more make no look-up faster that has to wait for the
+/// zones' memory.
+const TABLE: usize = 8192;
+
+/// A table that makes the search for a zone short. `Fault::Memory` where there is none for it.
+pub(crate) fn table_of(alloc: Global, zones: &Zones) -> Result<Vec<u32>, RunError>
+    ensures { IfErr result (λ e. e ≡ refusal.Fault Memory) }
+{
+    let room = zones.cells().len().saturating_mul(4).min(TABLE);
+    let mut table = vec![in alloc; 0u32; room].map_err(|_| RunError::Fault(Fault::Memory))?;
+    write_table(zones, &mut table);
+    Ok(table)
 }
 
-/// Finds the places of the zones of the cells on a line and on the next ones. Where the first is near
-/// the last place, or no line is after it, there are none: cells then mostly ascend.
-#[inline(never)]
-fn refill(zones: &Zones, index: u64, after: &[u8], hints: &mut Hints, place: usize) {
-    if after.is_empty() {
-        hints.set(None, 1);
-    } else if zones.is_near(index, place) {
-        hints.set(None, AHEAD);
-    } else {
-        let mut indexes = [0; AHEAD];
-        let count = indexes_ahead(index, after, &mut indexes);
-        hints.set(Some(zones.look_ahead(&indexes[..count])), count);
+/// The places at which the zones of the next cells, those with these indexes, are looked for; `None`
+/// if the first one's is near the last place, since cells then mostly ascend, or if it is alone.
+#[inline(always)]
+pub(crate) fn look_ahead(
+    zones: &TabledZones,
+    indexes: &[u64],
+    place: usize,
+) -> Option<[usize; LINES]> {
+    match indexes {
+        [first, _, ..] if !zones.zones().is_near(*first, place) => Some(zones.look_ahead(indexes)),
+        _ => None,
     }
 }
 
@@ -297,6 +295,7 @@ fn refill(zones: &Zones, index: u64, after: &[u8], hints: &mut Hints, place: usi
 #[derive(Drop)]
 struct CoveredBy<'r> {
     region: Region<'r>,
+    tabled: TabledZones<'r>,
 }
 
 impl<'r> AnswerLine for CoveredBy<'r> {
@@ -314,8 +313,13 @@ impl<'r> AnswerLine for CoveredBy<'r> {
     }
 
     #[inline(always)]
-    fn aim(&self, index: u64, after: &[u8], hints: &mut Hints, place: &mut usize) {
-        look_ahead(&self.region.zones(), index, after, hints, place);
+    fn looks_ahead(&self) -> bool {
+        true
+    }
+
+    #[inline(always)]
+    fn look_ahead(&self, indexes: &[u64], place: usize) -> Option<[usize; LINES]> {
+        look_ahead(&self.tabled, indexes, place)
     }
 }
 
@@ -323,6 +327,7 @@ impl<'r> AnswerLine for CoveredBy<'r> {
 #[derive(Drop)]
 struct ZoneOf<'z> {
     zones: Zones<'z>,
+    tabled: TabledZones<'z>,
 }
 
 impl<'z> AnswerLine for ZoneOf<'z> {
@@ -340,8 +345,13 @@ impl<'z> AnswerLine for ZoneOf<'z> {
     }
 
     #[inline(always)]
-    fn aim(&self, index: u64, after: &[u8], hints: &mut Hints, place: &mut usize) {
-        look_ahead(&self.zones, index, after, hints, place);
+    fn looks_ahead(&self) -> bool {
+        true
+    }
+
+    #[inline(always)]
+    fn look_ahead(&self, indexes: &[u64], place: usize) -> Option<[usize; LINES]> {
+        look_ahead(&self.tabled, indexes, place)
     }
 }
 
@@ -360,7 +370,10 @@ pub(crate) fn answer_covered<R: Source, W: Sink>(
 {
     zones_are_lawful();
     let region = Region::of(cells);
-    answer_listed(alloc, rows, "isCovered", &CoveredBy { region }, input, out)
+    let table = table_of(alloc, &region.zones())?;
+    let tabled = TabledZones::over(&region.zones(), &table);
+    let function = CoveredBy { region, tabled };
+    answer_listed(alloc, rows, "isCovered", &function, input, out)
 }
 
 /// Writes the zone of each cell listed on the input, or with each row, of zones in order.
@@ -377,5 +390,7 @@ pub(crate) fn answer_zones<R: Source, W: Sink>(
         (sink_use W.taken W.has_failed out.old out.new) }
 {
     let zones = Zones::over(zones);
-    answer_listed(alloc, rows, "zone", &ZoneOf { zones }, input, out)
+    let table = table_of(alloc, &zones)?;
+    let tabled = TabledZones::over(&zones, &table);
+    answer_listed(alloc, rows, "zone", &ZoneOf { zones, tabled }, input, out)
 }

@@ -40,7 +40,7 @@ impl CellTaker for Size {
         SizesMore s.res s.finer s.total cells t.finer t.total };
 
     #[inline(always)]
-    fn take(&mut self, cell: Cell, _after: &[u8]) -> Result<(), RunError> {
+    fn take(&mut self, cell: Cell, _place: Option<usize>) -> Result<(), RunError> {
         match children_size(cell, i32::from(self.res)) {
             Ok(size) => self.total += u128::from(size),
             Err(_) => self.finer = true,

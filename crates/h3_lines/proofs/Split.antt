@@ -9,7 +9,7 @@ use Rattle.h3_streams.specs.Stream.{HasLeft, Pulls}
 use Rattle.h3_index.specs.Text.{parsed_index}
 use Rattle.h3_lines.specs.List.{lines_of}
 use Rattle.h3_lines.specs.Taking.{is_unended}
-use Rattle.h3_lines.specs.Splitting.{BeginsPlain, Goes, ParsesAs, RefusesAfter, StopsReading, StopsTaking, TakesAll}
+use Rattle.h3_lines.specs.Splitting.{BeginsLines, BeginsPlain, Goes, ParseAll, ParsesAs, RefusesAfter, StopsReading, StopsTaking, TakesAll}
 use Rattle.h3_lines.specs.declared.run_error.RunError.{RunError}
 use Rattle.h3_lines.proofs.ListLines.{is_unended-append, line_goes_on, lines_at_end, lines_at_feed, split_whole}
 use Rattle.h3_lines.proofs.Pages.{all_bytes, at_end, one_at_least, one_less}
@@ -31,6 +31,45 @@ pub plain_shorter : (bytes after : List ℕ) (index : ℕ) → BeginsPlain bytes
 plain_shorter bytes after index p =
     let whole : length bytes ≡ length p.line + length (10 ∷ after) = ap length p.split ∙ length-append p.line (10 ∷ after) in
     omega (arith, whole)
+
+-- ---- plain lines that are read together
+
+pub begins_none : (bytes : List ℕ) → BeginsLines bytes [] bytes
+begins_none bytes = record { lines = []; parse = tt; split = λ rest. refl; shorter = omega arith }
+
+parse_then : (lines : List (List ℕ)) (indexes : List ℕ) (line : List ℕ) (index : ℕ) → ParseAll lines indexes → ParsesAs line index → ParseAll (lines ++ line ∷ []) (indexes ++ index ∷ [])
+parse_then [] [] line index all one = (one, tt)
+parse_then (l ∷ ls) (i ∷ is) line index all one = (all.0, parse_then ls is line index all.1 one)
+parse_then [] (i ∷ is) line index all one = absurd all
+parse_then (l ∷ ls) [] line index all one = absurd all
+
+-- one line more
+pub begins_then : (bytes indexes left after : List ℕ) (index : ℕ) → BeginsLines bytes indexes left → BeginsPlain left index after → BeginsLines bytes (indexes ++ index ∷ []) after
+begins_then bytes indexes left after index p q =
+    let regroup : (rest : List ℕ) → left ++ rest ≡ q.line ++ 10 ∷ (after ++ rest) = λ rest. ap (λ l. l ++ rest) q.split ∙ append_assoc q.line (10 ∷ after) rest in
+    let one : (rest : List ℕ) → lines_of (left ++ rest) ≡ q.line ∷ lines_of (after ++ rest) = λ rest. ap lines_of (regroup rest) ∙ lines_at_feed q.line (after ++ rest) q.unended in
+    let less : length after < length left = plain_shorter left after index q in
+    let before : length indexes + length left ≤ length bytes = p.shorter in
+    record {
+      lines = p.lines ++ q.line ∷ [];
+      parse = parse_then p.lines indexes q.line index p.parse q.parses;
+      split = λ rest. p.split rest ∙ ap (λ ls. p.lines ++ ls) (one rest) ∙ sym (append_assoc p.lines (q.line ∷ []) (lines_of (after ++ rest)));
+      shorter = omega (arith, less, before, length-append indexes (index ∷ []));
+    }
+
+-- the line of one of the indexes, between those before it and those after it
+pub parse_at : (lines : List (List ℕ)) (indexes : List ℕ) (index : ℕ) (more : List ℕ) → ParseAll lines (indexes ++ index ∷ more)
+    → (front : List (List ℕ)) × (line : List ℕ) × (back : List (List ℕ)) × (lines ≡ front ++ line ∷ back) × ParseAll front indexes × ParsesAs line index × ParseAll back more
+parse_at (l ∷ ls) [] index more all = ([], l, ls, refl, tt, all.0, all.1)
+parse_at [] [] index more all = absurd all
+parse_at (l ∷ ls) (i ∷ is) index more all =
+    let (front, line, back, is', parse, one, rest) = parse_at ls is index more all.1 in
+    (l ∷ front, line, back, ap (λ t. l ∷ t) is', (all.0, parse), one, rest)
+parse_at [] (i ∷ is) index more all = absurd all
+
+pub parse_none : (lines : List (List ℕ)) → ParseAll lines [] → lines ≡ []
+parse_none [] all = refl
+parse_none (l ∷ ls) all = absurd all
 
 pub ended_shorter : (bytes line after : List ℕ) → bytes ≡ line ++ 10 ∷ after → length after + 1 ≤ length bytes
 ended_shorter bytes line after split =
@@ -84,6 +123,19 @@ module _ {V : Type 0} (taken : V → List (List ℕ) → V → Type 0) where
       let regroup : (rest : List ℕ) → bytes ++ rest ≡ p.line ++ 10 ∷ (after ++ rest) = λ rest. ap (λ l. l ++ rest) p.split ∙ append_assoc p.line (10 ∷ after) rest in
       record { ended = p.line ∷ []; lines = λ rest. rw none (ap lines_of (regroup rest) ∙ lines_at_feed p.line (after ++ rest) p.unended); takes = takes' p.line p.parses }
 
+  -- lines that were read together are taken
+  pub goes_lines : {v w : V} (bytes indexes after : List ℕ) → BeginsLines bytes indexes after → ((lines : List (List ℕ)) → ParseAll lines indexes → taken v lines w)
+      → Goes taken v [] bytes w [] after
+  goes_lines bytes indexes after p takes' = record { ended = p.lines; lines = λ rest. p.split rest; takes = takes' p.lines p.parse }
+
+  -- of lines that were read together one more is taken
+  pub together_then : ((u v w : V) (xs ys : List (List ℕ)) → taken u xs v → taken v ys w → taken u (xs ++ ys) w) → {u v w : V} (indexes : List ℕ) (index : ℕ) → ((lines : List (List ℕ)) → ParseAll lines indexes → taken u lines v)
+      → ((line : List ℕ) → ParsesAs line index → taken v (line ∷ []) w) → (lines : List (List ℕ)) → ParseAll lines (indexes ++ index ∷ []) → taken u lines w
+  together_then both {u} {v} {w} indexes index before takes' lines all =
+      let (front, line, back, is, parse, one, rest) = parse_at lines indexes index [] all in
+      let whole : lines ≡ front ++ line ∷ [] = is ∙ ap (λ ls. front ++ line ∷ ls) (parse_none back rest) in
+      subst (λ ls. taken u ls w) (sym whole) (both u v w front (line ∷ []) (before front parse) (takes' line one))
+
   -- all lines up to the end
   pub last_taken : {v w : V} (line whole : List ℕ) → whole ≡ line → is_unended line ≡ true → taken v (whole ∷ []) w → taken v (lines_of line) w
   last_taken {v} {w} line whole is h takes' = subst (λ ls. taken v ls w) (ap (λ l. l ∷ []) is ∙ sym (lines_at_end line h)) takes'
@@ -122,6 +174,20 @@ module _ {V : Type 0} (taken : V → List (List ℕ) → V → Type 0) (refused 
       → refused u (lines_of (line1 ++ (bytes1 ++ rest))) w e
   goes_refused {u} {v} {w} {e} {line2 = line2} {bytes2 = bytes2} rest g refuses =
       subst (λ ls. refused u ls w e) (sym (g.lines rest)) (then_refused u v w g.ended (lines_of (line2 ++ (bytes2 ++ rest))) e g.takes refuses)
+
+  -- of lines that were read together one is refused
+  pub together_refused : {u v w : V} {e : RunError} (indexes : List ℕ) (index : ℕ) (more : List ℕ) → ((lines : List (List ℕ)) → ParseAll lines indexes → taken u lines v)
+      → ((line : List ℕ) → ParsesAs line index → (later : List (List ℕ)) → refused v (line ∷ later) w e) → (lines : List (List ℕ)) → ParseAll lines (indexes ++ index ∷ more) → (later : List (List ℕ)) → refused u (lines ++ later) w e
+  together_refused {u} {v} {w} {e} indexes index more before refuses lines all later =
+      let (front, line, back, is, parse, one, rest) = parse_at lines indexes index more all in
+      let whole : lines ++ later ≡ front ++ (line ∷ (back ++ later)) = ap (λ ls. ls ++ later) is ∙ append_assoc front (line ∷ back) later in
+      subst (λ ls. refused u ls w e) (sym whole) (then_refused u v w front (line ∷ (back ++ later)) e (before front parse) (refuses line one (back ++ later)))
+
+  -- lines that were read together are refused after others were taken
+  pub refused_lines : {u v w : V} {e : RunError} {page : List ℕ} (bytes indexes after rest : List ℕ) → Goes taken u [] page v [] bytes → BeginsLines bytes indexes after
+      → ((lines : List (List ℕ)) → ParseAll lines indexes → (later : List (List ℕ)) → refused v (lines ++ later) w e) → refused u (lines_of (page ++ rest)) w e
+  refused_lines {v = v} {w = w} {e = e} bytes indexes after rest g p refuses =
+      goes_refused rest g (subst (λ ls. refused v ls w e) (sym (p.split rest)) (refuses p.lines p.parse (lines_of (after ++ rest))))
 
   pub refused_settled : {u v w : V} {e : RunError} {xs : List (List ℕ)} → taken u xs v → refused v [] w e → refused u xs w e
   refused_settled {u} {v} {w} {e} {xs} p q = subst (λ ls. refused u ls w e) (append-nil xs) (then_refused u v w xs [] e p q)

@@ -1,6 +1,6 @@
 -- Pages of bytes that are split into lines, which something takes one after another. Private contracts and proofs alone
 -- cite this file.
-use Rattle.std.specs.Prelude.{◌≡◌, ℕ, ◌≤◌, ◌*◌, ◌⊎◌, true, List, [], ◌∷◌, ◌++◌, length, Option, Some}
+use Rattle.std.specs.Prelude.{◌≡◌, ⊤, ℕ, ◌+◌, ◌≤◌, ◌*◌, ◌⊎◌, true, List, [], ◌∷◌, ◌++◌, length, Option, Some}
 use Rattle.std.specs.Io.KnownBytes.{Consumes}
 use Rattle.h3_streams.specs.Stream.{HasLeft}
 use Rattle.h3_index.specs.Text.{parsed_index}
@@ -20,6 +20,20 @@ pub record BeginsPlain (bytes : List ℕ) (index : ℕ) (after : List ℕ) : Typ
   pub unended : is_unended line ≡ true
   pub split : bytes ≡ line ++ 10 ∷ after
   pub parses : ParsesAs line index
+
+-- the lines parse as these indexes, each as its own
+abbrev pub ParseAll : List (List ℕ) → List ℕ → Type 0
+ParseAll [] [] = ⊤
+ParseAll (line ∷ lines) (index ∷ indexes) = ParsesAs line index × ParseAll lines indexes
+ParseAll [] (index ∷ indexes) = ⊥
+ParseAll (line ∷ lines) [] = ⊥
+
+-- the bytes begin with lines that parse as these indexes, and after them come these bytes
+pub record BeginsLines (bytes indexes after : List ℕ) : Type 0 where
+  pub lines : List (List ℕ)
+  pub parse : ParseAll lines indexes
+  pub split : (rest : List ℕ) → lines_of (bytes ++ rest) ≡ lines ++ lines_of (after ++ rest)
+  pub shorter : length indexes + length after ≤ length bytes
 
 -- from one moment to a later one: what takes the lines, the line so far, and the bytes that come before any rest; the
 -- lines that end on the way were taken

@@ -12,10 +12,9 @@ ghost use Rattle.h3_lines.specs.declared.run_error.Fault.TheVariants.{Write};
 ghost use Rattle.h3_lines.specs.declared.run_error.RunError.{RunError};
 ghost use Rattle.h3_lines.specs.declared.run_error.RunError.TheVariants as refusal;
 
-use crate::hints::Hints;
 use crate::line::{BLOCK, Line};
 use crate::run_error::{AnswerError, Fault, RunError};
-use crate::splitting::{LONGEST_LINE, LineTaker, MAX_READS, PAGE, take_lines};
+use crate::splitting::{LINES, LONGEST_LINE, LineTaker, MAX_READS, PAGE, take_lines};
 use crate::write::{write_all, write_answer};
 use h3_index::{H3Error, is_blank_text, read_index};
 use h3_streams::{CountedReader, Sink, Source};
@@ -47,10 +46,19 @@ pub trait AnswerLine {
         ensures err { IfErr result (λ e. answer_of self.now index ≡ refused e) }
         ensures kept { IfErr result (λ e. take at block.new ≡ take at block.old) };
 
-    /// Sets the place at which `put` looks for the next index, that of a plain line, which is
-    /// followed by these bytes in its page. What looks for nothing leaves the place as it is.
+    /// Whether it looks for the indexes of plain lines together: `look_ahead` is then asked for their
+    /// places.
     #[inline(always)]
-    fn aim(&self, _index: u64, _after: &[u8], _hints: &mut Hints, _place: &mut usize) {}
+    fn looks_ahead(&self) -> bool {
+        false
+    }
+
+    /// The places at which `put` looks for the indexes of the next lines, at most 16, one for each;
+    /// `None` if each is looked for at the place that the one before it left. They may be any.
+    #[inline(always)]
+    fn look_ahead(&self, _indexes: &[u64], _place: usize) -> Option<[usize; LINES]> {
+        None
+    }
 }
 
 /// Puts the line of a result's value into a block from the byte `at` on, and returns where it ends;
@@ -138,20 +146,13 @@ pub(crate) fn make_room<W: Sink>(
     Ok(1)
 }
 
-/// What the answering of lines works with.
-#[derive(Drop)]
-pub(crate) struct Work {
-    place: usize,
-    hints: Hints,
-}
-
-/// The answers held back, in a block that is written when it is full, and the number of the next
-/// line.
+/// The answers held back, in a block that is written when it is full, the number of the next line,
+/// and the place at which its index is looked for.
 #[derive(Drop)]
 pub(crate) struct Held<'a, W> {
     pub(crate) out: &'a mut W,
     pub(crate) number: u64,
-    pub(crate) work: Work,
+    pub(crate) place: usize,
     pub(crate) block: [u8; BLOCK],
     pub(crate) end: usize,
     ghost within: { end ≤ BLOCK },
@@ -184,10 +185,17 @@ pub(crate) trait Answering {
             (line ∷ later) e (sink_use W.taken W.has_failed held.old.out.now held.new.out.now)) }
         ensures sink { held.new.out.ghost_name ≡ held.old.out.ghost_name };
 
-    /// Sets the place at which the next index is looked for, that of a plain line, which is followed
-    /// by these bytes in its page.
+    /// As `AnswerLine` has it.
     #[inline(always)]
-    fn aim(&self, _index: u64, _after: &[u8], _work: &mut Work) {}
+    fn looks_ahead(&self) -> bool {
+        false
+    }
+
+    /// As `AnswerLine` has it.
+    #[inline(always)]
+    fn look_ahead(&self, _indexes: &[u64], _place: usize) -> Option<[usize; LINES]> {
+        None
+    }
 }
 
 /// A function whose answer to an index fits into a block.
@@ -206,10 +214,9 @@ impl<'f, F: AnswerLine> Answering for Short<'f, F> {
         held: &mut Held<'a, W>,
     ) -> Result<(), RunError> {
         let at = make_room(held.out, &mut held.block, held.end)?;
-        let work = &mut held.work;
         match self
             .function
-            .put(index, &mut work.place, &mut held.block, at)
+            .put(index, &mut held.place, &mut held.block, at)
         {
             Ok(last) => {
                 held.end = last;
@@ -224,9 +231,13 @@ impl<'f, F: AnswerLine> Answering for Short<'f, F> {
     }
 
     #[inline(always)]
-    fn aim(&self, index: u64, after: &[u8], work: &mut Work) {
-        self.function
-            .aim(index, after, &mut work.hints, &mut work.place);
+    fn looks_ahead(&self) -> bool {
+        self.function.looks_ahead()
+    }
+
+    #[inline(always)]
+    fn look_ahead(&self, indexes: &[u64], place: usize) -> Option<[usize; LINES]> {
+        self.function.look_ahead(indexes, place)
     }
 }
 
@@ -269,10 +280,20 @@ impl<'a, 'f, W: Sink, A: Answering> LineTaker for Answers<'a, 'f, W, A> {
     }
 
     #[inline(always)]
-    fn take_index(&mut self, index: u64, after: &[u8]) -> Result<(), RunError> {
+    fn take_index(&mut self, index: u64, place: Option<usize>) -> Result<(), RunError> {
         let held = &mut self.held;
-        self.function.aim(index, after, &mut held.work);
+        held.place = place.unwrap_or(held.place);
         self.function.answer(Some(index), held)
+    }
+
+    #[inline(always)]
+    fn looks_ahead(&self) -> bool {
+        self.function.looks_ahead()
+    }
+
+    #[inline(always)]
+    fn look_ahead(&self, indexes: &[u64]) -> Option<[usize; LINES]> {
+        self.function.look_ahead(indexes, self.held.place)
     }
 
     fn refuse_long(&mut self) -> RunError {
@@ -334,14 +355,10 @@ pub(crate) fn answer_pages<R: Source, W: Sink, A: Answering>(
         (R.has_failed input.old) (R.has_failed input.new) result
         (sink_use W.taken W.has_failed out.old out.new) }
 {
-    let work = Work {
-        place: 0,
-        hints: Hints::new(),
-    };
     let held = Held {
         out: &mut *out,
         number: 1,
-        work,
+        place: 0,
         block: [0; BLOCK],
         end: 0,
     };

@@ -44,7 +44,7 @@ impl CellTaker for Vec<Cell> {
     ghost taken = { λ v cells w. w.items ≡ v.items ++ cells };
 
     #[inline(always)]
-    fn take(&mut self, cell: Cell, _after: &[u8]) -> Result<(), RunError> {
+    fn take(&mut self, cell: Cell, _place: Option<usize>) -> Result<(), RunError> {
         self.push(cell).map_err(|_| RunError::Fault(Fault::Memory))
     }
 

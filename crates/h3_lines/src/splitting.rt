@@ -4,7 +4,7 @@ ghost use Rattle.std.specs.Prelude.{◌≡◌, ◌≢◌, ◌≤◌, ◌<◌, �
 ghost use Rattle.h3_streams.specs.Counted.{KeepsSource, reads_allowed, source_of};
 ghost use Rattle.h3_lines.specs.List.{lines_of};
 ghost use Rattle.h3_lines.specs.Taking.{is_unended};
-ghost use Rattle.h3_lines.specs.Splitting.{BeginsPlain, Goes, ParsesAs, StopsReading, StopsTaking, TakesAll};
+ghost use Rattle.h3_lines.specs.Splitting.{BeginsLines, BeginsPlain, Goes, ParseAll, ParsesAs, StopsReading, StopsTaking, TakesAll};
 ghost use Rattle.h3_lines.specs.declared.run_error.Fault.TheVariants.{Read};
 ghost use Rattle.h3_lines.specs.declared.run_error.RunError.{RunError};
 ghost use Rattle.h3_lines.specs.declared.run_error.RunError.TheVariants as refusal;
@@ -28,6 +28,9 @@ pub(crate) const LONGEST_LINE: usize = 64;
 /// The digits of a plain line: those of a cell's index.
 const PLAIN: usize = 15;
 
+/// How many plain lines are read before the first of them is taken, if they are looked up together.
+pub const LINES: usize = 16;
+
 /// What takes the lines of a list, one after another.
 pub(crate) trait LineTaker {
     /// How many lines were taken.
@@ -50,14 +53,22 @@ pub(crate) trait LineTaker {
         ensures err { IfErr result (λ e. (later : List (List ℕ)) →
             refused self.old (line.now ∷ later) self.new e) };
 
-    /// Takes a line that parses as an index, and is followed by these bytes in its page.
-    fn take_index(&mut self, index: u64, after: &[u8]) -> Result<(), RunError>
+    /// Takes a line that parses as an index. The place, if there is one, is where it is looked for
+    /// first; it may be any.
+    fn take_index(&mut self, index: u64, place: Option<usize>) -> Result<(), RunError>
         requires few { count self.old < 2 ^ 63 }
         ensures ok { OnOk result ((line : List ℕ) → ParsesAs line index →
             taken self.old (line ∷ []) self.new) }
         ensures counted { OnOk result (count self.new ≤ count self.old + 1) }
         ensures err { IfErr result (λ e. (line : List ℕ) → ParsesAs line index →
             (later : List (List ℕ)) → refused self.old (line ∷ later) self.new e) };
+
+    /// Whether the indexes of the next lines are looked up together.
+    fn looks_ahead(&self) -> bool;
+
+    /// A place for each of the indexes of the next lines, at most 16; `None` if each is looked for
+    /// where the one before it was found.
+    fn look_ahead(&self, indexes: &[u64]) -> Option<[usize; LINES]>;
 
     /// Refuses a line of more than 64 bytes.
     fn refuse_long(&mut self) -> RunError
@@ -92,6 +103,69 @@ pub(crate) fn plain_line(bytes: &[u8]) -> Option<(u64, &[u8])>
     }
     let index = read_plain(&bytes[..PLAIN])?;
     Some((index, &bytes[PLAIN + 1..]))
+}
+
+/// Reads the indexes of the plain lines that bytes begin with, at most 16. Returns how many they are,
+/// and the bytes after them.
+#[inline(always)]
+fn plain_lines<'b>(bytes: &'b [u8], indexes: &mut [u64; LINES]) -> (usize, &'b [u8])
+    ensures within { result.0 ≤ 16 }
+    ensures lines { BeginsLines bytes.now (take result.0 indexes.new) result.1.now }
+{
+    let mut left = bytes;
+    for count in 0..LINES {
+        let Some((index, after)) = plain_line(left) else {
+            return (count, left);
+        };
+        indexes[count] = index;
+        left = after;
+    }
+    (LINES, left)
+}
+
+/// Has the lines with these indexes taken, in order, once they are looked up together.
+#[inline(always)]
+fn take_indexes<V: LineTaker>(taker: &mut V, indexes: &[u64]) -> Result<(), RunError>
+    requires few { V.count taker.old + length indexes.now < 2 ^ 63 }
+    requires within { length indexes.now ≤ 16 }
+    ensures ok { OnOk result ((lines : List (List ℕ)) → ParseAll lines indexes.now →
+        V.taken taker.old lines taker.new) }
+    ensures counted { OnOk result (V.count taker.new ≤ V.count taker.old + length indexes.now) }
+    ensures err { IfErr result (λ e. (lines : List (List ℕ)) → ParseAll lines indexes.now →
+        (later : List (List ℕ)) → V.refused taker.old (lines ++ later) taker.new e) }
+{
+    let places = taker.look_ahead(indexes);
+    for i in 0..indexes.len() {
+        let place = match &places {
+            Some(places) => Some(places[i]),
+            None => None,
+        };
+        taker.take_index(indexes[i], place)?;
+    }
+    Ok(())
+}
+
+/// Has the plain lines taken that a page begins with, up to 16 together, and returns the bytes after
+/// them.
+fn take_together<'b, V: LineTaker>(taker: &mut V, page: &'b [u8]) -> Result<&'b [u8], RunError>
+    requires { V.count taker.old + length page.now < 2 ^ 63 }
+    ensures ok { IfOk result (λ left. Goes V.taken taker.old [] page.now taker.new [] left.now) }
+    ensures fewer { IfOk result (λ left. length left.now ≤ length page.now) }
+    ensures counted { IfOk result (λ left.
+        V.count taker.new + length left.now ≤ V.count taker.old + length page.now) }
+    ensures err { IfErr result (λ e. (rest : List ℕ) →
+        V.refused taker.old (lines_of (page.now ++ rest)) taker.new e) }
+{
+    let mut indexes = [0; LINES];
+    let mut bytes = page;
+    loop {
+        let (count, after) = plain_lines(bytes, &mut indexes);
+        if count == 0 {
+            return Ok(bytes);
+        }
+        take_indexes(taker, &indexes[..count])?;
+        bytes = after;
+    }
 }
 
 /// The bytes before the first line feed, and those after it.
@@ -178,8 +252,11 @@ impl LineStart {
         let mut bytes = page;
         let at_start = self.bytes.is_empty();
         if at_start {
+            if taker.looks_ahead() {
+                return take_together(taker, page);
+            }
             while let Some((index, after)) = plain_line(bytes) {
-                taker.take_index(index, after)?;
+                taker.take_index(index, None)?;
                 bytes = after;
             }
         }

@@ -16,7 +16,7 @@ ghost use Rattle.h3_lines.specs.declared.run_error.RunError.TheVariants as refus
 
 use crate::list::{cell_with, read_line};
 use crate::run_error::{AnswerError, Fault, RunError};
-use crate::splitting::{LineTaker, MAX_READS, PAGE, take_lines};
+use crate::splitting::{LINES, LineTaker, MAX_READS, PAGE, take_lines};
 use h3_index::{Cell, H3Error};
 use h3_streams::{CountedReader, Source};
 use std::alloc::Global;
@@ -29,13 +29,27 @@ pub trait CellTaker {
     /// From the one to the other these cells were taken, in this order.
     ghost taken: { Self → List Address → Self → Type 0 };
 
-    /// Takes a cell, whose line is followed by these bytes in its page: by none if it is not plain.
+    /// Takes a cell. The place, if there is one, is where it is looked for first; it may be any.
     /// `Fault::Memory` where there is none for it.
-    fn take(&mut self, cell: Cell, after: &[u8]) -> Result<(), RunError>
+    fn take(&mut self, cell: Cell, place: Option<usize>) -> Result<(), RunError>
         requires few { count self.old < 2 ^ 63 }
         ensures ok { OnOk result (taken self.old (cell ∷ []) self.new) }
         ensures counted { count self.new ≤ count self.old + 1 }
         ensures err { IfErr result (λ e. e ≡ refusal.Fault Memory) };
+
+    /// Whether it looks for the cells of plain lines together: `look_ahead` is then asked for their
+    /// places.
+    #[inline(always)]
+    fn looks_ahead(&self) -> bool {
+        false
+    }
+
+    /// The places at which `take` looks for the next cells, of at most 16 indexes, one for each;
+    /// `None` if each is looked for where the one before it was found. They may be any.
+    #[inline(always)]
+    fn look_ahead(&self, _indexes: &[u64]) -> Option<[usize; LINES]> {
+        None
+    }
 
     ghost none_taken: { (v : Self) → taken v [] v };
 
@@ -49,7 +63,7 @@ fn push_parsed<V: CellTaker>(
     taker: &mut V,
     number: u64,
     said: Result<Option<Cell>, H3Error>,
-    after: &[u8],
+    place: Option<usize>,
 ) -> Result<(), RunError>
     requires few { V.count taker.old < 2 ^ 63 }
     ensures ok { OnOk result (V.taken taker.old (cells_on said) taker.new) }
@@ -61,7 +75,7 @@ fn push_parsed<V: CellTaker>(
 {
     match said {
         Ok(None) => Ok(()),
-        Ok(Some(cell)) => taker.take(cell, after),
+        Ok(Some(cell)) => taker.take(cell, place),
         Err(error) => Err(RunError::Error(AnswerError::At(number, error))),
     }
 }
@@ -87,14 +101,24 @@ impl<V: CellTaker> LineTaker for NumberedLines<V> {
     fn take(&mut self, line: &[u8]) -> Result<(), RunError> {
         let number = self.number;
         self.number += 1;
-        push_parsed(&mut self.taker, number, read_line(line), &[])
+        push_parsed(&mut self.taker, number, read_line(line), None)
     }
 
     #[inline(always)]
-    fn take_index(&mut self, index: u64, after: &[u8]) -> Result<(), RunError> {
+    fn take_index(&mut self, index: u64, place: Option<usize>) -> Result<(), RunError> {
         let number = self.number;
         self.number += 1;
-        push_parsed(&mut self.taker, number, cell_with(index), after)
+        push_parsed(&mut self.taker, number, cell_with(index), place)
+    }
+
+    #[inline(always)]
+    fn looks_ahead(&self) -> bool {
+        self.taker.looks_ahead()
+    }
+
+    #[inline(always)]
+    fn look_ahead(&self, indexes: &[u64]) -> Option<[usize; LINES]> {
+        self.taker.look_ahead(indexes)
     }
 
     fn refuse_long(&mut self) -> RunError {

@@ -3,7 +3,7 @@
 ghost use Rattle.std.specs.Prelude.{◌+◌, ◌-◌, ◌/◌, ◌<◌, ◌≤◌, All, length};
 ghost use Rattle.h3_regions.specs.Zones.{IsZones};
 
-use crate::zones::{HALVES, NEAR, Zones, are_below, are_not_below};
+use crate::zones::{NEAR, Zones, are_below, are_not_below};
 use h3_index::Cell;
 use h3_tree::post_order_key;
 
@@ -25,8 +25,9 @@ fn step_each(cells: &[Cell], keys: &[u64; AHEAD], size: usize, places: &mut [usi
     let half = size / 2;
     for i in 0..AHEAD {
         let place = places[i];
-        let passed = post_order_key(cells[place + half]) < keys[i];
-        places[i] = place + half * HALVES[usize::from(passed)];
+        // the highest bit of the difference: a compiler makes no jump of it
+        let passed = post_order_key(cells[place + half]).wrapping_sub(keys[i]) >> 63;
+        places[i] = place + half * passed as usize;
     }
 }
 
@@ -41,20 +42,41 @@ fn is_near(cells: &[Cell], key: u64, place: usize) -> bool
     are_below(cells, key, from) & are_not_below(cells, key, to)
 }
 
-/// Searches for the cells with these keys side by side, each in all of the cells.
-fn search_each(cells: &[Cell], keys: &[u64; AHEAD]) -> [usize; AHEAD] {
-    let mut places = [0; AHEAD];
-    let mut size = cells.len();
+/// Goes on by one from each place whose key is below that of the cell.
+#[inline(always)]
+fn pass_each(cells: &[Cell], keys: &[u64; AHEAD], places: &mut [usize; AHEAD])
+    requires { All (λ p. p < length cells.now) places.old }
+{
+    for i in 0..AHEAD {
+        let place = places[i];
+        places[i] = place + usize::from(post_order_key(cells[place]) < keys[i]);
+    }
+}
+
+/// Searches for the cells with these keys side by side, each in so many of the cells from its place
+/// on.
+#[inline(always)]
+pub(crate) fn search_each(
+    cells: &[Cell],
+    keys: &[u64; AHEAD],
+    count: usize,
+    places: &mut [usize; AHEAD],
+)
+    requires { All (λ p. p + count ≤ length cells.now) places.old }
+{
+    let mut size = count;
     while size > 1 {
-        step_each(cells, keys, size, &mut places);
+        step_each(cells, keys, size, places);
         size -= size / 2;
     }
-    places
+    if size == 1 {
+        pass_each(cells, keys, places);
+    }
 }
 
 /// The keys of the first indexes, and 0 for those that are missing.
 #[inline(always)]
-fn keys_of(indexes: &[u64]) -> [u64; AHEAD] {
+pub(crate) fn keys_of(indexes: &[u64]) -> [u64; AHEAD] {
     let mut keys = [0; AHEAD];
     for i in 0..AHEAD.min(indexes.len()) {
         keys[i] = indexes[i] & KEY_BITS;
@@ -78,6 +100,9 @@ impl<'a> Zones<'a> {
     /// The places are hints: `zone_near` returns the same zones from any others, only later. An index
     /// need not be a cell's.
     pub fn look_ahead(&self, indexes: &[u64]) -> [usize; AHEAD] {
-        search_each(self.cells(), &keys_of(indexes))
+        let cells = self.cells();
+        let mut places = [0; AHEAD];
+        search_each(cells, &keys_of(indexes), cells.len(), &mut places);
+        places
     }
 }

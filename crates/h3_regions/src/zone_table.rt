@@ -1,12 +1,13 @@
 //! Zones with a table of first places that is kept, and is not trusted.
 
-ghost use Rattle.std.specs.Prelude.{◌≡◌, ◌≤◌, ◌↔◌, length, Some, Contains, IfSome, IsTrue};
+ghost use Rattle.std.specs.Prelude.{◌≡◌, ◌≤◌, ◌↔◌, All, length, Some, Contains, IfSome, IsTrue};
 ghost use Rattle.h3_index.specs.Cell.{Address, resolution};
 ghost use Rattle.h3_index.specs.Descendants.{IsAncestor};
 ghost use Rattle.h3_set.specs.Coverage.{IsCovered};
 ghost use Rattle.h3_regions.specs.FirstPlaces.{IsTableOf};
 ghost use Rattle.h3_regions.specs.Zones.{IsZones, zone_of};
 
+use crate::ahead::{AHEAD, keys_of, search_each};
 use crate::zone_index::{divide, fill, slot_of};
 use crate::zones::{Zones, search_between};
 use h3_index::Cell;
@@ -33,6 +34,16 @@ fn searched(cells: &[Cell], key: u64, from: usize, to: usize) -> usize
 {
     let end = to.min(cells.len());
     search_between(cells, key, from.min(end), end)
+}
+
+/// Moves places that are above the last one back to it.
+#[inline(always)]
+fn keep_within(last: usize, places: &mut [usize; AHEAD])
+    ensures { All (λ p. p ≤ last) places.new }
+{
+    for i in 0..AHEAD {
+        places[i] = places[i].min(last);
+    }
 }
 
 /// Zones with a table that `write_table` has written of them before. The table says where a search
@@ -107,6 +118,39 @@ impl<'a> TabledZones<'a> {
                 self.cells.len(),
             )
         }
+    }
+
+    /// Sets each place to that of the first zone of the key's part in the table. Returns how many zones
+    /// the longest of these parts has.
+    #[inline(always)]
+    fn find_parts(&self, keys: &[u64; AHEAD], places: &mut [usize; AHEAD]) -> usize {
+        if self.table.len() < 2 {
+            return self.cells.len();
+        }
+        let last = self.table.len() - 2;
+        let mut longest = 0;
+        for i in 0..AHEAD {
+            let slot = last.min(slot_of(self.lowest, self.shift, keys[i]) as usize);
+            let from = self.table[slot] as usize;
+            let to = self.table[slot + 1] as usize;
+            places[i] = from;
+            longest = to.saturating_sub(from).max(longest);
+        }
+        longest
+    }
+
+    /// Places for `Zones::zone_near` to look for the cells with the first 16 of these indexes, which are
+    /// searched for side by side, each in its part of the table.
+    ///
+    /// The places are hints, as those of `Zones::look_ahead`.
+    pub fn look_ahead(&self, indexes: &[u64]) -> [usize; AHEAD] {
+        let keys = keys_of(indexes);
+        let mut places = [0; AHEAD];
+        let longest = self.find_parts(&keys, &mut places);
+        let count = longest.min(self.cells.len());
+        keep_within(self.cells.len() - count, &mut places);
+        search_each(self.cells, &keys, count, &mut places);
+        places
     }
 
     /// The zone of the cell: the one that is the cell or an ancestor of it; `None` where there is none.

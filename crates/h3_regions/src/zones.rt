@@ -108,12 +108,10 @@ pub(crate) fn first_near(cells: &[Cell], key: u64, place: usize) -> usize
 {
     let from = place.min(cells.len());
     let to = from.saturating_add(NEAR).min(cells.len());
-    if are_below(cells, key, from) & are_not_below(cells, key, to) {
-        if are_not_below(cells, key, from) {
-            from
-        } else {
-            first_of_few(cells, key, from, to)
-        }
+    if are_below(cells, key, from) & are_not_below(cells, key, from) {
+        from
+    } else if are_below(cells, key, from) & are_not_below(cells, key, to) {
+        first_of_few(cells, key, from, to)
     } else {
         first_between(cells, key, 0, cells.len())
     }

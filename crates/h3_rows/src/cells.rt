@@ -108,7 +108,7 @@ impl<'f, V: CellTaker> RowTaker for RowCells<'f, V> {
             }
             Ok((Some(cell), state)) => {
                 self.state = state;
-                self.taker.take(cell, &[])
+                self.taker.take(cell, None)
             }
             Err(error) => Err(RunError::Error(error)),
         }

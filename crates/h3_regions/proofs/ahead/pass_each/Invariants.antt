@@ -1,0 +1,6 @@
+use Rattle.std.specs.List.{AllWithin}
+use Rattle.std.proofs.Common.{◌<◌, length}
+use Rattle.h3_regions.proofs.ahead.pass_each.Given as goal
+
+abbrev pub invariant-loop-i : goal.invariant-loop-i
+invariant-loop-i l = AllWithin (λ p. p < length l.cells) l.places l.i (length l.places)
