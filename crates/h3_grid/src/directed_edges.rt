@@ -14,13 +14,15 @@ use h3_index::{Cell, Edge, H3Error};
 use h3_lattice::edge_direction;
 use h3_table::BaseTable;
 
-/// The edge that leaves one cell and leads to another, as H3's `cellsToDirectedEdge` returns it
-/// outside pentagon base cells. Which pairs are refused, and with which error, is this library's
-/// own.
+/// Returns the edge that leaves one cell and leads to another: H3's `cellsToDirectedEdge` outside
+/// pentagon base cells. Which pairs are refused, and with which error, is this library's own.
 ///
-/// `ResMismatch` where their resolutions differ; then `NotNeighbors` for one cell given twice; then
-/// `Pentagon` where either is in a pentagon base cell; then `NotNeighbors` where no step leads from
-/// the first to the second.
+/// # Errors
+///
+/// - `ResMismatch` if their resolutions differ.
+/// - `NotNeighbors` if they are the same cell.
+/// - `Pentagon` if either is in a pentagon base cell.
+/// - `NotNeighbors` if no step leads from the first to the second.
 pub fn edge_between(table: &BaseTable, a: Cell, b: Cell) -> Result<Edge, H3Error>
     ensures is { result ≡ edge_between (link_of table.now) a b }
 
@@ -45,11 +47,15 @@ pub fn edge_between(table: &BaseTable, a: Cell, b: Cell) -> Result<Edge, H3Error
     }
 }
 
-/// The cell that an edge leads to, as H3's `getDirectedEdgeDestination` returns it outside pentagon
-/// base cells: that of the step from its origin, with rotation 0, in its direction. Which edges are
+/// Returns the cell that an edge leads to: H3's `getDirectedEdgeDestination` outside pentagon base
+/// cells.
+///
+/// It is that of the step from its origin, with rotation 0, in its direction. Which edges are
 /// refused is this library's own.
 ///
-/// `Pentagon` where the origin or that cell is in a pentagon base cell.
+/// # Errors
+///
+/// `Pentagon` if the origin or that cell is in a pentagon base cell.
 pub fn edge_destination(table: &BaseTable, edge: Edge) -> Result<Cell, H3Error>
     ensures is { result ≡ edge_destination (link_of table.now) edge }
 

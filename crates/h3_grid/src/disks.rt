@@ -110,11 +110,14 @@ fn disk_is_lawful(table: &BaseTable, cell: Cell, k: i32)
 impl<'a> Disk<'a> {
     ghost use Rattle.h3_grid.specs.Disks.{disk_left};
 
-    /// The disk of a radius around a cell, as H3's `gridDiskUnsafe` and `gridDiskDistancesUnsafe`
-    /// walk it; which disks are refused is this library's own. Nothing of it is walked yet.
+    /// Returns the disk of a radius around a cell, as H3's `gridDiskUnsafe` and
+    /// `gridDiskDistancesUnsafe` walk it. Nothing of it is walked yet. Which disks are refused is
+    /// this library's own.
     ///
-    /// `Domain` for a negative radius; then `Pentagon` for a pentagon, and for a radius of 1 or
-    /// more in a pentagon base cell.
+    /// # Errors
+    ///
+    /// - `Domain` for a negative radius.
+    /// - `Pentagon` for a pentagon, and for a radius of 1 or more in a pentagon base cell.
     pub fn new(table: &'a BaseTable, cell: Cell, k: i32) -> Result<Disk<'a>, H3Error>
         ensures refused { result_err result ≡ disk_refusal cell k }
         ensures items { IfOk result (λ walk.

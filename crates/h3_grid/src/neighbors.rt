@@ -100,12 +100,15 @@ fn is_neighbor(table: &BaseTable, a: Cell, b: Cell) -> bool
     a != b && direction_to(table, a, b).is_some()
 }
 
-/// Whether two cells are neighbors, as H3's `areNeighborCells` returns it outside pentagon base
-/// cells: a step leads from the one to the other. No cell is its own neighbor. Which pairs are
+/// Returns whether two cells are neighbors: H3's `areNeighborCells` outside pentagon base cells.
+///
+/// They are if a step leads from the one to the other. No cell is its own neighbor. Which pairs are
 /// refused is this library's own.
 ///
-/// `ResMismatch` where their resolutions differ; then, for different cells, `Pentagon` where either
-/// is in a pentagon base cell.
+/// # Errors
+///
+/// - `ResMismatch` if their resolutions differ.
+/// - `Pentagon` if they differ and either is in a pentagon base cell.
 pub fn are_neighbors(table: &BaseTable, a: Cell, b: Cell) -> Result<bool, H3Error>
     ensures is { result ≡ are_neighbors (link_of table.now) a b }
 

@@ -89,12 +89,15 @@ fn ring_is_lawful(table: &BaseTable, cell: Cell, k: i32)
 impl<'a> Ring<'a> {
     ghost use Rattle.h3_grid.specs.Rings.{ring_left};
 
-    /// The ring of a radius around a cell, as H3's `gridRingUnsafe` walks it. Nothing of it is
-    /// walked yet: the first call of `next` takes as many steps as the radius, every other at most
-    /// one.
+    /// Returns the ring of a radius around a cell, as H3's `gridRingUnsafe` walks it.
     ///
-    /// `Domain` for a negative radius; then `Pentagon` for a radius of 1 or more in a pentagon base
-    /// cell.
+    /// Nothing of it is walked yet: the first call of `next` takes as many steps as the radius,
+    /// every other at most one.
+    ///
+    /// # Errors
+    ///
+    /// - `Domain` for a negative radius.
+    /// - `Pentagon` for a radius of 1 or more in a pentagon base cell.
     pub fn new(table: &'a BaseTable, cell: Cell, k: i32) -> Result<Ring<'a>, H3Error>
         ensures refused { result_err result ≡ ring_refusal cell k }
         ensures items { IfOk result (λ walk.

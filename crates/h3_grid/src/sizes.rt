@@ -9,7 +9,9 @@ ghost use Rattle.h3_grid.specs.Refusals.{radius_refusal};
 use crate::disks::disks_are_spirals;
 use h3_index::H3Error;
 
-/// The number of cells of a disk of radius k of which no step is refused: 3k(k + 1) + 1.
+/// Returns the number of cells of a disk of radius k of which no step is refused: 3k(k + 1) + 1.
+///
+/// # Errors
 ///
 /// `Domain` for a negative radius.
 pub fn disk_len(k: i32) -> Result<u64, H3Error>

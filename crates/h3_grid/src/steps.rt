@@ -48,14 +48,16 @@ fn step_is_lawful(table: &BaseTable)
     table.links_are_sound();
 }
 
-/// The neighbor of a cell in a direction, and the rotation there, as H3's `h3NeighborRotations`
-/// outside pentagon base cells.
+/// Returns the neighbor of a cell in a direction, and the rotation there: H3's
+/// `h3NeighborRotations` outside pentagon base cells.
 ///
 /// A rotation, 0 to 5, is how often a walk's directions are turned in the base cell that it is in:
 /// the step goes in the direction turned `rot` times, and on crossing into another base cell the
 /// turns of the table's link are added.
 ///
-/// `Pentagon` where the cell or its neighbor is in a pentagon base cell.
+/// # Errors
+///
+/// `Pentagon` if the cell or its neighbor is in a pentagon base cell.
 #[inline(always)]
 pub fn step(
     table: &BaseTable,

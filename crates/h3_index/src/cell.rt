@@ -92,8 +92,11 @@ impl Model for Cell {
 }
 
 impl Cell {
-    /// The cell with this number, as H3's `isValidCell` tests it:
-    /// `CellInvalid` where no cell has it.
+    /// Returns the cell with this number, as H3's `isValidCell` tests it.
+    ///
+    /// # Errors
+    ///
+    /// `CellInvalid` if the number is not a valid cell.
     #[inline(always)]
     pub fn new(raw: u64) -> Result<Cell, H3Error>
         ensures read { result_ok result ≡ cell_in raw }

@@ -21,7 +21,11 @@ fn below(limit: u8, n: i32) -> Option<u8>
     }
 }
 
-/// The resolution that a whole number is: `ResDomain` outside 0 to 15.
+/// Returns the resolution that a whole number is.
+///
+/// # Errors
+///
+/// `ResDomain` outside 0 to 15.
 pub fn resolution_from(res: i32) -> Result<u8, H3Error>
     ensures ok { IfOk result (λ r. (resolution_of res ≡ Some r) × (pos r ≡ res) × (r ≤ 15)) }
     ensures err { IfErr result (λ e. (resolution_of res ≡ None) × (e ≡ H3Error.ResDomain)) }
@@ -32,8 +36,11 @@ pub fn resolution_from(res: i32) -> Result<u8, H3Error>
     }
 }
 
-/// The number of cells of a resolution, as H3's `getNumCells` returns it:
-/// `ResDomain` outside 0 to 15.
+/// Returns the number of cells of a resolution: H3's `getNumCells`.
+///
+/// # Errors
+///
+/// `ResDomain` if the number is not a resolution.
 pub fn num_cells(res: i32) -> Result<u64, H3Error>
     ensures formula { MatchOption (resolution_of res) (result ≡ Err H3Error.ResDomain)
         (λ r. result ≡ Ok (2 + 120 * 7 ^ r)) }
@@ -45,7 +52,10 @@ pub fn num_cells(res: i32) -> Result<u64, H3Error>
     Ok(2 + 120 * 7u64.pow(u32::from(res)))
 }
 
-/// The cell of resolution 0 in a base cell, of which H3's `getRes0Cells` gives all:
+/// Returns the cell of resolution 0 in a base cell. H3's `getRes0Cells` gives all.
+///
+/// # Errors
+///
 /// `Domain` outside 0 to 121.
 pub fn res0_cell(b: i32) -> Result<Cell, H3Error>
     ensures { MatchOption (number_below 122 b) (result ≡ Err H3Error.Domain)
@@ -69,8 +79,13 @@ fn pentagon_base(n: i32) -> Option<u8>
         .nth(usize::from(n))
 }
 
-/// The n-th pentagon of a resolution, from 0, in ascending order; H3's `getPentagons` gives all:
-/// `ResDomain` where the resolution is outside 0 to 15, then `Domain` where n is outside 0 to 11.
+/// Returns the n-th pentagon of a resolution, from 0, in ascending order. H3's `getPentagons` gives
+/// all.
+///
+/// # Errors
+///
+/// - `ResDomain` if the number is not a resolution.
+/// - `Domain` if n is outside 0 to 11.
 pub fn pentagon(res: i32, n: i32) -> Result<Cell, H3Error>
     ensures nth { MatchOption (resolution_of res) (result ≡ Err H3Error.ResDomain)
         (λ r. MatchOption (number_below 12 n) (result ≡ Err H3Error.Domain)

@@ -48,8 +48,11 @@ impl Model for Edge {
 }
 
 impl Edge {
-    /// The edge with this number, as H3's `isValidDirectedEdge` tests it:
-    /// `DirEdgeInvalid` where no edge has it.
+    /// Returns the edge with this number, as H3's `isValidDirectedEdge` tests it.
+    ///
+    /// # Errors
+    ///
+    /// `DirEdgeInvalid` if the number is not a valid edge.
     pub fn new(raw: u64) -> Result<Edge, H3Error>
         ensures read { result_ok result ≡ edge_in raw }
         ensures accepted { IfOk result (λ edge. IsEdge edge × (edge_number edge ≡ raw)) }
@@ -65,9 +68,12 @@ impl Edge {
         }
     }
 
-    /// The edge that leaves a cell in the direction of a digit; H3 has no public function for it.
+    /// Returns the edge that leaves a cell in the direction of a digit. H3 has no public function
+    /// for it.
     ///
-    /// `DirEdgeInvalid` where the digit is not 1 to 6, and where it is 1 (K) at a pentagon.
+    /// # Errors
+    ///
+    /// `DirEdgeInvalid` if the digit is not 1 to 6, or is 1 (K) at a pentagon.
     pub fn from_parts(origin: Cell, direction: u8) -> Result<Edge, H3Error>
         ensures made { IfOk result (λ edge. (edge ≡ directed_edge origin direction) × IsEdge edge) }
         ensures refused { result_err result ≡ direction_refusal origin direction }

@@ -86,12 +86,14 @@ fn read_digits(digits: &[u8]) -> Option<u64>
     Some(number)
 }
 
-/// The index that a text parses as; stricter than H3's `stringToH3`, which
-/// accepts text after the digits.
+/// Returns the index that a text parses as. H3's `stringToH3` also accepts text after the digits.
 ///
-/// Spaces, tabs and carriage returns at both ends are dropped, then an optional `0x` or `0X`; what
-/// is left must be 1 to 16 hexadecimal digits of either case. Any other text is refused with
-/// `Failed`. The index need not be valid.
+/// Spaces, tabs and carriage returns at both ends are dropped, then an optional `0x` or `0X`. What
+/// is left must be 1 to 16 hexadecimal digits of either case. The index need not be valid.
+///
+/// # Errors
+///
+/// `Failed` for any other text.
 pub fn read_index(bytes: &[u8]) -> Result<u64, H3Error>
     ensures parsed { result_ok result ≡ parsed_index bytes.now }
     ensures refused { IfErr result (λ e. e ≡ H3Error.Failed) }

@@ -30,11 +30,13 @@ use h3_tree::laws::cells_form_trees;
 /// There must be at least as many slots as cells, n. The slots after the first n stay as they are;
 /// those of the first n that are after the list may hold any cells.
 ///
-/// `DuplicateInput` where cells at two places overlap: a cell is listed twice, or together with an
-/// ancestor of it. The first n slots then hold the cells in some order.
-///
 /// The further laws of compacted lists are those of [`compacted_lists_are_unique`] and
 /// [`coverages_decide_lists`](crate::laws::coverages_decide_lists).
+///
+/// # Errors
+///
+/// `DuplicateInput` if cells at two places overlap: a cell is listed twice, or together with an
+/// ancestor of it. The first n slots then hold the cells in some order.
 pub fn compact_cells(cells: &[Cell], slots: &mut [Cell]) -> Result<usize, H3Error>
     requires { length cells.now ≤ length slots.old }
     ensures compacted { IfOk result (λ m. IsCompacted
@@ -68,11 +70,13 @@ fn order_apart(cells: &mut [Cell]) -> Result<(), H3Error>
     Ok(())
 }
 
-/// As `compact_in_place`, without its last sort: the cells of the compacted list stand in post order,
-/// as `put_in_order` leaves them, and not in ascending order. Where the cells are in post order
+/// As `compact_in_place`, without its last sort: the cells of the compacted list stand in post
+/// order, as `put_in_order` leaves them, and not in ascending order. If the cells are in post order
 /// already, nothing is sorted.
 ///
-/// `DuplicateInput` where cells at two places overlap. The cells are then the same, in some order.
+/// # Errors
+///
+/// `DuplicateInput` if cells at two places overlap. The cells are then the same, in some order.
 pub fn compact_in_order(cells: &mut [Cell]) -> Result<usize, H3Error>
     ensures list { IfOk result (λ m. IsPermutation (compacted cells.old) (take m cells.new)) }
     ensures in_order { IfOk result (λ m. IsInOrder (take m cells.new)) }
@@ -91,7 +95,9 @@ pub fn compact_in_order(cells: &mut [Cell]) -> Result<usize, H3Error>
 /// into the first of them and returns how many cells it has. Those after the list may be any cells.
 /// It allocates nothing.
 ///
-/// `DuplicateInput` where cells at two places overlap. The cells are then the same, in some order.
+/// # Errors
+///
+/// `DuplicateInput` if cells at two places overlap. The cells are then the same, in some order.
 pub fn compact_in_place(cells: &mut [Cell]) -> Result<usize, H3Error>
     ensures compacted { IfOk result (λ m. IsCompacted
         (IsCovered cells.old (finest cells.old)) (finest cells.old) (take m cells.new)) }

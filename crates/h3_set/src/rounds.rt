@@ -29,8 +29,10 @@ impl Compaction {
     /// Puts the cells, of any resolutions, into the first slots. There must be at least as many
     /// slots as cells, n; the slots after the first n stay as they are.
     ///
-    /// `DuplicateInput` where cells at two places overlap: a cell is listed twice, or together with
-    /// an ancestor of it. The first n slots then hold the cells in some order.
+    /// # Errors
+    ///
+    /// `DuplicateInput` if cells at two places overlap: a cell is listed twice, or together with an
+    /// ancestor of it. The first n slots then hold the cells in some order.
     pub fn start(cells: &[Cell], slots: &mut [Cell]) -> Result<Compaction, H3Error>
         requires { length cells.now ≤ length slots.old }
         ensures refused { result_err result ≡ compaction_refusal cells.now }

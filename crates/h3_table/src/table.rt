@@ -70,11 +70,18 @@ impl BaseTable {
         BaseTable { links }
     }
 
-    /// The table in the bytes of a file, which has one of the two formats of [`BaseTable::read`].
+    /// Returns the table in the bytes of a file, which has one of the two formats of
+    /// [`BaseTable::read`].
     ///
-    /// The errors, in this order: the first faulty record, a missing record, and the first check
-    /// that fails, by ascending base cell and direction. [`TableError::Memory`] where there is no
-    /// memory for a record; never [`TableError::Read`].
+    /// # Errors
+    ///
+    /// In this order:
+    ///
+    /// - The first faulty record.
+    /// - A missing record.
+    /// - The first check that fails, by ascending base cell and direction.
+    ///
+    /// Or [`TableError::Memory`] if there is no memory for a record; never [`TableError::Read`].
     pub fn from_csv(alloc: Global, file: &[u8]) -> Result<BaseTable, TableError>
         ensures accepted { IfOk result (λ table. (table_fault (records_of file.now) ≡ None) ×
             (link_of table ≡ links_of (records_of file.now))) }
@@ -102,10 +109,16 @@ impl BaseTable {
     ///   `ik` and `ij` lie in the directions of these names, and each digit is turned `rk`, `rj`,
     ///   `rjk`, `ri`, `rik` and `rij` times on crossing into them.
     ///
-    /// The errors, in this order: [`TableError::Read`] where the reader fails or is not at its end
-    /// within 2^40 reads, the first faulty record, a missing record, and the first check that
-    /// fails, by ascending base cell and direction. [`TableError::Memory`] where there is no memory
-    /// for the file or a record.
+    /// # Errors
+    ///
+    /// In this order:
+    ///
+    /// - [`TableError::Read`] if the reader fails, or is not at its end within 2^40 reads.
+    /// - The first faulty record.
+    /// - A missing record.
+    /// - The first check that fails, by ascending base cell and direction.
+    ///
+    /// Or [`TableError::Memory`] if there is no memory for the file or a record.
     pub fn read<R: Source>(alloc: Global, source: &mut R) -> Result<BaseTable, TableError>
         // The bytes of the file are those left in the source, where it is known which they are.
         // 2^40 reads of a page find their end.

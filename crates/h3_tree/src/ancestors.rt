@@ -9,11 +9,12 @@ ghost use Rattle.h3_tree.specs.Refusals.{parent_refusal};
 
 use h3_index::{Cell, H3Error, resolution_from};
 
-/// The one ancestor of a cell at a resolution, as H3's `cellToParent` gives it: at the cell's own
-/// resolution the cell.
+/// Returns the one ancestor of a cell at a resolution, at its own the cell: H3's `cellToParent`.
 ///
-/// `ResDomain` where the resolution is outside 0 to 15, and then `ResMismatch` where it is finer
-/// than the cell's.
+/// # Errors
+///
+/// - `ResDomain` if the number is not a resolution.
+/// - `ResMismatch` if it is finer than the cell's.
 pub fn parent(cell: Cell, res: i32) -> Result<Cell, H3Error>
     ensures refused { result_err result ≡ parent_refusal (resolution cell) res }
     ensures is { IfOk result (λ ancestor. ancestor ≡ ancestor_at cell (unsigned_abs res)) }

@@ -17,8 +17,12 @@ use crate::sibling_groups::SiblingGroups;
 use h3_index::laws::descendants_are_listed;
 use h3_index::{Cell, H3Error, resolution_from};
 
-/// The resolution that a whole number is, where a cell has descendants at it, which is from the
-/// cell's own to 15; `ResDomain` elsewhere.
+/// Returns the resolution that a whole number is, if a cell has descendants at it: from the cell's
+/// own to 15.
+///
+/// # Errors
+///
+/// `ResDomain` elsewhere.
 pub fn resolution_below(cell: Cell, res: i32) -> Result<u8, H3Error>
     ensures refused { result_err result ≡ descent_refusal (resolution cell) res }
     ensures is { IfOk result (λ r. (pos r ≡ res) × (resolution cell ≤ r) × (r ≤ 15)) }
@@ -30,10 +34,12 @@ pub fn resolution_below(cell: Cell, res: i32) -> Result<u8, H3Error>
     Ok(r)
 }
 
-/// The descendant of a cell at a resolution whose further digits are 0, as H3's `cellToCenterChild`
-/// gives it: at the cell's own resolution the cell.
+/// Returns the descendant of a cell at a resolution whose further digits are 0, at its own the
+/// cell: H3's `cellToCenterChild`.
 ///
-/// `ResDomain` where the resolution is outside the cell's own to 15.
+/// # Errors
+///
+/// `ResDomain` if the number is not a resolution from the cell's own to 15.
 pub fn center_child(cell: Cell, res: i32) -> Result<Cell, H3Error>
     ensures refused { result_err result ≡ descent_refusal (resolution cell) res }
     ensures zeros { IfOk result (λ child. child ≡ center_descendant cell (unsigned_abs res)) }
@@ -43,10 +49,12 @@ pub fn center_child(cell: Cell, res: i32) -> Result<Cell, H3Error>
     Ok(cell.center_descendant(r))
 }
 
-/// The last descendant of a cell at a resolution, which is the one with the greatest number: its
+/// Returns the last descendant of a cell at a resolution, which has the greatest number: its
 /// further digits are 6. At the cell's own resolution it is the cell.
 ///
-/// `ResDomain` where the resolution is outside the cell's own to 15.
+/// # Errors
+///
+/// `ResDomain` if the number is not a resolution from the cell's own to 15.
 pub fn last_child(cell: Cell, res: i32) -> Result<Cell, H3Error>
     ensures refused { result_err result ≡ descent_refusal (resolution cell) res }
     ensures sixes { IfOk result (λ child. child ≡ last_at cell (unsigned_abs res)) }
@@ -81,11 +89,14 @@ pub(crate) fn size_at(cell: Cell, r: u8) -> u64
     }
 }
 
-/// How many descendants a cell has at a resolution, as H3's `cellToChildrenSize` counts them. n
-/// levels down there are 7^n below a hexagon and 1 + 5 * ((7^n - 1) / 6) below a pentagon; at its
+/// Returns how many descendants a cell has at a resolution: H3's `cellToChildrenSize`.
+///
+/// n levels down there are 7^n below a hexagon and 1 + 5 * ((7^n - 1) / 6) below a pentagon. At its
 /// own resolution a cell has one, itself.
 ///
-/// `ResDomain` where the resolution is outside the cell's own to 15.
+/// # Errors
+///
+/// `ResDomain` if the number is not a resolution from the cell's own to 15.
 pub fn children_size(cell: Cell, res: i32) -> Result<u64, H3Error>
     ensures refused { result_err result ≡ descent_refusal (resolution cell) res }
     ensures count { IfOk result (λ size. size ≡ length (descendants cell (unsigned_abs res))) }
@@ -123,10 +134,12 @@ pub fn sibling_groups_at(cell: Cell, r: u8) -> SiblingGroups
     SiblingGroups::below(cell, r)
 }
 
-/// The descendants of a cell at a resolution, as H3's `cellToChildren` gives them, in ascending
-/// order and each once: at the cell's own resolution the cell alone.
+/// Returns the descendants of a cell at a resolution, ascending and each once: H3's
+/// `cellToChildren`. At the cell's own resolution it is the cell alone.
 ///
-/// `ResDomain` where the resolution is outside the cell's own to 15.
+/// # Errors
+///
+/// `ResDomain` if the number is not a resolution from the cell's own to 15.
 pub fn children(cell: Cell, res: i32) -> Result<Children, H3Error>
     ensures refused { result_err result ≡ descent_refusal (resolution cell) res }
     ensures list { IfOk result (λ items.

@@ -115,12 +115,16 @@ fn position_below_pentagon(cell: Cell, ancestor_res: u8) -> u64
     in_base_seven(digits) - deleted_below(digits)
 }
 
-/// The position of a cell among the descendants of its ancestor at a resolution, as H3's
-/// `cellToChildPos` gives it: how many of those that have the cell's resolution have a smaller
-/// number than the cell. At the cell's own resolution it is 0.
+/// Returns the position of a cell among the descendants of its ancestor at a resolution: H3's
+/// `cellToChildPos`.
 ///
-/// `ResDomain` where the resolution is outside 0 to 15, and then `ResMismatch` where it is finer
-/// than the cell's.
+/// It is how many of the descendants at the cell's resolution have a smaller number than the cell.
+/// At the cell's own resolution it is 0.
+///
+/// # Errors
+///
+/// - `ResDomain` if the number is not a resolution.
+/// - `ResMismatch` if it is finer than the cell's.
 #[inline(always)]
 pub fn child_pos(cell: Cell, parent_res: i32) -> Result<u64, H3Error>
     ensures refused { result_err result ≡ parent_refusal (resolution cell) parent_res }
@@ -135,13 +139,16 @@ pub fn child_pos(cell: Cell, parent_res: i32) -> Result<u64, H3Error>
     }
 }
 
-/// The descendant of a cell at a resolution that stands at a position, counted from 0, among all of
-/// them in ascending order, as H3's `childPosToCell` gives it: at the cell's own resolution, at
-/// position 0, the cell.
+/// Returns the descendant of a cell at a position, from 0, among all at a resolution, in ascending
+/// order: H3's `childPosToCell`.
 ///
-/// `ResDomain` where the resolution is outside 0 to 15, then `ResMismatch` where it is coarser than
-/// the cell's, and then `Domain` where the position is not below the number of descendants, which
-/// `children_size` gives.
+/// At the cell's own resolution, at position 0, it is the cell.
+///
+/// # Errors
+///
+/// - `ResDomain` if the number is not a resolution.
+/// - `ResMismatch` if it is coarser than the cell's.
+/// - `Domain` if the position is not below the number of descendants, which `children_size` gives.
 pub fn child_at(position: u64, cell: Cell, res: i32) -> Result<Cell, H3Error>
     ensures refused { result_err result ≡ position_refusal cell res position }
     ensures is { IfOk result (λ member.
