@@ -6,6 +6,7 @@ pub mod EdgeExamples
 pub mod Examples
 pub mod FileQuery
 pub mod Files
+pub mod ListQuery
 pub mod Listed
 pub mod Long
 pub mod LongAnswers
@@ -19,3 +20,5 @@ pub mod TableLines
 pub mod TableLists
 pub mod TableQuery
 pub mod UncompactedLines
+pub mod WordsQuery
+pub mod Work
