@@ -80,6 +80,8 @@ fn answer_query<R: Source, W: Sink>(
 
 /// Reads a file of cells, and then writes the answer about them and the cells listed on the input, or
 /// those of its rows.
+// Inlined, its blocks would take their place on the stack while `perform` runs another kind.
+#[inline(never)]
 pub(crate) fn answer_over_file<R: Source, T: Source, W: Sink>(
     alloc: Global,
     query: FileQuery,

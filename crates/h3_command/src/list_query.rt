@@ -30,6 +30,8 @@ pub(crate) enum ListQuery {
 }
 
 /// Writes the answer about the cells listed on the input, or those of its rows.
+// Inlined, its blocks would take their place on the stack while `perform` runs another kind.
+#[inline(never)]
 pub(crate) fn answer_list<R: Source, W: Sink>(
     alloc: Global,
     query: ListQuery,

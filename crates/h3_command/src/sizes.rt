@@ -86,6 +86,7 @@ fn judged(size: &Size, res: i32) -> Result<u128, H3Error>
 /// Writes how many cells of a resolution the cells listed on the input, or those of its rows,
 /// uncompact to, as H3's `uncompactCellsSize` counts them. The list is read to its end before the
 /// resolution is judged, as `uncompactCells` does.
+#[inline(never)]
 pub(crate) fn uncompact_cells_size<R: Source, W: Sink>(
     alloc: Global,
     res: i32,

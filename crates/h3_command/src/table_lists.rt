@@ -119,6 +119,8 @@ fn answer_lines<R: Source, W: Sink>(
 
 /// Reads a table, and then writes what is answered over its links to each line of a list, or beside
 /// each row.
+// Inlined, its blocks would take their place on the stack while `perform` runs another kind.
+#[inline(never)]
 pub(crate) fn answer_over_table<R: Source, T: Source, W: Sink>(
     alloc: Global,
     lines: TableLines,
