@@ -310,6 +310,8 @@ def measure_columns(_):
 def main():
     subprocess.run([os.path.join(ROOT, "h3"), "--help"], stdout=subprocess.DEVNULL, check=True)
     subprocess.run([os.path.join(ROOT, "tools", "library")], capture_output=True, check=True)
+    # the extension in C, as the wheel has it
+    subprocess.run([sys.executable, os.path.join(ROOT, "python", "backend.py")], capture_output=True, check=True)
     asked = sys.argv[1:]
     with tempfile.TemporaryDirectory() as folder:
         cells = os.path.join(folder, "cells")
