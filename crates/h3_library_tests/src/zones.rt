@@ -6,8 +6,8 @@ use crate::rows::{cell, holds};
 use h3_index::Cell;
 use h3_regions::laws::zones_are_lawful;
 use h3_regions::{
-    ZoneIndex, Zones, count, count_indexed, count_next, count_of, join, join_indexed,
-    order_by_number, order_zones,
+    TabledZones, ZoneIndex, Zones, count, count_indexed, count_next, count_of, join, join_indexed,
+    order_by_number, order_zones, write_table,
 };
 use std::process::Abort;
 
@@ -264,6 +264,16 @@ fn are_counted(rt: &HostRuntime, index: &ZoneIndex, rows: &[Row; SIZE]) -> bool 
         && others == counts
 }
 
+/// Whether the rows' zones are found in a table that is kept, which may be that of other zones.
+fn are_found_in(rt: &HostRuntime, tabled: &TabledZones, rows: &[Row; SIZE]) -> bool {
+    for (row, (seen, zone)) in rows.iter().enumerate() {
+        if !holds(rt, row, number(tabled.zone_of(*seen)) == *zone) {
+            return false;
+        }
+    }
+    true
+}
+
 /// Whether zones with a table answer as the rows say.
 fn are_indexed(rt: &HostRuntime, list: &[u64], table: usize, rows: &[Row; SIZE]) -> bool {
     let mut slots = [Cell::in_base(0); MOST];
@@ -272,6 +282,16 @@ fn are_indexed(rt: &HostRuntime, list: &[u64], table: usize, rows: &[Row; SIZE])
     let Ok(zones) = Zones::of(&mut slots[..given]) else {
         return false;
     };
+    let others = [3u32; ROOM];
+    let kept = TabledZones::over(&zones, &others[..table.min(ROOM)]);
+    if !are_found_in(rt, &kept, rows) {
+        return false;
+    }
+    write_table(&zones, &mut places[..table.min(ROOM)]);
+    let kept = TabledZones::over(&zones, &places[..table.min(ROOM)]);
+    if !are_found_in(rt, &kept, rows) {
+        return false;
+    }
     let index = ZoneIndex::of(&zones, &mut places[..table.min(ROOM)]);
     index.zones().cells() == zones.cells()
         && are_found(rt, &index, rows)

@@ -7,7 +7,6 @@ ghost use Rattle.h3_regions.specs.Laws.{CountsInParts, ZonesAreOne};
 ghost use Rattle.h3_regions.specs.Zones.{IsZones};
 
 use crate::zone_index::ZoneIndex;
-use crate::zone_table::TabledZones;
 use crate::zones::{Zones, place_above, place_near};
 use h3_index::Cell;
 use h3_set::laws::coverages_decide_lists;
@@ -159,35 +158,4 @@ pub fn count_indexed(index: &ZoneIndex, cells: &[Cell], counts: &mut [u64]) -> u
     let size = index.zones().cells().len();
     clear(&mut counts[..size]);
     count_each_indexed(index, cells, &mut counts[..size])
-}
-
-/// As `count_next`, over zones with a table: for cells in any order.
-pub fn count_next_indexed(index: &ZoneIndex, cell: Cell, counts: &mut [u64], outside: u64) -> u64
-    requires size { length counts.old ≡ length index.now }
-    requires few { sum counts.old + outside < 2 ^ 64 - 1 }
-    ensures next { (cells : List Address) → AreCounts index.now cells counts.old outside
-        → AreCounts index.now (cells ++ cell ∷ []) counts.new result }
-    ensures one { sum counts.new + result ≡ sum counts.old + outside + 1 }
-{
-    coverages_decide_lists();
-    match index.place_of(cell) {
-        Some(place) => {
-            counts[place] += 1;
-            outside
-        }
-        None => outside + 1,
-    }
-}
-
-/// As `count_next`, over zones with a table that is kept: for cells in any order.
-#[inline(always)]
-pub fn count_next_tabled(tabled: &TabledZones, cell: Cell, counts: &mut [u64], others: u64) -> u64
-    requires size { length counts.old ≡ length tabled.now }
-    requires few { sum counts.old + others < 2 ^ 64 - 1 }
-    ensures next { (cells : List Address) → AreCounts tabled.now cells counts.old others
-        → AreCounts tabled.now (cells ++ cell ∷ []) counts.new result }
-    ensures one { sum counts.new + result ≡ sum counts.old + others + 1 }
-{
-    let mut place = tabled.near(cell);
-    count_next(&tabled.zones(), cell, counts, others, &mut place)
 }

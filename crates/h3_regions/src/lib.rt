@@ -17,9 +17,7 @@ mod zone_table;
 mod zones;
 
 pub use ahead::AHEAD;
-pub use counting::{
-    count, count_indexed, count_next, count_next_indexed, count_next_tabled, count_of,
-};
+pub use counting::{count, count_indexed, count_next, count_of};
 pub use difference::subtract;
 pub use intersection::intersect;
 pub use joining::{join, join_indexed};
