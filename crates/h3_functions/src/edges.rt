@@ -10,7 +10,11 @@ use crate::inspection::cell_from;
 use h3_grid::{Edges, edges_of};
 use h3_index::{Cell, Edge, H3Error};
 
-/// The edge with an index. `DirEdgeInvalid` where no edge has it.
+/// The edge with an index.
+///
+/// # Errors
+///
+/// `DirEdgeInvalid` if no edge has the index.
 pub fn edge_from(index: u64) -> Result<Edge, H3Error>
     ensures { result ≡ edge_from index }
 {
@@ -24,8 +28,11 @@ pub fn is_valid_directed_edge(index: u64) -> bool
     edge_from(index).is_ok()
 }
 
-/// The cell that an edge leaves, as H3's `getDirectedEdgeOrigin` returns it. `DirEdgeInvalid` where
-/// no edge has the index.
+/// The cell that an edge leaves, as H3's `getDirectedEdgeOrigin` returns it.
+///
+/// # Errors
+///
+/// `DirEdgeInvalid` if no edge has the index.
 pub fn get_directed_edge_origin(index: u64) -> Result<Cell, H3Error>
     ensures { result ≡ get_directed_edge_origin index }
 {
@@ -34,8 +41,11 @@ pub fn get_directed_edge_origin(index: u64) -> Result<Cell, H3Error>
 }
 
 /// The edges that leave a cell, in ascending direction: those that H3's `originToDirectedEdges`
-/// lists, without the null that it has in the place of direction 1 (K) at a pentagon. `CellInvalid`
-/// where no cell has the index.
+/// lists, without the null that it has in the place of direction 1 (K) at a pentagon.
+///
+/// # Errors
+///
+/// `CellInvalid` if no cell has the index.
 pub fn origin_to_directed_edges(index: u64) -> Result<Edges, H3Error>
     ensures { Lists (YieldsFirst edges_left) result (origin_to_directed_edges index) }
 {

@@ -16,6 +16,12 @@ use h3_tree::{
 };
 
 /// The ancestor of a cell at a resolution, as H3's `cellToParent` returns it.
+///
+/// # Errors
+///
+/// - `CellInvalid` if no cell has the index.
+/// - `ResDomain` if the number is not a resolution.
+/// - `ResMismatch` if it is finer than the cell's.
 #[inline(always)]
 pub fn cell_to_parent(index: u64, res: i32) -> Result<Cell, H3Error>
     ensures { result ≡ cell_to_parent index res }
@@ -26,6 +32,11 @@ pub fn cell_to_parent(index: u64, res: i32) -> Result<Cell, H3Error>
 
 /// The descendant of a cell at a resolution whose further digits are 0, as H3's `cellToCenterChild`
 /// returns it.
+///
+/// # Errors
+///
+/// - `CellInvalid` if no cell has the index.
+/// - `ResDomain` if the number is not a resolution from the cell's own to 15.
 pub fn cell_to_center_child(index: u64, res: i32) -> Result<Cell, H3Error>
     ensures { result ≡ cell_to_center_child index res }
 {
@@ -34,7 +45,11 @@ pub fn cell_to_center_child(index: u64, res: i32) -> Result<Cell, H3Error>
 }
 
 /// The last descendant of a cell at a resolution, which is the one with the greatest number.
-/// Errors are those of [`cell_to_center_child`].
+///
+/// # Errors
+///
+/// - `CellInvalid` if no cell has the index.
+/// - `ResDomain` if the number is not a resolution from the cell's own to 15.
 pub fn cell_to_last_child(index: u64, res: i32) -> Result<Cell, H3Error>
     ensures { result ≡ cell_to_last_child index res }
 {
@@ -44,6 +59,11 @@ pub fn cell_to_last_child(index: u64, res: i32) -> Result<Cell, H3Error>
 
 /// The descendants of a cell at a resolution, in ascending order, as H3's `cellToChildren` lists
 /// them.
+///
+/// # Errors
+///
+/// - `CellInvalid` if no cell has the index.
+/// - `ResDomain` if the number is not a resolution from the cell's own to 15.
 pub fn cell_to_children(index: u64, res: i32) -> Result<Children, H3Error>
     ensures { Lists (YieldsFirst children_left) result (cell_to_children index res) }
 {
@@ -53,6 +73,11 @@ pub fn cell_to_children(index: u64, res: i32) -> Result<Children, H3Error>
 
 /// The number of descendants that a cell has at a resolution, as H3's `cellToChildrenSize` returns
 /// it.
+///
+/// # Errors
+///
+/// - `CellInvalid` if no cell has the index.
+/// - `ResDomain` if the number is not a resolution from the cell's own to 15.
 pub fn cell_to_children_size(index: u64, res: i32) -> Result<u64, H3Error>
     ensures { result ≡ cell_to_children_size index res }
 {
@@ -62,6 +87,12 @@ pub fn cell_to_children_size(index: u64, res: i32) -> Result<u64, H3Error>
 
 /// The position of a cell among the descendants of its ancestor at a resolution, as H3's
 /// `cellToChildPos` returns it.
+///
+/// # Errors
+///
+/// - `CellInvalid` if no cell has the index.
+/// - `ResDomain` if the number is not a resolution.
+/// - `ResMismatch` if it is finer than the cell's.
 #[inline(always)]
 pub fn cell_to_child_pos(index: u64, res: i32) -> Result<u64, H3Error>
     ensures { result ≡ cell_to_child_pos index res }
@@ -72,6 +103,13 @@ pub fn cell_to_child_pos(index: u64, res: i32) -> Result<u64, H3Error>
 
 /// The descendant of a cell at a resolution that stands at a position, as H3's `childPosToCell`
 /// returns it.
+///
+/// # Errors
+///
+/// - `CellInvalid` if no cell has the index.
+/// - `ResDomain` if the number is not a resolution.
+/// - `ResMismatch` if it is coarser than the cell's.
+/// - `Domain` if the position is not below the number of descendants.
 pub fn child_pos_to_cell(position: u64, index: u64, res: i32) -> Result<Cell, H3Error>
     ensures { result ≡ child_pos_to_cell position index res }
 {

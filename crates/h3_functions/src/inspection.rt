@@ -8,6 +8,10 @@ ghost use Rattle.h3_functions.specs.Inspection.{cell_from, get_base_cell_number,
 use h3_index::{Cell, H3Error};
 
 /// The cell with an index.
+///
+/// # Errors
+///
+/// `CellInvalid` if no cell has the index.
 #[inline(always)]
 pub fn cell_from(index: u64) -> Result<Cell, H3Error>
     ensures { result ≡ cell_from index }
@@ -24,6 +28,10 @@ pub fn is_valid_cell(index: u64) -> bool
 }
 
 /// The resolution of a cell, 0 to 15, as H3's `getResolution` returns it.
+///
+/// # Errors
+///
+/// `CellInvalid` if no cell has the index.
 #[inline(always)]
 pub fn get_resolution(index: u64) -> Result<u8, H3Error>
     ensures { result ≡ get_resolution index }
@@ -33,6 +41,10 @@ pub fn get_resolution(index: u64) -> Result<u8, H3Error>
 }
 
 /// The base cell of a cell, 0 to 121, as H3's `getBaseCellNumber` returns it.
+///
+/// # Errors
+///
+/// `CellInvalid` if no cell has the index.
 #[inline(always)]
 pub fn get_base_cell_number(index: u64) -> Result<u8, H3Error>
     ensures { result ≡ get_base_cell_number index }
@@ -42,6 +54,10 @@ pub fn get_base_cell_number(index: u64) -> Result<u8, H3Error>
 }
 
 /// Whether a cell is a pentagon, as H3's `isPentagon` returns it.
+///
+/// # Errors
+///
+/// `CellInvalid` if no cell has the index.
 pub fn is_pentagon(index: u64) -> Result<bool, H3Error>
     ensures { result ≡ is_pentagon index }
 {
@@ -50,6 +66,10 @@ pub fn is_pentagon(index: u64) -> Result<bool, H3Error>
 }
 
 /// Whether the resolution of a cell is Class III, as H3's `isResClassIII` returns it.
+///
+/// # Errors
+///
+/// `CellInvalid` if no cell has the index.
 pub fn is_res_class_iii(index: u64) -> Result<bool, H3Error>
     ensures { result ≡ is_res_class_iii index }
 {

@@ -9,8 +9,11 @@ ghost use Rattle.h3_functions.specs.Items.{Lists};
 use crate::bases::{BaseCells, Pentagons};
 use h3_index::{H3Error, num_cells, resolution_from};
 
-/// The number of cells of a resolution, as H3's `getNumCells` returns it. `ResDomain` outside 0 to
-/// 15.
+/// The number of cells of a resolution, as H3's `getNumCells` returns it.
+///
+/// # Errors
+///
+/// `ResDomain` if the number is not a resolution.
 pub fn get_num_cells(res: i32) -> Result<u64, H3Error>
     ensures { result ≡ get_num_cells res }
 {
@@ -25,7 +28,10 @@ pub fn get_res0_cells() -> BaseCells
 }
 
 /// The twelve pentagons of a resolution, in ascending order, as H3's `getPentagons` lists them.
-/// `ResDomain` outside 0 to 15.
+///
+/// # Errors
+///
+/// `ResDomain` if the number is not a resolution.
 pub fn get_pentagons(res: i32) -> Result<Pentagons, H3Error>
     ensures { Lists (YieldsFirst pentagons_left) result (get_pentagons res) }
 {
