@@ -61,8 +61,11 @@ pub trait AnswerLine {
     }
 }
 
-/// Puts the line of a result's value into a block from the byte `at` on, and returns where it ends;
-/// or returns the result's error.
+/// Puts the line of a result's value into a block from the byte `at` on, and returns where it ends.
+///
+/// # Errors
+///
+/// The result's own.
 #[inline(always)]
 pub fn put_result<L: Line + Drop>(
     value: Result<L, H3Error>,
@@ -376,9 +379,14 @@ pub(crate) fn answer_pages<R: Source, W: Sink, A: Answering>(
 /// line that a read fault cuts is not answered. Nothing is read once a line has an error or a write
 /// fails.
 ///
-/// `AnswerError::At` with the line of the first error. `Fault::Read` where a read fails, or the end
-/// is not found in 2^40 reads. `Fault::Write` where a push or a flush fails. `Fault::Memory` where
-/// there is none for the page.
+/// # Errors
+///
+/// The first one that is met, of:
+///
+/// - `AnswerError::At` with the line of the first error.
+/// - `Fault::Read` if a read fails, or the end is not found in 2^40 reads.
+/// - `Fault::Write` if a push or a flush fails.
+/// - `Fault::Memory` if there is no memory for the page.
 pub fn answer_each<R: Source, W: Sink, F: AnswerLine>(
     alloc: Global,
     function: &F,

@@ -39,8 +39,12 @@ pub trait LinesFunction {
         ensures err { IfErr result (λ e. answer_of self.now index ≡ refused e) };
 }
 
-/// Walks to the end, or to its first error, which it then returns. The walk is an iterator that ends.
-/// So a walk that is refused on its way is known before any of its lines is written.
+/// Walks to the end, or to the first error. The walk is an iterator that ends. So the error of a walk
+/// is known before any of its lines is written.
+///
+/// # Errors
+///
+/// The first one of the walk.
 pub fn walk_through<T: Drop, I: Iterator<Item = Result<T, H3Error>> + Drop>(
     walk: I,
 ) -> Result<(), H3Error>
@@ -116,7 +120,9 @@ impl<'f, F: LinesFunction> Answering for Long<'f, F> {
 /// [`answer_each`](crate::answer_each) does, by as many lines as the function has. No answer is kept,
 /// and no more of its lines than a block has.
 ///
-/// Errors as of `answer_each`.
+/// # Errors
+///
+/// As of `answer_each`.
 pub fn answer_each_lines<R: Source, W: Sink, F: LinesFunction>(
     alloc: Global,
     function: &F,

@@ -91,9 +91,14 @@ pub fn read_list<R: Source>(
 /// may end with a line feed or not. Nothing is read once a faulty line is known or memory is
 /// refused, and of a line that a read fault cuts nothing is known but that it is too long.
 ///
-/// `Failed` for a line of more than 64 bytes or one that parses as no index, and `CellInvalid` for
-/// the index of no cell, the first faulty line's. `Fault::Read` where a read fails, or the end is
-/// not found in 2^40 reads. `Fault::Memory` where there is none for the page or for a cell.
+/// # Errors
+///
+/// The first one that is met, of:
+///
+/// - That of the first faulty line: `Failed` if it has more than 64 bytes or parses as no index,
+///   `CellInvalid` if no cell has the index.
+/// - `Fault::Read` if a read fails, or the end is not found in 2^40 reads.
+/// - `Fault::Memory` if there is no memory for the page or for a cell.
 pub fn read_cells<R: Source>(alloc: Global, input: &mut R) -> Result<Vec<Cell>, RunError>
     ensures cells { IfOk result (λ cells. ListRead MAX_READS PAGE
         (source_use R.left R.has_failed input.old input.new) cells.items) }
@@ -106,13 +111,17 @@ pub fn read_cells<R: Source>(alloc: Global, input: &mut R) -> Result<Vec<Cell>, 
     }
 }
 
-/// As `read_cells`: reads a list of cells, one a line, to its end or its first faulty line. The
-/// error of that is told with the line's number.
+/// As `read_cells`: reads a list of cells, one a line, to its end or its first faulty line, whose
+/// number is in the error.
 ///
-/// `AnswerError::At` with `Failed` for a line of more than 64 bytes or one that parses as no index, and
-/// with `CellInvalid` for the index of no cell, the first faulty line's. `Fault::Read` where a
-/// read fails, or the end is not found in 2^40 reads. `Fault::Memory` where there is none for the
-/// page or for a cell.
+/// # Errors
+///
+/// The first one that is met, of:
+///
+/// - `AnswerError::At` with the first faulty line and its error: `Failed` if it has more than 64 bytes or parses as no index,
+///   `CellInvalid` if no cell has the index.
+/// - `Fault::Read` if a read fails, or the end is not found in 2^40 reads.
+/// - `Fault::Memory` if there is no memory for the page or for a cell.
 pub fn read_numbered_cells<R: Source>(alloc: Global, input: &mut R) -> Result<Vec<Cell>, RunError>
     ensures cells { IfOk result (λ cells. ListRead MAX_READS PAGE
         (source_use R.left R.has_failed input.old input.new) cells.items) }

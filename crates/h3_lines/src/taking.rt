@@ -172,8 +172,11 @@ pub(crate) fn take_list<V: CellTaker + Drop, R: Source>(
 /// As `read_numbered_cells`, but each cell is taken as its line is read, so the list is not kept:
 /// what has taken the cells is returned, in the order of the lines.
 ///
-/// Nothing may have been taken before. Refusals as of `read_numbered_cells`; `Fault::Memory` also
-/// where there is none for what takes the cells.
+/// Nothing may have been taken before.
+///
+/// # Errors
+///
+/// As of `read_numbered_cells`; `Fault::Memory` also if there is no memory for what takes the cells.
 pub fn take_cells<V: CellTaker + Drop, R: Source>(
     alloc: Global,
     taker: V,

@@ -15,8 +15,10 @@ use h3_streams::{Sink, StreamFault};
 
 /// Writes all of the bytes, in as many pushes as it takes.
 ///
-/// `StreamFault` where a push fails: then a beginning of the bytes has been written, and no push is
-/// made after it.
+/// # Errors
+///
+/// `StreamFault` if a push fails: then a beginning of the bytes has been written, and no push is made
+/// after it.
 #[inline]
 pub fn write_all<W: Sink>(out: &mut W, bytes: &[u8]) -> Result<(), StreamFault>
     ensures written { OnOk result (Appends (W.taken out.old) (W.taken out.new) bytes.now) }
@@ -32,7 +34,11 @@ pub fn write_all<W: Sink>(out: &mut W, bytes: &[u8]) -> Result<(), StreamFault>
     Ok(())
 }
 
-/// Writes all of the bytes, and flushes. `Fault::Write` where a push or the flush fails.
+/// Writes all of the bytes, and flushes.
+///
+/// # Errors
+///
+/// `Fault::Write` if a push or the flush fails.
 pub fn write_answer<W: Sink>(out: &mut W, answer: &[u8]) -> Result<(), RunError>
     ensures { Writes (written answer.now) result (sink_use W.taken W.has_failed out.old out.new) }
 {

@@ -170,9 +170,13 @@ pub(crate) fn place_near(cells: &[Cell], cell: Cell, place: &mut usize) -> Optio
     place_at(cells, cell, first)
 }
 
-/// Puts cells in the order of zones, so that `Zones::over` takes them. `DuplicateInput` where cells
-/// at two places overlap: a cell is listed twice, or together with an ancestor of it. They are the
-/// same cells in either case, in some order.
+/// Puts cells in the order of zones, so that `Zones::over` takes them. They stay the same cells, in
+/// some order, also after an error.
+///
+/// # Errors
+///
+/// `DuplicateInput` if cells at two places overlap: a cell is listed twice, or together with an
+/// ancestor of it.
 pub fn order_zones(cells: &mut [Cell]) -> Result<(), H3Error>
     ensures refused { result_err result ≡ compaction_refusal cells.old }
     ensures same { IsPermutation cells.old cells.new }
@@ -234,8 +238,10 @@ impl<'a> Model for Zones<'a> {
 impl<'a> Zones<'a> {
     /// The cells as zones, in their memory, in another order: by `order_zones`.
     ///
-    /// `DuplicateInput` where cells at two places overlap: a cell is listed twice, or together with
-    /// an ancestor of it. The cells are then given back: the same ones, in some order.
+    /// # Errors
+    ///
+    /// `DuplicateInput` if cells at two places overlap: a cell is listed twice, or together with an
+    /// ancestor of it. The error gives the cells back: the same ones, in some order.
     pub fn of(cells: &'a mut [Cell]) -> Result<Zones<'a>, RefusedCells<'a>>
         ensures refused { option_map (λ r. r.error) (result_err result) ≡ compaction_refusal cells.old }
         ensures same { IfErr result (λ r. IsPermutation cells.old r.cells.now) }

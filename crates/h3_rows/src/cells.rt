@@ -194,10 +194,15 @@ fn take_pages<V: CellTaker + Drop, R: Source>(
 /// Has the cells of the rows of a list taken, one after another, in their order. Empty rows, those
 /// whose cell is missing, and a header have none.
 ///
-/// `AnswerError::At` with the number of the first row that is malformed or faulty: `Failed`, or
-/// `CellInvalid` for the index of no cell; `AnswerError::Column` where a column that the options
-/// name is not one field of the header. `Fault::Read` where a read fails, or the end is not found in
-/// 2^40 reads. `Fault::Memory` where there is none for the page, a row, or what takes the cells.
+/// # Errors
+///
+/// The first one that is met, of:
+///
+/// - `AnswerError::Column` if a column that the options name is not one field of the header.
+/// - `AnswerError::At` with the number of the first row that is malformed or faulty: `Failed`, or
+///   `CellInvalid` if no cell has the index.
+/// - `Fault::Read` if a read fails, or the end is not found in 2^40 reads.
+/// - `Fault::Memory` if there is no memory for the page, a row, or what takes the cells.
 pub fn take_row_cells<V: CellTaker + Drop, R: Source>(
     alloc: Global,
     taker: V,

@@ -675,12 +675,17 @@ pub(crate) fn answer_input_by<R: Source, W: Sink, F: RowFunction>(
 /// written as it is. A header is written with the name of the new column: `name`, unless the options
 /// have another. Answers are written page by page; a row that a read fault cuts is not answered.
 ///
-/// `AnswerError::At` with the number of the first row that is malformed, or faulty, where the run
-/// does not go on; `AnswerError::AtAndMore` at the end of a run that went on after an error;
-/// `AnswerError::Column` where a column that the options name is not one field of the header, with
-/// nothing written. `Fault::Read` where a read fails, or the end is not found in 2^40 reads.
-/// `Fault::Write` where a push or a flush fails. `Fault::Memory` where there is none for the page
-/// and a row.
+/// # Errors
+///
+/// The first one that is met, of:
+///
+/// - `AnswerError::Column` if a column that the options name is not one field of the header. Nothing
+///   is then written.
+/// - `AnswerError::At` with the number of the first row that is malformed, or faulty, unless the run
+///   goes on; `AnswerError::AtAndMore` at the end of a run that went on after an error.
+/// - `Fault::Read` if a read fails, or the end is not found in 2^40 reads.
+/// - `Fault::Write` if a push or a flush fails.
+/// - `Fault::Memory` if there is no memory for the page and a row.
 pub fn answer_rows<R: Source, W: Sink, F: AnswerLine>(
     alloc: Global,
     options: &RowOptions,

@@ -99,7 +99,9 @@ impl<'f, F: LinesFunction> RowFunction for Long<'f, F> {
 /// empty answer is the separator between its two empty parts. The function puts the separator between
 /// the parts of its answers. Otherwise the new column has this name, unless the options have another.
 ///
-/// Errors as of `answer_rows`.
+/// # Errors
+///
+/// As of `answer_rows`.
 pub fn answer_rows_lines<R: Source, W: Sink, F: LinesFunction>(
     alloc: Global,
     options: &RowOptions,

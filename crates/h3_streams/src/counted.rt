@@ -37,8 +37,10 @@ impl<'a, R: Source> CountedReader<'a, R> {
 
     /// Reads once, to the front of a page, and returns the number of bytes read.
     ///
-    /// A [`StreamFault`] where the read fails, which counts as a read too, or where no
-    /// read is left: then none is made. Neither takes bytes of the source.
+    /// # Errors
+    ///
+    /// A [`StreamFault`] if the read fails, which counts as a read too, or if no read is left: then
+    /// none is made. Neither takes bytes of the source.
     pub fn read(&mut self, page: &mut [u8]) -> Result<usize, StreamFault>
         ensures bound { IfOk result (λ n. n ≤ length page.new) }
         ensures bytes { IfOk result (λ n.

@@ -214,11 +214,13 @@ fn parse_words(alloc: Global, words: &[String]) -> Result<Words, ArgsError>
 
 /// Parses the words of a command line, of which the first is the program's name.
 ///
-/// [`ArgsError::Version`] where the second word is `-V` or `--version`, whatever follows;
-/// [`ArgsError::Help`] where they ask for help, [`ArgsError::Usage`] where the command line is
-/// invalid: it is not a command with each option that it requires, none twice, each value in range,
-/// and those of rows with what they go with; and
-/// [`ArgsError::Memory`] where there is no memory for the parse.
+/// # Errors
+///
+/// - [`ArgsError::Version`] if the second word is `-V` or `--version`, whatever follows.
+/// - [`ArgsError::Help`] if the words ask for help.
+/// - [`ArgsError::Usage`] if the command line is invalid: it is not a command with each option that it
+///   requires, none twice, each value in range, and those of rows with what they go with.
+/// - [`ArgsError::Memory`] if there is no memory for the parse.
 pub fn read_words(alloc: Global, words: Vec<String>) -> Result<Words, ArgsError>
     ensures read { IfOk result (AsksFor (map string_bytes words.items)) }
     ensures accepted { OnOk result (fault_of app (map string_bytes words.items) ≡ []) }
