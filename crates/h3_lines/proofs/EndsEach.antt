@@ -1,15 +1,17 @@
 -- How the answering of the lines of a list ends.
-use Rattle.std.proofs.Common.{◌≡◌, ℕ, ◌^◌, ◌⊎◌, Bool, true, List, [], ◌++◌, Option, Result, Ok, Err, IfErr, OnOk, sym, ap, ◌∙◌, subst, inl, inr, append-nil}
+use Rattle.std.proofs.Common.{◌≡◌, ℕ, ◌^◌, ◌⊎◌, Bool, true, false, List, [], ◌++◌, Option, Result, Ok, Err, IfErr, OnOk, sym, ap, ◌∙◌, subst, inl, inr, append-nil}
 use Rattle.std.proofs.KnownBytes.{Appends-trans}
 use Rattle.h3_lines.specs.Answer.{Answer, before, written}
 use Rattle.h3_lines.specs.Answering.{Answered, EndsBy, RefusesEach}
 use Rattle.h3_lines.specs.EachLine.{AnswersBeforeFault, EndsEach, StopsInPage, TakesBeginning, lines_answer}
+use Rattle.h3_lines.specs.Pieces.{Piece, lines_in}
 use Rattle.h3_lines.specs.Splitting.{StopsReading, StopsTaking, TakesAll}
 use Rattle.h3_lines.specs.Write.{Writes, sink_use}
 use Rattle.h3_lines.specs.declared.run_error.AnswerError.{AnswerError}
 use Rattle.h3_lines.specs.declared.run_error.Fault.TheVariants.{Memory, Read, Write}
 use Rattle.h3_lines.specs.declared.run_error.RunError.{RunError}
 use Rattle.h3_lines.specs.declared.run_error.RunError.TheVariants.{Error, Fault}
+use Rattle.h3_lines.proofs.RowLines.{lines_begun, rows_answered, rows_split}
 use Rattle.h3_lines.proofs.Written.{writes_after, writes_whole}
 
 module _ {S : Type 0} (taken : S → Option (List ℕ)) (failed : S → Bool) (answer : Option ℕ → Answer) where
@@ -64,18 +66,18 @@ module _ {S : Type 0} (taken : S → Option (List ℕ)) (failed : S → Bool) (a
 
 -- what takes the lines, and how it answers them
 module _ {S V : Type 0} (taken : S → Option (List ℕ)) (failed : S → Bool) (answer_of : V → Option ℕ → Answer) (number : V → ℕ) (held : V → List ℕ) (out : V → S)
-    (takes : V → List (List ℕ) → V → Type 0) (refused : V → List (List ℕ) → V → RunError → Type 0) (settled : V → Type 0)
-    (answers : (v w : V) (ls : List (List ℕ)) → takes v ls w → Answered taken failed (answer_of v) (number v) (number w) (held v) (held w) (out v) (out w) ls)
-    (same : (v w : V) (ls : List (List ℕ)) → takes v ls w → answer_of w ≡ answer_of v)
-    (refuses : (v w : V) (ls : List (List ℕ)) (e : RunError) → refused v ls w e → RefusesEach (answer_of v) (number v) (held v) ls e (sink_use taken failed (out v) (out w)))
+    (takes : V → List Piece → V → Type 0) (refused : V → List Piece → V → RunError → Type 0) (settled : V → Type 0)
+    (answers : (v w : V) (ls : List Piece) → takes v ls w → Answered taken failed (answer_of v) (number v) (number w) (held v) (held w) (out v) (out w) (lines_in ls))
+    (same : (v w : V) (ls : List Piece) → takes v ls w → answer_of w ≡ answer_of v)
+    (refuses : (v w : V) (ls : List Piece) (e : RunError) → refused v ls w e → RefusesEach (answer_of v) (number v) (held v) (lines_in ls) e (sink_use taken failed (out v) (out w)))
     (empty : (v : V) → settled v → held v ≡ []) where
   -- from the first line on, with nothing held back
-  from_start : (v w : V) (ls : List (List ℕ)) → number v ≡ 1 → held v ≡ [] → takes v ls w → Answered taken failed (answer_of v) 1 (number w) [] (held w) (out v) (out w) ls
+  from_start : (v w : V) (ls : List Piece) → number v ≡ 1 → held v ≡ [] → takes v ls w → Answered taken failed (answer_of v) 1 (number w) [] (held w) (out v) (out w) (lines_in ls)
   from_start v w ls one none t =
-      subst (λ h. Answered taken failed (answer_of v) 1 (number w) h (held w) (out v) (out w) ls) none
-      (subst (λ n. Answered taken failed (answer_of v) n (number w) (held v) (held w) (out v) (out w) ls) one (answers v w ls t))
+      subst (λ h. Answered taken failed (answer_of v) 1 (number w) h (held w) (out v) (out w) (lines_in ls)) none
+      (subst (λ n. Answered taken failed (answer_of v) n (number w) (held v) (held w) (out v) (out w) (lines_in ls)) one (answers v w ls t))
 
-  stops_in_page : (v w : V) (e : RunError) (old new : Option (List ℕ)) → number v ≡ 1 → held v ≡ [] → StopsTaking takes refused settled v w e old new (2 ^ 40) 65536 → StopsInPage (answer_of v) old new
+  stops_in_page : (v w : V) (e : RunError) (old new : Option (List ℕ)) → number v ≡ 1 → held v ≡ [] → StopsTaking false 64 takes refused settled v w e old new (2 ^ 40) 65536 → StopsInPage (answer_of v) old new
   stops_in_page v w e old new one none s = record {
     part = s.part;
     last = s.last;
@@ -84,17 +86,17 @@ module _ {S V : Type 0} (taken : S → Option (List ℕ)) (failed : S → Bool) 
     told = s.told;
     short = s.short;
     within = s.within;
-    ended = s.ended;
-    begun = s.unended;
-    lines = s.lines;
+    ended = lines_in s.ended;
+    begun = s.unended.0;
+    lines = lines_begun s.part s.ended s.unended s.rows;
     good = ap (λ b. b.ending) (whole_answer taken failed (answer_of v) (empty s.mid s.settles) (from_start v s.mid s.ended one none s.takes));
   }
 
-  refuses_mid : (v w : V) (e : RunError) (old new : Option (List ℕ)) → (s : StopsTaking takes refused settled v w e old new (2 ^ 40) 65536)
-      → RefusesEach (answer_of v) (number s.mid) (held s.mid) s.refuses.later e (sink_use taken failed (out s.mid) (out w))
-  refuses_mid v w e old new s = subst (λ a. RefusesEach a (number s.mid) (held s.mid) s.refuses.later e (sink_use taken failed (out s.mid) (out w))) (same v s.mid s.ended s.takes) (refuses s.mid w s.refuses.later e s.refuses.refuses)
+  refuses_mid : (v w : V) (e : RunError) (old new : Option (List ℕ)) → (s : StopsTaking false 64 takes refused settled v w e old new (2 ^ 40) 65536)
+      → RefusesEach (answer_of v) (number s.mid) (held s.mid) (lines_in s.refuses.later) e (sink_use taken failed (out s.mid) (out w))
+  refuses_mid v w e old new s = subst (λ a. RefusesEach a (number s.mid) (held s.mid) (lines_in s.refuses.later) e (sink_use taken failed (out s.mid) (out w))) (same v s.mid s.ended s.takes) (refuses s.mid w s.refuses.later e s.refuses.refuses)
 
-  stopped : (v w : V) (e : RunError) (old new : Option (List ℕ)) (had has : Bool) → number v ≡ 1 → held v ≡ [] → has ≡ had → StopsTaking takes refused settled v w e old new (2 ^ 40) 65536
+  stopped : (v w : V) (e : RunError) (old new : Option (List ℕ)) (had has : Bool) → number v ≡ 1 → held v ≡ [] → has ≡ had → StopsTaking false 64 takes refused settled v w e old new (2 ^ 40) 65536
       → EndsEach (answer_of v) old new had has (Err e) (sink_use taken failed (out v) (out w))
   unfolding stops_in_page
   stopped v w (Error e) old new had has one none sound s =
@@ -102,33 +104,35 @@ module _ {S V : Type 0} (taken : S → Option (List ℕ)) (failed : S → Bool) 
         sound,
         refused.0,
         stops_in_page v w (Error e) old new one none s,
-        error_written taken failed (answer_of v) (out w) s.refuses.later _ e (empty s.mid s.settles) (from_start v s.mid s.ended one none s.takes) s.refuses.lines refused,
+        subst (λ a. Writes a (Err (Error e)) (sink_use taken failed (out v) (out w))) (rows_answered (answer_of v) (s.part ++ s.last ++ s.rest))
+            (error_written taken failed (answer_of v) (out w) (lines_in s.refuses.later) _ e (empty s.mid s.settles) (from_start v s.mid s.ended one none s.takes) (rows_split (s.part ++ s.last ++ s.rest) s.ended s.refuses.later s.refuses.rows) refused),
       )
   stopped v w (Fault Write) old new had has one none sound s = (
     sound,
     stops_in_page v w (Fault Write) old new one none s,
-    part_written taken failed (answer_of v) (out w) s.refuses.later _ (empty s.mid s.settles) (from_start v s.mid s.ended one none s.takes) s.refuses.lines (refuses_mid v w (Fault Write) old new s),
+    subst (λ a. TakesBeginning (lines_answer (answer_of v) 1 (lines_in s.ended)).output a.output (sink_use taken failed (out v) (out w))) (rows_answered (answer_of v) (s.part ++ s.last ++ s.rest))
+        (part_written taken failed (answer_of v) (out w) (lines_in s.refuses.later) _ (empty s.mid s.settles) (from_start v s.mid s.ended one none s.takes) (rows_split (s.part ++ s.last ++ s.rest) s.ended s.refuses.later s.refuses.rows) (refuses_mid v w (Fault Write) old new s)),
   )
   stopped v w (Fault Read) old new had has one none sound s = absurd (refuses_mid v w (Fault Read) old new s)
   stopped v w (Fault Memory) old new had has one none sound s = absurd (refuses_mid v w (Fault Memory) old new s)
 
-  read_failed : (v w : V) (old new : Option (List ℕ)) (has : Bool) → number v ≡ 1 → held v ≡ [] → StopsReading takes settled v w old new (has ≡ true) (2 ^ 40) → AnswersBeforeFault (answer_of v) old new has (sink_use taken failed (out v) (out w))
+  read_failed : (v w : V) (old new : Option (List ℕ)) (has : Bool) → number v ≡ 1 → held v ≡ [] → StopsReading false 64 takes settled v w old new (has ≡ true) (2 ^ 40) → AnswersBeforeFault (answer_of v) old new has (sink_use taken failed (out v) (out w))
   read_failed v w old new has one none s = record {
     part = s.part;
     rest = s.rest;
     held = s.held;
     fails = s.why;
     told = s.told;
-    ended = s.ended;
-    last = s.last;
-    lines = s.lines;
+    ended = lines_in s.ended;
+    last = s.last.0;
+    lines = lines_begun s.part s.ended s.last s.rows;
     short = s.short;
     writes = all_written taken failed (answer_of v) (empty w s.settles) (from_start v w s.ended one none s.takes);
   }
 
   -- how it ends, by what is known of the reading
-  pub ends_each : (v w : V) (old new : Option (List ℕ)) (had has : Bool) (r : Result (Unit {0}) RunError) → number v ≡ 1 → held v ≡ [] → OnOk r (TakesAll takes v w old new (2 ^ 40) 65536) → OnOk r (settled w) → OnOk r (has ≡ had)
-      → IfErr r (λ e. ((e ≡ Fault Read) × StopsReading takes settled v w old new (has ≡ true) (2 ^ 40)) ⊎ (StopsTaking takes refused settled v w e old new (2 ^ 40) 65536 × (has ≡ had)))
+  pub ends_each : (v w : V) (old new : Option (List ℕ)) (had has : Bool) (r : Result (Unit {0}) RunError) → number v ≡ 1 → held v ≡ [] → OnOk r (TakesAll false takes v w old new (2 ^ 40) 65536) → OnOk r (settled w) → OnOk r (has ≡ had)
+      → IfErr r (λ e. ((e ≡ Fault Read) × StopsReading false 64 takes settled v w old new (has ≡ true) (2 ^ 40)) ⊎ (StopsTaking false 64 takes refused settled v w e old new (2 ^ 40) 65536 × (has ≡ had)))
       → EndsEach (answer_of v) old new had has r (sink_use taken failed (out v) (out w))
   ends_each v w old new had has (Ok u) one none all settles sound stops = (
     sound,
@@ -137,7 +141,7 @@ module _ {S V : Type 0} (taken : S → Option (List ℕ)) (failed : S → Bool) 
       held = all.held;
       told = all.told;
       within = all.within;
-      writes = all_written taken failed (answer_of v) (empty w settles) (from_start v w _ one none all.takes);
+      writes = subst (λ a. Writes a (Ok tt) (sink_use taken failed (out v) (out w))) (rows_answered (answer_of v) all.bytes) (all_written taken failed (answer_of v) (empty w settles) (from_start v w _ one none all.takes));
     },
   )
   ends_each v w old new had has (Err e) one none all settles sound (inr (s, kept)) = stopped v w e old new had has one none kept s

@@ -3,9 +3,12 @@ pub mod Blocks
 pub mod EndsEach
 pub mod Lengths
 pub mod Lines
-pub mod ListLines
 pub mod Listed
 pub mod Pages
+pub mod Pieces
 pub mod PlainLines
-pub mod Split
+pub mod PlainRows
+pub mod RowLines
+pub mod Scan
+pub mod TakenRows
 pub mod Written

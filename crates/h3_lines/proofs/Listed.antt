@@ -1,5 +1,5 @@
 -- A list of cells whose lines are taken one after another, and counted.
-use Rattle.std.proofs.Common.{◌≡◌, ℕ, ◌+◌, ◌<◌, ◌≤◌, ◌⊎◌, true, List, [], ◌∷◌, ◌++◌, length, Option, None, Some, Result, Ok, Err, IsOk, OnOk, nat_lt, sym, ap, ◌∙◌, refl, subst, inl, inr, append-nil, arith}
+use Rattle.std.proofs.Common.{◌≡◌, ℕ, ◌+◌, ◌<◌, ◌≤◌, ◌⊎◌, true, false, List, [], ◌∷◌, ◌++◌, length, Option, None, Some, Result, Ok, Err, IsOk, OnOk, nat_lt, sym, ap, ◌∙◌, refl, subst, inl, inr, append-nil, arith}
 use Rattle.std.specs.Prelude.{⊤}
 use Rattle.std.proofs.lemmas.Bool.Decides.{nat_tests}
 use Rattle.h3_index.specs.Cell.{Address}
@@ -9,7 +9,9 @@ use Rattle.h3_index.specs.declared.error.H3Error.TheVariants.{Failed}
 use Rattle.h3_lines.proofs.Pages.{left_of, none_left, some_held}
 use Rattle.h3_lines.proofs.PlainLines.{said_by_parsed}
 use Rattle.h3_lines.specs.List.{RefusesList, cells_said, lines_of, listed_cells, said_before, said_by, said_by_cell}
-use Rattle.h3_lines.specs.ListLaws.{cells_said-append, refuses_after}
+use Rattle.h3_lines.specs.ListLaws.{cells_said-append, rows_refused}
+use Rattle.h3_lines.specs.Pieces.{Piece, lines_in, rows_of}
+use Rattle.h3_lines.proofs.RowLines.{lines_begun, rows_refuse, rows_said}
 use Rattle.h3_lines.specs.Numbered.{RefusesAt, faulty_from, faulty_line, number_of_fault, without_line, without_number}
 use Rattle.h3_lines.specs.Taking.{CountsLines, RefusesLinesAt, SayCells, cells_before, cells_on}
 use Rattle.h3_lines.specs.ListRead.{ListRead, ListRefused, RefusesByError, RefusesByLine}
@@ -153,28 +155,28 @@ no_fault_yet part last ended cells says lines short = record { ended = ended; la
 
 -- over what takes the cells: the number of its next line, and which cells were taken from one moment to a later one
 module _ {V : Type 0} (number : V → ℕ) (taken : V → List Address → V → Type 0) where
-  abbrev Takes : V → List (List ℕ) → V → Type 0
-  Takes v lines w = (cells : List Address) × SayCells lines cells × taken v cells w × CountsLines (number v) lines (number w)
+  abbrev Takes : V → List Piece → V → Type 0
+  Takes v rows w = (cells : List Address) × SayCells (lines_in rows) cells × taken v cells w × CountsLines (number v) (lines_in rows) (number w)
 
-  abbrev Refuses : V → List (List ℕ) → V → RunError → Type 0
-  Refuses v lines w e = RefusesLinesAt (number v) lines e
+  abbrev Refuses : V → List Piece → V → RunError → Type 0
+  Refuses v rows w e = RefusesLinesAt (number v) (lines_in rows) e
 
   abbrev Settled : V → Type 0
   Settled v = ⊤
 
   -- one of the lines after them is refused
-  refused_at : (v w mid : V) (e : RunError) (ended : List (List ℕ)) (bytes : List ℕ) → number v ≡ 1 → Takes v ended mid → RefusesAfter Refuses mid w e ended bytes → RefusesAt ⊥ (listed_cells bytes) (faulty_line bytes) e
+  refused_at : (v w mid : V) (e : RunError) (ended : List Piece) (bytes : List ℕ) → number v ≡ 1 → Takes v ended mid → RefusesAfter false Refuses mid w e ended bytes → RefusesAt ⊥ (listed_cells bytes) (faulty_line bytes) e
   refused_at v w mid e ended bytes first takes r =
-      let counts = subst (λ n. CountsLines n ended (number mid)) first takes.3 in
-      subst (λ lines. RefusesAt ⊥ (cells_said lines) (faulty_from 1 lines) e) (sym r.lines) (refuses_after 1 (number mid) takes.0 ended r.later e takes.1 counts r.refuses)
+      let counts = subst (λ n. CountsLines n (lines_in ended) (number mid)) first takes.3 in
+      rows_refuse bytes e (subst (λ rows. RefusesAt ⊥ (cells_said (lines_in rows)) (faulty_from 1 (lines_in rows)) e) (sym r.rows) (rows_refused 1 (number mid) takes.0 ended r.later e takes.1 counts r.refuses))
 
   -- how the taking of the lines stops that is not whole
   abbrev Stops : V → V → RunError → SourceUse → ℕ → ℕ → Type 0
   Stops v w e input reads page =
-      ((e ≡ Fault Read) × StopsReading Takes Settled v w input.left input.left_after (input.has_failed ≡ true) reads)
-      ⊎ (StopsTaking Takes Refuses Settled v w e input.left input.left_after reads page × NoReadFails input)
+      ((e ≡ Fault Read) × StopsReading false 64 Takes Settled v w input.left input.left_after (input.has_failed ≡ true) reads)
+      ⊎ (StopsTaking false 64 Takes Refuses Settled v w e input.left input.left_after reads page × NoReadFails input)
 
-  pub list_read : (v w : V) (input : SourceUse) (reads page : ℕ) → TakesAll Takes v w input.left input.left_after reads page → NoReadFails input
+  pub list_read : (v w : V) (input : SourceUse) (reads page : ℕ) → TakesAll false Takes v w input.left input.left_after reads page → NoReadFails input
       → (cells : List Address) × ListRead reads page input cells × taken v cells w
   list_read v w input reads page s sound = (
     s.takes.0,
@@ -182,7 +184,7 @@ module _ {V : Type 0} (number : V → ℕ) (taken : V → List Address → V →
       list = s.bytes;
       held = s.held;
       within = s.within;
-      is = all_said (lines_of s.bytes) s.takes.0 s.takes.1;
+      is = sym (rows_said s.bytes) ∙ all_said (lines_in (rows_of false s.bytes)) s.takes.0 s.takes.1;
       sound = sound;
       whole = λ list is. none_left input.left input.left_after s.bytes list s.held s.told is;
     },
@@ -190,22 +192,22 @@ module _ {V : Type 0} (number : V → ℕ) (taken : V → List Address → V →
   )
 
   -- how far it is read where a read fails
-  stops_reading : (v w : V) (input : SourceUse) (reads most : ℕ) → StopsReading Takes Settled v w input.left input.left_after (input.has_failed ≡ true) reads → StopsWithin most input
+  stops_reading : (v w : V) (input : SourceUse) (reads most : ℕ) → StopsReading false 64 Takes Settled v w input.left input.left_after (input.has_failed ≡ true) reads → StopsWithin most input
   stops_reading v w input reads most s list known =
       let (left, known', split) = left_of input.left input.left_after s.part list s.told known in (
         left,
         known',
-        record { before = s.part; last = []; split = split ∙ ap (λ l. l ++ left) (sym (append-nil s.part)); within = omega arith; good = no_fault_yet s.part s.last s.ended s.takes.0 s.takes.1 s.lines s.short },
+        record { before = s.part; last = []; split = split ∙ ap (λ l. l ++ left) (sym (append-nil s.part)); within = omega arith; good = no_fault_yet s.part s.last.0 (lines_in s.ended) s.takes.0 s.takes.1 (lines_begun s.part s.ended s.last s.rows) s.short },
       )
 
   -- and where a line or memory is refused
-  stops_taking : (v w : V) (e : RunError) (input : SourceUse) (reads page : ℕ) → StopsTaking Takes Refuses Settled v w e input.left input.left_after reads page → StopsWithin page input
+  stops_taking : (v w : V) (e : RunError) (input : SourceUse) (reads page : ℕ) → StopsTaking false 64 Takes Refuses Settled v w e input.left input.left_after reads page → StopsWithin page input
   stops_taking v w e input reads page s list known =
       let (left, known', split) = left_of input.left input.left_after (s.part ++ s.last) list s.told known in
-      (left, known', record { before = s.part; last = s.last; split = split; within = s.short; good = no_fault_yet s.part s.unended s.ended s.takes.0 s.takes.1 s.lines s.begun })
+      (left, known', record { before = s.part; last = s.last; split = split; within = s.short; good = no_fault_yet s.part s.unended.0 (lines_in s.ended) s.takes.0 s.takes.1 (lines_begun s.part s.ended s.unended s.rows) s.begun })
 
   -- a list that is refused before the reads end can be read, or is known to be faulty
-  known_within : (v w : V) (e : RunError) (input : SourceUse) (reads page : ℕ) → number v ≡ 1 → (s : StopsTaking Takes Refuses Settled v w e input.left input.left_after reads page)
+  known_within : (v w : V) (e : RunError) (input : SourceUse) (reads page : ℕ) → number v ≡ 1 → (s : StopsTaking false 64 Takes Refuses Settled v w e input.left input.left_after reads page)
       → (e ≡ Fault Read → ⊥) → (e ≡ Fault Memory → ⊥) → IsListWithinReads reads page (s.part ++ s.last ++ s.rest)
   known_within v w e input reads page first s other memory = elim s.known [
     | inl within ↦ inl within
@@ -236,5 +238,5 @@ module _ {V : Type 0} (number : V → ℕ) (taken : V → List Address → V →
         within = known_within v w e input reads page first s;
         sound = λ other. kept;
         stops = stops_taking v w e input reads page s;
-        faults = λ read. absurd (subst (λ r. RefusesLinesAt (number s.mid) s.refuses.later r) read s.refuses.refuses);
+        faults = λ read. absurd (subst (λ r. RefusesLinesAt (number s.mid) (lines_in s.refuses.later) r) read s.refuses.refuses);
       }

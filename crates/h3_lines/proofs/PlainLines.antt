@@ -6,7 +6,8 @@ use Rattle.std.proofs.lemmas.Bool.Decides.{nat_tests}
 use Rattle.h3_index.specs.CellNumber.{cell_in}
 use Rattle.h3_index.specs.Text.{parsed_number, parsed_index, trimmed, without_prefix}
 use Rattle.h3_lines.specs.List.{said_by, said_by_cell, said_by_index}
-use Rattle.h3_lines.specs.Taking.{is_unended}
+use Rattle.h3_lines.proofs.Pieces.{uncut_byte, uncut_none}
+use Rattle.h3_lines.specs.Pieces.{Uncut}
 
 pub nothing_left : (rest : List ℕ) (b : Bool) → (length rest == 0) ≡ b → (n : ℕ) → parsed_number (without_prefix rest) ≡ Some n → b ≡ false
 nothing_left [] b is n parses = absurd (cc)
@@ -22,16 +23,20 @@ said_by_parsed line n short parses =
 
 -- ---- plain lines
 
-no_feed : (b : ℕ) (t : Bool) → (b == 10) ≡ t → is_digit b 16 ≡ true → t ≡ false
-no_feed b false is digit = refl
-no_feed b true is digit = let never : is_digit 10 16 ≡ true = ap (λ n. is_digit n 16) (sym (eqb-true b 10 is)) ∙ digit in absurd (cc)
+digit_byte : (b : ℕ) (t : Bool) (mark : ℕ) → (b == mark) ≡ t → is_digit b 16 ≡ true → is_digit mark 16 ≡ false → t ≡ false
+digit_byte b false mark is digit other = refl
+digit_byte b true mark is digit other = let never : is_digit mark 16 ≡ true = ap (λ n. is_digit n 16) (sym (eqb-true b mark is)) ∙ digit in absurd (cc)
 
 both : (p q : Bool) → (p && q) ≡ true → (p ≡ true) × (q ≡ true)
 both true q h = (refl, h)
 both false q h = absurd (cc)
 
-pub digits_unended : (bytes : List ℕ) → list_all (λ b. is_digit b 16) bytes ≡ true → is_unended bytes ≡ true
-digits_unended [] h = refl
-digits_unended (b ∷ bytes) h =
+and_false : (x y : Bool) → y ≡ false → (x && y) ≡ false
+and_false true y h = h
+and_false false y h = refl
+
+pub digits_uncut : (q : Bool) (bytes : List ℕ) → list_all (λ b. is_digit b 16) bytes ≡ true → Uncut 10 q false bytes false
+digits_uncut q [] h = uncut_none 10 q false
+digits_uncut q (b ∷ bytes) h =
     let (digit, more) = both (is_digit b 16) (list_all (λ b. is_digit b 16) bytes) h in
-    rw (no_feed b (b == 10) refl digit) (digits_unended bytes more)
+    uncut_byte 10 q false b bytes (digit_byte b (b == 10) 10 refl digit refl) (and_false q (b == 34) (digit_byte b (b == 34) 34 refl digit refl)) (digits_uncut q bytes more)

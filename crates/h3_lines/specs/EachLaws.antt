@@ -5,6 +5,8 @@ use Rattle.std.specs.Io.KnownBytes.{Appends}
 use Rattle.h3_lines.specs.Answer.{Answer, before}
 use Rattle.h3_lines.specs.Answering.{Answered, EndsBy, RefusesEach, TakesSome}
 use Rattle.h3_lines.specs.EachLine.{lines_answer}
+use Rattle.h3_lines.specs.Line.{lines_in-append}
+use Rattle.h3_lines.specs.Pieces.{Piece, lines_in}
 use Rattle.h3_lines.specs.Write.{sink_use}
 use Rattle.h3_lines.specs.declared.run_error.Fault.TheVariants.{Memory, Read, Write}
 use Rattle.h3_lines.specs.declared.run_error.RunError.{RunError}
@@ -59,3 +61,15 @@ module _ {S : Type 0} (taken : S → Option (List ℕ)) (failed : S → Bool) wh
       ap (before h1) (p.says ys) ∙ before_before h1 p.text rest ∙ ap (λ l. before l rest) p.split ∙ sym (before_before p.part h2 rest) in
       let after : EndsBy (before h2 rest) e (sink_use taken failed t u) = subst (λ d. EndsBy (before h2 (lines_answer (answer_of d) m ys)) e (sink_use taken failed t u)) same refuses in
       subst (λ a. EndsBy a e (sink_use taken failed s u)) (sym is) (ends_after s t u (before h2 rest) p.part e p.grown p.sound after)
+
+  -- ---- the same of rows
+
+  pub rows_answered : {F : Type 0} (answer_of : F → Option ℕ → Answer) {f g : F} {n m k : ℕ} {h1 h2 h3 : List ℕ} {s t u : S} (xs ys : List Piece) → g ≡ f → Answered taken failed (answer_of f) n m h1 h2 s t (lines_in xs)
+      → Answered taken failed (answer_of g) m k h2 h3 t u (lines_in ys) → Answered taken failed (answer_of f) n k h1 h3 s u (lines_in (xs ++ ys))
+  rows_answered answer_of {f} {n = n} {k = k} {h1 = h1} {h3 = h3} {s = s} {u = u} xs ys same p q =
+      subst (λ ls. Answered taken failed (answer_of f) n k h1 h3 s u ls) (sym (lines_in-append xs ys)) (answered_then answer_of (lines_in xs) (lines_in ys) same p q)
+
+  pub rows_refused : {F : Type 0} (answer_of : F → Option ℕ → Answer) {f g : F} {n m : ℕ} {h1 h2 : List ℕ} {s t : S} (u : S) (xs ys : List Piece) (e : RunError) → g ≡ f → Answered taken failed (answer_of f) n m h1 h2 s t (lines_in xs)
+      → RefusesEach (answer_of g) m h2 (lines_in ys) e (sink_use taken failed t u) → RefusesEach (answer_of f) n h1 (lines_in (xs ++ ys)) e (sink_use taken failed s u)
+  rows_refused answer_of {f} {n = n} {h1 = h1} {s = s} u xs ys e same p refuses =
+      subst (λ ls. RefusesEach (answer_of f) n h1 ls e (sink_use taken failed s u)) (sym (lines_in-append xs ys)) (refuses_then answer_of u (lines_in xs) (lines_in ys) e same p refuses)

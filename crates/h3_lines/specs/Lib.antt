@@ -10,6 +10,7 @@ pub mod List
 pub mod ListLaws
 pub mod ListRead
 pub mod Numbered
+pub mod Pieces
 pub mod Reads
 pub mod RunError
 pub mod Splitting

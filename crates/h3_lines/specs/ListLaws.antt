@@ -4,6 +4,8 @@ use Rattle.h3_index.specs.Cell.{Address}
 use Rattle.h3_index.specs.declared.error.H3Error.{H3Error}
 use Rattle.h3_lines.specs.List.{cells_said, said_before, said_by}
 use Rattle.h3_lines.specs.Numbered.{RefusesAt, faulty_from}
+use Rattle.h3_lines.specs.Line.{lines_in-append}
+use Rattle.h3_lines.specs.Pieces.{Piece, lines_in}
 use Rattle.h3_lines.specs.Taking.{CountsLines, RefusesLinesAt, SayCells, cells_before, said_lines}
 use Rattle.h3_lines.specs.declared.run_error.Fault.TheVariants.{Memory, Read, Write}
 use Rattle.h3_lines.specs.declared.run_error.RunError.{RunError}
@@ -41,3 +43,14 @@ pub refuses_after : (n1 n2 : ℕ) (cells : List Address) (xs ys : List (List ℕ
 refuses_after n1 n2 cells xs ys e says counts refuses =
     subst (λ list. RefusesAt ⊥ list (faulty_from n1 (xs ++ ys)) e) (sym (cells_said-append xs ys ∙ says (cells_said ys)))
     (subst (λ n. RefusesAt ⊥ (cells_before cells (cells_said ys)) n e) (sym (counts ys)) (refuses_before cells (cells_said ys) (faulty_from n2 ys) e refuses))
+
+-- ---- the same of rows
+
+pub rows_say : (cells1 cells2 : List Address) (xs ys : List Piece) → SayCells (lines_in xs) cells1 → SayCells (lines_in ys) cells2 → SayCells (lines_in (xs ++ ys)) (cells1 ++ cells2)
+rows_say cells1 cells2 xs ys p q = subst (λ ls. SayCells ls (cells1 ++ cells2)) (sym (lines_in-append xs ys)) (says_then cells1 cells2 (lines_in xs) (lines_in ys) p q)
+
+pub rows_count : (n1 n2 n3 : ℕ) (xs ys : List Piece) → CountsLines n1 (lines_in xs) n2 → CountsLines n2 (lines_in ys) n3 → CountsLines n1 (lines_in (xs ++ ys)) n3
+rows_count n1 n2 n3 xs ys p q = subst (λ ls. CountsLines n1 ls n3) (sym (lines_in-append xs ys)) (counts_then n1 n2 n3 (lines_in xs) (lines_in ys) p q)
+
+pub rows_refused : (n1 n2 : ℕ) (cells : List Address) (xs ys : List Piece) (e : RunError) → SayCells (lines_in xs) cells → CountsLines n1 (lines_in xs) n2 → RefusesLinesAt n2 (lines_in ys) e → RefusesLinesAt n1 (lines_in (xs ++ ys)) e
+rows_refused n1 n2 cells xs ys e says counts refuses = subst (λ ls. RefusesLinesAt n1 ls e) (sym (lines_in-append xs ys)) (refuses_after n1 n2 cells (lines_in xs) (lines_in ys) e says counts refuses)

@@ -1,15 +1,10 @@
 -- A list that is read line by line. Private contracts and proofs alone cite this file.
-use Rattle.std.specs.Prelude.{ℕ, ◌≡◌, ◌==◌, Bool, not, List, [], ◌∷◌, ◌++◌, Option, None, Some, Result, Ok, Err}
-use Rattle.std.specs.List.{list_all}
+use Rattle.std.specs.Prelude.{ℕ, ◌≡◌, List, [], ◌∷◌, ◌++◌, Option, None, Some, Result, Ok, Err}
 use Rattle.h3_index.specs.Cell.{Address}
 use Rattle.h3_index.specs.declared.error.H3Error.{H3Error}
 use Rattle.h3_lines.specs.List.{cells_said, said_before, said_by}
 use Rattle.h3_lines.specs.Numbered.{RefusesAt, faulty_from}
 use Rattle.h3_lines.specs.declared.run_error.RunError.{RunError}
-
--- no byte is a line feed
-abbrev pub is_unended : List ℕ → Bool
-is_unended = list_all (λ b. not (b == 10))
 
 -- these cells, before those of a list
 abbrev pub cells_before : List Address → Result (List Address) H3Error → Result (List Address) H3Error

@@ -4,17 +4,20 @@ ghost use Rattle.std.proofs.Common.{◌∙◌, refl};
 ghost use Rattle.std.specs.Prelude.{◌≡◌, ◌+◌, ◌<◌, ◌≤◌, ◌++◌, ◌∷◌, ◌^◌, [], ℕ, List, length, Option, take, IfOk, IfErr, OnOk};
 ghost use Rattle.h3_lines.specs.Answer.{Answer, printed, refused};
 ghost use Rattle.h3_lines.specs.Answering.{Answered, Breaks, Moves, Puts, RefusesEach, TakesSome, answer_said};
-ghost use Rattle.h3_lines.specs.EachLaws.{answered_none, answered_then, refuses_then};
+ghost use Rattle.h3_lines.specs.EachLaws.{answered_none, rows_answered, rows_refused};
 ghost use Rattle.h3_lines.specs.EachLine.{EndsEach, line_answer};
+ghost use Rattle.h3_lines.specs.Pieces.{lines_in};
 ghost use Rattle.h3_lines.specs.Write.{Takes, sink_use};
 ghost use Rattle.h3_lines.specs.declared.line.TheConstants.{BLOCK};
 ghost use Rattle.h3_lines.specs.declared.run_error.Fault.TheVariants.{Write};
 ghost use Rattle.h3_lines.specs.declared.run_error.RunError.{RunError};
 ghost use Rattle.h3_lines.specs.declared.run_error.RunError.TheVariants as refusal;
+ghost use Rattle.h3_lines.specs.declared.splitting.TheConstants.{LONGEST_LINE};
 
 use crate::line::{BLOCK, Line};
+use crate::plain::{IndexJob, LINES, take_plain};
 use crate::run_error::{AnswerError, Fault, RunError};
-use crate::splitting::{LINES, LONGEST_LINE, LineTaker, MAX_READS, PAGE, take_lines};
+use crate::splitting::{Job, LONGEST_LINE, MAX_READS, PAGE, Taking, drive, row_room};
 use crate::write::{write_all, write_answer};
 use h3_index::{H3Error, is_blank_text, read_index};
 use h3_streams::{CountedReader, Sink, Source};
@@ -251,53 +254,23 @@ struct Answers<'a, 'f, W, A> {
     function: &'f A,
 }
 
-impl<'a, 'f, W: Sink, A: Answering> LineTaker for Answers<'a, 'f, W, A> {
+impl<'a, 'f, W: Sink, A: Answering> Taking for Answers<'a, 'f, W, A> {
+    ghost longest = { LONGEST_LINE };
+
     ghost count = { λ v. v.held.number };
 
     ghost settled = { λ v. v.held.end ≡ 0 };
 
-    ghost taken = { λ v lines w.
+    ghost taken = { λ v rows w.
         Answered W.taken W.has_failed (A.answer_of v.function.now) v.held.number w.held.number
         (take v.held.end v.held.block) (take w.held.end w.held.block) v.held.out.now
-        w.held.out.now lines
+        w.held.out.now (lines_in rows)
         × (w.function ≡ v.function) × (w.held.out.ghost_name ≡ v.held.out.ghost_name) };
 
-    ghost refused = { λ v lines w e.
-        RefusesEach (A.answer_of v.function.now) v.held.number (take v.held.end v.held.block) lines e
-        (sink_use W.taken W.has_failed v.held.out.now w.held.out.now)
+    ghost refused = { λ v rows w e.
+        RefusesEach (A.answer_of v.function.now) v.held.number (take v.held.end v.held.block)
+        (lines_in rows) e (sink_use W.taken W.has_failed v.held.out.now w.held.out.now)
         × (w.held.out.ghost_name ≡ v.held.out.ghost_name) };
-
-    fn take(&mut self, line: &[u8]) -> Result<(), RunError> {
-        let held = &mut self.held;
-        match index_on(line) {
-            Ok(Some(index)) => self.function.answer(index, held),
-            Ok(None) => {
-                held.number += 1;
-                Ok(())
-            }
-            Err(error) => {
-                let bytes = &held.block[..held.end];
-                Err(refuse(held.out, bytes, held.number, error))
-            }
-        }
-    }
-
-    #[inline(always)]
-    fn take_index(&mut self, index: u64, place: Option<usize>) -> Result<(), RunError> {
-        let held = &mut self.held;
-        held.place = place.unwrap_or(held.place);
-        self.function.answer(Some(index), held)
-    }
-
-    #[inline(always)]
-    fn looks_ahead(&self) -> bool {
-        self.function.looks_ahead()
-    }
-
-    #[inline(always)]
-    fn look_ahead(&self, indexes: &[u64]) -> Option<[usize; LINES]> {
-        self.function.look_ahead(indexes, self.held.place)
-    }
 
     fn refuse_long(&mut self) -> RunError {
         let held = &mut self.held;
@@ -316,20 +289,67 @@ impl<'a, 'f, W: Sink, A: Answering> LineTaker for Answers<'a, 'f, W, A> {
     ghost none_taken = { λ v. (answered_none _ _ _ _ _ _, refl, refl) };
 
     ghost taken_then = { λ u v w xs ys p q.
-        (answered_then _ _ (λ f. A.answer_of f.now) xs ys p.1 p.0 q.0, q.1 ∙ p.1, q.2 ∙ p.2) };
+        (rows_answered _ _ (λ f. A.answer_of f.now) xs ys p.1 p.0 q.0, q.1 ∙ p.1, q.2 ∙ p.2) };
 
     ghost refused_then = { λ u v w xs ys e p q.
-        (refuses_then _ _ (λ f. A.answer_of f.now) _ xs ys e p.1 p.0 q.0, q.1 ∙ p.2) };
+        (rows_refused _ _ (λ f. A.answer_of f.now) _ xs ys e p.1 p.0 q.0, q.1 ∙ p.2) };
+}
+
+impl<'a, 'f, W: Sink, A: Answering> IndexJob for Answers<'a, 'f, W, A> {
+    #[inline(always)]
+    fn take_index(&mut self, index: u64, place: Option<usize>) -> Result<(), RunError> {
+        let held = &mut self.held;
+        held.place = place.unwrap_or(held.place);
+        self.function.answer(Some(index), held)
+    }
+
+    #[inline(always)]
+    fn looks_ahead(&self) -> bool {
+        self.function.looks_ahead()
+    }
+
+    #[inline(always)]
+    fn look_ahead(&self, indexes: &[u64]) -> Option<[usize; LINES]> {
+        self.function.look_ahead(indexes, self.held.place)
+    }
+}
+
+impl<'a, 'f, W: Sink, A: Answering> Job for Answers<'a, 'f, W, A> {
+    fn take(&mut self, line: &[u8], _inside: bool) -> Result<(), RunError> {
+        let held = &mut self.held;
+        match index_on(line) {
+            Ok(Some(index)) => self.function.answer(index, held),
+            Ok(None) => {
+                held.number += 1;
+                Ok(())
+            }
+            Err(error) => {
+                let bytes = &held.block[..held.end];
+                Err(refuse(held.out, bytes, held.number, error))
+            }
+        }
+    }
+
+    #[inline(always)]
+    fn take_first<'b>(
+        &mut self,
+        _quotes: bool,
+        bytes: &'b [u8],
+    ) -> Result<Option<&'b [u8]>, RunError> {
+        take_plain(self, bytes)
+    }
 }
 
 /// Answers each line of a list, read in pages.
 fn answer_lines<'a, 'f, R: Source, W: Sink, A: Answering>(
     answers: &mut Answers<'a, 'f, W, A>,
     input: &mut R,
+    room: Vec<u8>,
     page: &mut [u8],
 ) -> Result<(), RunError>
     requires first { answers.old.held.number ≡ 1 }
     requires empty { answers.old.held.end ≡ 0 }
+    requires room { length room.items ≡ LONGEST_LINE }
     requires page { length page.old ≡ PAGE }
     ensures ends { EndsEach (A.answer_of answers.old.function.now)
         (R.left input.old) (R.left input.new)
@@ -338,7 +358,7 @@ fn answer_lines<'a, 'f, R: Source, W: Sink, A: Answering>(
     ensures same { answers.new.held.out.ghost_name ≡ answers.old.held.out.ghost_name }
 {
     let mut reader = CountedReader::new(&mut *input, MAX_READS);
-    let ending = take_lines(answers, &mut reader, page);
+    let ending = drive(answers, &mut reader, false, room, page);
     // The proof reads what the source is after the reads from this use of it.
     let _ = &*input;
     ending
@@ -351,9 +371,11 @@ pub(crate) fn answer_pages<R: Source, W: Sink, A: Answering>(
     function: &A,
     input: &mut R,
     out: &mut W,
+    room: Vec<u8>,
     page: &mut [u8],
 ) -> Result<(), RunError>
-    requires { length page.old ≡ PAGE }
+    requires room { length room.items ≡ LONGEST_LINE }
+    requires page { length page.old ≡ PAGE }
     ensures { EndsEach (A.answer_of function.now) (R.left input.old) (R.left input.new)
         (R.has_failed input.old) (R.has_failed input.new) result
         (sink_use W.taken W.has_failed out.old out.new) }
@@ -366,7 +388,7 @@ pub(crate) fn answer_pages<R: Source, W: Sink, A: Answering>(
         end: 0,
     };
     let mut answers = Answers { held, function };
-    let ending = answer_lines(&mut answers, input, page);
+    let ending = answer_lines(&mut answers, input, room, page);
     // The proof reads what the sink is after the writes from this use of it.
     let _ = &*out;
     ending
@@ -386,7 +408,7 @@ pub(crate) fn answer_pages<R: Source, W: Sink, A: Answering>(
 /// - `AnswerError::At` with the line of the first error.
 /// - `Fault::Read` if a read fails, or the end is not found in 2^40 reads.
 /// - `Fault::Write` if a push or a flush fails.
-/// - `Fault::Memory` if there is no memory for the page.
+/// - `Fault::Memory` if there is no memory for the page and a line.
 pub fn answer_each<R: Source, W: Sink, F: AnswerLine>(
     alloc: Global,
     function: &F,
@@ -397,6 +419,7 @@ pub fn answer_each<R: Source, W: Sink, F: AnswerLine>(
         (R.has_failed input.old) (R.has_failed input.new) result
         (sink_use W.taken W.has_failed out.old out.new) }
 {
+    let room = row_room(alloc, LONGEST_LINE)?;
     let mut page = vec![in alloc; 0u8; PAGE].map_err(|_| RunError::Fault(Fault::Memory))?;
-    answer_pages(&Short { function }, input, out, &mut page)
+    answer_pages(&Short { function }, input, out, room, &mut page)
 }

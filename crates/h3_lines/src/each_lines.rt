@@ -13,7 +13,7 @@ ghost use Rattle.h3_lines.specs.Write.{sink_use};
 use crate::each::{Answering, Held, answer_pages, make_room, refuse};
 use crate::line::{BLOCK, Line};
 use crate::run_error::{Fault, RunError};
-use crate::splitting::PAGE;
+use crate::splitting::{LONGEST_LINE, PAGE, row_room};
 use h3_index::H3Error;
 use h3_streams::{Sink, Source};
 use std::alloc::Global;
@@ -133,6 +133,7 @@ pub fn answer_each_lines<R: Source, W: Sink, F: LinesFunction>(
         (R.has_failed input.old) (R.has_failed input.new) result
         (sink_use W.taken W.has_failed out.old out.new) }
 {
+    let room = row_room(alloc, LONGEST_LINE)?;
     let mut page = vec![in alloc; 0u8; PAGE].map_err(|_| RunError::Fault(Fault::Memory))?;
-    answer_pages(&Long { function }, input, out, &mut page)
+    answer_pages(&Long { function }, input, out, room, &mut page)
 }

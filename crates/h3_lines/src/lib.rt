@@ -1,5 +1,5 @@
-//! Lists of cells that are read, one a line; lines that are written; and the errors that end a run,
-//! with the line and the exit status of each.
+//! Pages that are split into lines and rows; lists of cells that are read, one a line; lines that are
+//! written; and the errors that end a run, with the line and the exit status of each.
 #![tactic(auto)]
 
 mod each;
@@ -8,6 +8,7 @@ mod ending;
 pub mod laws;
 mod line;
 mod list;
+mod plain;
 mod run_error;
 mod splitting;
 mod taking;
@@ -18,7 +19,8 @@ pub use each_lines::{LinesFunction, answer_each_lines, walk_through};
 pub use ending::report;
 pub use line::{BLOCK, Line, ROOM, RingCell};
 pub use list::{read_cells, read_list, read_numbered_cells};
+pub use plain::LINES;
 pub use run_error::{AnswerError, CellFile, ColumnError, Fault, RunError};
-pub use splitting::{LINES, MAX_READS, PAGE};
+pub use splitting::{Job, MAX_READS, PAGE, Taking, drive, row_room, split};
 pub use taking::{CellTaker, take_cells};
 pub use write::{write_all, write_answer, write_lines, write_result, write_walk};

@@ -9,7 +9,7 @@ ghost use Rattle.h3_lines.specs.Numbered.{without_number};
 ghost use Rattle.h3_lines.specs.Reads.{source_use};
 
 use crate::run_error::{AnswerError, Fault, RunError};
-use crate::splitting::{LONGEST_LINE, MAX_READS, PAGE};
+use crate::splitting::{LONGEST_LINE, MAX_READS, PAGE, row_room};
 use crate::taking::{CellTaker, take_cells, take_list};
 use h3_index::{Cell, H3Error, is_blank_text, read_index};
 use h3_streams::Source;
@@ -65,6 +65,10 @@ fn without_line(refusal: RunError) -> RunError
 }
 
 /// Reads a list in at most a given number of reads, each to a page.
+///
+/// # Errors
+///
+/// As of `read_cells`; the page is the caller's.
 pub fn read_list<R: Source>(
     alloc: Global,
     input: &mut R,
@@ -78,7 +82,8 @@ pub fn read_list<R: Source>(
     ensures refused { IfErr result (ListRefused RefusesByError limit (length page.old)
         (source_use R.left R.has_failed input.old input.new)) }
 {
-    match take_list(Vec::new(alloc), input, limit, page) {
+    let room = row_room(alloc, LONGEST_LINE)?;
+    match take_list(Vec::new(alloc), input, limit, room, page) {
         Ok(cells) => Ok(cells),
         Err(refusal) => Err(without_line(refusal)),
     }
@@ -98,7 +103,7 @@ pub fn read_list<R: Source>(
 /// - That of the first faulty line: `Failed` if it has more than 64 bytes or parses as no index,
 ///   `CellInvalid` if no cell has the index.
 /// - `Fault::Read` if a read fails, or the end is not found in 2^40 reads.
-/// - `Fault::Memory` if there is no memory for the page or for a cell.
+/// - `Fault::Memory` if there is no memory for the page, a line, or a cell.
 pub fn read_cells<R: Source>(alloc: Global, input: &mut R) -> Result<Vec<Cell>, RunError>
     ensures cells { IfOk result (λ cells. ListRead MAX_READS PAGE
         (source_use R.left R.has_failed input.old input.new) cells.items) }
@@ -121,7 +126,7 @@ pub fn read_cells<R: Source>(alloc: Global, input: &mut R) -> Result<Vec<Cell>, 
 /// - `AnswerError::At` with the first faulty line and its error: `Failed` if it has more than 64 bytes or parses as no index,
 ///   `CellInvalid` if no cell has the index.
 /// - `Fault::Read` if a read fails, or the end is not found in 2^40 reads.
-/// - `Fault::Memory` if there is no memory for the page or for a cell.
+/// - `Fault::Memory` if there is no memory for the page, a line, or a cell.
 pub fn read_numbered_cells<R: Source>(alloc: Global, input: &mut R) -> Result<Vec<Cell>, RunError>
     ensures cells { IfOk result (λ cells. ListRead MAX_READS PAGE
         (source_use R.left R.has_failed input.old input.new) cells.items) }

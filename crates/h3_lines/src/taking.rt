@@ -5,18 +5,21 @@ ghost use Rattle.std.specs.Prelude.{◌≡◌, ◌≤◌, ◌<◌, ◌*◌, ◌+
 ghost use Rattle.h3_index.specs.Cell.{Address};
 ghost use Rattle.h3_index.specs.declared.error.H3Error.{H3Error};
 ghost use Rattle.h3_lines.specs.List.{said_before};
-ghost use Rattle.h3_lines.specs.ListLaws.{counts_then, refuses_after, says_nothing, says_then};
+ghost use Rattle.h3_lines.specs.ListLaws.{rows_count, rows_refused, rows_say, says_nothing};
 ghost use Rattle.h3_lines.specs.ListRead.{ListRead, ListRefused, RefusesByLine};
 ghost use Rattle.h3_lines.specs.Numbered.{RefusesAt, number_of_fault};
 ghost use Rattle.h3_lines.specs.Taking.{CountsLines, RefusesLinesAt, SayCells, cells_on};
+ghost use Rattle.h3_lines.specs.Pieces.{lines_in};
 ghost use Rattle.h3_lines.specs.Reads.{source_use};
 ghost use Rattle.h3_lines.specs.declared.run_error.AnswerError.TheVariants.{At};
 ghost use Rattle.h3_lines.specs.declared.run_error.Fault.TheVariants.{Memory};
 ghost use Rattle.h3_lines.specs.declared.run_error.RunError.TheVariants as refusal;
+ghost use Rattle.h3_lines.specs.declared.splitting.TheConstants.{LONGEST_LINE};
 
 use crate::list::{cell_with, read_line};
+use crate::plain::{IndexJob, LINES, take_plain};
 use crate::run_error::{AnswerError, Fault, RunError};
-use crate::splitting::{LINES, LineTaker, MAX_READS, PAGE, take_lines};
+use crate::splitting::{Job, LONGEST_LINE, MAX_READS, PAGE, Taking, drive, row_room};
 use h3_index::{Cell, H3Error};
 use h3_streams::{CountedReader, Source};
 use std::alloc::Global;
@@ -88,22 +91,41 @@ struct NumberedLines<V: CellTaker> {
     ghost few: { V.count taker ≤ number },
 }
 
-impl<V: CellTaker> LineTaker for NumberedLines<V> {
+impl<V: CellTaker> Taking for NumberedLines<V> {
+    ghost longest = { LONGEST_LINE };
+
     ghost count = { λ v. v.number };
 
     ghost settled = { λ v. ⊤ };
 
-    ghost taken = { λ v lines w. (cells : List Address) × SayCells lines cells ×
-        V.taken v.taker cells w.taker × CountsLines v.number lines w.number };
+    ghost taken = { λ v rows w. (cells : List Address) × SayCells (lines_in rows) cells ×
+        V.taken v.taker cells w.taker × CountsLines v.number (lines_in rows) w.number };
 
-    ghost refused = { λ v lines w e. RefusesLinesAt v.number lines e };
+    ghost refused = { λ v rows w e. RefusesLinesAt v.number (lines_in rows) e };
 
-    fn take(&mut self, line: &[u8]) -> Result<(), RunError> {
-        let number = self.number;
-        self.number += 1;
-        push_parsed(&mut self.taker, number, read_line(line), None)
+    fn refuse_long(&mut self) -> RunError {
+        RunError::Error(AnswerError::At(self.number, H3Error::Failed))
     }
 
+    #[inline(always)]
+    fn settle(&mut self) -> Result<(), RunError> {
+        Ok(())
+    }
+
+    ghost none_taken = { λ v. ([], λ later. says_nothing later, V.none_taken v.taker, λ more. refl) };
+
+    ghost taken_then = { λ u v w xs ys p q. (
+      p.0 ++ q.0,
+      rows_say _ _ xs ys p.1 q.1,
+      V.taken_then _ _ _ _ _ p.2 q.2,
+      rows_count _ _ _ xs ys p.3 q.3,
+    ) };
+
+    ghost refused_then = { λ u v w xs ys e p q.
+        rows_refused _ _ _ xs ys e p.1 p.3 q };
+}
+
+impl<V: CellTaker> IndexJob for NumberedLines<V> {
     #[inline(always)]
     fn take_index(&mut self, index: u64, place: Option<usize>) -> Result<(), RunError> {
         let number = self.number;
@@ -120,27 +142,23 @@ impl<V: CellTaker> LineTaker for NumberedLines<V> {
     fn look_ahead(&self, indexes: &[u64]) -> Option<[usize; LINES]> {
         self.taker.look_ahead(indexes)
     }
+}
 
-    fn refuse_long(&mut self) -> RunError {
-        RunError::Error(AnswerError::At(self.number, H3Error::Failed))
+impl<V: CellTaker> Job for NumberedLines<V> {
+    fn take(&mut self, line: &[u8], _inside: bool) -> Result<(), RunError> {
+        let number = self.number;
+        self.number += 1;
+        push_parsed(&mut self.taker, number, read_line(line), None)
     }
 
     #[inline(always)]
-    fn settle(&mut self) -> Result<(), RunError> {
-        Ok(())
+    fn take_first<'b>(
+        &mut self,
+        _quotes: bool,
+        bytes: &'b [u8],
+    ) -> Result<Option<&'b [u8]>, RunError> {
+        take_plain(self, bytes)
     }
-
-    ghost none_taken = { λ v. ([], λ later. says_nothing later, V.none_taken v.taker, λ more. refl) };
-
-    ghost taken_then = { λ u v w xs ys p q. (
-      p.0 ++ q.0,
-      says_then _ _ xs ys p.1 q.1,
-      V.taken_then _ _ _ _ _ p.2 q.2,
-      counts_then _ _ _ xs ys p.3 q.3,
-    ) };
-
-    ghost refused_then = { λ u v w xs ys e p q.
-        refuses_after _ _ _ xs ys e p.1 p.3 q };
 }
 
 /// Has the cells of a list taken, in at most a given number of reads, each to a page.
@@ -148,10 +166,12 @@ pub(crate) fn take_list<V: CellTaker + Drop, R: Source>(
     taker: V,
     input: &mut R,
     limit: u64,
+    room: Vec<u8>,
     page: &mut [u8],
 ) -> Result<V, RunError>
     requires first { V.count taker ≡ 0 }
-    requires room { 0 < length page.old }
+    requires room { length room.items ≡ LONGEST_LINE }
+    requires page { 0 < length page.old }
     requires few { limit * length page.old < 2 ^ 62 }
     ensures taken { IfOk result (λ after. (cells : List Address)
         × ListRead limit (length page.old) (source_use R.left R.has_failed input.old input.new) cells
@@ -161,7 +181,7 @@ pub(crate) fn take_list<V: CellTaker + Drop, R: Source>(
 {
     let mut lines = NumberedLines { taker, number: 1 };
     let mut reader = CountedReader::new(&mut *input, limit);
-    let read = take_lines(&mut lines, &mut reader, page);
+    let read = drive(&mut lines, &mut reader, false, room, page);
     // The proof reads what the source is after the reads from this use of it.
     let _ = &*input;
     read?;
@@ -189,6 +209,7 @@ pub fn take_cells<V: CellTaker + Drop, R: Source>(
     ensures refused { IfErr result (ListRefused RefusesByLine MAX_READS PAGE
         (source_use R.left R.has_failed input.old input.new)) }
 {
+    let room = row_room(alloc, LONGEST_LINE)?;
     let mut page = vec![in alloc; 0u8; PAGE].map_err(|_| RunError::Fault(Fault::Memory))?;
-    take_list(taker, input, MAX_READS, &mut page)
+    take_list(taker, input, MAX_READS, room, &mut page)
 }

@@ -6,7 +6,7 @@ use Rattle.h3_lines.specs.Answer.{Answer, before, written}
 use Rattle.h3_lines.specs.Answering.{Breaks, Moves, TakesSome}
 use Rattle.h3_rows.specs.Answering.{Answered, EndsBy}
 use Rattle.h3_rows.specs.EachLaws.{some_after}
-use Rattle.h3_rows.specs.Row.{Piece}
+use Rattle.h3_lines.specs.Pieces.{Piece}
 use Rattle.h3_rows.specs.RowsAnswer.{State}
 use Rattle.h3_lines.specs.Write.{AppendsPart, SinkUse, Takes, TakesPart, Writes, sink_use}
 use Rattle.h3_lines.specs.declared.run_error.RunError.{RunError}

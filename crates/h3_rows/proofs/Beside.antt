@@ -2,9 +2,8 @@
 use Rattle.std.proofs.Common.{◌≡◌, ℕ, ◌==◌, Bool, true, false, List, [], ◌∷◌, ◌++◌, sym, ap, ◌∙◌, refl, subst, inl, inr, append_assoc, append-nil, eqb-true}
 use Rattle.std.specs.List.{flat_map}
 use Rattle.h3_lines.specs.Answer.{AreLines}
-use Rattle.h3_rows.specs.Row.{Piece, cut}
+use Rattle.h3_lines.specs.Pieces.{Piece, cut, CutsAt, Uncut}
 use Rattle.h3_rows.specs.RowsAnswer.{each_with, row_with, rows_with}
-use Rattle.h3_rows.specs.Splitting.{CutsAt, Uncut}
 use Rattle.h3_rows.proofs.Finding.{cuts_first}
 use Rattle.h3_rows.proofs.Pieces.{cut_at_end, first_piece, uncut_none, uncut_then}
 

@@ -1,17 +1,6 @@
 -- Bytes that are put into a block.
-use Rattle.std.proofs.Common.{◌≡◌, ℕ, suc, ◌+◌, ◌<◌, ◌≤◌, List, [], ◌∷◌, ◌++◌, length, take, take_all, drop, set, sym, ap, ◌∙◌, refl, arith, append_assoc, length-append, length-drop, length-take, length-take-le}
+use Rattle.std.proofs.Common.{◌≡◌, ℕ, suc, ◌+◌, ◌<◌, ◌≤◌, List, [], ◌∷◌, ◌++◌, length, take, take_all, drop, set, sym, ap, ◌∙◌, refl, arith, append_assoc, length-append, length-drop, length-take-le}
 use Rattle.std.proofs.lemmas.List.{take-append-le, take_more_set}
-use Rattle.std.proofs.Math.Seq.{take-append-add}
-
-pub take_none : (l : List ℕ) (n : ℕ) → n ≡ 0 → take n l ≡ []
-take_none l n is = rw is refl
-
-take_front : (xs ys : List ℕ) → take (length xs) (xs ++ ys) ≡ xs
-take_front [] ys = refl
-take_front (x ∷ xs) ys = ap (λ l. x ∷ l) (take_front xs ys)
-
-pub short_take : (l : List ℕ) (n : ℕ) → n ≤ 65536 → length (take n l) ≤ 65536
-short_take l n within = omega (arith, length-take {A = ℕ})
 
 take_past : (xs ys : List ℕ) (n : ℕ) → take (length xs + n) (xs ++ ys) ≡ xs ++ take n ys
 take_past [] ys n = let same : 0 + n ≡ n = omega arith in rw same refl

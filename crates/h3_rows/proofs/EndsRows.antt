@@ -10,9 +10,9 @@ use Rattle.h3_lines.specs.declared.run_error.RunError.{RunError}
 use Rattle.h3_lines.specs.declared.run_error.RunError.TheVariants.{Error, Fault}
 use Rattle.h3_rows.specs.Answering.{Answered, EndsBy, RefusesEach}
 use Rattle.h3_rows.specs.Each.{AnswersAll, AnswersBeforeFault, EndsRows, StopsInPage}
-use Rattle.h3_rows.specs.Row.{Piece}
+use Rattle.h3_lines.specs.Pieces.{Piece}
 use Rattle.h3_rows.specs.RowsAnswer.{State}
-use Rattle.h3_rows.specs.Splitting.{StopsReading, StopsTaking, TakesAll}
+use Rattle.h3_lines.specs.Splitting.{StopsReading, StopsTaking, TakesAll}
 use Rattle.h3_rows.proofs.Written.{writes_after, writes_whole}
 
 -- what is last where more rows may come
@@ -89,7 +89,7 @@ module _ {S V : Type 0} (qs : Bool) (taken : S → Option (List ℕ)) (failed : 
   from_start : (v w : V) (ls : List Piece) → held v ≡ [] → takes v ls w → Answered taken failed (answer_of v) (state v) (state w) [] (held w) (out v) (out w) ls
   from_start v w ls none t = subst (λ h. Answered taken failed (answer_of v) (state v) (state w) h (held w) (out v) (out w) ls) none (answers v w ls t)
 
-  stops_in_page : (v w : V) (e : RunError) (old new : Option (List ℕ)) → held v ≡ [] → StopsTaking qs takes refused settled v w e old new (2 ^ 40) 65536 → StopsInPage qs (answer_of v nothing_last (state v)) old new
+  stops_in_page : (v w : V) (e : RunError) (old new : Option (List ℕ)) → held v ≡ [] → StopsTaking qs 65536 takes refused settled v w e old new (2 ^ 40) 65536 → StopsInPage qs (answer_of v nothing_last (state v)) old new
   stops_in_page v w e old new none s = record {
     part = s.part;
     last = s.last;
@@ -104,11 +104,11 @@ module _ {S V : Type 0} (qs : Bool) (taken : S → Option (List ℕ)) (failed : 
     good = ap (λ b. b.ending) (begun_whole taken failed (answer_of v) (none_left v) (empty s.mid s.settles) (from_start v s.mid s.ended none s.takes));
   }
 
-  refuses_mid : (v w : V) (e : RunError) (old new : Option (List ℕ)) → (s : StopsTaking qs takes refused settled v w e old new (2 ^ 40) 65536)
+  refuses_mid : (v w : V) (e : RunError) (old new : Option (List ℕ)) → (s : StopsTaking qs 65536 takes refused settled v w e old new (2 ^ 40) 65536)
       → RefusesEach (answer_of v) (state s.mid) (held s.mid) s.refuses.later e (sink_use taken failed (out s.mid) (out w))
   refuses_mid v w e old new s = subst (λ a. RefusesEach a (state s.mid) (held s.mid) s.refuses.later e (sink_use taken failed (out s.mid) (out w))) (same v s.mid s.ended s.takes) (refuses s.mid w s.refuses.later e s.refuses.refuses)
 
-  stopped : (last : State → Answer) (v w : V) (e : RunError) (old new : Option (List ℕ)) (had has : Bool) → held v ≡ [] → has ≡ had → StopsTaking qs takes refused settled v w e old new (2 ^ 40) 65536
+  stopped : (last : State → Answer) (v w : V) (e : RunError) (old new : Option (List ℕ)) (had has : Bool) → held v ≡ [] → has ≡ had → StopsTaking qs 65536 takes refused settled v w e old new (2 ^ 40) 65536
       → EndsRows qs (answer_of v last (state v)) (answer_of v nothing_last (state v)) old new had has (Err e) (sink_use taken failed (out v) (out w))
   unfolding stops_in_page
   stopped last v w (Error e) old new had has none sound s = (
@@ -128,7 +128,7 @@ module _ {S V : Type 0} (qs : Bool) (taken : S → Option (List ℕ)) (failed : 
   stopped last v w (Fault Read) old new had has none sound s = absurd (refuses_mid v w (Fault Read) old new s last)
   stopped last v w (Fault Memory) old new had has none sound s = absurd (refuses_mid v w (Fault Memory) old new s last)
 
-  read_failed : (v w : V) (old new : Option (List ℕ)) (has : Bool) → held v ≡ [] → StopsReading qs takes settled v w old new (has ≡ true) (2 ^ 40)
+  read_failed : (v w : V) (old new : Option (List ℕ)) (has : Bool) → held v ≡ [] → StopsReading qs 65536 takes settled v w old new (has ≡ true) (2 ^ 40)
       → AnswersBeforeFault qs (answer_of v nothing_last (state v)) old new has (sink_use taken failed (out v) (out w))
   read_failed v w old new has none s = record {
     part = s.part;
@@ -145,7 +145,7 @@ module _ {S V : Type 0} (qs : Bool) (taken : S → Option (List ℕ)) (failed : 
 
   -- a read fails, or a row ends the answer, or a write fails
   pub ends_early : (last : State → Answer) (v w : V) (old new : Option (List ℕ)) (had has : Bool) (e : RunError) → held v ≡ []
-      → ((e ≡ Fault Read) × StopsReading qs takes settled v w old new (has ≡ true) (2 ^ 40)) ⊎ (StopsTaking qs takes refused settled v w e old new (2 ^ 40) 65536 × (has ≡ had))
+      → ((e ≡ Fault Read) × StopsReading qs 65536 takes settled v w old new (has ≡ true) (2 ^ 40)) ⊎ (StopsTaking qs 65536 takes refused settled v w e old new (2 ^ 40) 65536 × (has ≡ had))
       → EndsRows qs (answer_of v last (state v)) (answer_of v nothing_last (state v)) old new had has (Err e) (sink_use taken failed (out v) (out w))
   ends_early last v w old new had has e none (inr (s, kept)) = stopped last v w e old new had has none kept s
   ends_early last v w old new had has (Fault Read) none (inl (is, s)) = read_failed v w old new has none s

@@ -1,8 +1,8 @@
 -- Fields that are found.
 use Rattle.std.proofs.Common.{◌≡◌, ℕ, zero, suc, ◌-◌, ◌<◌, ◌==◌, Bool, true, false, List, [], ◌∷◌, None, Some, ap, ◌∙◌, arith}
 use Rattle.std.proofs.lemmas.Bool.Decides.{nat_tests}
-use Rattle.h3_rows.specs.Row.{Piece, cut, inside_after, piece_at}
-use Rattle.h3_rows.specs.Splitting.{CutsAt, Uncut}
+use Rattle.h3_lines.specs.Pieces.{Piece, cut, inside_after, CutsAt, Uncut}
+use Rattle.h3_rows.specs.Row.{piece_at}
 use Rattle.h3_rows.proofs.Pieces.{cut_at_end, cut_at_mark}
 
 pub same_mark : (mark : ℕ) → (mark == mark) ≡ true

@@ -3,7 +3,8 @@ use Rattle.std.proofs.Common.{◌≡◌, ℕ, ◌+◌, ◌-◌, ◌==◌, Bool, 
 use Rattle.std.proofs.lemmas.Bool.Decides.{nat_tests}
 use Rattle.std.proofs.lemmas.List.{take_more}
 use Rattle.h3_rows.specs.Laws.{FieldsAreKept, PairsAreKept, RowsAreWhole}
-use Rattle.h3_rows.specs.Row.{Piece, cut, ends_in_return, inside_after, turned, with_first}
+use Rattle.h3_lines.specs.Pieces.{Piece, cut, inside_after, turned, with_first}
+use Rattle.h3_rows.specs.Row.{ends_in_return}
 use Rattle.h3_rows.proofs.Finding.{same_mark}
 use Rattle.h3_rows.proofs.Pieces.{cut_at_end, first_piece}
 

@@ -9,13 +9,11 @@ pub mod Items
 pub mod Kept
 pub mod Lengths
 pub mod Masks
-pub mod Pages
 pub mod Pieces
 pub mod PlainAnswers
 pub mod PlainRows
 pub mod ReadBack
 pub mod Scan
-pub mod Split
 pub mod Stand
 pub mod Steps
 pub mod TakenCells

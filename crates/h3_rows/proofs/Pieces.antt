@@ -1,7 +1,6 @@
--- Pieces that end, that go on, and that grow too long.
+-- Pieces that end, and that go on.
 use Rattle.std.proofs.Common.{◌≡◌, ℕ, ◌==◌, Bool, true, false, not, ◌&&◌, List, [], ◌∷◌, ◌++◌, if◌then◌else◌, sym, ap, ◌∙◌, refl, subst}
-use Rattle.h3_rows.specs.Row.{Piece, cut, is_uncut, inside_after, turned, with_first}
-use Rattle.h3_rows.specs.Splitting.{Uncut}
+use Rattle.h3_lines.specs.Pieces.{Piece, Uncut, cut, inside_after, is_uncut, pieces_of, rows_of, turned, with_first, without_last_nothing}
 
 pub both : (b n : Bool) → (not b && n) ≡ true → (b ≡ false) × (n ≡ true)
 both true n h = absurd (cc)
@@ -31,19 +30,6 @@ module _ (mark : ℕ) (quotes : Bool) where
       elim ((b == mark) && not inside) as (λ t. (r : Piece) × (ms : List Piece) × ((if t then ([], false) ∷ cut mark quotes false bs else with_first b (cut mark quotes (turned quotes inside b) bs)) ≡ r ∷ ms))
       [ true ↦ (([], false), cut mark quotes false bs, refl) | false ↦ ((b ∷ p.0, p.1), ps, ap (with_first b) e) ]
 
-  longer : (inside : Bool) (b : ℕ) (bytes piece : List ℕ) (t : Bool) (ps : List Piece) → ((b == mark) && not inside) ≡ false → cut mark quotes (turned quotes inside b) bytes ≡ (piece, t) ∷ ps
-      → cut mark quotes inside (b ∷ bytes) ≡ (b ∷ piece, t) ∷ ps
-  longer inside b bytes piece t ps n e = rw (n, e) refl
-
-  -- a piece that goes on begins with what came of it
-  pub cut_goes_on : (inside : Bool) (piece rest : List ℕ) → is_uncut mark quotes inside piece ≡ true
-      → (p : List ℕ) × (t : Bool) × (ps : List Piece) × (cut mark quotes inside (piece ++ rest) ≡ (piece ++ p, t) ∷ ps)
-  cut_goes_on inside [] rest h = let (p, ps, e) = first_piece inside rest in (p.0, p.1, ps, e)
-  cut_goes_on inside (b ∷ bs) rest h =
-      let (other, more) = both ((b == mark) && not inside) (is_uncut mark quotes (turned quotes inside b) bs) h in
-      let (p, t, ps, e) = cut_goes_on (turned quotes inside b) bs rest more in
-      (p, t, ps, longer inside b (bs ++ rest) (bs ++ p) t ps other e)
-
   pub inside_after-append : (inside : Bool) (xs ys : List ℕ) → inside_after quotes inside (xs ++ ys) ≡ inside_after quotes (inside_after quotes inside xs) ys
   inside_after-append inside [] ys = refl
   inside_after-append inside (b ∷ bs) ys = inside_after-append (turned quotes inside b) bs ys
@@ -64,3 +50,19 @@ module _ (mark : ℕ) (quotes : Bool) where
 
   pub uncut_none : (inside : Bool) → Uncut mark quotes inside [] inside
   uncut_none inside = record { uncut = refl; inside_is = refl }
+
+pub uncut_byte : (mark : ℕ) (quotes inside : Bool) (b : ℕ) (bytes : List ℕ) {end : Bool} → (b == mark) ≡ false → (quotes && (b == 34)) ≡ false → Uncut mark quotes inside bytes end → Uncut mark quotes inside (b ∷ bytes) end
+uncut_byte mark quotes inside b bytes m q u = record { uncut = rw (m, q) u.uncut; inside_is = rw q u.inside_is }
+
+-- ---- rows
+
+kept_first : (ended : List Piece) (p : Piece) (ps : List Piece) → without_last_nothing (ended ++ p ∷ ps) ≡ ended ++ without_last_nothing (p ∷ ps)
+kept_first [] p ps = refl
+kept_first (e ∷ []) p ps = refl
+kept_first (e ∷ f ∷ more) p ps = ap (λ l. e ∷ l) (kept_first (f ∷ more) p ps)
+
+-- rows that come before others
+pub rows_go : (qs : Bool) (bytes later : List ℕ) (ended : List Piece) → pieces_of qs bytes ≡ ended ++ pieces_of qs later → rows_of qs bytes ≡ ended ++ rows_of qs later
+rows_go qs bytes later ended is =
+    let (p, ps, first) = first_piece 10 qs false later in
+    ap without_last_nothing (is ∙ ap (λ l. ended ++ l) first) ∙ kept_first ended p ps ∙ ap (λ l. ended ++ without_last_nothing l) (sym first)

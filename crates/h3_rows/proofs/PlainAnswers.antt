@@ -1,7 +1,7 @@
 -- Plain rows that are put with the one line that answers their cell.
-use Rattle.std.proofs.Common.{◌≡◌, ℕ, ◌+◌, ◌-◌, ◌<◌, ◌≤◌, ◌==◌, nat_lt, nat_le, Bool, true, false, not, ◌&&◌, if◌then◌else◌, List, [], ◌∷◌, ◌++◌, length, take, drop, get_or, Option, None, Some, IfNone, Ok, sym, ap, ◌∙◌, refl, append_assoc, append-nil, length-append, length-take, eqb-true, arith}
+use Rattle.std.proofs.Common.{◌≡◌, ℕ, ◌+◌, ◌-◌, ◌<◌, ◌≤◌, ◌==◌, nat_lt, nat_le, Bool, true, false, not, ◌&&◌, if◌then◌else◌, List, [], ◌∷◌, ◌++◌, length, take, drop, get_or, Option, Some, Ok, sym, ap, ◌∙◌, refl, append_assoc, append-nil, length-append, length-take, eqb-true, arith}
 use Rattle.std.proofs.KnownBytes.{Appends-nil}
-use Rattle.std.proofs.Math.Seq.{drop-append_seam}
+use Rattle.std.proofs.Math.Seq.{drop-append-add, drop-append_seam}
 use Rattle.std.proofs.lemmas.Bool.Decides.{nat_tests}
 use Rattle.std.proofs.lemmas.List.{length-take-le, take-append-le, take-take}
 use Rattle.std.proofs.lemmas.List.Elements.{All-get_or}
@@ -17,12 +17,12 @@ use Rattle.h3_rows.specs.Lanes.{IsOneLine}
 use Rattle.h3_rows.specs.Plain.{IsPlainRow}
 use Rattle.h3_rows.specs.Row.{ends_in_return, field_text, next_number, read_of, row_body, unquoted}
 use Rattle.h3_rows.specs.RowsAnswer.{Form, Step, goes_on, is_malformed, row_said, row_step, row_with, rows_then, rows_with, text_said}
-use Rattle.h3_rows.specs.Splitting.{CutsAt}
+use Rattle.h3_lines.specs.Pieces.{CutsAt, pieces_of}
 use Rattle.h3_rows.specs.declared.said.Said.TheVariants.{Index}
 use Rattle.h3_rows.specs.declared.state.RowState.{RowState}
 use Rattle.h3_rows.proofs.Beside.{first_with, last_with}
 use Rattle.h3_rows.proofs.Blanks.{other_last}
-use Rattle.h3_rows.proofs.Pieces.{uncut_none}
+use Rattle.h3_rows.proofs.Pieces.{cut_at_mark, uncut_none}
 use Rattle.h3_rows.proofs.PlainRows.{plain_feeds, plain_sound, plain_uncut, quiet_uncut}
 use Rattle.h3_rows.proofs.Steps.{passed_is}
 use Rattle.h3_rows.proofs.Texts.{text_said_parsed}
@@ -161,6 +161,11 @@ same_quotes false false h = refl
 pub plain_cuts : (form : Form) (answer : Option ℕ → Answer) (s : RowState) (bytes held held' : List ℕ) (size : ℕ) (quotes : Bool) → not (beq quotes form.quotes) ≡ false → (p : PutsPlain form answer s bytes held held' size) → CutsAt 10 quotes false bytes p.row p.after
 plain_cuts form answer s bytes held held' size quotes is p = record { begins = rw (same_quotes quotes form.quotes is) (plain_uncut form.quotes p.row p.plain); split = p.split }
 
-pub if_none : {A : Type 0} (r : Option A) (P : Type 0) → P → IfNone r P
-if_none None P p = p
-if_none (Some x) P p = tt
+-- the row that bytes begin with, and the others
+pub first_cut : (qs : Bool) (bytes row after : List ℕ) (size : ℕ) → CutsAt 10 qs false bytes row after → length row ≡ size → (rest : List ℕ) → pieces_of qs (bytes ++ rest) ≡ (row, false) ∷ pieces_of qs (drop (size + 1) bytes ++ rest)
+first_cut qs bytes row after size cuts is rest =
+    let u = cuts.begins in
+    let left : drop (size + 1) bytes ≡ after = rw (cuts.split, ← is) (drop-append-add row (10 ∷ after) 1) in
+    let later : bytes ++ rest ≡ row ++ 10 ∷ (drop (size + 1) bytes ++ rest) =
+    ap (λ l. l ++ rest) (cuts.split ∙ ap (λ l. row ++ 10 ∷ l) (sym left)) ∙ append_assoc row (10 ∷ drop (size + 1) bytes) rest in
+    ap (pieces_of qs) later ∙ cut_at_mark 10 qs false row (drop (size + 1) bytes ++ rest) u.uncut u.inside_is refl

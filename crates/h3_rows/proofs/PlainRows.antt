@@ -8,11 +8,11 @@ use Rattle.std.specs.List.{count_by, list_all}
 use Rattle.memchr.specs.Find.{is_byte2, is_byte3}
 use Rattle.h3_index.specs.Text.{is_blank}
 use Rattle.h3_rows.specs.Plain.{IsPlainRow, PassesFields, is_plain, quote_or_feed}
-use Rattle.h3_rows.specs.Row.{cut, piece_at, quotes_are_sound}
-use Rattle.h3_rows.specs.Splitting.{Uncut}
+use Rattle.h3_lines.specs.Pieces.{cut, Uncut}
+use Rattle.h3_rows.specs.Row.{piece_at, quotes_are_sound}
 use Rattle.h3_rows.proofs.Finding.{field_here, field_last, field_passed}
-use Rattle.h3_rows.proofs.Pieces.{uncut_none}
-use Rattle.h3_rows.proofs.Scan.{neither, split_at, uncut_byte}
+use Rattle.h3_rows.proofs.Pieces.{uncut_byte, uncut_none}
+use Rattle.h3_rows.proofs.Scan.{neither, split_at}
 
 no_quote : (quotes : Bool) (b : ℕ) → (b == quote_or_feed quotes) ≡ false → (quotes && (b == 34)) ≡ false
 no_quote true b h = h

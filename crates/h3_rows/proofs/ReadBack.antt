@@ -2,11 +2,11 @@
 use Rattle.std.proofs.Common.{◌≡◌, ℕ, ◌-◌, ◌==◌, Bool, true, false, not, ◌&&◌, List, [], ◌∷◌, ◌++◌, length, take, if◌then◌else◌, sym, ap, ◌∙◌, refl, subst, append_assoc, arith}
 use Rattle.std.proofs.lemmas.Bool.Decides.{nat_tests}
 use Rattle.h3_rows.specs.Laws.{OutputReadsBack, RowsReadBack, all_with}
-use Rattle.h3_rows.specs.Row.{ends_in_return, inside_after, is_uncut, return_of, row_body, pieces_of, turned}
+use Rattle.h3_lines.specs.Pieces.{inside_after, is_uncut, pieces_of, turned, Uncut}
+use Rattle.h3_rows.specs.Row.{ends_in_return, return_of, row_body}
 use Rattle.h3_rows.specs.RowsAnswer.{row_with}
-use Rattle.h3_rows.specs.Splitting.{Uncut}
 use Rattle.h3_rows.proofs.Kept.{and_false, return_last}
-use Rattle.h3_rows.proofs.Split.{rows_go}
+use Rattle.h3_rows.proofs.Pieces.{rows_go}
 use Rattle.h3_rows.proofs.Pieces.{both, cut_at_mark, inside_after-append, uncut_then}
 
 -- a beginning of uncut bytes is uncut

@@ -11,7 +11,8 @@ use Rattle.h3_lines.specs.EachLine.{then_answer}
 use Rattle.h3_lines.specs.declared.run_error.AnswerError.{AnswerError}
 use Rattle.h3_lines.specs.declared.run_error.AnswerError.TheVariants as ending_by
 use Rattle.h3_rows.specs.Laws.{IsWholeOrRefused, RowsGiveBack, RowsStand, RowsStandUntil, answered_so, numbered, own_lines, with_own}
-use Rattle.h3_rows.specs.Row.{Piece, cut, next_number, row_body, rows_of, turned, with_first, without_last_nothing}
+use Rattle.h3_lines.specs.Pieces.{Piece, cut, rows_of, turned, with_first, without_last_nothing}
+use Rattle.h3_rows.specs.Row.{next_number, row_body}
 use Rattle.h3_rows.specs.RowsAnswer.{Form, State, Step, answer_said, beside, ends, faulty, goes_on, is_malformed, row_said, row_step, row_with, rows_then}
 use Rattle.h3_rows.specs.declared.said.Said.{Said}
 use Rattle.h3_rows.specs.declared.said.Said.TheVariants.{Index, Missing}

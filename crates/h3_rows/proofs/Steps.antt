@@ -5,14 +5,14 @@ use Rattle.std.specs.Io.KnownBytes.{Appends}
 use Rattle.h3_index.specs.declared.error.H3Error.{H3Error}
 use Rattle.h3_index.specs.declared.error.H3Error.TheVariants.{Failed}
 use Rattle.h3_lines.specs.Answer.{Answer, before, written}
-use Rattle.h3_lines.specs.Write.{SinkUse, Takes}
+use Rattle.h3_lines.specs.Write.{SinkUse}
 use Rattle.h3_lines.specs.declared.run_error.AnswerError.TheVariants.{At}
 use Rattle.h3_lines.specs.declared.run_error.ColumnError.{ColumnError}
 use Rattle.h3_lines.specs.declared.run_error.RunError.{RunError}
-use Rattle.h3_lines.specs.declared.run_error.RunError.TheVariants.{Error}
 use Rattle.h3_lines.specs.Answering.{Breaks, Moves}
 use Rattle.h3_rows.specs.Answering.{Answered, EndsBy, StepEnds, StepsTo, held_of, pending_of, state_of}
-use Rattle.h3_rows.specs.Row.{Piece, ends_in_return, next_number, row_body}
+use Rattle.h3_lines.specs.Pieces.{Piece}
+use Rattle.h3_rows.specs.Row.{ends_in_return, next_number, row_body}
 use Rattle.h3_rows.specs.RowsAnswer.{Form, State, Step, ends, faulty, goes_on, header_step, is_malformed, one_more, passed, row_step, row_with}
 use Rattle.h3_rows.specs.declared.state.RowState.{RowState}
 use Rattle.h3_rows.proofs.AnsweredRows.{answered_moved, breaks_ends}

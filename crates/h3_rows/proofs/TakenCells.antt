@@ -1,5 +1,5 @@
 -- The cells of rows that are taken to the end of a list, or to a refusal.
-use Rattle.std.proofs.Common.{◌≡◌, ℕ, ◌^◌, ◌⊎◌, Bool, true, false, List, [], ◌++◌, length, ◌≤◌, Option, Result, Ok, Err, sym, ap, ◌∙◌, refl, subst, inl, inr, append-nil, arith}
+use Rattle.std.proofs.Common.{◌≡◌, ℕ, ◌^◌, ◌⊎◌, Bool, true, false, List, [], ◌++◌, length, ◌≤◌, Option, None, Some, Result, Ok, Err, sym, ap, ◌∙◌, refl, subst, inl, inr, append-nil, arith}
 use Rattle.std.specs.Io.KnownBytes.{Consumes}
 use Rattle.std.proofs.KnownBytes.{Consumes-nil}
 use Rattle.h3_index.specs.Cell.{Address}
@@ -8,12 +8,16 @@ use Rattle.h3_lines.specs.declared.run_error.AnswerError.{AnswerError}
 use Rattle.h3_lines.specs.declared.run_error.Fault.TheVariants.{Memory, Read, Write}
 use Rattle.h3_lines.specs.declared.run_error.RunError.{RunError}
 use Rattle.h3_lines.specs.declared.run_error.RunError.TheVariants.{Error, Fault}
-use Rattle.h3_rows.specs.Row.{Piece, rows_of}
+use Rattle.h3_lines.specs.Pieces.{Piece, rows_of}
 use Rattle.h3_rows.specs.Cells.{AllRowsRead, RefusesRows, RowsReadTo, begun_cells, cells_before, cells_end, cells_of, cells_then}
 use Rattle.h3_rows.specs.CellsLaws.{HaveCells, RefusesCells}
 use Rattle.h3_rows.specs.RowsAnswer.{Form, before_first}
-use Rattle.h3_rows.specs.Splitting.{StopsReading, StopsTaking, TakesAll}
-use Rattle.h3_rows.proofs.Pages.{some_held}
+use Rattle.h3_lines.specs.Splitting.{StopsReading, StopsTaking, TakesAll}
+
+-- some bytes are held
+some_held : (told : Option (List ℕ)) → (bytes : List ℕ) × HasLeft told bytes
+some_held None = ([], tt)
+some_held (Some xs) = (xs, refl)
 
 -- from the beginning of a list
 abbrev pub Begins : Form → List Piece → List Address → ℕ → Option ℕ → Type 0
@@ -34,7 +38,7 @@ module _ {V : Type 0} (form : V → Form) (number : V → ℕ) (fields : V → O
       let (cells, h) = have v w rows t in
       (cells, subst (λ b. HaveCells (form v) 1 b rows cells (number w) (fields w)) start (subst (λ n. HaveCells (form v) n (fields v) rows cells (number w) (fields w)) first h))
 
-  read_to : (v w : V) (e : RunError) (old new : Option (List ℕ)) → number v ≡ 1 → fields v ≡ before_first (form v).has_header (form v).choice → StopsTaking (form v).quotes takes refused settled v w e old new (2 ^ 40) 65536 → RowsReadTo (form v) 65536 old new
+  read_to : (v w : V) (e : RunError) (old new : Option (List ℕ)) → number v ≡ 1 → fields v ≡ before_first (form v).has_header (form v).choice → StopsTaking (form v).quotes 65536 takes refused settled v w e old new (2 ^ 40) 65536 → RowsReadTo (form v) 65536 old new
   read_to v w e old new first start s =
       let (cells, h) = begins v s.mid s.ended first start s.takes in
       record {
@@ -52,7 +56,7 @@ module _ {V : Type 0} (form : V → Form) (number : V → ℕ) (fields : V → O
       }
 
   pub stops : (v w : V) (e : RunError) (old new : Option (List ℕ)) (had has : Bool) → number v ≡ 1 → fields v ≡ before_first (form v).has_header (form v).choice → has ≡ had
-      → StopsTaking (form v).quotes takes refused settled v w e old new (2 ^ 40) 65536 → RefusesRows (form v) old new had has e
+      → StopsTaking (form v).quotes 65536 takes refused settled v w e old new (2 ^ 40) 65536 → RefusesRows (form v) old new had has e
   unfolding read_to
   stops v w (Error e) old new had has first start sound s =
       let (cells, h) = begins v s.mid s.ended first start s.takes in
@@ -65,7 +69,7 @@ module _ {V : Type 0} (form : V → Form) (number : V → ℕ) (fields : V → O
   stops v w (Fault Write) old new had has first start sound s = absurd (refuses s.mid w s.refuses.later (Fault Write) s.refuses.refuses)
 
   pub read_fails : (v w : V) (old new : Option (List ℕ)) (had has : Bool) → number v ≡ 1 → fields v ≡ before_first (form v).has_header (form v).choice
-      → StopsReading (form v).quotes takes settled v w old new (has ≡ true) (2 ^ 40) → RefusesRows (form v) old new had has (Fault Read)
+      → StopsReading (form v).quotes 65536 takes settled v w old new (has ≡ true) (2 ^ 40) → RefusesRows (form v) old new had has (Fault Read)
   read_fails v w old new had has first start s =
       let (cells, h) = begins v w s.ended first start s.takes in (
         record {
@@ -85,7 +89,7 @@ module _ {V : Type 0} (form : V → Form) (number : V → ℕ) (fields : V → O
       )
 
   pub refused_early : (v w : V) (old new : Option (List ℕ)) (had has : Bool) (e : RunError) → number v ≡ 1 → fields v ≡ before_first (form v).has_header (form v).choice
-      → ((e ≡ Fault Read) × StopsReading (form v).quotes takes settled v w old new (has ≡ true) (2 ^ 40)) ⊎ (StopsTaking (form v).quotes takes refused settled v w e old new (2 ^ 40) 65536 × (has ≡ had)) → RefusesRows (form v) old new had has e
+      → ((e ≡ Fault Read) × StopsReading (form v).quotes 65536 takes settled v w old new (has ≡ true) (2 ^ 40)) ⊎ (StopsTaking (form v).quotes 65536 takes refused settled v w e old new (2 ^ 40) 65536 × (has ≡ had)) → RefusesRows (form v) old new had has e
   refused_early v w old new had has e first start (inr (s, kept)) = stops v w e old new had has first start kept s
   refused_early v w old new had has (Fault Read) first start (inl (is, s)) = read_fails v w old new had has first start s
   refused_early v w old new had has (Fault Write) first start (inl (is, s)) = absurd (cc is)

@@ -1,9 +1,9 @@
 -- Answers that are written, by parts of them.
-use Rattle.std.proofs.Common.{◌≡◌, ℕ, Bool, List, [], ◌∷◌, ◌++◌, Option, true, Result, Ok, Err, IsErr, sym, ap, ◌∙◌, refl, inl, inr, append_assoc}
+use Rattle.std.proofs.Common.{◌≡◌, ℕ, Bool, List, [], ◌∷◌, ◌++◌, Option, Result, Ok, Err, sym, ap, ◌∙◌, refl, inl, inr, append_assoc}
 use Rattle.std.proofs.KnownBytes.{Appends-nil, Appends-trans}
 use Rattle.std.specs.Io.KnownBytes.{Appends}
 use Rattle.h3_lines.specs.Answer.{Answer, before, written}
-use Rattle.h3_lines.specs.Write.{AppendsPart, IsErrorAlone, SinkUse, Takes, TakesPart, Writes, sink_use}
+use Rattle.h3_lines.specs.Write.{SinkUse, Takes, TakesPart, Writes, sink_use}
 use Rattle.h3_lines.specs.declared.run_error.AnswerError.{AnswerError}
 use Rattle.h3_lines.specs.declared.run_error.Fault.TheVariants.{Memory, Read, Write}
 use Rattle.h3_lines.specs.declared.run_error.RunError.{RunError}

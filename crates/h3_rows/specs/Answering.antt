@@ -9,7 +9,7 @@ use Rattle.h3_lines.specs.Write.{SinkUse, Takes}
 use Rattle.h3_lines.specs.declared.run_error.Fault.TheVariants.{Memory, Read, Write}
 use Rattle.h3_lines.specs.declared.run_error.RunError.{RunError}
 use Rattle.h3_lines.specs.declared.run_error.RunError.TheVariants.{Error, Fault}
-use Rattle.h3_rows.specs.Row.{Piece, cut}
+use Rattle.h3_lines.specs.Pieces.{Piece, cut}
 use Rattle.h3_rows.specs.Plain.{is_plain}
 use Rattle.h3_rows.specs.RowsAnswer.{Form, State, Step, goes_on, row_step, rows_with}
 use Rattle.h3_rows.specs.declared.state.RowState.{RowState}

@@ -14,7 +14,8 @@ use Rattle.h3_lines.specs.declared.run_error.ColumnError.TheVariants.{NotFound}
 use Rattle.h3_lines.specs.declared.run_error.Fault.TheVariants.{Memory, Read, Write}
 use Rattle.h3_lines.specs.declared.run_error.RunError.{RunError}
 use Rattle.h3_lines.specs.declared.run_error.RunError.TheVariants.{Error, Fault}
-use Rattle.h3_rows.specs.Row.{Piece, next_number, pieces_of, read_of, row_body, rows_of}
+use Rattle.h3_lines.specs.Pieces.{Piece, pieces_of, rows_of}
+use Rattle.h3_rows.specs.Row.{next_number, read_of, row_body}
 use Rattle.h3_rows.specs.RowsAnswer.{After, Choice, Form, Named, before_first, chosen_in, is_malformed, row_said}
 use Rattle.h3_rows.specs.declared.said.Said.{Said}
 use Rattle.h3_rows.specs.declared.said.Said.TheVariants.{Index, Missing}

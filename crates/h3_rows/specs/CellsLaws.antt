@@ -6,7 +6,7 @@ use Rattle.h3_lines.specs.declared.run_error.AnswerError.{AnswerError}
 use Rattle.h3_lines.specs.declared.run_error.Fault.TheVariants.{Memory, Read, Write}
 use Rattle.h3_lines.specs.declared.run_error.RunError.{RunError}
 use Rattle.h3_lines.specs.declared.run_error.RunError.TheVariants.{Error, Fault}
-use Rattle.h3_rows.specs.Row.{Piece}
+use Rattle.h3_lines.specs.Pieces.{Piece}
 use Rattle.h3_rows.specs.Cells.{cells_before, cells_then}
 use Rattle.h3_rows.specs.RowsAnswer.{Form}
 

@@ -9,7 +9,7 @@ use Rattle.h3_lines.specs.Write.{IsLeft, SinkUse, Writes}
 use Rattle.h3_lines.specs.declared.run_error.Fault.TheVariants.{Memory, Read, Write}
 use Rattle.h3_lines.specs.declared.run_error.RunError.{RunError}
 use Rattle.h3_lines.specs.declared.run_error.RunError.TheVariants.{Error, Fault}
-use Rattle.h3_rows.specs.Row.{Piece, pieces_of, rows_of}
+use Rattle.h3_lines.specs.Pieces.{Piece, pieces_of, rows_of}
 
 -- What is answered to the rows of a list, `whole`, and to the first rows of one of which more may come, `begun`: by
 -- `rows_answer` and `begun_answer` of a form and a function.

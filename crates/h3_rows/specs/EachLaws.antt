@@ -5,7 +5,7 @@ use Rattle.std.specs.Io.KnownBytes.{Appends}
 use Rattle.h3_lines.specs.Answer.{Answer, before}
 use Rattle.h3_lines.specs.Answering.{TakesSome}
 use Rattle.h3_rows.specs.Answering.{Answered, EndsBy, RefusesEach}
-use Rattle.h3_rows.specs.Row.{Piece}
+use Rattle.h3_lines.specs.Pieces.{Piece}
 use Rattle.h3_rows.specs.RowsAnswer.{State}
 use Rattle.h3_lines.specs.Write.{sink_use}
 use Rattle.h3_lines.specs.declared.run_error.Fault.TheVariants.{Memory, Read, Write}

@@ -4,7 +4,8 @@ use Rattle.std.specs.List.{flat_map}
 use Rattle.h3_index.specs.declared.error.H3Error.{H3Error}
 use Rattle.h3_lines.specs.Answer.{Answer, refused, written}
 use Rattle.h3_lines.specs.declared.run_error.AnswerError.{AnswerError}
-use Rattle.h3_rows.specs.Row.{Piece, cut, inside_after, is_uncut, next_number, return_of, row_body, row_ending, rows_of}
+use Rattle.h3_lines.specs.Pieces.{Piece, cut, inside_after, is_uncut, rows_of}
+use Rattle.h3_rows.specs.Row.{next_number, return_of, row_body, row_ending}
 use Rattle.h3_rows.specs.RowsAnswer.{Form, State, row_said, row_with, rows_then, rows_with}
 use Rattle.h3_rows.specs.declared.said.Said.{Said}
 use Rattle.h3_rows.specs.declared.said.Said.TheVariants.{Index, Missing}

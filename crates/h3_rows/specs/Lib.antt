@@ -10,4 +10,3 @@ pub mod Plain
 pub mod Row
 pub mod RowForm
 pub mod RowsAnswer
-pub mod Splitting

@@ -2,7 +2,8 @@
 use Rattle.std.specs.Prelude.{◌≡◌, ℕ, Bool, true, false, not, List, ◌∷◌, ◌++◌, Some, if◌then◌else◌}
 use Rattle.std.specs.List.{list_all}
 use Rattle.memchr.specs.Find.{is_byte2}
-use Rattle.h3_rows.specs.Row.{cut, piece_at}
+use Rattle.h3_lines.specs.Pieces.{cut}
+use Rattle.h3_rows.specs.Row.{piece_at}
 
 -- the quote if quotes count, and else a line feed
 abbrev pub quote_or_feed : Bool → ℕ

@@ -12,7 +12,8 @@ use Rattle.h3_lines.specs.declared.run_error.AnswerError.{AnswerError}
 use Rattle.h3_lines.specs.declared.run_error.AnswerError.TheVariants as ending_by
 use Rattle.h3_lines.specs.declared.run_error.ColumnError.{ColumnError}
 use Rattle.h3_lines.specs.declared.run_error.ColumnError.TheVariants.{NotFound, NotUnique}
-use Rattle.h3_rows.specs.Row.{Piece, cut, field_text, next_number, piece_at, quotes_are_sound, read_of, row_body, row_ending, rows_of}
+use Rattle.h3_lines.specs.Pieces.{Piece, cut, rows_of}
+use Rattle.h3_rows.specs.Row.{field_text, next_number, piece_at, quotes_are_sound, read_of, row_body, row_ending}
 use Rattle.h3_rows.specs.declared.state.Kept.{Kept}
 use Rattle.h3_rows.specs.declared.said.Said.{Said}
 use Rattle.h3_rows.specs.declared.said.Said.TheVariants.{Index, Missing}

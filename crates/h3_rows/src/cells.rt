@@ -8,15 +8,18 @@ ghost use Rattle.h3_rows.specs.Cells.{AllRowsRead, RefusesRows, cell_list, cell_
 ghost use Rattle.h3_rows.specs.CellsLaws.{HaveCells, RefusesCells, have_none, have_then, refuses_after};
 ghost use Rattle.h3_rows.specs.RowForm.{form_of};
 ghost use Rattle.h3_rows.specs.RowsAnswer.{choice_of, row_said};
+ghost use Rattle.h3_rows.specs.declared.reading.TheConstants.{LONGEST};
 
 use crate::fields::{read_of, row_body};
 use crate::header::chosen_field;
-use crate::reading::{is_malformed, read_row};
+use crate::reading::{LONGEST, is_malformed, read_row};
 use crate::said::Said;
-use crate::splitting::{RowStart, RowTaker, take_rows};
 use crate::state::{RowState, first_state};
 use h3_index::{Cell, H3Error};
-use h3_lines::{AnswerError, CellTaker, ColumnError, Fault, MAX_READS, PAGE, RunError};
+use h3_lines::{
+    AnswerError, CellTaker, ColumnError, Fault, Job, MAX_READS, PAGE, RunError, Taking, drive,
+    row_room,
+};
 use h3_requests::{CellField, RowOptions};
 use h3_streams::{CountedReader, Source};
 use std::alloc::Global;
@@ -87,7 +90,9 @@ struct RowCells<'f, V: CellTaker> {
     ghost few: { V.count taker ≤ state.number },
 }
 
-impl<'f, V: CellTaker> RowTaker for RowCells<'f, V> {
+impl<'f, V: CellTaker> Taking for RowCells<'f, V> {
+    ghost longest = { LONGEST };
+
     ghost count = { λ v. v.state.number };
 
     ghost settled = { λ v. ⊤ };
@@ -99,20 +104,6 @@ impl<'f, V: CellTaker> RowTaker for RowCells<'f, V> {
 
     ghost refused = { λ v rows w e.
         RefusesCells (form_of v.options.now []) v.state.number v.state.before rows e };
-
-    fn take(&mut self, row: &[u8], inside: bool) -> Result<(), RunError> {
-        match find_cell(self.options, self.state, row, inside) {
-            Ok((None, state)) => {
-                self.state = state;
-                Ok(())
-            }
-            Ok((Some(cell), state)) => {
-                self.state = state;
-                self.taker.take(cell, None)
-            }
-            Err(error) => Err(RunError::Error(error)),
-        }
-    }
 
     fn refuse_long(&mut self) -> RunError {
         RunError::Error(AnswerError::At(self.state.number, H3Error::Failed))
@@ -137,6 +128,22 @@ impl<'f, V: CellTaker> RowTaker for RowCells<'f, V> {
         v.state.before xs ys p.0 e p.3 p.1 q };
 }
 
+impl<'f, V: CellTaker> Job for RowCells<'f, V> {
+    fn take(&mut self, row: &[u8], inside: bool) -> Result<(), RunError> {
+        match find_cell(self.options, self.state, row, inside) {
+            Ok((None, state)) => {
+                self.state = state;
+                Ok(())
+            }
+            Ok((Some(cell), state)) => {
+                self.state = state;
+                self.taker.take(cell, None)
+            }
+            Err(error) => Err(RunError::Error(error)),
+        }
+    }
+}
+
 /// Ends the rows of a list, all of which are read.
 fn end_rows(options: &RowOptions, state: RowState) -> Result<(), AnswerError>
     ensures ok { OnOk result (cells_end (choice_of options.now.field) state.before ≡ Ok []) }
@@ -154,12 +161,11 @@ fn take_pages<V: CellTaker + Drop, R: Source>(
     taker: V,
     options: &RowOptions,
     input: &mut R,
-    begun: RowStart,
+    room: Vec<u8>,
     page: &mut [u8],
 ) -> Result<V, RunError>
     requires first { V.count taker ≡ 0 }
-    requires begun { begun.held ≡ 0 }
-    requires quotes { begun.quotes ≡ options.now.quotes }
+    requires room { length room.items ≡ LONGEST }
     requires page { length page.old ≡ PAGE }
     ensures taken { IfOk result (λ after. (cells : List Address)
         × AllRowsRead (form_of options.now []) (Ok cells) (R.left input.old) (R.left input.new)
@@ -174,7 +180,7 @@ fn take_pages<V: CellTaker + Drop, R: Source>(
         state: first_state(options),
     };
     let mut reader = CountedReader::new(&mut *input, MAX_READS);
-    let reading = take_rows(&mut rows, &mut reader, begun, page);
+    let reading = drive(&mut rows, &mut reader, options.quotes, room, page);
     // The proof reads what the source is after the reads from this use of it.
     let _ = &*input;
     reading?;
@@ -217,7 +223,7 @@ pub fn take_row_cells<V: CellTaker + Drop, R: Source>(
     ensures refused { IfErr result (λ e. RefusesRows (form_of options.now [])
         (R.left input.old) (R.left input.new) (R.has_failed input.old) (R.has_failed input.new) e) }
 {
-    let begun = RowStart::new(alloc, options.quotes)?;
+    let room = row_room(alloc, LONGEST)?;
     let mut page = vec![in alloc; 0u8; PAGE].map_err(|_| RunError::Fault(Fault::Memory))?;
-    take_pages(taker, options, input, begun, &mut page)
+    take_pages(taker, options, input, room, &mut page)
 }

@@ -14,21 +14,21 @@ ghost use Rattle.h3_rows.specs.Each.{EndsRows};
 ghost use Rattle.h3_rows.specs.Row.{read_of, row_body};
 ghost use Rattle.h3_rows.specs.RowForm.{columns_form, form_of};
 ghost use Rattle.h3_rows.specs.RowsAnswer.{State, answer_said, begun_answer, choice_of, chosen_in, empty_answer, empty_step, end_of, faulty, goes_on, header_step, pair_names, row_said, row_step, row_with, rows_answer, rows_then, start};
+ghost use Rattle.h3_rows.specs.declared.reading.TheConstants.{LONGEST};
 
 use crate::fields::{read_of, row_body, row_ending};
 use crate::function::{RowFunction, Short, Workspace};
 use crate::header::{chosen_field, column_name, pair_names};
 use crate::lanes::is_one_line;
 use crate::plain::find_plain;
-use crate::reading::{is_malformed, read_row};
+use crate::reading::{LONGEST, is_malformed, read_row};
 use crate::said::Said;
-use crate::splitting::{RowStart, RowTaker, take_rows};
 use crate::state::{RowState, first_state};
 use crate::write::{put_bytes, put_row};
 use h3_index::{H3Error, read_plain};
 use h3_lines::{
-    ANSWER, AnswerError, AnswerLine, BLOCK, ColumnError, Fault, MAX_READS, PAGE, RunError,
-    write_answer,
+    ANSWER, AnswerError, AnswerLine, BLOCK, ColumnError, Fault, Job, MAX_READS, PAGE, RunError,
+    Taking, drive, row_room, write_answer,
 };
 use h3_requests::{CellField, RowOptions};
 use h3_streams::{CountedReader, Sink, Source};
@@ -468,7 +468,9 @@ struct RowAnswers<'a, 'f, W, F> {
     ghost within: { end ≤ BLOCK },
 }
 
-impl<'a, 'f, W: Sink, F: RowFunction> RowTaker for RowAnswers<'a, 'f, W, F> {
+impl<'a, 'f, W: Sink, F: RowFunction> Taking for RowAnswers<'a, 'f, W, F> {
+    ghost longest = { LONGEST };
+
     ghost count = { λ v. v.state.number };
 
     ghost settled = { λ v. held_of v.state.before (take v.end v.block) ≡ [] };
@@ -491,42 +493,6 @@ impl<'a, 'f, W: Sink, F: RowFunction> RowTaker for RowAnswers<'a, 'f, W, F> {
         (state_of v.state (take v.end v.block)) (held_of v.state.before (take v.end v.block))
         rows e (sink_use W.taken W.has_failed v.out.now w.out.now)
         × (w.out.ghost_name ≡ v.out.ghost_name) };
-
-    fn take(&mut self, row: &[u8], inside: bool) -> Result<(), RunError> {
-        let (end, state) = put_answer(
-            self.out,
-            &mut self.block,
-            self.end,
-            self.job,
-            &mut self.work,
-            self.state,
-            row,
-            inside,
-        )?;
-        self.end = end;
-        self.state = state;
-        Ok(())
-    }
-
-    #[inline(always)]
-    fn take_first(&mut self, quotes: bool, bytes: &[u8]) -> Option<usize> {
-        if quotes != self.job.options.quotes {
-            return None;
-        }
-        let before = self.state.before?;
-        let (size, end) = put_plain(
-            &mut self.block,
-            self.end,
-            self.job,
-            &mut self.work,
-            self.state,
-            before,
-            bytes,
-        )?;
-        self.end = end;
-        self.state = self.state.counted();
-        Some(size)
-    }
 
     fn refuse_long(&mut self) -> RunError {
         let held = &self.block[..self.end];
@@ -561,11 +527,59 @@ impl<'a, 'f, W: Sink, F: RowFunction> RowTaker for RowAnswers<'a, 'f, W, F> {
     ) };
 }
 
+impl<'a, 'f, W: Sink, F: RowFunction> Job for RowAnswers<'a, 'f, W, F> {
+    fn take(&mut self, row: &[u8], inside: bool) -> Result<(), RunError> {
+        let (end, state) = put_answer(
+            self.out,
+            &mut self.block,
+            self.end,
+            self.job,
+            &mut self.work,
+            self.state,
+            row,
+            inside,
+        )?;
+        self.end = end;
+        self.state = state;
+        Ok(())
+    }
+
+    #[inline(always)]
+    fn take_first<'b>(
+        &mut self,
+        quotes: bool,
+        bytes: &'b [u8],
+    ) -> Result<Option<&'b [u8]>, RunError> {
+        if quotes != self.job.options.quotes {
+            return Ok(None);
+        }
+        let Some(before) = self.state.before else {
+            return Ok(None);
+        };
+        match put_plain(
+            &mut self.block,
+            self.end,
+            self.job,
+            &mut self.work,
+            self.state,
+            before,
+            bytes,
+        ) {
+            Some((size, end)) => {
+                self.end = end;
+                self.state = self.state.counted();
+                Ok(Some(&bytes[size + 1..]))
+            }
+            None => Ok(None),
+        }
+    }
+}
+
 /// Answers the rows of an input, read in pages, and ends the answer.
 fn answer_input<'a, 'f, R: Source, W: Sink, F: RowFunction>(
     answers: &mut RowAnswers<'a, 'f, W, F>,
     input: &mut R,
-    begun: RowStart,
+    room: Vec<u8>,
     page: &mut [u8],
 ) -> Result<(), RunError>
     requires first { state_of answers.old.state (take answers.old.end answers.old.block)
@@ -574,8 +588,7 @@ fn answer_input<'a, 'f, R: Source, W: Sink, F: RowFunction>(
         answers.old.job.now.is_pair) }
     requires empty { answers.old.end ≡ 0 }
     requires few { answers.old.state.number ≡ 1 }
-    requires begun { begun.held ≡ 0 }
-    requires quotes { begun.quotes ≡ answers.old.job.now.options.now.quotes }
+    requires room { length room.items ≡ LONGEST }
     requires page { length page.old ≡ PAGE }
     ensures ends { EndsRows answers.old.job.now.options.now.quotes
         (rows_answer
@@ -592,7 +605,8 @@ fn answer_input<'a, 'f, R: Source, W: Sink, F: RowFunction>(
     ensures same { answers.new.out.ghost_name ≡ answers.old.out.ghost_name }
 {
     let mut reader = CountedReader::new(&mut *input, MAX_READS);
-    let reading = take_rows(answers, &mut reader, begun, page);
+    let quotes = answers.job.options.quotes;
+    let reading = drive(answers, &mut reader, quotes, room, page);
     // The proof reads what the source is after the reads from this use of it.
     let _ = &*input;
     reading?;
@@ -607,11 +621,10 @@ fn answer_pages<'f, R: Source, W: Sink, F: RowFunction>(
     job: &'f RowJob<'f, F>,
     input: &mut R,
     out: &mut W,
-    begun: RowStart,
+    room: Vec<u8>,
     page: &mut [u8],
 ) -> Result<(), RunError>
-    requires begun { begun.held ≡ 0 }
-    requires quotes { begun.quotes ≡ job.now.options.now.quotes }
+    requires room { length room.items ≡ LONGEST }
     requires page { length page.old ≡ PAGE }
     ensures { EndsRows job.now.options.now.quotes
         (rows_answer (columns_form job.now.options.now job.now.name.now job.now.is_pair)
@@ -633,7 +646,7 @@ fn answer_pages<'f, R: Source, W: Sink, F: RowFunction>(
         block: [0; BLOCK],
         end: 0,
     };
-    let ending = answer_input(&mut answers, input, begun, page);
+    let ending = answer_input(&mut answers, input, room, page);
     // The proof reads what the sink is after the writes from this use of it.
     let _ = &*out;
     ending
@@ -656,7 +669,7 @@ pub(crate) fn answer_input_by<R: Source, W: Sink, F: RowFunction>(
         (R.has_failed input.old) (R.has_failed input.new) result
         (sink_use W.taken W.has_failed out.old out.new) }
 {
-    let begun = RowStart::new(alloc, options.quotes)?;
+    let room = row_room(alloc, LONGEST)?;
     let mut page = vec![in alloc; 0u8; PAGE].map_err(|_| RunError::Fault(Fault::Memory))?;
     let job = RowJob {
         options,
@@ -664,7 +677,7 @@ pub(crate) fn answer_input_by<R: Source, W: Sink, F: RowFunction>(
         is_pair,
         function,
     };
-    answer_pages(&job, input, out, begun, &mut page)
+    answer_pages(&job, input, out, room, &mut page)
 }
 
 /// Writes each row of an input with the answer to its own cell beside it, in order, up to the end or

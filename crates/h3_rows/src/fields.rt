@@ -2,9 +2,10 @@
 
 ghost use Rattle.std.specs.Prelude.{true, ◌≡◌, ◌==◌, ◌+◌, ◌-◌, ◌<◌, ◌≤◌, ℕ, Bool, false, length, Some, None, MatchOption};
 ghost use Rattle.h3_index.specs.Text.{is_blank, trimmed, without_leading_blanks, without_trailing_blanks};
-ghost use Rattle.h3_rows.specs.Row.{cut, field_text, piece_at, quotes_are_sound, read_of, row_body, row_ending, unquoted, without_order_mark};
+ghost use Rattle.h3_lines.specs.Pieces.{cut};
+ghost use Rattle.h3_rows.specs.Row.{field_text, piece_at, quotes_are_sound, read_of, row_body, row_ending, unquoted, without_order_mark};
 
-use crate::splitting::split;
+use h3_lines::split;
 use memchr::memchr;
 
 /// The field of a row after `before` others, cut at the separators outside quotes; `None` if the row

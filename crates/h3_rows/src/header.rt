@@ -2,13 +2,12 @@
 
 ghost use Rattle.std.specs.Prelude.{◌≡◌, ◌==◌, ◌≤◌, ◌+◌, ℕ, List, ◌∷◌, ◌++◌, false, length, option_map, string_bytes, IfSome};
 ghost use Rattle.h3_rows.specs.Answering.{bytes_left, fields_left};
-ghost use Rattle.h3_rows.specs.Row.{cut};
+ghost use Rattle.h3_lines.specs.Pieces.{cut};
 ghost use Rattle.h3_rows.specs.RowForm.{form_of};
 ghost use Rattle.h3_rows.specs.RowsAnswer.{chosen_in, column_of, pair_names, places_of};
 
 use crate::fields::field_text;
-use crate::splitting::split;
-use h3_lines::ColumnError;
+use h3_lines::{ColumnError, split};
 use h3_requests::{CellField, RowOptions};
 
 /// The first of the fields that bytes are cut into, and the bytes after its separator, if it has one.

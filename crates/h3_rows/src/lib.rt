@@ -13,7 +13,6 @@ pub mod laws;
 mod plain;
 mod reading;
 mod said;
-mod splitting;
 mod state;
 mod write;
 

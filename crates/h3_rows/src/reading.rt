@@ -11,6 +11,9 @@ use h3_index::{H3Error, is_blank_text, read_index};
 use h3_requests::RowOptions;
 use memchr::memchr;
 
+/// The bytes that a row may have before its line feed.
+pub(crate) const LONGEST: usize = 65536;
+
 /// The bytes that a row may have without its ending.
 const LONGEST_ROW: usize = 65535;
 

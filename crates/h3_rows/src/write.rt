@@ -6,8 +6,7 @@ ghost use Rattle.h3_lines.specs.Answering.{Breaks, Moves};
 ghost use Rattle.h3_rows.specs.RowsAnswer.{rows_with, row_with};
 
 use crate::fields::{row_body, row_ending};
-use crate::splitting::split;
-use h3_lines::{BLOCK, RunError, write_all, write_answer};
+use h3_lines::{BLOCK, RunError, split, write_all, write_answer};
 use h3_streams::Sink;
 
 /// Puts bytes after those that are held back in a block up to `end`, and returns where they end now.

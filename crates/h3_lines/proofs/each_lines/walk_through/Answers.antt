@@ -1,4 +1,4 @@
-use Rattle.std.proofs.Common.{◌≡◌, ◌+◌, ◌∷◌, [], List, Result, Ok, Err, IsOk, ap, ◌∙◌, drop, length, refl, subst, sym}
+use Rattle.std.proofs.Common.{◌+◌, ◌∷◌, [], IsOk, ap, ◌∙◌, drop, length, refl, subst, sym}
 use Rattle.std.proofs.lemmas.Result.{err_from_is_err_and}
 use Rattle.std.specs.Iterator.{Yields}
 use Rattle.h3_lines.specs.Answer.{whole_items}

@@ -1,5 +1,9 @@
+use Rattle.std.proofs.Common.{length, refl}
+use Rattle.std.proofs.lemmas.Result.{err_from_is_err_and}
+use Rattle.h3_lines.specs.declared.run_error.Fault.TheVariants.{Memory}
+use Rattle.h3_lines.specs.declared.run_error.RunError.TheVariants.{Fault}
 use Rattle.h3_lines.specs.Reads.{source_use}
-use Rattle.h3_lines.proofs.Listed.{items_read, refused_unnumbered}
+use Rattle.h3_lines.proofs.Listed.{items_read, list_unread, refused_unnumbered}
 use Rattle.h3_lines.proofs.list.read_list.Goals as goal
 
 pub returns-in-Ok-clause-cells : goal.returns-in-Ok-clause-cells
@@ -10,3 +14,9 @@ returns-in-Ok-clause-cells g c =
 
 pub returns-in-Err-clause-refused : goal.returns-in-Err-clause-refused
 returns-in-Err-clause-refused g c = rw c.without_line.ensures (refused_unnumbered _ _ _ c.in-Err.refusal c.in-Err.ensures.refused)
+
+pub returns-in_err-room-clause-refused : goal.returns-in_err-room-clause-refused
+returns-in_err-room-clause-refused g c =
+    let p = err_from_is_err_and c.from_residual.result c.from_residual.ensures.1 in
+    let input = source_use g.R.Source.left g.R.Source.has_failed c.args.input.now c.args.input.now in
+    rw (p.1, p.2, c.in_err-room.ensures.err) (refused_unnumbered c.args.limit (length c.args.page.now) input (Fault Memory) (list_unread c.args.limit (length c.args.page.now) input refl refl))

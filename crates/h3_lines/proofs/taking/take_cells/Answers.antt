@@ -7,9 +7,15 @@ use Rattle.h3_lines.specs.declared.run_error.RunError.TheVariants.{Fault}
 use Rattle.h3_lines.proofs.Listed.{list_unread}
 use Rattle.h3_lines.proofs.taking.take_cells.Goals as goal
 
+pub returns-in_err-room-clause-refused : goal.returns-in_err-room-clause-refused
+returns-in_err-room-clause-refused g c =
+    let p = err_from_is_err_and c.from_residual.result c.from_residual.ensures.1 in
+    let input = source_use g.R.Source.left g.R.Source.has_failed c.args.input.now c.args.input.now in
+    rw (p.1, p.2, c.in_err-room.ensures.err) (list_unread (2 ^ 40) 65536 input refl refl)
+
 pub returns-in_err-page-clause-refused : goal.returns-in_err-page-clause-refused
 returns-in_err-page-clause-refused g c =
-    let p = err_from_is_err_and c.from_residual.result c.from_residual.ensures.1 in
+    let p = err_from_is_err_and c.from_residual-in_err-page.result c.from_residual-in_err-page.ensures.1 in
     let input = source_use g.R.Source.left g.R.Source.has_failed c.args.input.now c.args.input.now in
     let out_of_memory : c.in_err-page.field-0.0 ≡ Fault Memory = search rules in
     rw (p.1, p.2, out_of_memory) (list_unread (2 ^ 40) 65536 input refl refl)

@@ -4,10 +4,10 @@ use Rattle.h3_rows.specs.RowForm.{form_of}
 use Rattle.h3_rows.proofs.TakenCells.{no_memory}
 use Rattle.h3_rows.proofs.cells.take_row_cells.Goals as goal
 
-pub returns-in_err-begun-clause-refused : goal.returns-in_err-begun-clause-refused
-returns-in_err-begun-clause-refused g c =
+pub returns-in_err-room-clause-refused : goal.returns-in_err-room-clause-refused
+returns-in_err-room-clause-refused g c =
     let p = err_from_is_err_and c.from_residual.result c.from_residual.ensures.1 in
-    rw (p.1, p.2, c.in_err-begun.ensures.err) (no_memory (form_of c.args.options.now []) (g.R.Source.left c.args.input.now) (g.R.Source.has_failed c.args.input.now))
+    rw (p.1, p.2, c.in_err-room.ensures.err) (no_memory (form_of c.args.options.now []) (g.R.Source.left c.args.input.now) (g.R.Source.has_failed c.args.input.now))
 
 pub returns-in_err-page-clause-refused : goal.returns-in_err-page-clause-refused
 returns-in_err-page-clause-refused g c =

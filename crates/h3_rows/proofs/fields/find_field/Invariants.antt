@@ -1,5 +1,6 @@
 use Rattle.std.proofs.Common.{◌≡◌, false}
-use Rattle.h3_rows.specs.Row.{cut, piece_at}
+use Rattle.h3_lines.specs.Pieces.{cut}
+use Rattle.h3_rows.specs.Row.{piece_at}
 use Rattle.h3_rows.proofs.fields.find_field.Given as goal
 
 abbrev pub invariant-loop-left : goal.invariant-loop-left

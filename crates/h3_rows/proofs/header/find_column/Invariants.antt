@@ -1,6 +1,6 @@
 use Rattle.std.proofs.Common.{◌≡◌, ◌≤◌, ◌+◌, ◌++◌, false, length, option_map}
 use Rattle.h3_rows.specs.Answering.{bytes_left, fields_left, place_found}
-use Rattle.h3_rows.specs.Row.{cut}
+use Rattle.h3_lines.specs.Pieces.{cut}
 use Rattle.h3_rows.specs.RowsAnswer.{places_of}
 use Rattle.h3_rows.proofs.header.find_column.Given as goal
 

@@ -1,0 +1,271 @@
+-- Rows that are taken one after another.
+use Rattle.std.proofs.lemmas.Bool.Decides.{nat_tests}
+use Rattle.std.proofs.Common.{◌≡◌, ℕ, ◌+◌, ◌*◌, ◌<◌, ◌≤◌, ◌==◌, ◌⊎◌, Bool, false, List, [], ◌∷◌, ◌++◌, length, take, Option, sym, ap, ◌∙◌, refl, subst, inl, inr, append_assoc, append-nil, length-append, length-take, arith}
+use Rattle.std.specs.Io.KnownBytes.{Consumes, Keeps}
+use Rattle.std.proofs.KnownBytes.{Consumes-kept, Consumes-nil, Consumes-trans}
+use Rattle.h3_streams.specs.Stream.{HasLeft, Pulls}
+use Rattle.h3_lines.specs.declared.run_error.RunError.{RunError}
+use Rattle.h3_lines.proofs.Pieces.{cut_at_end, cut_at_mark, cut_goes_on, rows_go, uncut_then}
+use Rattle.h3_lines.specs.Pieces.{Piece, Uncut, pieces_of, rows_of, without_last_nothing}
+use Rattle.h3_lines.specs.Splitting.{Goes, RefusesAfter, StopsReading, StopsTaking, TakesAll}
+use Rattle.h3_lines.proofs.Pages.{all_bytes, at_end, one_at_least, one_less}
+
+pub cut_length : (bytes before after : List ℕ) (mark : ℕ) → bytes ≡ before ++ mark ∷ after → length before + length after + 1 ≡ length bytes
+cut_length bytes before after mark split =
+    let whole : length bytes ≡ length before + length (mark ∷ after) = ap length split ∙ length-append before (mark ∷ after) in
+    omega (arith, whole)
+
+-- the last piece
+piece_at_end : (qs : Bool) (line : List ℕ) (o : Bool) → Uncut 10 qs false line o → pieces_of qs line ≡ (line, o) ∷ []
+piece_at_end qs line o h = cut_at_end 10 qs false line h.uncut ∙ ap (λ t. (line, t) ∷ []) h.inside_is
+
+-- the last row, if it has any byte
+pub row_at_end : (qs : Bool) (line : List ℕ) (o : Bool) → 0 < length line → Uncut 10 qs false line o → rows_of qs line ≡ (line, o) ∷ []
+row_at_end qs line o some h =
+    let filled : (length line == 0) ≡ false = grind (arith, nat_tests) in
+    ap without_last_nothing (piece_at_end qs line o h) ∙ rw filled refl
+
+first_kept : (piece : List ℕ) (t : Bool) (ps : List Piece) → 0 < length piece → (qs : List Piece) × (without_last_nothing ((piece, t) ∷ ps) ≡ (piece, t) ∷ qs)
+first_kept piece t [] some = let filled : (length piece == 0) ≡ false = grind (arith, nat_tests) in ([], rw filled refl)
+first_kept piece t (q ∷ qs) some = (without_last_nothing (q ∷ qs), refl)
+
+module _ {V : Type 0} (qs : Bool) (taken : V → List Piece → V → Type 0) where
+  -- rows are taken where none is begun
+  pub goes_at_start : {v w : V} (line bytes after : List ℕ) → line ≡ [] → Goes qs taken v [] bytes w [] after → Goes qs taken v line bytes w line after
+  goes_at_start {v} {w} line bytes after none g = subst (λ l. Goes qs taken v l bytes w l after) (sym none) g
+
+  -- bytes are kept of a line that does not end in them
+  pub goes_kept : {v w : V} (line line' bytes : List ℕ) → taken v [] w → line' ≡ line ++ bytes → Goes qs taken v line bytes w line' []
+  goes_kept line line' bytes none is =
+      record { ended = []; rows = λ rest. ap (pieces_of qs) (sym (append_assoc line bytes rest) ∙ ap (λ l. l ++ rest) (sym is)); takes = none }
+
+  module _ (both : (u v w : V) (xs ys : List Piece) → taken u xs v → taken v ys w → taken u (xs ++ ys) w) where
+    pub goes_then : {u v w : V} {line1 bytes1 line2 bytes2 line3 bytes3 : List ℕ} → Goes qs taken u line1 bytes1 v line2 bytes2 → Goes qs taken v line2 bytes2 w line3 bytes3 → Goes qs taken u line1 bytes1 w line3 bytes3
+    goes_then {u} {v} {w} {line3 = line3} {bytes3 = bytes3} f g = record {
+      ended = f.ended ++ g.ended;
+      rows = λ rest. f.rows rest ∙ ap (λ ls. f.ended ++ ls) (g.rows rest) ∙ sym (append_assoc f.ended g.ended (pieces_of qs (line3 ++ (bytes3 ++ rest))));
+      takes = both u v w f.ended g.ended f.takes g.takes;
+    }
+
+    -- lines are taken, and then nothing is held back
+    pub taken_settled : {u v w : V} {xs : List Piece} → taken u xs v → taken v [] w → taken u xs w
+    taken_settled {u} {v} {w} {xs} p q = subst (λ ls. taken u ls w) (append-nil xs) (both u v w xs [] p q)
+
+    pub goes_settled : {u v w : V} {line1 bytes1 line2 bytes2 : List ℕ} → Goes qs taken u line1 bytes1 v line2 bytes2 → taken v [] w → Goes qs taken u line1 bytes1 w line2 bytes2
+    goes_settled g q = record { ended = g.ended; rows = g.rows; takes = taken_settled g.takes q }
+
+    -- a line ended, and then others
+    pub ended_then : {u v w : V} {first before before' front : List ℕ} (bytes line after : List ℕ)
+        → Goes qs taken u first front v before bytes → bytes ≡ line ++ 10 ∷ after → Goes qs taken v before (line ++ 10 ∷ []) w before' [] → Goes qs taken u first front w before' after
+    ended_then {u} {v} {w} {before = before} {before' = before'} bytes line after f split g =
+        let regroup : (rest : List ℕ) → bytes ++ rest ≡ (line ++ 10 ∷ []) ++ (after ++ rest) =
+        λ rest. ap (λ l. l ++ rest) split ∙ append_assoc line (10 ∷ after) rest ∙ sym (append_assoc line (10 ∷ []) (after ++ rest)) in record {
+          ended = f.ended ++ g.ended;
+          rows = λ rest. f.rows rest ∙ ap (λ ls. f.ended ++ ls) (ap (λ l. pieces_of qs (before ++ l)) (regroup rest) ∙ g.rows (after ++ rest)) ∙ sym (append_assoc f.ended g.ended (pieces_of qs (before' ++ (after ++ rest))));
+          takes = both u v w f.ended g.ended f.takes g.takes;
+        }
+
+  -- a row ends
+  pub goes_ended : {v w : V} {o : Bool} (line bytes whole line' : List ℕ) → whole ≡ line ++ bytes → Uncut 10 qs false line o → Uncut 10 qs o bytes false → line' ≡ [] → taken v ((whole, false) ∷ []) w
+      → Goes qs taken v line (bytes ++ 10 ∷ []) w line' []
+  goes_ended line bytes whole line' is h k none takes' =
+      let u = uncut_then 10 qs line bytes h k in
+      let ends : (rest : List ℕ) → pieces_of qs (line ++ ((bytes ++ 10 ∷ []) ++ rest)) ≡ (line ++ bytes, false) ∷ pieces_of qs rest =
+      λ rest. ap (λ l. pieces_of qs (line ++ l)) (append_assoc bytes (10 ∷ []) rest) ∙ ap (pieces_of qs) (sym (append_assoc line bytes (10 ∷ rest))) ∙ cut_at_mark 10 qs false (line ++ bytes) rest u.uncut u.inside_is refl in
+      record { ended = (whole, false) ∷ []; rows = λ rest. rw (none, is) (ends rest); takes = takes' }
+
+  -- all rows up to the end
+  pub last_taken : {v w : V} {o : Bool} (line whole : List ℕ) → whole ≡ line → 0 < length line → Uncut 10 qs false line o → taken v ((whole, o) ∷ []) w → taken v (rows_of qs line) w
+  last_taken {v} {w} {o} line whole is some h takes' = subst (λ ls. taken v ls w) (ap (λ l. (l, o) ∷ []) is ∙ sym (row_at_end qs line o some h)) takes'
+
+module _ {V : Type 0} (qs : Bool) (refused : V → List Piece → V → RunError → Type 0) where
+  -- a row is refused that ends
+  pub refused_ended : {v w : V} {e : RunError} {o : Bool} (line bytes whole rest : List ℕ) → whole ≡ line ++ bytes → Uncut 10 qs false line o → Uncut 10 qs o bytes false → ((later : List Piece) → refused v ((whole, false) ∷ later) w e)
+      → refused v (rows_of qs (line ++ (bytes ++ 10 ∷ rest))) w e
+  refused_ended {v} {w} {e} line bytes whole rest is h k refuses =
+      let u = uncut_then 10 qs line bytes h k in
+      let pieces : pieces_of qs (line ++ (bytes ++ 10 ∷ rest)) ≡ ((whole, false) ∷ []) ++ pieces_of qs rest =
+      ap (pieces_of qs) (sym (append_assoc line bytes (10 ∷ rest))) ∙ cut_at_mark 10 qs false (line ++ bytes) rest u.uncut u.inside_is refl ∙ ap (λ l. (l, false) ∷ pieces_of qs rest) (sym is) in
+      let ends : rows_of qs (line ++ (bytes ++ 10 ∷ rest)) ≡ (whole, false) ∷ rows_of qs rest = rows_go qs (line ++ (bytes ++ 10 ∷ rest)) rest ((whole, false) ∷ []) pieces in
+      subst (λ ls. refused v ls w e) (sym ends) (refuses (rows_of qs rest))
+
+  -- a row is too long
+  pub refused_long : {v w : V} {e : RunError} {o o' : Bool} (longest : ℕ) (line bytes rest : List ℕ) → Uncut 10 qs false line o → Uncut 10 qs o bytes o' → longest < length line + length bytes
+      → ((p : Piece) → longest < length p.0 → (later : List Piece) → refused v (p ∷ later) w e) → refused v (rows_of qs (line ++ (bytes ++ rest))) w e
+  refused_long {v} {w} {e} longest line bytes rest h k full refuses =
+      let (p, t, ps, is) = cut_goes_on 10 qs false (line ++ bytes) rest (uncut_then 10 qs line bytes h k).uncut in
+      let long : longest < length ((line ++ bytes) ++ p) = simp length-append (omega arith) in
+      let (more, kept) = first_kept ((line ++ bytes) ++ p) t ps (omega (arith, long)) in
+      let ends : rows_of qs (line ++ (bytes ++ rest)) ≡ ((line ++ bytes) ++ p, t) ∷ more = ap (rows_of qs) (sym (append_assoc line bytes rest)) ∙ ap without_last_nothing is ∙ kept in
+      subst (λ l. refused v l w e) (sym ends) (refuses ((line ++ bytes) ++ p, t) long more)
+
+  pub last_refused : {v w : V} {e : RunError} {o : Bool} (line whole : List ℕ) → whole ≡ line → 0 < length line → Uncut 10 qs false line o → ((later : List Piece) → refused v ((whole, o) ∷ later) w e) → refused v (rows_of qs line) w e
+  last_refused {v} {w} {e} {o} line whole is some h refuses = subst (λ ls. refused v ls w e) (ap (λ l. (l, o) ∷ []) is ∙ sym (row_at_end qs line o some h)) (refuses [])
+
+module _ {V : Type 0} (qs : Bool) (taken : V → List Piece → V → Type 0) (refused : V → List Piece → V → RunError → Type 0) (then_refused : (u v w : V) (xs ys : List Piece) (e : RunError) → taken u xs v → refused v ys w e → refused u (xs ++ ys) w e) where
+  -- lines are refused after others were taken
+  pub goes_refused : {u v w : V} {e : RunError} {line1 bytes1 line2 bytes2 : List ℕ} (rest : List ℕ) → Goes qs taken u line1 bytes1 v line2 bytes2 → refused v (rows_of qs (line2 ++ (bytes2 ++ rest))) w e
+      → refused u (rows_of qs (line1 ++ (bytes1 ++ rest))) w e
+  goes_refused {u} {v} {w} {e} {line1} {bytes1} {line2} {bytes2} rest g refuses =
+      subst (λ ls. refused u ls w e) (sym (rows_go qs (line1 ++ (bytes1 ++ rest)) (line2 ++ (bytes2 ++ rest)) g.ended (g.rows rest))) (then_refused u v w g.ended (rows_of qs (line2 ++ (bytes2 ++ rest))) e g.takes refuses)
+
+  -- bytes are refused where no row is begun
+  pub refused_at_start : {v w : V} {e : RunError} (line bytes : List ℕ) → line ≡ [] → refused v (rows_of qs bytes) w e → refused v (rows_of qs (line ++ bytes)) w e
+  refused_at_start {v} {w} {e} line bytes none refuses = subst (λ l. refused v (rows_of qs (l ++ bytes)) w e) (sym none) refuses
+
+  pub refused_settled : {u v w : V} {e : RunError} {xs : List Piece} → taken u xs v → refused v [] w e → refused u xs w e
+  refused_settled {u} {v} {w} {e} {xs} p q = subst (λ ls. refused u ls w e) (append-nil xs) (then_refused u v w xs [] e p q)
+
+  pub refused_after : {u v w : V} {e : RunError} {first before front : List ℕ} (bytes line after rest : List ℕ) → Goes qs taken u first front v before bytes → bytes ≡ line ++ 10 ∷ after
+      → refused v (rows_of qs (before ++ (line ++ 10 ∷ (after ++ rest)))) w e → refused u (rows_of qs (first ++ (front ++ rest))) w e
+  refused_after {v = v} {w = w} {e = e} {before = before} bytes line after rest g split refuses =
+      let regroup : bytes ++ rest ≡ line ++ 10 ∷ (after ++ rest) = ap (λ l. l ++ rest) split ∙ append_assoc line (10 ∷ after) rest in
+      goes_refused rest g (subst (λ l. refused v (rows_of qs (before ++ l)) w e) (sym regroup) refuses)
+
+-- ---- the room of a row
+
+pub take_none : (l : List ℕ) (n : ℕ) → n ≡ 0 → take n l ≡ []
+take_none l n is = rw is refl
+
+pub short_take : (l : List ℕ) (n most : ℕ) → n ≤ most → length (take n l) ≤ most
+short_take l n most within = omega (arith, length-take {A = ℕ})
+
+-- ---- pages
+
+-- The source had the bytes old left and now has those left. Of what was read the lines that end were taken, and this line
+-- is begun.
+pub record Took {V : Type 0} (qs : Bool) (taken : V → List Piece → V → Type 0) (v w : V) (line : List ℕ) (old now : Option (List ℕ)) (limit reads size : ℕ) : Type 0 where
+  pub bytes : List ℕ
+  pub told : Consumes old now bytes
+  pub goes : Goes qs taken v [] bytes w line []
+  pub counted : limit ≤ reads + length bytes
+  pub short : length bytes + reads * size ≤ limit * size
+
+module _ {V : Type 0} (qs : Bool) (taken : V → List Piece → V → Type 0) where
+  pub took_none : (v : V) (line : List ℕ) (now : Option (List ℕ)) (limit size : ℕ) → line ≡ [] → taken v [] v → Took qs taken v v line now now limit limit size
+  took_none v line now limit size none start = record { bytes = []; told = Consumes-nil now; goes = goes_kept qs taken [] line [] start none; counted = omega arith; short = omega arith }
+
+  pub took_more : ((u v w : V) (xs ys : List Piece) → taken u xs v → taken v ys w → taken u (xs ++ ys) w) → {v w : V} {line : List ℕ} {old now : Option (List ℕ)} {limit reads size : ℕ} → Took qs taken v w line old now limit reads size
+      → (now' : Option (List ℕ)) (reads' : ℕ) (page : List ℕ) (n : ℕ) (w' : V) (line' : List ℕ) → Pulls now now' page n → 0 < n → n ≤ length page → length page ≡ size → reads' + 1 ≡ reads
+      → Goes qs taken w line (take n page) w' line' [] → Took qs taken v w' line' old now' limit reads' size
+  took_more both {v} {w} {line} {old} {now} {limit} {reads} {size} t now' reads' page n w' line' p some fits full count g =
+      let front : length (take n page) ≡ n = omega (arith, length-take {A = ℕ}) in
+      let parts : length (t.bytes ++ take n page) ≡ length t.bytes + length (take n page) = length-append t.bytes (take n page) in
+      let counted : limit ≤ reads + length t.bytes = t.counted in
+      let short : length t.bytes + reads * size ≤ limit * size = t.short in
+      let less : reads * size ≡ reads' * size + size = one_less reads reads' size count in
+      record {
+        bytes = t.bytes ++ take n page;
+        told = Consumes-trans old now now' t.bytes (take n page) t.told p.taken;
+        goes = record {
+          ended = t.goes.ended ++ g.ended;
+          rows = λ rest. ap (pieces_of qs) (append_assoc t.bytes (take n page) rest) ∙ t.goes.rows (take n page ++ rest) ∙ ap (λ ls. t.goes.ended ++ ls) (g.rows rest) ∙ sym (append_assoc t.goes.ended g.ended (pieces_of qs (line' ++ rest)));
+          takes = both v w w' t.goes.ended g.ended t.goes.takes g.takes;
+        };
+        counted = omega arith;
+        short = omega arith;
+      }
+
+  -- a part of the lines ended, and the last is begun
+  took_lines : {v w : V} {line : List ℕ} {o : Bool} {old now : Option (List ℕ)} {limit reads size : ℕ} → Uncut 10 qs false line o → (t : Took qs taken v w line old now limit reads size) → pieces_of qs t.bytes ≡ t.goes.ended ++ (line, o) ∷ []
+  took_lines {line = line} {o} h t = ap (pieces_of qs) (sym (append-nil t.bytes)) ∙ t.goes.rows [] ∙ ap (λ ls. t.goes.ended ++ ls) (ap (pieces_of qs) (append-nil line) ∙ piece_at_end qs line o h)
+
+  -- all lines are taken
+  pub took_all : ((u v w : V) (xs ys : List Piece) → taken u xs v → taken v ys w → taken u (xs ++ ys) w) → {v w w' : V} {line : List ℕ} {old now : Option (List ℕ)} {limit reads size : ℕ} → Took qs taken v w line old now limit reads size
+      → (now' : Option (List ℕ)) (page : List ℕ) (n : ℕ) → Pulls now now' page n → n ≡ 0 → 0 < length page → 0 < reads → taken w (rows_of qs line) w' → TakesAll qs taken v w' old now' limit size
+  took_all both {v} {w} {w'} {line} {old} {now} {limit} {reads} {size} t now' page n p none room some last =
+      let short : length t.bytes + reads * size ≤ limit * size = t.short in
+      let one : size ≤ reads * size = one_at_least reads size some in
+      let no_bytes : take n page ≡ [] = rw none refl in
+      let pieces : pieces_of qs t.bytes ≡ t.goes.ended ++ pieces_of qs line = ap (pieces_of qs) (sym (append-nil t.bytes)) ∙ t.goes.rows [] ∙ ap (λ l. t.goes.ended ++ pieces_of qs l) (append-nil line) in
+      let lines : rows_of qs t.bytes ≡ t.goes.ended ++ rows_of qs line = rows_go qs t.bytes line t.goes.ended pieces in
+      record {
+        bytes = t.bytes;
+        held = at_end old now t.bytes t.told (p.at_end none room);
+        told = subst (Consumes old now') (ap (λ l. t.bytes ++ l) no_bytes ∙ append-nil t.bytes) (Consumes-trans old now now' t.bytes (take n page) t.told p.taken);
+        within = omega arith;
+        takes = subst (λ ls. taken v ls w') (sym lines) (both v w w' t.goes.ended (rows_of qs line) t.goes.takes last);
+      }
+
+  -- a read fails, or none is left
+  pub took_stopped : (longest : ℕ) → (settled : V → Type 0) → {v w : V} {line : List ℕ} {o : Bool} {old now : Option (List ℕ)} {limit reads size : ℕ} → Uncut 10 qs false line o → length line ≤ longest → Took qs taken v w line old now limit reads size → settled w
+      → (fails : Type 0) (now' : Option (List ℕ)) → (reads ≡ 0) ⊎ fails → Keeps now now' → StopsReading qs longest taken settled v w old now' fails limit
+  took_stopped longest settled {v} {w} {line} {o} {old} {now} {limit} {reads} {size} h begun t settles fails now' why kept =
+      let (rest, held) = all_bytes old now t.bytes t.told in
+      let counted : limit ≤ reads + length t.bytes = t.counted in
+      let parts : length (t.bytes ++ rest) ≡ length t.bytes + length rest = length-append t.bytes rest in
+      record {
+        part = t.bytes;
+        rest = rest;
+        held = held;
+        why = elim why [ inl none ↦ inr (omega arith) | inr f ↦ inl f ];
+        told = Consumes-kept old now now' t.bytes t.told kept;
+        ended = t.goes.ended;
+        last = (line, o);
+        rows = took_lines h t;
+        short = begun;
+        takes = t.goes.takes;
+        settles = settles;
+      }
+
+  -- a line is refused after so many bytes more
+  pub took_refused : (longest : ℕ) → (refused : V → List Piece → V → RunError → Type 0) (settled : V → Type 0) → {v w w' : V} {e : RunError} {line : List ℕ} {o : Bool} {old now : Option (List ℕ)} {limit reads size : ℕ} → Uncut 10 qs false line o → length line ≤ longest
+      → Took qs taken v w line old now limit reads size → settled w → (now' : Option (List ℕ)) (page : List ℕ) (n : ℕ) → Pulls now now' page n → n ≤ size → 0 < reads
+      → ((rest : List ℕ) → refused w (rows_of qs (line ++ (take n page ++ rest))) w' e) → StopsTaking qs longest taken refused settled v w' e old now' limit size
+  took_refused longest refused settled {v} {w} {w'} {e} {line} {o} {old} {now} {limit} {reads} {size} h begun t settles now' page n p fits some refuses =
+      let front = take n page in
+      let told : Consumes old now' (t.bytes ++ front) = Consumes-trans old now now' t.bytes front t.told p.taken in
+      let (rest, held) = all_bytes old now' (t.bytes ++ front) told in
+      let short : length t.bytes + reads * size ≤ limit * size = t.short in
+      let one : size ≤ reads * size = one_at_least reads size some in
+      let parts : length (t.bytes ++ front) ≡ length t.bytes + length front = length-append t.bytes front in
+      let after : (more : List ℕ) → RefusesAfter qs refused w w' e t.goes.ended (t.bytes ++ front ++ more) =
+      λ more. record { later = rows_of qs (line ++ (front ++ more)); rows = rows_go qs (t.bytes ++ front ++ more) (line ++ (front ++ more)) t.goes.ended (ap (pieces_of qs) (append_assoc t.bytes front more) ∙ t.goes.rows (front ++ more)); refuses = refuses more } in
+      record {
+        part = t.bytes;
+        last = front;
+        rest = rest;
+        held = held;
+        told = told;
+        short = omega (arith, length-take {A = ℕ});
+        within = omega (arith, length-take {A = ℕ});
+        ended = t.goes.ended;
+        unended = (line, o);
+        rows = took_lines h t;
+        begun = begun;
+        mid = w;
+        takes = t.goes.takes;
+        settles = settles;
+        refuses = after rest;
+        known = inr after;
+      }
+
+  -- the last line is refused
+  pub took_refused_last : (longest : ℕ) → (refused : V → List Piece → V → RunError → Type 0) (settled : V → Type 0) → {v w w' : V} {e : RunError} {line : List ℕ} {o : Bool} {old now : Option (List ℕ)} {limit reads size : ℕ} → Uncut 10 qs false line o → length line ≤ longest
+      → Took qs taken v w line old now limit reads size → settled w → (now' : Option (List ℕ)) (page : List ℕ) (n : ℕ) → Pulls now now' page n → n ≡ 0 → 0 < length page → 0 < reads
+      → refused w (rows_of qs line) w' e → StopsTaking qs longest taken refused settled v w' e old now' limit size
+  took_refused_last longest refused settled {v} {w} {w'} {e} {line} {o} {old} {now} {limit} {reads} {size} h begun t settles now' page n p none room some refuses =
+      let no_bytes : take n page ≡ [] = rw none refl in
+      let told : Consumes old now' (t.bytes ++ []) = subst (λ l. Consumes old now' (t.bytes ++ l)) no_bytes (Consumes-trans old now now' t.bytes (take n page) t.told p.taken) in
+      let short : length t.bytes + reads * size ≤ limit * size = t.short in
+      let bytes : length (t.bytes ++ []) ≡ length t.bytes = ap length (append-nil t.bytes) in
+      let whole : length (t.bytes ++ [] ++ []) ≡ length t.bytes = ap length (append-nil (t.bytes ++ [])) ∙ bytes in
+      let one : size ≤ reads * size = one_at_least reads size some in
+      record {
+        part = t.bytes;
+        last = [];
+        rest = [];
+        held = subst (HasLeft old) (sym (append-nil (t.bytes ++ []) ∙ append-nil t.bytes)) (at_end old now t.bytes t.told (p.at_end none room));
+        told = told;
+        short = omega arith;
+        within = omega (arith, bytes, short);
+        ended = t.goes.ended;
+        unended = (line, o);
+        rows = took_lines h t;
+        begun = begun;
+        mid = w;
+        takes = t.goes.takes;
+        settles = settles;
+        refuses = record { later = rows_of qs (line ++ []); rows = rows_go qs (t.bytes ++ [] ++ []) (line ++ []) t.goes.ended (ap (pieces_of qs) (append-nil (t.bytes ++ [])) ∙ t.goes.rows []); refuses = subst (λ l. refused w (rows_of qs l) w' e) (sym (append-nil line)) refuses };
+        known = inl (omega (arith, whole, one, short));
+      }

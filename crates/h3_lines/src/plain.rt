@@ -1,0 +1,142 @@
+//! Plain lines: fifteen digits in lower case, which are read without a search for their end.
+
+ghost use Rattle.std.specs.Prelude.{◌≡◌, ◌≤◌, ◌<◌, ◌+◌, ◌^◌, ◌++◌, ◌∷◌, [], Bool, ℕ, List, length, take, IfOk, IfErr, IfSome, IfNone, OnOk};
+ghost use Rattle.h3_lines.specs.Pieces.{Piece, rows_of};
+ghost use Rattle.h3_lines.specs.Splitting.{BeginsLines, BeginsPlain, Goes, ParseAll, ParsesAs};
+
+use crate::run_error::RunError;
+use crate::splitting::Taking;
+use h3_index::read_plain;
+
+/// The digits of a plain line: those of a cell's index.
+const PLAIN: usize = 15;
+
+/// How many plain lines are read before the first of them is taken, if they are looked up together.
+pub const LINES: usize = 16;
+
+/// What takes lines that parse as an index.
+pub(crate) trait IndexJob: Taking {
+    /// Takes a line that parses as an index. The place, if there is one, is where it is looked for
+    /// first; it may be any.
+    fn take_index(&mut self, index: u64, place: Option<usize>) -> Result<(), RunError>
+        requires few { Self.count self.old < 2 ^ 63 }
+        ensures ok { OnOk result ((p : Piece) → ParsesAs p.0 index →
+            Self.taken self.old (p ∷ []) self.new) }
+        ensures counted { OnOk result (Self.count self.new ≤ Self.count self.old + 1) }
+        ensures err { IfErr result (λ e. (p : Piece) → ParsesAs p.0 index →
+            (later : List Piece) → Self.refused self.old (p ∷ later) self.new e) };
+
+    /// Whether the indexes of the next lines are looked up together.
+    fn looks_ahead(&self) -> bool;
+
+    /// A place for each of the indexes of the next lines, at most 16; `None` if each is looked for
+    /// where the one before it was found.
+    fn look_ahead(&self, indexes: &[u64]) -> Option<[usize; LINES]>;
+}
+
+/// The index of the plain line that bytes begin with, fifteen digits in lower case and a line feed,
+/// and the bytes after it.
+#[inline(always)]
+pub(crate) fn plain_line(bytes: &[u8]) -> Option<(u64, &[u8])>
+    ensures { IfSome result (λ p. BeginsPlain bytes.now p.0 p.1.now) }
+{
+    if bytes.len() <= PLAIN || bytes[PLAIN] != b'\n' {
+        return None;
+    }
+    let index = read_plain(&bytes[..PLAIN])?;
+    Some((index, &bytes[PLAIN + 1..]))
+}
+
+/// Reads the indexes of the plain lines that bytes begin with, at most 16. Returns how many they are,
+/// and the bytes after them.
+#[inline(always)]
+fn plain_lines<'b>(bytes: &'b [u8], indexes: &mut [u64; LINES]) -> (usize, &'b [u8])
+    ensures within { result.0 ≤ 16 }
+    ensures lines { BeginsLines bytes.now (take result.0 indexes.new) result.1.now }
+{
+    let mut left = bytes;
+    for count in 0..LINES {
+        let Some((index, after)) = plain_line(left) else {
+            return (count, left);
+        };
+        indexes[count] = index;
+        left = after;
+    }
+    (LINES, left)
+}
+
+/// Has the lines with these indexes taken, in order, once they are looked up together.
+#[inline(always)]
+fn take_indexes<J: IndexJob>(job: &mut J, indexes: &[u64]) -> Result<(), RunError>
+    requires few { J.count job.old + length indexes.now < 2 ^ 63 }
+    requires within { length indexes.now ≤ 16 }
+    ensures ok { OnOk result ((rows : List Piece) → ParseAll rows indexes.now →
+        J.taken job.old rows job.new) }
+    ensures counted { OnOk result (J.count job.new ≤ J.count job.old + length indexes.now) }
+    ensures err { IfErr result (λ e. (rows : List Piece) → ParseAll rows indexes.now →
+        (later : List Piece) → J.refused job.old (rows ++ later) job.new e) }
+{
+    let places = job.look_ahead(indexes);
+    for i in 0..indexes.len() {
+        let place = match &places {
+            Some(places) => Some(places[i]),
+            None => None,
+        };
+        job.take_index(indexes[i], place)?;
+    }
+    Ok(())
+}
+
+/// Has the plain lines taken that bytes begin with, up to 16 together, and returns the bytes after them;
+/// `None` if they begin with no plain line.
+fn take_together<'b, J: IndexJob>(
+    job: &mut J,
+    bytes: &'b [u8],
+) -> Result<Option<&'b [u8]>, RunError>
+    requires { J.count job.old + length bytes.now < 2 ^ 63 }
+    ensures some { (quotes : Bool) → IfOk result (λ o. IfSome o (λ left.
+        Goes quotes J.taken job.old [] bytes.now job.new [] left.now)) }
+    ensures fewer { IfOk result (λ o. IfSome o (λ left. length left.now + 1 ≤ length bytes.now)) }
+    ensures counted { IfOk result (λ o. IfSome o (λ left.
+        J.count job.new + length left.now ≤ J.count job.old + length bytes.now)) }
+    ensures none { IfOk result (λ o. IfNone o (job.new ≡ job.old)) }
+    ensures err { IfErr result (λ e. (quotes : Bool) (rest : List ℕ) →
+        J.refused job.old (rows_of quotes (bytes.now ++ rest)) job.new e) }
+{
+    let mut indexes = [0; LINES];
+    let (count, after) = plain_lines(bytes, &mut indexes);
+    if count == 0 {
+        return Ok(None);
+    }
+    take_indexes(job, &indexes[..count])?;
+    Ok(Some(after))
+}
+
+/// Has the plain line taken that bytes begin with, or up to 16 that are looked up together, and returns
+/// the bytes after them; `None` if they begin with no plain line.
+#[inline(always)]
+pub(crate) fn take_plain<'b, J: IndexJob>(
+    job: &mut J,
+    bytes: &'b [u8],
+) -> Result<Option<&'b [u8]>, RunError>
+    requires { J.count job.old + length bytes.now < 2 ^ 63 }
+    ensures some { (quotes : Bool) → IfOk result (λ o. IfSome o (λ left.
+        Goes quotes J.taken job.old [] bytes.now job.new [] left.now)) }
+    ensures fewer { IfOk result (λ o. IfSome o (λ left. length left.now + 1 ≤ length bytes.now)) }
+    ensures counted { IfOk result (λ o. IfSome o (λ left.
+        J.count job.new + length left.now ≤ J.count job.old + length bytes.now)) }
+    ensures none { IfOk result (λ o. IfNone o (job.new ≡ job.old)) }
+    ensures err { IfErr result (λ e. (quotes : Bool) (rest : List ℕ) →
+        J.refused job.old (rows_of quotes (bytes.now ++ rest)) job.new e) }
+{
+    if job.looks_ahead() {
+        return take_together(job, bytes);
+    }
+    match plain_line(bytes) {
+        Some((index, after)) => {
+            job.take_index(index, None)?;
+            Ok(Some(after))
+        }
+        None => Ok(None),
+    }
+}
