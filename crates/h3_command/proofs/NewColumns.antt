@@ -26,7 +26,7 @@ use Rattle.h3_requests.specs.Rows.{is_separator}
 use Rattle.h3_requests.specs.declared.command.IndexFunction.{IndexFunction}
 use Rattle.h3_requests.specs.declared.command.Command.TheVariants as command
 use Rattle.h3_rows.specs.Laws.{FieldsAreKept, PairsAreKept}
-use Rattle.h3_rows.specs.Row.{Piece, cut, inside_after, is_uncut, turned, with_first}
+use Rattle.h3_lines.specs.Pieces.{Piece, cut, inside_after, is_uncut, turned, with_first}
 use Rattle.h3_rows.specs.RowsAnswer.{each_with, row_with}
 use Rattle.h3_command.specs.Answer.{answer_for, shown, with_table}
 use Rattle.h3_command.specs.Files.{cell_to_zone, is_covered_cell}
@@ -147,45 +147,21 @@ one_query Is about (Ok v) = tt
 one_query Is about (Err e) = tt
 
 pub answers_are_words : AnswersAreWords
-answers_are_words rows (command.IsValidCell cell) = tt
-answers_are_words rows (command.GetResolution cell) = tt
-answers_are_words rows (command.GetBaseCellNumber cell) = tt
-answers_are_words rows (command.IsPentagon cell) = tt
-answers_are_words rows (command.IsResClassIII cell) = tt
-answers_are_words rows (command.GetNumCells res) = tt
-answers_are_words rows command.GetRes0Cells = tt
-answers_are_words rows (command.GetPentagons res) = tt
-answers_are_words rows (command.CellToParent cell res) = tt
-answers_are_words rows (command.CellToCenterChild cell res) = tt
-answers_are_words rows (command.CellToLastChild cell res) = tt
-answers_are_words rows (command.CellToChildren cell res) = tt
-answers_are_words rows (command.CellToChildrenSize cell res) = tt
-answers_are_words rows (command.CellToChildPos cell res) = tt
-answers_are_words rows (command.ChildPosToCell position cell res) = tt
-answers_are_words rows command.CompactCells = tt
-answers_are_words rows (command.UncompactCells res) = tt
-answers_are_words rows (command.UncompactCellsSize res) = tt
-answers_are_words rows command.UniteCells = tt
-answers_are_words rows command.IntersectCells = tt
-answers_are_words rows command.SubtractCells = tt
 answers_are_words rows command.AreCoveredCells = λ cells index. printed_lines IsWord truth_line (is_covered_cell (compacted cells) index) truth_lines
 answers_are_words rows command.CellsToZones = λ zones index. printed_lines IsWord zone_line (cell_to_zone zones index) zone_lines
-answers_are_words rows command.CountCellsInZones = tt
 answers_are_words rows (command.GridDiskUnsafe cell k) = one_query (AreAnswerLines IsWord) (λ c link. answer_or_error (walked cell_line) (grid_disk_unsafe link c k)) (cell_given cell)
 answers_are_words rows (command.GridDiskDistancesUnsafe cell k) = one_query (AreAnswerLines IsWord) (λ c link. answer_or_error (walked ring_line) (grid_disk_distances_unsafe link c k)) (cell_given cell)
 answers_are_words rows (command.GridRingUnsafe cell k) = one_query (AreAnswerLines IsWord) (λ c link. answer_or_error (walked cell_line) (grid_ring_unsafe link c k)) (cell_given cell)
 answers_are_words rows (command.AreNeighborCells cell to) = one_query (AreAnswerLines IsWord) (λ cells link. printed truth_line (are_neighbor_cells link cells)) (pair_of (cell_given cell) (cell_given to))
 answers_are_words rows (command.CellsToDirectedEdge cell to) = one_query (AreAnswerLines IsWord) (λ cells link. printed edge_line (cells_to_directed_edge link cells)) (pair_of (cell_given cell) (cell_given to))
-answers_are_words rows (command.IsValidDirectedEdge edge) = tt
-answers_are_words rows (command.GetDirectedEdgeOrigin edge) = tt
 answers_are_words rows (command.GetDirectedEdgeDestination edge) = one_query (AreAnswerLines IsWord) (λ e link. printed cell_line (get_directed_edge_destination link e)) (edge_given edge)
-answers_are_words rows (command.OriginToDirectedEdges cell) = tt
 answers_are_words rows (command.CellsToChildren res) = λ index. printed_lines IsWord cell_lines (for_value (λ h. cell_to_children h res) (index_given index)) lines_of_cells
 answers_are_words rows (command.GridDisksUnsafe k) = λ link index. printed_lines IsWord cell_lines (for_value (λ c. whole_walk (grid_disk_unsafe link c k)) (cell_given index)) lines_of_cells
 answers_are_words rows (command.GridDisksDistancesUnsafe k) = λ link index. printed_lines (IsPairOfWords (between_parts rows)) (flat_map (ring_line_by (between_parts rows))) (for_value (λ c. whole_walk (grid_disk_distances_unsafe link c k)) (cell_given index)) (lines_of_rings (between_parts rows))
 answers_are_words rows (command.GridRingsUnsafe k) = λ link index. printed_lines IsWord cell_lines (for_value (λ c. whole_walk (grid_ring_unsafe link c k)) (cell_given index)) lines_of_cells
 answers_are_words rows command.GetDirectedEdgeDestinations = λ link index. printed_lines IsWord cell_line (destination_of link index) line_of_cell
 answers_are_words rows (command.ForEach function) = lines_for function
+answers_are_words rows other = tt
 
 -- ---- fields
 

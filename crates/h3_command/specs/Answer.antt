@@ -32,7 +32,7 @@ use Rattle.h3_requests.specs.declared.command.IndexFunction.TheVariants as each
 use Rattle.h3_requests.specs.declared.command.Command.{Command}
 use Rattle.h3_requests.specs.declared.command.Command.TheVariants as command
 use Rattle.h3_requests.specs.declared.rows.RowOptions.{RowOptions}
-use Rattle.h3_rows.specs.Row.{rows_of}
+use Rattle.h3_lines.specs.Pieces.{rows_of}
 use Rattle.h3_rows.specs.Cells.{cells_of}
 use Rattle.h3_rows.specs.RowsAnswer.{Form}
 use Rattle.h3_command.specs.Rows.{function_name, list_form, listed_answer, pair_form, rows_form}

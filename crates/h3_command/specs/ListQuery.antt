@@ -8,11 +8,11 @@ use Rattle.h3_command.specs.Answer.{Request}
 use Rattle.h3_command.specs.Answer.Request.{of_list, of_numbered_list}
 use Rattle.h3_command.specs.Rows.{list_form}
 use Rattle.h3_command.specs.declared.list_query.ListQuery.{ListQuery}
-use Rattle.h3_command.specs.declared.list_query.ListQuery.TheVariants.{Compact, Uncompact, UncompactSize, Unite}
+use Rattle.h3_command.specs.declared.list_query.ListQuery.TheVariants as query
 
 -- the request, where an error of a bare list has its line or not
 abbrev pub list_request : Option RowOptions → ListQuery → Request
-list_request rows Compact = of_list (list_form rows) (λ cells. printed cell_lines (compact_cells cells))
-list_request rows (Uncompact res) = of_list (list_form rows) (λ cells. printed cell_lines (uncompact_cells res cells))
-list_request rows (UncompactSize res) = of_numbered_list (list_form rows) (λ cells. printed number_line (uncompact_cells_size res cells))
-list_request rows Unite = of_numbered_list (list_form rows) (λ cells. written (cell_lines (compacted cells)))
+list_request rows query.Compact = of_list (list_form rows) (λ cells. printed cell_lines (compact_cells cells))
+list_request rows (query.Uncompact res) = of_list (list_form rows) (λ cells. printed cell_lines (uncompact_cells res cells))
+list_request rows (query.UncompactSize res) = of_numbered_list (list_form rows) (λ cells. printed number_line (uncompact_cells_size res cells))
+list_request rows query.Unite = of_numbered_list (list_form rows) (λ cells. written (cell_lines (compacted cells)))

@@ -10,7 +10,7 @@ use Rattle.h3_requests.specs.declared.command.Command.{Command}
 use Rattle.h3_requests.specs.declared.command.Command.TheVariants as command
 use Rattle.h3_requests.specs.declared.rows.RowOptions.{RowOptions}
 use Rattle.h3_rows.specs.Laws.{IsWholeOrRefused}
-use Rattle.h3_rows.specs.Row.{cut, inside_after, is_uncut}
+use Rattle.h3_lines.specs.Pieces.{cut, inside_after, is_uncut}
 use Rattle.h3_rows.specs.RowsAnswer.{row_with, rows_with}
 use Rattle.h3_command.specs.Answer.{Request, request_of}
 use Rattle.h3_command.specs.Answer.Request.{of_file_and_lines, of_file_and_list, of_lines, of_list, of_numbered_list, of_table, of_table_and_lines, plain}

@@ -263,9 +263,9 @@ fn cell_to_zone(
     Ok(zones.zone_near(cell, place))
 }
 
-/// How many places a table of zones has at most: more make no look-up faster that has to wait for the
-/// zones' memory.
-const TABLE: usize = 8192;
+/// The most places of a table of zones: 256 KiB, which most second-level caches hold. More would make
+/// no look-up much faster that has to wait for the zones' memory.
+const TABLE: usize = 65_536;
 
 /// A table that makes the search for a zone short. `Fault::Memory` where there is none for it.
 pub(crate) fn table_of(alloc: Global, zones: &Zones) -> Result<Vec<u32>, RunError>
@@ -278,16 +278,17 @@ pub(crate) fn table_of(alloc: Global, zones: &Zones) -> Result<Vec<u32>, RunErro
 }
 
 /// The places at which the zones of the next cells, those with these indexes, are looked for; `None`
-/// if the first one's is near the last place, since cells then mostly ascend, or if it is alone.
+/// if they are looked for from the last place, as `are_near` says, or if there is one alone.
 #[inline(always)]
 pub(crate) fn look_ahead(
     zones: &TabledZones,
     indexes: &[u64],
     place: usize,
 ) -> Option<[usize; LINES]> {
-    match indexes {
-        [first, _, ..] if !zones.zones().is_near(*first, place) => Some(zones.look_ahead(indexes)),
-        _ => None,
+    if indexes.len() < 2 || zones.zones().are_near(indexes, place) {
+        None
+    } else {
+        Some(zones.look_ahead(indexes))
     }
 }
 

@@ -6,7 +6,7 @@ ghost use Rattle.h3_command.specs.ListQuery.{list_request};
 ghost use Rattle.h3_command.specs.Run.{Ends};
 
 use crate::listed::{answer_whole, answer_whole_numbered};
-use crate::sets::{CompactList, UncompactList, UniteList};
+use crate::sets::*;
 use crate::sizes::uncompact_cells_size;
 use h3_lines::RunError;
 use h3_requests::RowOptions;

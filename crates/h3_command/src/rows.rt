@@ -10,31 +10,27 @@ ghost use Rattle.h3_command.specs.Rows.{function_name, pair_form, rows_form};
 ghost use Rattle.h3_command.specs.Run.{EndsLines};
 
 use crate::per_index::AnswerOf;
+use crate::work::index_functions;
 use h3_lines::{AnswerLine, LinesFunction, RunError, answer_each, answer_each_lines};
 use h3_requests::{IndexFunction, RowOptions};
 use h3_rows::{answer_rows, answer_rows_lines};
 use h3_streams::{Sink, Source};
 use std::alloc::Global;
 
+// The name of the function of one index that is this one.
+macro_rules! name_of_function {
+    ($value:ident; $($function:ident { $index:ident $(, $field:ident)* } $name:literal;)*) => {
+        match $value {
+            $(IndexFunction::$function { $($field: _),* } => $name),*
+        }
+    };
+}
+
 /// The name of H3's function, which the new column of rows has in a header.
 fn function_name(function: IndexFunction) -> &'static str
     ensures { result.now ≡ function_name function }
 {
-    match function {
-        IndexFunction::IsValidCell => "isValidCell",
-        IndexFunction::IsValidDirectedEdge => "isValidDirectedEdge",
-        IndexFunction::GetResolution => "getResolution",
-        IndexFunction::GetBaseCellNumber => "getBaseCellNumber",
-        IndexFunction::IsPentagon => "isPentagon",
-        IndexFunction::IsResClassIII => "isResClassIII",
-        IndexFunction::CellToParent { res: _ } => "cellToParent",
-        IndexFunction::CellToCenterChild { res: _ } => "cellToCenterChild",
-        IndexFunction::CellToLastChild { res: _ } => "cellToLastChild",
-        IndexFunction::CellToChildrenSize { res: _ } => "cellToChildrenSize",
-        IndexFunction::CellToChildPos { res: _ } => "cellToChildPos",
-        IndexFunction::GetDirectedEdgeOrigin => "getDirectedEdgeOrigin",
-        IndexFunction::OriginToDirectedEdges => "originToDirectedEdges",
-    }
+    index_functions!(name_of_function! function;)
 }
 
 /// Writes what a function answers to each line of a list, or each row with what it answers to its

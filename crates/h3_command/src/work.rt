@@ -45,31 +45,47 @@ pub(crate) enum Work {
     EachOverTable(TableLines),
 }
 
+// The table of the functions of one index: `index_functions!(m! ARGS)` expands to `m! { ARGS ROWS }`. A row has
+// its name in `Command` and `IndexFunction`, the index and what else the words give it, and H3's name.
+macro_rules! index_functions {
+    ($made:ident! $($before:tt)*) => {
+        $made! {
+            $($before)*
+            IsValidCell { cell } "isValidCell";
+            GetResolution { cell } "getResolution";
+            GetBaseCellNumber { cell } "getBaseCellNumber";
+            IsPentagon { cell } "isPentagon";
+            IsResClassIII { cell } "isResClassIII";
+            CellToParent { cell, res } "cellToParent";
+            CellToCenterChild { cell, res } "cellToCenterChild";
+            CellToLastChild { cell, res } "cellToLastChild";
+            CellToChildrenSize { cell, res } "cellToChildrenSize";
+            CellToChildPos { cell, res } "cellToChildPos";
+            IsValidDirectedEdge { edge } "isValidDirectedEdge";
+            GetDirectedEdgeOrigin { edge } "getDirectedEdgeOrigin";
+            OriginToDirectedEdges { cell } "originToDirectedEdges";
+        }
+    };
+}
+
+pub(crate) use index_functions;
+
+// The work of a command, by these arms where it is not that of a function of one index.
+macro_rules! work_of_command {
+    ($command:ident { $($arms:tt)* } $($function:ident { $index:ident $(, $field:ident)* } $name:literal;)*) => {
+        match *$command {
+            $(Command::$function { $index $(, $field)* } => Work::Index(IndexFunction::$function { $($field),* }, $index),)*
+            $($arms)*
+        }
+    };
+}
+
 /// The work of a command.
 pub(crate) fn work_of(command: &Command) -> Work
     ensures { (rows : Option RowOptions)
         → request_of_work rows result ≡ request_of rows command.now }
 {
-    match *command {
-        IsValidCell { cell } => Work::Index(IndexFunction::IsValidCell, cell),
-        GetResolution { cell } => Work::Index(IndexFunction::GetResolution, cell),
-        GetBaseCellNumber { cell } => Work::Index(IndexFunction::GetBaseCellNumber, cell),
-        IsPentagon { cell } => Work::Index(IndexFunction::IsPentagon, cell),
-        IsResClassIII { cell } => Work::Index(IndexFunction::IsResClassIII, cell),
-        CellToParent { cell, res } => Work::Index(IndexFunction::CellToParent { res }, cell),
-        CellToCenterChild { cell, res } => Work::Index(
-            IndexFunction::CellToCenterChild { res },
-            cell,
-        ),
-        CellToLastChild { cell, res } => Work::Index(IndexFunction::CellToLastChild { res }, cell),
-        CellToChildrenSize { cell, res } => Work::Index(
-            IndexFunction::CellToChildrenSize { res },
-            cell,
-        ),
-        CellToChildPos { cell, res } => Work::Index(IndexFunction::CellToChildPos { res }, cell),
-        IsValidDirectedEdge { edge } => Work::Index(IndexFunction::IsValidDirectedEdge, edge),
-        GetDirectedEdgeOrigin { edge } => Work::Index(IndexFunction::GetDirectedEdgeOrigin, edge),
-        OriginToDirectedEdges { cell } => Work::Index(IndexFunction::OriginToDirectedEdges, cell),
+    index_functions!(work_of_command! command {
         ForEach(function) => Work::EachIndex(function),
         GetNumCells { res } => Work::Words(WordsQuery::NumCells { res }),
         GetRes0Cells => Work::Words(WordsQuery::Res0Cells),
@@ -104,5 +120,5 @@ pub(crate) fn work_of(command: &Command) -> Work
         GridDisksDistancesUnsafe { k } => Work::EachOverTable(TableLines::DiskDistances { k }),
         GridRingsUnsafe { k } => Work::EachOverTable(TableLines::Ring { k }),
         GetDirectedEdgeDestinations => Work::EachOverTable(TableLines::Destination),
-    }
+    })
 }

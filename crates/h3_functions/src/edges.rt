@@ -3,7 +3,7 @@
 ghost use Rattle.std.specs.Prelude.{◌≡◌};
 ghost use Rattle.std.specs.Iterator.{YieldsFirst};
 ghost use Rattle.h3_grid.specs.Iter.{edges_left};
-ghost use Rattle.h3_functions.specs.Edges.{edge_from, get_directed_edge_origin, is_valid_directed_edge, origin_to_directed_edges};
+ghost use Rattle.h3_functions.specs.Edges as edges;
 ghost use Rattle.h3_functions.specs.Items.{Lists};
 
 use crate::inspection::cell_from;
@@ -16,14 +16,14 @@ use h3_index::{Cell, Edge, H3Error};
 ///
 /// `DirEdgeInvalid` if no edge has the index.
 pub fn edge_from(index: u64) -> Result<Edge, H3Error>
-    ensures { result ≡ edge_from index }
+    ensures { result ≡ edges.edge_from index }
 {
     Edge::new(index)
 }
 
 /// Whether an index is a valid directed edge, as H3's `isValidDirectedEdge` returns it.
 pub fn is_valid_directed_edge(index: u64) -> bool
-    ensures { result ≡ is_valid_directed_edge index }
+    ensures { result ≡ edges.is_valid_directed_edge index }
 {
     edge_from(index).is_ok()
 }
@@ -34,7 +34,7 @@ pub fn is_valid_directed_edge(index: u64) -> bool
 ///
 /// `DirEdgeInvalid` if no edge has the index.
 pub fn get_directed_edge_origin(index: u64) -> Result<Cell, H3Error>
-    ensures { result ≡ get_directed_edge_origin index }
+    ensures { result ≡ edges.get_directed_edge_origin index }
 {
     let edge = edge_from(index)?;
     Ok(edge.origin())
@@ -47,7 +47,7 @@ pub fn get_directed_edge_origin(index: u64) -> Result<Cell, H3Error>
 ///
 /// `CellInvalid` if no cell has the index.
 pub fn origin_to_directed_edges(index: u64) -> Result<Edges, H3Error>
-    ensures { Lists (YieldsFirst edges_left) result (origin_to_directed_edges index) }
+    ensures { Lists (YieldsFirst edges_left) result (edges.origin_to_directed_edges index) }
 {
     let cell = cell_from(index)?;
     Ok(edges_of(cell))

@@ -6,7 +6,7 @@
 ghost use Rattle.std.specs.Prelude.{◌≡◌};
 ghost use Rattle.std.specs.Iterator.{YieldsFirst};
 ghost use Rattle.h3_tree.specs.Children.{children_left};
-ghost use Rattle.h3_functions.specs.Hierarchy.{cell_to_center_child, cell_to_child_pos, cell_to_children, cell_to_children_size, cell_to_last_child, cell_to_parent, child_pos_to_cell};
+ghost use Rattle.h3_functions.specs.Hierarchy as hierarchy;
 ghost use Rattle.h3_functions.specs.Items.{Lists};
 
 use crate::inspection::cell_from;
@@ -24,7 +24,7 @@ use h3_tree::{
 /// - `ResMismatch` if it is finer than the cell's.
 #[inline(always)]
 pub fn cell_to_parent(index: u64, res: i32) -> Result<Cell, H3Error>
-    ensures { result ≡ cell_to_parent index res }
+    ensures { result ≡ hierarchy.cell_to_parent index res }
 {
     let cell = cell_from(index)?;
     parent(cell, res)
@@ -38,7 +38,7 @@ pub fn cell_to_parent(index: u64, res: i32) -> Result<Cell, H3Error>
 /// - `CellInvalid` if no cell has the index.
 /// - `ResDomain` if the number is not a resolution from the cell's own to 15.
 pub fn cell_to_center_child(index: u64, res: i32) -> Result<Cell, H3Error>
-    ensures { result ≡ cell_to_center_child index res }
+    ensures { result ≡ hierarchy.cell_to_center_child index res }
 {
     let cell = cell_from(index)?;
     center_child(cell, res)
@@ -51,7 +51,7 @@ pub fn cell_to_center_child(index: u64, res: i32) -> Result<Cell, H3Error>
 /// - `CellInvalid` if no cell has the index.
 /// - `ResDomain` if the number is not a resolution from the cell's own to 15.
 pub fn cell_to_last_child(index: u64, res: i32) -> Result<Cell, H3Error>
-    ensures { result ≡ cell_to_last_child index res }
+    ensures { result ≡ hierarchy.cell_to_last_child index res }
 {
     let cell = cell_from(index)?;
     last_child(cell, res)
@@ -65,7 +65,7 @@ pub fn cell_to_last_child(index: u64, res: i32) -> Result<Cell, H3Error>
 /// - `CellInvalid` if no cell has the index.
 /// - `ResDomain` if the number is not a resolution from the cell's own to 15.
 pub fn cell_to_children(index: u64, res: i32) -> Result<Children, H3Error>
-    ensures { Lists (YieldsFirst children_left) result (cell_to_children index res) }
+    ensures { Lists (YieldsFirst children_left) result (hierarchy.cell_to_children index res) }
 {
     let cell = cell_from(index)?;
     children(cell, res)
@@ -79,7 +79,7 @@ pub fn cell_to_children(index: u64, res: i32) -> Result<Children, H3Error>
 /// - `CellInvalid` if no cell has the index.
 /// - `ResDomain` if the number is not a resolution from the cell's own to 15.
 pub fn cell_to_children_size(index: u64, res: i32) -> Result<u64, H3Error>
-    ensures { result ≡ cell_to_children_size index res }
+    ensures { result ≡ hierarchy.cell_to_children_size index res }
 {
     let cell = cell_from(index)?;
     children_size(cell, res)
@@ -95,7 +95,7 @@ pub fn cell_to_children_size(index: u64, res: i32) -> Result<u64, H3Error>
 /// - `ResMismatch` if it is finer than the cell's.
 #[inline(always)]
 pub fn cell_to_child_pos(index: u64, res: i32) -> Result<u64, H3Error>
-    ensures { result ≡ cell_to_child_pos index res }
+    ensures { result ≡ hierarchy.cell_to_child_pos index res }
 {
     let cell = cell_from(index)?;
     child_pos(cell, res)
@@ -111,7 +111,7 @@ pub fn cell_to_child_pos(index: u64, res: i32) -> Result<u64, H3Error>
 /// - `ResMismatch` if it is coarser than the cell's.
 /// - `Domain` if the position is not below the number of descendants.
 pub fn child_pos_to_cell(position: u64, index: u64, res: i32) -> Result<Cell, H3Error>
-    ensures { result ≡ child_pos_to_cell position index res }
+    ensures { result ≡ hierarchy.child_pos_to_cell position index res }
 {
     let cell = cell_from(index)?;
     child_at(position, cell, res)

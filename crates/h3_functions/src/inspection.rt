@@ -3,7 +3,7 @@
 //! Each but `is_valid_cell` returns `CellInvalid` where no cell has the index.
 
 ghost use Rattle.std.specs.Prelude.{◌≡◌};
-ghost use Rattle.h3_functions.specs.Inspection.{cell_from, get_base_cell_number, get_resolution, is_pentagon, is_res_class_iii, is_valid_cell};
+ghost use Rattle.h3_functions.specs.Inspection as inspection;
 
 use h3_index::{Cell, H3Error};
 
@@ -14,7 +14,7 @@ use h3_index::{Cell, H3Error};
 /// `CellInvalid` if no cell has the index.
 #[inline(always)]
 pub fn cell_from(index: u64) -> Result<Cell, H3Error>
-    ensures { result ≡ cell_from index }
+    ensures { result ≡ inspection.cell_from index }
 {
     Cell::new(index)
 }
@@ -22,7 +22,7 @@ pub fn cell_from(index: u64) -> Result<Cell, H3Error>
 /// Whether an index is a valid cell, as H3's `isValidCell` returns it.
 #[inline(always)]
 pub fn is_valid_cell(index: u64) -> bool
-    ensures { result ≡ is_valid_cell index }
+    ensures { result ≡ inspection.is_valid_cell index }
 {
     cell_from(index).is_ok()
 }
@@ -34,7 +34,7 @@ pub fn is_valid_cell(index: u64) -> bool
 /// `CellInvalid` if no cell has the index.
 #[inline(always)]
 pub fn get_resolution(index: u64) -> Result<u8, H3Error>
-    ensures { result ≡ get_resolution index }
+    ensures { result ≡ inspection.get_resolution index }
 {
     let cell = cell_from(index)?;
     Ok(cell.resolution())
@@ -47,7 +47,7 @@ pub fn get_resolution(index: u64) -> Result<u8, H3Error>
 /// `CellInvalid` if no cell has the index.
 #[inline(always)]
 pub fn get_base_cell_number(index: u64) -> Result<u8, H3Error>
-    ensures { result ≡ get_base_cell_number index }
+    ensures { result ≡ inspection.get_base_cell_number index }
 {
     let cell = cell_from(index)?;
     Ok(cell.base_cell())
@@ -59,7 +59,7 @@ pub fn get_base_cell_number(index: u64) -> Result<u8, H3Error>
 ///
 /// `CellInvalid` if no cell has the index.
 pub fn is_pentagon(index: u64) -> Result<bool, H3Error>
-    ensures { result ≡ is_pentagon index }
+    ensures { result ≡ inspection.is_pentagon index }
 {
     let cell = cell_from(index)?;
     Ok(cell.is_pentagon())
@@ -71,7 +71,7 @@ pub fn is_pentagon(index: u64) -> Result<bool, H3Error>
 ///
 /// `CellInvalid` if no cell has the index.
 pub fn is_res_class_iii(index: u64) -> Result<bool, H3Error>
-    ensures { result ≡ is_res_class_iii index }
+    ensures { result ≡ inspection.is_res_class_iii index }
 {
     let cell = cell_from(index)?;
     Ok(cell.is_class_iii())

@@ -3,14 +3,9 @@
 ghost use Rattle.std.specs.Prelude.{◌≡◌};
 ghost use Rattle.h3_functions.specs.Outcome.{outcome_of};
 
-use crate::edges::{get_directed_edge_origin, is_valid_directed_edge};
-use crate::hierarchy::{
-    cell_to_center_child, cell_to_child_pos, cell_to_children_size, cell_to_last_child,
-    cell_to_parent,
-};
-use crate::inspection::{
-    get_base_cell_number, get_resolution, is_pentagon, is_res_class_iii, is_valid_cell,
-};
+use crate::edges::*;
+use crate::hierarchy::*;
+use crate::inspection::*;
 use h3_index::{Cell, H3Error};
 use h3_requests::IndexFunction::{self, *};
 

@@ -53,7 +53,7 @@ fn asks_over_zones(alloc: Global, line: &str, command: Command, path: &str) -> b
 const TO: Option<u64> = Some(0x85283477fffffff);
 
 /// Lines of disks, and the path of the table.
-static DISKS: [(&str, Command, &str); 4] = [
+static DISKS: &[(&str, Command, &str)] = &[
     (
         "h3 gridDiskUnsafe -c 85283473fffffff -k 1 --table plain.csv",
         Command::GridDiskUnsafe { cell: CELL, k: 1 },
@@ -81,13 +81,13 @@ static DISKS: [(&str, Command, &str); 4] = [
 
 #[test]
 fn reads_disks(rt: HostRuntime) {
-    for (line, command, path) in &DISKS {
+    for (line, command, path) in DISKS {
         assert!(&rt; asks_over(rt.alloc(), line, *command, path), "{line}");
     }
 }
 
 /// Lines of distances and rings, and the path of the table.
-static DISTANCES_AND_RINGS: [(&str, Command, &str); 3] = [
+static DISTANCES_AND_RINGS: &[(&str, Command, &str)] = &[
     (
         "h3 gridDiskDistancesUnsafe -c 85283473fffffff -k3 --table Tabelle-\u{e4}.csv",
         Command::GridDiskDistancesUnsafe { cell: CELL, k: 3 },
@@ -110,13 +110,13 @@ static DISTANCES_AND_RINGS: [(&str, Command, &str); 3] = [
 
 #[test]
 fn reads_distances_and_rings(rt: HostRuntime) {
-    for (line, command, path) in &DISTANCES_AND_RINGS {
+    for (line, command, path) in DISTANCES_AND_RINGS {
         assert!(&rt; asks_over(rt.alloc(), line, *command, path), "{line}");
     }
 }
 
 /// Lines of commands on two cells over a table.
-static OF_TWO_CELLS: [(&str, Command); 5] = [
+static OF_TWO_CELLS: &[(&str, Command)] = &[
     (
         "h3 areNeighborCells -c 85283473fffffff --to 85283477fffffff --table t",
         Command::AreNeighborCells { cell: CELL, to: TO },
@@ -144,13 +144,13 @@ static OF_TWO_CELLS: [(&str, Command); 5] = [
 
 #[test]
 fn reads_two_cells(rt: HostRuntime) {
-    for (line, command) in &OF_TWO_CELLS {
+    for (line, command) in OF_TWO_CELLS {
         assert!(&rt; asks_over(rt.alloc(), line, *command, "t"), "{line}");
     }
 }
 
 /// Lines of a command on an edge over a table.
-static OF_AN_EDGE_OVER_A_TABLE: [(&str, Command); 2] = [
+static OF_AN_EDGE_OVER_A_TABLE: &[(&str, Command)] = &[
     (
         "h3 getDirectedEdgeDestination --edge 115283473fffffff --table t",
         Command::GetDirectedEdgeDestination { edge: EDGE },
@@ -163,13 +163,13 @@ static OF_AN_EDGE_OVER_A_TABLE: [(&str, Command); 2] = [
 
 #[test]
 fn reads_an_edge_over_a_table(rt: HostRuntime) {
-    for (line, command) in &OF_AN_EDGE_OVER_A_TABLE {
+    for (line, command) in OF_AN_EDGE_OVER_A_TABLE {
         assert!(&rt; asks_over(rt.alloc(), line, *command, "t"), "{line}");
     }
 }
 
 /// Lines of commands that answer a list over a table.
-static OF_A_LIST_OVER_A_TABLE: [(&str, Command); 6] = [
+static OF_A_LIST_OVER_A_TABLE: &[(&str, Command)] = &[
     (
         "h3 gridDisksUnsafe -k 2 --table t",
         Command::GridDisksUnsafe { k: 2 },
@@ -198,13 +198,13 @@ static OF_A_LIST_OVER_A_TABLE: [(&str, Command); 6] = [
 
 #[test]
 fn reads_lists_over_a_table(rt: HostRuntime) {
-    for (line, command) in &OF_A_LIST_OVER_A_TABLE {
+    for (line, command) in OF_A_LIST_OVER_A_TABLE {
         assert!(&rt; asks_over(rt.alloc(), line, *command, "t"), "{line}");
     }
 }
 
 /// Lines of commands over a region, and its path.
-static OVER_A_REGION: [(&str, Command, &str); 5] = [
+static OVER_A_REGION: &[(&str, Command, &str)] = &[
     (
         "h3 intersectCells --region region",
         Command::IntersectCells,
@@ -230,7 +230,7 @@ static OVER_A_REGION: [(&str, Command, &str); 5] = [
 
 #[test]
 fn reads_the_path_of_a_region(rt: HostRuntime) {
-    for (line, command, path) in &OVER_A_REGION {
+    for (line, command, path) in OVER_A_REGION {
         assert!(&rt;
             asks_over_region(rt.alloc(), line, *command, path),
             "{line}"
@@ -239,7 +239,7 @@ fn reads_the_path_of_a_region(rt: HostRuntime) {
 }
 
 /// Lines of commands over zones, and their path.
-static OVER_ZONES: [(&str, Command, &str); 4] = [
+static OVER_ZONES: &[(&str, Command, &str)] = &[
     (
         "h3 cellsToZones --zones zones",
         Command::CellsToZones,
@@ -260,13 +260,13 @@ static OVER_ZONES: [(&str, Command, &str); 4] = [
 
 #[test]
 fn reads_the_path_of_zones(rt: HostRuntime) {
-    for (line, command, path) in &OVER_ZONES {
+    for (line, command, path) in OVER_ZONES {
         assert!(&rt; asks_over_zones(rt.alloc(), line, *command, path), "{line}");
     }
 }
 
 /// Words with a path that has blanks.
-static WITH_BLANKS: [&str; 8] = [
+static WITH_BLANKS: &[&str] = &[
     "h3",
     "gridDiskUnsafe",
     "-k",
@@ -289,7 +289,7 @@ fn copied(alloc: Global, words: &[&str]) -> Result<Vec<String>, AllocError> {
 #[test]
 fn keeps_a_path_as_it_is(rt: HostRuntime) {
     let disk = Command::GridDiskUnsafe { cell: CELL, k: 1 };
-    let kept = match copied(rt.alloc(), &WITH_BLANKS) {
+    let kept = match copied(rt.alloc(), WITH_BLANKS) {
         Ok(words) => are_over(
             &read_words(rt.alloc(), words),
             disk,

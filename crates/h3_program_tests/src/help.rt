@@ -11,7 +11,7 @@ fn asks_for_help(alloc: Global, line: &str) -> bool {
 }
 
 /// Lines that ask for help.
-static HELP: [&str; 30] = [
+static HELP: &[&str] = &[
     "h3 --help",
     "h3 -h",
     "h3 isValidCell --help",
@@ -46,7 +46,7 @@ static HELP: [&str; 30] = [
 
 #[test]
 fn helps(rt: HostRuntime) {
-    for line in &HELP {
+    for line in HELP {
         assert!(&rt; asks_for_help(rt.alloc(), line), "{line}");
     }
 }
@@ -96,7 +96,7 @@ fn refuses_the_version_elsewhere(rt: HostRuntime) {
 }
 
 /// The words that name the commands.
-static COMMAND_WORDS: [&str; 51] = [
+static COMMAND_WORDS: &[&str] = &[
     "isValidCell",
     "getResolution",
     "getBaseCellNumber",
@@ -171,7 +171,7 @@ fn help_lists(parsed: &Result<Words, ArgsError>, word: &str) -> bool {
 #[test]
 fn help_lists_the_commands(rt: HostRuntime) {
     let parsed = read(rt.alloc(), "h3 --help");
-    for word in &COMMAND_WORDS {
+    for word in COMMAND_WORDS {
         assert!(&rt; help_lists(&parsed, word), "{word}");
     }
 }
@@ -237,7 +237,7 @@ fn help_says_what_a_file_may_be_refused_for(rt: HostRuntime) {
 }
 
 /// How a list is given to each command that reads one.
-static LIST_USAGES: [(&str, &str); 27] = [
+static LIST_USAGES: &[(&str, &str)] = &[
     ("h3 compactCells -h", "Usage: h3 compactCells < cells\n"),
     (
         "h3 uncompactCells -h",
@@ -394,7 +394,7 @@ fn help_says(alloc: Global, line: &str, said: &str) -> bool {
 
 #[test]
 fn help_says_how_a_list_is_given(rt: HostRuntime) {
-    for (line, said) in &LIST_USAGES {
+    for (line, said) in LIST_USAGES {
         assert!(&rt; help_says(rt.alloc(), line, said), "{line}");
     }
 }

@@ -9,23 +9,25 @@ use std::alloc::Global;
 /// The bytes of a pull. Most of these lists fit in the largest.
 static PIECES: [usize; 4] = [1, 15, 16, 65536];
 
-/// Each function; those of a resolution with this one.
-fn functions(res: i32) -> [IndexFunction; 13] {
-    [
-        IndexFunction::IsValidCell,
-        IndexFunction::IsValidDirectedEdge,
-        IndexFunction::GetResolution,
-        IndexFunction::GetBaseCellNumber,
-        IndexFunction::IsPentagon,
-        IndexFunction::IsResClassIII,
-        IndexFunction::CellToParent { res },
-        IndexFunction::CellToCenterChild { res },
-        IndexFunction::CellToLastChild { res },
-        IndexFunction::CellToChildrenSize { res },
-        IndexFunction::CellToChildPos { res },
-        IndexFunction::GetDirectedEdgeOrigin,
-        IndexFunction::OriginToDirectedEdges,
-    ]
+// Each function; those of a resolution with this one.
+macro_rules! functions {
+    ($res:expr) => {
+        [
+            IndexFunction::IsValidCell,
+            IndexFunction::IsValidDirectedEdge,
+            IndexFunction::GetResolution,
+            IndexFunction::GetBaseCellNumber,
+            IndexFunction::IsPentagon,
+            IndexFunction::IsResClassIII,
+            IndexFunction::CellToParent { res: $res },
+            IndexFunction::CellToCenterChild { res: $res },
+            IndexFunction::CellToLastChild { res: $res },
+            IndexFunction::CellToChildrenSize { res: $res },
+            IndexFunction::CellToChildPos { res: $res },
+            IndexFunction::GetDirectedEdgeOrigin,
+            IndexFunction::OriginToDirectedEdges,
+        ]
+    };
 }
 
 /// The command that answers a function for an index alone.
@@ -175,7 +177,7 @@ fn among(before: &str, line: &str, after: &str) -> ArrayString<128> {
 
 /// Whether each function answers a list as for its lines alone.
 fn all_answer_as_alone(alloc: Global, res: i32, list: &str, most: usize) -> bool {
-    for function in &functions(res) {
+    for function in &functions!(res) {
         if !is_answered_as_alone(alloc, *function, list, most) {
             return false;
         }
@@ -240,7 +242,7 @@ fn is_answered(
 const TWO: &str = "85283473fffffff\n8009fffffffffff";
 
 /// Functions, lists and the answers.
-static ANSWERS: [(IndexFunction, &str, &str); 13] = [
+static ANSWERS: &[(IndexFunction, &str, &str)] = &[
     (
         IndexFunction::IsValidCell,
         "85283473fffffff\n0X85283473FFFFFFF\n81087ffffffffff\n80f5fffffffffff\n\
@@ -322,7 +324,7 @@ static EMPTY_LISTS: [&str; 3] = ["", "\n\n\n", " \t\r\n\r\n "];
 #[test]
 fn a_list_without_an_index_has_no_answer(rt: HostRuntime) {
     for (row, list) in EMPTY_LISTS.iter().enumerate() {
-        for function in &functions(16) {
+        for function in &functions!(16) {
             assert!(&rt; has_no_answer(rt.alloc(), *function, list), "row {row}");
         }
     }

@@ -26,7 +26,7 @@ const BASE_20: Option<u64> = Some(0x8029fffffffffff);
 const NO_CELL: Option<u64> = Some(0x81087ffffffffff);
 
 /// Words, and whether they are cells.
-static TESTED: [(&str, &str); 8] = [
+static TESTED: &[(&str, &str)] = &[
     ("85283473fffffff", "true\n"),
     ("0X85283473FFFFFFF", "true\n"),
     ("81087ffffffffff", "false\n"),
@@ -39,7 +39,7 @@ static TESTED: [(&str, &str); 8] = [
 
 #[test]
 fn cells_are_tested(rt: HostRuntime) {
-    for (word, line) in &TESTED {
+    for (word, line) in TESTED {
         let cell = index_of(word);
         let command = Command::IsValidCell { cell };
         assert!(&rt; writes(rt.alloc(), command, line), "{word}");
@@ -47,11 +47,11 @@ fn cells_are_tested(rt: HostRuntime) {
 }
 
 /// Words that parse as no index.
-static NO_INDEXES: [&str; 3] = ["xyz", "00085283473fffffff", ""];
+static NO_INDEXES: &[&str] = &["xyz", "00085283473fffffff", ""];
 
 #[test]
 fn words_that_parse_as_no_index_are_refused(rt: HostRuntime) {
-    for word in &NO_INDEXES {
+    for word in NO_INDEXES {
         let cell = index_of(word);
         let refused = refuses(rt.alloc(), Command::IsValidCell { cell }, FAILED)
             && refuses(rt.alloc(), Command::GetBaseCellNumber { cell }, FAILED)
@@ -65,7 +65,7 @@ fn words_that_parse_as_no_index_are_refused(rt: HostRuntime) {
 }
 
 /// What a cell says, and whether an index is one.
-static PARTS: [Row; 10] = [
+static PARTS: &[Row] = &[
     (Command::GetResolution { cell: HEXAGON }, "5\n", ""),
     (Command::GetBaseCellNumber { cell: HEXAGON }, "20\n", ""),
     (Command::IsPentagon { cell: HEXAGON }, "false\n", ""),
@@ -98,7 +98,7 @@ fn parts_of_cells_are_written(rt: HostRuntime) {
 }
 
 /// Numbers of cells.
-static COUNTS: [Row; 3] = [
+static COUNTS: &[Row] = &[
     (Command::GetNumCells { res: 0 }, "122\n", ""),
     (Command::GetNumCells { res: 15 }, "569707381193162\n", ""),
     (Command::GetNumCells { res: 16 }, "", RES_DOMAIN),
@@ -146,7 +146,7 @@ fn pentagons_are_listed(rt: HostRuntime) {
 }
 
 /// Ancestors, at these resolutions.
-static ANCESTORS: [(i32, &str, &str); 4] = [
+static ANCESTORS: &[(i32, &str, &str)] = &[
     (4, "8428347ffffffff\n", ""),
     (5, "85283473fffffff\n", ""),
     (6, "", RES_MISMATCH),
@@ -155,7 +155,7 @@ static ANCESTORS: [(i32, &str, &str); 4] = [
 
 #[test]
 fn ancestors_are_written(rt: HostRuntime) {
-    for (res, output, line) in &ANCESTORS {
+    for (res, output, line) in ANCESTORS {
         let command = Command::CellToParent {
             cell: HEXAGON,
             res: *res,
@@ -172,7 +172,7 @@ fn ancestors_are_written(rt: HostRuntime) {
 }
 
 /// Descendants, and numbers of them.
-static DESCENDANTS: [Row; 17] = [
+static DESCENDANTS: &[Row] = &[
     (
         Command::CellToCenterChild {
             cell: HEXAGON,
@@ -320,7 +320,7 @@ fn descendants_are_written(rt: HostRuntime) {
 }
 
 /// Cells, and their positions among the descendants of an ancestor of this resolution.
-static POSITIONS: [(&str, i32, &str, &str); 7] = [
+static POSITIONS: &[(&str, i32, &str, &str)] = &[
     ("85283473fffffff", 0, "2279\n", ""),
     ("85283473fffffff", 5, "0\n", ""),
     ("8209b7fffffffff", 0, "40\n", ""),
@@ -332,7 +332,7 @@ static POSITIONS: [(&str, i32, &str, &str); 7] = [
 
 #[test]
 fn positions_are_written(rt: HostRuntime) {
-    for (word, res, output, line) in &POSITIONS {
+    for (word, res, output, line) in POSITIONS {
         let command = Command::CellToChildPos {
             cell: index_of(word),
             res: *res,
@@ -343,7 +343,7 @@ fn positions_are_written(rt: HostRuntime) {
 }
 
 /// Positions, ancestors and resolutions, and the descendants at the positions.
-static AT_POSITIONS: [(u64, &str, i32, &str, &str); 8] = [
+static AT_POSITIONS: &[(u64, &str, i32, &str, &str)] = &[
     (2279, "8029fffffffffff", 5, "85283473fffffff\n", ""),
     (0, "8009fffffffffff", 2, "820807fffffffff\n", ""),
     (6, "8009fffffffffff", 2, "820887fffffffff\n", ""),
@@ -356,7 +356,7 @@ static AT_POSITIONS: [(u64, &str, i32, &str, &str); 8] = [
 
 #[test]
 fn descendants_are_found_by_position(rt: HostRuntime) {
-    for (position, word, res, output, line) in &AT_POSITIONS {
+    for (position, word, res, output, line) in AT_POSITIONS {
         let command = Command::ChildPosToCell {
             position: *position,
             cell: index_of(word),
@@ -368,13 +368,13 @@ fn descendants_are_found_by_position(rt: HostRuntime) {
 }
 
 /// The bytes of a pull of a list.
-static PIECES: [usize; 6] = [1, 2, 63, 64, 65, 65536];
+static PIECES: &[usize] = &[1, 2, 63, 64, 65, 65536];
 
 /// A cell twice.
 const TWICE: &str = "85283473fffffff\n85283473fffffff\n";
 
 /// Resolutions and lists, and their descendants or the error.
-static UNCOMPACTED: [(i32, &str, &str, &str); 9] = [
+static UNCOMPACTED: &[(i32, &str, &str, &str)] = &[
     (6, "85283473fffffff\n", CHILDREN, ""),
     (
         1,
@@ -397,14 +397,14 @@ fn lists_are_uncompacted(rt: HostRuntime) {
     for (number, (res, list, output, line)) in UNCOMPACTED.iter().enumerate() {
         let command = Command::UncompactCells { res: *res };
         let list = Reads::List(list);
-        let right = answers(rt.alloc(), command, list, output, line, &PIECES);
+        let right = answers(rt.alloc(), command, list, output, line, PIECES);
         assert!(&rt; right, "row {number}");
     }
 }
 
 /// Resolutions and lists, and how many cells they uncompact to or the error: n levels down a hexagon
 /// has 7^n descendants, and a pentagon 1 + 5 * ((7^n - 1) / 6).
-static SIZES: [(i32, &str, &str, &str); 13] = [
+static SIZES: &[(i32, &str, &str, &str)] = &[
     (6, "85283473fffffff\n", "7\n", ""),
     (1, "8009fffffffffff\n\n 81283ffffffffff", "7\n", ""),
     (15, "8001fffffffffff\n", "4747561509943\n", ""),
@@ -445,7 +445,7 @@ fn what_lists_uncompact_to_is_counted(rt: HostRuntime) {
     for (number, (res, list, output, line)) in SIZES.iter().enumerate() {
         let command = Command::UncompactCellsSize { res: *res };
         let list = Reads::List(list);
-        let right = answers(rt.alloc(), command, list, output, line, &PIECES);
+        let right = answers(rt.alloc(), command, list, output, line, PIECES);
         assert!(&rt; right, "row {number}");
     }
 }
@@ -458,7 +458,7 @@ const FIVE: &str = "81083ffffffffff\n8108bffffffffff\n8108fffffffffff\n81093ffff
 const DUPLICATE: &str = "error 10: E_DUPLICATE_INPUT\n";
 
 /// Lists, and their compactions or the error.
-static COMPACTED: [(&str, &str, &str); 15] = [
+static COMPACTED: &[(&str, &str, &str)] = &[
     (
         "862834737ffffff\n86283472fffffff\n862834727ffffff\n86283471fffffff\n\
          862834717ffffff\n86283470fffffff\n862834707ffffff\n",
@@ -514,7 +514,7 @@ fn lists_are_compacted(rt: HostRuntime) {
             list,
             output,
             line,
-            &PIECES,
+            PIECES,
         );
         assert!(&rt; right, "row {number}");
     }
@@ -530,12 +530,12 @@ fn a_list_that_lacks_a_cell_is_compacted(rt: HostRuntime) {
     let (most, _) = BELOW_BASE_20.split_at(48 * 16);
     let list = Reads::List(most);
     let compact = Command::CompactCells;
-    assert!(&rt; answers(rt.alloc(), compact, list, ALL_BUT_ONE, "", &PIECES));
+    assert!(&rt; answers(rt.alloc(), compact, list, ALL_BUT_ONE, "", PIECES));
 }
 
 /// Lists whose cells may repeat and overlap, and the compacted list of what they cover, or the
 /// error.
-static UNITED: [(&str, &str, &str); 11] = [
+static UNITED: &[(&str, &str, &str)] = &[
     (
         "85283463fffffff\n85283467fffffff\n8528346bfffffff\n8428347ffffffff\n\
          85283463fffffff\n85283467fffffff\n",
@@ -588,7 +588,7 @@ static UNITED: [(&str, &str, &str); 11] = [
 fn lists_are_united(rt: HostRuntime) {
     for (number, (list, output, line)) in UNITED.iter().enumerate() {
         let list = Reads::List(list);
-        let right = answers(rt.alloc(), Command::UniteCells, list, output, line, &PIECES);
+        let right = answers(rt.alloc(), Command::UniteCells, list, output, line, PIECES);
         assert!(&rt; right, "row {number}");
     }
 }

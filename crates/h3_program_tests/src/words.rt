@@ -36,7 +36,7 @@ pub const CELL: Option<u64> = Some(0x85283473fffffff);
 pub const EDGE: Option<u64> = Some(0x115283473fffffff);
 
 /// Lines of `isValidCell`, and the index of the cell.
-static VALID_CELL: [(&str, Option<u64>); 6] = [
+static VALID_CELL: &[(&str, Option<u64>)] = &[
     ("h3 isValidCell -c 85283473fffffff", CELL),
     ("h3 isValidCell --cell 85283473fffffff", CELL),
     ("h3 isValidCell --cell=85283473fffffff", CELL),
@@ -47,14 +47,14 @@ static VALID_CELL: [(&str, Option<u64>); 6] = [
 
 #[test]
 fn reads_commands(rt: HostRuntime) {
-    for (line, cell) in &VALID_CELL {
+    for (line, cell) in VALID_CELL {
         let command = Command::IsValidCell { cell: *cell };
         assert!(&rt; asks_for(rt.alloc(), line, command), "{line}");
     }
 }
 
 /// Lines of commands on a cell, or on nothing.
-static OF_A_CELL: [(&str, Command); 6] = [
+static OF_A_CELL: &[(&str, Command)] = &[
     ("h3 getRes0Cells", Command::GetRes0Cells),
     (
         "h3 getResolution -c 85283473fffffff",
@@ -80,13 +80,13 @@ static OF_A_CELL: [(&str, Command); 6] = [
 
 #[test]
 fn reads_a_cell(rt: HostRuntime) {
-    for (line, command) in &OF_A_CELL {
+    for (line, command) in OF_A_CELL {
         assert!(&rt; asks_for(rt.alloc(), line, *command), "{line}");
     }
 }
 
 /// Lines of commands with a resolution, and on a list.
-static OF_A_RESOLUTION: [(&str, Command); 8] = [
+static OF_A_RESOLUTION: &[(&str, Command)] = &[
     ("h3 getNumCells -r 15", Command::GetNumCells { res: 15 }),
     (
         "h3 getPentagons --resolution=2147483647",
@@ -111,13 +111,13 @@ static OF_A_RESOLUTION: [(&str, Command); 8] = [
 
 #[test]
 fn reads_resolutions(rt: HostRuntime) {
-    for (line, command) in &OF_A_RESOLUTION {
+    for (line, command) in OF_A_RESOLUTION {
         assert!(&rt; asks_for(rt.alloc(), line, *command), "{line}");
     }
 }
 
 /// Lines of commands on a cell with a resolution.
-static OF_A_CELL_AND_A_RESOLUTION: [(&str, Command); 7] = [
+static OF_A_CELL_AND_A_RESOLUTION: &[(&str, Command)] = &[
     (
         "h3 cellToParent -r 4 -c 85283473fffffff",
         Command::CellToParent { cell: CELL, res: 4 },
@@ -154,13 +154,13 @@ static OF_A_CELL_AND_A_RESOLUTION: [(&str, Command); 7] = [
 
 #[test]
 fn reads_a_cell_and_a_resolution(rt: HostRuntime) {
-    for (line, command) in &OF_A_CELL_AND_A_RESOLUTION {
+    for (line, command) in OF_A_CELL_AND_A_RESOLUTION {
         assert!(&rt; asks_for(rt.alloc(), line, *command), "{line}");
     }
 }
 
 /// Lines of functions of each index of a list.
-static FUNCTIONS: [(&str, IndexFunction); 8] = [
+static FUNCTIONS: &[(&str, IndexFunction)] = &[
     ("h3 areValidCells", IndexFunction::IsValidCell),
     (
         "h3 areValidDirectedEdges",
@@ -182,7 +182,7 @@ static FUNCTIONS: [(&str, IndexFunction); 8] = [
 
 #[test]
 fn reads_functions_of_each_index_of_a_list(rt: HostRuntime) {
-    for (line, function) in &FUNCTIONS {
+    for (line, function) in FUNCTIONS {
         assert!(&rt;
             asks_for(rt.alloc(), line, Command::ForEach(*function)),
             "{line}"
@@ -191,7 +191,7 @@ fn reads_functions_of_each_index_of_a_list(rt: HostRuntime) {
 }
 
 /// Lines of functions of each cell of a list with a resolution.
-static FUNCTIONS_WITH_A_RESOLUTION: [(&str, IndexFunction); 6] = [
+static FUNCTIONS_WITH_A_RESOLUTION: &[(&str, IndexFunction)] = &[
     (
         "h3 cellsToParents -r 4",
         IndexFunction::CellToParent { res: 4 },
@@ -220,7 +220,7 @@ static FUNCTIONS_WITH_A_RESOLUTION: [(&str, IndexFunction); 6] = [
 
 #[test]
 fn reads_functions_of_each_cell_of_a_list_and_a_resolution(rt: HostRuntime) {
-    for (line, function) in &FUNCTIONS_WITH_A_RESOLUTION {
+    for (line, function) in FUNCTIONS_WITH_A_RESOLUTION {
         assert!(&rt;
             asks_for(rt.alloc(), line, Command::ForEach(*function)),
             "{line}"
@@ -229,7 +229,7 @@ fn reads_functions_of_each_cell_of_a_list_and_a_resolution(rt: HostRuntime) {
 }
 
 /// Lines of commands on an edge.
-static OF_AN_EDGE: [(&str, Command); 3] = [
+static OF_AN_EDGE: &[(&str, Command)] = &[
     (
         "h3 isValidDirectedEdge --edge 115283473fffffff",
         Command::IsValidDirectedEdge { edge: EDGE },
@@ -246,7 +246,7 @@ static OF_AN_EDGE: [(&str, Command); 3] = [
 
 #[test]
 fn reads_edges(rt: HostRuntime) {
-    for (line, command) in &OF_AN_EDGE {
+    for (line, command) in OF_AN_EDGE {
         assert!(&rt; asks_for(rt.alloc(), line, *command), "{line}");
     }
 }

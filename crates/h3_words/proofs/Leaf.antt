@@ -23,7 +23,8 @@ use Rattle.h3_words.specs.Given.{given_by, with_true}
 use Rattle.h3_words.proofs.Uses.{IsListed}
 use Rattle.h3_words.specs.Options.{parser_done, id_of, is_flag, is_required, long_name, missing_for, rule_for, short_name}
 use Rattle.h3_words.specs.declared.options.CommandOption.{CommandOption}
-use Rattle.h3_words.specs.declared.options.CommandOption.TheVariants.{Cell, Resolution, Radius, To, Position, Edge, Table, Region, Zones, Field, Column, Header, Separator, Csv, As, KeepGoing}
+use Rattle.h3_words.specs.declared.options.CommandOption.TheVariants.{Cell}
+use Rattle.h3_words.specs.declared.options.TheConstants.{OPTIONS}
 
 -- ---- small facts
 
@@ -60,9 +61,9 @@ Which q o = (q ≡ o) ⊎ Differs q o
 
 -- all options
 abbrev every_option : List CommandOption
-every_option = Cell ∷ Resolution ∷ Radius ∷ To ∷ Position ∷ Edge ∷ Table ∷ Region ∷ Zones
-    ∷ Field ∷ Column ∷ Header ∷ Separator ∷ Csv ∷ As ∷ KeepGoing ∷ []
+every_option = OPTIONS.now
 
+-- what is tested of one option is so at each: the second clause of such a lemma is checked at each other option
 option_found : (o : CommandOption) → find (λ x. bytes_eq (id_of x) (id_of o)) every_option ≡ Some o
 option_found Cell = refl
 option_found o = refl
@@ -389,12 +390,21 @@ long_turn os o word wt rows p name None _ at_help e f = absurd (help_faults os (
 long_turn os o word wt rows p name (Some v) _ at_help e f = absurd (cons_nil kind.TooManyValues [] f)
 long_turn os o word wt rows p name v _ nowhere e f = absurd (cons_nil kind.UnknownArgument [] f)
 
-pub ascii_short : (q : CommandOption) (y : ℕ) → is_short q y ≡ true → length (encode_utf8 y) ≡ 1
+-- a short name is one byte
+one_byte : (q : CommandOption) → option_map_or (λ c. length (encode_utf8 c) == 1) (short_name q) true ≡ true
 unfolding encode_utf8
-ascii_short Cell y e = let same : 99 ≡ y = grind arith in ap (λ c. length (encode_utf8 c)) (sym same)
-ascii_short Resolution y e = let same : 114 ≡ y = grind arith in ap (λ c. length (encode_utf8 c)) (sym same)
-ascii_short Radius y e = let same : 107 ≡ y = grind arith in ap (λ c. length (encode_utf8 c)) (sym same)
-ascii_short q y e = cc
+one_byte Cell = refl
+one_byte q = refl
+
+pub ascii_short : (q : CommandOption) (y : ℕ) → is_short q y ≡ true → length (encode_utf8 y) ≡ 1
+ascii_short q y e = go (short_name q) (one_byte q) e
+  where
+    go : (s : Option ℕ) → option_map_or (λ c. length (encode_utf8 c) == 1) s true ≡ true → option_map_or (λ c. c == y) s false ≡ true → length (encode_utf8 y) ≡ 1
+    go None one hit = absurd (true≢false (sym hit))
+    go (Some c) one hit =
+        let same : c ≡ y = grind arith in
+        let is : length (encode_utf8 c) ≡ 1 = grind arith in
+        ap (λ x. length (encode_utf8 x)) (sym same) ∙ is
 
 pub short_is : (o q : CommandOption) (d : Which q o) (word flags : Text) (y : ℕ) → long_of word ≡ None → short_of word ≡ Some flags → slice_get (chars flags) 0 ≡ Some y
     → is_short q y ≡ true → spelled o word ≡ mine d (attached_value (drop (length (encode_utf8 y)) flags))
@@ -408,11 +418,16 @@ short_is o q d word flags y no_long is_flags first hit = ap₂ (named_by o) no_l
     go (inr w) = ap (λ b. cond b (Some (attached_value (drop 1 flags))) None) (shorts_differ (short_name o) (short_name q) y w.2 hit)
 
 -- an option with a short name is no flag
+no_short_flag : (q : CommandOption) → (is_some (short_name q) && is_flag q) ≡ false
+no_short_flag Cell = refl
+no_short_flag q = refl
+
 pub short_plain : (q : CommandOption) (y : ℕ) → is_short q y ≡ true → is_flag q ≡ false
-short_plain Header y e = cc
-short_plain Csv y e = cc
-short_plain KeepGoing y e = cc
-short_plain q y e = refl
+short_plain q y e = go (short_name q) (is_flag q) (no_short_flag q) e
+  where
+    go : (s : Option ℕ) (flag : Bool) → (is_some s && flag) ≡ false → option_map_or (λ c. c == y) s false ≡ true → flag ≡ false
+    go None flag apart hit = absurd (true≢false (sym hit))
+    go (Some c) flag apart hit = apart
 
 short_turn : (os : List CommandOption) (o : CommandOption) (word : Text) (wt : Waiting) (rows : List Row) (p : Option (Text × List Text)) (flags : Text) (y : ℕ) (r : Option Rule)
     (nf : Held → Kinds) (nm : Held → Held × Outcome)

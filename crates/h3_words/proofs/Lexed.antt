@@ -1,6 +1,6 @@
 -- What the words give an option, cut as `clap` cuts them.
 use Rattle.std.proofs.Common.{◌≡◌, ◌∙◌, ◌+◌, ◌==◌, ◌&&◌, ◌||◌, ℕ, Bool, cond, true, false, not, suc, refl, ap, ap₂, arith, List, [], ◌∷◌, Option, Some, None, drop, take, true≢false}
-use Rattle.std.specs.Prelude.{⊤, slice_get, option_and_then}
+use Rattle.std.specs.Prelude.{slice_get, option_and_then}
 use Rattle.std.specs.List.{list_any, position_or_len}
 use Rattle.std.specs.Option.{option_map_or, option_or}
 use Rattle.std.specs.Str.{bytes_eq, chars}
@@ -12,7 +12,7 @@ use Rattle.h3_words.specs.Given as own
 use Rattle.h3_words.specs.Given.{after, by_character, given_by, long_value, short_value, with_true}
 use Rattle.h3_words.specs.Options.{is_flag, long_name, short_name}
 use Rattle.h3_words.specs.declared.options.CommandOption.{CommandOption}
-use Rattle.h3_words.specs.declared.options.CommandOption.TheVariants.{Cell, Radius}
+use Rattle.h3_words.specs.declared.options.CommandOption.TheVariants.{Cell}
 
 -- the option's long name
 abbrev pub is_long : CommandOption → Text → Bool
@@ -105,11 +105,14 @@ cut_same (n ∷ ns) (b ∷ bs) lacks = go (b == 61) refl (has_byte 61 bs) (posit
         ∙ ap (λ k. cond (n == b && bytes_eq ns (take m bs)) (Some (cond has (Some (drop k (b ∷ bs))) None)) None) two
         ∙ ap (cut_at (n ∷ ns) (b ∷ bs) has) one
 
--- a long name is not empty and has no `=`
+-- breaks_long name: the name is empty or has a `=`
+abbrev breaks_long : Option Text → Bool
+breaks_long None = false
+breaks_long (Some []) = true
+breaks_long (Some (n ∷ ns)) = list_any (λ x. x == 61) (n ∷ ns)
+
 abbrev PlainLong : Option Text → Type 0
-PlainLong None = ⊤
-PlainLong (Some []) = ⊥
-PlainLong (Some (n ∷ ns)) = LacksEquals (n ∷ ns)
+PlainLong name = breaks_long name ≡ false
 
 long_same : (name : Option Text) (word : Text) → PlainLong name → own.by_long name word ≡ long_by name (long_of word)
 long_same None word plain = go (long_of word)
@@ -117,7 +120,7 @@ long_same None word plain = go (long_of word)
     go : (p : Option (Text × Option Text)) → None ≡ long_by None p
     go None = refl
     go (Some p) = refl
-long_same (Some []) word plain = absurd plain
+long_same (Some []) word plain = absurd (true≢false plain)
 long_same (Some (n ∷ ns)) [] plain = refl
 long_same (Some (n ∷ ns)) (b ∷ bs) plain = ap (λ t. option_and_then long_value (cond t (after (45 ∷ n ∷ ns) bs) None)) (same_sym 45 b) ∙ first bs (b == 45)
   where
@@ -208,7 +211,7 @@ parts_same long short word plain_long plain_short = ap₂ option_or (long_same l
     go (Some p) e = ap (λ f. option_or (long_by long (Some p)) (short_by short f)) (no_flags word p e) ∙ or_none (long_by long (Some p))
 
 plain_long : (o : CommandOption) → PlainLong (long_name o)
-plain_long Radius = tt
+plain_long Cell = refl
 plain_long o = refl
 
 plain_short : (o : CommandOption) → PlainShort (short_name o)

@@ -28,7 +28,7 @@ use Rattle.h3_words.specs.Given.{given_by}
 use Rattle.h3_words.specs.Rows.{rows_agree}
 use Rattle.h3_words.specs.Options.{IsWithin, number_from, number_up_to, id_of, is_flag, is_required, long_name, parser_done, short_name}
 use Rattle.h3_words.specs.declared.options.CommandOption.{CommandOption}
-use Rattle.h3_words.specs.declared.options.CommandOption.TheVariants.{Cell, Resolution, Radius, Header, Csv, KeepGoing}
+use Rattle.h3_words.specs.declared.options.CommandOption.TheVariants.{Cell}
 use Rattle.h3_words.proofs.Leaf.{Holds, by_flag, flag_is, rule_as, short_plain, takes_no_value, takes_value, unnamed, value_is, written_used, long_is, mine, no_default, short_is, walks, Differs, Which, at_word, bytes_same, differ, done_rule, done_rules, help_done, idle_held, leaf_done, longs_differ, or_false, row_of_option, shorts_differ, used_fresh, value_state, walk_end}
 
 -- how a word names an option
@@ -42,9 +42,31 @@ abbrev LongForm : CommandOption → Option Text → Type 0
 LongForm q None = ⊤
 LongForm q (Some n) = (long_of (codes "--" ++ n) ≡ Some (n, None)) × (is_long q n ≡ true) × (has_long help_done n ≡ false) × (bytes_eq (codes "--" ++ n) (45 ∷ 45 ∷ []) ≡ false)
 
+-- what a word of a long name is, and what it is to be
+abbrev LongFacts : Type 0
+LongFacts = Option (Text × Option Text) × Bool × Bool × Bool
+
+abbrev long_facts : CommandOption → Text → LongFacts
+long_facts q n = (long_of (codes "--" ++ n), is_long q n, has_long help_done n, bytes_eq (codes "--" ++ n) (45 ∷ 45 ∷ []))
+
+abbrev long_wanted : Text → LongFacts
+long_wanted n = (Some (n, None), true, false, false)
+
+long_is_wanted : (q : CommandOption) → option_map (long_facts q) (long_name q) ≡ option_map long_wanted (long_name q)
+long_is_wanted Cell = refl
+long_is_wanted q = refl
+
+some_same : {X : Type 0} (x y : X) → Some x ≡ Some y → x ≡ y
+some_same x y e = cc
+
 long_form_of : (q : CommandOption) → LongForm q (long_name q)
-long_form_of Radius = tt
-long_form_of q = (refl, refl, refl, refl)
+long_form_of q = go (long_name q) (long_is_wanted q)
+  where
+    go : (long : Option Text) → option_map (long_facts q) long ≡ option_map long_wanted long → LongForm q long
+    go None e = tt
+    go (Some n) e =
+        let same : long_facts q n ≡ long_wanted n = some_same _ _ e in
+        (ap (λ (t : LongFacts). t.0) same, ap (λ (t : LongFacts). t.1) same, ap (λ (t : LongFacts). t.2) same, ap (λ (t : LongFacts). t.3) same)
 
 -- a word of this short name names the option by it
 abbrev ShortForm : CommandOption → Option ℕ → Type 0
@@ -52,12 +74,36 @@ ShortForm q None = ⊤
 ShortForm q (Some y) = (long_of (45 ∷ y ∷ []) ≡ None) × (short_of (45 ∷ y ∷ []) ≡ Some (y ∷ [])) × (slice_get (chars (y ∷ [])) 0 ≡ Some y) × (drop (length (encode_utf8 y)) (y ∷ []) ≡ [])
     × (is_short q y ≡ true) × (has_short help_done y ≡ false) × (bytes_eq (45 ∷ y ∷ []) (45 ∷ 45 ∷ []) ≡ false)
 
-short_form_of : (q : CommandOption) → ShortForm q (short_name q)
+-- what a word of a short name is, and what it is to be
+abbrev ShortFacts : Type 0
+ShortFacts = Option (Text × Option Text) × Option Text × Option ℕ × Text × Bool × Bool × Bool
+
+abbrev short_facts : CommandOption → ℕ → ShortFacts
+short_facts q y = (long_of (45 ∷ y ∷ []), short_of (45 ∷ y ∷ []), slice_get (chars (y ∷ [])) 0, drop (length (encode_utf8 y)) (y ∷ []), is_short q y, has_short help_done y, bytes_eq (45 ∷ y ∷ []) (45 ∷ 45 ∷ []))
+
+abbrev short_wanted : ℕ → ShortFacts
+short_wanted y = (None, Some (y ∷ []), Some y, [], true, false, false)
+
+short_is_wanted : (q : CommandOption) → option_map (short_facts q) (short_name q) ≡ option_map short_wanted (short_name q)
 unfolding chars encode_utf8
-short_form_of Cell = (refl, refl, refl, refl, refl, refl, refl)
-short_form_of Resolution = (refl, refl, refl, refl, refl, refl, refl)
-short_form_of Radius = (refl, refl, refl, refl, refl, refl, refl)
-short_form_of q = tt
+short_is_wanted Cell = refl
+short_is_wanted q = refl
+
+short_form_of : (q : CommandOption) → ShortForm q (short_name q)
+short_form_of q = go (short_name q) (short_is_wanted q)
+  where
+    go : (short : Option ℕ) → option_map (short_facts q) short ≡ option_map short_wanted short → ShortForm q short
+    go None e = tt
+    go (Some y) e =
+        let same : short_facts q y ≡ short_wanted y = some_same _ _ e in (
+          ap (λ (t : ShortFacts). t.0) same,
+          ap (λ (t : ShortFacts). t.1) same,
+          ap (λ (t : ShortFacts). t.2) same,
+          ap (λ (t : ShortFacts). t.3) same,
+          ap (λ (t : ShortFacts). t.4) same,
+          ap (λ (t : ShortFacts). t.5) same,
+          ap (λ (t : ShortFacts). t.6) same,
+        )
 
 name_form : (q : CommandOption) (word : Text) → IsListed word (names_for q) → NameForm q word
 name_form q word is = go (short_name q) (long_name q) (short_form_of q) (long_form_of q) is
@@ -256,11 +302,16 @@ in_range least None v h = refl
 in_range least (Some most) v h = Accepts-accepts false (Signed least most) v h
 
 -- a flag has no number, so that any text passes its parser
+no_number_flag : (q : CommandOption) → (is_flag q && is_some (number_up_to q)) ≡ false
+no_number_flag Cell = refl
+no_number_flag q = refl
+
 flag_accepts : (q : CommandOption) (v : Text) → is_flag q ≡ true → accepts false (parser_done q) v ≡ true
-flag_accepts Header v e = refl
-flag_accepts Csv v e = refl
-flag_accepts KeepGoing v e = refl
-flag_accepts q v e = cc
+flag_accepts q v e = go (number_from q) (number_up_to q) (ap (λ b. b && is_some (number_up_to q)) (sym e) ∙ no_number_flag q)
+  where
+    go : (least : ℤ) (most : Option ℤ) → is_some most ≡ false → accepts false (unwrap_or (option_map (Signed least) most) String) v ≡ true
+    go least None none = refl
+    go least (Some most) none = absurd (true≢false none)
 
 -- a use of an option that was not used yet, with a value in its range
 use_passes : (q : CommandOption) (v : Text) (rows : List Row) → is_flag q ≡ false → has_row (id_of q) rows ≡ false → accepts false (parser_done q) v ≡ true → use_fault false (done_rule q) (v ∷ []) rows ≡ []

@@ -10,7 +10,7 @@ use Rattle.h3_requests.specs.declared.command.IndexFunction.TheVariants as each
 use Rattle.h3_requests.specs.declared.command.Command.{Command}
 use Rattle.h3_requests.specs.declared.command.Command.TheVariants as command
 use Rattle.h3_words.specs.declared.options.CommandOption.{CommandOption}
-use Rattle.h3_words.specs.declared.options.CommandOption.TheVariants.{Cell, Resolution, Radius, To, Position, Edge, Table, Region, Zones, Field, Column, Header, Separator, Csv, As, KeepGoing}
+use Rattle.h3_words.specs.declared.options.CommandOption.TheVariants as option
 use Rattle.h3_words.specs.declared.commands.CommandName.{CommandName}
 use Rattle.h3_words.specs.declared.commands.CommandName.TheVariants as name
 
@@ -36,64 +36,64 @@ pub record Entry : Type 0 where
 
 -- the options of each command that answers about its list as a whole: how its rows are read
 abbrev pub list_options : List CommandOption
-list_options = Field ∷ Column ∷ Header ∷ Separator ∷ Csv ∷ []
+list_options = option.Field ∷ option.Column ∷ option.Header ∷ option.Separator ∷ option.Csv ∷ []
 
 -- the options of each command that answers its list line by line: how its rows are read and written
 abbrev pub line_options : List CommandOption
-line_options = Field ∷ Column ∷ Header ∷ Separator ∷ Csv ∷ As ∷ KeepGoing ∷ []
+line_options = option.Field ∷ option.Column ∷ option.Header ∷ option.Separator ∷ option.Csv ∷ option.As ∷ option.KeepGoing ∷ []
 
 -- entry_of name: the word that names a command, and its options
 abbrev pub entry_of : CommandName → Entry
-entry_of name.IsValidCell = record { word = codes "isValidCell"; options = Cell ∷ [] }
-entry_of name.GetResolution = record { word = codes "getResolution"; options = Cell ∷ [] }
-entry_of name.GetBaseCellNumber = record { word = codes "getBaseCellNumber"; options = Cell ∷ [] }
-entry_of name.IsPentagon = record { word = codes "isPentagon"; options = Cell ∷ [] }
-entry_of name.IsResClassIII = record { word = codes "isResClassIII"; options = Cell ∷ [] }
-entry_of name.GetNumCells = record { word = codes "getNumCells"; options = Resolution ∷ [] }
+entry_of name.IsValidCell = record { word = codes "isValidCell"; options = option.Cell ∷ [] }
+entry_of name.GetResolution = record { word = codes "getResolution"; options = option.Cell ∷ [] }
+entry_of name.GetBaseCellNumber = record { word = codes "getBaseCellNumber"; options = option.Cell ∷ [] }
+entry_of name.IsPentagon = record { word = codes "isPentagon"; options = option.Cell ∷ [] }
+entry_of name.IsResClassIII = record { word = codes "isResClassIII"; options = option.Cell ∷ [] }
+entry_of name.GetNumCells = record { word = codes "getNumCells"; options = option.Resolution ∷ [] }
 entry_of name.GetRes0Cells = record { word = codes "getRes0Cells"; options = [] }
-entry_of name.GetPentagons = record { word = codes "getPentagons"; options = Resolution ∷ [] }
-entry_of name.CellToParent = record { word = codes "cellToParent"; options = Cell ∷ Resolution ∷ [] }
-entry_of name.CellToCenterChild = record { word = codes "cellToCenterChild"; options = Cell ∷ Resolution ∷ [] }
-entry_of name.CellToLastChild = record { word = codes "cellToLastChild"; options = Cell ∷ Resolution ∷ [] }
-entry_of name.CellToChildren = record { word = codes "cellToChildren"; options = Cell ∷ Resolution ∷ [] }
-entry_of name.CellToChildrenSize = record { word = codes "cellToChildrenSize"; options = Cell ∷ Resolution ∷ [] }
-entry_of name.CellToChildPos = record { word = codes "cellToChildPos"; options = Cell ∷ Resolution ∷ [] }
-entry_of name.ChildPosToCell = record { word = codes "childPosToCell"; options = Position ∷ Cell ∷ Resolution ∷ [] }
+entry_of name.GetPentagons = record { word = codes "getPentagons"; options = option.Resolution ∷ [] }
+entry_of name.CellToParent = record { word = codes "cellToParent"; options = option.Cell ∷ option.Resolution ∷ [] }
+entry_of name.CellToCenterChild = record { word = codes "cellToCenterChild"; options = option.Cell ∷ option.Resolution ∷ [] }
+entry_of name.CellToLastChild = record { word = codes "cellToLastChild"; options = option.Cell ∷ option.Resolution ∷ [] }
+entry_of name.CellToChildren = record { word = codes "cellToChildren"; options = option.Cell ∷ option.Resolution ∷ [] }
+entry_of name.CellToChildrenSize = record { word = codes "cellToChildrenSize"; options = option.Cell ∷ option.Resolution ∷ [] }
+entry_of name.CellToChildPos = record { word = codes "cellToChildPos"; options = option.Cell ∷ option.Resolution ∷ [] }
+entry_of name.ChildPosToCell = record { word = codes "childPosToCell"; options = option.Position ∷ option.Cell ∷ option.Resolution ∷ [] }
 entry_of name.CompactCells = record { word = codes "compactCells"; options = list_options }
-entry_of name.UncompactCells = record { word = codes "uncompactCells"; options = Resolution ∷ list_options }
-entry_of name.UncompactCellsSize = record { word = codes "uncompactCellsSize"; options = Resolution ∷ list_options }
+entry_of name.UncompactCells = record { word = codes "uncompactCells"; options = option.Resolution ∷ list_options }
+entry_of name.UncompactCellsSize = record { word = codes "uncompactCellsSize"; options = option.Resolution ∷ list_options }
 entry_of name.UniteCells = record { word = codes "uniteCells"; options = list_options }
-entry_of name.IntersectCells = record { word = codes "intersectCells"; options = Region ∷ list_options }
-entry_of name.SubtractCells = record { word = codes "subtractCells"; options = Region ∷ list_options }
-entry_of name.AreCoveredCells = record { word = codes "areCoveredCells"; options = Region ∷ line_options }
-entry_of name.CellsToZones = record { word = codes "cellsToZones"; options = Zones ∷ line_options }
-entry_of name.CountCellsInZones = record { word = codes "countCellsInZones"; options = Zones ∷ list_options }
-entry_of name.GridDiskUnsafe = record { word = codes "gridDiskUnsafe"; options = Cell ∷ Radius ∷ Table ∷ [] }
-entry_of name.GridDiskDistancesUnsafe = record { word = codes "gridDiskDistancesUnsafe"; options = Cell ∷ Radius ∷ Table ∷ [] }
-entry_of name.GridRingUnsafe = record { word = codes "gridRingUnsafe"; options = Cell ∷ Radius ∷ Table ∷ [] }
-entry_of name.AreNeighborCells = record { word = codes "areNeighborCells"; options = Cell ∷ To ∷ Table ∷ [] }
-entry_of name.CellsToDirectedEdge = record { word = codes "cellsToDirectedEdge"; options = Cell ∷ To ∷ Table ∷ [] }
-entry_of name.IsValidDirectedEdge = record { word = codes "isValidDirectedEdge"; options = Edge ∷ [] }
-entry_of name.GetDirectedEdgeOrigin = record { word = codes "getDirectedEdgeOrigin"; options = Edge ∷ [] }
-entry_of name.GetDirectedEdgeDestination = record { word = codes "getDirectedEdgeDestination"; options = Edge ∷ Table ∷ [] }
-entry_of name.OriginToDirectedEdges = record { word = codes "originToDirectedEdges"; options = Cell ∷ [] }
+entry_of name.IntersectCells = record { word = codes "intersectCells"; options = option.Region ∷ list_options }
+entry_of name.SubtractCells = record { word = codes "subtractCells"; options = option.Region ∷ list_options }
+entry_of name.AreCoveredCells = record { word = codes "areCoveredCells"; options = option.Region ∷ line_options }
+entry_of name.CellsToZones = record { word = codes "cellsToZones"; options = option.Zones ∷ line_options }
+entry_of name.CountCellsInZones = record { word = codes "countCellsInZones"; options = option.Zones ∷ list_options }
+entry_of name.GridDiskUnsafe = record { word = codes "gridDiskUnsafe"; options = option.Cell ∷ option.Radius ∷ option.Table ∷ [] }
+entry_of name.GridDiskDistancesUnsafe = record { word = codes "gridDiskDistancesUnsafe"; options = option.Cell ∷ option.Radius ∷ option.Table ∷ [] }
+entry_of name.GridRingUnsafe = record { word = codes "gridRingUnsafe"; options = option.Cell ∷ option.Radius ∷ option.Table ∷ [] }
+entry_of name.AreNeighborCells = record { word = codes "areNeighborCells"; options = option.Cell ∷ option.To ∷ option.Table ∷ [] }
+entry_of name.CellsToDirectedEdge = record { word = codes "cellsToDirectedEdge"; options = option.Cell ∷ option.To ∷ option.Table ∷ [] }
+entry_of name.IsValidDirectedEdge = record { word = codes "isValidDirectedEdge"; options = option.Edge ∷ [] }
+entry_of name.GetDirectedEdgeOrigin = record { word = codes "getDirectedEdgeOrigin"; options = option.Edge ∷ [] }
+entry_of name.GetDirectedEdgeDestination = record { word = codes "getDirectedEdgeDestination"; options = option.Edge ∷ option.Table ∷ [] }
+entry_of name.OriginToDirectedEdges = record { word = codes "originToDirectedEdges"; options = option.Cell ∷ [] }
 entry_of name.AreValidCells = record { word = codes "areValidCells"; options = line_options }
 entry_of name.AreValidDirectedEdges = record { word = codes "areValidDirectedEdges"; options = line_options }
 entry_of name.GetResolutions = record { word = codes "getResolutions"; options = line_options }
 entry_of name.GetBaseCellNumbers = record { word = codes "getBaseCellNumbers"; options = line_options }
 entry_of name.ArePentagons = record { word = codes "arePentagons"; options = line_options }
 entry_of name.AreResClassIII = record { word = codes "areResClassIII"; options = line_options }
-entry_of name.CellsToParents = record { word = codes "cellsToParents"; options = Resolution ∷ line_options }
-entry_of name.CellsToCenterChildren = record { word = codes "cellsToCenterChildren"; options = Resolution ∷ line_options }
-entry_of name.CellsToLastChildren = record { word = codes "cellsToLastChildren"; options = Resolution ∷ line_options }
-entry_of name.CellsToChildren = record { word = codes "cellsToChildren"; options = Resolution ∷ line_options }
-entry_of name.CellsToChildrenSizes = record { word = codes "cellsToChildrenSizes"; options = Resolution ∷ line_options }
-entry_of name.CellsToChildPositions = record { word = codes "cellsToChildPositions"; options = Resolution ∷ line_options }
-entry_of name.GridDisksUnsafe = record { word = codes "gridDisksUnsafe"; options = Radius ∷ Table ∷ line_options }
-entry_of name.GridDisksDistancesUnsafe = record { word = codes "gridDisksDistancesUnsafe"; options = Radius ∷ Table ∷ line_options }
-entry_of name.GridRingsUnsafe = record { word = codes "gridRingsUnsafe"; options = Radius ∷ Table ∷ line_options }
+entry_of name.CellsToParents = record { word = codes "cellsToParents"; options = option.Resolution ∷ line_options }
+entry_of name.CellsToCenterChildren = record { word = codes "cellsToCenterChildren"; options = option.Resolution ∷ line_options }
+entry_of name.CellsToLastChildren = record { word = codes "cellsToLastChildren"; options = option.Resolution ∷ line_options }
+entry_of name.CellsToChildren = record { word = codes "cellsToChildren"; options = option.Resolution ∷ line_options }
+entry_of name.CellsToChildrenSizes = record { word = codes "cellsToChildrenSizes"; options = option.Resolution ∷ line_options }
+entry_of name.CellsToChildPositions = record { word = codes "cellsToChildPositions"; options = option.Resolution ∷ line_options }
+entry_of name.GridDisksUnsafe = record { word = codes "gridDisksUnsafe"; options = option.Radius ∷ option.Table ∷ line_options }
+entry_of name.GridDisksDistancesUnsafe = record { word = codes "gridDisksDistancesUnsafe"; options = option.Radius ∷ option.Table ∷ line_options }
+entry_of name.GridRingsUnsafe = record { word = codes "gridRingsUnsafe"; options = option.Radius ∷ option.Table ∷ line_options }
 entry_of name.GetDirectedEdgeOrigins = record { word = codes "getDirectedEdgeOrigins"; options = line_options }
-entry_of name.GetDirectedEdgeDestinations = record { word = codes "getDirectedEdgeDestinations"; options = Table ∷ line_options }
+entry_of name.GetDirectedEdgeDestinations = record { word = codes "getDirectedEdgeDestinations"; options = option.Table ∷ line_options }
 entry_of name.OriginsToDirectedEdges = record { word = codes "originsToDirectedEdges"; options = line_options }
 
 -- the word that names the command
@@ -115,57 +115,57 @@ pub data Value : Type 0 where
 
 -- call_of command: the name of a `Command`, and the values that it has for its options
 abbrev pub call_of : Command → CommandName × List Value
-call_of (command.IsValidCell cell) = (name.IsValidCell, Index Cell cell ∷ [])
-call_of (command.GetResolution cell) = (name.GetResolution, Index Cell cell ∷ [])
-call_of (command.GetBaseCellNumber cell) = (name.GetBaseCellNumber, Index Cell cell ∷ [])
-call_of (command.IsPentagon cell) = (name.IsPentagon, Index Cell cell ∷ [])
-call_of (command.IsResClassIII cell) = (name.IsResClassIII, Index Cell cell ∷ [])
-call_of (command.GetNumCells res) = (name.GetNumCells, Number Resolution res ∷ [])
+call_of (command.IsValidCell cell) = (name.IsValidCell, Index option.Cell cell ∷ [])
+call_of (command.GetResolution cell) = (name.GetResolution, Index option.Cell cell ∷ [])
+call_of (command.GetBaseCellNumber cell) = (name.GetBaseCellNumber, Index option.Cell cell ∷ [])
+call_of (command.IsPentagon cell) = (name.IsPentagon, Index option.Cell cell ∷ [])
+call_of (command.IsResClassIII cell) = (name.IsResClassIII, Index option.Cell cell ∷ [])
+call_of (command.GetNumCells res) = (name.GetNumCells, Number option.Resolution res ∷ [])
 call_of command.GetRes0Cells = (name.GetRes0Cells, [])
-call_of (command.GetPentagons res) = (name.GetPentagons, Number Resolution res ∷ [])
-call_of (command.CellToParent cell res) = (name.CellToParent, Index Cell cell ∷ Number Resolution res ∷ [])
-call_of (command.CellToCenterChild cell res) = (name.CellToCenterChild, Index Cell cell ∷ Number Resolution res ∷ [])
-call_of (command.CellToLastChild cell res) = (name.CellToLastChild, Index Cell cell ∷ Number Resolution res ∷ [])
-call_of (command.CellToChildren cell res) = (name.CellToChildren, Index Cell cell ∷ Number Resolution res ∷ [])
-call_of (command.CellToChildrenSize cell res) = (name.CellToChildrenSize, Index Cell cell ∷ Number Resolution res ∷ [])
-call_of (command.CellToChildPos cell res) = (name.CellToChildPos, Index Cell cell ∷ Number Resolution res ∷ [])
+call_of (command.GetPentagons res) = (name.GetPentagons, Number option.Resolution res ∷ [])
+call_of (command.CellToParent cell res) = (name.CellToParent, Index option.Cell cell ∷ Number option.Resolution res ∷ [])
+call_of (command.CellToCenterChild cell res) = (name.CellToCenterChild, Index option.Cell cell ∷ Number option.Resolution res ∷ [])
+call_of (command.CellToLastChild cell res) = (name.CellToLastChild, Index option.Cell cell ∷ Number option.Resolution res ∷ [])
+call_of (command.CellToChildren cell res) = (name.CellToChildren, Index option.Cell cell ∷ Number option.Resolution res ∷ [])
+call_of (command.CellToChildrenSize cell res) = (name.CellToChildrenSize, Index option.Cell cell ∷ Number option.Resolution res ∷ [])
+call_of (command.CellToChildPos cell res) = (name.CellToChildPos, Index option.Cell cell ∷ Number option.Resolution res ∷ [])
 call_of (command.ChildPosToCell position cell res) =
-    (name.ChildPosToCell, Number Position (pos position) ∷ Index Cell cell ∷ Number Resolution res ∷ [])
+    (name.ChildPosToCell, Number option.Position (pos position) ∷ Index option.Cell cell ∷ Number option.Resolution res ∷ [])
 call_of command.CompactCells = (name.CompactCells, [])
-call_of (command.UncompactCells res) = (name.UncompactCells, Number Resolution res ∷ [])
-call_of (command.UncompactCellsSize res) = (name.UncompactCellsSize, Number Resolution res ∷ [])
+call_of (command.UncompactCells res) = (name.UncompactCells, Number option.Resolution res ∷ [])
+call_of (command.UncompactCellsSize res) = (name.UncompactCellsSize, Number option.Resolution res ∷ [])
 call_of command.UniteCells = (name.UniteCells, [])
 call_of command.IntersectCells = (name.IntersectCells, [])
 call_of command.SubtractCells = (name.SubtractCells, [])
 call_of command.AreCoveredCells = (name.AreCoveredCells, [])
 call_of command.CellsToZones = (name.CellsToZones, [])
 call_of command.CountCellsInZones = (name.CountCellsInZones, [])
-call_of (command.GridDiskUnsafe cell k) = (name.GridDiskUnsafe, Index Cell cell ∷ Number Radius k ∷ [])
-call_of (command.GridDiskDistancesUnsafe cell k) = (name.GridDiskDistancesUnsafe, Index Cell cell ∷ Number Radius k ∷ [])
-call_of (command.GridRingUnsafe cell k) = (name.GridRingUnsafe, Index Cell cell ∷ Number Radius k ∷ [])
-call_of (command.AreNeighborCells cell to) = (name.AreNeighborCells, Index Cell cell ∷ Index To to ∷ [])
-call_of (command.CellsToDirectedEdge cell to) = (name.CellsToDirectedEdge, Index Cell cell ∷ Index To to ∷ [])
-call_of (command.IsValidDirectedEdge edge) = (name.IsValidDirectedEdge, Index Edge edge ∷ [])
-call_of (command.GetDirectedEdgeOrigin edge) = (name.GetDirectedEdgeOrigin, Index Edge edge ∷ [])
-call_of (command.GetDirectedEdgeDestination edge) = (name.GetDirectedEdgeDestination, Index Edge edge ∷ [])
-call_of (command.OriginToDirectedEdges cell) = (name.OriginToDirectedEdges, Index Cell cell ∷ [])
+call_of (command.GridDiskUnsafe cell k) = (name.GridDiskUnsafe, Index option.Cell cell ∷ Number option.Radius k ∷ [])
+call_of (command.GridDiskDistancesUnsafe cell k) = (name.GridDiskDistancesUnsafe, Index option.Cell cell ∷ Number option.Radius k ∷ [])
+call_of (command.GridRingUnsafe cell k) = (name.GridRingUnsafe, Index option.Cell cell ∷ Number option.Radius k ∷ [])
+call_of (command.AreNeighborCells cell to) = (name.AreNeighborCells, Index option.Cell cell ∷ Index option.To to ∷ [])
+call_of (command.CellsToDirectedEdge cell to) = (name.CellsToDirectedEdge, Index option.Cell cell ∷ Index option.To to ∷ [])
+call_of (command.IsValidDirectedEdge edge) = (name.IsValidDirectedEdge, Index option.Edge edge ∷ [])
+call_of (command.GetDirectedEdgeOrigin edge) = (name.GetDirectedEdgeOrigin, Index option.Edge edge ∷ [])
+call_of (command.GetDirectedEdgeDestination edge) = (name.GetDirectedEdgeDestination, Index option.Edge edge ∷ [])
+call_of (command.OriginToDirectedEdges cell) = (name.OriginToDirectedEdges, Index option.Cell cell ∷ [])
 call_of (command.ForEach each.IsValidCell) = (name.AreValidCells, [])
 call_of (command.ForEach each.IsValidDirectedEdge) = (name.AreValidDirectedEdges, [])
 call_of (command.ForEach each.GetResolution) = (name.GetResolutions, [])
 call_of (command.ForEach each.GetBaseCellNumber) = (name.GetBaseCellNumbers, [])
 call_of (command.ForEach each.IsPentagon) = (name.ArePentagons, [])
 call_of (command.ForEach each.IsResClassIII) = (name.AreResClassIII, [])
-call_of (command.ForEach (each.CellToParent res)) = (name.CellsToParents, Number Resolution res ∷ [])
-call_of (command.ForEach (each.CellToCenterChild res)) = (name.CellsToCenterChildren, Number Resolution res ∷ [])
-call_of (command.ForEach (each.CellToLastChild res)) = (name.CellsToLastChildren, Number Resolution res ∷ [])
-call_of (command.ForEach (each.CellToChildrenSize res)) = (name.CellsToChildrenSizes, Number Resolution res ∷ [])
-call_of (command.ForEach (each.CellToChildPos res)) = (name.CellsToChildPositions, Number Resolution res ∷ [])
+call_of (command.ForEach (each.CellToParent res)) = (name.CellsToParents, Number option.Resolution res ∷ [])
+call_of (command.ForEach (each.CellToCenterChild res)) = (name.CellsToCenterChildren, Number option.Resolution res ∷ [])
+call_of (command.ForEach (each.CellToLastChild res)) = (name.CellsToLastChildren, Number option.Resolution res ∷ [])
+call_of (command.ForEach (each.CellToChildrenSize res)) = (name.CellsToChildrenSizes, Number option.Resolution res ∷ [])
+call_of (command.ForEach (each.CellToChildPos res)) = (name.CellsToChildPositions, Number option.Resolution res ∷ [])
 call_of (command.ForEach each.GetDirectedEdgeOrigin) = (name.GetDirectedEdgeOrigins, [])
 call_of (command.ForEach each.OriginToDirectedEdges) = (name.OriginsToDirectedEdges, [])
-call_of (command.CellsToChildren res) = (name.CellsToChildren, Number Resolution res ∷ [])
-call_of (command.GridDisksUnsafe k) = (name.GridDisksUnsafe, Number Radius k ∷ [])
-call_of (command.GridDisksDistancesUnsafe k) = (name.GridDisksDistancesUnsafe, Number Radius k ∷ [])
-call_of (command.GridRingsUnsafe k) = (name.GridRingsUnsafe, Number Radius k ∷ [])
+call_of (command.CellsToChildren res) = (name.CellsToChildren, Number option.Resolution res ∷ [])
+call_of (command.GridDisksUnsafe k) = (name.GridDisksUnsafe, Number option.Radius k ∷ [])
+call_of (command.GridDisksDistancesUnsafe k) = (name.GridDisksDistancesUnsafe, Number option.Radius k ∷ [])
+call_of (command.GridRingsUnsafe k) = (name.GridRingsUnsafe, Number option.Radius k ∷ [])
 call_of command.GetDirectedEdgeDestinations = (name.GetDirectedEdgeDestinations, [])
 
 -- the name of a command

@@ -8,7 +8,7 @@ use Rattle.clap.specs.declared.builder.value_parser.ValueParser.TheVariants.{Sig
 use Rattle.h3_words.specs.declared.options.CommandFile.{CommandFile}
 use Rattle.h3_words.specs.declared.options.CommandFile.TheVariants as file
 use Rattle.h3_words.specs.declared.options.CommandOption.{CommandOption}
-use Rattle.h3_words.specs.declared.options.CommandOption.TheVariants.{Cell, Resolution, Radius, To, Position, Edge, Table, Region, Zones, Field, Column, Header, Separator, Csv, As, KeepGoing}
+use Rattle.h3_words.specs.declared.options.CommandOption.TheVariants as option
 
 -- an option: its id in `clap`, the character after one hyphen and the name after two hyphens, if it has such names, the
 -- least that its number may be and the most, or no most where its value is any text, whether each command that has it
@@ -42,22 +42,22 @@ of_rows id name =
 
 -- option_entry o: the names of an option, the numbers that its value may be, and whether it is required and a flag
 abbrev pub option_entry : CommandOption → OptionEntry
-option_entry Cell = required (codes "cell") (Some 99) (Some (codes "cell")) None
-option_entry Resolution = required (codes "resolution") (Some 114) (Some (codes "resolution")) (Some i32_max)
-option_entry Radius = required (codes "k") (Some 107) None (Some i32_max)
-option_entry To = required (codes "to") None (Some (codes "to")) None
-option_entry Position = required (codes "position") None (Some (codes "position")) (Some i64_max)
-option_entry Edge = required (codes "edge") None (Some (codes "edge")) None
-option_entry Table = required (codes "table") None (Some (codes "table")) None
-option_entry Region = required (codes "region") None (Some (codes "region")) None
-option_entry Zones = required (codes "zones") None (Some (codes "zones")) None
-option_entry Field = record (of_rows (codes "number") (codes "field")) { least = pos 1; most = Some (pos 65535) }
-option_entry Column = of_rows (codes "column") (codes "column")
-option_entry Header = record (of_rows (codes "header") (codes "header")) { is_flag = true }
-option_entry Separator = of_rows (codes "separator") (codes "separator")
-option_entry Csv = record (of_rows (codes "csv") (codes "csv")) { is_flag = true }
-option_entry As = of_rows (codes "name") (codes "as")
-option_entry KeepGoing = record (of_rows (codes "keep-going") (codes "keep-going")) { is_flag = true }
+option_entry option.Cell = required (codes "cell") (Some 99) (Some (codes "cell")) None
+option_entry option.Resolution = required (codes "resolution") (Some 114) (Some (codes "resolution")) (Some i32_max)
+option_entry option.Radius = required (codes "k") (Some 107) None (Some i32_max)
+option_entry option.To = required (codes "to") None (Some (codes "to")) None
+option_entry option.Position = required (codes "position") None (Some (codes "position")) (Some i64_max)
+option_entry option.Edge = required (codes "edge") None (Some (codes "edge")) None
+option_entry option.Table = required (codes "table") None (Some (codes "table")) None
+option_entry option.Region = required (codes "region") None (Some (codes "region")) None
+option_entry option.Zones = required (codes "zones") None (Some (codes "zones")) None
+option_entry option.Field = record (of_rows (codes "number") (codes "field")) { least = pos 1; most = Some (pos 65535) }
+option_entry option.Column = of_rows (codes "column") (codes "column")
+option_entry option.Header = record (of_rows (codes "header") (codes "header")) { is_flag = true }
+option_entry option.Separator = of_rows (codes "separator") (codes "separator")
+option_entry option.Csv = record (of_rows (codes "csv") (codes "csv")) { is_flag = true }
+option_entry option.As = of_rows (codes "name") (codes "as")
+option_entry option.KeepGoing = record (of_rows (codes "keep-going") (codes "keep-going")) { is_flag = true }
 
 -- the option's id in `clap`
 abbrev pub id_of : CommandOption → Text
@@ -133,9 +133,9 @@ rule_for o = record (named_rule o) {
 
 -- the option by which a file of this kind is named
 abbrev pub option_of_file : CommandFile → CommandOption
-option_of_file (file.Table path) = Table
-option_of_file (file.Region path) = Region
-option_of_file (file.Zones path) = Zones
+option_of_file (file.Table path) = option.Table
+option_of_file (file.Region path) = option.Region
+option_of_file (file.Zones path) = option.Zones
 
 -- the file's path
 abbrev pub path_of : CommandFile → Text

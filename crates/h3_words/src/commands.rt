@@ -4,16 +4,14 @@ ghost use Rattle.std.specs.Prelude.{◌≡◌, Option, IfOk, find, false, option
 ghost use Rattle.std.specs.Str.{bytes_eq};
 ghost use Rattle.clap.specs.Words.{Text, app_of, found_of, shape_of};
 ghost use Rattle.clap.specs.declared.builder.command.Command.TheViews.{out-Command};
-ghost use Rattle.h3_words.specs.Commands.{Number, app_with, command_names, has_option, name_of_command, options_of, shape_for, values_of_command, word_of};
+ghost use Rattle.h3_words.specs.Commands.{Index, Number, app_with, command_names, has_option, name_of_command, options_of, shape_for, values_of_command, word_of};
 ghost use Rattle.h3_words.specs.Values.{AreFound, AreRead, HasFile, HasPath, IsRead};
 ghost use Rattle.h3_words.specs.declared.options.CommandOption.{CommandOption};
-ghost use Rattle.h3_words.specs.declared.options.CommandOption.TheVariants.{Position, Radius, Resolution};
 
 use crate::help::HELP;
 use crate::options::CommandFile;
-use crate::options::CommandOption::{
-    self, Cell, Edge, Position, Radius, Region, Resolution, Table, To, Zones,
-};
+use crate::options::CommandOption::{self, *};
+use crate::table::commands;
 use clap::{ArgMatches, Command as Parser};
 use h3_requests::{Command, IndexFunction};
 use std::alloc::{AllocError, Global};
@@ -74,66 +72,76 @@ pub enum CommandName {
     OriginsToDirectedEdges,
 }
 
-/// All names of commands.
-pub(crate) static COMMAND_NAMES: [CommandName; 51] = [
-    CommandName::IsValidCell,
-    CommandName::GetResolution,
-    CommandName::GetBaseCellNumber,
-    CommandName::IsPentagon,
-    CommandName::IsResClassIII,
-    CommandName::GetNumCells,
-    CommandName::GetRes0Cells,
-    CommandName::GetPentagons,
-    CommandName::CellToParent,
-    CommandName::CellToCenterChild,
-    CommandName::CellToLastChild,
-    CommandName::CellToChildren,
-    CommandName::CellToChildrenSize,
-    CommandName::CellToChildPos,
-    CommandName::ChildPosToCell,
-    CommandName::CompactCells,
-    CommandName::UncompactCells,
-    CommandName::UncompactCellsSize,
-    CommandName::UniteCells,
-    CommandName::IntersectCells,
-    CommandName::SubtractCells,
-    CommandName::AreCoveredCells,
-    CommandName::CellsToZones,
-    CommandName::CountCellsInZones,
-    CommandName::GridDiskUnsafe,
-    CommandName::GridDiskDistancesUnsafe,
-    CommandName::GridRingUnsafe,
-    CommandName::AreNeighborCells,
-    CommandName::CellsToDirectedEdge,
-    CommandName::IsValidDirectedEdge,
-    CommandName::GetDirectedEdgeOrigin,
-    CommandName::GetDirectedEdgeDestination,
-    CommandName::OriginToDirectedEdges,
-    CommandName::AreValidCells,
-    CommandName::AreValidDirectedEdges,
-    CommandName::GetResolutions,
-    CommandName::GetBaseCellNumbers,
-    CommandName::ArePentagons,
-    CommandName::AreResClassIII,
-    CommandName::CellsToParents,
-    CommandName::CellsToCenterChildren,
-    CommandName::CellsToLastChildren,
-    CommandName::CellsToChildren,
-    CommandName::CellsToChildrenSizes,
-    CommandName::CellsToChildPositions,
-    CommandName::GridDisksUnsafe,
-    CommandName::GridDisksDistancesUnsafe,
-    CommandName::GridRingsUnsafe,
-    CommandName::GetDirectedEdgeOrigins,
-    CommandName::GetDirectedEdgeDestinations,
-    CommandName::OriginsToDirectedEdges,
-];
-
-// A command with the values of these options, each asked for by what has the name of its field.
-macro_rules! asked {
-    ($command:ident, $($field:ident),+) => {
-        Command::$command { $($field: $field()),+ }
+// The names of all rows of the table.
+macro_rules! names {
+    ($($name:ident $entry:tt $asked:tt $line:tt $texts:tt;)*) => {
+        &[$(CommandName::$name),*]
     };
+}
+
+/// All names of commands, in the order of their table.
+pub(crate) static COMMAND_NAMES: &[CommandName] = commands!(names!);
+
+// A command with the values of these fields, each read by the function of its name; or, behind `each`, one that asks a
+// function of one index of each index of a list.
+macro_rules! asked {
+    ($matches:ident: each $function:ident { $($field:ident),* }) => {
+        Command::ForEach(IndexFunction::$function { $($field: $field($matches)),* })
+    };
+    ($matches:ident: $command:ident { $($field:ident),* }) => {
+        Command::$command { $($field: $field($matches)),* }
+    };
+}
+
+// What the command that is this name asks for, by what a parse found.
+macro_rules! asked_of_name {
+    ($value:ident $matches:ident; $($name:ident $entry:tt ($($asked:tt)*) $line:tt $texts:tt;)*) => {
+        match $value {
+            $(CommandName::$name => asked!($matches: $($asked)*)),*
+        }
+    };
+}
+
+/// The index of the cell that a parse found.
+fn cell(matches: &ArgMatches<'_>) -> Option<u64>
+    ensures { IsRead (found_of matches.now) (Index CommandOption.Cell result) }
+{
+    Cell.index(matches)
+}
+
+/// The index of the second cell that a parse found.
+fn to(matches: &ArgMatches<'_>) -> Option<u64>
+    ensures { IsRead (found_of matches.now) (Index CommandOption.To result) }
+{
+    To.index(matches)
+}
+
+/// The index of the edge that a parse found.
+fn edge(matches: &ArgMatches<'_>) -> Option<u64>
+    ensures { IsRead (found_of matches.now) (Index CommandOption.Edge result) }
+{
+    Edge.index(matches)
+}
+
+/// The resolution that a parse found.
+fn res(matches: &ArgMatches<'_>) -> i32
+    ensures { IsRead (found_of matches.now) (Number CommandOption.Resolution result) }
+{
+    Resolution.number(matches) as i32
+}
+
+/// The radius that a parse found.
+fn k(matches: &ArgMatches<'_>) -> i32
+    ensures { IsRead (found_of matches.now) (Number CommandOption.Radius result) }
+{
+    Radius.number(matches) as i32
+}
+
+/// The position that a parse found.
+fn position(matches: &ArgMatches<'_>) -> u64
+    ensures { IsRead (found_of matches.now) (Number CommandOption.Position (pos result)) }
+{
+    Position.number(matches) as u64
 }
 
 impl CommandName {
@@ -178,87 +186,7 @@ impl CommandName {
         ensures named { name_of_command result ≡ self }
         ensures values { AreRead self (found_of matches.now) (values_of_command result) }
     {
-        let cell = || Cell.index(matches);
-        let to = || To.index(matches);
-        let edge = || Edge.index(matches);
-        let res = || -> i32
-            ensures { IsRead (found_of matches.entry.now) (Number Resolution result) }
-        { Resolution.number(matches) as i32 };
-        let k = || -> i32
-            ensures { IsRead (found_of matches.entry.now) (Number Radius result) }
-        { Radius.number(matches) as i32 };
-        let position = || -> u64
-            ensures { IsRead (found_of matches.entry.now) (Number Position (pos result)) }
-        { Position.number(matches) as u64 };
-        match self {
-            CommandName::IsValidCell => asked!(IsValidCell, cell),
-            CommandName::GetResolution => asked!(GetResolution, cell),
-            CommandName::GetBaseCellNumber => asked!(GetBaseCellNumber, cell),
-            CommandName::IsPentagon => asked!(IsPentagon, cell),
-            CommandName::IsResClassIII => asked!(IsResClassIII, cell),
-            CommandName::GetNumCells => asked!(GetNumCells, res),
-            CommandName::GetRes0Cells => Command::GetRes0Cells,
-            CommandName::GetPentagons => asked!(GetPentagons, res),
-            CommandName::CellToParent => asked!(CellToParent, cell, res),
-            CommandName::CellToCenterChild => asked!(CellToCenterChild, cell, res),
-            CommandName::CellToLastChild => asked!(CellToLastChild, cell, res),
-            CommandName::CellToChildren => asked!(CellToChildren, cell, res),
-            CommandName::CellToChildrenSize => asked!(CellToChildrenSize, cell, res),
-            CommandName::CellToChildPos => asked!(CellToChildPos, cell, res),
-            CommandName::ChildPosToCell => asked!(ChildPosToCell, position, cell, res),
-            CommandName::CompactCells => Command::CompactCells,
-            CommandName::UncompactCells => asked!(UncompactCells, res),
-            CommandName::UncompactCellsSize => asked!(UncompactCellsSize, res),
-            CommandName::UniteCells => Command::UniteCells,
-            CommandName::IntersectCells => Command::IntersectCells,
-            CommandName::SubtractCells => Command::SubtractCells,
-            CommandName::AreCoveredCells => Command::AreCoveredCells,
-            CommandName::CellsToZones => Command::CellsToZones,
-            CommandName::CountCellsInZones => Command::CountCellsInZones,
-            CommandName::GridDiskUnsafe => asked!(GridDiskUnsafe, cell, k),
-            CommandName::GridDiskDistancesUnsafe => asked!(GridDiskDistancesUnsafe, cell, k),
-            CommandName::GridRingUnsafe => asked!(GridRingUnsafe, cell, k),
-            CommandName::AreNeighborCells => asked!(AreNeighborCells, cell, to),
-            CommandName::CellsToDirectedEdge => asked!(CellsToDirectedEdge, cell, to),
-            CommandName::IsValidDirectedEdge => asked!(IsValidDirectedEdge, edge),
-            CommandName::GetDirectedEdgeOrigin => asked!(GetDirectedEdgeOrigin, edge),
-            CommandName::GetDirectedEdgeDestination => asked!(GetDirectedEdgeDestination, edge),
-            CommandName::OriginToDirectedEdges => asked!(OriginToDirectedEdges, cell),
-            CommandName::AreValidCells => Command::ForEach(IndexFunction::IsValidCell),
-            CommandName::AreValidDirectedEdges => Command::ForEach(
-                IndexFunction::IsValidDirectedEdge,
-            ),
-            CommandName::GetResolutions => Command::ForEach(IndexFunction::GetResolution),
-            CommandName::GetBaseCellNumbers => Command::ForEach(IndexFunction::GetBaseCellNumber),
-            CommandName::ArePentagons => Command::ForEach(IndexFunction::IsPentagon),
-            CommandName::AreResClassIII => Command::ForEach(IndexFunction::IsResClassIII),
-            CommandName::CellsToParents => Command::ForEach(IndexFunction::CellToParent {
-                res: res(),
-            }),
-            CommandName::CellsToCenterChildren => Command::ForEach(
-                IndexFunction::CellToCenterChild { res: res() },
-            ),
-            CommandName::CellsToLastChildren => Command::ForEach(IndexFunction::CellToLastChild {
-                res: res(),
-            }),
-            CommandName::CellsToChildren => asked!(CellsToChildren, res),
-            CommandName::CellsToChildrenSizes => Command::ForEach(
-                IndexFunction::CellToChildrenSize { res: res() },
-            ),
-            CommandName::CellsToChildPositions => Command::ForEach(IndexFunction::CellToChildPos {
-                res: res(),
-            }),
-            CommandName::GridDisksUnsafe => asked!(GridDisksUnsafe, k),
-            CommandName::GridDisksDistancesUnsafe => asked!(GridDisksDistancesUnsafe, k),
-            CommandName::GridRingsUnsafe => asked!(GridRingsUnsafe, k),
-            CommandName::GetDirectedEdgeOrigins => Command::ForEach(
-                IndexFunction::GetDirectedEdgeOrigin,
-            ),
-            CommandName::GetDirectedEdgeDestinations => Command::GetDirectedEdgeDestinations,
-            CommandName::OriginsToDirectedEdges => Command::ForEach(
-                IndexFunction::OriginToDirectedEdges,
-            ),
-        }
+        commands!(asked_of_name! self matches;)
     }
 
     /// Whether the command has the option.

@@ -6,10 +6,6 @@ ghost use Rattle.clap.specs.Words.{IsSignedIn, Text, first_value, found_of, rule
 ghost use Rattle.h3_index.specs.Text.{parsed_index};
 ghost use Rattle.h3_words.specs.Options.{id_of, is_required, named_rule, number_from, number_up_to, option_entry, path_of, rule_for};
 
-use CommandOption::{
-    As, Cell, Column, Csv, Edge, Field, Header, KeepGoing, Position, Radius, Region, Resolution,
-    Separator, Table, To, Zones,
-};
 use clap::{Arg, ArgAction, ArgMatches, value_parser};
 use h3_index::read_index;
 use std::alloc::Global;
@@ -155,8 +151,92 @@ macro_rules! of_rows {
     };
 }
 
+// The table of all options: `options!(m! ARGS)` expands to `m! { ARGS ROWS }`. A row has:
+// - the option's name;
+// - its entry;
+// - what `tools/pages` takes of it for the manual page and the completions: what its value is called, what
+//   that is, and what zsh completes it with; of a flag, what it is.
+macro_rules! options {
+    ($made:ident! $($before:tt)*) => {
+        $made! {
+            $($before)*
+            Cell
+                [required!("cell", Some('c'), Some("cell"), None, "A cell's index in hexadecimal")]
+                ("CELL", "a cell", "cell:");
+            Resolution
+                [required!("resolution", Some('r'), Some("resolution"), Some(i64::from(i32::MAX)), "A resolution, 0 to 15")]
+                ("RESOLUTION", "a resolution", "resolution:({0..15})");
+            Radius
+                [required!("k", Some('k'), None, Some(i64::from(i32::MAX)), "A radius, from 0: how many steps of the grid")]
+                ("RADIUS", "a radius", "radius:");
+            To
+                [required!("to", None, Some("to"), None, "A second cell's index in hexadecimal")]
+                ("CELL", "a second cell", "cell:");
+            Position
+                [required!("position", None, Some("position"), Some(i64::MAX), "A position, from 0")]
+                ("N", "a position, from 0", "position:");
+            Edge
+                [required!("edge", None, Some("edge"), None, "A directed edge's index in hexadecimal")]
+                ("EDGE", "a directed edge", "edge:");
+            Table
+                [required!("table", None, Some("table"), None, "The base cell table: a file that h3-table makes")]
+                ("FILE", "the table of base cells", "file:_files");
+            Region
+                [required!("region", None, Some("region"), None, "The region: a file of one cell a line, no header")]
+                ("FILE", "the cells of the region", "file:_files");
+            Zones
+                [required!("zones", None, Some("zones"), None, "The zones: a file of one cell a line, no header")]
+                ("FILE", "the cells that are the zones", "file:_files");
+            Field
+                [OptionEntry {
+                        least: 1,
+                        most: Some(i64::from(u16::MAX)),
+                        ..of_rows!("number", "field", false, "Read rows; the number of the cell's field")
+                    }]
+                ("N", "the number of the field with the cell", "number:");
+            Column
+                [of_rows!("column", "column", false, "Read rows under a header; the cell's column")]
+                ("NAME", "the name of the column with the cell", "name:");
+            Header
+                [of_rows!("header", "header", true, "With --field: the first row is a header")]
+                ("the first row is a header");
+            Separator
+                [of_rows!("separator", "separator", false, "The byte between fields [tab; with --csv: comma]")]
+                ("BYTE", "the byte between fields", "byte:");
+            Csv
+                [of_rows!("csv", "csv", true, "Fields may be quoted, as in CSV")]
+                ("fields may be quoted");
+            As
+                [of_rows!("name", "as", false, "With a header: the name of the new column")]
+                ("NAME", "the name of the new column", "name:");
+            KeepGoing
+                [of_rows!("keep-going", "keep-going", true, "Leave the answer of a bad row empty, and go on")]
+                ("go on after a row with an error");
+        }
+    };
+}
+
+// All names of options.
+macro_rules! names {
+    ($($name:ident $entry:tt $page:tt;)*) => {
+        &[$(CommandOption::$name),*]
+    };
+}
+
+// The entry of the option that is this name.
+macro_rules! entry_of_name {
+    ($value:ident; $($name:ident [$entry:expr] $page:tt;)*) => {
+        match $value {
+            $(CommandOption::$name => $entry),*
+        }
+    };
+}
+
+/// All options, in the order of their table.
+pub(crate) static OPTIONS: &[CommandOption] = options!(names!);
+
 impl CommandOption {
-    /// The option's line in the table of all options.
+    /// The option's entry in the table of all options.
     fn entry<'a>(self) -> OptionEntry<'a>
         ensures { record {
           id = result.id.now;
@@ -168,112 +248,7 @@ impl CommandOption {
           is_flag = result.is_flag;
         } ≡ option_entry self }
     {
-        match self {
-            Cell => required!(
-                "cell",
-                Some('c'),
-                Some("cell"),
-                None,
-                "A cell's index in hexadecimal"
-            ),
-            Resolution => required!(
-                "resolution",
-                Some('r'),
-                Some("resolution"),
-                Some(i64::from(i32::MAX)),
-                "A resolution, 0 to 15"
-            ),
-            Radius => required!(
-                "k",
-                Some('k'),
-                None,
-                Some(i64::from(i32::MAX)),
-                "A radius, from 0: how many steps of the grid"
-            ),
-            To => required!(
-                "to",
-                None,
-                Some("to"),
-                None,
-                "A second cell's index in hexadecimal"
-            ),
-            Position => required!(
-                "position",
-                None,
-                Some("position"),
-                Some(i64::MAX),
-                "A position, from 0"
-            ),
-            Edge => required!(
-                "edge",
-                None,
-                Some("edge"),
-                None,
-                "A directed edge's index in hexadecimal"
-            ),
-            Table => required!(
-                "table",
-                None,
-                Some("table"),
-                None,
-                "The base cell table: a file that h3-table makes"
-            ),
-            Region => required!(
-                "region",
-                None,
-                Some("region"),
-                None,
-                "The region: a file of one cell a line, no header"
-            ),
-            Zones => required!(
-                "zones",
-                None,
-                Some("zones"),
-                None,
-                "The zones: a file of one cell a line, no header"
-            ),
-            Field => OptionEntry {
-                least: 1,
-                most: Some(i64::from(u16::MAX)),
-                ..of_rows!(
-                    "number",
-                    "field",
-                    false,
-                    "Read rows; the number of the cell's field"
-                )
-            },
-            Column => of_rows!(
-                "column",
-                "column",
-                false,
-                "Read rows under a header; the cell's column"
-            ),
-            Header => of_rows!(
-                "header",
-                "header",
-                true,
-                "With --field: the first row is a header"
-            ),
-            Separator => of_rows!(
-                "separator",
-                "separator",
-                false,
-                "The byte between fields [tab; with --csv: comma]"
-            ),
-            Csv => of_rows!("csv", "csv", true, "Fields may be quoted, as in CSV"),
-            As => of_rows!(
-                "name",
-                "as",
-                false,
-                "With a header: the name of the new column"
-            ),
-            KeepGoing => of_rows!(
-                "keep-going",
-                "keep-going",
-                true,
-                "Leave the answer of a bad row empty, and go on"
-            ),
-        }
+        options!(entry_of_name! self;)
     }
 
     /// The id of the option in `clap`.
@@ -333,6 +308,25 @@ impl CommandOption {
             Some(most) => argument.value_parser(value_parser!(i64).range(entry.least..=most)),
             None => argument,
         }
+    }
+
+    /// Whether a word is one of the names of the option.
+    fn is_named_by(self, word: &str) -> bool {
+        let entry = self.entry();
+        match (word.strip_prefix("--"), entry.short) {
+            (Some(name), _) => entry.long == Some(name),
+            (None, Some(short)) => {
+                word.strip_prefix('-')
+                    .and_then(|name| name.strip_prefix(short))
+                    == Some("")
+            }
+            (None, None) => false,
+        }
+    }
+
+    /// Whether the option takes a number, and a word is one of its names.
+    pub(crate) fn is_number_named_by(self, word: &str) -> bool {
+        self.entry().most.is_some() && self.is_named_by(word)
     }
 
     /// The text that a parse found for the option, which for a flag is `true`.

@@ -8,7 +8,7 @@ ghost use Rattle.h3_words.specs.Rows.{HasCellField, HasRows, found_texts, has_co
 ghost use Rattle.h3_words.specs.Values.{IsAccepted};
 ghost use Rattle.h3_words.specs.declared.options.CommandOption.TheVariants.{As, Field};
 
-use crate::options::CommandOption::{self, As, Column, Csv, Field, Header, KeepGoing, Separator};
+use crate::options::CommandOption::{self, *};
 use clap::ArgMatches;
 use h3_requests::{CellField, RowOptions, is_separator};
 use std::alloc::{AllocError, Global};

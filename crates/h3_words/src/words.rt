@@ -12,7 +12,7 @@ ghost use Rattle.h3_words.specs.Version.{asks_version};
 ghost use Rattle.h3_words.specs.declared.words.ArgsError.TheVariants.{Memory, Version};
 
 use crate::commands::{COMMAND_NAMES, CommandName, command_line};
-use crate::options::CommandFile;
+use crate::options::{CommandFile, OPTIONS};
 use crate::rows::{row_options, rows_agree, rows_fault};
 use clap::error::ErrorKind;
 use h3_requests::{Command, RowOptions};
@@ -88,10 +88,7 @@ fn is_negative(word: &str) -> bool {
 
 /// Whether a word is the name of an option that takes a number.
 fn names_a_number(word: &str) -> bool {
-    matches!(
-        word,
-        "-r" | "--resolution" | "-k" | "--position" | "--field"
-    )
+    OPTIONS.iter().any(|option| option.is_number_named_by(word))
 }
 
 /// The words, with each negative number that follows the name of an option that takes a number put
@@ -156,13 +153,13 @@ fn without_command(alloc: Global, words: &[String]) -> ArgsError
     requires unnamed { command_of (map string_bytes words.now) ≡ None }
     ensures { IsFaultOf (fault_of app (map string_bytes words.now)) result }
 {
-    let parser = match command_line(alloc, &COMMAND_NAMES) {
+    let parser = match command_line(alloc, COMMAND_NAMES) {
         Ok(parser) => parser,
         Err(_) => return ArgsError::Memory,
     };
     match parser.try_get_matches_from(words) {
         Ok(_) => unreachable!(),
-        Err(error) => ArgsError::from_parse(alloc, error, &COMMAND_NAMES, words),
+        Err(error) => ArgsError::from_parse(alloc, error, COMMAND_NAMES, words),
     }
 }
 
