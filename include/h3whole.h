@@ -17,7 +17,8 @@
  * overlaps nothing else that it is passed. If an array is too short for what is to be written, the error is
  * E_MEMORY_BOUNDS. No function keeps what it is passed. compactCells, uncompactCells, uniteCells, intersectCells,
  * subtractCells, zones, findOverlap and readTable alone take memory, by malloc, and free it before they return:
- * E_MEMORY_ALLOC, or H3W_TABLE_MEMORY, if they get none.
+ * E_MEMORY_ALLOC, or H3W_TABLE_MEMORY, if they get none. readTable uses up to 64 KiB of stack. For 512 cells or more,
+ * cellsToZones, areCoveredCells and countCellsInZones use up to 18 KiB.
  *
  * Threads. Each function may be called from any number of threads at once: the library has no variable that
  * changes. Two calls at once may read the same memory, and must not write to the same.
@@ -342,12 +343,14 @@ H3Error h3w_findOverlap(const H3Index *cells, size_t n, size_t *at, size_t *earl
 
 /* The `zoneCount` zones of each function below are all that h3w_zones has written for as many cells, or a copy of it.
  * With any others the behavior is undefined: memory outside of the arrays may be read or written. As of other arrays,
- * the pointer is not null if there are no zones. None of the functions takes memory. */
+ * the pointer is not null if there are no zones. A copy is one that this program has made: of zones from a file, call
+ * h3w_zones again. None of the functions takes memory. */
 
 /** Finds the zone of each of n cells.
  * @param out receives the zones; H3_NULL for a cell that has none, or where there is an error
  * @param at, room as those of the columns below
- * @return E_SUCCESS; E_CELL_INVALID: an index is not a valid cell; E_MEMORY_BOUNDS: room for fewer than n */
+ * @return E_SUCCESS; E_MEMORY_BOUNDS: room for fewer than n; nothing is written, `*at` neither; E_CELL_INVALID: an
+ * index is not a valid cell */
 H3Error h3w_cellsToZones(const H3Index *zones, size_t zoneCount, const H3Index *cells, size_t n, H3Index *out,
                          size_t room, size_t *at);
 

@@ -88,6 +88,21 @@ fn put_forty_nine(out: &mut [u64], place: usize, cell: Cell, unit: u64)
     }
 }
 
+/// [`put_one_level`], for a cell itself.
+#[inline(always)]
+fn put_itself(out: &mut [u64], place: usize, cell: Cell, r: u8) -> Option<usize>
+    requires within { place ≤ length out.old }
+    requires own { r ≡ resolution cell }
+    ensures end { result ≡ end_after place (length (descendants cell r)) (length out.old) }
+    ensures put { PutAfter place (descendants cell r) out.old out.new }
+{
+    if place >= out.len() {
+        return None;
+    }
+    out[place] = cell.raw();
+    Some(place + 1)
+}
+
 /// Puts the indexes of the children of a cell into the slots from a place on, as far as they go;
 /// their resolution is given. Returns the place after them, or `None` where there is too little
 /// room.
@@ -135,7 +150,7 @@ pub(crate) fn put_descendants(out: &mut [u64], place: usize, cell: Cell, r: u8) 
 {
     let levels = r - cell.resolution();
     if levels == 0 {
-        return put_cells_from(out, place, children_at(cell, r));
+        return put_itself(out, place, cell, r);
     }
     if levels == 1 {
         return put_one_level(out, place, cell, r);

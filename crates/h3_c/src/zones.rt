@@ -70,6 +70,36 @@ pub extern "C" fn h3w_zonesTable(zones: &[Cell], table: &mut [u32])
     write_table(&Zones::over(zones), table);
 }
 
+/// The most places of the table by which a long list is looked up if the caller provides none: 16 KiB
+/// on the stack.
+const TABLE: usize = 4096;
+
+/// The fewest cells of a long list.
+const LONG: usize = 512;
+
+/// Whether sixteen of the cells, evenly spaced, ascend by number.
+fn ascends(cells: &[u64]) -> bool
+    requires { 0 < length cells.now }
+{
+    let step = cells.len() / 16;
+    let last = cells.len() - 1;
+    let mut before = cells[0];
+    for part in 1..16 {
+        let next = cells[last.min(part * step)];
+        if before > next {
+            return false;
+        }
+        before = next;
+    }
+    true
+}
+
+/// Whether to look a list up by a table, which takes a pass over the zones to write: it has 512 cells or
+/// more, a fourth as many as zones, and does not ascend.
+fn is_long(cells: &[u64], zones: &[Cell]) -> bool {
+    cells.len() >= LONG && cells.len() >= zones.len() / 4 && !ascends(cells)
+}
+
 /// Zones in which cells are looked up, alone or with a table.
 #[derive(Drop)]
 enum Lookup<'a> {
@@ -105,17 +135,17 @@ impl<'a> Lookup<'a> {
         self.zones().zone_near(cell, place)
     }
 
-    /// Where the next indexes are looked for, as `Zones::look_ahead` has it; `None` if the first one's
-    /// zone is near the last place.
+    /// Where the next indexes are looked for, as `Zones::look_ahead` has it; `None` if they are looked
+    /// for from the last place, as `are_near` says.
     #[inline(always)]
     fn look_ahead(&self, indexes: &[u64], place: usize) -> Option<[usize; AHEAD]> {
-        match indexes.first() {
-            Some(first) if !self.zones().is_near(*first, place) => Some(match self {
-                Lookup::Near(zones) => zones.look_ahead(indexes),
-                Lookup::InTable(tabled) => tabled.look_ahead(indexes),
-            }),
-            _ => None,
+        if self.zones().are_near(indexes, place) {
+            return None;
         }
+        Some(match self {
+            Lookup::Near(zones) => zones.look_ahead(indexes),
+            Lookup::InTable(tabled) => tabled.look_ahead(indexes),
+        })
     }
 
     /// Whether a cell has a zone.
@@ -178,10 +208,29 @@ pub extern "C" fn h3w_cellsToZones(
     ensures place { at.new
         ≡ place_over (map (λ h. cell_to_zone zones.now h) cells.now) (length out.old) at.old }
 {
+    if is_long(cells, zones) {
+        return zones_of_long(zones, cells, out, at);
+    }
     let question = ZonesOf {
         zones: Lookup::Near(Zones::over(zones)),
     };
     fill(&question, cells, NULL, out, at)
+}
+
+/// `h3w_cellsToZones` of a long list.
+#[inline(never)]
+fn zones_of_long(zones: &[Cell], cells: &[u64], out: &mut [u64], at: &mut usize) -> u32
+    requires { IsZones zones.now }
+    ensures code { result
+        ≡ column_code (map (λ h. cell_to_zone zones.now h) cells.now) (length out.old) }
+    ensures values { out.new
+        ≡ column_over 0 (map (λ h. cell_to_zone zones.now h) cells.now) out.old }
+    ensures place { at.new
+        ≡ place_over (map (λ h. cell_to_zone zones.now h) cells.now) (length out.old) at.old }
+{
+    let mut table = [0; TABLE];
+    let room = TABLE.min(cells.len());
+    h3w_cellsToZonesByTable(zones, cells, &mut table[..room], out, at)
 }
 
 /// `h3w_cellsToZones` by a table, which is written into memory that is lent.
@@ -266,10 +315,29 @@ pub extern "C" fn h3w_areCoveredCells(
     ensures place { at.new ≡ place_over
         (map (λ h. truth_of (is_covered_cell zones.now h)) cells.now) (length out.old) at.old }
 {
+    if is_long(cells, zones) {
+        return covered_of_long(zones, cells, out, at);
+    }
     let question = CoveredBy {
         zones: Lookup::Near(Zones::over(zones)),
     };
     fill(&question, cells, NO_NUMBER, out, at)
+}
+
+/// `h3w_areCoveredCells` of a long list.
+#[inline(never)]
+fn covered_of_long(zones: &[Cell], cells: &[u64], out: &mut [i32], at: &mut usize) -> u32
+    requires { IsZones zones.now }
+    ensures code { result ≡ column_code
+        (map (λ h. truth_of (is_covered_cell zones.now h)) cells.now) (length out.old) }
+    ensures values { out.new ≡ column_over (negsuc 0)
+        (map (λ h. truth_of (is_covered_cell zones.now h)) cells.now) out.old }
+    ensures place { at.new ≡ place_over
+        (map (λ h. truth_of (is_covered_cell zones.now h)) cells.now) (length out.old) at.old }
+{
+    let mut table = [0; TABLE];
+    let room = TABLE.min(cells.len());
+    h3w_areCoveredCellsByTable(zones, cells, &mut table[..room], out, at)
 }
 
 /// `h3w_areCoveredCells` by a table, which is written into memory that is lent.
@@ -420,8 +488,35 @@ pub extern "C" fn h3w_countCellsInZones(
     ensures all { result ≡ 0 →
         sum (take (length zones.now) counts.new) + others.new ≡ length cells.now }
 {
+    if is_long(cells, zones) {
+        return counts_of_long(zones, cells, counts, others, at);
+    }
     let lookup = Lookup::Near(Zones::over(zones));
     count_judged(&lookup, zones.len(), cells, counts, others, at)
+}
+
+/// `h3w_countCellsInZones` of a long list.
+#[inline(never)]
+fn counts_of_long(
+    zones: &[Cell],
+    cells: &[u64],
+    counts: &mut [u64],
+    others: &mut u64,
+    at: &mut usize,
+) -> u32
+    requires { IsZones zones.now }
+    ensures code { result ≡ counts_code zones.now cells.now (length counts.old) }
+    ensures counts { counts.new ≡ counts_over zones.now cells.now counts.old }
+    ensures others { others.new
+        ≡ others_over zones.now cells.now (length counts.old) others.old }
+    ensures place { at.new ≡ counts_place zones.now cells.now (length counts.old) at.old }
+    ensures cells { result ≡ 0 → cells_in cells.now ≢ None }
+    ensures all { result ≡ 0 →
+        sum (take (length zones.now) counts.new) + others.new ≡ length cells.now }
+{
+    let mut table = [0; TABLE];
+    let room = TABLE.min(cells.len());
+    h3w_countCellsInZonesByTable(zones, cells, &mut table[..room], counts, others, at)
 }
 
 /// `h3w_countCellsInZones` by a table, which is written into memory that is lent.

@@ -42,6 +42,33 @@ fn is_near(cells: &[Cell], key: u64, place: usize) -> bool
     are_below(cells, key, from) & are_not_below(cells, key, to)
 }
 
+/// Whether the cells with the first 16 of these indexes ascend, by four of them: of sixteen in no
+/// order these four ascend once in 24 times.
+#[inline(always)]
+fn ascend(indexes: &[u64]) -> bool
+    requires { 0 < length indexes.now }
+{
+    let last = AHEAD.min(indexes.len()) - 1;
+    let third = last / 3;
+    let first = indexes[0] & KEY_BITS;
+    let second = indexes[third] & KEY_BITS;
+    let next = indexes[last - third] & KEY_BITS;
+    (first <= second) & (second <= next) & (next <= indexes[last] & KEY_BITS)
+}
+
+/// Whether all of the cells with the first 16 of these indexes are near a place.
+#[inline(always)]
+fn all_near(cells: &[Cell], indexes: &[u64], place: usize) -> bool
+    requires { IsZones cells.now }
+{
+    for i in 0..AHEAD.min(indexes.len()) {
+        if !is_near(cells, indexes[i] & KEY_BITS, place) {
+            return false;
+        }
+    }
+    true
+}
+
 /// Goes on by one from each place whose key is below that of the cell.
 #[inline(always)]
 fn pass_each(cells: &[Cell], keys: &[u64; AHEAD], places: &mut [usize; AHEAD])
@@ -85,13 +112,20 @@ pub(crate) fn keys_of(indexes: &[u64]) -> [u64; AHEAD] {
 }
 
 impl<'a> Zones<'a> {
-    /// Whether the zone of the cell with an index is near a place, which may be any: `zone_near` then
-    /// finds it in a step or two, as it does of cells that ascend.
+    /// Whether to look the next cells up from `place`, which may be any: the first of at most 16 indexes
+    /// is near it, and four of them ascend or all are near it. Of cells in no order the first often is
+    /// near, if many have no zone.
     ///
-    /// This is a hint: `zone_near` returns the same zone in either case. The index need not be a cell's.
+    /// This is a hint: `zone_near` returns the same zones in either case. An index need not be a cell's.
     #[inline(always)]
-    pub fn is_near(&self, index: u64, place: usize) -> bool {
-        is_near(self.cells(), index & KEY_BITS, place)
+    pub fn are_near(&self, indexes: &[u64], place: usize) -> bool {
+        match indexes.first() {
+            Some(first) => {
+                is_near(self.cells(), *first & KEY_BITS, place)
+                    && (ascend(indexes) || all_near(self.cells(), indexes, place))
+            }
+            None => true,
+        }
     }
 
     /// Places for `zone_near` to look for the cells with the first 16 of these indexes, which are

@@ -293,6 +293,7 @@ impl<'a> Zones<'a> {
     /// may be any: where the zone stands there, or a few places on, it is found in a step or two, and
     /// else by a search of all. Where there is a zone, the place is then the zone's own. So of cells in
     /// ascending order each is found from where the one before was.
+    #[inline(always)]
     pub fn zone_near(&self, cell: Cell, place: &mut usize) -> Option<Cell>
         ensures is { result ≡ zone_of self.now cell }
         ensures found { IfSome result (λ z. Contains self.now z × IsAncestor z cell) }

@@ -15,14 +15,6 @@ use Rattle.h3_c.proofs.Laid.{is_more, is_no_more, length-laid_over}
 use Rattle.h3_c.proofs.StartLaws.{has_no_room, has_room, put-full}
 use Rattle.h3_c.proofs.descendants.put_descendants.Goals as goal
 
-pub returns-then-levels-eq0-clause-end : goal.returns-then-levels-eq0-clause-end
-returns-then-levels-eq0-clause-end c =
-    c.put_cells_from.ensures.end _ (YieldsList-from_first (λ x. x) children_left _ c.children_at.ensures.list).runs
-
-pub returns-then-levels-eq0-clause-put : goal.returns-then-levels-eq0-clause-put
-returns-then-levels-eq0-clause-put c =
-    c.put_cells_from.ensures.put _ (YieldsList-from_first (λ x. x) children_left _ c.children_at.ensures.list).runs
-
 -- those of one cell more
 one_more : (r : ℕ) (ks : List Address) (k : Address) → flat_map (λ c. descendants c r) (ks ++ k ∷ []) ≡ flat_map (λ c. descendants c r) ks ++ descendants k r
 one_more r ks k = flat_map-append (λ c. descendants c r) ks (k ∷ []) ∙ ap (λ l. flat_map (λ c. descendants c r) ks ++ l) (append-nil (descendants k r))
