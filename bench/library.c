@@ -32,6 +32,10 @@ H3Error plain_countCellsInZones(const H3Index *zones, size_t zoneCount, const H3
                                 int64_t *others);
 size_t plain_intersectCells(const H3Index *first, size_t n, const H3Index *second, size_t m, H3Index *out, size_t room);
 size_t plain_subtractCells(const H3Index *first, size_t n, const H3Index *second, size_t m, H3Index *out, size_t room);
+size_t plain_uniteCells(const H3Index *cells, size_t n, H3Index *out, size_t room);
+size_t best_uniteCells(const H3Index *cells, size_t n, H3Index *out, size_t room);
+size_t best_intersectCells(const H3Index *first, size_t n, const H3Index *second, size_t m, H3Index *out, size_t room);
+size_t best_subtractCells(const H3Index *first, size_t n, const H3Index *second, size_t m, H3Index *out, size_t room);
 
 #define N     10000000
 #define WORLD 0x8001fffffffffffU
@@ -45,7 +49,8 @@ size_t plain_subtractCells(const H3Index *first, size_t n, const H3Index *second
 #define AREAS 1100000
 /* and cells of resolution 5 */
 #define MILLION 1000000
-static H3Index *cells, *sorted, *ordered, *shuffled, *out, *zones, *plain_ones, *million, *plain_million, *areas[2];
+static H3Index *cells, *sorted, *ordered, *shuffled, *out, *zones, *plain_ones, *million, *plain_million, *areas[2],
+    *mixed;
 static size_t area[2];
 static size_t at;
 
@@ -125,6 +130,11 @@ static uint64_t united(const H3Index *list, size_t n) {
     return count;
 }
 CALL(unite_shuffled, united(shuffled, LIST))
+CALL(best_unite_shuffled, best_uniteCells(shuffled, LIST, out, N))
+/* in no order, with some below others */
+CALL(unite_mixed, united(mixed, MILLION))
+CALL(plain_unite_mixed, plain_uniteCells(mixed, MILLION, out, N))
+CALL(best_unite_mixed, best_uniteCells(mixed, MILLION, out, N))
 CALL(zones_of, h3w_cellsToZones(zones, ZONES, cells, N, out, N, &at))
 CALL(plain_zones_of, plain_cellsToZones(plain_ones, ZONES, cells, N, out))
 CALL(zones_of_sorted, h3w_cellsToZones(zones, ZONES, sorted, N, out, N, &at))
@@ -184,8 +194,10 @@ static uint64_t combined(Combine combine) {
 }
 CALL(intersect, combined(h3w_intersectCells))
 CALL(plain_intersect, plain_intersectCells(areas[0], area[0], areas[1], area[1], out, N))
+CALL(best_intersect, best_intersectCells(areas[0], area[0], areas[1], area[1], out, N))
 CALL(subtract, combined(h3w_subtractCells))
 CALL(plain_subtract, plain_subtractCells(areas[0], area[0], areas[1], area[1], out, N))
+CALL(best_subtract, best_subtractCells(areas[0], area[0], areas[1], area[1], out, N))
 
 static const struct {
     const char *name;
@@ -209,9 +221,11 @@ static const struct {
      best_uncompact_same},
     {"cellsToChildren of 1428571 cells, from C", children_of_each, plain_uncompact, best_uncompact},
     {"cellToChildren, 5764801 of one cell, from C", children, plain_children, best_children},
-    {"uniteCells of 5764801 cells, shuffled, against compactCells, from C", unite_shuffled, compact_shuffled, NULL},
-    {"intersectCells of two regions of a million cells, from C", intersect, plain_intersect, NULL},
-    {"subtractCells of two regions of a million cells, from C", subtract, plain_subtract, NULL},
+    {"uniteCells of 5764801 cells, shuffled, against compactCells, from C", unite_shuffled, compact_shuffled,
+     best_unite_shuffled},
+    {"uniteCells of 1000000 cells of resolutions 5 to 9, from C", unite_mixed, plain_unite_mixed, best_unite_mixed},
+    {"intersectCells of two regions of a million cells, from C", intersect, plain_intersect, best_intersect},
+    {"subtractCells of two regions of a million cells, from C", subtract, plain_subtract, best_subtract},
     {"cellsToZones of 10000000 cells in 100000 zones, from C", zones_of, plain_zones_of, best_zones_of},
     {"cellsToZones of 10000000 cells in 1000000 zones, from C", zones_of_million, plain_zones_of_million,
      best_zones_of_million},
@@ -333,9 +347,12 @@ static void fill_million(void) {
     plain_zones(plain_million, MILLION);
 }
 
-/* Two regions of about a million cells, each of ancestors of other cells. */
+/* Two regions of about a million cells, each of ancestors of other cells; and a million ancestors as they come. */
 static void fill_areas(void) {
     size_t side, i;
+    mixed = array();
+    for (i = 0; i < MILLION; i++)
+        if (h3w_cellToParent(cells[i], 5 + (int)(i % 5), &mixed[i])) exit(13);
     for (side = 0; side < 2; side++) {
         areas[side] = array();
         for (i = 0; i < AREAS; i++)

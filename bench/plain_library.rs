@@ -11,6 +11,8 @@ mod lookup;
 #[path = "plain.rs"]
 mod plain;
 mod regions;
+#[path = "best/sets.rs"]
+mod sets;
 
 use plain::{Children, base, child_at, compact, is_valid, position, resolution};
 use regions::{begin, end, left, region, shared};
@@ -359,6 +361,20 @@ fn put_region(mut found: Vec<u64>, out: &mut [u64]) -> usize {
 }
 
 /// # Safety
+/// The pointers point to n and room elements.
+#[unsafe(no_mangle)]
+unsafe extern "C" fn plain_uniteCells(
+    cells: *const u64,
+    n: usize,
+    out: *mut u64,
+    room: usize,
+) -> usize {
+    let cells = unsafe { from_raw_parts(cells, n) };
+    assert!(cells.iter().all(|cell| is_valid(*cell)));
+    put_region(region(cells), unsafe { from_raw_parts_mut(out, room) })
+}
+
+/// # Safety
 /// The pointers point to n, m and room elements.
 #[unsafe(no_mangle)]
 unsafe extern "C" fn plain_intersectCells(
@@ -390,4 +406,61 @@ unsafe extern "C" fn plain_subtractCells(
     assert!(first.iter().chain(second).all(|cell| is_valid(*cell)));
     let found = left(&region(first), &region(second));
     put_region(found, unsafe { from_raw_parts_mut(out, room) })
+}
+
+/// Whether all numbers are cells'.
+fn are_valid(cells: &[u64]) -> bool {
+    cells
+        .iter()
+        .fold(true, |all, cell| all & columns::is_valid(*cell))
+}
+
+/// # Safety
+/// The pointers point to n and room elements.
+#[unsafe(no_mangle)]
+unsafe extern "C" fn best_uniteCells(
+    cells: *const u64,
+    n: usize,
+    out: *mut u64,
+    room: usize,
+) -> usize {
+    let cells = unsafe { from_raw_parts(cells, n) };
+    assert!(are_valid(cells));
+    sets::put_by_number(&sets::united(cells), unsafe {
+        from_raw_parts_mut(out, room)
+    })
+}
+
+/// # Safety
+/// The pointers point to n, m and room elements.
+#[unsafe(no_mangle)]
+unsafe extern "C" fn best_intersectCells(
+    first: *const u64,
+    n: usize,
+    second: *const u64,
+    m: usize,
+    out: *mut u64,
+    room: usize,
+) -> usize {
+    let (first, second) = unsafe { (from_raw_parts(first, n), from_raw_parts(second, m)) };
+    assert!(are_valid(first) && are_valid(second));
+    let found = sets::intersection(first, second);
+    sets::put_by_number(&found, unsafe { from_raw_parts_mut(out, room) })
+}
+
+/// # Safety
+/// The pointers point to n, m and room elements.
+#[unsafe(no_mangle)]
+unsafe extern "C" fn best_subtractCells(
+    first: *const u64,
+    n: usize,
+    second: *const u64,
+    m: usize,
+    out: *mut u64,
+    room: usize,
+) -> usize {
+    let (first, second) = unsafe { (from_raw_parts(first, n), from_raw_parts(second, m)) };
+    assert!(are_valid(first) && are_valid(second));
+    let found = sets::difference(first, second);
+    sets::put_by_number(&found, unsafe { from_raw_parts_mut(out, room) })
 }

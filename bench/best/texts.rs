@@ -7,6 +7,7 @@ use std::io::{self, Write};
 const LOW: u64 = 0x0f0f_0f0f_0f0f_0f0f;
 
 /// The eight hexadecimal digits of half an index, as characters.
+#[cfg(not(target_arch = "x86_64"))]
 #[inline(always)]
 fn characters(half: u64) -> u64 {
     let quarters = (half | half << 16) & 0x0000_ffff_0000_ffff;
@@ -17,32 +18,78 @@ fn characters(half: u64) -> u64 {
 }
 
 /// The line of a cell: the fifteen digits of its number, and a line feed in place of a sixteenth digit, 0.
+#[cfg(not(target_arch = "x86_64"))]
 #[inline(always)]
-fn line_of(cell: u64) -> [u8; 16] {
+fn line_of(cell: u64) -> u128 {
     let last = characters(cell << 4 & 0xffff_ffff) - u64::from(b'0' - b'\n');
-    (u128::from(characters(cell >> 28)) << 64 | u128::from(last)).to_be_bytes()
+    u128::from_ne_bytes((u128::from(characters(cell >> 28)) << 64 | u128::from(last)).to_be_bytes())
 }
 
-/// The characters that the digit of a resolution lies in, at `at` and the next place of a line: a row for each value of
-/// the bits before it in them, a column a digit.
+/// The line of a cell: the fifteen digits of its number, and a line feed in place of a sixteenth digit, 0. All digits are
+/// written at once.
+#[cfg(target_arch = "x86_64")]
+#[inline(always)]
+fn line_of(cell: u64) -> u128 {
+    // Safety: each processor of x86_64 has SSE2, and the types have one size
+    unsafe { std::mem::transmute(write_sixteen((cell << 4).swap_bytes())) }
+}
+
+#[cfg(target_arch = "x86_64")]
+#[target_feature(enable = "sse2")]
+#[inline]
+fn write_sixteen(bytes: u64) -> std::arch::x86_64::__m128i {
+    use std::arch::x86_64::*;
+    let bytes = _mm_cvtsi64_si128(bytes as i64);
+    let low = _mm_set1_epi8(15);
+    let digits = _mm_unpacklo_epi8(_mm_and_si128(_mm_srli_epi16(bytes, 4), low), _mm_and_si128(bytes, low));
+    let letters = _mm_and_si128(_mm_cmpgt_epi8(digits, _mm_set1_epi8(9)), _mm_set1_epi8(39));
+    let zeros = _mm_set_epi64x(0x0a30_3030_3030_3030, 0x3030_3030_3030_3030);
+    _mm_add_epi8(_mm_add_epi8(digits, letters), zeros)
+}
+
+/// The lines of seven siblings: what is put into the line of the first, in which the two characters of their last digit
+/// are 0. A row for each value of these two characters' bits.
 pub struct Siblings {
-    at: usize,
-    bits: u64,
-    rows: [[[u8; 2]; 8]; 32],
+    mask: u128,
+    shift: u64,
+    rows: Box<[[u128; 7]; 256]>,
 }
 
 impl Siblings {
     pub fn of(res: u64) -> Siblings {
         let bits = 45 - 3 * res;
-        let after = bits % 4;
-        let mut rows = [[[0; 2]; 8]; 32];
-        for (i, pair) in rows.as_flattened_mut().iter_mut().enumerate() {
-            // all bits of the digits after it are set
-            let byte = (i + 1 << after) - 1 & 255;
-            *pair = PAIRS[byte];
+        let shift = bits / 4 * 4;
+        let at = 13 - bits as usize / 4;
+        let line = |pair: [u8; 2]| {
+            let mut line = [0; 16];
+            line[at..at + 2].copy_from_slice(&pair);
+            u128::from_ne_bytes(line)
+        };
+        let mut rows = Box::new([[0; 7]; 256]);
+        for (byte, row) in rows.iter_mut().enumerate() {
+            for (digit, place) in row.iter_mut().enumerate() {
+                *place = line(PAIRS[byte + (digit << bits % 4) & 255]);
+            }
         }
-        Siblings { at: 13 - bits as usize / 4, bits: bits + 3, rows }
+        Siblings { mask: !line([255; 2]), shift, rows }
     }
+}
+
+/// The bytes that two lines give together.
+#[cfg(not(target_arch = "x86_64"))]
+#[inline(always)]
+fn joined(line: u128, digits: u128) -> [u8; 16] {
+    (line | digits).to_ne_bytes()
+}
+
+/// The bytes that two lines give together, sixteen at once.
+#[cfg(target_arch = "x86_64")]
+#[inline(always)]
+fn joined(line: u128, digits: u128) -> [u8; 16] {
+    use std::arch::x86_64::_mm_or_si128;
+    use std::mem::transmute;
+    // Safety: all are sixteen bytes, and each processor of x86_64 has SSE2
+    unsafe { transmute(_mm_or_si128(transmute(line), transmute(digits))) }
 }
 
 /// The two characters of each byte.
@@ -69,12 +116,12 @@ pub struct Near {
 impl Near {
     pub fn of(cell: u64, res: u64) -> Near {
         let shift = (45 - 3 * res) / 4 * 4;
-        Near { line: line_of(cell), shift, at: 11 - shift as usize / 4 }
+        Near { line: line_of(cell).to_ne_bytes(), shift, at: 11 - shift as usize / 4 }
     }
 
     #[inline(always)]
     pub fn move_to(&mut self, cell: u64) {
-        self.line = line_of(cell);
+        self.line = line_of(cell).to_ne_bytes();
     }
 }
 
@@ -141,18 +188,17 @@ impl<W: Write> Page<W> {
     /// Puts the line of a cell.
     #[inline(always)]
     pub fn put(&mut self, cell: u64) -> io::Result<()> {
-        self.next::<1>()?[0] = line_of(cell);
+        self.next::<1>()?[0] = line_of(cell).to_ne_bytes();
         Ok(())
     }
 
-    /// Puts the lines of the seven cells that differ from one in the digit of a resolution.
+    /// Puts the lines of a cell with the last digit 0 and its six siblings.
     #[inline(always)]
     pub fn put_siblings(&mut self, siblings: &Siblings, cell: u64) -> io::Result<()> {
-        let line = line_of(cell);
-        let row = &siblings.rows[(cell >> siblings.bits) as usize % 32];
-        for (place, pair) in self.next::<7>()?.iter_mut().zip(row) {
-            *place = line;
-            place[siblings.at..siblings.at + 2].copy_from_slice(pair);
+        let line = line_of(cell) & siblings.mask;
+        let row = &siblings.rows[(cell >> siblings.shift & 255) as usize];
+        for (place, digits) in self.next::<7>()?.iter_mut().zip(row) {
+            *place = joined(line, *digits);
         }
         Ok(())
     }
