@@ -1,6 +1,7 @@
 """What the checks in python3 share: each case is counted, one that fails has a line, and the last
 line is NAME: N passed, M failed, and `, K skipped` where there are any. tests/expect.sh is the same
 for shell."""
+import faulthandler
 import os
 import shutil
 import signal
@@ -12,6 +13,10 @@ signal.signal(signal.SIGINT, signal.default_int_handler)
 for ignored in (signal.SIGHUP, signal.SIGQUIT, signal.SIGTERM, signal.SIGUSR1, signal.SIGALRM):
     if signal.getsignal(ignored) == signal.SIG_IGN:
         signal.signal(ignored, lambda *_: None)
+
+# a check that waits without end says where it does, and fails
+if "CHECK_MINUTES" in os.environ:
+    faulthandler.dump_traceback_later(60 * int(os.environ["CHECK_MINUTES"]), exit=True)
 
 CHECK = os.path.basename(sys.argv[0])
 counts = {"passed": 0, "failed": 0, "skipped": 0}
