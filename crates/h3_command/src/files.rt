@@ -242,6 +242,7 @@ impl<'c> ListFunction for Combine<'c> {
 
 /// Whether a region covers the cell with an index, looked for from where the last cell's member of
 /// it was found. `Failed` where there is no index, and `CellInvalid` where no cell has it.
+#[inline(always)]
 fn is_covered_cell(region: &Region, index: Option<u64>, place: &mut usize) -> Result<bool, H3Error>
     ensures { result ≡ is_covered_cell region.now index }
 {
@@ -252,6 +253,7 @@ fn is_covered_cell(region: &Region, index: Option<u64>, place: &mut usize) -> Re
 
 /// The zone of the cell with an index, looked for from where the last cell's was found. Errors as of
 /// `is_covered_cell`.
+#[inline(always)]
 fn cell_to_zone(
     zones: &Zones,
     index: Option<u64>,
