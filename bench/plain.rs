@@ -493,6 +493,14 @@ fn main() -> io::Result<()> {
             shuffle(&mut cells);
             write_cells(&mut out, cells.into_iter())?
         }
+        // (of one cell in twenty-eight, at random, its children)
+        ["uneven", cell, res] => {
+            let mut state = 1;
+            for cell in children(cell, res) {
+                let res = resolution(cell) + u64::from(random(&mut state) % 28 == 0);
+                write_cells(&mut out, Children::of(cell, res))?
+            }
+        }
         ["lone", cell, res] => {
             let level = res.parse().expect("a resolution");
             write_cells(&mut out, children(cell, res).filter(|child| digit(*child, level) == 3))?
