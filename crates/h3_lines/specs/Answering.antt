@@ -1,5 +1,5 @@
 -- Lines that are answered one after another, with answers held back in a block. Of this file public contracts cite `Puts`
--- alone.
+-- and `Breaks` alone.
 use Rattle.std.specs.Prelude.{◌≡◌, ℕ, ◌<◌, ◌⊎◌, Bool, true, List, [], ◌++◌, length, take, Option, None, Some, Result, Ok, Err}
 use Rattle.std.specs.Io.KnownBytes.{Appends}
 use Rattle.h3_index.specs.declared.error.H3Error.{H3Error}
@@ -34,7 +34,7 @@ module _ {S : Type 0} (taken : S → Option (List ℕ)) (failed : S → Bool) wh
     pub grown : Appends (taken old) (taken new) part
     pub sound : failed new ≡ failed old
 
--- a call of the sink failed: it took a beginning of the bytes, or it took one, and then a flush failed
+-- TakesSome sink bytes: a call of the sink failed: it took a beginning of the bytes, or it took one, and then a flush failed
 abbrev pub TakesSome : SinkUse → List ℕ → Type 0
 TakesSome sink bytes = SomeBeginning (λ part. Appends sink.before sink.after part ⊎ sink.may_have_taken part) bytes × (sink.has_failed ≡ true)
 
@@ -56,6 +56,6 @@ pub record Moves {S : Type 0} (taken : S → Option (List ℕ)) (failed : S → 
   pub grown : Appends (taken s) (taken t) part
   pub sound : failed t ≡ failed s
 
--- a write fails, and a beginning of these bytes is taken
+-- Breaks bytes sink e: a write fails, and a beginning of these bytes is taken
 abbrev pub Breaks : List ℕ → SinkUse → RunError → Type 0
 Breaks all sink e = (e ≡ Fault Write) × (0 < length all) × TakesSome sink all

@@ -3,11 +3,11 @@
 ghost use Rattle.std.proofs.Common.{◌∙◌, refl};
 ghost use Rattle.std.specs.Prelude.{◌≡◌, ◌+◌, ◌<◌, ◌≤◌, ◌++◌, ◌∷◌, ◌^◌, [], ℕ, List, length, Option, take, IfOk, IfErr, OnOk};
 ghost use Rattle.h3_lines.specs.Answer.{Answer, printed, refused};
-ghost use Rattle.h3_lines.specs.Answering.{Answered, Breaks, Moves, Puts, RefusesEach, TakesSome, answer_said};
+ghost use Rattle.h3_lines.specs.Answering.{Answered, Breaks, Moves, Puts, RefusesEach, answer_said};
 ghost use Rattle.h3_lines.specs.EachLaws.{answered_none, rows_answered, rows_refused};
 ghost use Rattle.h3_lines.specs.EachLine.{EndsEach, line_answer};
 ghost use Rattle.h3_lines.specs.Pieces.{lines_in};
-ghost use Rattle.h3_lines.specs.Write.{Takes, sink_use};
+ghost use Rattle.h3_lines.specs.Write.{sink_use};
 ghost use Rattle.h3_lines.specs.declared.line.TheConstants.{BLOCK};
 ghost use Rattle.h3_lines.specs.declared.run_error.Fault.TheVariants.{Write};
 ghost use Rattle.h3_lines.specs.declared.run_error.RunError.{RunError};
@@ -18,7 +18,7 @@ use crate::line::{BLOCK, Line};
 use crate::plain::{IndexJob, LINES, take_plain};
 use crate::run_error::{AnswerError, Fault, RunError};
 use crate::splitting::{Job, LONGEST_LINE, MAX_READS, PAGE, Taking, drive, row_room};
-use crate::write::{write_all, write_answer};
+use crate::write::{write_all, write_held};
 use h3_index::{H3Error, is_blank_text, read_index};
 use h3_streams::{CountedReader, Sink, Source};
 use std::alloc::Global;
@@ -99,18 +99,6 @@ fn index_on(line: &[u8]) -> Result<Option<Option<u64>>, H3Error>
         Err(_) if is_blank_text(line) => Ok(None),
         Err(_) => Ok(Some(None)),
     }
-}
-
-/// Writes the bytes and flushes, if there are any.
-fn write_held<W: Sink>(out: &mut W, bytes: &[u8]) -> Result<(), RunError>
-    ensures ok { OnOk result (Takes (sink_use W.taken W.has_failed out.old out.new) bytes.now) }
-    ensures err { IfErr result (λ e. (e ≡ refusal.Fault Write) × (0 < length bytes.now)
-        × TakesSome (sink_use W.taken W.has_failed out.old out.new) bytes.now) }
-{
-    if bytes.is_empty() {
-        return Ok(());
-    }
-    write_answer(out, bytes)
 }
 
 /// Writes the answers held back, and refuses the line with this number.

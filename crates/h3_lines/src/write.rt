@@ -1,12 +1,13 @@
 //! Writing to a sink.
 
-ghost use Rattle.std.specs.Prelude.{◌≡◌, ◌+◌, ◌<◌, ◌≤◌, List, length, take, true, IfOk, OnOk, OnErr, Result};
+ghost use Rattle.std.specs.Prelude.{◌≡◌, ◌+◌, ◌<◌, ◌≤◌, List, length, take, true, IfErr, IfOk, OnOk, OnErr, Result};
 ghost use Rattle.std.specs.Io.KnownBytes.{Appends};
 ghost use Rattle.std.specs.Iterator.{AlwaysYields, IsFinite};
 ghost use Rattle.std.specs.List.{flat_map};
 ghost use Rattle.h3_index.specs.declared.error.H3Error.{H3Error};
 ghost use Rattle.h3_lines.specs.Answer.{before, printed, refused, walked, written};
-ghost use Rattle.h3_lines.specs.Write.{AppendsPart, AppendsUpTo, Writes, sink_use};
+ghost use Rattle.h3_lines.specs.Answering.{Breaks};
+ghost use Rattle.h3_lines.specs.Write.{AppendsPart, AppendsUpTo, Takes, Writes, sink_use};
 
 use crate::line::{BLOCK, Line, ROOM};
 use crate::run_error::{AnswerError, RunError};
@@ -45,6 +46,24 @@ pub fn write_answer<W: Sink>(out: &mut W, answer: &[u8]) -> Result<(), RunError>
     write_all(out, answer)?;
     out.flush()?;
     Ok(())
+}
+
+/// Writes the bytes and flushes, if there are any.
+///
+/// # Errors
+///
+/// `Fault::Write` if a push or the flush fails.
+pub fn write_held<W: Sink>(out: &mut W, bytes: &[u8]) -> Result<(), RunError>
+    ensures whole { Writes (written bytes.now) result
+        (sink_use W.taken W.has_failed out.old out.new) }
+    ensures ok { OnOk result (Takes (sink_use W.taken W.has_failed out.old out.new) bytes.now) }
+    ensures err { IfErr result (λ e.
+        Breaks bytes.now (sink_use W.taken W.has_failed out.old out.new) e) }
+{
+    if bytes.is_empty() {
+        return Ok(());
+    }
+    write_answer(out, bytes)
 }
 
 /// Writes the line of a result's value and flushes, or returns the result's error.

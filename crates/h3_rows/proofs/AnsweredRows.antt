@@ -19,24 +19,6 @@ pub some_of_part : (xs ys zs : List ℕ) (out : SinkUse) → zs ≡ xs ++ ys →
 some_of_part xs ys zs out is p failed =
     (record { part = p.part; rest = p.rest ++ ys; split = is ∙ ap (λ l. l ++ ys) p.split ∙ append_assoc p.part p.rest ys; holds = inl p.holds }, failed)
 
-some_of_whole : (bytes : List ℕ) (out : SinkUse) → TakesPart out bytes → TakesSome out bytes
-some_of_whole bytes out (inl p, failed) = (record { part = p.part; rest = p.rest; split = p.split; holds = inl p.holds }, failed)
-some_of_whole bytes out (inr whole, failed) = (record { part = bytes; rest = []; split = sym (append-nil bytes); holds = inr whole }, failed)
-
-pub written_takes : (bytes : List ℕ) (out : SinkUse) (r : Result (Unit {0}) RunError) → Writes (written bytes) r out → OnOk r (Takes out bytes)
-unfolding Writes
-written_takes bytes out (Ok u) w = w.1
-written_takes bytes out (Err e) w = tt
-
-pub written_fails : (bytes : List ℕ) (out : SinkUse) (r : Result (Unit {0}) RunError) → 0 < length bytes → Writes (written bytes) r out
-    → IfErr r (λ e. (e ≡ Fault Write) × (0 < length bytes) × TakesSome out bytes)
-unfolding Writes
-written_fails bytes out (Ok u) some w = tt
-written_fails bytes out (Err (Error e)) some w = absurd (cc (w.0))
-written_fails bytes out (Err (Fault Memory)) some never = absurd never
-written_fails bytes out (Err (Fault Read)) some never = absurd never
-written_fails bytes out (Err (Fault Write)) some w = (refl, some, some_of_whole bytes out w.1)
-
 -- ---- rows that are put
 
 module _ {S : Type 0} (taken : S → Option (List ℕ)) (failed : S → Bool) where

@@ -7,7 +7,6 @@ pub mod Feeds
 pub mod Finding
 pub mod Items
 pub mod Kept
-pub mod Lengths
 pub mod Masks
 pub mod Pieces
 pub mod PlainAnswers

@@ -16,9 +16,9 @@ unfolding Writes
 writes_whole bytes out takes = (refl, takes)
 
 -- nothing is written
-pub nothing_whole : {S : Type 0} (taken : S → Option (List ℕ)) (failed : S → Bool) (s : S) (bytes : List ℕ) → bytes ≡ [] → Writes (written bytes) (Ok tt) (sink_use taken failed s s)
+pub nothing_whole : {S : Type 0} (taken : S → Option (List ℕ)) (failed : S → Bool) (s : S) → Writes (written []) (Ok tt) (sink_use taken failed s s)
 unfolding Writes
-nothing_whole taken failed s bytes none = rw none (refl, (Appends-nil (taken s), refl))
+nothing_whole taken failed s = (refl, (Appends-nil (taken s), refl))
 
 pub nothing_refused : {S : Type 0} (taken : S → Option (List ℕ)) (failed : S → Bool) (s : S) (e : AnswerError) → Writes (record { output = []; ending = Err e }) (Err (Error e)) (sink_use taken failed s s)
 unfolding Writes

@@ -2,8 +2,8 @@
 
 ghost use Rattle.std.proofs.Common.{◌∙◌, refl};
 ghost use Rattle.std.specs.Prelude.{◌≡◌, ◌+◌, ◌<◌, ◌≤◌, ◌++◌, ◌∷◌, ◌^◌, [], ℕ, List, length, Option, None, Some, Err, option_map, string_bytes, take, IfOk, IfErr, IfNone, IfSome, OnOk};
-ghost use Rattle.h3_lines.specs.Answer.{Answer, written};
-ghost use Rattle.h3_lines.specs.Write.{Takes, Writes, sink_use};
+ghost use Rattle.h3_lines.specs.Answer.{Answer};
+ghost use Rattle.h3_lines.specs.Write.{Writes, sink_use};
 ghost use Rattle.h3_lines.specs.declared.line.TheConstants.{BLOCK};
 ghost use Rattle.h3_lines.specs.declared.run_error.AnswerError.TheVariants.{At};
 ghost use Rattle.h3_lines.specs.declared.run_error.RunError.{RunError};
@@ -28,7 +28,7 @@ use crate::write::{put_bytes, put_row};
 use h3_index::{H3Error, read_plain};
 use h3_lines::{
     ANSWER, AnswerError, AnswerLine, BLOCK, ColumnError, Fault, Job, MAX_READS, PAGE, RunError,
-    Taking, drive, row_room, write_answer,
+    Taking, drive, row_room, write_held,
 };
 use h3_requests::{CellField, RowOptions};
 use h3_streams::{CountedReader, Sink, Source};
@@ -41,20 +41,6 @@ struct RowJob<'f, F> {
     name: &'f [u8],
     is_pair: bool,
     function: &'f F,
-}
-
-/// Writes the bytes and flushes, if there are any.
-fn write_held<W: Sink>(out: &mut W, bytes: &[u8]) -> Result<(), RunError>
-    ensures whole { Writes (written bytes.now) result
-        (sink_use W.taken W.has_failed out.old out.new) }
-    ensures ok { OnOk result (Takes (sink_use W.taken W.has_failed out.old out.new) bytes.now) }
-    ensures err { IfErr result (λ e.
-        Breaks bytes.now (sink_use W.taken W.has_failed out.old out.new) e) }
-{
-    if bytes.is_empty() {
-        return Ok(());
-    }
-    write_answer(out, bytes)
 }
 
 /// Writes what is held back, and refuses the row with this number.

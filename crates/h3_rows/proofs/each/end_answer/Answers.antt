@@ -1,11 +1,10 @@
-use Rattle.std.proofs.Common.{[], refl}
 use Rattle.h3_lines.specs.declared.run_error.AnswerError.TheVariants.{AtAndMore, Column}
 use Rattle.h3_lines.specs.declared.run_error.ColumnError.TheVariants.{NotFound}
 use Rattle.h3_rows.proofs.Written.{nothing_refused, nothing_whole}
 use Rattle.h3_rows.proofs.each.end_answer.Goals as goal
 
 pub returns-in-None : goal.returns-in-None
-returns-in-None g c = rw (c.in-Some-default.is-0, c.in-None.is) (nothing_whole g.W.Sink.taken g.W.Sink.has_failed c.args.out.now [] refl)
+returns-in-None g c = rw (c.in-Some-default.is-0, c.in-None.is) (nothing_whole g.W.Sink.taken g.W.Sink.has_failed c.args.out.now)
 
 pub returns-in-Some : goal.returns-in-Some
 returns-in-Some g c =
