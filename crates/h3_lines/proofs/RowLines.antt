@@ -33,10 +33,6 @@ lines_are (b ∷ bs) =
 pub lines_begun : (bytes : List ℕ) (ended : List Piece) (last : Piece) → pieces_of false bytes ≡ ended ++ last ∷ [] → lines_of bytes ≡ lines_in ended ++ last.0 ∷ []
 lines_begun bytes ended last is = sym (lines_are bytes) ∙ ap lines_in is ∙ lines_in-append ended (last ∷ [])
 
--- rows, of which these come first
-pub rows_split : (bytes : List ℕ) (ended later : List Piece) → rows_of false bytes ≡ ended ++ later → lines_in (rows_of false bytes) ≡ lines_in ended ++ lines_in later
-rows_split bytes ended later is = ap lines_in is ∙ lines_in-append ended later
-
 -- ---- a last line without a byte is blank
 
 module _ (answer : Option ℕ → Answer) where

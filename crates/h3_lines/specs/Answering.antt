@@ -1,6 +1,6 @@
--- Lines that are answered one after another, with answers held back in a block. Of this file public contracts cite `Puts`
+-- Lines and rows that are answered one after another, with answers held back in a block. Of this file public contracts cite `Puts`
 -- and `Breaks` alone.
-use Rattle.std.specs.Prelude.{◌≡◌, ℕ, ◌<◌, ◌⊎◌, Bool, true, List, [], ◌++◌, length, take, Option, None, Some, Result, Ok, Err}
+use Rattle.std.specs.Prelude.{◌≡◌, ⊤, ℕ, ◌<◌, ◌⊎◌, Bool, true, List, [], ◌++◌, length, take, Option, None, Some, Result, Ok, Err}
 use Rattle.std.specs.Io.KnownBytes.{Appends}
 use Rattle.h3_index.specs.declared.error.H3Error.{H3Error}
 use Rattle.h3_lines.specs.declared.run_error.Fault.TheVariants.{Memory, Read, Write}
@@ -9,6 +9,7 @@ use Rattle.h3_lines.specs.declared.run_error.RunError.TheVariants.{Error, Fault}
 use Rattle.h3_lines.specs.Answer.{Answer, before, refused, written}
 use Rattle.h3_lines.specs.Beginning.{SomeBeginning}
 use Rattle.h3_lines.specs.EachLine.{IsAtLine, lines_answer}
+use Rattle.h3_lines.specs.Pieces.{Piece, lines_in}
 use Rattle.h3_lines.specs.Write.{SinkUse, Takes}
 
 -- Puts a old new at end: an answer that is bytes alone is put into a block, from one byte on, up to another
@@ -23,31 +24,15 @@ answer_said answer (Ok (Some index)) = answer index
 answer_said answer (Ok None) = written []
 answer_said answer (Err e) = refused e
 
-module _ {S : Type 0} (taken : S → Option (List ℕ)) (failed : S → Bool) where
-  -- From one moment to a later one these lines are answered, from the line n up to the line m: some of the answers is
-  -- taken by the sink, and the rest held back.
-  pub record Answered (answer : Option ℕ → Answer) (n m : ℕ) (held held' : List ℕ) (old new : S) (lines : List (List ℕ)) : Type 0 where
-    pub text : List ℕ
-    pub part : List ℕ
-    pub says : (more : List (List ℕ)) → lines_answer answer n (lines ++ more) ≡ before text (lines_answer answer m more)
-    pub split : held ++ text ≡ part ++ held'
-    pub grown : Appends (taken old) (taken new) part
-    pub sound : failed new ≡ failed old
+-- ---- bytes that are written
 
 -- TakesSome sink bytes: a call of the sink failed: it took a beginning of the bytes, or it took one, and then a flush failed
 abbrev pub TakesSome : SinkUse → List ℕ → Type 0
 TakesSome sink bytes = SomeBeginning (λ part. Appends sink.before sink.after part ⊎ sink.may_have_taken part) bytes × (sink.has_failed ≡ true)
 
--- an answer ends by an error at a line, all before it taken, or by a write that fails
-abbrev pub EndsBy : Answer → RunError → SinkUse → Type 0
-EndsBy a (Error e) out = IsAtLine e × (a.ending ≡ Err e) × Takes out a.output
-EndsBy a (Fault Write) out = (0 < length a.output) × TakesSome out a.output
-EndsBy a (Fault Read) out = ⊥
-EndsBy a (Fault Memory) out = ⊥
-
--- these bytes and the answer to these lines, of which the first is the line n, end so
-abbrev pub RefusesEach : (Option ℕ → Answer) → ℕ → List ℕ → List (List ℕ) → RunError → SinkUse → Type 0
-RefusesEach answer n held lines e out = EndsBy (before held (lines_answer answer n lines)) e out
+-- Breaks bytes sink e: a write fails, and a beginning of these bytes is taken
+abbrev pub Breaks : List ℕ → SinkUse → RunError → Type 0
+Breaks all sink e = (e ≡ Fault Write) × (0 < length all) × TakesSome sink all
 
 -- from one moment to a later one, of these bytes some are taken, and these are still held back
 pub record Moves {S : Type 0} (taken : S → Option (List ℕ)) (failed : S → Bool) (all held : List ℕ) (s t : S) : Type 0 where
@@ -56,6 +41,37 @@ pub record Moves {S : Type 0} (taken : S → Option (List ℕ)) (failed : S → 
   pub grown : Appends (taken s) (taken t) part
   pub sound : failed t ≡ failed s
 
--- Breaks bytes sink e: a write fails, and a beginning of these bytes is taken
-abbrev pub Breaks : List ℕ → SinkUse → RunError → Type 0
-Breaks all sink e = (e ≡ Fault Write) × (0 < length all) × TakesSome sink all
+-- ---- pieces that are answered: `answer last v pieces` is the answer to them in the state v, and then to what is last
+
+-- From one moment to a later one these pieces are answered, from the one state to the other: some of the answers is taken
+-- by the sink, and the rest held back.
+pub record Answered {S L N : Type 0} (taken : S → Option (List ℕ)) (failed : S → Bool) (answer : L → N → List Piece → Answer) (v w : N) (held held' : List ℕ) (old new : S) (pieces : List Piece) : Type 0 where
+  pub text : List ℕ
+  pub says : (last : L) (more : List Piece) → answer last v (pieces ++ more) ≡ before text (answer last w more)
+  pub moves : Moves taken failed (held ++ text) held' old new
+
+-- an answer ends by its error, all before it taken, or by a write that fails
+abbrev pub EndsBy : Answer → RunError → SinkUse → Type 0
+EndsBy a (Error e) out = (a.ending ≡ Err e) × Takes out a.output
+EndsBy a (Fault Write) out = (0 < length a.output) × TakesSome out a.output
+EndsBy a (Fault Read) out = ⊥
+EndsBy a (Fault Memory) out = ⊥
+
+-- these bytes and the answer to these pieces, in this state, end so, whatever is last
+abbrev pub RefusesEach : {L N : Type 0} → (L → N → List Piece → Answer) → N → List ℕ → List Piece → RunError → SinkUse → Type 0
+RefusesEach {L = L} answer v held pieces e out = (last : L) → EndsBy (before held (answer last v pieces)) e out
+
+-- ---- pieces that are lines
+
+-- the answers to pieces as lines, of which the first has the number n; nothing is last
+abbrev pub lines_from : (Option ℕ → Answer) → Unit {0} → ℕ → List Piece → Answer
+lines_from answer last n pieces = lines_answer answer n (lines_in pieces)
+
+-- if it is no fault, it is an H3 error at a line
+abbrev pub TellsLine : RunError → Type 0
+TellsLine (Error e) = IsAtLine e
+TellsLine (Fault f) = ⊤
+
+-- these bytes and the answer to these lines, of which the first is the line n, end so, and an error tells its line
+abbrev pub RefusesLines : (Option ℕ → Answer) → ℕ → List ℕ → List Piece → RunError → SinkUse → Type 0
+RefusesLines answer n held lines e out = TellsLine e × RefusesEach (lines_from answer) n held lines e out

@@ -1,36 +1,56 @@
--- Laws of lines that are answered one after another. The implementation that states them and proofs alone cite this file.
-use Rattle.std.proofs.Common.{◌≡◌, ℕ, ◌<◌, Bool, List, [], ◌++◌, length, Option, sym, ap, ◌∙◌, refl, subst, inl, inr, append_assoc, append-nil, length-append, arith}
+-- Laws of lines and rows that are answered one after another. The implementations that state them and proofs alone cite this
+-- file.
+use Rattle.std.proofs.Common.{◌≡◌, ℕ, ◌<◌, Bool, true, List, [], ◌++◌, length, Option, sym, ap, ◌∙◌, refl, subst, inl, inr, append_assoc, append-nil, length-append, arith}
 use Rattle.std.proofs.KnownBytes.{Appends-nil, Appends-trans}
 use Rattle.std.specs.Io.KnownBytes.{Appends}
 use Rattle.h3_lines.specs.Answer.{Answer, before}
-use Rattle.h3_lines.specs.Answering.{Answered, EndsBy, RefusesEach, TakesSome}
-use Rattle.h3_lines.specs.EachLine.{lines_answer}
-use Rattle.h3_lines.specs.Line.{lines_in-append}
-use Rattle.h3_lines.specs.Pieces.{Piece, lines_in}
-use Rattle.h3_lines.specs.Write.{sink_use}
+use Rattle.h3_lines.specs.Answering.{Answered, Breaks, EndsBy, Moves, RefusesEach, TakesSome}
+use Rattle.h3_lines.specs.Pieces.{Piece}
+use Rattle.h3_lines.specs.Write.{AppendsPart, SinkUse, sink_use}
 use Rattle.h3_lines.specs.declared.run_error.Fault.TheVariants.{Memory, Read, Write}
 use Rattle.h3_lines.specs.declared.run_error.RunError.{RunError}
 use Rattle.h3_lines.specs.declared.run_error.RunError.TheVariants.{Error, Fault}
 
-before_before : (xs ys : List ℕ) (a : Answer) → before xs (before ys a) ≡ before (xs ++ ys) a
+pub before_before : (xs ys : List ℕ) (a : Answer) → before xs (before ys a) ≡ before (xs ++ ys) a
 before_before xs ys a = ap (λ l. record { output = l; ending = a.ending }) (sym (append_assoc xs ys a.output))
 
-module _ {S : Type 0} (taken : S → Option (List ℕ)) (failed : S → Bool) where
-  pub answered_none : (answer : Option ℕ → Answer) (n : ℕ) (held : List ℕ) (s : S) → Answered taken failed answer n n held held s s []
-  answered_none answer n held s = record { text = []; part = []; says = λ more. refl; split = append-nil held; grown = Appends-nil (taken s); sound = refl }
+-- ---- bytes that are not all taken
 
-  pub answered_then : {F : Type 0} (answer_of : F → Option ℕ → Answer) {f g : F} {n m k : ℕ} {h1 h2 h3 : List ℕ} {s t u : S} (xs ys : List (List ℕ)) → g ≡ f → Answered taken failed (answer_of f) n m h1 h2 s t xs
-      → Answered taken failed (answer_of g) m k h2 h3 t u ys → Answered taken failed (answer_of f) n k h1 h3 s u (xs ++ ys)
-  answered_then answer_of {f} {g} {n} {m} {k} {h1} {h2} {h3} {s} {t} {u} xs ys same p q =
-      let says : (more : List (List ℕ)) → lines_answer (answer_of f) m (ys ++ more) ≡ before q.text (lines_answer (answer_of f) k more) = subst (λ e. (more : List (List ℕ)) → lines_answer (answer_of e) m (ys ++ more) ≡ before q.text (lines_answer (answer_of e) k more)) same q.says in
-      record {
-        text = p.text ++ q.text;
-        part = p.part ++ q.part;
-        says = λ more. ap (lines_answer (answer_of f) n) (append_assoc xs ys more) ∙ p.says (ys ++ more) ∙ ap (before p.text) (says more) ∙ before_before p.text q.text (lines_answer (answer_of f) k more);
-        split = sym (append_assoc h1 p.text q.text) ∙ ap (λ l. l ++ q.text) p.split ∙ append_assoc p.part h2 q.text ∙ ap (λ l. p.part ++ l) q.split ∙ sym (append_assoc p.part q.part h3);
-        grown = Appends-trans (taken s) (taken t) (taken u) p.part q.part p.grown q.grown;
-        sound = q.sound ∙ p.sound;
-      }
+pub some_of_part : (xs ys zs : List ℕ) (out : SinkUse) → zs ≡ xs ++ ys → AppendsPart out.before out.after xs → out.has_failed ≡ true → TakesSome out zs
+some_of_part xs ys zs out is p failed =
+    (record { part = p.part; rest = p.rest ++ ys; split = is ∙ ap (λ l. l ++ ys) p.split ∙ append_assoc p.part p.rest ys; holds = inl p.holds }, failed)
+
+pub breaks_more : (xs ys : List ℕ) (sink : SinkUse) (e : RunError) → Breaks xs sink e → Breaks (xs ++ ys) sink e
+breaks_more xs ys sink e (is, some, (b, failed)) =
+    let more : 0 < length (xs ++ ys) = omega (arith, length-append xs ys, some) in
+    (is, more, (record { part = b.part; rest = b.rest ++ ys; split = ap (λ l. l ++ ys) b.split ∙ append_assoc b.part b.rest ys; holds = b.holds }, failed))
+
+-- an answer after these bytes
+pub breaks_before : (held : List ℕ) (a : Answer) (e : RunError) (sink : SinkUse) → Breaks held sink e → EndsBy (before held a) e sink
+breaks_before held a e sink b =
+    let (is, some, takes) = breaks_more held a.output sink e b in
+    subst (λ r. EndsBy (before held a) r sink) (sym is) (some, takes)
+
+pub breaks_ends : (held text : List ℕ) (next : Answer) (e : RunError) (sink : SinkUse) → Breaks (held ++ text) sink e → EndsBy (before held (before text next)) e sink
+breaks_ends held text next e sink b = subst (λ a. EndsBy a e sink) (sym (before_before held text next)) (breaks_before (held ++ text) next e sink b)
+
+module _ {S : Type 0} (taken : S → Option (List ℕ)) (failed : S → Bool) where
+  -- ---- bytes that are put after those held back, of which some are taken
+
+  pub moves_none : (held : List ℕ) (s : S) → Moves taken failed held held s s
+  moves_none held s = record { part = []; split = refl; grown = Appends-nil (taken s); sound = refl }
+
+  -- all of them are taken
+  pub moves_all : (all : List ℕ) (s t : S) → Appends (taken s) (taken t) all → failed t ≡ failed s → Moves taken failed all [] s t
+  moves_all all s t grown sound = record { part = all; split = sym (append-nil all); grown = grown; sound = sound }
+
+  pub moves_then : (all held more held' : List ℕ) (s t u : S) → Moves taken failed all held s t → Moves taken failed (held ++ more) held' t u → Moves taken failed (all ++ more) held' s u
+  moves_then all held more held' s t u m k = record {
+    part = m.part ++ k.part;
+    split = ap (λ l. l ++ more) m.split ∙ append_assoc m.part held more ∙ ap (λ l. m.part ++ l) k.split ∙ sym (append_assoc m.part k.part held');
+    grown = Appends-trans (taken s) (taken t) (taken u) m.part k.part m.grown k.grown;
+    sound = k.sound ∙ m.sound;
+  }
 
   -- what was taken of bytes, after bytes that were taken
   pub some_after : (s t u : S) (done bytes : List ℕ) → Appends (taken s) (taken t) done → failed t ≡ failed s → TakesSome (sink_use taken failed t u) bytes → TakesSome (sink_use taken failed s u) (done ++ bytes)
@@ -47,29 +67,45 @@ module _ {S : Type 0} (taken : S → Option (List ℕ)) (failed : S → Bool) wh
     fault,
   )
 
+  pub breaks_then : (all held more : List ℕ) (s t u : S) (e : RunError) → Moves taken failed all held s t → Breaks (held ++ more) (sink_use taken failed t u) e → Breaks (all ++ more) (sink_use taken failed s u) e
+  breaks_then all held more s t u e m b =
+      let is : all ++ more ≡ m.part ++ (held ++ more) = ap (λ l. l ++ more) m.split ∙ append_assoc m.part held more in
+      let some : 0 < length (m.part ++ (held ++ more)) = omega (arith, length-append m.part (held ++ more), b.1) in
+      (b.0, subst (λ l. 0 < length l) (sym is) some, subst (TakesSome (sink_use taken failed s u)) (sym is) (some_after s t u m.part (held ++ more) m.grown m.sound b.2))
+
+  -- ---- pieces that are answered
+
   pub ends_after : (s t u : S) (a : Answer) (done : List ℕ) (e : RunError) → Appends (taken s) (taken t) done → failed t ≡ failed s → EndsBy a e (sink_use taken failed t u) → EndsBy (before done a) e (sink_use taken failed s u)
-  ends_after s t u a done (Error e) grown same (at, ending, takes) = (at, ending, (Appends-trans (taken s) (taken t) (taken u) done a.output grown takes.0, takes.1 ∙ same))
+  ends_after s t u a done (Error e) grown same (ending, takes) = (ending, (Appends-trans (taken s) (taken t) (taken u) done a.output grown takes.0, takes.1 ∙ same))
   ends_after s t u a done (Fault Write) grown same w = (let some : 0 < length a.output = w.0 in omega (arith, length-append done a.output), some_after s t u done a.output grown same w.1)
   ends_after s t u a done (Fault Read) grown same never = absurd never
   ends_after s t u a done (Fault Memory) grown same never = absurd never
 
-  pub refuses_then : {F : Type 0} (answer_of : F → Option ℕ → Answer) {f g : F} {n m : ℕ} {h1 h2 : List ℕ} {s t : S} (u : S) (xs ys : List (List ℕ)) (e : RunError) → g ≡ f → Answered taken failed (answer_of f) n m h1 h2 s t xs
-      → RefusesEach (answer_of g) m h2 ys e (sink_use taken failed t u) → RefusesEach (answer_of f) n h1 (xs ++ ys) e (sink_use taken failed s u)
-  refuses_then answer_of {f} {g} {n} {m} {h1} {h2} {s} {t} u xs ys e same p refuses =
-      let rest = lines_answer (answer_of f) m ys in
-      let is : before h1 (lines_answer (answer_of f) n (xs ++ ys)) ≡ before p.part (before h2 rest) =
-      ap (before h1) (p.says ys) ∙ before_before h1 p.text rest ∙ ap (λ l. before l rest) p.split ∙ sym (before_before p.part h2 rest) in
-      let after : EndsBy (before h2 rest) e (sink_use taken failed t u) = subst (λ d. EndsBy (before h2 (lines_answer (answer_of d) m ys)) e (sink_use taken failed t u)) same refuses in
-      subst (λ a. EndsBy a e (sink_use taken failed s u)) (sym is) (ends_after s t u (before h2 rest) p.part e p.grown p.sound after)
+  -- bytes that were held back are taken, and no piece answered
+  pub answered_by : {L N : Type 0} (answer : L → N → List Piece → Answer) (v w : N) (held held' : List ℕ) (s t : S) → w ≡ v → Moves taken failed held held' s t → Answered taken failed answer v w held held' s t []
+  answered_by answer v w held held' s t same m =
+      record { text = []; says = λ last more. ap (λ x. answer last x more) (sym same); moves = subst (λ l. Moves taken failed l held' s t) (sym (append-nil held)) m }
 
-  -- ---- the same of rows
+  pub answered_none : {L N : Type 0} (answer : L → N → List Piece → Answer) (v : N) (held : List ℕ) (s : S) → Answered taken failed answer v v held held s s []
+  answered_none answer v held s = answered_by answer v v held held s s refl (moves_none held s)
 
-  pub rows_answered : {F : Type 0} (answer_of : F → Option ℕ → Answer) {f g : F} {n m k : ℕ} {h1 h2 h3 : List ℕ} {s t u : S} (xs ys : List Piece) → g ≡ f → Answered taken failed (answer_of f) n m h1 h2 s t (lines_in xs)
-      → Answered taken failed (answer_of g) m k h2 h3 t u (lines_in ys) → Answered taken failed (answer_of f) n k h1 h3 s u (lines_in (xs ++ ys))
-  rows_answered answer_of {f} {n = n} {k = k} {h1 = h1} {h3 = h3} {s = s} {u = u} xs ys same p q =
-      subst (λ ls. Answered taken failed (answer_of f) n k h1 h3 s u ls) (sym (lines_in-append xs ys)) (answered_then answer_of (lines_in xs) (lines_in ys) same p q)
+  pub answered_then : {F L N : Type 0} (answer_of : F → L → N → List Piece → Answer) {f g : F} {v w x : N} {h1 h2 h3 : List ℕ} {s t u : S} (xs ys : List Piece) → g ≡ f → Answered taken failed (answer_of f) v w h1 h2 s t xs
+      → Answered taken failed (answer_of g) w x h2 h3 t u ys → Answered taken failed (answer_of f) v x h1 h3 s u (xs ++ ys)
+  answered_then {L = L} answer_of {f} {g} {v} {w} {x} {h1} {h2} {h3} {s} {t} {u} xs ys same p q =
+      let says : (last : L) (more : List Piece) → answer_of f last w (ys ++ more) ≡ before q.text (answer_of f last x more) =
+      subst (λ e. (last : L) (more : List Piece) → answer_of e last w (ys ++ more) ≡ before q.text (answer_of e last x more)) same q.says in
+      record {
+        text = p.text ++ q.text;
+        says = λ last more. ap (answer_of f last v) (append_assoc xs ys more) ∙ p.says last (ys ++ more) ∙ ap (before p.text) (says last more) ∙ before_before p.text q.text (answer_of f last x more);
+        moves = subst (λ l. Moves taken failed l h3 s u) (append_assoc h1 p.text q.text) (moves_then (h1 ++ p.text) h2 q.text h3 s t u p.moves q.moves);
+      }
 
-  pub rows_refused : {F : Type 0} (answer_of : F → Option ℕ → Answer) {f g : F} {n m : ℕ} {h1 h2 : List ℕ} {s t : S} (u : S) (xs ys : List Piece) (e : RunError) → g ≡ f → Answered taken failed (answer_of f) n m h1 h2 s t (lines_in xs)
-      → RefusesEach (answer_of g) m h2 (lines_in ys) e (sink_use taken failed t u) → RefusesEach (answer_of f) n h1 (lines_in (xs ++ ys)) e (sink_use taken failed s u)
-  rows_refused answer_of {f} {n = n} {h1 = h1} {s = s} u xs ys e same p refuses =
-      subst (λ ls. RefusesEach (answer_of f) n h1 ls e (sink_use taken failed s u)) (sym (lines_in-append xs ys)) (refuses_then answer_of u (lines_in xs) (lines_in ys) e same p refuses)
+  pub refuses_then : {F L N : Type 0} (answer_of : F → L → N → List Piece → Answer) {f g : F} {v w : N} {h1 h2 : List ℕ} {s t : S} (u : S) (xs ys : List Piece) (e : RunError) → g ≡ f → Answered taken failed (answer_of f) v w h1 h2 s t xs
+      → RefusesEach (answer_of g) w h2 ys e (sink_use taken failed t u) → RefusesEach (answer_of f) v h1 (xs ++ ys) e (sink_use taken failed s u)
+  refuses_then answer_of {f} {g} {v} {w} {h1} {h2} {s} {t} u xs ys e same p refuses last =
+      let rest = answer_of f last w ys in
+      let m = p.moves in
+      let is : before h1 (answer_of f last v (xs ++ ys)) ≡ before m.part (before h2 rest) =
+      ap (before h1) (p.says last ys) ∙ before_before h1 p.text rest ∙ ap (λ l. before l rest) m.split ∙ sym (before_before m.part h2 rest) in
+      let after : EndsBy (before h2 rest) e (sink_use taken failed t u) = subst (λ d. EndsBy (before h2 (answer_of d last w ys)) e (sink_use taken failed t u)) same (refuses last) in
+      subst (λ a. EndsBy a e (sink_use taken failed s u)) (sym is) (ends_after s t u (before h2 rest) m.part e m.grown m.sound after)

@@ -3,10 +3,10 @@
 ghost use Rattle.std.proofs.Common.{◌∙◌, refl};
 ghost use Rattle.std.specs.Prelude.{◌≡◌, ◌+◌, ◌<◌, ◌≤◌, ◌++◌, ◌∷◌, ◌^◌, [], ℕ, List, length, Option, take, IfOk, IfErr, OnOk};
 ghost use Rattle.h3_lines.specs.Answer.{Answer, printed, refused};
-ghost use Rattle.h3_lines.specs.Answering.{Answered, Breaks, Moves, Puts, RefusesEach, answer_said};
-ghost use Rattle.h3_lines.specs.EachLaws.{answered_none, rows_answered, rows_refused};
+ghost use Rattle.h3_lines.specs.Answering.{Answered, Breaks, Moves, Puts, RefusesLines, answer_said, lines_from};
+ghost use Rattle.h3_lines.specs.EachLaws.{answered_none, answered_then, refuses_then};
 ghost use Rattle.h3_lines.specs.EachLine.{EndsEach, line_answer};
-ghost use Rattle.h3_lines.specs.Pieces.{lines_in};
+ghost use Rattle.h3_lines.specs.Pieces.{Piece};
 ghost use Rattle.h3_lines.specs.Write.{sink_use};
 ghost use Rattle.h3_lines.specs.declared.line.TheConstants.{BLOCK};
 ghost use Rattle.h3_lines.specs.declared.run_error.Fault.TheVariants.{Write};
@@ -104,9 +104,9 @@ fn index_on(line: &[u8]) -> Result<Option<Option<u64>>, H3Error>
 /// Writes the answers held back, and refuses the line with this number.
 #[cold]
 pub(crate) fn refuse<W: Sink>(out: &mut W, held: &[u8], number: u64, error: H3Error) -> RunError
-    ensures { (answer : Option ℕ → Answer) (line : List ℕ) (later : List (List ℕ)) →
-        line_answer answer line ≡ refused error →
-        RefusesEach answer number held.now (line ∷ later) result
+    ensures { (answer : Option ℕ → Answer) (line : Piece) (later : List Piece) →
+        line_answer answer line.0 ≡ refused error →
+        RefusesLines answer number held.now (line ∷ later) result
         (sink_use W.taken W.has_failed out.old out.new) }
 {
     match write_held(out, held) {
@@ -166,16 +166,16 @@ pub(crate) trait Answering {
         held: &mut Held<'a, W>,
     ) -> Result<(), RunError>
         requires { held.old.number < 2 ^ 63 }
-        ensures ok { OnOk result ((line : List ℕ) →
-            line_answer (answer_of self.now) line ≡ answer_of self.now index →
-            Answered W.taken W.has_failed (answer_of self.now) held.old.number held.new.number
-            (take held.old.end held.old.block) (take held.new.end held.new.block)
+        ensures ok { OnOk result ((line : Piece) →
+            line_answer (answer_of self.now) line.0 ≡ answer_of self.now index →
+            Answered W.taken W.has_failed (lines_from (answer_of self.now)) held.old.number
+            held.new.number (take held.old.end held.old.block) (take held.new.end held.new.block)
             held.old.out.now held.new.out.now (line ∷ [])) }
         ensures counted { OnOk result (held.new.number ≡ held.old.number + 1) }
-        ensures err { IfErr result (λ e. (line : List ℕ) →
-            line_answer (answer_of self.now) line ≡ answer_of self.now index →
-            (later : List (List ℕ)) →
-            RefusesEach (answer_of self.now) held.old.number (take held.old.end held.old.block)
+        ensures err { IfErr result (λ e. (line : Piece) →
+            line_answer (answer_of self.now) line.0 ≡ answer_of self.now index →
+            (later : List Piece) →
+            RefusesLines (answer_of self.now) held.old.number (take held.old.end held.old.block)
             (line ∷ later) e (sink_use W.taken W.has_failed held.old.out.now held.new.out.now)) }
         ensures sink { held.new.out.ghost_name ≡ held.old.out.ghost_name };
 
@@ -250,14 +250,14 @@ impl<'a, 'f, W: Sink, A: Answering> Taking for Answers<'a, 'f, W, A> {
     ghost settled = { λ v. v.held.end ≡ 0 };
 
     ghost taken = { λ v rows w.
-        Answered W.taken W.has_failed (A.answer_of v.function.now) v.held.number w.held.number
-        (take v.held.end v.held.block) (take w.held.end w.held.block) v.held.out.now
-        w.held.out.now (lines_in rows)
+        Answered W.taken W.has_failed (lines_from (A.answer_of v.function.now)) v.held.number
+        w.held.number (take v.held.end v.held.block) (take w.held.end w.held.block)
+        v.held.out.now w.held.out.now rows
         × (w.function ≡ v.function) × (w.held.out.ghost_name ≡ v.held.out.ghost_name) };
 
     ghost refused = { λ v rows w e.
-        RefusesEach (A.answer_of v.function.now) v.held.number (take v.held.end v.held.block)
-        (lines_in rows) e (sink_use W.taken W.has_failed v.held.out.now w.held.out.now)
+        RefusesLines (A.answer_of v.function.now) v.held.number (take v.held.end v.held.block)
+        rows e (sink_use W.taken W.has_failed v.held.out.now w.held.out.now)
         × (w.held.out.ghost_name ≡ v.held.out.ghost_name) };
 
     fn refuse_long(&mut self) -> RunError {
@@ -277,10 +277,12 @@ impl<'a, 'f, W: Sink, A: Answering> Taking for Answers<'a, 'f, W, A> {
     ghost none_taken = { λ v. (answered_none _ _ _ _ _ _, refl, refl) };
 
     ghost taken_then = { λ u v w xs ys p q.
-        (rows_answered _ _ (λ f. A.answer_of f.now) xs ys p.1 p.0 q.0, q.1 ∙ p.1, q.2 ∙ p.2) };
+        (answered_then _ _ (λ f. lines_from (A.answer_of f.now)) xs ys p.1 p.0 q.0, q.1 ∙ p.1,
+        q.2 ∙ p.2) };
 
     ghost refused_then = { λ u v w xs ys e p q.
-        (rows_refused _ _ (λ f. A.answer_of f.now) _ xs ys e p.1 p.0 q.0, q.1 ∙ p.2) };
+        ((q.0.0, refuses_then _ _ (λ f. lines_from (A.answer_of f.now)) _ xs ys e p.1 p.0 q.0.1),
+        q.1 ∙ p.2) };
 }
 
 impl<'a, 'f, W: Sink, A: Answering> IndexJob for Answers<'a, 'f, W, A> {

@@ -68,3 +68,8 @@ names_put held body first second more ending names separator is =
     let front : body ++ (separator ∷ (first ++ [])) ≡ body ++ (separator ∷ first) = ap (λ l. body ++ (separator ∷ l)) (append-nil first) in
     ap (λ l. ((held ++ l) ++ last) ++ ending) front ∙ append_assoc (held ++ (body ++ (separator ∷ first))) last ending ∙ append_assoc held (body ++ (separator ∷ first)) (last ++ ending)
     ∙ ap (λ l. held ++ l) (append_assoc body (separator ∷ first) (last ++ ending) ∙ ap (λ l. body ++ (separator ∷ l)) (sym (append_assoc first last ending) ∙ ap (λ l. l ++ ending) (sym is)))
+
+-- the bytes of a row that is put part by part
+pub row_bytes : (held row answer ending : List ℕ) (separator : ℕ) → (((held ++ row) ++ (separator ∷ [])) ++ answer) ++ ending ≡ held ++ (row ++ (separator ∷ (answer ++ ending)))
+row_bytes held row answer ending separator =
+    append_assoc ((held ++ row) ++ (separator ∷ [])) answer ending ∙ append_assoc (held ++ row) (separator ∷ []) (answer ++ ending) ∙ append_assoc held row (separator ∷ (answer ++ ending))

@@ -8,7 +8,7 @@ use Rattle.h3_lines.specs.declared.run_error.AnswerError.{AnswerError}
 use Rattle.h3_lines.specs.declared.run_error.Fault.TheVariants.{Memory, Read, Write}
 use Rattle.h3_lines.specs.declared.run_error.RunError.{RunError}
 use Rattle.h3_lines.specs.declared.run_error.RunError.TheVariants.{Error, Fault}
-use Rattle.h3_rows.specs.Answering.{Answered, EndsBy, RefusesEach}
+use Rattle.h3_lines.specs.Answering.{Answered, EndsBy, RefusesEach}
 use Rattle.h3_rows.specs.Each.{AnswersAll, AnswersBeforeFault, EndsRows, StopsInPage}
 use Rattle.h3_lines.specs.Pieces.{Piece}
 use Rattle.h3_rows.specs.RowsAnswer.{State}
@@ -20,29 +20,29 @@ abbrev pub nothing_last : State → Answer
 nothing_last s = written []
 
 module _ {S : Type 0} (taken : S → Option (List ℕ)) (failed : S → Bool) (answer : (State → Answer) → State → List Piece → Answer) (none_left : (last : State → Answer) (v : State) → answer last v [] ≡ last v) where
-  moved : {v w : State} {s t : S} {h : List ℕ} {ls : List Piece} → h ≡ [] → (a : Answered taken failed answer v w [] h s t ls) → a.text ≡ a.part
-  moved none a = a.split ∙ ap (λ l. a.part ++ l) none ∙ append-nil a.part
+  moved : {v w : State} {s t : S} {h : List ℕ} {ls : List Piece} → h ≡ [] → (a : Answered taken failed answer v w [] h s t ls) → a.text ≡ a.moves.part
+  moved none a = a.moves.split ∙ ap (λ l. a.moves.part ++ l) none ∙ append-nil a.moves.part
 
   -- the answer to rows, of which these are answered to their end
-  split_answer : (last : State → Answer) {v w : State} {s t : S} {h : List ℕ} {ls : List Piece} → h ≡ [] → (a : Answered taken failed answer v w [] h s t ls) (later : List Piece) → answer last v (ls ++ later) ≡ before a.part (answer last w later)
+  split_answer : (last : State → Answer) {v w : State} {s t : S} {h : List ℕ} {ls : List Piece} → h ≡ [] → (a : Answered taken failed answer v w [] h s t ls) (later : List Piece) → answer last v (ls ++ later) ≡ before a.moves.part (answer last w later)
   split_answer last {w = w} none a later = a.says last later ∙ ap (λ l. before l (answer last w later)) (moved none a)
 
   -- rows that are answered to their end, and then what is last
-  whole_answer : (last : State → Answer) {v w : State} {s t : S} {h : List ℕ} {ls : List Piece} → h ≡ [] → (a : Answered taken failed answer v w [] h s t ls) → answer last v ls ≡ before a.part (last w)
-  whole_answer last {v} {w} {ls = ls} none a = ap (answer last v) (sym (append-nil ls)) ∙ split_answer last none a [] ∙ ap (before a.part) (none_left last w)
+  whole_answer : (last : State → Answer) {v w : State} {s t : S} {h : List ℕ} {ls : List Piece} → h ≡ [] → (a : Answered taken failed answer v w [] h s t ls) → answer last v ls ≡ before a.moves.part (last w)
+  whole_answer last {v} {w} {ls = ls} none a = ap (answer last v) (sym (append-nil ls)) ∙ split_answer last none a [] ∙ ap (before a.moves.part) (none_left last w)
 
-  begun_whole : {v w : State} {s t : S} {h : List ℕ} {ls : List Piece} → h ≡ [] → (a : Answered taken failed answer v w [] h s t ls) → answer nothing_last v ls ≡ written a.part
-  begun_whole none a = whole_answer nothing_last none a ∙ ap written (append-nil a.part)
+  begun_whole : {v w : State} {s t : S} {h : List ℕ} {ls : List Piece} → h ≡ [] → (a : Answered taken failed answer v w [] h s t ls) → answer nothing_last v ls ≡ written a.moves.part
+  begun_whole none a = whole_answer nothing_last none a ∙ ap written (append-nil a.moves.part)
 
   begun_written : {v w : State} {s t : S} {h : List ℕ} {ls : List Piece} → h ≡ [] → Answered taken failed answer v w [] h s t ls → Writes (answer nothing_last v ls) (Ok tt) (sink_use taken failed s t)
   begun_written {s = s} {t} none a =
-      subst (λ b. Writes b (Ok tt) (sink_use taken failed s t)) (sym (begun_whole none a)) (writes_whole a.part (sink_use taken failed s t) (a.grown, a.sound))
+      subst (λ b. Writes b (Ok tt) (sink_use taken failed s t)) (sym (begun_whole none a)) (writes_whole a.moves.part (sink_use taken failed s t) (a.moves.grown, a.moves.sound))
 
   -- what is last is written after rows that are answered to their end
   last_written : (last : State → Answer) {v w : State} {s t : S} (u : S) {h : List ℕ} {ls : List Piece} (r : Result (Unit {0}) RunError) → h ≡ [] → Answered taken failed answer v w [] h s t ls → Writes (last w) r (sink_use taken failed t u)
       → Writes (answer last v ls) r (sink_use taken failed s u)
   last_written last {w = w} {s} {t} u r none a writes =
-      subst (λ b. Writes b r (sink_use taken failed s u)) (sym (whole_answer last none a)) (writes_after taken failed s t u (last w) a.part r a.grown a.sound writes)
+      subst (λ b. Writes b r (sink_use taken failed s u)) (sym (whole_answer last none a)) (writes_after taken failed s t u (last w) a.moves.part r a.moves.grown a.moves.sound writes)
 
   error_written : (last : State → Answer) {v w : State} {s t : S} (u : S) {h : List ℕ} {ls : List Piece} (later all : List Piece) (e : AnswerError) → h ≡ [] → Answered taken failed answer v w [] h s t ls → all ≡ ls ++ later
       → RefusesEach answer w h later (Error e) (sink_use taken failed t u) → Writes (answer last v all) (Err (Error e)) (sink_use taken failed s u)
@@ -52,7 +52,7 @@ module _ {S : Type 0} (taken : S → Option (List ℕ)) (failed : S → Bool) (a
       let same : before h rest ≡ rest = ap (λ l. before l rest) none in
       let now : EndsBy rest (Error e) (sink_use taken failed t u) = subst (λ b. EndsBy b (Error e) (sink_use taken failed t u)) same (ends last) in
       subst (λ b. Writes b (Err (Error e)) (sink_use taken failed s u)) (sym (ap (answer last v) split ∙ split_answer last none a later))
-      (writes_after taken failed s t u rest a.part (Err (Error e)) a.grown a.sound now)
+      (writes_after taken failed s t u rest a.moves.part (Err (Error e)) a.moves.grown a.moves.sound now)
 
   part_written : (last : State → Answer) {v w : State} {s t : S} (u : S) {h : List ℕ} {ls : List Piece} (later all : List Piece) → h ≡ [] → Answered taken failed answer v w [] h s t ls → all ≡ ls ++ later
       → RefusesEach answer w h later (Fault Write) (sink_use taken failed t u) → TakesBeginning (answer nothing_last v ls).output (answer last v all).output (sink_use taken failed s u)
@@ -60,7 +60,7 @@ module _ {S : Type 0} (taken : S → Option (List ℕ)) (failed : S → Bool) (a
       let rest = answer last w later in
       let same : before h rest ≡ rest = ap (λ l. before l rest) none in
       let (some, (b, fault)) : EndsBy rest (Fault Write) (sink_use taken failed t u) = subst (λ b. EndsBy b (Fault Write) (sink_use taken failed t u)) same (ends last) in
-      let first : (answer nothing_last v ls).output ≡ a.part = ap (λ b. b.output) (begun_whole none a) in
+      let first : (answer nothing_last v ls).output ≡ a.moves.part = ap (λ b. b.output) (begun_whole none a) in
       rw first (record {
         after = rest.output;
         split = ap (λ b. b.output) (ap (answer last v) split ∙ split_answer last none a later);
@@ -70,8 +70,8 @@ module _ {S : Type 0} (taken : S → Option (List ℕ)) (failed : S → Bool) (a
           rest = b.rest;
           split = b.split;
           holds = elim b.holds [
-            | inl more ↦ inl (Appends-trans (taken s) (taken t) (taken u) a.part b.part a.grown more)
-            | inr (whole, more, sound, kept) ↦ inr (whole, Appends-trans (taken s) (taken t) (taken whole) a.part b.part a.grown more, sound ∙ a.sound, kept)
+            | inl more ↦ inl (Appends-trans (taken s) (taken t) (taken u) a.moves.part b.part a.moves.grown more)
+            | inr (whole, more, sound, kept) ↦ inr (whole, Appends-trans (taken s) (taken t) (taken whole) a.moves.part b.part a.moves.grown more, sound ∙ a.moves.sound, kept)
           ];
         };
         failed = fault;

@@ -1,4 +1,3 @@
-pub mod AnsweredRows
 pub mod Beside
 pub mod Blanks
 pub mod Blocks

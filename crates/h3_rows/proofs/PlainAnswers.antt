@@ -12,7 +12,8 @@ use mathlib.Core.Bool.{beq}
 use Rattle.h3_index.specs.Text.{is_blank, parsed_index, trimmed, without_leading_blanks, without_trailing_blanks}
 use Rattle.h3_lines.specs.Answer.{Answer, written}
 use Rattle.h3_lines.specs.EachLine.{then_answer}
-use Rattle.h3_rows.specs.Answering.{Answered, PutsPlain, held_of, state_of}
+use Rattle.h3_lines.specs.Answering.{Answered}
+use Rattle.h3_rows.specs.Answering.{PutsPlain, held_of, state_of}
 use Rattle.h3_rows.specs.Lanes.{IsOneLine}
 use Rattle.h3_rows.specs.Plain.{IsPlainRow}
 use Rattle.h3_rows.specs.Row.{ends_in_return, field_text, next_number, read_of, row_body, unquoted}
@@ -144,11 +145,8 @@ module _ {S : Type 0} (taken : S → Option (List ℕ)) (failed : S → Bool) wh
       let step : row_step form answer (state_of s held) (p.row, false) ≡ record { answer = written p.text; after = state_of a held' } = p.is ∙ ap (λ w. record { answer = written p.text; after = w }) (passed_is s a k known p.row held held' count b kept) in
       record {
         text = p.text;
-        part = [];
         says = λ last more. ap (λ (x : Step). then_answer x.answer.output x.answer.ending (rows_then last form answer x.after more)) step;
-        split = rw (b, known) (sym p.put);
-        grown = Appends-nil (taken sink);
-        sound = refl;
+        moves = record { part = []; split = rw (b, known) (sym p.put); grown = Appends-nil (taken sink); sound = refl };
       }
 
 same_quotes : (p q : Bool) → not (beq p q) ≡ false → p ≡ q

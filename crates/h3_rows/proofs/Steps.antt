@@ -9,13 +9,13 @@ use Rattle.h3_lines.specs.Write.{SinkUse}
 use Rattle.h3_lines.specs.declared.run_error.AnswerError.TheVariants.{At}
 use Rattle.h3_lines.specs.declared.run_error.ColumnError.{ColumnError}
 use Rattle.h3_lines.specs.declared.run_error.RunError.{RunError}
-use Rattle.h3_lines.specs.Answering.{Breaks, Moves}
-use Rattle.h3_rows.specs.Answering.{Answered, EndsBy, StepEnds, StepsTo, held_of, pending_of, state_of}
+use Rattle.h3_lines.specs.Answering.{Answered, Breaks, EndsBy, Moves}
+use Rattle.h3_lines.specs.EachLaws.{answered_by, breaks_ends, moves_all}
+use Rattle.h3_rows.specs.Answering.{StepEnds, StepsTo, held_of, pending_of, state_of}
 use Rattle.h3_lines.specs.Pieces.{Piece}
 use Rattle.h3_rows.specs.Row.{ends_in_return, next_number, row_body}
 use Rattle.h3_rows.specs.RowsAnswer.{Form, State, Step, ends, faulty, goes_on, header_step, is_malformed, one_more, passed, row_step, row_with}
 use Rattle.h3_rows.specs.declared.state.RowState.{RowState}
-use Rattle.h3_rows.proofs.AnsweredRows.{answered_moved, breaks_ends}
 
 -- the bytes in the block are held back, or they are empty rows before a header
 pub both_parts : (b : Option ℕ) (bytes : List ℕ) → held_of b bytes ++ pending_of b bytes ≡ bytes
@@ -90,4 +90,4 @@ long_ends form answer s p long = rw (long_is_malformed form s.number p long) ref
 pub settled_moves : {S : Type 0} (taken : S → Option (List ℕ)) (failed : S → Bool) (answer : (State → Answer) → State → List Piece → Answer) (s : RowState) (k : ℕ) → s.before ≡ Some k → (bytes : List ℕ) (x y : S)
     → Appends (taken x) (taken y) bytes → failed y ≡ failed x → Answered taken failed answer (state_of s bytes) (state_of s []) (held_of s.before bytes) (held_of s.before []) x y []
 settled_moves taken failed answer s k known bytes x y grown sound =
-    answered_moved taken failed answer (state_of s bytes) (state_of s []) (held_of s.before bytes) (held_of s.before []) bytes x y (rw known refl) (rw known (sym (append-nil bytes))) grown sound
+    answered_by taken failed answer (state_of s bytes) (state_of s []) (held_of s.before bytes) (held_of s.before []) x y (rw known refl) (rw known (moves_all taken failed bytes x y grown sound))

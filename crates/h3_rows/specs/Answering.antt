@@ -1,14 +1,11 @@
 -- Rows that are answered one after another, with answers held back in a block. Private contracts and proofs alone cite
 -- this file.
-use Rattle.std.specs.Prelude.{◌≡◌, ℕ, ◌<◌, ◌+◌, Bool, true, false, List, [], ◌∷◌, ◌++◌, length, Option, None, Some, Err}
-use Rattle.std.specs.Io.KnownBytes.{Appends}
+use Rattle.std.specs.Prelude.{◌≡◌, ℕ, ◌+◌, Bool, true, false, List, [], ◌∷◌, ◌++◌, length, Option, None, Some}
 use Rattle.h3_lines.specs.Answer.{Answer, before, written}
-use Rattle.h3_lines.specs.Answering.{Breaks, Moves, TakesSome}
+use Rattle.h3_lines.specs.Answering.{Breaks, EndsBy, Moves}
 use Rattle.h3_lines.specs.EachLine.{then_answer}
-use Rattle.h3_lines.specs.Write.{SinkUse, Takes}
-use Rattle.h3_lines.specs.declared.run_error.Fault.TheVariants.{Memory, Read, Write}
+use Rattle.h3_lines.specs.Write.{SinkUse}
 use Rattle.h3_lines.specs.declared.run_error.RunError.{RunError}
-use Rattle.h3_lines.specs.declared.run_error.RunError.TheVariants.{Error, Fault}
 use Rattle.h3_lines.specs.Pieces.{Piece, cut}
 use Rattle.h3_rows.specs.Plain.{is_plain}
 use Rattle.h3_rows.specs.RowsAnswer.{Form, State, Step, goes_on, row_step, rows_with}
@@ -46,28 +43,6 @@ abbrev pub state_of : RowState → List ℕ → State
 state_of s bytes = record { number = s.number; before = s.before; pending = pending_of s.before bytes; kept = s.kept }
 
 -- ---- rows that are answered
-
-module _ {S : Type 0} (taken : S → Option (List ℕ)) (failed : S → Bool) where
-  -- From one moment to a later one these rows are answered, from the one state to the other: some of the answers is taken
-  -- by the sink, and the rest held back.
-  pub record Answered (answer : (State → Answer) → State → List Piece → Answer) (v w : State) (held held' : List ℕ) (old new : S) (rows : List Piece) : Type 0 where
-    pub text : List ℕ
-    pub part : List ℕ
-    pub says : (last : State → Answer) (more : List Piece) → answer last v (rows ++ more) ≡ before text (answer last w more)
-    pub split : held ++ text ≡ part ++ held'
-    pub grown : Appends (taken old) (taken new) part
-    pub sound : failed new ≡ failed old
-
--- an answer ends by its error, all before it taken, or by a write that fails
-abbrev pub EndsBy : Answer → RunError → SinkUse → Type 0
-EndsBy a (Error e) out = (a.ending ≡ Err e) × Takes out a.output
-EndsBy a (Fault Write) out = (0 < length a.output) × TakesSome out a.output
-EndsBy a (Fault Read) out = ⊥
-EndsBy a (Fault Memory) out = ⊥
-
--- these bytes and the answer to these rows, in this state, end so, whatever is last
-abbrev pub RefusesEach : ((State → Answer) → State → List Piece → Answer) → State → List ℕ → List Piece → RunError → SinkUse → Type 0
-RefusesEach answer s held rows e out = (last : State → Answer) → EndsBy (before held (answer last s rows)) e out
 
 -- a row is answered by bytes alone, which are put after what is held back, and the state after it is this
 pub record StepsTo {S : Type 0} (taken : S → Option (List ℕ)) (failed : S → Bool) (step : Step) (w : State) (held held' : List ℕ) (s t : S) : Type 0 where

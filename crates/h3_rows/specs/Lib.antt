@@ -2,7 +2,6 @@ pub mod Answering
 pub mod Cells
 pub mod CellsLaws
 pub mod Each
-pub mod EachLaws
 pub mod Examples
 pub mod Lanes
 pub mod Laws

@@ -2,7 +2,8 @@ use Rattle.std.proofs.Common.{◌≡◌, ◌<◌, ◌≤◌, ◌-◌, ◌∷◌,
 use Rattle.std.proofs.lemmas.List.{take_more_set}
 use Rattle.std.proofs.lemmas.Result.{err_from_is_err_and}
 use Rattle.h3_lines.specs.Write.{sink_use}
-use Rattle.h3_lines.proofs.AnsweredLines.{last_left, moves_none, some_of_part}
+use Rattle.h3_lines.specs.EachLaws.{moves_none, some_of_part}
+use Rattle.h3_lines.proofs.AnsweredLines.{last_left}
 use Rattle.h3_lines.proofs.each.make_room.Goals as goal
 
 pub returns-then-end-clause-ok : goal.returns-then-end-clause-ok

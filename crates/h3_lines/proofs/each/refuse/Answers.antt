@@ -1,3 +1,4 @@
+use Rattle.std.proofs.Common.{◌∷◌}
 use Rattle.h3_lines.specs.Write.{sink_use}
 use Rattle.h3_lines.proofs.AnsweredLines.{ends_refused, ends_unwritten}
 use Rattle.h3_lines.proofs.each.refuse.Goals as goal
@@ -8,4 +9,4 @@ returns-in-Ok g c answer line later is =
 
 pub returns-in-Err : goal.returns-in-Err
 returns-in-Err g c answer line later is =
-    ends_unwritten _ c.args.held.now _ (sink_use g.W.Sink.taken g.W.Sink.has_failed c.args.out.now c.write_held.new.out) c.in-Err.ensures.err
+    ends_unwritten answer c.args.number c.args.held.now (line ∷ later) _ (sink_use g.W.Sink.taken g.W.Sink.has_failed c.args.out.now c.write_held.new.out) c.in-Err.ensures.err

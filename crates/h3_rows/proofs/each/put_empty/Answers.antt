@@ -4,7 +4,7 @@ use Rattle.h3_lines.specs.Write.{sink_use}
 use Rattle.h3_lines.specs.Answering.{Breaks, Moves}
 use Rattle.h3_rows.specs.Answering.{state_of}
 use Rattle.h3_rows.specs.RowsAnswer.{empty_step, goes_on}
-use Rattle.h3_rows.proofs.AnsweredRows.{breaks_more, breaks_then, moves_then}
+use Rattle.h3_lines.specs.EachLaws.{breaks_more, breaks_then, moves_then}
 use Rattle.h3_rows.proofs.Steps.{breaks_step, puts}
 use Rattle.h3_rows.proofs.each.put_empty.Goals as goal
 

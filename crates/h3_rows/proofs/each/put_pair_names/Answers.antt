@@ -4,7 +4,7 @@ use Rattle.h3_lines.specs.Answering.{Breaks, Moves}
 use Rattle.h3_lines.specs.Write.{sink_use}
 use Rattle.h3_rows.specs.Row.{row_body, row_ending}
 use Rattle.h3_rows.specs.RowsAnswer.{pair_names, row_with}
-use Rattle.h3_rows.proofs.AnsweredRows.{breaks_more, breaks_then, moves_then}
+use Rattle.h3_lines.specs.EachLaws.{breaks_more, breaks_then, moves_then}
 use Rattle.h3_rows.proofs.Beside.{names_put}
 use Rattle.h3_rows.proofs.each.put_pair_names.Goals as goal
 

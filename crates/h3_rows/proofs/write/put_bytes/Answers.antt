@@ -1,7 +1,7 @@
 use Rattle.std.proofs.Common.{◌<◌, ◌++◌, [], length, take, arith, refl, append-nil, length-append, sym}
 use Rattle.std.proofs.lemmas.Result.{err_from_is_err_and}
 use Rattle.h3_lines.specs.Write.{sink_use}
-use Rattle.h3_rows.proofs.AnsweredRows.{breaks_then, moves_all, moves_then, some_of_part}
+use Rattle.h3_lines.specs.EachLaws.{breaks_then, moves_all, moves_then, some_of_part}
 use Rattle.h3_rows.proofs.write.put_bytes.Goals as goal
 
 pub returns-in_err-write_all-clause-err : goal.returns-in_err-write_all-clause-err

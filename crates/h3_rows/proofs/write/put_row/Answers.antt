@@ -2,7 +2,8 @@ use Rattle.std.proofs.Common.{◌++◌, ◌∷◌, [], take, subst, append_assoc
 use Rattle.std.proofs.lemmas.Result.{err_from_is_err_and, IfOk-weaker, IfErr-weaker}
 use Rattle.h3_lines.specs.Write.{sink_use}
 use Rattle.h3_lines.specs.Answering.{Breaks, Moves}
-use Rattle.h3_rows.proofs.AnsweredRows.{breaks_more, breaks_then, moves_then, row_bytes}
+use Rattle.h3_lines.specs.EachLaws.{breaks_more, breaks_then, moves_then}
+use Rattle.h3_rows.proofs.Beside.{row_bytes}
 use Rattle.h3_rows.proofs.write.put_row.Goals as goal
 
 pub returns-in_err-after_row-clause-err : goal.returns-in_err-after_row-clause-err

@@ -3,7 +3,7 @@ use Rattle.std.proofs.lemmas.Result.{err_from_is_err_and}
 use Rattle.h3_lines.specs.Write.{sink_use}
 use Rattle.h3_lines.specs.Answering.{Breaks, Moves}
 use Rattle.h3_rows.specs.RowsAnswer.{row_with, rows_with}
-use Rattle.h3_rows.proofs.AnsweredRows.{breaks_more, breaks_then, moves_none, moves_then}
+use Rattle.h3_lines.specs.EachLaws.{breaks_more, breaks_then, moves_none, moves_then}
 use Rattle.h3_rows.proofs.Beside.{first_with, last_with}
 use Rattle.h3_rows.proofs.write.put_rows.Goals as goal
 

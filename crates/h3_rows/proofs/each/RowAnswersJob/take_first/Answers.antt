@@ -1,7 +1,7 @@
 use Rattle.std.proofs.Common.{false, [], ◌∷◌, refl, take}
 use Rattle.std.proofs.lemmas.List.{take_rest}
 use Rattle.h3_lines.specs.Pieces.{CutsAt}
-use Rattle.h3_rows.specs.EachLaws.{answered_none}
+use Rattle.h3_lines.specs.EachLaws.{answered_none}
 use Rattle.h3_rows.specs.RowForm.{columns_form}
 use Rattle.h3_rows.proofs.PlainAnswers.{first_cut, plain_answered, plain_cuts}
 use Rattle.h3_rows.proofs.each.RowAnswersJob.take_first.Goals as goal

@@ -1,5 +1,5 @@
 use Rattle.std.proofs.Common.{refl, take}
-use Rattle.h3_rows.specs.EachLaws.{answered_none}
+use Rattle.h3_lines.specs.EachLaws.{answered_none}
 use Rattle.h3_rows.proofs.Steps.{settled_moves}
 use Rattle.h3_rows.proofs.each.RowAnswersTaking.settle.Goals as goal
 
