@@ -10,7 +10,7 @@ use Rattle.h3_table.specs.Table.{RefusesTable, links_of, table_fault}
 use Rattle.h3_directions.specs.declared.error.TableError.{TableError}
 use Rattle.h3_directions.specs.declared.error.TableError.TheVariants as in_table
 use Rattle.h3_lines.specs.Answer.{Answer, answer_or_error}
-use Rattle.h3_lines.specs.EachLine.{EndsEach, answer_at, list_answer}
+use Rattle.h3_lines.specs.EachLine.{EndsEach, list_answer}
 use Rattle.h3_lines.specs.List.{listed_cells}
 use Rattle.h3_lines.specs.Numbered.{faulty_line}
 use Rattle.h3_lines.specs.ListRead.{ListRead, ListRefused, RefusesByError, RefusesByLine}
@@ -29,7 +29,6 @@ use Rattle.h3_command.specs.Answer.Request.{of_file_and_lines, of_file_and_list,
 use Rattle.h3_command.specs.Run.{Answers, Ends, EndsLines, EndsList, EndsNumberedList, Gives, IsReadSoFar, IsReadWhole, ReadFails, RefusesFile, RefusesInput, RefusesTableFile, Runs, RunsOutOfMemory, Streams, WritesOfList, WritesOfNumberedList, WritesOfRows, WritesReading}
 use Rattle.h3_rows.specs.Each.{EndsRows}
 use Rattle.h3_rows.specs.Cells.{RefusesRows}
-use Rattle.h3_rows.specs.Each.{answer_at as rows_at}
 use Rattle.h3_rows.specs.RowsAnswer.{Form, begun_answer, rows_answer}
 use Rattle.h3_rows.specs.RowsAnswer.{list_answer as row_answers}
 use Rattle.h3_command.specs.Rows.{listed_answer}
@@ -256,9 +255,9 @@ gives_reading a bytes was_read source (Err (Fault Write)) status s writes r w re
 gives_each : (about : Option ℕ → Answer) (ending : Result (Unit {0}) RunError) (status : ℕ) (s : Streams) → EndsEach about s.input.left s.input.left_after s.input.had_failed s.input.has_failed ending s.out → Reports ending status s.err
     → (list : List ℕ) × HasLeft s.input.left list × ((ReadFails s.input list → ⊥) → s.out.has_failed ≡ false → Gives (list_answer about list) status s ⊎ RunsOutOfMemory status s)
 gives_each about (Ok u) status s (sound, all) reports = (all.list, all.held, λ r w. inl (gives_written (list_answer about all.list) (Ok u) status s all.writes w reports))
-gives_each about (Err (Error e)) status s (sound, at, stop, writes) reports =
-    (stop.part ++ stop.last ++ stop.rest, stop.held, λ r w. inl (gives_written (answer_at stop) (Err (Error e)) status s writes w reports))
-gives_each about (Err (Fault Write)) status s (sound, stop, takes) reports = (stop.part ++ stop.last ++ stop.rest, stop.held, λ r w. absurd (cc (takes.failed, w)))
+gives_each about (Err (Error e)) status s (sound, at, (stop, writes)) reports =
+    (stop.part ++ stop.last ++ stop.rest, stop.held, λ r w. inl (gives_written (list_answer about (stop.part ++ stop.last ++ stop.rest)) (Err (Error e)) status s writes w reports))
+gives_each about (Err (Fault Write)) status s (sound, (stop, takes)) reports = (stop.part ++ stop.last ++ stop.rest, stop.held, λ r w. absurd (cc (takes.failed, w)))
 gives_each about (Err (Fault Read)) status s stops reports = (stops.part ++ stops.rest, stops.held, λ r w. absurd (r stops.fails))
 gives_each about (Err (Fault Memory)) status s (sound, kept, left) reports =
     let (list, held) = some_left s.input.left in
@@ -271,7 +270,7 @@ gives_rows : (form : Form) (about : Option ℕ → Answer) (ending : Result (Uni
 gives_rows form about (Ok u) status s (sound, all) reports = (all.list, all.held, λ r w. inl (gives_written (row_answers form about all.list) (Ok u) status s all.writes w reports))
 gives_rows form about (Err (Error e)) status s (sound, inl all) reports = (all.list, all.held, λ r w. inl (gives_written (row_answers form about all.list) (Err (Error e)) status s all.writes w reports))
 gives_rows form about (Err (Error e)) status s (sound, inr (stop, writes)) reports =
-    (stop.part ++ stop.last ++ stop.rest, stop.held, λ r w. inl (gives_written (rows_at (rows_answer form about) stop) (Err (Error e)) status s writes w reports))
+    (stop.part ++ stop.last ++ stop.rest, stop.held, λ r w. inl (gives_written (row_answers form about (stop.part ++ stop.last ++ stop.rest)) (Err (Error e)) status s writes w reports))
 gives_rows form about (Err (Fault Write)) status s (sound, inl all) reports = (all.list, all.held, λ r w. inl (gives_written (row_answers form about all.list) (Err (Fault Write)) status s all.writes w reports))
 gives_rows form about (Err (Fault Write)) status s (sound, inr (stop, takes)) reports = (stop.part ++ stop.last ++ stop.rest, stop.held, λ r w. absurd (cc (takes.failed, w)))
 gives_rows form about (Err (Fault Read)) status s stops reports = (stops.part ++ stops.rest, stops.held, λ r w. absurd (r stops.fails))

@@ -1,9 +1,8 @@
 -- Lines that are answered one after another.
-use Rattle.std.proofs.Common.{◌≡◌, ℕ, ◌+◌, ◌-◌, ◌<◌, ◌≤◌, ◌==◌, nat_lt, Bool, true, false, List, [], ◌∷◌, ◌++◌, length, take, get_or, Option, Some, Result, Ok, Err, IfErr, OnOk, sym, ap, ◌∙◌, refl, subst, inl, inr, append_assoc, append-nil, length-append, arith}
+use Rattle.std.proofs.Common.{◌≡◌, ℕ, ◌+◌, ◌-◌, ◌<◌, ◌≤◌, ◌==◌, nat_lt, Bool, true, false, List, [], ◌∷◌, ◌++◌, length, take, get_or, Option, Some, Result, Ok, Err, IfErr, OnOk, sym, ap, ◌∙◌, refl, subst, inl, inr, append-nil, arith}
 use Rattle.std.proofs.lemmas.Bool.Decides.{nat_tests}
 use Rattle.std.proofs.lemmas.List.{take_more}
-use Rattle.std.proofs.KnownBytes.{Appends-nil, Appends-trans}
-use Rattle.std.specs.Io.KnownBytes.{Appends}
+use Rattle.std.proofs.KnownBytes.{Appends-nil}
 use Rattle.h3_index.specs.Text.{parsed_index, trimmed}
 use Rattle.h3_index.specs.declared.error.H3Error.{H3Error}
 use Rattle.h3_index.specs.declared.error.H3Error.TheVariants.{Failed}
@@ -100,8 +99,8 @@ pub ends_refused : (answer : Option ℕ → Answer) (n : ℕ) (held : List ℕ) 
 ends_refused answer n held line later e out is takes = (
   (n, e, refl),
   λ last.
-  let own : lines_from answer last n (line ∷ later) ≡ record { output = []; ending = Err (At n e) } = ap (λ b. followed_by n b (lines_from answer last (n + 1) later)) is in
-  subst (λ a. EndsBy (before held a) (Error (At n e)) out) (sym own) (refl, subst (Takes out) (sym (append-nil held)) takes),
+      let own : lines_from answer last n (line ∷ later) ≡ record { output = []; ending = Err (At n e) } = ap (λ b. followed_by n b (lines_from answer last (n + 1) later)) is in
+      subst (λ a. EndsBy (before held a) (Error (At n e)) out) (sym own) (refl, subst (Takes out) (sym (append-nil held)) takes),
 )
 
 -- a write of what is held back fails
@@ -114,7 +113,7 @@ pub lines_break : (answer : Option ℕ → Answer) (n : ℕ) (held text : List �
 lines_break answer n held text line later e out is said b = (
   subst TellsLine (sym b.0) tt,
   λ last.
-  let next = lines_from answer last (n + 1) later in
-  let own : lines_from answer last n (line ∷ later) ≡ before text next = ap (λ a. followed_by n a next) (is ∙ said) in
-  subst (λ a. EndsBy (before held a) e out) (sym own) (breaks_ends held text next e out b),
+      let next = lines_from answer last (n + 1) later in
+      let own : lines_from answer last n (line ∷ later) ≡ before text next = ap (λ a. followed_by n a next) (is ∙ said) in
+      subst (λ a. EndsBy (before held a) e out) (sym own) (breaks_ends held text next e out b),
 )

@@ -10,7 +10,8 @@ use Rattle.h3_index.specs.declared.error.H3Error.{H3Error}
 use Rattle.h3_lines.specs.Answer.{Answer, before, before_items, whole_items}
 use Rattle.h3_lines.specs.Write.{AppendsUpTo, Writes, sink_use}
 use Rattle.h3_lines.specs.declared.run_error.RunError.{RunError}
-use Rattle.h3_lines.proofs.Written.{writes_after}
+use Rattle.h3_lines.specs.EachLaws.{before_before}
+use Rattle.h3_lines.specs.EndingLaws.{writes_after}
 
 -- ---- all items: from is the iterator that the loop made of s
 
@@ -37,9 +38,6 @@ whole_at steps {s = s} {all = all} e from begins xs t y u st =
     sym whole ∙ sym (append-nil xs)
 
 -- ---- the answer so far
-
-before_before : (xs ys : List ℕ) (a : Answer) → before xs (before ys a) ≡ before (xs ++ ys) a
-before_before xs ys a = ap (λ l. record { output = l; ending = a.ending }) (sym (append_assoc xs ys a.output))
 
 module _ {I : Type 0} (answer : List I → Answer) where
   -- the answer to these items and more begins with these bytes, and then comes the answer to those that are more

@@ -4,6 +4,8 @@ pub mod Beginning
 pub mod EachLaws
 pub mod EachLine
 pub mod EachLines
+pub mod Ending
+pub mod EndingLaws
 pub mod Examples
 pub mod Line
 pub mod List

@@ -276,13 +276,16 @@ impl<'a, 'f, W: Sink, A: Answering> Taking for Answers<'a, 'f, W, A> {
 
     ghost none_taken = { λ v. (answered_none _ _ _ _ _ _, refl, refl) };
 
-    ghost taken_then = { λ u v w xs ys p q.
-        (answered_then _ _ (λ f. lines_from (A.answer_of f.now)) xs ys p.1 p.0 q.0, q.1 ∙ p.1,
-        q.2 ∙ p.2) };
+    ghost taken_then = { λ u v w xs ys p q. (
+      answered_then _ _ (λ f. lines_from (A.answer_of f.now)) xs ys p.1 p.0 q.0,
+      q.1 ∙ p.1,
+      q.2 ∙ p.2,
+    ) };
 
-    ghost refused_then = { λ u v w xs ys e p q.
-        ((q.0.0, refuses_then _ _ (λ f. lines_from (A.answer_of f.now)) _ xs ys e p.1 p.0 q.0.1),
-        q.1 ∙ p.2) };
+    ghost refused_then = { λ u v w xs ys e p q. (
+      (q.0.0, refuses_then _ _ (λ f. lines_from (A.answer_of f.now)) _ xs ys e p.1 p.0 q.0.1),
+      q.1 ∙ p.2,
+    ) };
 }
 
 impl<'a, 'f, W: Sink, A: Answering> IndexJob for Answers<'a, 'f, W, A> {

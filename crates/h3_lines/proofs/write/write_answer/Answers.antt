@@ -2,7 +2,8 @@ use Rattle.std.proofs.Common.{◌∙◌}
 use Rattle.std.proofs.KnownBytes.{Appends-kept}
 use Rattle.std.proofs.lemmas.Result.{err_from_is_err_and}
 use Rattle.h3_lines.specs.Write.{sink_use}
-use Rattle.h3_lines.proofs.Written.{writes_part, writes_unflushed, writes_whole}
+use Rattle.h3_lines.specs.EndingLaws.{writes_whole}
+use Rattle.h3_lines.proofs.Written.{writes_part, writes_unflushed}
 use Rattle.h3_lines.proofs.write.write_answer.Goals as goal
 
 pub returns-in_err-write_all : goal.returns-in_err-write_all

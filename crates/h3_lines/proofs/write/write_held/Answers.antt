@@ -2,7 +2,7 @@ use Rattle.std.proofs.Common.{refl}
 use Rattle.std.proofs.KnownBytes.{Appends-nil}
 use Rattle.h3_lines.proofs.AnsweredLines.{written_fails, written_takes}
 use Rattle.h3_lines.proofs.Lengths.{empty_from_test, some_from_test}
-use Rattle.h3_lines.proofs.Written.{writes_whole}
+use Rattle.h3_lines.specs.EndingLaws.{writes_whole}
 use Rattle.h3_lines.specs.Write.{sink_use}
 use Rattle.h3_lines.proofs.write.write_held.Goals as goal
 

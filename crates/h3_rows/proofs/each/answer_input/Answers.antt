@@ -43,4 +43,5 @@ returns-clause-ends g c =
     (λ s. end_of form.choice s s.before) v w _ (g.R.Source.left c.args.input.now) (g.R.Source.left after) (g.R.Source.has_failed c.args.input.now) (g.R.Source.has_failed after) c.end_answer.result
     (held_nothing v.state.before v.end v.block c.requires.empty) all c.in_ok-reading.ensures.settled (rw c.new-reader.ensures.source at c.in_ok-reading.ensures.sound) (rw job at c.end_answer.ensures) in
     let first = subst (λ x. EndsRows v.job.now.options.now.quotes (rows_then (λ s. end_of form.choice s s.before) form answer x) (rows_then nothing_last form answer x) (g.R.Source.left c.args.input.now) (g.R.Source.left after) (g.R.Source.has_failed c.args.input.now) (g.R.Source.has_failed after) c.end_answer.result (sink_use g.W.Sink.taken g.W.Sink.has_failed v.out.now c.end_answer.new.out)) c.requires.first ends in
-    ends_at g.R.Source.left g.R.Source.has_failed after _ _ _ _ _ _ _ _ (search (rules, c.drive-reading.ensures.same)) first
+    ends_at g.R.Source.left g.R.Source.has_failed after _ v.job.now.options.now.quotes (rows_then (λ s. end_of form.choice s s.before) form answer (start form)) (rows_then nothing_last form answer (start form)) (g.R.Source.left c.args.input.now) (g.R.Source.has_failed c.args.input.now) c.end_answer.result
+    (sink_use g.W.Sink.taken g.W.Sink.has_failed v.out.now c.end_answer.new.out) (search (rules, c.drive-reading.ensures.same)) first
