@@ -1,10 +1,9 @@
 -- The lines of the descendants of a cell.
 use Rattle.std.specs.List.{flat_map}
-use Rattle.std.proofs.Common.{◌≡◌, ◌≤◌, ◌<◌, nat_eq, Bool, true, false, if◌then◌else◌, map, eqb-true, All, ℕ, ℤ, Option, Result, Ok, Err, ◌-◌, List, [], ◌∷◌, ◌++◌, length, append-nil, arith, refl, ap, sym, ◌∙◌}
+use Rattle.std.proofs.Common.{◌≡◌, ◌≤◌, ◌<◌, nat_eq, Bool, true, false, if◌then◌else◌, map, eqb-true, ℕ, ℤ, Option, Result, Ok, Err, ◌-◌, List, [], ◌∷◌, ◌++◌, length, append-nil, arith, refl, ap, sym, ◌∙◌}
 use Rattle.std.specs.Prelude.{unsigned_abs}
 use Rattle.std.proofs.lemmas.Bool.{eqb-false}
 use Rattle.std.proofs.lemmas.Grind.{flat_map-append}
-use Rattle.std.proofs.lemmas.List.Elements.{All-tail}
 use Rattle.std.proofs.lemmas.List.Folds.{flat_map-map}
 use Rattle.h3_index.specs.Cell.{Address, resolution}
 use Rattle.h3_index.specs.Descendants.{children, descendants}
@@ -18,7 +17,6 @@ use Rattle.h3_functions.specs.Hierarchy.{cell_to_children, unless}
 use Rattle.h3_functions.specs.Inspection.{cell_from, for_value}
 use Rattle.h3_command.specs.Required.{cell_given, index_given}
 use Rattle.h3_command.specs.Long.{child_item_lines, items_below}
-use Rattle.h3_command.specs.declared.long.ChildItem.{ChildItem}
 use Rattle.h3_command.specs.declared.long.ChildItem.TheVariants.{Group, One}
 
 -- at its own resolution a cell has itself
@@ -48,21 +46,11 @@ item_lines r c fits level = by_test (nat_eq r (length c.digits)) refl
         let finer : length c.digits < r = omega (arith, fits, eqb-false _ _ is) in
         flat_map-map child_item_lines (λ parent. Group parent) (descendants c (r - 1)) ∙ sym (group_lines (descendants c (r - 1))) ∙ ap cell_lines (level c r finer)
 
-pub uncompacted_lines : (r : ℕ) (cells : List Address) → All (λ c. length c.digits ≤ r) cells → DescendantsAreChildren → flat_map child_item_lines (flat_map (items_below r) cells) ≡ cell_lines (uncompacted cells r)
-uncompacted_lines r [] fit level = refl
-uncompacted_lines r (c ∷ cs) fit level =
-    flat_map-append child_item_lines (items_below r c) (flat_map (items_below r) cs)
-    ∙ ap (λ l. l ++ flat_map child_item_lines (flat_map (items_below r) cs)) (item_lines r c (fit 0 c (omega arith)) level)
-    ∙ ap (λ l. cell_lines (descendants c r) ++ l) (uncompacted_lines r cs (All-tail (λ c. length c.digits ≤ r) c cs fit) level)
-    ∙ sym (flat_map-append cell_line (descendants c r) (uncompacted cs r))
-
--- what is left below the first cell of the list, and below the others
-pub descended : (below : List ChildItem) (rest others : List Address) (first : Address) (r : ℕ) → below ≡ items_below r first → rest ≡ first ∷ others → below ++ flat_map (items_below r) others ≡ flat_map (items_below r) rest
-descended below rest others first r e split = rw (e, split) refl
-
-pub none_left : (below : List ChildItem) (rest : List Address) (r : ℕ) → below ≡ [] → length rest ≡ 0 → below ++ flat_map (items_below r) rest ≡ []
-none_left below [] r e h = rw e refl
-none_left below (x ∷ rest) r e h = absurd (omega (arith, h))
+-- those below each cell of a list
+pub uncompacted_lines : (r : ℕ) (cells : List Address) → flat_map (λ c. cell_lines (descendants c r)) cells ≡ cell_lines (uncompacted cells r)
+uncompacted_lines r [] = refl
+uncompacted_lines r (c ∷ cs) =
+    ap (λ l. cell_lines (descendants c r) ++ l) (uncompacted_lines r cs) ∙ sym (flat_map-append cell_line (descendants c r) (uncompacted cs r))
 
 -- ---- what is asked of the index of a word
 

@@ -19,6 +19,5 @@ pub mod Sizes
 pub mod TableLines
 pub mod TableLists
 pub mod TableQuery
-pub mod UncompactedLines
 pub mod WordsQuery
 pub mod Work

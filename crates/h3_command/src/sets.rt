@@ -6,13 +6,12 @@ ghost use Rattle.h3_functions.specs.Sets.{compact_cells, uncompact_cells};
 ghost use Rattle.h3_set.specs.Compacted.{compacted};
 
 use crate::listed::ListFunction;
-use crate::uncompacted_lines::UncompactedLines;
+use crate::uncompacted_lines::DescendantLines;
 use h3_index::Cell;
-use h3_lines::{AnswerError, RunError, write_lines};
+use h3_lines::{AnswerError, RunError, write_cells_lines, write_lines};
 use h3_regions::unite;
 use h3_set::{compact_in_place, resolution_below_all};
 use h3_streams::Sink;
-use h3_tree::laws::descendants_are_children;
 
 /// Writes the compacted list of the cells, which is made in their own memory.
 fn write_compacted<W: Sink>(cells: &mut [Cell], out: &mut W) -> Result<(), RunError>
@@ -43,9 +42,8 @@ fn write_uncompacted<W: Sink>(cells: &[Cell], res: i32, out: &mut W) -> Result<(
     ensures { Writes (printed cell_lines (uncompact_cells res cells.now)) result
         (sink_use W.taken W.has_failed out.old out.new) }
 {
-    descendants_are_children();
     match resolution_below_all(cells, res) {
-        Ok(r) => write_lines(out, UncompactedLines::over(cells, r)),
+        Ok(r) => write_cells_lines(out, &DescendantLines { res: r }, cells),
         Err(error) => Err(RunError::Error(AnswerError::Call(error))),
     }
 }

@@ -1,12 +1,13 @@
-//! The cells of one resolution below those of a list, those of one parent together.
+//! The descendants of a cell at a resolution, those of one parent together.
 
-ghost use Rattle.std.specs.Prelude.{◌≡◌, ◌≤◌, All};
-ghost use Rattle.std.specs.Iterator.{YieldsFirst, item_count};
+ghost use Rattle.std.specs.Prelude.{◌≡◌, ◌≤◌};
 ghost use Rattle.h3_index.specs.Cell.{resolution};
 ghost use Rattle.h3_command.specs.Long.{child_lines_left, items_below};
 
 use crate::long::{ChildItem, ChildLines};
 use h3_index::Cell;
+use h3_lines::CellLines;
+use h3_tree::laws::descendants_are_children;
 use h3_tree::sibling_groups_at;
 
 /// The descendants of a cell at a resolution from its own to 15.
@@ -23,56 +24,30 @@ pub(crate) fn lines_below(cell: Cell, r: u8) -> ChildLines
     }
 }
 
-/// The cells of one resolution below the cells of a list: those below the first, in ascending
-/// order, then those below the second, and so on. It holds what is left of the list, the
-/// resolution, and what is left of the cells below one.
+/// The lines of the descendants of a cell at a resolution.
 #[derive(Drop)]
-pub(crate) struct UncompactedLines<'a> {
-    rest: &'a [Cell],
-    res: u8,
-    below: ChildLines,
+pub(crate) struct DescendantLines {
+    pub(crate) res: u8,
     ghost at_most_fifteen: { res ≤ 15 },
-    ghost none_finer: { All (λ c. resolution c ≤ res) rest.now },
 }
 
-impl<'a> UncompactedLines<'a> {
-    ghost use Rattle.std.specs.List.{flat_map};
-    ghost use Rattle.h3_command.specs.UncompactedLines.{uncompacted_left};
-
-    /// The cells of a resolution below the cells of a list.
-    pub(crate) fn over(cells: &'a [Cell], r: u8) -> UncompactedLines<'a>
-        requires at_most_fifteen { r ≤ 15 }
-        requires none_finer { All (λ c. resolution c ≤ r) cells.now }
-        ensures { uncompacted_left result ≡ flat_map (items_below r) cells.now }
-    {
-        UncompactedLines {
-            rest: cells,
-            res: r,
-            below: ChildLines::Own(None),
-        }
-    }
-}
-
-impl<'a> Iterator for UncompactedLines<'a> {
-    ghost use Rattle.h3_command.specs.UncompactedLines.{uncompacted_left};
+impl CellLines for DescendantLines {
+    ghost use Rattle.std.specs.Prelude.{◌≤◌};
+    ghost use Rattle.h3_index.specs.Cell.{resolution};
+    ghost use Rattle.h3_index.specs.Descendants.{descendants};
+    ghost use Rattle.h3_lines.specs.Answer.{cell_lines};
 
     type Item = ChildItem;
 
-    ghost next_gives = { YieldsFirst uncompacted_left };
+    type Lines = ChildLines;
 
-    ghost remaining = { item_count uncompacted_left };
+    ghost takes = { λ f c. resolution c ≤ f.res };
+
+    ghost text_of = { λ f c. cell_lines (descendants c f.res) };
 
     #[inline(always)]
-    fn next(&mut self) -> Option<ChildItem> {
-        loop {
-            if let Some(item) = self.below.next() {
-                return Some(item);
-            }
-            let Some((first, rest)) = self.rest.split_first() else {
-                return None;
-            };
-            self.below = lines_below(*first, self.res);
-            self.rest = rest;
-        }
+    fn lines_of(&self, cell: Cell) -> ChildLines {
+        descendants_are_children();
+        lines_below(cell, self.res)
     }
 }

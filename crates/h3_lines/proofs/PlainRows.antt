@@ -29,9 +29,6 @@ plain_shorter bytes after index p =
 
 -- ---- plain lines that are read together
 
-pub begins_none : (bytes : List ℕ) → BeginsLines bytes [] bytes
-begins_none bytes = record { pieces = []; parse = tt; split = λ q rest. refl; shorter = omega arith }
-
 parse_then : (rows : List Piece) (indexes : List ℕ) (p : Piece) (index : ℕ) → ParseAll rows indexes → ParsesAs p.0 index → ParseAll (rows ++ p ∷ []) (indexes ++ index ∷ [])
 parse_then [] [] line index all one = (one, tt)
 parse_then (l ∷ ls) (i ∷ is) line index all one = (all.0, parse_then ls is line index all.1 one)

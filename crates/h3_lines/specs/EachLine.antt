@@ -53,8 +53,8 @@ list_answer answer bytes = lines_answer answer 1 (lines_of bytes)
 abbrev pub IsAtLine : AnswerError → Type 0
 IsAtLine e = (line : ℕ) × (error : H3Error) × (e ≡ At line error)
 
--- EndsLinesEarly answer ..: how the answering of a list, line by line, ends before the list does; a line has at most 64
--- bytes
+-- EndsLinesEarly answer ..: how the answering of a list, line by line, ends before the list does; of a line that a read
+-- fault cuts, at most 64 bytes were read
 abbrev pub EndsLinesEarly : (Option ℕ → Answer) → Option (List ℕ) → Option (List ℕ) → Bool → RunError → SinkUse → Type 0
 EndsLinesEarly answer old new has e out = EndsEarly lines_of length 64 (lines_answer answer 1) (list_answer answer) old new has e out
 

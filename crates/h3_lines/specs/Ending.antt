@@ -1,5 +1,6 @@
--- How the answering of a list ends that is read page by page, and whose pieces are answered one after another: `cut` has the
--- pieces of bytes, `whole` the answer to the bytes of a list, and `begun` that to the first pieces of one.
+-- How the answering of a list ends that is read page by page, and whose pieces are answered one after another: `cut` cuts
+-- bytes into pieces; a piece has `size` bytes, at most `longest` of them where a fault cuts it; `whole` is the answer to the
+-- bytes of a list, and `begun` that to the first pieces of one.
 use Rattle.std.specs.Prelude.{◌≡◌, ℕ, ◌*◌, ◌^◌, ◌<◌, ◌≤◌, ◌⊎◌, Bool, true, List, [], ◌∷◌, ◌++◌, length, Option, Result, Ok, Err}
 use Rattle.std.specs.Io.KnownBytes.{Appends, Consumes}
 use Rattle.h3_streams.specs.Stream.{HasLeft}
@@ -74,8 +75,8 @@ pub record TakesBeginning (first whole : List ℕ) (out : SinkUse) : Type 0 wher
   pub part : SomeBeginning (λ more. Appends out.before out.after (first ++ more) ⊎ out.may_have_taken (first ++ more)) after
   pub failed : out.has_failed ≡ true
 
--- EndsEarly cut size longest begun whole ..: how it ends before the list does: an error ends the answer, or a write fails,
--- and nothing is read beyond the page; or a read fails
+-- EndsEarly cut size longest begun whole ..: how the answering of a list ends before the list does: an error ends the
+-- answer, or a write fails, and nothing is read beyond the page; or a read fails, or none is left
 abbrev pub EndsEarly : {P : Type 0} → (List ℕ → List P) → (P → ℕ) → ℕ → (List P → Answer) → (List ℕ → Answer) → Option (List ℕ) → Option (List ℕ) → Bool → RunError → SinkUse → Type 0
 EndsEarly cut size longest begun whole old new has (Error e) out = (stop : StopsInPage cut begun old new) × Writes (whole (list_at stop)) (Err (Error e)) out
 EndsEarly cut size longest begun whole old new has (Fault Write) out = (stop : StopsInPage cut begun old new) × TakesBeginning (begun stop.ended).output (whole (list_at stop)).output out

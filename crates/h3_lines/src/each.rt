@@ -9,9 +9,7 @@ ghost use Rattle.h3_lines.specs.EachLine.{EndsEach, line_answer};
 ghost use Rattle.h3_lines.specs.Pieces.{Piece};
 ghost use Rattle.h3_lines.specs.Write.{sink_use};
 ghost use Rattle.h3_lines.specs.declared.line.TheConstants.{BLOCK};
-ghost use Rattle.h3_lines.specs.declared.run_error.Fault.TheVariants.{Write};
 ghost use Rattle.h3_lines.specs.declared.run_error.RunError.{RunError};
-ghost use Rattle.h3_lines.specs.declared.run_error.RunError.TheVariants as refusal;
 ghost use Rattle.h3_lines.specs.declared.splitting.TheConstants.{LONGEST_LINE};
 
 use crate::line::{BLOCK, Line};

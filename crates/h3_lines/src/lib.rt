@@ -23,4 +23,7 @@ pub use plain::LINES;
 pub use run_error::{AnswerError, CellFile, ColumnError, Fault, RunError};
 pub use splitting::{Job, MAX_READS, PAGE, Taking, drive, row_room, split};
 pub use taking::{CellTaker, take_cells};
-pub use write::{write_all, write_answer, write_held, write_lines, write_result, write_walk};
+pub use write::{
+    CellLines, write_all, write_answer, write_cells_lines, write_held, write_lines, write_result,
+    write_walk,
+};

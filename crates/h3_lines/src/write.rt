@@ -1,17 +1,19 @@
 //! Writing to a sink.
 
-ghost use Rattle.std.specs.Prelude.{◌≡◌, ◌+◌, ◌<◌, ◌≤◌, List, length, take, true, IfErr, IfOk, OnOk, OnErr, Result};
+ghost use Rattle.std.specs.Prelude.{◌≡◌, ◌+◌, ◌<◌, ◌≤◌, ◌++◌, ℕ, List, length, take, true, All, IfErr, IfOk, OnOk, OnErr, Result};
 ghost use Rattle.std.specs.Io.KnownBytes.{Appends};
 ghost use Rattle.std.specs.Iterator.{AlwaysYields, IsFinite};
 ghost use Rattle.std.specs.List.{flat_map};
+ghost use Rattle.h3_index.specs.Cell.{Address};
 ghost use Rattle.h3_index.specs.declared.error.H3Error.{H3Error};
 ghost use Rattle.h3_lines.specs.Answer.{before, printed, refused, walked, written};
 ghost use Rattle.h3_lines.specs.Answering.{Breaks};
+ghost use Rattle.h3_lines.specs.EachLines.{GivesLines};
 ghost use Rattle.h3_lines.specs.Write.{AppendsPart, AppendsUpTo, Takes, Writes, sink_use};
 
 use crate::line::{BLOCK, Line, ROOM};
 use crate::run_error::{AnswerError, RunError};
-use h3_index::H3Error;
+use h3_index::{Cell, H3Error};
 use h3_streams::{Sink, StreamFault};
 
 /// Writes all of the bytes, in as many pushes as it takes.
@@ -104,6 +106,36 @@ fn make_room<W: Sink>(out: &mut W, block: &[u8; BLOCK], end: usize) -> Result<us
     Ok(0)
 }
 
+/// Puts a line for each item of an iterator that ends into a block of lines that ends at `end`, and
+/// returns where it ends then. Where too little room is left, the block is written, and begins anew.
+#[inline(always)]
+fn put_items<W: Sink, L: Line + Drop, I: Iterator<Item = L> + Drop>(
+    out: &mut W,
+    block: &mut [u8; BLOCK],
+    end: usize,
+    items: I,
+) -> Result<usize, StreamFault>
+    requires can { I.can_next items }
+    requires ends { IsFinite (I.remaining items) }
+    requires within { end ≤ BLOCK }
+    ensures within { IfOk result (λ last. last ≤ BLOCK) }
+    ensures written { IfOk result (λ last. (all : List _) → AlwaysYields I.next_gives (λ x. x) items all →
+        AppendsUpTo (W.taken out.old) (W.taken out.new)
+        (take end block.old ++ flat_map L.line_of all) (take last block.new)) }
+    ensures ok { OnOk result (W.has_failed out.new ≡ W.has_failed out.old) }
+    ensures part { OnErr result ((all : List _) → AlwaysYields I.next_gives (λ x. x) items all →
+        AppendsPart (W.taken out.old) (W.taken out.new)
+        (take end block.old ++ flat_map L.line_of all)) }
+    ensures err { OnErr result (W.has_failed out.new ≡ true) }
+{
+    let mut last = end;
+    for item in items {
+        last = make_room(out, block, last)?;
+        last = item.put(block, last);
+    }
+    Ok(last)
+}
+
 /// Writes a line for each item of an iterator that ends, and flushes. No item is kept, and no more
 /// lines than a block has.
 ///
@@ -121,10 +153,52 @@ pub fn write_lines<W: Sink, L: Line + Drop, I: Iterator<Item = L> + Drop>(
         (sink_use W.taken W.has_failed out.old out.new) }
 {
     let mut block = [0; BLOCK];
+    let end = put_items(out, &mut block, 0, items)?;
+    write_answer(out, &block[..end])
+}
+
+/// What is written of each cell of a list: any number of lines.
+pub trait CellLines {
+    /// What is written as a line, or as several.
+    type Item: Line + Drop;
+
+    /// The lines of a cell.
+    type Lines: Iterator<Item = Self::Item> + Drop;
+
+    /// The cells that `lines_of` may be called with.
+    ghost takes: { Self → Address → Type 0 };
+
+    /// What is written of a cell.
+    ghost text_of: { Self → Address → List ℕ };
+
+    /// The lines of a cell.
+    fn lines_of(&self, cell: Cell) -> Self::Lines
+        requires { takes self.now cell }
+        ensures can { Self.Lines.can_next result }
+        ensures ends { IsFinite (Self.Lines.remaining result) }
+        ensures gives { GivesLines Self.Lines.next_gives Self.Item.line_of
+            (written (text_of self.now cell)) result };
+}
+
+/// Writes the lines of each cell of a list, in order, and flushes. No item is kept, and no more
+/// lines than a block has.
+///
+/// `Fault::Write` where a push or the flush fails.
+// Inlined, its block would take its place on the stack while the caller runs another writer.
+#[inline(never)]
+pub fn write_cells_lines<W: Sink, F: CellLines>(
+    out: &mut W,
+    function: &F,
+    cells: &[Cell],
+) -> Result<(), RunError>
+    requires { All (F.takes function.now) cells.now }
+    ensures { Writes (written (flat_map (F.text_of function.now) cells.now)) result
+        (sink_use W.taken W.has_failed out.old out.new) }
+{
+    let mut block = [0; BLOCK];
     let mut end = 0;
-    for item in items {
-        end = make_room(out, &block, end)?;
-        end = item.put(&mut block, end);
+    for cell in cells {
+        end = put_items(out, &mut block, end, function.lines_of(*cell))?;
     }
     write_answer(out, &block[..end])
 }

@@ -1,4 +1,4 @@
--- Answers that are written, by parts of them.
+-- Answers without output, written.
 use Rattle.std.proofs.Common.{ℕ, Bool, List, [], Option, Ok, Err, refl}
 use Rattle.std.proofs.KnownBytes.{Appends-nil}
 use Rattle.h3_lines.specs.Answer.{written}

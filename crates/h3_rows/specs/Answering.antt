@@ -1,5 +1,4 @@
--- Rows that are answered one after another, with answers held back in a block. Private contracts and proofs alone cite
--- this file.
+-- How a row is put into the block and answered. Private contracts and proofs alone cite this file.
 use Rattle.std.specs.Prelude.{◌≡◌, ℕ, ◌+◌, Bool, true, false, List, [], ◌∷◌, ◌++◌, length, Option, None, Some}
 use Rattle.h3_lines.specs.Answer.{Answer, before, written}
 use Rattle.h3_lines.specs.Answering.{Breaks, EndsBy, Moves}

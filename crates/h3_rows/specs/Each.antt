@@ -16,8 +16,8 @@ use Rattle.h3_lines.specs.Pieces.{Piece, pieces_of, rows_of}
 abbrev pub by_rows : Bool → (List Piece → Answer) → List ℕ → Answer
 by_rows quotes whole list = whole (rows_of quotes list)
 
--- EndsRowsEarly quotes whole begun ..: how the answering of a list, row by row, ends before the list does; a row has at
--- most 65,536 bytes
+-- EndsRowsEarly quotes whole begun ..: how the answering of a list, row by row, ends before the list does; of a row that
+-- a read fault cuts, at most 65,536 bytes were read
 abbrev pub EndsRowsEarly : Bool → (List Piece → Answer) → (List Piece → Answer) → Option (List ℕ) → Option (List ℕ) → Bool → RunError → SinkUse → Type 0
 EndsRowsEarly quotes whole begun old new has e out = EndsEarly (pieces_of quotes) (λ p. length p.0) 65536 begun (by_rows quotes whole) old new has e out
 

@@ -1,14 +1,10 @@
 use Rattle.std.proofs.Common.{w32, rules, of_z, to_z, ◌≡◌, ◌∙◌, ℤ, ap, subst, refl}
-use Rattle.std.specs.List.{flat_map}
 use Rattle.std.specs.Prelude.{unsigned_abs}
 use Rattle.std.proofs.KnownBytes.{Keeps-refl}
 use Rattle.std.proofs.lemmas.Int.{to_z-of_z}
-use Rattle.std.proofs.lemmas.Iterator.Consumers.{YieldsList-from_first}
 use Rattle.h3_set.specs.Uncompaction.{uncompacted, uncompact_refusal}
 use Rattle.h3_lines.specs.Answer.{cell_lines, written}
 use Rattle.h3_lines.specs.Write.{Writes, sink_use}
-use Rattle.h3_command.specs.UncompactedLines.{uncompacted_left}
-use Rattle.h3_command.specs.Long.{items_below}
 use Rattle.h3_command.proofs.SiblingGroups.{uncompacted_lines}
 use Rattle.h3_command.proofs.Written.{answered_unless, answered_value}
 use Rattle.h3_command.proofs.sets.write_uncompacted.Goals as goal
@@ -19,13 +15,11 @@ returns-in-Ok g c =
     let read : ℤ = to_z w32 (of_z w32 c.args.res) in
     let same : read ≡ c.args.res = to_z-of_z w32 c.args.res (search rules) in
     let r = c.in-Ok.r in
-    let items = flat_map (items_below r) cells in
     let here : uncompacted cells r ≡ uncompacted cells (unsigned_abs c.args.res) = ap (λ (z : ℤ). uncompacted cells (unsigned_abs z)) (c.in-Ok.ensures.is.0 ∙ same) in
-    let lines = uncompacted_lines r cells c.in-Ok.ensures.none_finer c.descendants_are_children.ensures in
-    let out = sink_use g.W.Sink.taken g.W.Sink.has_failed c.args.out.now c.write_lines.new.out in
+    let out = sink_use g.W.Sink.taken g.W.Sink.has_failed c.args.out.now c.write_cells_lines.new.out in
     answered_value (λ cells. written (cell_lines cells)) _ _ (uncompacted cells r) _ _ here
     (c.in-Ok.ensures.refused ∙ ap (uncompact_refusal cells) same)
-    (subst (λ l. Writes (written l) c.write_lines.result out) lines (c.write_lines.ensures items (YieldsList-from_first (λ x. x) uncompacted_left items c.over.ensures).runs))
+    (subst (λ l. Writes (written l) c.write_cells_lines.result out) (uncompacted_lines r cells) c.write_cells_lines.ensures)
 
 pub returns-in-Err : goal.returns-in-Err
 returns-in-Err g c =

@@ -1,37 +1,17 @@
-use Rattle.std.proofs.Common.{arith, ◌∙◌, [], refl, append-nil, sym, subst, take}
+use Rattle.std.proofs.Common.{take}
 use Rattle.std.proofs.lemmas.Result.{err_from_is_err_and}
-use Rattle.std.specs.Iterator.{Yields}
 use Rattle.std.specs.List.{flat_map}
-use Rattle.h3_lines.specs.Answer.{written}
-use Rattle.h3_lines.specs.Write.{Writes, sink_use}
-use Rattle.h3_lines.proofs.Lines.{held_ends, held_more, held_none, split_at, whole_at}
-use Rattle.h3_lines.proofs.Written.{begins_part}
+use Rattle.h3_lines.specs.Write.{sink_use}
+use Rattle.h3_lines.proofs.Written.{writes_part, writes_up_to}
 use Rattle.h3_lines.proofs.write.write_lines.Goals as goal
-
-pub loop-item-init : goal.loop-item-init
-loop-item-init g c = record { held = held_none _ _; same = refl; within = omega arith }
-
-pub loop-item-preserved : goal.loop-item-preserved
-loop-item-preserved g c = record {
-  held = held_more _ c.loop-item.invariant.held c.in-Some.item _ _ (λ more. refl) c.in_ok-end.ensures.written c.put-end.ensures.line;
-  same = c.in_ok-end.ensures.ok ∙ c.loop-item.invariant.same;
-  within = omega (arith, c.in_ok-end.ensures.room, c.put-end.ensures.end);
-}
 
 pub returns-in_err-end : goal.returns-in_err-end
 returns-in_err-end g c all e =
-    let so_far : Yields g.I.Iterator.next_gives c.into_iter-item-iterator.result c.loop-item.yielded c.loop-item.item-iterator = c.loop-item.yielded_by in
-    let split = split_at g.I.Iterator.next_gives e _ c.into_iter-item-iterator.ensures.into_iter_gives _ _ so_far _ _ c.in-Some.ensures.steps in
+    let out = sink_use g.W.Sink.taken g.W.Sink.has_failed c.args.out.now c.put_items.new.out in
     let p = err_from_is_err_and c.from_residual.result c.from_residual.ensures.1 in
-    let out = sink_use g.W.Sink.taken g.W.Sink.has_failed c.loop-item.out c.make_room.new.out in
-    rw (p.1, p.2) (held_ends (λ items. written (flat_map g.L.Line.line_of items)) g.W.Sink.taken g.W.Sink.has_failed c.args.out.now c.loop-item.out c.make_room.new.out c.loop-item.invariant.held all _ split c.loop-item.invariant.same _
-    (begins_part _ _ out c.in_err-end.ensures.some c.in_err-end.ensures.part c.in_err-end.ensures.err))
+    rw (p.1, p.2) (writes_part (flat_map g.L.Line.line_of all) out (c.in_err-end.ensures.part all e) c.in_err-end.ensures.err)
 
 pub returns : goal.returns
 returns g c all e =
-    let so_far : Yields g.I.Iterator.next_gives c.into_iter-item-iterator.result c.loop-item.yielded c.loop-item.item-iterator = c.loop-item.yielded_by in
-    let split = whole_at g.I.Iterator.next_gives e _ c.into_iter-item-iterator.ensures.into_iter_gives _ _ so_far _ c.in-None.ensures.steps in
-    let held = take c.loop-item.end c.loop-item.block in
-    let out = sink_use g.W.Sink.taken g.W.Sink.has_failed c.loop-item.out c.write_answer.new.out in
-    held_ends (λ items. written (flat_map g.L.Line.line_of items)) g.W.Sink.taken g.W.Sink.has_failed c.args.out.now c.loop-item.out c.write_answer.new.out c.loop-item.invariant.held all [] split c.loop-item.invariant.same _
-    (subst (λ l. Writes (written l) c.write_answer.result out) (sym (append-nil held)) c.write_answer.ensures)
+    writes_up_to g.W.Sink.taken g.W.Sink.has_failed c.args.out.now c.put_items.new.out c.write_answer.new.out (flat_map g.L.Line.line_of all) (take c.in_ok-end.end c.put_items.new.block) c.write_answer.result
+    (c.in_ok-end.ensures.written all e) c.in_ok-end.ensures.ok c.write_answer.ensures

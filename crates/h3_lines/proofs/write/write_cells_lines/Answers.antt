@@ -1,0 +1,67 @@
+use Rattle.std.proofs.Common.{◌≡◌, ℕ, ◌+◌, ◌<◌, List, ◌++◌, ◌∷◌, [], get_or, take, drop, length, ap, ◌∙◌, arith, refl, subst, sym, take_all, take-append-drop}
+use Rattle.std.proofs.lemmas.Grind.{flat_map-append}
+use Rattle.std.proofs.lemmas.List.{flat_map_more, take_more}
+use Rattle.std.proofs.lemmas.Result.{err_from_is_err_and}
+use Rattle.std.specs.List.{flat_map}
+use Rattle.h3_index.specs.Cell.{Address}
+use Rattle.h3_lines.specs.Write.{AppendsPart, AppendsUpTo, sink_use}
+use Rattle.h3_lines.proofs.Written.{part_longer, part_then, up_to_none, up_to_then, writes_part, writes_up_to}
+use Rattle.h3_lines.proofs.write.write_cells_lines.Goals as goal
+
+-- the lines of one cell more
+one_more : (text : Address → List ℕ) (cells : List Address) (i : ℕ) (x : Address) → i < length cells → x ≡ get_or cells i x → flat_map text (take (i + 1) cells) ≡ flat_map text (take i cells) ++ text x
+one_more text cells i x lt is =
+    ap (flat_map text) (take_more cells i x lt ∙ ap (λ y. take i cells ++ y ∷ []) (sym is)) ∙ sym (flat_map_more text [] (take i cells) x)
+
+-- the lines of all cells, about one of them
+about_one : (text : Address → List ℕ) (cells : List Address) (i : ℕ) (x : Address) → i < length cells → x ≡ get_or cells i x
+    → flat_map text cells ≡ (flat_map text (take i cells) ++ text x) ++ flat_map text (drop (i + 1) cells)
+about_one text cells i x lt is =
+    ap (flat_map text) (sym (take-append-drop (i + 1) cells)) ∙ flat_map-append text (take (i + 1) cells) (drop (i + 1) cells) ∙ ap (λ l. l ++ flat_map text (drop (i + 1) cells)) (one_more text cells i x lt is)
+
+pub loop-cell-init : goal.loop-cell-init
+loop-cell-init g c = record { grown = up_to_none _ _; same = refl; within = omega arith }
+
+pub loop-cell-preserved : goal.loop-cell-preserved
+loop-cell-preserved g c =
+    let text = g.F.CellLines.text_of c.args.function.now in
+    let cells = c.args.cells.now in
+    let gives = c.lines_of.ensures.gives in
+    let lines : text c.cell-item.result ≡ flat_map g.F.Item.Line.line_of gives.all = ap (λ a. a.output) gives.is in
+    let first = g.W.Sink.taken c.args.out.now in
+    let last = g.W.Sink.taken c.put_items.new.out in
+    let left = take c.in_ok-end.end c.put_items.new.block in
+    let done = flat_map text (take c.loop-cell.cell-index cells) in
+    record {
+      grown = subst (λ l. AppendsUpTo first last l left) (ap (λ l. done ++ l) (sym lines) ∙ sym (one_more text cells c.loop-cell.cell-index c.cell-item.result c.loop-cell-test.true c.cell-item.is))
+          (up_to_then c.loop-cell.invariant.grown _ (c.in_ok-end.ensures.written gives.all gives.yields));
+      same = c.in_ok-end.ensures.ok ∙ c.loop-cell.invariant.same;
+      within = c.in_ok-end.ensures.within;
+    }
+
+pub returns-in_err-end : goal.returns-in_err-end
+returns-in_err-end g c =
+    let text = g.F.CellLines.text_of c.args.function.now in
+    let cells = c.args.cells.now in
+    let gives = c.lines_of.ensures.gives in
+    let lines : text c.cell-item.result ≡ flat_map g.F.Item.Line.line_of gives.all = ap (λ a. a.output) gives.is in
+    let out = sink_use g.W.Sink.taken g.W.Sink.has_failed c.args.out.now c.put_items.new.out in
+    let last = g.W.Sink.taken c.put_items.new.out in
+    let done = flat_map text (take c.loop-cell.cell-index cells) in
+    let later = flat_map text (drop (c.loop-cell.cell-index + 1) cells) in
+    let p = err_from_is_err_and c.from_residual.result c.from_residual.ensures.1 in
+    let part = part_longer _ last (part_then last c.loop-cell.invariant.grown _ (c.in_err-end.ensures.part gives.all gives.yields)) later in
+    let whole : (done ++ flat_map g.F.Item.Line.line_of gives.all) ++ later ≡ flat_map text cells =
+    ap (λ l. (done ++ l) ++ later) (sym lines) ∙ sym (about_one text cells c.loop-cell.cell-index c.cell-item.result c.loop-cell-test.true c.cell-item.is) in
+    rw (p.1, p.2) (writes_part (flat_map text cells) out (subst (AppendsPart out.before last) whole part) c.in_err-end.ensures.err)
+
+pub returns : goal.returns
+returns g c =
+    let text = g.F.CellLines.text_of c.args.function.now in
+    let cells = c.args.cells.now in
+    let all : take c.loop-cell.cell-index cells ≡ cells = take_all c.loop-cell.cell-index cells (omega (arith, c.loop-cell-test.false)) in
+    let left = take c.loop-cell.end c.loop-cell.block in
+    let first = g.W.Sink.taken c.args.out.now in
+    let last = g.W.Sink.taken c.loop-cell.out in
+    writes_up_to g.W.Sink.taken g.W.Sink.has_failed c.args.out.now c.loop-cell.out c.write_answer.new.out (flat_map text cells) left c.write_answer.result
+    (subst (λ l. AppendsUpTo first last (flat_map text l) left) all c.loop-cell.invariant.grown) c.loop-cell.invariant.same c.write_answer.ensures
