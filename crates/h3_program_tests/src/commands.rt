@@ -62,34 +62,34 @@ macro_rules! commands {
     };
 }
 
+/// The commands of these words.
+static COMMANDS: [(Command, &str); 51] = commands!(Some(1), Some(2), 3, 4);
+
 #[test]
 fn only_the_same_commands_are_equal(rt: HostRuntime) {
-    let these = commands!(Some(1), Some(2), 3, 4);
-    for (i, (one, _)) in these.iter().enumerate() {
-        for (j, (other, _)) in these.iter().enumerate() {
+    for (i, (one, _)) in COMMANDS.iter().enumerate() {
+        for (j, (other, _)) in COMMANDS.iter().enumerate() {
             let right = (one == other) == (i == j) && (one != other) == (i != j);
             assert!(&rt; right, "{i} and {j}");
         }
     }
 }
 
-/// Words of commands, and in which of them they differ from 1, 2, 3 and 4.
-static OTHER_WORDS: &[(Option<u64>, Option<u64>, u64, i32, &str)] = &[
-    (Some(1), Some(2), 3, 4, "none"),
-    (None, Some(2), 3, 4, "c"),
-    (Some(5), Some(2), 3, 4, "c"),
-    (Some(1), None, 3, 4, "t"),
-    (Some(1), Some(5), 3, 4, "t"),
-    (Some(1), Some(2), 5, 4, "p"),
-    (Some(1), Some(2), 3, 5, "r"),
+/// The commands of other words, and in which of them they differ from 1, 2, 3 and 4.
+static OTHER_COMMANDS: [(&str, &[(Command, &str)]); 7] = [
+    ("none", &commands!(Some(1), Some(2), 3, 4)),
+    ("c", &commands!(None, Some(2), 3, 4)),
+    ("c", &commands!(Some(5), Some(2), 3, 4)),
+    ("t", &commands!(Some(1), None, 3, 4)),
+    ("t", &commands!(Some(1), Some(5), 3, 4)),
+    ("p", &commands!(Some(1), Some(2), 5, 4)),
+    ("r", &commands!(Some(1), Some(2), 3, 5)),
 ];
 
 #[test]
 fn commands_of_other_words_differ(rt: HostRuntime) {
-    let these = commands!(Some(1), Some(2), 3, 4);
-    for (row, (cell, to, position, res, differing)) in OTHER_WORDS.iter().enumerate() {
-        let others = commands!(*cell, *to, *position, *res);
-        for (i, ((one, words), (other, _))) in these.iter().zip(&others).enumerate() {
+    for (row, (differing, others)) in OTHER_COMMANDS.iter().enumerate() {
+        for (i, ((one, words), (other, _))) in COMMANDS.iter().zip(others.iter()).enumerate() {
             let right = (one != other) == words.contains(*differing);
             assert!(&rt; right, "row {row}, command {i}");
         }
