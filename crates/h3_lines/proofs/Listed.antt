@@ -1,5 +1,5 @@
 -- A list of cells whose lines are taken one after another, and counted.
-use Rattle.std.proofs.Common.{◌≡◌, ℕ, ◌+◌, ◌<◌, ◌≤◌, ◌⊎◌, true, false, List, [], ◌∷◌, ◌++◌, length, Option, None, Some, Result, Ok, Err, IsOk, OnOk, nat_lt, sym, ap, ◌∙◌, refl, subst, inl, inr, append-nil, arith}
+use Rattle.std.proofs.Common.{◌≡◌, ℕ, ◌+◌, ◌<◌, ◌≤◌, ◌⊎◌, true, false, List, [], ◌∷◌, ◌++◌, length, Option, Result, Ok, Err, IfOk, IsOk, OnOk, nat_lt, sym, ap, ◌∙◌, refl, subst, inl, inr, append-nil, arith}
 use Rattle.std.specs.Prelude.{⊤}
 use Rattle.std.proofs.lemmas.Bool.Decides.{nat_tests}
 use Rattle.h3_index.specs.Cell.{Address}
@@ -8,15 +8,16 @@ use Rattle.h3_index.specs.declared.error.H3Error.{H3Error}
 use Rattle.h3_index.specs.declared.error.H3Error.TheVariants.{Failed}
 use Rattle.h3_lines.proofs.Pages.{left_of, none_left, some_held}
 use Rattle.h3_lines.proofs.PlainLines.{said_by_parsed}
-use Rattle.h3_lines.specs.List.{RefusesList, cells_said, lines_of, listed_cells, said_before, said_by, said_by_cell}
-use Rattle.h3_lines.specs.ListLaws.{cells_said-append, rows_refused}
-use Rattle.h3_lines.specs.Pieces.{Piece, lines_in, rows_of}
-use Rattle.h3_lines.proofs.RowLines.{lines_begun, rows_refuse, rows_said}
-use Rattle.h3_lines.specs.Numbered.{RefusesAt, faulty_from, faulty_line, number_of_fault, without_line, without_number}
-use Rattle.h3_lines.specs.Taking.{CountsLines, RefusesLinesAt, SayCells, cells_before, cells_on}
+use Rattle.h3_lines.specs.List.{RefusesList, cells_said, lines_of, listed_cells, said_by, said_by_cell}
+use Rattle.h3_lines.specs.Pieces.{Piece, lines_in, pieces_of, rows_of}
+use Rattle.h3_lines.proofs.RowLines.{lines_begun, lines_numbered, numbered_cells, numbered_refused, rows_numbered}
+use Rattle.h3_lines.specs.Numbered.{RefusesAt, faulty_from, faulty_line, without_line, without_number}
+use Rattle.h3_lines.specs.Taking.{HaveCells, IsRefusal, RefusesCells, cell_list, cells_from, read_before}
+use Rattle.h3_lines.specs.TakingLaws.{have_all, refuses_after}
 use Rattle.h3_lines.specs.ListRead.{ListRead, ListRefused, RefusesByError, RefusesByLine}
 use Rattle.h3_lines.specs.Reads.{HasNoFaultYet, IsKnownFaulty, IsListWithinReads, NoReadFails, SourceUse, StopsAtFault, StopsWithin}
 use Rattle.h3_lines.specs.Splitting.{ParsesAs, RefusesAfter, StopsReading, StopsTaking, TakesAll}
+use Rattle.h3_lines.specs.declared.run_error.AnswerError.{AnswerError}
 use Rattle.h3_lines.specs.declared.run_error.AnswerError.TheVariants.{At}
 use Rattle.h3_lines.specs.declared.run_error.Fault.{Fault as F}
 use Rattle.h3_lines.specs.declared.run_error.Fault.TheVariants.{Memory, Read, Write}
@@ -30,46 +31,28 @@ pub ok_both : {T E P Q R : Type 0} (result : Result T E) → (P → Q → R) →
 ok_both (Ok v) f p q = f p q
 ok_both (Err e) f p q = p
 
--- what a line says is its cell, if it says one, before those of the lines after it
-says_before : (said : Result (Option Address) H3Error) → IsOk said → (later : Result (List Address) H3Error) → said_before said later ≡ cells_before (cells_on said) later
-says_before (Ok None) good (Ok cells) = refl
-says_before (Ok None) good (Err e) = refl
-says_before (Ok (Some cell)) good (Ok cells) = refl
-says_before (Ok (Some cell)) good (Err e) = refl
-says_before (Err e) good later = absurd (cc)
-
-pub says_line : (line : List ℕ) (said : Result (Option Address) H3Error) → said ≡ said_by line → IsOk said → SayCells (line ∷ []) (cells_on said)
-says_line line said is good later = ap (λ s. said_before s later) (sym is) ∙ says_before said good later
-
--- a line that is not faulty is counted
-pub counts_said : (n : ℕ) (line : List ℕ) (said : Result (Option Address) H3Error) → said ≡ said_by line → IsOk said → CountsLines n (line ∷ []) (n + 1)
-counts_said n line (Ok cell) is good more = ap (λ s. number_of_fault n s (faulty_from (n + 1) more)) (sym is)
-counts_said n line (Err e) is good more = absurd (cc)
+-- a line that is not faulty is read, and its cell taken, if it says one
+pub line_taken : {V : Type 0} (taken : V → List Address → V → Type 0) {v w : V} (n : ℕ) (line : Piece) (said : Result (Option Address) H3Error) → said ≡ said_by line.0 → IsOk said → IfOk said (λ cell. taken v (cell_list cell) w)
+    → (cells : List Address) × HaveCells cells_from n (line ∷ []) cells (n + 1) × taken v cells w
+line_taken taken n line (Ok cell) is good takes = (cell_list cell, λ last more. ap (λ s. read_before n s (cells_from last (n + 1) more)) (sym is), takes)
+line_taken taken n line (Err e) is good takes = absurd (cc)
 
 -- a line is refused by what it says
-pub refuses_said : (n : ℕ) (line : List ℕ) (later : List (List ℕ)) (said : Result (Option Address) H3Error) (e : RunError) → said ≡ said_by line
-    → ((more : Result (List Address) H3Error) (after : ℕ) → RefusesAt ⊥ (said_before said more) (number_of_fault n said after) e) → RefusesLinesAt n (line ∷ later) e
-refuses_said n line later said e is refuses =
-    subst (λ s. RefusesAt ⊥ (said_before s (cells_said later)) (number_of_fault n s (faulty_from (n + 1) later)) e) is (refuses (cells_said later) (faulty_from (n + 1) later))
+pub refuses_said : (n : ℕ) (line : Piece) (later : List Piece) (said : Result (Option Address) H3Error) (e : RunError) → said ≡ said_by line.0 → ((more : Result (List Address) AnswerError) → IsRefusal (read_before n said more) e)
+    → RefusesCells cells_from n (line ∷ later) e
+refuses_said n line later said e is refuses last = subst (λ s. IsRefusal (read_before n s (cells_from last (n + 1) later)) e) is (refuses (cells_from last (n + 1) later))
 
 -- a line that is too long is refused
-pub refuses_long : (n : ℕ) (line : List ℕ) (later : List (List ℕ)) → 64 < length line → RefusesLinesAt n (line ∷ later) (Error (At n Failed))
-refuses_long n line later long =
-    let over : nat_lt 64 (length line) ≡ true = grind (arith, nat_tests) in
-    rw over (Failed, refl, refl)
+pub refuses_long : (n : ℕ) (line : Piece) (later : List Piece) → 64 < length line.0 → RefusesCells cells_from n (line ∷ later) (Error (At n Failed))
+refuses_long n line later long last =
+    let over : nat_lt 64 (length line.0) ≡ true = grind (arith, nat_tests) in
+    rw over refl
 
 -- what a line says that parses as an index
 pub said_parsed : (line : List ℕ) (index : ℕ) (said : Result (Option Address) H3Error) → ParsesAs line index → said ≡ said_by_cell (cell_in index) → said ≡ said_by line
 said_parsed line index said p is = is ∙ sym (said_by_parsed line index p.short p.parses)
 
 -- ---- refusals
-
--- a refusal fits the list, whatever may be said of reads
-fits_any : (reads : Type 0) (list : Result (List Address) H3Error) (n : ℕ) (e : RunError) → RefusesAt ⊥ list n e → RefusesAt reads list n e
-fits_any reads list n (Error e) h = h
-fits_any reads list n (Fault Memory) h = h
-fits_any reads list n (Fault Read) h = absurd h
-fits_any reads list n (Fault Write) h = absurd h
 
 -- the same error stands at a line
 same_error : (n m : ℕ) (d e : H3Error) → At n d ≡ At m e → d ≡ e
@@ -145,30 +128,31 @@ is_good : (list : Result (List Address) H3Error) (cells : List Address) → list
 is_good list cells is = rw is refl
 
 -- the cells of these lines
-all_said : (lines : List (List ℕ)) (cells : List Address) → SayCells lines cells → cells_said lines ≡ Ok cells
-all_said lines cells says = ap cells_said (sym (append-nil lines)) ∙ cells_said-append lines [] ∙ says (Ok []) ∙ ap Ok (append-nil cells)
+all_said : (n m : ℕ) (rows : List Piece) (cells : List Address) → HaveCells cells_from n rows cells m → cells_said (lines_in rows) ≡ Ok cells
+all_said n m rows cells have = numbered_cells (faulty_from n (lines_in rows)) (cells_said (lines_in rows)) cells (sym (lines_numbered n rows) ∙ have_all cells_from n m rows cells have tt ∙ ap Ok (append-nil cells))
 
-no_fault_yet : (part last : List ℕ) (ended : List (List ℕ)) (cells : List Address) → SayCells ended cells → lines_of part ≡ ended ++ last ∷ [] → length last ≤ 64 → HasNoFaultYet part
-no_fault_yet part last ended cells says lines short = record { ended = ended; last = last; lines = lines; good = is_good (cells_said ended) cells (all_said ended cells says); short = short }
+no_fault_yet : (n m : ℕ) (part : List ℕ) (ended : List Piece) (last : Piece) (cells : List Address) → HaveCells cells_from n ended cells m → pieces_of false part ≡ ended ++ last ∷ [] → length last.0 ≤ 64 → HasNoFaultYet part
+no_fault_yet n m part ended last cells have pieces short =
+    record { ended = lines_in ended; last = last.0; lines = lines_begun part ended last pieces; good = is_good (cells_said (lines_in ended)) cells (all_said n m ended cells have); short = short }
 
 -- ---- how it ends
 
 -- over what takes the cells: the number of its next line, and which cells were taken from one moment to a later one
 module _ {V : Type 0} (number : V → ℕ) (taken : V → List Address → V → Type 0) where
   abbrev Takes : V → List Piece → V → Type 0
-  Takes v rows w = (cells : List Address) × SayCells (lines_in rows) cells × taken v cells w × CountsLines (number v) (lines_in rows) (number w)
+  Takes v rows w = (cells : List Address) × HaveCells cells_from (number v) rows cells (number w) × taken v cells w
 
   abbrev Refuses : V → List Piece → V → RunError → Type 0
-  Refuses v rows w e = RefusesLinesAt (number v) (lines_in rows) e
+  Refuses v rows w e = RefusesCells cells_from (number v) rows e
 
   abbrev Settled : V → Type 0
   Settled v = ⊤
 
   -- one of the lines after them is refused
-  refused_at : (v w mid : V) (e : RunError) (ended : List Piece) (bytes : List ℕ) → number v ≡ 1 → Takes v ended mid → RefusesAfter false Refuses mid w e ended bytes → RefusesAt ⊥ (listed_cells bytes) (faulty_line bytes) e
-  refused_at v w mid e ended bytes first takes r =
-      let counts = subst (λ n. CountsLines n (lines_in ended) (number mid)) first takes.3 in
-      rows_refuse bytes e (subst (λ rows. RefusesAt ⊥ (cells_said (lines_in rows)) (faulty_from 1 (lines_in rows)) e) (sym r.rows) (rows_refused 1 (number mid) takes.0 ended r.later e takes.1 counts r.refuses))
+  refused_at : (reads : Type 0) (v w mid : V) (e : RunError) (ended : List Piece) (bytes : List ℕ) → number v ≡ 1 → Takes v ended mid → RefusesAfter false Refuses mid w e ended bytes → RefusesAt reads (listed_cells bytes) (faulty_line bytes) e
+  refused_at reads v w mid e ended bytes first takes r =
+      let all : RefusesCells cells_from (number v) (rows_of false bytes) e = subst (λ rows. RefusesCells cells_from (number v) rows e) (sym r.rows) (refuses_after cells_from (number v) (number mid) ended r.later takes.0 e takes.1 r.refuses) in
+      numbered_refused reads (faulty_line bytes) (listed_cells bytes) e (subst (λ l. IsRefusal l e) (rows_numbered 1 bytes) (subst (λ n. RefusesCells cells_from n (rows_of false bytes) e) first all tt))
 
   -- how the taking of the lines stops that is not whole
   abbrev Stops : V → V → RunError → SourceUse → ℕ → ℕ → Type 0
@@ -184,7 +168,7 @@ module _ {V : Type 0} (number : V → ℕ) (taken : V → List Address → V →
       list = s.bytes;
       held = s.held;
       within = s.within;
-      is = sym (rows_said s.bytes) ∙ all_said (lines_in (rows_of false s.bytes)) s.takes.0 s.takes.1;
+      is = numbered_cells (faulty_from (number v) (lines_of s.bytes)) (listed_cells s.bytes) s.takes.0 (sym (rows_numbered (number v) s.bytes) ∙ have_all cells_from (number v) (number w) (rows_of false s.bytes) s.takes.0 s.takes.1 tt ∙ ap Ok (append-nil s.takes.0));
       sound = sound;
       whole = λ list is. none_left input.left input.left_after s.bytes list s.held s.told is;
     },
@@ -197,14 +181,14 @@ module _ {V : Type 0} (number : V → ℕ) (taken : V → List Address → V →
       let (left, known', split) = left_of input.left input.left_after s.part list s.told known in (
         left,
         known',
-        record { before = s.part; last = []; split = split ∙ ap (λ l. l ++ left) (sym (append-nil s.part)); within = omega arith; good = no_fault_yet s.part s.last.0 (lines_in s.ended) s.takes.0 s.takes.1 (lines_begun s.part s.ended s.last s.rows) s.short },
+        record { before = s.part; last = []; split = split ∙ ap (λ l. l ++ left) (sym (append-nil s.part)); within = omega arith; good = no_fault_yet (number v) (number w) s.part s.ended s.last s.takes.0 s.takes.1 s.rows s.short },
       )
 
   -- and where a line or memory is refused
   stops_taking : (v w : V) (e : RunError) (input : SourceUse) (reads page : ℕ) → StopsTaking false 64 Takes Refuses Settled v w e input.left input.left_after reads page → StopsWithin page input
   stops_taking v w e input reads page s list known =
       let (left, known', split) = left_of input.left input.left_after (s.part ++ s.last) list s.told known in
-      (left, known', record { before = s.part; last = s.last; split = split; within = s.short; good = no_fault_yet s.part s.unended.0 (lines_in s.ended) s.takes.0 s.takes.1 (lines_begun s.part s.ended s.unended s.rows) s.begun })
+      (left, known', record { before = s.part; last = s.last; split = split; within = s.short; good = no_fault_yet (number v) (number s.mid) s.part s.ended s.unended s.takes.0 s.takes.1 s.rows s.begun })
 
   -- a list that is refused before the reads end can be read, or is known to be faulty
   known_within : (v w : V) (e : RunError) (input : SourceUse) (reads page : ℕ) → number v ≡ 1 → (s : StopsTaking false 64 Takes Refuses Settled v w e input.left input.left_after reads page)
@@ -215,7 +199,7 @@ module _ {V : Type 0} (number : V → ℕ) (taken : V → List Address → V →
       part = s.part ++ s.last;
       rest = s.rest;
       split = refl;
-      holds = (known_faulty (s.part ++ s.last) e (λ after. refused_at v w s.mid e s.ended (s.part ++ s.last ++ after) first s.takes (known after)) other memory, s.within);
+      holds = (known_faulty (s.part ++ s.last) e (λ after. refused_at ⊥ v w s.mid e s.ended (s.part ++ s.last ++ after) first s.takes (known after)) other memory, s.within);
     })
   ]
 
@@ -234,9 +218,9 @@ module _ {V : Type 0} (number : V → ℕ) (taken : V → List Address → V →
       record {
         list = list;
         held = s.held;
-        refused = fits_any ((input.has_failed ≡ true) ⊎ (reads ≤ length list)) (listed_cells list) (faulty_line list) e (refused_at v w s.mid e s.ended list first s.takes s.refuses);
+        refused = refused_at ((input.has_failed ≡ true) ⊎ (reads ≤ length list)) v w s.mid e s.ended list first s.takes s.refuses;
         within = known_within v w e input reads page first s;
         sound = λ other. kept;
         stops = stops_taking v w e input reads page s;
-        faults = λ read. absurd (subst (λ r. RefusesLinesAt (number s.mid) (lines_in s.refuses.later) r) read s.refuses.refuses);
+        faults = λ read. absurd (subst (λ r. RefusesCells cells_from (number s.mid) s.refuses.later r) read s.refuses.refuses tt);
       }

@@ -1,15 +1,17 @@
 -- Lines, as the rows of bytes in which no quote counts.
 use Rattle.std.proofs.Common.{◌≡◌, ℕ, ◌+◌, ◌==◌, Bool, true, false, ◌&&◌, List, [], ◌∷◌, ◌++◌, length, Option, None, Some, Result, Ok, Err, if◌then◌else◌, sym, ap, ◌∙◌, refl}
 use Rattle.h3_index.specs.Cell.{Address}
+use Rattle.h3_index.specs.declared.error.H3Error.{H3Error}
 use Rattle.h3_lines.proofs.Lengths.{empty_from_test}
+use Rattle.h3_lines.proofs.Pieces.{first_piece}
 use Rattle.h3_lines.specs.Answer.{Answer}
 use Rattle.h3_lines.specs.EachLine.{followed_by, line_answer, lines_answer}
-use Rattle.h3_lines.specs.List.{cells_said, lines_of, listed_cells, said_before, said_by, with_first as first_more}
-use Rattle.h3_index.specs.declared.error.H3Error.{H3Error}
-use Rattle.h3_lines.specs.Numbered.{RefusesAt, faulty_from, faulty_line, number_of_fault}
 use Rattle.h3_lines.specs.Line.{lines_in-append}
-use Rattle.h3_lines.proofs.Pieces.{first_piece}
+use Rattle.h3_lines.specs.List.{cells_said, lines_of, listed_cells, said_before, said_by, with_first as first_more}
+use Rattle.h3_lines.specs.Numbered.{RefusesAt, faulty_from, number_of_fault}
 use Rattle.h3_lines.specs.Pieces.{Piece, lines_in, pieces_of, rows_of, with_first, without_last_nothing}
+use Rattle.h3_lines.specs.Taking.{IsRefusal, cells_from, read_before}
+use Rattle.h3_lines.specs.declared.run_error.AnswerError.{AnswerError}
 use Rattle.h3_lines.specs.declared.run_error.AnswerError.TheVariants.{At}
 use Rattle.h3_lines.specs.declared.run_error.Fault.TheVariants.{Memory, Read, Write}
 use Rattle.h3_lines.specs.declared.run_error.RunError.{RunError}
@@ -48,43 +50,45 @@ module _ (answer : Option ℕ → Answer) where
   pub rows_answered : (bytes : List ℕ) → lines_answer answer 1 (lines_in (rows_of false bytes)) ≡ lines_answer answer 1 (lines_of bytes)
   rows_answered bytes = pieces_answered 1 (pieces_of false bytes) ∙ ap (lines_answer answer 1) (lines_are bytes)
 
-last_said : (p : Piece) (t : Bool) → (length p.0 == 0) ≡ t → cells_said (lines_in (if t then [] else p ∷ [])) ≡ cells_said (p.0 ∷ [])
-last_said p true is = rw (empty_from_test p.0 true (sym is) refl) refl
-last_said p false is = refl
+-- the cells, or the error of the first faulty line, at its number
+last_read : (n : ℕ) (p : Piece) (t : Bool) → (length p.0 == 0) ≡ t → cells_from tt n (if t then [] else p ∷ []) ≡ cells_from tt n (p ∷ [])
+last_read n p true is = rw (empty_from_test p.0 true (sym is) refl) refl
+last_read n p false is = refl
 
-pieces_said : (ps : List Piece) → cells_said (lines_in (without_last_nothing ps)) ≡ cells_said (lines_in ps)
-pieces_said [] = refl
-pieces_said (p ∷ []) = last_said p (length p.0 == 0) refl
-pieces_said (p ∷ q ∷ ps) = ap (said_before (said_by p.0)) (pieces_said (q ∷ ps))
+pieces_read : (n : ℕ) (ps : List Piece) → cells_from tt n (without_last_nothing ps) ≡ cells_from tt n ps
+pieces_read n [] = refl
+pieces_read n (p ∷ []) = last_read n p (length p.0 == 0) refl
+pieces_read n (p ∷ q ∷ ps) = ap (read_before n (said_by p.0)) (pieces_read (n + 1) (q ∷ ps))
 
--- the cells of the rows are those of the list
-pub rows_said : (bytes : List ℕ) → cells_said (lines_in (rows_of false bytes)) ≡ listed_cells bytes
-rows_said bytes = pieces_said (pieces_of false bytes) ∙ ap cells_said (lines_are bytes)
+-- ---- the cells of rows, as those of a list
 
--- the number of a line that is faulty is that of the row
+-- the cells of a list, or its error, at the line with this number
+abbrev pub numbered : ℕ → Result (List Address) H3Error → Result (List Address) AnswerError
+numbered n (Ok cells) = Ok cells
+numbered n (Err e) = Err (At n e)
 
-said_error : (said : Option Address) (later : Result (List Address) H3Error) (e : H3Error) → said_before (Ok said) later ≡ Err e → later ≡ Err e
-said_error None later e is = is
-said_error (Some c) (Ok cells) e is = absurd (cc is)
-said_error (Some c) (Err d) e is = is
+numbered_before : (n faulty : ℕ) (said : Result (Option Address) H3Error) (list : Result (List Address) H3Error) → read_before n said (numbered faulty list) ≡ numbered (number_of_fault n said faulty) (said_before said list)
+numbered_before n faulty (Err e) list = refl
+numbered_before n faulty (Ok None) (Ok cells) = refl
+numbered_before n faulty (Ok None) (Err e) = refl
+numbered_before n faulty (Ok (Some cell)) (Ok cells) = refl
+numbered_before n faulty (Ok (Some cell)) (Err e) = refl
 
-number_kept : (n : ℕ) (said : Result (Option Address) H3Error) (later : Result (List Address) H3Error) (a b : ℕ) (e : H3Error) → (later ≡ Err e → a ≡ b) → said_before said later ≡ Err e → number_of_fault n said a ≡ number_of_fault n said b
-number_kept n (Err d) later a b e same is = refl
-number_kept n (Ok said) later a b e same is = same (said_error said later e is)
+pub lines_numbered : (n : ℕ) (ps : List Piece) → cells_from tt n ps ≡ numbered (faulty_from n (lines_in ps)) (cells_said (lines_in ps))
+lines_numbered n [] = refl
+lines_numbered n (p ∷ ps) = ap (read_before n (said_by p.0)) (lines_numbered (n + 1) ps) ∙ numbered_before n (faulty_from (n + 1) (lines_in ps)) (said_by p.0) (cells_said (lines_in ps))
 
-last_faulty : (n : ℕ) (p : Piece) (t : Bool) (e : H3Error) → cells_said (lines_in (if t then [] else p ∷ [])) ≡ Err e → faulty_from n (lines_in (if t then [] else p ∷ [])) ≡ faulty_from n (p.0 ∷ [])
-last_faulty n p true e is = absurd (cc is)
-last_faulty n p false e is = refl
+pub rows_numbered : (n : ℕ) (bytes : List ℕ) → cells_from tt n (rows_of false bytes) ≡ numbered (faulty_from n (lines_of bytes)) (listed_cells bytes)
+rows_numbered n bytes = pieces_read n (pieces_of false bytes) ∙ lines_numbered n (pieces_of false bytes) ∙ ap (λ ls. numbered (faulty_from n ls) (cells_said ls)) (lines_are bytes)
 
-pieces_faulty : (n : ℕ) (ps : List Piece) (e : H3Error) → cells_said (lines_in (without_last_nothing ps)) ≡ Err e → faulty_from n (lines_in (without_last_nothing ps)) ≡ faulty_from n (lines_in ps)
-pieces_faulty n [] e is = refl
-pieces_faulty n (p ∷ []) e is = last_faulty n p (length p.0 == 0) e is
-pieces_faulty n (p ∷ q ∷ ps) e is = number_kept n (said_by p.0) (cells_said (lines_in (without_last_nothing (q ∷ ps)))) _ _ e (pieces_faulty (n + 1) (q ∷ ps) e) is
+pub numbered_cells : (n : ℕ) (list : Result (List Address) H3Error) (cells : List Address) → numbered n list ≡ Ok cells → list ≡ Ok cells
+numbered_cells n (Ok found) cells is = let same : found ≡ cells = cc is in ap Ok same
+numbered_cells n (Err e) cells is = absurd (cc is)
 
--- a refusal of the rows fits the list
-pub rows_refuse : (bytes : List ℕ) (e : RunError) → RefusesAt ⊥ (cells_said (lines_in (rows_of false bytes))) (faulty_from 1 (lines_in (rows_of false bytes))) e → RefusesAt ⊥ (listed_cells bytes) (faulty_line bytes) e
-rows_refuse bytes (Error d) (error, is, at) =
-    (error, sym (rows_said bytes) ∙ is, at ∙ ap (λ n. At n error) (pieces_faulty 1 (pieces_of false bytes) error is ∙ ap (faulty_from 1) (lines_are bytes)))
-rows_refuse bytes (Fault Memory) h = h
-rows_refuse bytes (Fault Read) h = absurd h
-rows_refuse bytes (Fault Write) h = absurd h
+-- a refusal of the cells of a list, with the number of its line, whatever may be said of reads
+pub numbered_refused : (reads : Type 0) (n : ℕ) (list : Result (List Address) H3Error) (e : RunError) → IsRefusal (numbered n list) e → RefusesAt reads list n e
+numbered_refused reads n (Ok cells) (Error e) is = absurd (cc is)
+numbered_refused reads n (Err d) (Error e) is = (d, refl, cc is)
+numbered_refused reads n list (Fault Memory) h = tt
+numbered_refused reads n list (Fault Read) h = absurd h
+numbered_refused reads n list (Fault Write) h = absurd h

@@ -9,7 +9,6 @@ pub mod EndingLaws
 pub mod Examples
 pub mod Line
 pub mod List
-pub mod ListLaws
 pub mod ListRead
 pub mod Numbered
 pub mod Pieces
@@ -17,4 +16,5 @@ pub mod Reads
 pub mod RunError
 pub mod Splitting
 pub mod Taking
+pub mod TakingLaws
 pub mod Write

@@ -1,35 +1,53 @@
--- A list that is read line by line. Private contracts and proofs alone cite this file.
-use Rattle.std.specs.Prelude.{ℕ, ◌≡◌, List, [], ◌∷◌, ◌++◌, Option, None, Some, Result, Ok, Err}
+-- Cells that are taken as the rows, or the lines, of a list are read. Of this file public contracts cite `cell_list` and
+-- `cells_before` alone.
+use Rattle.std.specs.Prelude.{◌≡◌, ⊤, ℕ, ◌+◌, List, [], ◌∷◌, ◌++◌, Option, None, Some, Result, Ok, Err}
 use Rattle.h3_index.specs.Cell.{Address}
 use Rattle.h3_index.specs.declared.error.H3Error.{H3Error}
-use Rattle.h3_lines.specs.List.{cells_said, said_before, said_by}
-use Rattle.h3_lines.specs.Numbered.{RefusesAt, faulty_from}
+use Rattle.h3_lines.specs.List.{said_by}
+use Rattle.h3_lines.specs.Pieces.{Piece}
+use Rattle.h3_lines.specs.declared.run_error.AnswerError.{AnswerError}
+use Rattle.h3_lines.specs.declared.run_error.AnswerError.TheVariants.{At}
+use Rattle.h3_lines.specs.declared.run_error.Fault.TheVariants.{Memory, Read, Write}
 use Rattle.h3_lines.specs.declared.run_error.RunError.{RunError}
+use Rattle.h3_lines.specs.declared.run_error.RunError.TheVariants.{Error, Fault}
 
--- these cells, before those of a list
-abbrev pub cells_before : List Address → Result (List Address) H3Error → Result (List Address) H3Error
+-- cell_list cell: a cell alone, or none
+abbrev pub cell_list : Option Address → List Address
+cell_list None = []
+cell_list (Some cell) = cell ∷ []
+
+-- cells_before cells later: these cells, before the later ones
+abbrev pub cells_before : List Address → Result (List Address) AnswerError → Result (List Address) AnswerError
 cells_before cells (Ok later) = Ok (cells ++ later)
 cells_before cells (Err e) = Err e
 
--- these lines, and then a list
-abbrev pub said_lines : List (List ℕ) → Result (List Address) H3Error → Result (List Address) H3Error
-said_lines [] later = later
-said_lines (line ∷ lines) later = said_before (said_by line) (said_lines lines later)
+-- ---- rows that are read: `cells_of last v rows` are their cells in the state v, or the error of the first that has one, and
+-- then what is last
 
--- the cell that a line says, if it says one
-abbrev pub cells_on : Result (Option Address) H3Error → List Address
-cells_on (Ok None) = []
-cells_on (Ok (Some cell)) = cell ∷ []
-cells_on (Err e) = []
+-- from the one state to the other these rows are read, which have these cells and no error
+abbrev pub HaveCells : {L N : Type 0} → (L → N → List Piece → Result (List Address) AnswerError) → N → List Piece → List Address → N → Type 0
+HaveCells {L = L} cells_of v rows cells w = (last : L) (more : List Piece) → cells_of last v (rows ++ more) ≡ cells_before cells (cells_of last w more)
 
--- the lines say these cells, and none of them is faulty
-abbrev pub SayCells : List (List ℕ) → List Address → Type 0
-SayCells lines cells = (later : Result (List Address) H3Error) → said_lines lines later ≡ cells_before cells later
+-- a refusal fits cells: their own error, or out of memory
+abbrev pub IsRefusal : Result (List Address) AnswerError → RunError → Type 0
+IsRefusal cells (Error e) = cells ≡ Err e
+IsRefusal cells (Fault Memory) = ⊤
+IsRefusal cells (Fault Read) = ⊥
+IsRefusal cells (Fault Write) = ⊥
 
--- the lines are counted from the one number to the other, and none of them is faulty
-abbrev pub CountsLines : ℕ → List (List ℕ) → ℕ → Type 0
-CountsLines number lines number' = (more : List (List ℕ)) → faulty_from number (lines ++ more) ≡ faulty_from number' more
+-- a refusal fits the cells of these rows in this state, whatever is last
+abbrev pub RefusesCells : {L N : Type 0} → (L → N → List Piece → Result (List Address) AnswerError) → N → List Piece → RunError → Type 0
+RefusesCells {L = L} cells_of v rows e = (last : L) → IsRefusal (cells_of last v rows) e
 
--- a refusal fits lines of which the first has this number
-abbrev pub RefusesLinesAt : ℕ → List (List ℕ) → RunError → Type 0
-RefusesLinesAt number lines e = RefusesAt ⊥ (cells_said lines) (faulty_from number lines) e
+-- ---- rows that are lines
+
+-- what the line with this number says, before the cells of the lines after it
+abbrev pub read_before : ℕ → Result (Option Address) H3Error → Result (List Address) AnswerError → Result (List Address) AnswerError
+read_before number (Err e) later = Err (At number e)
+read_before number (Ok cell) later = cells_before (cell_list cell) later
+
+-- the cells of rows as lines, of which the first has this number, or the error of the first faulty one, at its number;
+-- nothing is last
+abbrev pub cells_from : Unit {0} → ℕ → List Piece → Result (List Address) AnswerError
+cells_from last number [] = Ok []
+cells_from last number (p ∷ ps) = read_before number (said_by p.0) (cells_from last (number + 1) ps)

@@ -1,16 +1,13 @@
 //! Lists of cells, one a line, of which each cell is taken as it is read.
 
-ghost use Rattle.std.proofs.Common.{refl};
 ghost use Rattle.std.specs.Prelude.{◌≡◌, ◌≤◌, ◌<◌, ◌*◌, ◌+◌, ◌^◌, ◌++◌, ◌∷◌, ⊤, ℕ, List, [], length, Result, Err, IsOk, IfOk, IfErr, OnOk};
 ghost use Rattle.h3_index.specs.Cell.{Address};
 ghost use Rattle.h3_index.specs.declared.error.H3Error.{H3Error};
-ghost use Rattle.h3_lines.specs.List.{said_before};
-ghost use Rattle.h3_lines.specs.ListLaws.{rows_count, rows_refused, rows_say, says_nothing};
 ghost use Rattle.h3_lines.specs.ListRead.{ListRead, ListRefused, RefusesByLine};
-ghost use Rattle.h3_lines.specs.Numbered.{RefusesAt, number_of_fault};
-ghost use Rattle.h3_lines.specs.Taking.{CountsLines, RefusesLinesAt, SayCells, cells_on};
-ghost use Rattle.h3_lines.specs.Pieces.{lines_in};
 ghost use Rattle.h3_lines.specs.Reads.{source_use};
+ghost use Rattle.h3_lines.specs.Taking.{HaveCells, IsRefusal, RefusesCells, cell_list, cells_from, read_before};
+ghost use Rattle.h3_lines.specs.TakingLaws.{have_none, have_then, refuses_after};
+ghost use Rattle.h3_lines.specs.declared.run_error.AnswerError.{AnswerError};
 ghost use Rattle.h3_lines.specs.declared.run_error.AnswerError.TheVariants.{At};
 ghost use Rattle.h3_lines.specs.declared.run_error.Fault.TheVariants.{Memory};
 ghost use Rattle.h3_lines.specs.declared.run_error.RunError.TheVariants as refusal;
@@ -69,12 +66,12 @@ fn push_parsed<V: CellTaker>(
     place: Option<usize>,
 ) -> Result<(), RunError>
     requires few { V.count taker.old < 2 ^ 63 }
-    ensures ok { OnOk result (V.taken taker.old (cells_on said) taker.new) }
+    ensures ok { OnOk result (IfOk said (λ cell. V.taken taker.old (cell_list cell) taker.new)) }
     ensures counted { V.count taker.new ≤ V.count taker.old + 1 }
     ensures said { OnOk result (IsOk said) }
     ensures faulty { (e : H3Error) → said ≡ Err e → result ≡ Err (refusal.Error (At number e)) }
-    ensures err { IfErr result (λ e. (later : Result (List Address) H3Error) (after : ℕ) →
-        RefusesAt ⊥ (said_before said later) (number_of_fault number said after) e) }
+    ensures err { IfErr result (λ e. (later : Result (List Address) AnswerError) →
+        IsRefusal (read_before number said later) e) }
 {
     match said {
         Ok(None) => Ok(()),
@@ -98,10 +95,10 @@ impl<V: CellTaker> Taking for NumberedLines<V> {
 
     ghost settled = { λ v. ⊤ };
 
-    ghost taken = { λ v rows w. (cells : List Address) × SayCells (lines_in rows) cells ×
-        V.taken v.taker cells w.taker × CountsLines v.number (lines_in rows) w.number };
+    ghost taken = { λ v rows w. (cells : List Address)
+        × HaveCells cells_from v.number rows cells w.number × V.taken v.taker cells w.taker };
 
-    ghost refused = { λ v rows w e. RefusesLinesAt v.number (lines_in rows) e };
+    ghost refused = { λ v rows w e. RefusesCells cells_from v.number rows e };
 
     fn refuse_long(&mut self) -> RunError {
         RunError::Error(AnswerError::At(self.number, H3Error::Failed))
@@ -112,17 +109,16 @@ impl<V: CellTaker> Taking for NumberedLines<V> {
         Ok(())
     }
 
-    ghost none_taken = { λ v. ([], λ later. says_nothing later, V.none_taken v.taker, λ more. refl) };
+    ghost none_taken = { λ v. ([], have_none cells_from v.number, V.none_taken v.taker) };
 
     ghost taken_then = { λ u v w xs ys p q. (
       p.0 ++ q.0,
-      rows_say _ _ xs ys p.1 q.1,
+      have_then cells_from u.number v.number w.number xs ys p.0 q.0 p.1 q.1,
       V.taken_then _ _ _ _ _ p.2 q.2,
-      rows_count _ _ _ xs ys p.3 q.3,
     ) };
 
     ghost refused_then = { λ u v w xs ys e p q.
-        rows_refused _ _ _ xs ys e p.1 p.3 q };
+        refuses_after cells_from u.number v.number xs ys p.0 e p.1 q };
 }
 
 impl<V: CellTaker> IndexJob for NumberedLines<V> {

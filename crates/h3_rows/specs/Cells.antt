@@ -15,6 +15,7 @@ use Rattle.h3_lines.specs.declared.run_error.Fault.TheVariants.{Memory, Read, Wr
 use Rattle.h3_lines.specs.declared.run_error.RunError.{RunError}
 use Rattle.h3_lines.specs.declared.run_error.RunError.TheVariants.{Error, Fault}
 use Rattle.h3_lines.specs.Pieces.{Piece, pieces_of, rows_of}
+use Rattle.h3_lines.specs.Taking.{cell_list, cells_before}
 use Rattle.h3_rows.specs.Row.{next_number, read_of, row_body}
 use Rattle.h3_rows.specs.RowsAnswer.{After, Choice, Form, Named, before_first, chosen_in, is_malformed, row_said}
 use Rattle.h3_rows.specs.declared.said.Said.{Said}
@@ -28,11 +29,6 @@ abbrev pub cell_said : Result Said H3Error → Result (Option Address) H3Error
 cell_said (Err e) = Err e
 cell_said (Ok Missing) = Ok None
 cell_said (Ok (Index index)) = said_by_index index
-
--- cell_list cell: a cell alone, or none
-abbrev pub cell_list : Option Address → List Address
-cell_list None = []
-cell_list (Some cell) = cell ∷ []
 
 -- at_row n cell: the cell, or its error at the row with this number
 abbrev pub at_row : ℕ → Result (Option Address) H3Error → Result (List Address) AnswerError
@@ -61,11 +57,6 @@ row_found form n before p =
     if length (row_body p.0) == 0 then record { cells = Ok []; before = before } else filled_found form n p.0 before
 
 -- ---- the cells of rows
-
--- cells_before cells later: these cells, before the later ones
-abbrev pub cells_before : List Address → Result (List Address) AnswerError → Result (List Address) AnswerError
-cells_before cells (Ok later) = Ok (cells ++ later)
-cells_before cells (Err e) = Err e
 
 -- found_before found later: what a row has, before what the rows after it have; the first error decides
 abbrev pub found_before : Result (List Address) AnswerError → Result (List Address) AnswerError → Result (List Address) AnswerError

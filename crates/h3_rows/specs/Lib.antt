@@ -1,6 +1,6 @@
 pub mod Answering
 pub mod Cells
-pub mod CellsLaws
+pub mod CellsIn
 pub mod Each
 pub mod Examples
 pub mod Lanes

@@ -1,11 +1,12 @@
 //! The cells of the rows of a list.
 
-ghost use Rattle.std.proofs.Common.{◌∙◌, refl};
 ghost use Rattle.std.specs.Prelude.{◌≡◌, ◌+◌, ◌*◌, ◌<◌, ◌≤◌, ◌++◌, ◌∷◌, ◌^◌, ⊤, ℕ, List, [], length, Ok, Err, IfOk, IfErr, OnOk};
 ghost use Rattle.h3_index.specs.Cell.{Address};
+ghost use Rattle.h3_lines.specs.Taking.{HaveCells, RefusesCells, cell_list};
+ghost use Rattle.h3_lines.specs.TakingLaws.{have_none, have_then, refuses_after};
 ghost use Rattle.h3_rows.specs.Row.{next_number};
-ghost use Rattle.h3_rows.specs.Cells.{AllRowsRead, RefusesRows, cell_list, cell_said, cells_end, row_found};
-ghost use Rattle.h3_rows.specs.CellsLaws.{HaveCells, RefusesCells, have_none, have_then, refuses_after};
+ghost use Rattle.h3_rows.specs.Cells.{AllRowsRead, RefusesRows, cell_said, cells_end, row_found};
+ghost use Rattle.h3_rows.specs.CellsIn.{cells_in};
 ghost use Rattle.h3_rows.specs.RowForm.{form_of};
 ghost use Rattle.h3_rows.specs.RowsAnswer.{choice_of, row_said};
 ghost use Rattle.h3_rows.specs.declared.reading.TheConstants.{LONGEST};
@@ -98,12 +99,10 @@ impl<'f, V: CellTaker> Taking for RowCells<'f, V> {
     ghost settled = { λ v. ⊤ };
 
     ghost taken = { λ v rows w. (cells : List Address)
-        × HaveCells (form_of v.options.now []) v.state.number v.state.before rows cells
-        w.state.number w.state.before
-        × V.taken v.taker cells w.taker × (w.options ≡ v.options) };
+        × HaveCells cells_in (v.options.now, v.state) rows cells (w.options.now, w.state)
+        × V.taken v.taker cells w.taker };
 
-    ghost refused = { λ v rows w e.
-        RefusesCells (form_of v.options.now []) v.state.number v.state.before rows e };
+    ghost refused = { λ v rows w e. RefusesCells cells_in (v.options.now, v.state) rows e };
 
     fn refuse_long(&mut self) -> RunError {
         RunError::Error(AnswerError::At(self.state.number, H3Error::Failed))
@@ -113,19 +112,19 @@ impl<'f, V: CellTaker> Taking for RowCells<'f, V> {
         Ok(())
     }
 
-    ghost none_taken = { λ v. ([], have_none (form_of v.options.now []) v.state.number v.state.before, V.none_taken v.taker, refl) };
+    ghost none_taken = { λ v.
+        ([], have_none cells_in (v.options.now, v.state), V.none_taken v.taker) };
 
     ghost taken_then = { λ u v w xs ys p q. (
       p.0 ++ q.0,
-      have_then (λ o. form_of o.now []) u.state.number v.state.number w.state.number
-          u.state.before v.state.before w.state.before xs ys p.0 q.0 p.3 p.1 q.1,
+      have_then cells_in (u.options.now, u.state) (v.options.now, v.state)
+          (w.options.now, w.state) xs ys p.0 q.0 p.1 q.1,
       V.taken_then _ _ _ _ _ p.2 q.2,
-      q.3 ∙ p.3,
     ) };
 
     ghost refused_then = { λ u v w xs ys e p q.
-        refuses_after (λ o. form_of o.now []) u.state.number v.state.number u.state.before
-        v.state.before xs ys p.0 e p.3 p.1 q };
+        refuses_after cells_in (u.options.now, u.state) (v.options.now, v.state) xs ys p.0 e
+        p.1 q };
 }
 
 impl<'f, V: CellTaker> Job for RowCells<'f, V> {

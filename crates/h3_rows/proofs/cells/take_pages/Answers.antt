@@ -1,4 +1,4 @@
-use Rattle.std.proofs.Common.{[], ap, inl, rules}
+use Rattle.std.proofs.Common.{[], inl, rules}
 use Rattle.std.proofs.lemmas.Result.{err_from_is_err_and}
 use Rattle.h3_streams.specs.Counted.{source_of}
 use Rattle.h3_lines.specs.declared.run_error.RunError.TheVariants.{Error}
@@ -11,28 +11,22 @@ returns-in_err-reading-clause-refused g c =
     let p = err_from_is_err_and c.from_residual.result c.from_residual.ensures.1 in
     let e = c.in_err-reading.field-0.0 in
     let after = source_of c.drive-reading.new.reader in
-    let form = form_of c.args.options.now [] in
-    let refused = refused_early (λ v. form_of v.options.now []) (λ v. v.state.number) (λ v. v.state.before) _ _ _ (λ v w rows t. (t.0, t.1)) (λ v w rows t. ap (λ o. form_of o.now []) t.3) (λ v w rows e r. r)
-    _ _ (g.R.Source.left c.args.input.now) (g.R.Source.left after) (g.R.Source.has_failed c.args.input.now) (g.R.Source.has_failed after) e c.first_state.ensures.number c.first_state.ensures.before
-    (rw (c.new-reader.ensures.source, c.new-reader.ensures.limit, c.requires.page) at c.in_err-reading.ensures.err) in
-    rw (p.1, p.2) (refused_at g.R.Source.left g.R.Source.has_failed after _ form (g.R.Source.left c.args.input.now) (g.R.Source.has_failed c.args.input.now) e (search (rules, c.drive-reading.ensures.same)) refused)
+    let refused = refused_early (λ v. (v.options.now, v.state)) (λ v cells w. g.V.CellTaker.taken v.taker cells w.taker) _ _ (g.R.Source.left c.args.input.now) (g.R.Source.left after) c.first_state.ensures.number c.first_state.ensures.before
+    (g.R.Source.has_failed c.args.input.now) (g.R.Source.has_failed after) e (rw (c.new-reader.ensures.source, c.new-reader.ensures.limit, c.requires.page) at c.in_err-reading.ensures.err) in
+    rw (p.1, p.2) (refused_at g.R.Source.left g.R.Source.has_failed after _ (form_of c.args.options.now []) (g.R.Source.left c.args.input.now) (g.R.Source.has_failed c.args.input.now) e (search (rules, c.drive-reading.ensures.same)) refused)
 
 pub returns-in-Ok-clause-taken : goal.returns-in-Ok-clause-taken
 returns-in-Ok-clause-taken g c =
     let after = source_of c.drive-reading.new.reader in
-    let form = form_of c.args.options.now [] in
     let all = rw (c.new-reader.ensures.source, c.new-reader.ensures.limit, c.requires.page) at c.in_ok-reading.ensures.ok in
-    let read = read_all (λ v. form_of v.options.now []) (λ v. v.state.number) (λ v. v.state.before) _ (λ v rows w e. ⊥) (λ v. ⊥) (λ v w rows t. (t.0, t.1)) (λ v w rows t. ap (λ o. form_of o.now []) t.3) (λ v w rows e never. absurd never)
-    _ _ (g.R.Source.left c.args.input.now) (g.R.Source.left after) c.first_state.ensures.number c.first_state.ensures.before all c.in-Ok.ensures.ok in
-    (all.takes.0, read_at g.R.Source.left after _ form (g.R.Source.left c.args.input.now) _ (search (rules, c.drive-reading.ensures.same)) read, all.takes.2)
+    let read = read_all (λ v. (v.options.now, v.state)) (λ v cells w. g.V.CellTaker.taken v.taker cells w.taker) _ _ (g.R.Source.left c.args.input.now) (g.R.Source.left after) c.first_state.ensures.number c.first_state.ensures.before all c.in-Ok.ensures.ok in
+    (all.takes.0, read_at g.R.Source.left after _ (form_of c.args.options.now []) (g.R.Source.left c.args.input.now) _ (search (rules, c.drive-reading.ensures.same)) read, all.takes.2)
 
 pub returns-in-Err-clause-refused : goal.returns-in-Err-clause-refused
 returns-in-Err-clause-refused g c =
     let after = source_of c.drive-reading.new.reader in
-    let form = form_of c.args.options.now [] in
     let all = rw (c.new-reader.ensures.source, c.new-reader.ensures.limit, c.requires.page) at c.in_ok-reading.ensures.ok in
     let e = c.in-Err.error in
-    let read = read_none (λ v. form_of v.options.now []) (λ v. v.state.number) (λ v. v.state.before) _ (λ v rows w e. ⊥) (λ v. ⊥) (λ v w rows t. (t.0, t.1)) (λ v w rows t. ap (λ o. form_of o.now []) t.3) (λ v w rows e never. absurd never)
-    _ _ (g.R.Source.left c.args.input.now) (g.R.Source.left after) c.first_state.ensures.number c.first_state.ensures.before all e c.in-Err.ensures.err in
-    refused_at g.R.Source.left g.R.Source.has_failed after _ form (g.R.Source.left c.args.input.now) (g.R.Source.has_failed c.args.input.now) (Error e) (search (rules, c.drive-reading.ensures.same))
+    let read = read_none (λ v. (v.options.now, v.state)) (λ v cells w. g.V.CellTaker.taken v.taker cells w.taker) _ _ (g.R.Source.left c.args.input.now) (g.R.Source.left after) c.first_state.ensures.number c.first_state.ensures.before all e c.in-Err.ensures.err in
+    refused_at g.R.Source.left g.R.Source.has_failed after _ (form_of c.args.options.now []) (g.R.Source.left c.args.input.now) (g.R.Source.has_failed c.args.input.now) (Error e) (search (rules, c.drive-reading.ensures.same))
     (rw c.new-reader.ensures.source at c.in_ok-reading.ensures.sound, inl read)

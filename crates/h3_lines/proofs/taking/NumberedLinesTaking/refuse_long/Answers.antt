@@ -1,6 +1,5 @@
-use Rattle.h3_lines.specs.Pieces.{lines_in}
 use Rattle.h3_lines.proofs.Listed.{refuses_long}
 use Rattle.h3_lines.proofs.taking.NumberedLinesTaking.refuse_long.Goals as goal
 
 pub returns : goal.returns
-returns g c p long later = refuses_long c.args.self.now.number p.0 (lines_in later) long
+returns g c p long later = refuses_long c.args.self.now.number p later long
