@@ -2,13 +2,12 @@
 use Rattle.std.proofs.Common.{◌≡◌, ℕ, ◌+◌, ◌-◌, ◌<◌, ◌≤◌, ◌==◌, nat_lt, Bool, true, false, List, [], ◌∷◌, ◌++◌, length, take, get_or, Option, Some, Result, Ok, Err, IfErr, OnOk, sym, ap, ◌∙◌, refl, subst, inl, inr, append-nil, arith}
 use Rattle.std.proofs.lemmas.Bool.Decides.{nat_tests}
 use Rattle.std.proofs.lemmas.List.{take_more}
-use Rattle.std.proofs.KnownBytes.{Appends-nil}
 use Rattle.h3_index.specs.Text.{parsed_index, trimmed}
 use Rattle.h3_index.specs.declared.error.H3Error.{H3Error}
 use Rattle.h3_index.specs.declared.error.H3Error.TheVariants.{Failed}
 use Rattle.h3_lines.specs.Answer.{Answer, before, refused, written}
 use Rattle.h3_lines.specs.Answering.{Answered, Breaks, EndsBy, Moves, Puts, RefusesEach, RefusesLines, TakesSome, TellsLine, lines_from}
-use Rattle.h3_lines.specs.EachLaws.{answered_by, breaks_before, breaks_ends, moves_none, moves_then, refuses_then}
+use Rattle.h3_lines.specs.EachLaws.{answered_by, breaks_before, breaks_ends, moves_none, moves_put, moves_then, refuses_then}
 use Rattle.h3_lines.specs.EachLine.{followed_by, line_answer}
 use Rattle.h3_lines.specs.Pieces.{Piece}
 use Rattle.h3_lines.specs.Write.{SinkUse, Takes, TakesPart, Writes, sink_use}
@@ -66,10 +65,6 @@ module _ {S : Type 0} (taken : S → Option (List ℕ)) (failed : S → Bool) wh
   moves_on all held held' s t u m k = subst (λ l. Moves taken failed l held' s u) (append-nil all)
       (moves_then taken failed all held [] held' s t u m (subst (λ l. Moves taken failed l held' t u) (sym (append-nil held)) k))
 
-  -- bytes that are put into the block, where some before them are taken
-  pub moves_put : (all held more held' : List ℕ) (s t : S) → Moves taken failed all held s t → held' ≡ held ++ more → Moves taken failed (all ++ more) held' s t
-  moves_put all held more held' s t m is = moves_then taken failed all held more held' s t t m (record { part = []; split = sym is; grown = Appends-nil (taken t); sound = refl })
-
   -- a line that has no answer
   pub answered_blank : (answer : Option ℕ → Answer) (n : ℕ) (held : List ℕ) (s : S) (line : Piece) → line_answer answer line.0 ≡ written [] → Answered taken failed (lines_from answer) n (n + 1) held held s s (line ∷ [])
   answered_blank answer n held s line is = record {
@@ -84,7 +79,7 @@ module _ {S : Type 0} (taken : S → Option (List ℕ)) (failed : S → Bool) wh
   answered_index answer {n} {held} {block} {block'} {at} {end} {s} {t} line m is p = record {
     text = p.text;
     says = λ last more. ap (λ b. followed_by n b (lines_from answer last (n + 1) more)) (is ∙ p.is);
-    moves = moves_put held (take at block) p.text (take end block') s t m p.put;
+    moves = moves_put taken failed held (take at block) p.text (take end block') s t m p.put;
   }
 
   pub refused_index : (answer : Option ℕ → Answer) (n : ℕ) {held held1 held2 : List ℕ} {s t : S} (u : S) (e : RunError) (lines : List Piece) → Moves taken failed held held1 s t → held2 ≡ held1

@@ -8,7 +8,8 @@ use Rattle.std.proofs.lemmas.Iterator.{YieldsList}
 use Rattle.std.proofs.lemmas.Iterator.Consumers.{YieldsList-so_far, YieldsList-turn, YieldsList-end}
 use Rattle.h3_index.specs.declared.error.H3Error.{H3Error}
 use Rattle.h3_lines.specs.Answer.{Answer, before, before_items, whole_items}
-use Rattle.h3_lines.specs.Write.{AppendsUpTo, Writes, sink_use}
+use Rattle.h3_lines.specs.Answering.{Moves}
+use Rattle.h3_lines.specs.Write.{Writes, sink_use}
 use Rattle.h3_lines.specs.declared.run_error.RunError.{RunError}
 use Rattle.h3_lines.specs.EachLaws.{before_before}
 use Rattle.h3_lines.specs.EndingLaws.{writes_after}
@@ -53,25 +54,26 @@ module _ {I : Type 0} (answer : List I → Answer) where
   pub held_none : (out : Option (List ℕ)) → Held [] out out []
   held_none out = record { done = []; grown = Appends-nil out; so_far = λ more. refl }
 
-  -- the text of an item more, put after what is left of the bytes held back
-  pub held_more : {items : List I} {old mid new : Option (List ℕ)} {held rest : List ℕ} → Held items old mid held → (item : I) (text held' : List ℕ)
-      → ((more : List I) → answer (item ∷ more) ≡ before text (answer more)) → AppendsUpTo mid new held rest → held' ≡ rest ++ text → Held (items ++ item ∷ []) old new held'
-  held_more {items} {old} {mid} {new} {held} {rest} h item text held' begins p is = record {
-    done = h.done ++ p.part;
-    grown = Appends-trans old mid new h.done p.part h.grown p.grown;
-    so_far = λ more. (
-        let bytes : (h.done ++ held) ++ text ≡ (h.done ++ p.part) ++ held' =
-        ap (λ l. l ++ text) (ap (λ l. h.done ++ l) p.split ∙ sym (append_assoc h.done p.part rest)) ∙ append_assoc (h.done ++ p.part) rest text ∙ ap (λ l. (h.done ++ p.part) ++ l) (sym is) in
-        ap answer (append_assoc items (item ∷ []) more) ∙ h.so_far (item ∷ more) ∙ ap (before (h.done ++ held)) (begins more) ∙ before_before (h.done ++ held) text (answer more) ∙ ap (λ l. before l (answer more)) bytes);
-  }
+  module _ {S : Type 0} (taken : S → Option (List ℕ)) (failed : S → Bool) where
+    -- the text of an item more, put after what is left of the bytes held back
+    pub held_more : {items : List I} {old : Option (List ℕ)} {mid new : S} {held rest : List ℕ} → Held items old (taken mid) held → (item : I) (text held' : List ℕ)
+        → ((more : List I) → answer (item ∷ more) ≡ before text (answer more)) → Moves taken failed held rest mid new → held' ≡ rest ++ text → Held (items ++ item ∷ []) old (taken new) held'
+    held_more {items} {old} {mid} {new} {held} {rest} h item text held' begins p is = record {
+      done = h.done ++ p.part;
+      grown = Appends-trans old (taken mid) (taken new) h.done p.part h.grown p.grown;
+      so_far = λ more. (
+          let bytes : (h.done ++ held) ++ text ≡ (h.done ++ p.part) ++ held' =
+          ap (λ l. l ++ text) (ap (λ l. h.done ++ l) p.split ∙ sym (append_assoc h.done p.part rest)) ∙ append_assoc (h.done ++ p.part) rest text ∙ ap (λ l. (h.done ++ p.part) ++ l) (sym is) in
+          ap answer (append_assoc items (item ∷ []) more) ∙ h.so_far (item ∷ more) ∙ ap (before (h.done ++ held)) (begins more) ∙ before_before (h.done ++ held) text (answer more) ∙ ap (λ l. before l (answer more)) bytes);
+    }
 
-  -- the answer to all items is written, where what is held back and the answer to the others are
-  pub held_ends : {S : Type 0} (taken : S → Option (List ℕ)) (failed : S → Bool) (first mid last : S) {items : List I} {held : List ℕ} → Held items (taken first) (taken mid) held
-      → (all rest : List I) → all ≡ items ++ rest → failed mid ≡ failed first → (ending : Result (Unit {0}) RunError)
-      → Writes (before held (answer rest)) ending (sink_use taken failed mid last) → Writes (answer all) ending (sink_use taken failed first last)
-  held_ends taken failed first mid last {items} {held} h all rest split same ending writes =
-      let is : answer all ≡ before h.done (before held (answer rest)) = ap answer split ∙ h.so_far rest ∙ sym (before_before h.done held (answer rest)) in
-      rw is (writes_after taken failed first mid last (before held (answer rest)) h.done ending h.grown same writes)
+    -- the answer to all items is written, where what is held back and the answer to the others are
+    pub held_ends : (first mid last : S) {items : List I} {held : List ℕ} → Held items (taken first) (taken mid) held
+        → (all rest : List I) → all ≡ items ++ rest → failed mid ≡ failed first → (ending : Result (Unit {0}) RunError)
+        → Writes (before held (answer rest)) ending (sink_use taken failed mid last) → Writes (answer all) ending (sink_use taken failed first last)
+    held_ends first mid last {items} {held} h all rest split same ending writes =
+        let is : answer all ≡ before h.done (before held (answer rest)) = ap answer split ∙ h.so_far rest ∙ sym (before_before h.done held (answer rest)) in
+        rw is (writes_after taken failed first mid last (before held (answer rest)) h.done ending h.grown same writes)
 
 -- ---- items without an error
 

@@ -10,7 +10,7 @@ use Rattle.h3_lines.specs.Answer.{Answer, before, refused, written}
 use Rattle.h3_lines.specs.Beginning.{SomeBeginning}
 use Rattle.h3_lines.specs.EachLine.{IsAtLine, lines_answer}
 use Rattle.h3_lines.specs.Pieces.{Piece, lines_in}
-use Rattle.h3_lines.specs.Write.{SinkUse, Takes}
+use Rattle.h3_lines.specs.Write.{AppendsPart, SinkUse, Takes}
 
 -- Puts a old new at end: an answer that is bytes alone is put into a block, from one byte on, up to another
 pub record Puts (a : Answer) (old new : List ℕ) (at end : ℕ) : Type 0 where
@@ -33,6 +33,10 @@ TakesSome sink bytes = SomeBeginning (λ part. Appends sink.before sink.after pa
 -- Breaks bytes sink e: a write fails, and a beginning of these bytes is taken
 abbrev pub Breaks : List ℕ → SinkUse → RunError → Type 0
 Breaks all sink e = (e ≡ Fault Write) × (0 < length all) × TakesSome sink all
+
+-- FailsPush bytes sink e: a push fails, and a beginning of these bytes is taken
+abbrev pub FailsPush : List ℕ → SinkUse → RunError → Type 0
+FailsPush all sink e = (e ≡ Fault Write) × (0 < length all) × AppendsPart sink.before sink.after all × (sink.has_failed ≡ true)
 
 -- from one moment to a later one, of these bytes some are taken, and these are still held back
 pub record Moves {S : Type 0} (taken : S → Option (List ℕ)) (failed : S → Bool) (all held : List ℕ) (s t : S) : Type 0 where

@@ -1,12 +1,13 @@
 -- Laws of lines and rows that are answered one after another. The implementations that state them and proofs alone cite this
 -- file.
-use Rattle.std.proofs.Common.{◌≡◌, ℕ, ◌<◌, Bool, true, List, [], ◌++◌, length, Option, sym, ap, ◌∙◌, refl, subst, inl, inr, append_assoc, append-nil, length-append, arith}
+use Rattle.std.proofs.Common.{◌≡◌, ℕ, ◌<◌, ◌⊎◌, Bool, true, List, [], ◌++◌, length, Option, sym, ap, ◌∙◌, refl, subst, inl, inr, append_assoc, append-nil, length-append, arith}
 use Rattle.std.proofs.KnownBytes.{Appends-nil, Appends-trans}
 use Rattle.std.specs.Io.KnownBytes.{Appends}
 use Rattle.h3_lines.specs.Answer.{Answer, before}
-use Rattle.h3_lines.specs.Answering.{Answered, Breaks, EndsBy, Moves, RefusesEach, TakesSome}
+use Rattle.h3_lines.specs.Answering.{Answered, Breaks, EndsBy, FailsPush, Moves, RefusesEach, TakesSome}
+use Rattle.h3_lines.specs.Beginning.{SomeBeginning}
 use Rattle.h3_lines.specs.Pieces.{Piece}
-use Rattle.h3_lines.specs.Write.{AppendsPart, SinkUse, sink_use}
+use Rattle.h3_lines.specs.Write.{AppendsPart, MayHaveTaken, SinkUse, sink_use}
 use Rattle.h3_lines.specs.declared.run_error.Fault.TheVariants.{Memory, Read, Write}
 use Rattle.h3_lines.specs.declared.run_error.RunError.{RunError}
 use Rattle.h3_lines.specs.declared.run_error.RunError.TheVariants.{Error, Fault}
@@ -16,14 +17,28 @@ before_before xs ys a = ap (λ l. record { output = l; ending = a.ending }) (sym
 
 -- ---- bytes that are not all taken
 
+pub beginning_longer : {P : List ℕ → Type 0} {xs : List ℕ} (ys : List ℕ) → SomeBeginning P xs → SomeBeginning P (xs ++ ys)
+beginning_longer ys b = record { part = b.part; rest = b.rest ++ ys; split = ap (λ l. l ++ ys) b.split ∙ append_assoc b.part b.rest ys; holds = b.holds }
+
+beginning_after : {P Q : List ℕ → Type 0} {bytes : List ℕ} (done : List ℕ) → ((part : List ℕ) → P part → Q (done ++ part)) → SomeBeginning P bytes → SomeBeginning Q (done ++ bytes)
+beginning_after done more b = record { part = done ++ b.part; rest = b.rest; split = ap (λ l. done ++ l) b.split ∙ sym (append_assoc done b.part b.rest); holds = more b.part b.holds }
+
 pub some_of_part : (xs ys zs : List ℕ) (out : SinkUse) → zs ≡ xs ++ ys → AppendsPart out.before out.after xs → out.has_failed ≡ true → TakesSome out zs
 some_of_part xs ys zs out is p failed =
-    (record { part = p.part; rest = p.rest ++ ys; split = is ∙ ap (λ l. l ++ ys) p.split ∙ append_assoc p.part p.rest ys; holds = inl p.holds }, failed)
+    let b = beginning_longer ys p in
+    (record { part = b.part; rest = b.rest; split = is ∙ b.split; holds = inl b.holds }, failed)
+
+more_bytes : (xs ys : List ℕ) → 0 < length xs → 0 < length (xs ++ ys)
+more_bytes xs ys some = omega (arith, length-append xs ys, some)
+
+pub push_more : (xs ys : List ℕ) (sink : SinkUse) (e : RunError) → FailsPush xs sink e → FailsPush (xs ++ ys) sink e
+push_more xs ys sink e (is, some, b, failed) = (is, more_bytes xs ys some, beginning_longer ys b, failed)
+
+pub push_breaks : (bytes : List ℕ) (sink : SinkUse) (e : RunError) → FailsPush bytes sink e → Breaks bytes sink e
+push_breaks bytes sink e (is, some, b, failed) = (is, some, some_of_part bytes [] bytes sink (sym (append-nil bytes)) b failed)
 
 pub breaks_more : (xs ys : List ℕ) (sink : SinkUse) (e : RunError) → Breaks xs sink e → Breaks (xs ++ ys) sink e
-breaks_more xs ys sink e (is, some, (b, failed)) =
-    let more : 0 < length (xs ++ ys) = omega (arith, length-append xs ys, some) in
-    (is, more, (record { part = b.part; rest = b.rest ++ ys; split = ap (λ l. l ++ ys) b.split ∙ append_assoc b.part b.rest ys; holds = b.holds }, failed))
+breaks_more xs ys sink e (is, some, (b, failed)) = (is, more_bytes xs ys some, (beginning_longer ys b, failed))
 
 -- an answer after these bytes
 pub breaks_before : (held : List ℕ) (a : Answer) (e : RunError) (sink : SinkUse) → Breaks held sink e → EndsBy (before held a) e sink
@@ -52,26 +67,39 @@ module _ {S : Type 0} (taken : S → Option (List ℕ)) (failed : S → Bool) wh
     sound = k.sound ∙ m.sound;
   }
 
-  -- what was taken of bytes, after bytes that were taken
+  -- bytes that are put into the block, where some before them are taken
+  pub moves_put : (all held more held' : List ℕ) (s t : S) → Moves taken failed all held s t → held' ≡ held ++ more → Moves taken failed (all ++ more) held' s t
+  moves_put all held more held' s t m is = moves_then all held more held' s t t m (record { part = []; split = sym is; grown = Appends-nil (taken t); sound = refl })
+
+  pub may_after : (s t u : S) (done bytes : List ℕ) → Appends (taken s) (taken t) done → failed t ≡ failed s → MayHaveTaken taken failed t u bytes → MayHaveTaken taken failed s u (done ++ bytes)
+  may_after s t u done bytes grown same (whole, more, sound, kept) = (whole, Appends-trans (taken s) (taken t) (taken whole) done bytes grown more, sound ∙ same, kept)
+
+  -- bytes that were taken, or may have been, after others that were
+  pub taken_after : (s t u : S) (done bytes : List ℕ) → Appends (taken s) (taken t) done → failed t ≡ failed s → Appends (taken t) (taken u) bytes ⊎ MayHaveTaken taken failed t u bytes
+      → Appends (taken s) (taken u) (done ++ bytes) ⊎ MayHaveTaken taken failed s u (done ++ bytes)
+  taken_after s t u done bytes grown same (inl more) = inl (Appends-trans (taken s) (taken t) (taken u) done bytes grown more)
+  taken_after s t u done bytes grown same (inr may) = inr (may_after s t u done bytes grown same may)
+
+  -- a beginning of bytes, after others that were taken
+  pub part_after : (s t u : S) (done bytes : List ℕ) → Appends (taken s) (taken t) done → AppendsPart (taken t) (taken u) bytes → AppendsPart (taken s) (taken u) (done ++ bytes)
+  part_after s t u done bytes grown b = beginning_after done (λ part more. Appends-trans (taken s) (taken t) (taken u) done part grown more) b
+
   pub some_after : (s t u : S) (done bytes : List ℕ) → Appends (taken s) (taken t) done → failed t ≡ failed s → TakesSome (sink_use taken failed t u) bytes → TakesSome (sink_use taken failed s u) (done ++ bytes)
-  some_after s t u done bytes grown same (b, fault) = (
-    record {
-      part = done ++ b.part;
-      rest = b.rest;
-      split = ap (λ l. done ++ l) b.split ∙ sym (append_assoc done b.part b.rest);
-      holds = elim b.holds [
-        | inl more ↦ inl (Appends-trans (taken s) (taken t) (taken u) done b.part grown more)
-        | inr (whole, more, sound, kept) ↦ inr (whole, Appends-trans (taken s) (taken t) (taken whole) done b.part grown more, sound ∙ same, kept)
-      ];
-    },
-    fault,
-  )
+  some_after s t u done bytes grown same (b, fault) = (beginning_after done (λ part. taken_after s t u done part grown same) b, fault)
+
+  regrouped : (all held more : List ℕ) (s t : S) (m : Moves taken failed all held s t) → all ++ more ≡ m.part ++ (held ++ more)
+  regrouped all held more s t m = ap (λ l. l ++ more) m.split ∙ append_assoc m.part held more
+
+  some_more : (done bytes : List ℕ) → 0 < length bytes → 0 < length (done ++ bytes)
+  some_more done bytes some = omega (arith, length-append done bytes, some)
+
+  pub push_then : (all held more : List ℕ) (s t u : S) (e : RunError) → Moves taken failed all held s t → FailsPush (held ++ more) (sink_use taken failed t u) e → FailsPush (all ++ more) (sink_use taken failed s u) e
+  push_then all held more s t u e m (is, some, b, fault) =
+      subst (λ l. FailsPush l (sink_use taken failed s u) e) (sym (regrouped all held more s t m)) (is, some_more m.part (held ++ more) some, part_after s t u m.part (held ++ more) m.grown b, fault)
 
   pub breaks_then : (all held more : List ℕ) (s t u : S) (e : RunError) → Moves taken failed all held s t → Breaks (held ++ more) (sink_use taken failed t u) e → Breaks (all ++ more) (sink_use taken failed s u) e
-  breaks_then all held more s t u e m b =
-      let is : all ++ more ≡ m.part ++ (held ++ more) = ap (λ l. l ++ more) m.split ∙ append_assoc m.part held more in
-      let some : 0 < length (m.part ++ (held ++ more)) = omega (arith, length-append m.part (held ++ more), b.1) in
-      (b.0, subst (λ l. 0 < length l) (sym is) some, subst (TakesSome (sink_use taken failed s u)) (sym is) (some_after s t u m.part (held ++ more) m.grown m.sound b.2))
+  breaks_then all held more s t u e m (is, some, takes) =
+      subst (λ l. Breaks l (sink_use taken failed s u) e) (sym (regrouped all held more s t m)) (is, some_more m.part (held ++ more) some, some_after s t u m.part (held ++ more) m.grown m.sound takes)
 
   -- ---- pieces that are answered
 

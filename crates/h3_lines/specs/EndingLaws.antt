@@ -1,9 +1,10 @@
 -- Laws of how the answering of a list ends. Proofs alone cite this file.
-use Rattle.std.proofs.Common.{◌≡◌, ℕ, ◌^◌, ◌⊎◌, Bool, true, List, [], ◌∷◌, ◌++◌, length, Option, Result, Ok, Err, sym, ap, ◌∙◌, refl, subst, inl, inr, append_assoc, append-nil}
+use Rattle.std.proofs.Common.{◌≡◌, ℕ, ◌^◌, ◌⊎◌, Bool, true, List, [], ◌∷◌, ◌++◌, length, Option, Result, Ok, Err, sym, ap, ◌∙◌, refl, subst, inl, inr, append-nil}
 use Rattle.std.proofs.KnownBytes.{Appends-trans}
 use Rattle.std.specs.Io.KnownBytes.{Appends}
 use Rattle.h3_lines.specs.Answer.{Answer, before, written}
 use Rattle.h3_lines.specs.Answering.{Answered, EndsBy, RefusesEach}
+use Rattle.h3_lines.specs.EachLaws.{may_after, part_after, taken_after}
 use Rattle.h3_lines.specs.Ending.{EndsEarly, StopsInPage, TakesBeginning}
 use Rattle.h3_lines.specs.Pieces.{Piece, pieces_of, rows_of}
 use Rattle.h3_lines.specs.Splitting.{StopsReading, StopsTaking}
@@ -25,18 +26,9 @@ none_after (x ∷ xs) ys is = absurd (cc)
 
 module _ {S : Type 0} (taken : S → Option (List ℕ)) (failed : S → Bool) (first mid last : S) where
   -- what was taken of an answer, after bytes that were taken
-  part_after : (done bytes : List ℕ) → Appends (taken first) (taken mid) done → failed mid ≡ failed first → TakesPart (sink_use taken failed mid last) bytes → TakesPart (sink_use taken failed first last) (done ++ bytes)
-  part_after done bytes grown same (inl p, fault) = (
-    inl (record {
-      part = done ++ p.part;
-      rest = p.rest;
-      split = ap (λ l. done ++ l) p.split ∙ sym (append_assoc done p.part p.rest);
-      holds = Appends-trans (taken first) (taken mid) (taken last) done p.part grown p.holds;
-    }),
-    fault,
-  )
-  part_after done bytes grown same (inr (whole, more, sound, kept), fault) =
-      (inr (whole, Appends-trans (taken first) (taken mid) (taken whole) done bytes grown more, sound ∙ same, kept), fault)
+  answer_after : (done bytes : List ℕ) → Appends (taken first) (taken mid) done → failed mid ≡ failed first → TakesPart (sink_use taken failed mid last) bytes → TakesPart (sink_use taken failed first last) (done ++ bytes)
+  answer_after done bytes grown same (inl p, fault) = (inl (part_after taken failed first mid last done bytes grown p), fault)
+  answer_after done bytes grown same (inr may, fault) = (inr (may_after taken failed first mid last done bytes grown same may), fault)
 
   -- an answer that is written after bytes that were
   pub writes_after : (a : Answer) (done : List ℕ) (ending : Result (Unit {0}) RunError) → Appends (taken first) (taken mid) done → failed mid ≡ failed first
@@ -46,7 +38,7 @@ module _ {S : Type 0} (taken : S → Option (List ℕ)) (failed : S → Bool) (f
   writes_after a done (Err (Error e)) grown same w = (w.0, (Appends-trans (taken first) (taken mid) (taken last) done a.output grown w.1.0, w.1.1 ∙ same))
   writes_after a done (Err (Fault Memory)) grown same never = absurd never
   writes_after a done (Err (Fault Read)) grown same never = absurd never
-  writes_after a done (Err (Fault Write)) grown same w = (λ alone. w.0 (none_after done a.output alone.0, alone.1), part_after done a.output grown same w.1)
+  writes_after a done (Err (Fault Write)) grown same w = (λ alone. w.0 (none_after done a.output alone.0, alone.1), answer_after done a.output grown same w.1)
 
 -- ---- pieces that are answered to their end, where nothing was held back before them and nothing is after them
 
@@ -96,10 +88,7 @@ module _ {S L N : Type 0} (taken : S → Option (List ℕ)) (failed : S → Bool
           part = b.part;
           rest = b.rest;
           split = b.split;
-          holds = elim b.holds [
-            | inl more ↦ inl (Appends-trans (taken s) (taken t) (taken u) a.moves.part b.part a.moves.grown more)
-            | inr (whole, more, sound, kept) ↦ inr (whole, Appends-trans (taken s) (taken t) (taken whole) a.moves.part b.part a.moves.grown more, sound ∙ a.moves.sound, kept)
-          ];
+          holds = taken_after taken failed s t u a.moves.part b.part a.moves.grown a.moves.sound b.holds;
         };
         failed = fault;
       })

@@ -1,5 +1,5 @@
 -- What is written to a sink: bytes, an answer, the line of an error.
-use Rattle.std.specs.Prelude.{◌≡◌, ℕ, ◌⊎◌, Bool, true, false, List, [], ◌++◌, Option, Result, Ok, Err, IsErr}
+use Rattle.std.specs.Prelude.{◌≡◌, ℕ, ◌⊎◌, Bool, true, false, List, [], Option, Result, Ok, Err, IsErr}
 use Rattle.std.specs.Io.KnownBytes.{Appends, Keeps}
 use Rattle.h3_streams.specs.Stream.{KeepsOrHides}
 use Rattle.h3_lines.specs.Answer.{Answer}
@@ -43,12 +43,6 @@ Takes sink bytes = Appends sink.before sink.after bytes × (sink.has_failed ≡ 
 -- AppendsPart old new bytes: some beginning of the bytes was appended, and nothing more
 abbrev pub AppendsPart : Option (List ℕ) → Option (List ℕ) → List ℕ → Type 0
 AppendsPart old new bytes = SomeBeginning (Appends old new) bytes
-
--- a beginning of the bytes was appended, and these are the rest of them. Private contracts and proofs alone cite it.
-pub record AppendsUpTo (old new : Option (List ℕ)) (bytes rest : List ℕ) : Type 0 where
-  pub part : List ℕ
-  pub split : bytes ≡ part ++ rest
-  pub grown : Appends old new part
 
 -- TakesPart sink bytes: it failed, and took a beginning of the bytes, or may have taken all of them before a flush that
 -- failed

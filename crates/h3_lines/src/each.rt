@@ -3,7 +3,7 @@
 ghost use Rattle.std.proofs.Common.{◌∙◌, refl};
 ghost use Rattle.std.specs.Prelude.{◌≡◌, ◌+◌, ◌<◌, ◌≤◌, ◌++◌, ◌∷◌, ◌^◌, [], ℕ, List, length, Option, take, IfOk, IfErr, OnOk};
 ghost use Rattle.h3_lines.specs.Answer.{Answer, printed, refused};
-ghost use Rattle.h3_lines.specs.Answering.{Answered, Breaks, Moves, Puts, RefusesLines, answer_said, lines_from};
+ghost use Rattle.h3_lines.specs.Answering.{Answered, Puts, RefusesLines, answer_said, lines_from};
 ghost use Rattle.h3_lines.specs.EachLaws.{answered_none, answered_then, refuses_then};
 ghost use Rattle.h3_lines.specs.EachLine.{EndsEach, line_answer};
 ghost use Rattle.h3_lines.specs.Pieces.{Piece};
@@ -16,13 +16,10 @@ use crate::line::{BLOCK, Line};
 use crate::plain::{IndexJob, LINES, take_plain};
 use crate::run_error::{AnswerError, Fault, RunError};
 use crate::splitting::{Job, LONGEST_LINE, MAX_READS, PAGE, Taking, drive, row_room};
-use crate::write::{write_all, write_held};
+use crate::write::{make_room, write_held};
 use h3_index::{H3Error, is_blank_text, read_index};
 use h3_streams::{CountedReader, Sink, Source};
 use std::alloc::Global;
-
-/// The room that the answer to a line may take.
-pub const ANSWER: usize = 672;
 
 /// A function of one index.
 pub trait AnswerLine {
@@ -111,31 +108,6 @@ pub(crate) fn refuse<W: Sink>(out: &mut W, held: &[u8], number: u64, error: H3Er
         Ok(()) => RunError::Error(AnswerError::At(number, error)),
         Err(fault) => fault,
     }
-}
-
-/// Makes room for an answer in a block of answers that ends at `end`: where too little is left, the
-/// block is written, but for its last byte, so that it is empty only after a flush. Returns where
-/// it ends.
-#[inline(always)]
-pub(crate) fn make_room<W: Sink>(
-    out: &mut W,
-    block: &mut [u8; BLOCK],
-    end: usize,
-) -> Result<usize, RunError>
-    requires { end ≤ BLOCK }
-    ensures room { IfOk result (λ at. at + ANSWER ≤ BLOCK) }
-    ensures ok { IfOk result (λ at.
-        Moves W.taken W.has_failed (take end block.old) (take at block.new) out.old out.new) }
-    ensures err { IfErr result (λ e.
-        Breaks (take end block.old) (sink_use W.taken W.has_failed out.old out.new) e) }
-{
-    if end <= BLOCK - ANSWER {
-        return Ok(end);
-    }
-    let last = end - 1;
-    write_all(out, &block[..last])?;
-    block[0] = block[last];
-    Ok(1)
 }
 
 /// The answers held back, in a block that is written when it is full, the number of the next line,

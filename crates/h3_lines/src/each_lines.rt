@@ -1,19 +1,18 @@
 //! Lists of which each line is answered on its own, by any number of lines.
 
-ghost use Rattle.std.specs.Prelude.{◌≡◌, ◌≤◌, ◌++◌, ℕ, List, length, take, Option, Result, Err, IsOk, IfOk, IfErr, OnOk};
+ghost use Rattle.std.specs.Prelude.{◌≡◌, ℕ, List, length, Option, Result, Err, IsOk, IfOk, IfErr, OnOk};
 ghost use Rattle.std.specs.Iterator.{AlwaysYields, IsFinite};
-ghost use Rattle.std.specs.List.{flat_map};
 ghost use Rattle.h3_index.specs.declared.error.H3Error.{H3Error};
 ghost use Rattle.h3_lines.specs.Answer.{Answer, refused, whole_items};
-ghost use Rattle.h3_lines.specs.Answering.{Breaks, Moves};
 ghost use Rattle.h3_lines.specs.EachLine.{EndsEach};
 ghost use Rattle.h3_lines.specs.EachLines.{GivesLines};
 ghost use Rattle.h3_lines.specs.Write.{sink_use};
 
-use crate::each::{Answering, Held, answer_pages, make_room, refuse};
-use crate::line::{BLOCK, Line};
+use crate::each::{Answering, Held, answer_pages, refuse};
+use crate::line::Line;
 use crate::run_error::{Fault, RunError};
 use crate::splitting::{LONGEST_LINE, PAGE, row_room};
+use crate::write::put_lines;
 use h3_index::H3Error;
 use h3_streams::{Sink, Source};
 use std::alloc::Global;
@@ -61,33 +60,6 @@ pub fn walk_through<T: Drop, I: Iterator<Item = Result<T, H3Error>> + Drop>(
     Ok(())
 }
 
-/// Puts the lines of each item of an iterator after the bytes held back in a block, which end at
-/// `end`, and returns where they end then. A block that is full is written, but for its last byte.
-fn put_lines<W: Sink, L: Line + Drop, I: Iterator<Item = L> + Drop>(
-    items: I,
-    out: &mut W,
-    block: &mut [u8; BLOCK],
-    end: usize,
-) -> Result<usize, RunError>
-    requires can { I.can_next items }
-    requires ends { IsFinite (I.remaining items) }
-    requires within { end ≤ BLOCK }
-    ensures within { IfOk result (λ last. last ≤ BLOCK) }
-    ensures ok { IfOk result (λ last. (all : List _) → AlwaysYields I.next_gives (λ x. x) items all →
-        Moves W.taken W.has_failed (take end block.old ++ flat_map L.line_of all)
-        (take last block.new) out.old out.new) }
-    ensures err { IfErr result (λ e. (all : List _) → AlwaysYields I.next_gives (λ x. x) items all →
-        Breaks (take end block.old ++ flat_map L.line_of all)
-        (sink_use W.taken W.has_failed out.old out.new) e) }
-{
-    let mut last = end;
-    for item in items {
-        last = make_room(out, block, last)?;
-        last = item.put(block, last);
-    }
-    Ok(last)
-}
-
 /// A function whose answer to an index is written as it is made.
 #[derive(Drop)]
 struct Long<'f, F> {
@@ -104,7 +76,7 @@ impl<'f, F: LinesFunction> Answering for Long<'f, F> {
     ) -> Result<(), RunError> {
         match self.function.lines(index) {
             Ok(items) => {
-                held.end = put_lines(items, held.out, &mut held.block, held.end)?;
+                held.end = put_lines(held.out, &mut held.block, held.end, items)?;
                 held.number += 1;
                 Ok(())
             }

@@ -10,6 +10,9 @@ use itoa::Buffer;
 /// The room that the lines of an item may take, their line feeds included.
 pub const ROOM: usize = 112;
 
+/// The room that the answer to a line may take.
+pub const ANSWER: usize = 672;
+
 /// The bytes of a block, in which lines are put before they go out together. With twice as many the
 /// stack would have to grow, which fails where memory is short.
 pub const BLOCK: usize = 32768;

@@ -7,11 +7,11 @@ ghost use Rattle.std.specs.List.{flat_map};
 ghost use Rattle.h3_index.specs.Cell.{Address};
 ghost use Rattle.h3_index.specs.declared.error.H3Error.{H3Error};
 ghost use Rattle.h3_lines.specs.Answer.{before, printed, refused, walked, written};
-ghost use Rattle.h3_lines.specs.Answering.{Breaks};
+ghost use Rattle.h3_lines.specs.Answering.{Breaks, FailsPush, Moves};
 ghost use Rattle.h3_lines.specs.EachLines.{GivesLines};
-ghost use Rattle.h3_lines.specs.Write.{AppendsPart, AppendsUpTo, Takes, Writes, sink_use};
+ghost use Rattle.h3_lines.specs.Write.{AppendsPart, Takes, Writes, sink_use};
 
-use crate::line::{BLOCK, Line, ROOM};
+use crate::line::{ANSWER, BLOCK, Line};
 use crate::run_error::{AnswerError, RunError};
 use h3_index::{Cell, H3Error};
 use h3_streams::{Sink, StreamFault};
@@ -85,48 +85,51 @@ pub fn write_result<W: Sink, L: Line + Drop>(
     write_answer(out, &block[..end])
 }
 
-/// Makes room for a line in a block of lines that ends at `end`: where too little is left, the
-/// block is written, and begins anew. Returns where the line may begin.
+/// Makes room for an answer in a block of answers that ends at `end`: where too little is left, the
+/// block is written, but for its last byte, so that it is empty only after a flush. Returns where
+/// it ends.
 #[inline(always)]
-fn make_room<W: Sink>(out: &mut W, block: &[u8; BLOCK], end: usize) -> Result<usize, StreamFault>
+pub(crate) fn make_room<W: Sink>(
+    out: &mut W,
+    block: &mut [u8; BLOCK],
+    end: usize,
+) -> Result<usize, RunError>
     requires { end ≤ BLOCK }
-    ensures room { IfOk result (λ at. at + ROOM ≤ BLOCK) }
-    ensures written { IfOk result (λ at.
-        AppendsUpTo (W.taken out.old) (W.taken out.new) (take end block.now) (take at block.now)) }
-    ensures ok { OnOk result (W.has_failed out.new ≡ W.has_failed out.old) }
-    ensures part { OnErr result
-        (AppendsPart (W.taken out.old) (W.taken out.new) (take end block.now)) }
-    ensures err { OnErr result (W.has_failed out.new ≡ true) }
-    ensures some { OnErr result (0 < length (take end block.now)) }
+    ensures room { IfOk result (λ at. at + ANSWER ≤ BLOCK) }
+    ensures ok { IfOk result (λ at.
+        Moves W.taken W.has_failed (take end block.old) (take at block.new) out.old out.new) }
+    ensures err { IfErr result (λ e.
+        FailsPush (take end block.old) (sink_use W.taken W.has_failed out.old out.new) e) }
 {
-    if end <= BLOCK - ROOM {
+    if end <= BLOCK - ANSWER {
         return Ok(end);
     }
-    write_all(out, &block[..end])?;
-    Ok(0)
+    let last = end - 1;
+    write_all(out, &block[..last])?;
+    block[0] = block[last];
+    Ok(1)
 }
 
-/// Puts a line for each item of an iterator that ends into a block of lines that ends at `end`, and
-/// returns where it ends then. Where too little room is left, the block is written, and begins anew.
+/// Puts the lines of each item of an iterator that ends after the bytes held back in a block, which
+/// end at `end`, and returns where they end then. A block that is full is written, but for its last
+/// byte.
 #[inline(always)]
-fn put_items<W: Sink, L: Line + Drop, I: Iterator<Item = L> + Drop>(
+pub(crate) fn put_lines<W: Sink, L: Line + Drop, I: Iterator<Item = L> + Drop>(
     out: &mut W,
     block: &mut [u8; BLOCK],
     end: usize,
     items: I,
-) -> Result<usize, StreamFault>
+) -> Result<usize, RunError>
     requires can { I.can_next items }
     requires ends { IsFinite (I.remaining items) }
     requires within { end ≤ BLOCK }
     ensures within { IfOk result (λ last. last ≤ BLOCK) }
-    ensures written { IfOk result (λ last. (all : List _) → AlwaysYields I.next_gives (λ x. x) items all →
-        AppendsUpTo (W.taken out.old) (W.taken out.new)
-        (take end block.old ++ flat_map L.line_of all) (take last block.new)) }
-    ensures ok { OnOk result (W.has_failed out.new ≡ W.has_failed out.old) }
-    ensures part { OnErr result ((all : List _) → AlwaysYields I.next_gives (λ x. x) items all →
-        AppendsPart (W.taken out.old) (W.taken out.new)
-        (take end block.old ++ flat_map L.line_of all)) }
-    ensures err { OnErr result (W.has_failed out.new ≡ true) }
+    ensures ok { IfOk result (λ last. (all : List _) → AlwaysYields I.next_gives (λ x. x) items all →
+        Moves W.taken W.has_failed (take end block.old ++ flat_map L.line_of all)
+        (take last block.new) out.old out.new) }
+    ensures err { IfErr result (λ e. (all : List _) → AlwaysYields I.next_gives (λ x. x) items all →
+        FailsPush (take end block.old ++ flat_map L.line_of all)
+        (sink_use W.taken W.has_failed out.old out.new) e) }
 {
     let mut last = end;
     for item in items {
@@ -153,7 +156,7 @@ pub fn write_lines<W: Sink, L: Line + Drop, I: Iterator<Item = L> + Drop>(
         (sink_use W.taken W.has_failed out.old out.new) }
 {
     let mut block = [0; BLOCK];
-    let end = put_items(out, &mut block, 0, items)?;
+    let end = put_lines(out, &mut block, 0, items)?;
     write_answer(out, &block[..end])
 }
 
@@ -198,7 +201,7 @@ pub fn write_cells_lines<W: Sink, F: CellLines>(
     let mut block = [0; BLOCK];
     let mut end = 0;
     for cell in cells {
-        end = put_items(out, &mut block, end, function.lines_of(*cell))?;
+        end = put_lines(out, &mut block, end, function.lines_of(*cell))?;
     }
     write_answer(out, &block[..end])
 }
@@ -234,7 +237,7 @@ pub fn write_walk<W: Sink, L: Line + Drop, I: Iterator<Item = Result<L, H3Error>
     for item in walk {
         match item {
             Ok(value) => {
-                end = make_room(out, &block, end)?;
+                end = make_room(out, &mut block, end)?;
                 end = value.put(&mut block, end);
             }
             Err(error) => return write_refused(out, &block[..end], error),

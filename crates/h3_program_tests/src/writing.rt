@@ -29,7 +29,7 @@ fn have_numbers(bytes: &[u8], count: u64) -> bool {
 
 #[test]
 fn many_lines_go_out_by_blocks(rt: HostRuntime) {
-    // 10 * 2 + 90 * 3 + 900 * 4 + 9000 * 5 + 4000 * 6 bytes, in blocks of at least 32657: two of
+    // 10 * 2 + 90 * 3 + 900 * 4 + 9000 * 5 + 4000 * 6 bytes, in blocks of at least 32096: two of
     // them, the rest, and a flush
     let mut out: FaultySink<72890> = FaultySink::new(131072, Faults::From(4));
     assert!(&rt; write_lines(&mut out, 0..14000u64).is_ok());
@@ -98,7 +98,8 @@ fn has_lines(out: &FaultySink<33600>, length: usize, calls: u64) -> bool {
 
 #[test]
 fn a_walk_of_many_lines_goes_out_by_blocks(rt: HostRuntime) {
-    // 2042 lines of 16 bytes fill a block: it goes out, then the other 58, and then comes a flush
+    // 2007 lines of 16 bytes fill a block: it goes out but for its last byte, then the other 93, and then
+    // comes a flush
     let mut steps: [Result<Cell, H3Error>; 2100] = [cell(); 2100];
     let mut out: FaultySink<33600> = FaultySink::new(65536, Faults::From(3));
     let written = write_walk(&mut out, steps.iter().copied());
@@ -114,7 +115,7 @@ fn a_walk_of_many_lines_goes_out_by_blocks(rt: HostRuntime) {
 }
 
 /// The first push, the second one and the flush, each with the calls and the bytes up to it.
-static WRITE_FAULTS: [(u64, u64, usize); 3] = [(0, 1, 0), (1, 2, 32672), (2, 3, 33600)];
+static WRITE_FAULTS: [(u64, u64, usize); 3] = [(0, 1, 0), (1, 2, 32111), (2, 3, 33600)];
 
 #[test]
 fn a_walk_of_many_lines_ends_at_a_write_fault(rt: HostRuntime) {

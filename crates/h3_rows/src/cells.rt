@@ -1,6 +1,6 @@
 //! The cells of the rows of a list.
 
-ghost use Rattle.std.specs.Prelude.{◌≡◌, ◌+◌, ◌*◌, ◌<◌, ◌≤◌, ◌++◌, ◌∷◌, ◌^◌, ⊤, ℕ, List, [], length, Ok, Err, IfOk, IfErr, OnOk};
+ghost use Rattle.std.specs.Prelude.{◌≡◌, ◌+◌, ◌*◌, ◌<◌, ◌≤◌, ◌++◌, ◌^◌, ⊤, List, [], length, Ok, Err, IfOk, IfErr, OnOk};
 ghost use Rattle.h3_index.specs.Cell.{Address};
 ghost use Rattle.h3_lines.specs.Taking.{HaveCells, RefusesCells, cell_list};
 ghost use Rattle.h3_lines.specs.TakingLaws.{have_none, have_then, refuses_after};

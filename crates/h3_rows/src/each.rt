@@ -1,8 +1,7 @@
 //! Rows of which each is written with the answer to its cell beside it.
 
 ghost use Rattle.std.proofs.Common.{◌∙◌, refl};
-ghost use Rattle.std.specs.Prelude.{◌≡◌, ◌+◌, ◌<◌, ◌≤◌, ◌++◌, ◌∷◌, ◌^◌, [], ℕ, List, length, Option, None, Some, Err, option_map, string_bytes, take, IfOk, IfErr, IfNone, IfSome};
-ghost use Rattle.h3_lines.specs.Answer.{Answer};
+ghost use Rattle.std.specs.Prelude.{◌≡◌, ◌+◌, ◌<◌, ◌≤◌, ◌++◌, ◌∷◌, ◌^◌, [], ℕ, length, Option, None, Some, Err, option_map, string_bytes, take, IfOk, IfErr, IfNone, IfSome};
 ghost use Rattle.h3_lines.specs.Write.{Writes, sink_use};
 ghost use Rattle.h3_lines.specs.declared.line.TheConstants.{BLOCK};
 ghost use Rattle.h3_lines.specs.declared.run_error.AnswerError.TheVariants.{At};
@@ -13,7 +12,7 @@ ghost use Rattle.h3_lines.specs.EachLaws.{answered_none, answered_then, refuses_
 ghost use Rattle.h3_rows.specs.Each.{EndsRows};
 ghost use Rattle.h3_rows.specs.Row.{read_of, row_body};
 ghost use Rattle.h3_rows.specs.RowForm.{columns_form, form_of};
-ghost use Rattle.h3_rows.specs.RowsAnswer.{State, answer_said, begun_answer, choice_of, chosen_in, empty_answer, empty_step, end_of, faulty, goes_on, header_step, pair_names, row_said, row_step, row_with, rows_answer, rows_then, start};
+ghost use Rattle.h3_rows.specs.RowsAnswer.{State, answer_said, begun_answer, choice_of, chosen_in, empty_answer, empty_step, end_of, faulty, header_step, pair_names, row_said, row_step, row_with, rows_answer, rows_then, start};
 ghost use Rattle.h3_rows.specs.declared.reading.TheConstants.{LONGEST};
 
 use crate::fields::{read_of, row_body, row_ending};

@@ -1,7 +1,7 @@
 //! The fields of a row.
 
 ghost use Rattle.std.specs.Prelude.{true, ◌≡◌, ◌==◌, ◌+◌, ◌-◌, ◌<◌, ◌≤◌, ℕ, Bool, false, length, Some, None, MatchOption};
-ghost use Rattle.h3_index.specs.Text.{is_blank, trimmed, without_leading_blanks, without_trailing_blanks};
+ghost use Rattle.h3_index.specs.Text.{is_blank, without_leading_blanks, without_trailing_blanks};
 ghost use Rattle.h3_lines.specs.Pieces.{cut};
 ghost use Rattle.h3_rows.specs.Row.{field_text, piece_at, quotes_are_sound, read_of, row_body, row_ending, unquoted, without_order_mark};
 

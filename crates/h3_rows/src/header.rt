@@ -1,7 +1,7 @@
 //! Headers, and columns by their name.
 
 ghost use Rattle.std.specs.Prelude.{◌≡◌, ◌==◌, ◌≤◌, ◌+◌, ℕ, List, ◌∷◌, ◌++◌, false, length, option_map, string_bytes, IfSome};
-ghost use Rattle.h3_rows.specs.Answering.{bytes_left, fields_left};
+ghost use Rattle.h3_rows.specs.Answering.{fields_left};
 ghost use Rattle.h3_lines.specs.Pieces.{cut};
 ghost use Rattle.h3_rows.specs.RowForm.{form_of};
 ghost use Rattle.h3_rows.specs.RowsAnswer.{chosen_in, column_of, pair_names, places_of};

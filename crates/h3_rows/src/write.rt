@@ -1,12 +1,12 @@
 //! Rows that are written to a sink, with bytes held back in a block.
 
-ghost use Rattle.std.specs.Prelude.{◌≡◌, ◌≤◌, ◌<◌, ◌+◌, ◌++◌, ◌∷◌, [], ℕ, List, length, take, IfOk, IfErr, OnOk};
-ghost use Rattle.h3_lines.specs.Write.{Takes, sink_use};
+ghost use Rattle.std.specs.Prelude.{◌≡◌, ◌≤◌, ◌<◌, ◌+◌, ◌++◌, ◌∷◌, length, take, IfOk, IfErr};
+ghost use Rattle.h3_lines.specs.Write.{sink_use};
 ghost use Rattle.h3_lines.specs.Answering.{Breaks, Moves};
-ghost use Rattle.h3_rows.specs.RowsAnswer.{rows_with, row_with};
+ghost use Rattle.h3_rows.specs.RowsAnswer.{rows_with};
 
 use crate::fields::{row_body, row_ending};
-use h3_lines::{BLOCK, RunError, split, write_all, write_answer};
+use h3_lines::{BLOCK, RunError, split, write_all};
 use h3_streams::Sink;
 
 /// Puts bytes after those that are held back in a block up to `end`, and returns where they end now.

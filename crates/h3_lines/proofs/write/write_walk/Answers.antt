@@ -13,8 +13,8 @@ loop-item-init g c = record { held = held_none _ _; same = refl; within = omega 
 pub loop-item-preserved : goal.loop-item-preserved
 loop-item-preserved g c =
     let line = g.L.Line.line_of in record {
-      held = held_more _ c.loop-item.invariant.held _ _ _ (λ more. rw c.in-Ok.is refl) c.in_ok-end-in-Ok.ensures.written c.put-end.ensures.line;
-      same = c.in_ok-end-in-Ok.ensures.ok ∙ c.loop-item.invariant.same;
+      held = held_more _ g.W.Sink.taken g.W.Sink.has_failed c.loop-item.invariant.held _ _ _ (λ more. rw c.in-Ok.is refl) c.in_ok-end-in-Ok.ensures.ok c.put-end.ensures.line;
+      same = c.in_ok-end-in-Ok.ensures.ok.sound ∙ c.loop-item.invariant.same;
       within = omega (arith, c.in_ok-end-in-Ok.ensures.room, c.put-end.ensures.end);
     }
 
@@ -25,7 +25,7 @@ returns-in_err-end-in-Ok g c all e =
     let p = err_from_is_err_and c.from_residual.result c.from_residual.ensures.1 in
     let out = sink_use g.W.Sink.taken g.W.Sink.has_failed c.loop-item.out c.make_room.new.out in
     rw (p.1, p.2) (held_ends (walked g.L.Line.line_of) g.W.Sink.taken g.W.Sink.has_failed c.args.out.now c.loop-item.out c.make_room.new.out c.loop-item.invariant.held all _ split c.loop-item.invariant.same _
-    (begins_part _ _ out c.in_err-end-in-Ok.ensures.some c.in_err-end-in-Ok.ensures.part c.in_err-end-in-Ok.ensures.err))
+    (begins_part _ _ _ out c.in_err-end-in-Ok.ensures.err))
 
 pub returns-in-Err : goal.returns-in-Err
 returns-in-Err g c all e =

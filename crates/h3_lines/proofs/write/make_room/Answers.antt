@@ -1,10 +1,10 @@
-use Rattle.std.proofs.Common.{◌≡◌, ◌<◌, ◌≤◌, ◌-◌, ◌∷◌, [], ◌++◌, ℕ, get_or, length, take, set, arith, refl, length-take-le, ap, ◌∙◌, sym}
+use Rattle.std.proofs.Common.{◌≡◌, ◌<◌, ◌≤◌, ◌-◌, ◌∷◌, [], ◌++◌, ℕ, get_or, length, take, set, arith, refl, length-take-le, ap, ◌∙◌, subst, sym}
 use Rattle.std.proofs.lemmas.List.{take_more_set}
 use Rattle.std.proofs.lemmas.Result.{err_from_is_err_and}
-use Rattle.h3_lines.specs.Write.{sink_use}
-use Rattle.h3_lines.specs.EachLaws.{moves_none, some_of_part}
+use Rattle.h3_lines.specs.EachLaws.{beginning_longer, moves_none}
+use Rattle.h3_lines.specs.Write.{AppendsPart}
 use Rattle.h3_lines.proofs.AnsweredLines.{last_left}
-use Rattle.h3_lines.proofs.each.make_room.Goals as goal
+use Rattle.h3_lines.proofs.write.make_room.Goals as goal
 
 pub returns-then-end-clause-ok : goal.returns-then-end-clause-ok
 returns-then-end-clause-ok g c = moves_none g.W.Sink.taken g.W.Sink.has_failed _ _
@@ -18,7 +18,8 @@ returns-in_err-write_all-clause-err g c =
     let full : end ≤ length block = omega (arith, c.fits-block, c.requires) in
     let is : take end block ≡ take (end - 1) block ++ get_or block (end - 1) 0 ∷ [] = last_left block end some full in
     let held : 0 < length (take end block) = omega (arith, length-take-le {A = ℕ} end block full, some) in
-    rw (p.1, p.2) (refl, held, some_of_part _ _ _ (sink_use g.W.Sink.taken g.W.Sink.has_failed c.args.out.now c.write_all.new.out) is c.in_err-write_all.ensures.part c.in_err-write_all.ensures.err)
+    let part = subst (AppendsPart (g.W.Sink.taken c.args.out.now) (g.W.Sink.taken c.write_all.new.out)) (sym is) (beginning_longer (get_or block (end - 1) 0 ∷ []) c.in_err-write_all.ensures.part) in
+    rw (p.1, p.2) (refl, held, part, c.in_err-write_all.ensures.err)
 
 pub returns-clause-ok : goal.returns-clause-ok
 returns-clause-ok g c =

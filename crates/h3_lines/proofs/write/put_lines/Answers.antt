@@ -4,12 +4,12 @@ use Rattle.std.proofs.lemmas.List.{flat_map_more}
 use Rattle.std.proofs.lemmas.Result.{err_from_is_err_and}
 use Rattle.std.specs.Iterator.{Yields}
 use Rattle.std.specs.List.{flat_map}
-use Rattle.h3_lines.specs.Answering.{Breaks, Moves}
+use Rattle.h3_lines.specs.Answering.{FailsPush, Moves}
 use Rattle.h3_lines.specs.Write.{sink_use}
-use Rattle.h3_lines.specs.EachLaws.{breaks_more, breaks_then, moves_none}
-use Rattle.h3_lines.proofs.AnsweredLines.{moves_on, moves_put}
+use Rattle.h3_lines.specs.EachLaws.{moves_none, moves_put, push_more, push_then}
+use Rattle.h3_lines.proofs.AnsweredLines.{moves_on}
 use Rattle.h3_lines.proofs.Lines.{split_at, whole_at}
-use Rattle.h3_lines.proofs.each_lines.put_lines.Goals as goal
+use Rattle.h3_lines.proofs.write.put_lines.Goals as goal
 
 pub loop-item-init : goal.loop-item-init
 loop-item-init g c = record {
@@ -41,8 +41,8 @@ returns-in_err-last-clause-err g c =
     let done = flat_map g.L.Line.line_of c.loop-item.yielded in
     let rest = flat_map g.L.Line.line_of (c.in-Some.item ∷ drop (length c.loop-item.yielded + 1) all) in
     let text : flat_map g.L.Line.line_of all ≡ done ++ rest = ap (flat_map g.L.Line.line_of) split ∙ flat_map-append g.L.Line.line_of c.loop-item.yielded (c.in-Some.item ∷ drop (length c.loop-item.yielded + 1) all) in
-    subst (λ l. Breaks l out c.in_err-last.field-0.0) (append_assoc held done rest ∙ ap (λ l. held ++ l) (sym text))
-    (breaks_then g.W.Sink.taken g.W.Sink.has_failed (held ++ done) _ rest _ _ _ _ c.loop-item.invariant.moves (breaks_more _ rest (sink_use g.W.Sink.taken g.W.Sink.has_failed c.loop-item.out c.make_room.new.out) _ c.in_err-last.ensures.err)))
+    subst (λ l. FailsPush l out c.in_err-last.field-0.0) (append_assoc held done rest ∙ ap (λ l. held ++ l) (sym text))
+    (push_then g.W.Sink.taken g.W.Sink.has_failed (held ++ done) _ rest _ _ _ _ c.loop-item.invariant.moves (push_more _ rest (sink_use g.W.Sink.taken g.W.Sink.has_failed c.loop-item.out c.make_room.new.out) _ c.in_err-last.ensures.err)))
 
 pub returns-clause-ok : goal.returns-clause-ok
 returns-clause-ok g c all e =

@@ -1,7 +1,7 @@
 use Rattle.std.proofs.Common.{◌≤◌, ◌++◌, take}
 use Rattle.std.specs.List.{flat_map}
 use Rattle.h3_lines.specs.Answering.{Moves}
-use Rattle.h3_lines.proofs.each_lines.put_lines.Given as goal
+use Rattle.h3_lines.proofs.write.put_lines.Given as goal
 
 abbrev pub invariant-loop-item : goal.invariant-loop-item
 invariant-loop-item g l = record {
