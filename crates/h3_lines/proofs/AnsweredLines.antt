@@ -89,13 +89,18 @@ module _ {S : Type 0} (taken : S → Option (List ℕ)) (failed : S → Bool) wh
     refuses_then taken failed (λ a. lines_from a) {f = answer} {g = answer} u [] lines e refl (answered_by taken failed (lines_from answer) n n held held1 s t refl m) (subst (λ h. RefusesEach (lines_from answer) n h lines e (sink_use taken failed t u)) same r),
   )
 
--- a line is refused after bytes that are written
-pub ends_refused : (answer : Option ℕ → Answer) (n : ℕ) (held : List ℕ) (line : Piece) (later : List Piece) (e : H3Error) (out : SinkUse) → line_answer answer line.0 ≡ refused e → Takes out held → RefusesLines answer n held (line ∷ later) (Error (At n e)) out
-ends_refused answer n held line later e out is takes = (
-  (n, e, refl),
+tells_line : (n : ℕ) (error : H3Error) (bytes : List ℕ) (r : RunError) (out : SinkUse) → EndsBy (record { output = bytes; ending = Err (At n error) }) r out → TellsLine r
+tells_line n error bytes (Error e) out ends = let same : Err (At n error) ≡ Err e = ends.0 in (n, error, cc)
+tells_line n error bytes (Fault f) out ends = tt
+
+-- a line is refused after what is held back is written, or a write of that fails
+pub lines_refused : (answer : Option ℕ → Answer) (n : ℕ) (held : List ℕ) (line : Piece) (later : List Piece) (error : H3Error) (r : RunError) (out : SinkUse) → line_answer answer line.0 ≡ refused error
+    → EndsBy (record { output = held; ending = Err (At n error) }) r out → RefusesLines answer n held (line ∷ later) r out
+lines_refused answer n held line later error r out is ends = (
+  tells_line n error held r out ends,
   λ last.
-      let own : lines_from answer last n (line ∷ later) ≡ record { output = []; ending = Err (At n e) } = ap (λ b. followed_by n b (lines_from answer last (n + 1) later)) is in
-      subst (λ a. EndsBy (before held a) (Error (At n e)) out) (sym own) (refl, subst (Takes out) (sym (append-nil held)) takes),
+      let own : lines_from answer last n (line ∷ later) ≡ record { output = []; ending = Err (At n error) } = ap (λ b. followed_by n b (lines_from answer last (n + 1) later)) is in
+      subst (λ a. EndsBy (before held a) r out) (sym own) (subst (λ l. EndsBy (record { output = l; ending = Err (At n error) }) r out) (sym (append-nil held)) ends),
 )
 
 -- a write of what is held back fails

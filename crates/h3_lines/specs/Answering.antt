@@ -1,5 +1,5 @@
--- Lines and rows that are answered one after another, with answers held back in a block. Of this file public contracts cite `Puts`
--- and `Breaks` alone.
+-- Lines and rows that are answered one after another, with answers held back in a block. Of this file public contracts cite
+-- `Puts`, `Breaks` and `EndsBy` alone.
 use Rattle.std.specs.Prelude.{◌≡◌, ⊤, ℕ, ◌<◌, ◌⊎◌, Bool, true, List, [], ◌++◌, length, take, Option, None, Some, Result, Ok, Err}
 use Rattle.std.specs.Io.KnownBytes.{Appends}
 use Rattle.h3_index.specs.declared.error.H3Error.{H3Error}

@@ -1,14 +1,15 @@
 //! Lists of which each line is answered on its own.
 
 ghost use Rattle.std.proofs.Common.{◌∙◌, refl};
-ghost use Rattle.std.specs.Prelude.{◌≡◌, ◌+◌, ◌<◌, ◌≤◌, ◌++◌, ◌∷◌, ◌^◌, [], ℕ, List, length, Option, take, IfOk, IfErr, OnOk};
+ghost use Rattle.std.specs.Prelude.{◌≡◌, ◌+◌, ◌<◌, ◌≤◌, ◌++◌, ◌∷◌, ◌^◌, [], ℕ, List, length, Option, Err, take, IfOk, IfErr, OnOk};
 ghost use Rattle.h3_lines.specs.Answer.{Answer, printed, refused};
-ghost use Rattle.h3_lines.specs.Answering.{Answered, Puts, RefusesLines, answer_said, lines_from};
+ghost use Rattle.h3_lines.specs.Answering.{Answered, EndsBy, Puts, RefusesLines, answer_said, lines_from};
 ghost use Rattle.h3_lines.specs.EachLaws.{answered_none, answered_then, refuses_then};
 ghost use Rattle.h3_lines.specs.EachLine.{EndsEach, line_answer};
 ghost use Rattle.h3_lines.specs.Pieces.{Piece};
 ghost use Rattle.h3_lines.specs.Write.{sink_use};
 ghost use Rattle.h3_lines.specs.declared.line.TheConstants.{BLOCK};
+ghost use Rattle.h3_lines.specs.declared.run_error.AnswerError.TheVariants.{At};
 ghost use Rattle.h3_lines.specs.declared.run_error.RunError.{RunError};
 ghost use Rattle.h3_lines.specs.declared.splitting.TheConstants.{LONGEST_LINE};
 
@@ -96,13 +97,12 @@ fn index_on(line: &[u8]) -> Result<Option<Option<u64>>, H3Error>
     }
 }
 
-/// Writes the answers held back, and refuses the line with this number.
+/// Writes what is held back, and returns the error of the line or row with this number, or the fault
+/// of the write.
 #[cold]
-pub(crate) fn refuse<W: Sink>(out: &mut W, held: &[u8], number: u64, error: H3Error) -> RunError
-    ensures { (answer : Option ℕ → Answer) (line : Piece) (later : List Piece) →
-        line_answer answer line.0 ≡ refused error →
-        RefusesLines answer number held.now (line ∷ later) result
-        (sink_use W.taken W.has_failed out.old out.new) }
+pub fn refuse<W: Sink>(out: &mut W, held: &[u8], number: u64, error: H3Error) -> RunError
+    ensures { EndsBy (record { output = held.now; ending = Err (At number error) })
+        result (sink_use W.taken W.has_failed out.old out.new) }
 {
     match write_held(out, held) {
         Ok(()) => RunError::Error(AnswerError::At(number, error)),

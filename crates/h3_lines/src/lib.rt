@@ -14,10 +14,10 @@ mod splitting;
 mod taking;
 mod write;
 
-pub use each::{AnswerLine, answer_each, put_result};
+pub use each::{AnswerLine, answer_each, put_result, refuse};
 pub use each_lines::{LinesFunction, answer_each_lines, walk_through};
 pub use ending::report;
-pub use line::{ANSWER, BLOCK, Line, ROOM, RingCell};
+pub use line::{ANSWER, BLOCK, Line, RingCell};
 pub use list::{read_cells, read_list, read_numbered_cells};
 pub use plain::LINES;
 pub use run_error::{AnswerError, CellFile, ColumnError, Fault, RunError};

@@ -7,9 +7,6 @@ ghost use Rattle.h3_lines.specs.Line.{cells_are_lines, last_is_line};
 use h3_index::{Cell, Edge, Siblings, index_bytes, put_cell_line, put_children_lines};
 use itoa::Buffer;
 
-/// The room that the lines of an item may take, their line feeds included.
-pub const ROOM: usize = 112;
-
 /// The room that the answer to a line may take.
 pub const ANSWER: usize = 672;
 

@@ -1,12 +1,11 @@
 //! Rows of which each is written with the answer to its cell beside it.
 
 ghost use Rattle.std.proofs.Common.{◌∙◌, refl};
-ghost use Rattle.std.specs.Prelude.{◌≡◌, ◌+◌, ◌<◌, ◌≤◌, ◌++◌, ◌∷◌, ◌^◌, [], ℕ, length, Option, None, Some, Err, option_map, string_bytes, take, IfOk, IfErr, IfNone, IfSome};
+ghost use Rattle.std.specs.Prelude.{◌≡◌, ◌+◌, ◌<◌, ◌≤◌, ◌++◌, ◌∷◌, ◌^◌, [], ℕ, length, Option, None, Some, option_map, string_bytes, take, IfOk, IfErr, IfNone, IfSome};
 ghost use Rattle.h3_lines.specs.Write.{Writes, sink_use};
 ghost use Rattle.h3_lines.specs.declared.line.TheConstants.{BLOCK};
-ghost use Rattle.h3_lines.specs.declared.run_error.AnswerError.TheVariants.{At};
 ghost use Rattle.h3_lines.specs.declared.run_error.RunError.{RunError};
-ghost use Rattle.h3_lines.specs.Answering.{Answered, Breaks, EndsBy, Moves, RefusesEach};
+ghost use Rattle.h3_lines.specs.Answering.{Answered, Breaks, Moves, RefusesEach};
 ghost use Rattle.h3_rows.specs.Answering.{BreaksCell, PutsCell, PutsPlain, StepEnds, StepsTo, held_of, state_of};
 ghost use Rattle.h3_lines.specs.EachLaws.{answered_none, answered_then, refuses_then};
 ghost use Rattle.h3_rows.specs.Each.{EndsRows};
@@ -27,7 +26,7 @@ use crate::write::{put_bytes, put_row};
 use h3_index::{H3Error, read_plain};
 use h3_lines::{
     ANSWER, AnswerError, AnswerLine, BLOCK, ColumnError, Fault, Job, MAX_READS, PAGE, RunError,
-    Taking, drive, row_room, write_held,
+    Taking, drive, refuse, row_room, write_held,
 };
 use h3_requests::{CellField, RowOptions};
 use h3_streams::{CountedReader, Sink, Source};
@@ -40,18 +39,6 @@ struct RowJob<'f, F> {
     name: &'f [u8],
     is_pair: bool,
     function: &'f F,
-}
-
-/// Writes what is held back, and refuses the row with this number.
-#[cold]
-fn refuse<W: Sink>(out: &mut W, held: &[u8], number: u64, error: H3Error) -> RunError
-    ensures { EndsBy (record { output = held.now; ending = Err (At number error) })
-        result (sink_use W.taken W.has_failed out.old out.new) }
-{
-    match write_held(out, held) {
-        Ok(()) => RunError::Error(AnswerError::At(number, error)),
-        Err(fault) => fault,
-    }
 }
 
 /// Puts a row and a byte after it into a block from the byte `at` on, and returns where they end.

@@ -1,6 +1,7 @@
-use Rattle.std.proofs.Common.{refl, ap, sym, ◌∙◌}
+use Rattle.std.proofs.Common.{refl, ap, sym, take, ◌∙◌}
 use Rattle.std.proofs.lemmas.Result.{on_ok_weaker, IfErr-weaker}
-use Rattle.h3_lines.proofs.AnsweredLines.{answered_blank}
+use Rattle.h3_lines.specs.Write.{sink_use}
+use Rattle.h3_lines.proofs.AnsweredLines.{answered_blank, lines_refused}
 use Rattle.h3_lines.proofs.each.AnswersJob.take.Goals as goal
 
 pub returns-in-Ok-Some-clause-ok : goal.returns-in-Ok-Some-clause-ok
@@ -23,4 +24,5 @@ returns-in-Ok-None-clause-ok g c =
 pub returns-in-Err-clause-err : goal.returns-in-Err-clause-err
 returns-in-Err-clause-err g c later =
     let answer = g.A.Answering.answer_of c.args.self.now.function.now in
-    (c.refuse.ensures answer (c.args.line.now, c.args._inside) later (c.in-Err.ensures answer), refl)
+    let held = c.args.self.now.held in
+    (lines_refused answer held.number (take held.end held.block) (c.args.line.now, c.args._inside) later _ _ (sink_use g.W.Sink.taken g.W.Sink.has_failed held.out.now c.refuse.new.out) (c.in-Err.ensures answer) c.refuse.ensures, refl)

@@ -2,7 +2,7 @@ use Rattle.std.proofs.Common.{◌∷◌, ◌∙◌}
 use Rattle.h3_lines.specs.Write.{sink_use}
 use Rattle.std.proofs.lemmas.Result.{err_from_is_err_and}
 use Rattle.h3_lines.specs.EachLaws.{push_breaks}
-use Rattle.h3_lines.proofs.AnsweredLines.{answered_index, ends_unwritten, refused_index}
+use Rattle.h3_lines.proofs.AnsweredLines.{answered_index, ends_unwritten, lines_refused, refused_index}
 use Rattle.h3_lines.proofs.each.ShortAnswering.answer.Goals as goal
 
 pub returns-in_err-at-clause-err : goal.returns-in_err-at-clause-err
@@ -18,4 +18,4 @@ returns-in-Ok-clause-ok g c line is = answered_index g.W.Sink.taken g.W.Sink.has
 pub returns-in-Err-clause-err : goal.returns-in-Err-clause-err
 returns-in-Err-clause-err g c line is later =
     let answer = g.F.AnswerLine.answer_of c.args.self.now.function.now in
-    refused_index g.W.Sink.taken g.W.Sink.has_failed answer c.args.held.now.number c.refuse.new.out _ (line ∷ later) c.in_ok-at.ensures.ok c.in-Err.ensures.kept (c.refuse.ensures answer line later (is ∙ c.in-Err.ensures.err))
+    refused_index g.W.Sink.taken g.W.Sink.has_failed answer c.args.held.now.number c.refuse.new.out _ (line ∷ later) c.in_ok-at.ensures.ok c.in-Err.ensures.kept (lines_refused answer c.args.held.now.number _ line later _ _ (sink_use g.W.Sink.taken g.W.Sink.has_failed c.make_room.new.out c.refuse.new.out) (is ∙ c.in-Err.ensures.err) c.refuse.ensures)

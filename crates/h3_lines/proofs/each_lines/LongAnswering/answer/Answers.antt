@@ -2,7 +2,7 @@ use Rattle.std.proofs.Common.{◌∙◌, take}
 use Rattle.std.proofs.lemmas.Result.{err_from_is_err_and}
 use Rattle.h3_lines.specs.Write.{sink_use}
 use Rattle.h3_lines.specs.EachLaws.{push_breaks}
-use Rattle.h3_lines.proofs.AnsweredLines.{lines_break}
+use Rattle.h3_lines.proofs.AnsweredLines.{lines_break, lines_refused}
 use Rattle.h3_lines.proofs.each_lines.LongAnswering.answer.Goals as goal
 
 pub returns-in_err-held-in-Ok-clause-err : goal.returns-in_err-held-in-Ok-clause-err
@@ -13,4 +13,6 @@ returns-in_err-held-in-Ok-clause-err g c =
     rw (p.1, p.2) (λ line is later. lines_break (g.F.LinesFunction.answer_of c.args.self.now.function.now) c.args.held.now.number (take c.args.held.now.end c.args.held.now.block) _ line later _ out is gives.is (push_breaks _ out _ (c.in_err-held-in-Ok.ensures.err gives.all gives.yields)))
 
 pub returns-in-Err-clause-err : goal.returns-in-Err-clause-err
-returns-in-Err-clause-err g c line is later = c.refuse.ensures (g.F.LinesFunction.answer_of c.args.self.now.function.now) line later (is ∙ c.in-Err.ensures.err)
+returns-in-Err-clause-err g c line is later =
+    let held = c.args.held.now in
+    lines_refused (g.F.LinesFunction.answer_of c.args.self.now.function.now) held.number (take held.end held.block) line later _ _ (sink_use g.W.Sink.taken g.W.Sink.has_failed held.out.now c.refuse.new.out) (is ∙ c.in-Err.ensures.err) c.refuse.ensures
