@@ -8,7 +8,7 @@ use Rattle.clap.specs.Simple.{on_top}
 use Rattle.clap.specs.Walk.{is_empty}
 use Rattle.h3_words.specs.Commands.{app_with, leaf_with, shape_for}
 use Rattle.h3_words.specs.Options.{rule_for}
-use Rattle.h3_words.specs.declared.commands.CommandName.{CommandName}
+use Rattle.h3_requests.specs.declared.command.Command.{Command}
 use Rattle.h3_words.specs.declared.options.CommandOption.{CommandOption}
 
 -- a command that stands alone
@@ -20,22 +20,22 @@ abbrev pub bare_app : App
 bare_app = on_top (λ s. record s { subcommand_required = true; disable_help_subcommand = true }) (new_app (codes "h3"))
 
 -- the command line with one command more
-abbrev pub with_command : App → CommandName → App
+abbrev pub with_command : App → Command → App
 with_command a k = with_subcommand a (shape_for k)
 
 -- the commands that are added one by one are those of the command line
-pub all_commands : (ks : List CommandName) → fold with_command bare_app ks ≡ app_with ks
+pub all_commands : (ks : List Command) → fold with_command bare_app ks ≡ app_with ks
 all_commands ks = more [] ks
   where
     -- one command more
-    one : (before : List CommandName) (k : CommandName) → with_command (app_with before) k ≡ app_with (before ++ k ∷ [])
+    one : (before : List Command) (k : Command) → with_command (app_with before) k ≡ app_with (before ++ k ∷ [])
     one before k = ap₂ (λ leaf subs. record { top = record (app_with []).top { is_leaf = leaf }; subs = subs }) (some_left before k) (sym (map-append shape_for before (k ∷ [])))
       where
-        some_left : (ks2 : List CommandName) (k2 : CommandName) → false ≡ is_empty (ks2 ++ k2 ∷ [])
+        some_left : (ks2 : List Command) (k2 : Command) → false ≡ is_empty (ks2 ++ k2 ∷ [])
         some_left [] k2 = refl
         some_left (x ∷ ks2) k2 = sym (ne_eqb (length (x ∷ ks2 ++ k2 ∷ [])) 0 (λ e. omega arith))
 
-    more : (before rest : List CommandName) → fold with_command (app_with before) rest ≡ app_with (before ++ rest)
+    more : (before rest : List Command) → fold with_command (app_with before) rest ≡ app_with (before ++ rest)
     more before [] = ap app_with (sym (append-nil before))
     more before (k ∷ rest) = ap (λ a. fold with_command a rest) (one before k) ∙ more (before ++ k ∷ []) rest ∙ ap app_with (append_assoc before (k ∷ []) rest)
 

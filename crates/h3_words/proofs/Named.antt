@@ -8,17 +8,18 @@ use Rattle.clap.specs.Simple.{App, Shape, built, entered, is_simple, label_of, n
 use Rattle.clap.specs.Kinds.{Kinds, or_else}
 use Rattle.clap.specs.Faults.{built_fault, check_fault, defaults_fault, entered_fault, fault_of, is_simple_and_free, level_fault, other_fault, settle_fault, step_fault, walk_fault}
 use Rattle.clap.specs.declared.error.kind.ErrorKind.TheVariants as kind
-use Rattle.h3_words.specs.Commands.{app, app_with, command_names, options_of, word_of}
-use Rattle.h3_words.specs.declared.commands.CommandName.{CommandName}
-use Rattle.h3_words.specs.declared.commands.CommandName.TheVariants.{IsValidCell}
-use Rattle.h3_words.proofs.Leaf.{at_word, bytes_same, done_rules, idle_held, or_false}
+use Rattle.h3_words.specs.Commands.{app, app_with, commands, options_of, word_of}
+use Rattle.h3_requests.specs.declared.command.Command.{Command}
+use Rattle.h3_requests.specs.declared.command.Command.TheVariants.{ForEach}
+use Rattle.h3_requests.specs.declared.command.IndexFunction.TheVariants.{IsValidCell}
+use Rattle.h3_words.proofs.Leaf.{at_word, bytes_same, done_rules, idle_held, leaf_done, or_false}
 use Rattle.h3_words.proofs.Names.{word_named}
 use Rattle.h3_words.proofs.Top.{app_done, first_met, first_state, keeps_stop, leaf, stopped_at, top_done}
 
 -- ---- the command is found by its word
 
 -- the first of these commands that has the word of this one is this one
-abbrev pub IsFirst : List CommandName → CommandName → Type 0
+abbrev pub IsFirst : List Command → Command → Type 0
 IsFirst ks k = find (λ s. answers_to (word_of k) (label_of s)) (map leaf ks) ≡ Some (leaf k)
 
 -- a search among what a function makes of the items of a list
@@ -30,14 +31,14 @@ find_map f p q same (x ∷ xs) = ap₂ (λ b later. cond b (Some (f x)) later) (
     go true = refl
     go false = refl
 
-pub first_of_all : (k : CommandName) → IsFirst command_names k
-first_of_all k = find_map leaf (λ s. answers_to (word_of k) (label_of s)) (λ x. bytes_eq (word_of x) (word_of k)) (λ x. or_false (bytes_eq (word_of x) (word_of k))) command_names
-    ∙ ap (option_map leaf) (word_named k)
+pub first_of_all : (k : Command) → IsFirst commands k
+first_of_all k = find_map leaf (λ s. answers_to (word_of k) (label_of s)) (λ x. bytes_eq (word_of x) (word_of k)) (λ x. or_false (bytes_eq (word_of x) (word_of k))) commands
+    ∙ word_named (λ e. leaf_done e.word e.options) k
 
-pub first_alone : (k : CommandName) → IsFirst (k ∷ []) k
+pub first_alone : (k : Command) → IsFirst (k ∷ []) k
 first_alone k = ap (λ b. cond b (Some (leaf k)) None) (or_false (bytes_eq (word_of k) (word_of k)) ∙ bytes_same (word_of k))
 
-label_first : (ks : List CommandName) (k : CommandName) → IsFirst ks k → find (answers_to (word_of k)) (names_of (app_done ks)) ≡ Some (label_of (leaf k))
+label_first : (ks : List Command) (k : Command) → IsFirst ks k → find (answers_to (word_of k)) (names_of (app_done ks)) ≡ Some (label_of (leaf k))
 label_first ks k first = find_map label_of (answers_to (word_of k)) (λ s. answers_to (word_of k) (label_of s)) (λ s. refl) (map leaf ks) ∙ ap (option_map label_of) first
 
 -- ---- the walk stops at its word
@@ -55,7 +56,7 @@ unfolding walk_fault walked
 stopped_passes names name before [] = refl
 stopped_passes names name before (x ∷ words) = stopped_passes names name (before ++ x ∷ []) words
 
-top_turn : (ks : List CommandName) (k : CommandName) (rest : List Text) → IsFirst ks k
+top_turn : (ks : List Command) (k : Command) (rest : List Text) → IsFirst ks k
     → (walk_fault top_done (names_of (app_done ks)) (at_word nothing_held idle) (word_of k ∷ rest) ≡ [])
     × (walk (done_rules []) (names_of (app_done ks)) nothing_held (word_of k ∷ rest) ≡ stopped_at (word_of k) rest)
 unfolding walk_fault walked
@@ -68,7 +69,7 @@ top_turn ks k rest first = (
 )
 
 -- the parse fails as that of the command's words fails
-pub fault_named : (ks : List CommandName) (k : CommandName) (rest : List Text) → IsFirst ks k
+pub fault_named : (ks : List Command) (k : Command) (rest : List Text) → IsFirst ks k
     → built_fault (app_done ks) nothing_held (word_of k ∷ rest) ≡ level_fault (leaf k) [] nothing_held rest false []
 unfolding defaults_fault
 fault_named ks k rest first =
@@ -82,39 +83,39 @@ fault_named ks k rest first =
     ∙ or_else_nil (level_fault (leaf k) [] nothing_held rest false []))
 
 -- the parse has the command's rows
-rows_named : (ks : List CommandName) (k : CommandName) (rest : List Text) → IsFirst ks k
+rows_named : (ks : List Command) (k : Command) (rest : List Text) → IsFirst ks k
     → entered (app_done ks) (stop_after (done_rules []) (names_of (app_done ks)) (word_of k ∷ rest)) ≡ Some (word_of k, rows_after (done_rules (options_of k)) [] rest)
 rows_named ks k rest first = ap (λ (w : Walk). entered (app_done ks) w.stopped) (top_turn ks k rest first).1 ∙ ap (option_map (λ s. rows_at s rest)) first
 
 -- ---- the command line that has this command alone
 
--- the second clause is checked at each other name
-built_alone : (k : CommandName) → built (app_with (k ∷ [])) ≡ app_done (k ∷ [])
-built_alone IsValidCell = refl
+-- the second clause is checked at each other command
+built_alone : (k : Command) → built (app_with (k ∷ [])) ≡ app_done (k ∷ [])
+built_alone (ForEach IsValidCell) = refl
 built_alone k = refl
 
-pub alone_is_simple : (k : CommandName) → is_simple (app_with (k ∷ [])) ≡ true
-alone_is_simple IsValidCell = refl
+pub alone_is_simple : (k : Command) → is_simple (app_with (k ∷ [])) ≡ true
+alone_is_simple (ForEach IsValidCell) = refl
 alone_is_simple k = refl
 
-pub alone_is_free : (k : CommandName) → is_simple_and_free (app_with (k ∷ [])) ≡ true
-alone_is_free IsValidCell = refl
+pub alone_is_free : (k : Command) → is_simple_and_free (app_with (k ∷ [])) ≡ true
+alone_is_free (ForEach IsValidCell) = refl
 alone_is_free k = refl
 
 -- its parse fails as that of the command's words fails
-alone_fault : (k : CommandName) (words rest : List Text) → drop 1 words ≡ word_of k ∷ rest → fault_of (app_with (k ∷ [])) words ≡ level_fault (leaf k) [] nothing_held rest false []
+alone_fault : (k : Command) (words rest : List Text) → drop 1 words ≡ word_of k ∷ rest → fault_of (app_with (k ∷ [])) words ≡ level_fault (leaf k) [] nothing_held rest false []
 alone_fault k words rest e = ap (λ a. built_fault a nothing_held (drop 1 words)) (built_alone k) ∙ ap (built_fault (app_done (k ∷ [])) nothing_held) e ∙ fault_named (k ∷ []) k rest (first_alone k)
 
 -- so does that of the whole command line
-pub whole_fault : (k : CommandName) (words rest : List Text) → drop 1 words ≡ word_of k ∷ rest → fault_of app words ≡ level_fault (leaf k) [] nothing_held rest false []
-whole_fault k words rest e = ap (built_fault (app_done command_names) nothing_held) e ∙ fault_named command_names k rest (first_of_all k)
+pub whole_fault : (k : Command) (words rest : List Text) → drop 1 words ≡ word_of k ∷ rest → fault_of app words ≡ level_fault (leaf k) [] nothing_held rest false []
+whole_fault k words rest e = ap (built_fault (app_done commands) nothing_held) e ∙ fault_named commands k rest (first_of_all k)
 
 -- words that name the command fail alike in both
-pub same_fault : (k : CommandName) (words rest : List Text) → drop 1 words ≡ word_of k ∷ rest → fault_of (app_with (k ∷ [])) words ≡ fault_of app words
+pub same_fault : (k : Command) (words rest : List Text) → drop 1 words ≡ word_of k ∷ rest → fault_of (app_with (k ∷ [])) words ≡ fault_of app words
 same_fault k words rest e = alone_fault k words rest e ∙ sym (whole_fault k words rest e)
 
 -- its parse has the command's rows
-pub alone_rows : (k : CommandName) (words rest : List Text) → drop 1 words ≡ word_of k ∷ rest
+pub alone_rows : (k : Command) (words rest : List Text) → drop 1 words ≡ word_of k ∷ rest
     → subcommand_of (app_with (k ∷ [])) words ≡ Some (word_of k, rows_after (done_rules (options_of k)) [] rest)
 alone_rows k words rest e = ap (λ (a : App). entered a (stop_after a.top.rules (names_of a) (drop 1 words))) (built_alone k)
     ∙ ap (λ w. entered (app_done (k ∷ [])) (stop_after (done_rules []) (names_of (app_done (k ∷ []))) w)) e ∙ rows_named (k ∷ []) k rest (first_alone k)

@@ -17,7 +17,7 @@ use Rattle.clap.specs.Takes.{is_given}
 use Rattle.clap.specs.Facts.{explicit_source}
 use Rattle.clap.specs.declared.builder.value_parser.ValueParser.TheVariants.{Signed, String}
 use Rattle.clap.specs.declared.error.kind.ErrorKind.TheVariants as kind
-use Rattle.h3_words.specs.Commands.{command_names, app, word_of, options_of}
+use Rattle.h3_words.specs.Commands.{commands, app, word_of, options_of}
 use Rattle.h3_words.proofs.Named.{fault_named, first_of_all}
 use Rattle.clap.specs.Faults.{react_fault, defaults_fault, fault_of, given_default_fault, level_fault, bundle_fault, bundle_step_fault, flag_word_fault, long_fault, option_fault, short_fault, flags_fault, settle_fault, step_fault, turn_fault, use_fault, walk_fault, word_fault}
 use Rattle.h3_words.specs.Call.{IsPlainCall, IsPlainValue, Use, names_for, value_words, words_of}
@@ -463,12 +463,12 @@ leaf_passes name os us fits once most =
 -- where the words are a plain call, no step of the parse fails
 pub call_passes : (words : List Text) → IsPlainCall words → fault_of app words ≡ []
 call_passes words h =
-    let os = options_of h.name in
+    let os = options_of h.command in
     let uses = are_uses os h.uses h.uses_options in
     let once : (o : CommandOption) → IsListed o os → is_required o ≡ true → uses_in o h.uses ≡ 1 = λ o is needed. uses_in-uses_of o h.uses ∙ h.required o (contains os o is) needed in
     let most : (o : CommandOption) → uses_in o h.uses ≤ 1 = λ o. subst (λ n. n ≤ 1) (sym (uses_in-uses_of o h.uses)) (h.once o) in
     ap (fault_of app) h.words_are
-    ∙ fault_named command_names h.name (words_of h.uses) (first_of_all h.name) ∙ leaf_passes (word_of h.name) os h.uses uses once most
+    ∙ fault_named commands h.command (words_of h.uses) (first_of_all h.command) ∙ leaf_passes (word_of h.command) os h.uses uses once most
 
 -- and the options of rows in it agree
 pub call_agrees : (words : List Text) → IsPlainCall words → rows_agree (λ o. own.given o (drop 2 words)) ≡ true

@@ -1,6 +1,7 @@
 -- From a parse that succeeds to what the words ask for.
 use Rattle.std.proofs.Common.{◌≡◌, ◌∙◌, Bool, cond, true, false, refl, sym, ap, ap₂, subst, List, [], ◌∷◌, ◌||◌, drop, is_some, Option, Some, None, inl, inr}
 use Rattle.std.specs.Prelude.{find, option_map, option_and_then, slice_get}
+use Rattle.std.specs.List.{list_any}
 use Rattle.std.specs.Str.{bytes_eq}
 use Rattle.std.proofs.lemmas.Slice.Eq.{bytes_eq-Decides}
 use Rattle.clap.specs.Kinds.{HasKind, IsAmong}
@@ -14,22 +15,23 @@ use Rattle.clap.specs.declared.error.Error.{Error}
 use Rattle.clap.specs.declared.error.kind.ErrorKind.TheVariants.{DisplayHelp, OutOfMemory}
 use Rattle.clap.specs.declared.parser.matches.ArgMatches.{ArgMatches}
 use Rattle.clap.specs.declared.parser.matches.Found.{Found}
-use Rattle.h3_words.specs.Commands.{app, app_with, command_names, command_of, name_of_command, word_of, options_of}
+use Rattle.h3_words.specs.Commands.{Entry, app, app_with, commands, command_of, entry_of, has_option, options_of, word_of}
 use Rattle.h3_words.specs.Faults.{IsFaultOf, IsRefusalOf, IsReportedAs}
 use Rattle.h3_words.specs.Given.{given}
 use Rattle.h3_words.proofs.Uses.{listed_of}
-use Rattle.h3_words.specs.Options.{id_of, parser_done}
+use Rattle.h3_words.specs.Options.{id_of, option_of_file, parser_done}
 use Rattle.h3_words.specs.Values.{AreFound, IsAccepted, HasFile, HasValues, AsksFor}
 use Rattle.h3_words.specs.declared.words.Words.{Words}
 use Rattle.h3_words.specs.declared.words.ArgsError.{ArgsError}
 use Rattle.h3_words.specs.declared.words.ArgsError.TheVariants.{Help, Version, Usage, Memory}
+use Rattle.h3_words.specs.declared.options.CommandFile.{CommandFile}
 use Rattle.h3_words.specs.declared.options.CommandOption.{CommandOption}
-use Rattle.h3_words.specs.declared.commands.CommandName.{CommandName}
+use Rattle.h3_requests.specs.declared.command.Command.{Command}
 use Rattle.h3_words.proofs.Lexed as lexed
 use Rattle.h3_words.proofs.Lexed.{given_same}
 use Rattle.h3_words.proofs.Leaf.{Passes, Reads, leaf_reads, row_of_option}
 use Rattle.h3_words.specs.Rows.{HasRows, IsCellField, Texts, default_separator, found_texts, named_separator, rows_agree}
-use Rattle.h3_words.specs.declared.options.CommandOption.TheVariants.{Field, Column, Header, Separator, Csv, As, KeepGoing}
+use Rattle.h3_words.specs.declared.options.CommandOption.TheVariants.{Field, Column, Header, Separator, Csv, As, KeepGoing, Table, Region, Zones}
 use Rattle.h3_requests.specs.declared.rows.CellField.{CellField}
 use Rattle.h3_requests.specs.declared.rows.CellField.TheVariants as field
 use Rattle.h3_requests.specs.declared.rows.RowOptions.{RowOptions}
@@ -45,11 +47,11 @@ some_none : {X : Type 0} (x : X) → Some x ≡ None → ⊥
 some_none x e = cc
 
 -- the word after the program's name is the command's, and the words after it follow
-pub names_word : (k : CommandName) (ws : List Text) → command_of ws ≡ Some k → (slice_get ws 1 ≡ Some (word_of k)) × (drop 1 ws ≡ word_of k ∷ drop 2 ws)
+pub names_word : (k : Command) (ws : List Text) → command_of ws ≡ Some k → (slice_get ws 1 ≡ Some (word_of k)) × (drop 1 ws ≡ word_of k ∷ drop 2 ws)
 names_word k [] e = cc
 names_word k (program ∷ []) e = cc
 names_word k (program ∷ word ∷ rest) e =
-    let same = (bytes_eq-Decides (word_of k) word).0 (find_passes (λ x. bytes_eq (word_of x) word) command_names k e) in
+    let same = (bytes_eq-Decides (word_of k) word).0 (find_passes (λ x. bytes_eq (word_of x) word) commands k e) in
     (ap (λ w. Some w) (sym same), ap (λ w. w ∷ rest) (sym same))
   where
     find_passes : {X : Type 0} (p : X → Bool) (xs : List X) (x : X) → find p xs ≡ Some x → p x ≡ true
@@ -64,7 +66,7 @@ names_word k (program ∷ word ∷ rest) e =
 pub names_command : (ws : List Text) → fault_of app ws ≡ [] → command_of ws ≡ None → ⊥
 names_command ws f none =
     let e = app_enters ws f in
-    some_none e.0 (sym (word_named e.0) ∙ sym (ap (option_and_then (λ w. find (λ k. bytes_eq (word_of k) w) command_names)) (first_left ws (word_of e.0) e.1 e.2)) ∙ none)
+    some_none (entry_of e.0) (sym (word_named (λ x. x) e.0) ∙ ap (option_map entry_of) (sym (ap (option_and_then (λ w. find (λ k. bytes_eq (word_of k) w) commands)) (first_left ws (word_of e.0) e.1 e.2)) ∙ none))
   where
     first_left : (words : List Text) (name : Text) (rest : List Text) → drop 1 words ≡ name ∷ rest → slice_get words 1 ≡ Some name
     first_left [] name rest e2 = cc
@@ -78,7 +80,7 @@ pub record Stands (a : App) (ws : List Text) : Type 0 where
 pub stands_whole : (a : App) (ws : List Text) → a ≡ app → Stands a ws
 stands_whole a ws is = record { simple = ap is_simple_and_free is ∙ app_is_simple; fault = ap (λ b. fault_of b ws) is }
 
-pub stands_alone : (k : CommandName) (a : App) (ws : List Text) → command_of ws ≡ Some k → a ≡ app_with (k ∷ []) → Stands a ws
+pub stands_alone : (k : Command) (a : App) (ws : List Text) → command_of ws ≡ Some k → a ≡ app_with (k ∷ []) → Stands a ws
 stands_alone k a ws named is = record {
   simple = ap is_simple_and_free is ∙ alone_is_free k;
   fault = ap (λ b. fault_of b ws) is ∙ same_fault k ws (drop 2 ws) (names_word k ws named).1;
@@ -119,7 +121,7 @@ first_in : (o : CommandOption) (s : Option Text) → option_and_then (λ (x : Ro
 first_in o None = refl
 first_in o (Some v) = refl
 
-reads_found : (k : CommandName) (rest : List Text) (found : Found) (rows : List Row) → rows_of found ≡ rows
+reads_found : (k : Command) (rest : List Text) (found : Found) (rows : List Row) → rows_of found ≡ rows
     → ((o : CommandOption) → Reads (options_of k) o rest rows) → AreFound k (λ o. given o rest) found
 reads_found k rest found rows same reads o = record {
   same = first_value-rows found (id_of o) ∙ ap (first_of (id_of o)) same ∙ ap (option_and_then (λ (x : Row). slice_get x.values 0)) (reads o).holds.0
@@ -129,7 +131,7 @@ reads_found k rest found rows same reads o = record {
 }
 
 -- what a parse of the command's words found is what they give
-pub met : (k : CommandName) (a : App) (ws : List Text) (m : ArgMatches) (found : Found) → command_of ws ≡ Some k → a ≡ app_with (k ∷ [])
+pub met : (k : Command) (a : App) (ws : List Text) (m : ArgMatches) (found : Found) → command_of ws ≡ Some k → a ≡ app_with (k ∷ [])
     → (is_simple_and_free a ≡ true → fault_of a ws ≡ []) → HasMatchesOf a ws m
     → Some (rows_of found) ≡ option_map (λ p. p.1) (subcommand_rows_of m) → AreFound k (λ o. given o (drop 2 ws)) found
 met k a ws m found named is none matches rows =
@@ -138,16 +140,24 @@ met k a ws m found named is none matches rows =
     let passes = sym (whole_fault k ws (drop 2 ws) at) ∙ passed a ws (stands_alone k a ws named is) none in
     reads_found k (drop 2 ws) found _ (some_same _ _ (rows ∙ ap (option_map (λ (p : Text × List Row). p.1)) sub)) (leaf_reads (word_of k) (options_of k) (drop 2 ws) passes)
 
+-- commands of one entry have the same options, and so the same file
+option_alike : (a b : Command) (o : CommandOption) → entry_of a ≡ entry_of b → has_option b o ≡ has_option a o
+option_alike a b o same = ap (λ (e : Entry). list_any (λ x. bytes_eq (id_of x) (id_of o)) e.options) (sym same)
+
+file_alike : (text : CommandOption → Option Text) (a b : Command) (file : Option CommandFile) → entry_of a ≡ entry_of b → HasFile text a file → HasFile text b file
+file_alike text a b None same has = (option_alike a b Table same ∙ has.0, option_alike a b Region same ∙ has.1, option_alike a b Zones same ∙ has.2)
+file_alike text a b (Some f) same has = (option_alike a b (option_of_file f) same ∙ has.0, has.1)
+
 -- the command that the words name, with its values, is what they ask for
-pub asks_for : (k : CommandName) (ws : List Text) (found : Found) → command_of ws ≡ Some k → AreFound k (λ o. given o (drop 2 ws)) found
-    → (asked : Words) → name_of_command asked.command ≡ k
+pub asks_for : (k : Command) (ws : List Text) (found : Found) → command_of ws ≡ Some k → AreFound k (λ o. given o (drop 2 ws)) found
+    → (asked : Words) → entry_of asked.command ≡ entry_of k
     → ((text : CommandOption → Option Text) → AreFound k text found → HasValues text asked.command)
     → ((text : CommandOption → Option Text) → AreFound k text found → HasFile text k asked.file)
     → ((text : CommandOption → Option Text) → AreFound k text found → HasRows text asked.rows) → AsksFor ws asked
 asks_for k ws found named are asked is has names rows_are = record {
-  command = (names_word k ws named).0 ∙ ap (λ x. Some (word_of x)) (sym is);
+  command = (names_word k ws named).0 ∙ ap (λ (e : Entry). Some e.word) (sym is);
   values = has (λ o. given o (drop 2 ws)) are;
-  file = subst (λ x. HasFile (λ o. given o (drop 2 ws)) x asked.file) (sym is) (names (λ o. given o (drop 2 ws)) are);
+  file = file_alike (λ o. given o (drop 2 ws)) k asked.command asked.file (sym is) (names (λ o. given o (drop 2 ws)) are);
   rows = rows_are (λ o. given o (drop 2 ws)) are;
 }
 
@@ -176,11 +186,11 @@ rows_alike f g e (Some rows) has = record {
     cell (field.Column name) is = sym (e Column) ∙ is
 
 -- the options of rows agree in what a parse found as they do in what the words give
-pub agree_found : (k : CommandName) (text : CommandOption → Option Text) (found : Found) → AreFound k text found → rows_agree (found_texts found) ≡ rows_agree text
+pub agree_found : (k : Command) (text : CommandOption → Option Text) (found : Found) → AreFound k text found → rows_agree (found_texts found) ≡ rows_agree text
 agree_found k text found are = agree_alike (found_texts found) text (λ o. (are o).same)
 
 -- options of rows that are what a parse found are what each text says that it found
-pub rows_are : (k : CommandName) (found : Found) (rows : Option RowOptions) → rows_agree (found_texts found) ≡ true
+pub rows_are : (k : Command) (found : Found) (rows : Option RowOptions) → rows_agree (found_texts found) ≡ true
     → (rows_agree (found_texts found) ≡ true → IsAccepted Field (found_texts found Field) → HasRows (found_texts found) rows)
     → (text : CommandOption → Option Text) → AreFound k text found → HasRows text rows
 rows_are k found rows agree has text are = rows_alike (found_texts found) text (λ o. (are o).same) rows

@@ -9,10 +9,9 @@ use Rattle.clap.specs.declared.builder.value_parser.ValueParser.TheVariants.{Sig
 use Rattle.clap.specs.declared.parser.matches.Found.{Found}
 use Rattle.h3_words.proofs.Uses.{IsListed, contains}
 use Rattle.h3_words.specs.Options.{IsInRange, IsWithin, id_of, is_required, number_from, number_up_to, parser_done}
-use Rattle.h3_words.specs.Commands.{Index, Number, Value, has_option, options_of, values_of_command}
-use Rattle.h3_words.specs.Values.{AreFound, IsAccepted, IsFound, HasPath, HasValues, IsIndex, IsNumber, IsValue, AreRead, IsRead, option_of}
+use Rattle.h3_words.specs.Commands.{Index, Number, Value, has_option, option_of, options_of, values_of_command}
+use Rattle.h3_words.specs.Values.{AreFound, IsAccepted, IsFound, HasPath, HasValues, IsIndex, IsNumber, IsValue, AreRead, IsRead}
 use Rattle.h3_words.specs.declared.options.CommandOption.{CommandOption}
-use Rattle.h3_words.specs.declared.commands.CommandName.{CommandName}
 use Rattle.h3_requests.specs.declared.command.Command.{Command}
 use Rattle.h3_words.proofs.Leaf.{Differs, differ}
 
@@ -36,7 +35,7 @@ in_range o t accepted = go (number_from o) (number_up_to o) accepted
 abbrev HasText : (CommandOption → Option Text) → Found → CommandOption → Type 0
 HasText text f o = (v : Text) × (text o ≡ Some v) × (first_value f (id_of o) ≡ Some v) × Accepts false (parser_done o) v
 
-has_text : (k : CommandName) (text : CommandOption → Option Text) (f : Found) (o : CommandOption) → IsFound k text f o → is_some (text o) ≡ true → HasText text f o
+has_text : (k : Command) (text : CommandOption → Option Text) (f : Found) (o : CommandOption) → IsFound k text f o → is_some (text o) ≡ true → HasText text f o
 has_text k text f o found some = go (text o) refl some found.same found.accepted
   where
     go : (s : Option Text) → text o ≡ s → is_some s ≡ true → first_value f (id_of o) ≡ s → IsAccepted o s → HasText text f o
@@ -49,7 +48,7 @@ module _ (text : CommandOption → Option Text) (f : Found) where
   is_value (Index o index) at read = subst (λ t. IsIndex t index) (sym at.1) (read at.0 at.2)
   is_value (Number o n) at read = subst (λ t. IsNumber o t n) (sym at.1) (in_range o at.0 at.3, read at.0 at.2 at.3)
 
-  are_values : (self : CommandName) → AreFound self text f → (vs : List Value) → AreRead self f vs → All (IsValue text) vs
+  are_values : (self : Command) → AreFound self text f → (vs : List Value) → AreRead self f vs → All (IsValue text) vs
   are_values self found [] read = All-nil (IsValue text)
   are_values self found (v ∷ vs) read =
       let o = option_of v in
@@ -57,12 +56,12 @@ module _ (text : CommandOption → Option Text) (f : Found) where
       All-cons (IsValue text) v vs (is_value v at read.2) (are_values self found vs read.3)
 
 -- a command whose values are read for its options has what their texts parse as
-pub has_values : (self : CommandName) (f : Found) (c : Command) → AreRead self f (values_of_command c)
+pub has_values : (self : Command) (f : Found) (c : Command) → AreRead self f (values_of_command c)
     → (text : CommandOption → Option Text) → AreFound self text f → HasValues text c
 has_values self f c read text found = are_values text f self found (values_of_command c) read
 
 -- the path of an option that the command has is what is found for it
-pub path_found : (self : CommandName) (o : CommandOption) (f : Found) (path : Option Text) → has_option self o ≡ true → first_value f (id_of o) ≡ path
+pub path_found : (self : Command) (o : CommandOption) (f : Found) (path : Option Text) → has_option self o ≡ true → first_value f (id_of o) ≡ path
     → (text : CommandOption → Option Text) → AreFound self text f → HasPath text self o path
 path_found self o f path has found text are_found =
     subst (λ b. MatchBool b (path ≡ text o) (path ≡ None)) (sym has) (sym found ∙ (are_found o).same)
@@ -73,7 +72,7 @@ named_by_path true t path is = (refl, sym is)
 named_by_path false t path is = cc
 
 -- where there is no path the command does not have the option, which it would require
-pub no_path : (k : CommandName) (o : CommandOption) (text : CommandOption → Option Text) (f : Found) (path : Option Text) → is_required o ≡ true → AreFound k text f
+pub no_path : (k : Command) (o : CommandOption) (text : CommandOption → Option Text) (f : Found) (path : Option Text) → is_required o ≡ true → AreFound k text f
     → path ≡ None → HasPath text k o path → has_option k o ≡ false
 no_path k o text f path needed found none has = go (has_option k o) refl has
   where

@@ -4,12 +4,12 @@
 use Rattle.std.specs.Prelude.{◌≡◌, ◌≢◌, ◌≤◌, ◌++◌, ◌∷◌, ℕ, Bool, true, false, List, [], codes, All, Contains, count_by, filter_map, option_map}
 use Rattle.std.specs.Str.{bytes_eq}
 use Rattle.clap.specs.Words.{Text}
+use Rattle.h3_requests.specs.declared.command.Command.{Command}
 use Rattle.h3_words.specs.Commands.{options_of, word_of}
 use Rattle.h3_words.specs.Options.{IsInRange, id_of, is_flag, is_required, long_name, short_name}
 use Rattle.h3_words.specs.Given.{given}
 use Rattle.h3_words.specs.Rows.{rows_agree}
 use Rattle.h3_words.specs.declared.options.CommandOption.{CommandOption}
-use Rattle.h3_words.specs.declared.commands.CommandName.{CommandName}
 
 -- the words that name the option: its short name after `-`, and its long name after `--`
 abbrev pub names_for : CommandOption → List Text
@@ -52,10 +52,10 @@ pub record IsUse (os : List CommandOption) (u : Use) : Type 0 where
 -- range, and those of rows such as agree
 pub record IsPlainCall (words : List Text) : Type 0 where
   pub program : Text
-  pub name : CommandName
+  pub command : Command
   pub uses : List Use
-  pub words_are : words ≡ program ∷ word_of name ∷ words_of uses
-  pub uses_options : All (IsUse (options_of name)) uses
-  pub required : (o : CommandOption) → Contains (options_of name) o → is_required o ≡ true → uses_of o uses ≡ 1
+  pub words_are : words ≡ program ∷ word_of command ∷ words_of uses
+  pub uses_options : All (IsUse (options_of command)) uses
+  pub required : (o : CommandOption) → Contains (options_of command) o → is_required o ≡ true → uses_of o uses ≡ 1
   pub once : (o : CommandOption) → uses_of o uses ≤ 1
   pub agree : rows_agree (λ o. given o (words_of uses)) ≡ true

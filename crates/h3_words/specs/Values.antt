@@ -5,13 +5,12 @@ use Rattle.clap.specs.Words.{Accepts, Text, first_value}
 use Rattle.clap.specs.declared.parser.matches.Found.{Found}
 use Rattle.h3_index.specs.Text.{parsed_index}
 use Rattle.h3_words.specs.Options.{IsInRange, id_of, is_required, option_of_file, parser_done, path_of}
-use Rattle.h3_words.specs.Commands.{Index, Number, Value, has_option, name_of_command, options_of, values_of_command, word_of}
+use Rattle.h3_words.specs.Commands.{Index, Number, Value, has_option, option_of, options_of, values_of_command, word_of}
 use Rattle.h3_words.specs.Given.{given}
 use Rattle.h3_words.specs.Rows.{HasRows}
 use Rattle.h3_words.specs.declared.options.CommandFile.{CommandFile}
 use Rattle.h3_words.specs.declared.options.CommandOption.{CommandOption}
 use Rattle.h3_words.specs.declared.options.CommandOption.TheVariants.{Table, Region, Zones}
-use Rattle.h3_words.specs.declared.commands.CommandName.{CommandName}
 use Rattle.h3_words.specs.declared.words.Words.{Words}
 use Rattle.h3_requests.specs.declared.command.Command.{Command}
 
@@ -42,25 +41,20 @@ IsRead found (Index o index) = (text : Text) → first_value found (id_of o) ≡
 IsRead found (Number o number) =
     (text : Text) → first_value found (id_of o) ≡ Some text → Accepts false (parser_done o) text → number ≡ signed_digits_value 10 text
 
--- the option that the value is for
-abbrev pub option_of : Value → CommandOption
-option_of (Index o index) = o
-option_of (Number o number) = o
-
 -- each value is read for an option that the command requires. Private contracts and proofs alone cite it.
-abbrev pub AreRead : CommandName → Found → List Value → Type 0
+abbrev pub AreRead : Command → Found → List Value → Type 0
 AreRead k found [] = ⊤
 AreRead k found (v ∷ vs) =
     (has_option k (option_of v) ≡ true) × (is_required (option_of v) ≡ true) × IsRead found v × AreRead k found vs
 
 -- where the command has the option, the option's text is the path, and where it does not there is none. Private contracts
 -- and proofs alone cite it.
-abbrev pub HasPath : (CommandOption → Option Text) → CommandName → CommandOption → Option Text → Type 0
+abbrev pub HasPath : (CommandOption → Option Text) → Command → CommandOption → Option Text → Type 0
 HasPath text k o path = MatchBool (has_option k o) (path ≡ text o) (path ≡ None)
 
 -- HasFile text name file: a file is that of an option which the command has, at the path that is the option's text; where there is none, the
 -- command has no option for a file
-abbrev pub HasFile : (CommandOption → Option Text) → CommandName → Option CommandFile → Type 0
+abbrev pub HasFile : (CommandOption → Option Text) → Command → Option CommandFile → Type 0
 HasFile text k None = (has_option k Table ≡ false) × (has_option k Region ≡ false) × (has_option k Zones ≡ false)
 HasFile text k (Some f) = (has_option k (option_of_file f) ≡ true) × (text (option_of_file f) ≡ Some (path_of f))
 
@@ -72,13 +66,13 @@ IsAccepted o (Some v) = Accepts false (parser_done o) v
 -- an option's text is what a parse found for it, and its parser accepted it
 --
 -- each option that the command requires has one. Private contracts and proofs alone cite it.
-pub record IsFound (k : CommandName) (text : CommandOption → Option Text) (found : Found) (o : CommandOption) : Type 0 where
+pub record IsFound (k : Command) (text : CommandOption → Option Text) (found : Found) (o : CommandOption) : Type 0 where
   pub same : first_value found (id_of o) ≡ text o
   pub accepted : IsAccepted o (text o)
   pub wanted : Contains (options_of k) o → is_required o ≡ true → is_some (text o) ≡ true
 
 -- so is that of each option. Private contracts and proofs alone cite it.
-abbrev pub AreFound : CommandName → (CommandOption → Option Text) → Found → Type 0
+abbrev pub AreFound : Command → (CommandOption → Option Text) → Found → Type 0
 AreFound k text found = (o : CommandOption) → IsFound k text found o
 
 -- AsksFor words asked: the words name the command, and give its values, its path and its options of rows
@@ -86,7 +80,7 @@ AreFound k text found = (o : CommandOption) → IsFound k text found o
 -- the word after the program's name is the command's name, and the words after it give the command's values, the file
 -- that it names, if it names one, and how its rows are read and written, if it is to read rows
 pub record AsksFor (words : List Text) (asked : Words) : Type 0 where
-  pub command : slice_get words 1 ≡ Some (word_of (name_of_command asked.command))
+  pub command : slice_get words 1 ≡ Some (word_of asked.command)
   pub values : HasValues (λ o. given o (drop 2 words)) asked.command
-  pub file : HasFile (λ o. given o (drop 2 words)) (name_of_command asked.command) asked.file
+  pub file : HasFile (λ o. given o (drop 2 words)) asked.command asked.file
   pub rows : HasRows (λ o. given o (drop 2 words)) asked.rows

@@ -5,44 +5,45 @@ ghost use Rattle.clap.specs.Words.{app_of, new_app};
 ghost use Rattle.clap.specs.declared.builder.command.Command.TheViews.{out-Command};
 ghost use Rattle.h3_words.specs.Commands.{word_of};
 
-use crate::commands::CommandName;
-use crate::table::commands;
+use crate::commands::word;
+use crate::table::{commands, texts};
 use clap::Command as Parser;
+use h3_requests::Command;
 use std::alloc::Global;
 
 // The help of the program: each row's line goes to those of its part, and in the end all parts are put together.
 macro_rules! help {
     (
         [$($own:literal)*] $hierarchy:tt $table:tt $edges:tt $lists:tt;
-        $name:ident $entry:tt $asked:tt [cells $line:literal] $texts:tt;
+        $command:tt $entry:tt [cells $line:literal] $texts:tt;
         $($rest:tt)*
     ) => {
         help!([$($own)* $line] $hierarchy $table $edges $lists; $($rest)*)
     };
     (
         $cells:tt [$($own:literal)*] $table:tt $edges:tt $lists:tt;
-        $name:ident $entry:tt $asked:tt [hierarchy $line:literal] $texts:tt;
+        $command:tt $entry:tt [hierarchy $line:literal] $texts:tt;
         $($rest:tt)*
     ) => {
         help!($cells [$($own)* $line] $table $edges $lists; $($rest)*)
     };
     (
         $cells:tt $hierarchy:tt [$($own:literal)*] $edges:tt $lists:tt;
-        $name:ident $entry:tt $asked:tt [table $line:literal] $texts:tt;
+        $command:tt $entry:tt [table $line:literal] $texts:tt;
         $($rest:tt)*
     ) => {
         help!($cells $hierarchy [$($own)* $line] $edges $lists; $($rest)*)
     };
     (
         $cells:tt $hierarchy:tt $table:tt [$($own:literal)*] $lists:tt;
-        $name:ident $entry:tt $asked:tt [edges $line:literal] $texts:tt;
+        $command:tt $entry:tt [edges $line:literal] $texts:tt;
         $($rest:tt)*
     ) => {
         help!($cells $hierarchy $table [$($own)* $line] $lists; $($rest)*)
     };
     (
         $cells:tt $hierarchy:tt $table:tt $edges:tt [$($own:literal)*];
-        $name:ident $entry:tt $asked:tt [lists $line:literal] $texts:tt;
+        $command:tt $entry:tt [lists $line:literal] $texts:tt;
         $($rest:tt)*
     ) => {
         help!($cells $hierarchy $table $edges [$($own)* $line]; $($rest)*)
@@ -72,24 +73,22 @@ macro_rules! help {
 /// What `h3 --help` prints: the commands by what they are for, in lines of at most 80 characters.
 pub(crate) const HELP: &str = commands!(help! [] [] [] [] [];);
 
-impl CommandName {
-    /// The usage of a command that reads a list, and of any other its word.
-    pub(crate) fn list_usage<'a>(self) -> &'a str {
-        self.texts().usage.unwrap_or(self.word())
-    }
+/// The usage of a command that reads a list, and of any other its word.
+pub(crate) fn list_usage<'a>(command: Command) -> &'a str {
+    texts(command).usage.unwrap_or(word(command))
+}
 
-    /// The command with its texts of help, and without its options.
-    pub(crate) fn described<'a>(self, alloc: Global) -> Parser<'a>
-        ensures app { app_of result ≡ new_app (word_of self) }
-        ensures local { (out-Command result).has_globals ≡ false }
-    {
-        let texts = self.texts();
-        let parser = Parser::new(alloc, self.word())
-            .about(texts.about)
-            .after_help(texts.notes);
-        match texts.usage {
-            Some(usage) => parser.override_usage(usage),
-            None => parser,
-        }
+/// The command with its texts of help, and without its options.
+pub(crate) fn described<'a>(alloc: Global, command: Command) -> Parser<'a>
+    ensures app { app_of result ≡ new_app (word_of command) }
+    ensures local { (out-Command result).has_globals ≡ false }
+{
+    let texts = texts(command);
+    let parser = Parser::new(alloc, word(command))
+        .about(texts.about)
+        .after_help(texts.notes);
+    match texts.usage {
+        Some(usage) => parser.override_usage(usage),
+        None => parser,
     }
 }

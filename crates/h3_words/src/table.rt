@@ -3,8 +3,8 @@
 ghost use Rattle.std.specs.Prelude.{◌≡◌};
 ghost use Rattle.h3_words.specs.Commands.{entry_of};
 
-use crate::commands::CommandName;
 use crate::options::CommandOption::{self, *};
+use h3_requests::{Command, IndexFunction};
 
 /// A command: its word and its options.
 #[derive(Drop)]
@@ -207,109 +207,96 @@ macro_rules! notes {
 
 // The table of all commands, in the order in which `clap` is given them: `commands!(m! ARGS)` expands to
 // `m! { ARGS ROWS }`. A row has:
-// - the command's name;
+// - the `Command`, with the fields that are read of the words;
 // - its word and its options;
-// - the `Command` that it asks for, with the fields that are read of the words; of a plural, behind `each`,
-//   the function of each index of a list;
 // - its line in the list of all commands, with the part of that list;
 // - what its own help says.
 macro_rules! commands {
     ($made:ident! $($before:tt)*) => {
         $made! {
             $($before)*
-            IsValidCell
+            (IsValidCell { cell })
                 { word: "isValidCell", options: &[Cell] }
-                (IsValidCell { cell })
                 [cells "isValidCell                 Whether an index is a valid cell"]
                 {
                     about: "Whether an index is a valid cell",
                     notes: notes!(index, "h3 isValidCell -c 85283473fffffff"),
                     usage: None,
                 };
-            GetResolution
+            (GetResolution { cell })
                 { word: "getResolution", options: &[Cell] }
-                (GetResolution { cell })
                 [cells "getResolution               The resolution of a cell"]
                 {
                     about: "The resolution of a cell",
                     notes: notes!(cell, "h3 getResolution -c 85283473fffffff"),
                     usage: None,
                 };
-            GetBaseCellNumber
+            (GetBaseCellNumber { cell })
                 { word: "getBaseCellNumber", options: &[Cell] }
-                (GetBaseCellNumber { cell })
                 [cells "getBaseCellNumber           The base cell of a cell"]
                 {
                     about: "The base cell of a cell",
                     notes: notes!(cell, "h3 getBaseCellNumber -c 85283473fffffff"),
                     usage: None,
                 };
-            IsPentagon
+            (IsPentagon { cell })
                 { word: "isPentagon", options: &[Cell] }
-                (IsPentagon { cell })
                 [cells "isPentagon                  Whether a cell is a pentagon"]
                 {
                     about: "Whether a cell is a pentagon",
                     notes: notes!(cell, "h3 isPentagon -c 85283473fffffff"),
                     usage: None,
                 };
-            IsResClassIII
+            (IsResClassIII { cell })
                 { word: "isResClassIII", options: &[Cell] }
-                (IsResClassIII { cell })
                 [cells "isResClassIII               Whether the resolution of a cell is Class III"]
                 {
                     about: "Whether the resolution of a cell is Class III",
                     notes: notes!(cell, "h3 isResClassIII -c 85283473fffffff"),
                     usage: None,
                 };
-            GetNumCells
+            (GetNumCells { res })
                 { word: "getNumCells", options: &[Resolution] }
-                (GetNumCells { res })
                 [cells "getNumCells                 How many cells a resolution has"]
                 {
                     about: "How many cells a resolution has",
                     notes: notes!(resolution, "h3 getNumCells -r 5"),
                     usage: None,
                 };
-            GetRes0Cells
+            (GetRes0Cells)
                 { word: "getRes0Cells", options: &[] }
-                (GetRes0Cells {})
                 [cells "getRes0Cells                The 122 cells of resolution 0"]
                 {
                     about: "The 122 cells of resolution 0",
                     notes: notes!(errors; "", "h3 getRes0Cells"),
                     usage: None,
                 };
-            GetPentagons
+            (GetPentagons { res })
                 { word: "getPentagons", options: &[Resolution] }
-                (GetPentagons { res })
                 [cells "getPentagons                The twelve pentagons of a resolution"]
                 {
                     about: "The twelve pentagons of a resolution",
                     notes: notes!(resolution, "h3 getPentagons -r 5"),
                     usage: None,
                 };
-            CellToParent
+            (CellToParent { cell, res })
                 { word: "cellToParent", options: &[Cell, Resolution] }
-                (CellToParent { cell, res })
                 [hierarchy "cellToParent                The ancestor of a cell at a resolution"]
                 {
                     about: "The ancestor of a cell at a resolution",
                     notes: notes!(ancestor, "h3 cellToParent -c 85283473fffffff -r 4"),
                     usage: None,
                 };
-            CellToCenterChild
+            (CellToCenterChild { cell, res })
                 { word: "cellToCenterChild", options: &[Cell, Resolution] }
-                (CellToCenterChild { cell, res })
                 [hierarchy "cellToCenterChild           The center descendant of a cell at a resolution"]
                 {
                     about: "The center descendant of a cell at a resolution",
                     notes: notes!(descendants, "h3 cellToCenterChild -c 85283473fffffff -r 6"),
                     usage: None,
                 };
-            CellToLastChild
+            (CellToLastChild { cell, res })
                 { word: "cellToLastChild", options: &[Cell, Resolution] }
-                (CellToLastChild { cell, res })
                 [hierarchy "cellToLastChild             The last descendant of a cell at a resolution"]
                 {
                     about: "The last descendant of a cell at a resolution, which has the greatest number",
@@ -320,36 +307,32 @@ macro_rules! commands {
                     ),
                     usage: None,
                 };
-            CellToChildren
+            (CellToChildren { cell, res })
                 { word: "cellToChildren", options: &[Cell, Resolution] }
-                (CellToChildren { cell, res })
                 [hierarchy "cellToChildren              The descendants of a cell at a resolution"]
                 {
                     about: "The descendants of a cell at a resolution, ascending",
                     notes: notes!(descendants, "h3 cellToChildren -c 85283473fffffff -r 6"),
                     usage: None,
                 };
-            CellToChildrenSize
+            (CellToChildrenSize { cell, res })
                 { word: "cellToChildrenSize", options: &[Cell, Resolution] }
-                (CellToChildrenSize { cell, res })
                 [hierarchy "cellToChildrenSize          How many descendants a cell has at a resolution"]
                 {
                     about: "How many descendants a cell has at a resolution",
                     notes: notes!(descendants, "h3 cellToChildrenSize -c 85283473fffffff -r 6"),
                     usage: None,
                 };
-            CellToChildPos
+            (CellToChildPos { cell, res })
                 { word: "cellToChildPos", options: &[Cell, Resolution] }
-                (CellToChildPos { cell, res })
                 [hierarchy "cellToChildPos              The position of a cell below an ancestor"]
                 {
                     about: "The position of a cell among the descendants of its ancestor at a resolution",
                     notes: notes!(ancestor, "h3 cellToChildPos -c 85283473fffffff -r 4"),
                     usage: None,
                 };
-            ChildPosToCell
+            (ChildPosToCell { position, cell, res })
                 { word: "childPosToCell", options: &[Position, Cell, Resolution] }
-                (ChildPosToCell { position, cell, res })
                 [hierarchy "childPosToCell              The descendant of a cell at a position"]
                 {
                     about: "The descendant of a cell at a position among those at a resolution",
@@ -361,9 +344,8 @@ macro_rules! commands {
                     ),
                     usage: None,
                 };
-            CompactCells
+            (CompactCells)
                 { word: "compactCells", options: with_list_options!() }
-                (CompactCells {})
                 [lists "compactCells                Compact a list of cells"]
                 {
                     about: "Compact the list of cells on standard input, of any resolutions; overlapping cells are error 10",
@@ -375,9 +357,8 @@ macro_rules! commands {
                     ),
                     usage: Some("h3 compactCells < cells"),
                 };
-            UncompactCells
+            (UncompactCells { res })
                 { word: "uncompactCells", options: with_list_options!(Resolution) }
-                (UncompactCells { res })
                 [lists "uncompactCells              The descendants of the cells at a resolution"]
                 {
                     about: "The descendants at a resolution of each cell listed on standard input",
@@ -387,9 +368,8 @@ macro_rules! commands {
                     ),
                     usage: Some("h3 uncompactCells --resolution <resolution> < cells"),
                 };
-            UncompactCellsSize
+            (UncompactCellsSize { res })
                 { word: "uncompactCellsSize", options: with_list_options!(Resolution) }
-                (UncompactCellsSize { res })
                 [lists "uncompactCellsSize          How many cells uncompactCells prints"]
                 {
                     about: "How many cells uncompactCells prints for the cells listed on standard input",
@@ -401,9 +381,8 @@ macro_rules! commands {
                     ),
                     usage: Some("h3 uncompactCellsSize --resolution <resolution> < cells"),
                 };
-            UniteCells
+            (UniteCells)
                 { word: "uniteCells", options: with_list_options!() }
-                (UniteCells {})
                 [lists "uniteCells                  Union of the cells, compacted"]
                 {
                     about: "Union of the cells on standard input, compacted; they may repeat and overlap",
@@ -414,27 +393,24 @@ macro_rules! commands {
                     ),
                     usage: Some("h3 uniteCells < cells"),
                 };
-            IntersectCells
+            (IntersectCells)
                 { word: "intersectCells", options: with_list_options!(Region) }
-                (IntersectCells {})
                 [lists "intersectCells              Intersection of the cells and a region, compacted"]
                 {
                     about: "Intersection of the cells on standard input and a region, compacted",
                     notes: notes!(whole overlaps, "h3 intersectCells --region region"),
                     usage: Some("h3 intersectCells --region <region> < cells"),
                 };
-            SubtractCells
+            (SubtractCells)
                 { word: "subtractCells", options: with_list_options!(Region) }
-                (SubtractCells {})
                 [lists "subtractCells               The cells minus a region, compacted"]
                 {
                     about: "The cells on standard input minus a region, compacted",
                     notes: notes!(whole overlaps, "h3 subtractCells --region region"),
                     usage: Some("h3 subtractCells --region <region> < cells"),
                 };
-            AreCoveredCells
+            (AreCoveredCells)
                 { word: "areCoveredCells", options: with_line_options!(Region) }
-                (AreCoveredCells {})
                 [lists "areCoveredCells             Whether a region covers each cell"]
                 {
                     about: "Whether a region covers each cell listed on standard input",
@@ -447,9 +423,8 @@ macro_rules! commands {
                     ),
                     usage: Some("h3 areCoveredCells --region <region> < cells"),
                 };
-            CellsToZones
+            (CellsToZones)
                 { word: "cellsToZones", options: with_line_options!(Zones) }
-                (CellsToZones {})
                 [lists "cellsToZones                The zone of each cell"]
                 {
                     about: "The zone of each cell listed on standard input, or 0 if it has none",
@@ -461,9 +436,8 @@ macro_rules! commands {
                     ),
                     usage: Some("h3 cellsToZones --zones <zones> < cells"),
                 };
-            CountCellsInZones
+            (CountCellsInZones)
                 { word: "countCellsInZones", options: with_list_options!(Zones) }
-                (CountCellsInZones {})
                 [lists "countCellsInZones           Count the cells in each zone"]
                 {
                     about: "Count the cells on standard input in each zone, and those in none",
@@ -475,9 +449,8 @@ macro_rules! commands {
                     ),
                     usage: Some("h3 countCellsInZones --zones <zones> < cells"),
                 };
-            GridDiskUnsafe
+            (GridDiskUnsafe { cell, k })
                 { word: "gridDiskUnsafe", options: &[Cell, Radius, Table] }
-                (GridDiskUnsafe { cell, k })
                 [table "gridDiskUnsafe              The cells within a radius of a cell, ring by ring"]
                 {
                     about: "The cells within a radius of a cell, ring by ring",
@@ -487,9 +460,8 @@ macro_rules! commands {
                     ),
                     usage: None,
                 };
-            GridDiskDistancesUnsafe
+            (GridDiskDistancesUnsafe { cell, k })
                 { word: "gridDiskDistancesUnsafe", options: &[Cell, Radius, Table] }
-                (GridDiskDistancesUnsafe { cell, k })
                 [table "gridDiskDistancesUnsafe     The same, each with the number of its ring"]
                 {
                     about: "The cells within a radius of a cell, each with the number of its ring",
@@ -499,9 +471,8 @@ macro_rules! commands {
                     ),
                     usage: None,
                 };
-            GridRingUnsafe
+            (GridRingUnsafe { cell, k })
                 { word: "gridRingUnsafe", options: &[Cell, Radius, Table] }
-                (GridRingUnsafe { cell, k })
                 [table "gridRingUnsafe              The cells of the ring of a radius around a cell"]
                 {
                     about: "The cells of the ring of a radius around a cell",
@@ -511,9 +482,8 @@ macro_rules! commands {
                     ),
                     usage: None,
                 };
-            AreNeighborCells
+            (AreNeighborCells { cell, to })
                 { word: "areNeighborCells", options: &[Cell, To, Table] }
-                (AreNeighborCells { cell, to })
                 [table "areNeighborCells            Whether two cells are neighbors"]
                 {
                     about: "Whether two cells are neighbors",
@@ -524,9 +494,8 @@ macro_rules! commands {
                     ),
                     usage: None,
                 };
-            CellsToDirectedEdge
+            (CellsToDirectedEdge { cell, to })
                 { word: "cellsToDirectedEdge", options: &[Cell, To, Table] }
-                (CellsToDirectedEdge { cell, to })
                 [table "cellsToDirectedEdge         The directed edge from a cell to its neighbor"]
                 {
                     about: "The directed edge from a cell to its neighbor",
@@ -537,27 +506,24 @@ macro_rules! commands {
                     ),
                     usage: None,
                 };
-            IsValidDirectedEdge
+            (IsValidDirectedEdge { edge })
                 { word: "isValidDirectedEdge", options: &[Edge] }
-                (IsValidDirectedEdge { edge })
                 [edges "isValidDirectedEdge         Whether an index is a valid directed edge"]
                 {
                     about: "Whether an index is a valid directed edge",
                     notes: notes!(index, "h3 isValidDirectedEdge --edge 115283473fffffff"),
                     usage: None,
                 };
-            GetDirectedEdgeOrigin
+            (GetDirectedEdgeOrigin { edge })
                 { word: "getDirectedEdgeOrigin", options: &[Edge] }
-                (GetDirectedEdgeOrigin { edge })
                 [edges "getDirectedEdgeOrigin       The cell that a directed edge leaves"]
                 {
                     about: "The cell that a directed edge leaves",
                     notes: notes!(edge, "h3 getDirectedEdgeOrigin --edge 115283473fffffff"),
                     usage: None,
                 };
-            GetDirectedEdgeDestination
+            (GetDirectedEdgeDestination { edge })
                 { word: "getDirectedEdgeDestination", options: &[Edge, Table] }
-                (GetDirectedEdgeDestination { edge })
                 [table "getDirectedEdgeDestination  The cell that a directed edge leads to"]
                 {
                     about: "The cell that a directed edge leads to",
@@ -567,72 +533,64 @@ macro_rules! commands {
                     ),
                     usage: None,
                 };
-            OriginToDirectedEdges
+            (OriginToDirectedEdges { cell })
                 { word: "originToDirectedEdges", options: &[Cell] }
-                (OriginToDirectedEdges { cell })
                 [edges "originToDirectedEdges       The directed edges that leave a cell"]
                 {
                     about: "The directed edges that leave a cell",
                     notes: notes!(cell, "h3 originToDirectedEdges -c 85283473fffffff"),
                     usage: None,
                 };
-            AreValidCells
+            (ForEach(IsValidCell))
                 { word: "areValidCells", options: with_line_options!() }
-                (each IsValidCell {})
                 [lists "areValidCells               Whether each index is a valid cell"]
                 {
                     about: "Whether each index listed on standard input is a valid cell",
                     notes: notes!(each index, "h3 areValidCells", "cell"),
                     usage: Some("h3 areValidCells < cells"),
                 };
-            AreValidDirectedEdges
+            (ForEach(IsValidDirectedEdge))
                 { word: "areValidDirectedEdges", options: with_line_options!() }
-                (each IsValidDirectedEdge {})
                 [lists "areValidDirectedEdges       Whether each index is a valid directed edge"]
                 {
                     about: "Whether each index listed on standard input is a valid directed edge",
                     notes: notes!(each index, "h3 areValidDirectedEdges", "edge"),
                     usage: Some("h3 areValidDirectedEdges < edges"),
                 };
-            GetResolutions
+            (ForEach(GetResolution))
                 { word: "getResolutions", options: with_line_options!() }
-                (each GetResolution {})
                 [lists "getResolutions              The resolution of each cell"]
                 {
                     about: "The resolution of each cell listed on standard input",
                     notes: notes!(each cell, "h3 getResolutions", "cell"),
                     usage: Some("h3 getResolutions < cells"),
                 };
-            GetBaseCellNumbers
+            (ForEach(GetBaseCellNumber))
                 { word: "getBaseCellNumbers", options: with_line_options!() }
-                (each GetBaseCellNumber {})
                 [lists "getBaseCellNumbers          The base cell of each cell"]
                 {
                     about: "The base cell of each cell listed on standard input",
                     notes: notes!(each cell, "h3 getBaseCellNumbers", "cell"),
                     usage: Some("h3 getBaseCellNumbers < cells"),
                 };
-            ArePentagons
+            (ForEach(IsPentagon))
                 { word: "arePentagons", options: with_line_options!() }
-                (each IsPentagon {})
                 [lists "arePentagons                Whether each cell is a pentagon"]
                 {
                     about: "Whether each cell listed on standard input is a pentagon",
                     notes: notes!(each cell, "h3 arePentagons", "cell"),
                     usage: Some("h3 arePentagons < cells"),
                 };
-            AreResClassIII
+            (ForEach(IsResClassIII))
                 { word: "areResClassIII", options: with_line_options!() }
-                (each IsResClassIII {})
                 [lists "areResClassIII              Whether the resolution of each cell is Class III"]
                 {
                     about: "Whether the resolution of each cell listed on standard input is Class III",
                     notes: notes!(each cell, "h3 areResClassIII", "cell"),
                     usage: Some("h3 areResClassIII < cells"),
                 };
-            CellsToParents
+            (ForEach(CellToParent { res }))
                 { word: "cellsToParents", options: with_line_options!(Resolution) }
-                (each CellToParent { res })
                 [lists "cellsToParents              The ancestor of each cell at a resolution"]
                 {
                     about: "The ancestor at a resolution of each cell listed on standard input",
@@ -643,90 +601,80 @@ macro_rules! commands {
                     ),
                     usage: Some("h3 cellsToParents --resolution <resolution> < cells"),
                 };
-            CellsToCenterChildren
+            (ForEach(CellToCenterChild { res }))
                 { word: "cellsToCenterChildren", options: with_line_options!(Resolution) }
-                (each CellToCenterChild { res })
                 [lists "cellsToCenterChildren       The center descendant of each cell"]
                 {
                     about: "The center descendant at a resolution of each cell listed on standard input",
                     notes: notes!(each descendants, "h3 cellsToCenterChildren -r 6", "cell"),
                     usage: Some("h3 cellsToCenterChildren --resolution <resolution> < cells"),
                 };
-            CellsToLastChildren
+            (ForEach(CellToLastChild { res }))
                 { word: "cellsToLastChildren", options: with_line_options!(Resolution) }
-                (each CellToLastChild { res })
                 [lists "cellsToLastChildren         The last descendant of each cell"]
                 {
                     about: "The last descendant at a resolution of each cell listed on standard input",
                     notes: notes!(each descendants, "h3 cellsToLastChildren -r 6", "cell"),
                     usage: Some("h3 cellsToLastChildren --resolution <resolution> < cells"),
                 };
-            CellsToChildren
+            (CellsToChildren { res })
                 { word: "cellsToChildren", options: with_line_options!(Resolution) }
-                (CellsToChildren { res })
                 [lists "cellsToChildren             The descendants of each cell at a resolution"]
                 {
                     about: "The descendants at a resolution of each cell listed on standard input, ascending",
                     notes: notes!(several descendants, "h3 cellsToChildren -r 6", "cell"),
                     usage: Some("h3 cellsToChildren --resolution <resolution> < cells"),
                 };
-            CellsToChildrenSizes
+            (ForEach(CellToChildrenSize { res }))
                 { word: "cellsToChildrenSizes", options: with_line_options!(Resolution) }
-                (each CellToChildrenSize { res })
                 [lists "cellsToChildrenSizes        How many descendants each cell has"]
                 {
                     about: "How many descendants at a resolution each cell listed on standard input has",
                     notes: notes!(each descendants, "h3 cellsToChildrenSizes -r 6", "cell"),
                     usage: Some("h3 cellsToChildrenSizes --resolution <resolution> < cells"),
                 };
-            CellsToChildPositions
+            (ForEach(CellToChildPos { res }))
                 { word: "cellsToChildPositions", options: with_line_options!(Resolution) }
-                (each CellToChildPos { res })
                 [lists "cellsToChildPositions       The position of each cell below an ancestor"]
                 {
                     about: "The position of each cell listed on standard input among the descendants of its ancestor at a resolution",
                     notes: notes!(each ancestor, "h3 cellsToChildPositions -r 4", "cell"),
                     usage: Some("h3 cellsToChildPositions --resolution <resolution> < cells"),
                 };
-            GridDisksUnsafe
+            (GridDisksUnsafe { k })
                 { word: "gridDisksUnsafe", options: with_line_options!(Radius, Table) }
-                (GridDisksUnsafe { k })
                 [lists "gridDisksUnsafe             The cells within a radius of each cell"]
                 {
                     about: "The cells within a radius of each cell listed on standard input, ring by ring",
                     notes: notes!(several walks, "h3 gridDisksUnsafe -k 1 --table h3.csv", "cell"),
                     usage: Some("h3 gridDisksUnsafe -k <k> --table <table> < cells"),
                 };
-            GridDisksDistancesUnsafe
+            (GridDisksDistancesUnsafe { k })
                 { word: "gridDisksDistancesUnsafe", options: with_line_options!(Radius, Table) }
-                (GridDisksDistancesUnsafe { k })
                 [lists "gridDisksDistancesUnsafe    The same, each with the number of its ring"]
                 {
                     about: "The cells within a radius of each cell on standard input, each with its ring",
                     notes: notes!(several walks, "h3 gridDisksDistancesUnsafe -k 1 --table h3.csv", "cell"),
                     usage: Some("h3 gridDisksDistancesUnsafe -k <k> --table <table> < cells"),
                 };
-            GridRingsUnsafe
+            (GridRingsUnsafe { k })
                 { word: "gridRingsUnsafe", options: with_line_options!(Radius, Table) }
-                (GridRingsUnsafe { k })
                 [lists "gridRingsUnsafe             The cells of the ring of a radius around each cell"]
                 {
                     about: "The cells of the ring of a radius around each cell listed on standard input",
                     notes: notes!(several walks, "h3 gridRingsUnsafe -k 1 --table h3.csv", "cell"),
                     usage: Some("h3 gridRingsUnsafe -k <k> --table <table> < cells"),
                 };
-            GetDirectedEdgeOrigins
+            (ForEach(GetDirectedEdgeOrigin))
                 { word: "getDirectedEdgeOrigins", options: with_line_options!() }
-                (each GetDirectedEdgeOrigin {})
                 [lists "getDirectedEdgeOrigins      The cell that each directed edge leaves"]
                 {
                     about: "The cell that each directed edge listed on standard input leaves",
                     notes: notes!(each edge, "h3 getDirectedEdgeOrigins", "edge"),
                     usage: Some("h3 getDirectedEdgeOrigins < edges"),
                 };
-            GetDirectedEdgeDestinations
+            (GetDirectedEdgeDestinations)
                 { word: "getDirectedEdgeDestinations", options: with_line_options!(Table) }
-                (GetDirectedEdgeDestinations {})
                 [lists "getDirectedEdgeDestinations The cell that each directed edge leads to"]
                 {
                     about: "The cell that each directed edge listed on standard input leads to",
@@ -737,9 +685,8 @@ macro_rules! commands {
                     ),
                     usage: Some("h3 getDirectedEdgeDestinations --table <table> < edges"),
                 };
-            OriginsToDirectedEdges
+            (ForEach(OriginToDirectedEdges))
                 { word: "originsToDirectedEdges", options: with_line_options!() }
-                (each OriginToDirectedEdges {})
                 [lists "originsToDirectedEdges      The directed edges that leave each cell"]
                 {
                     about: "The directed edges that leave each cell listed on standard input",
@@ -752,37 +699,85 @@ macro_rules! commands {
 
 pub(crate) use commands;
 
-// The entry of the command that is this name.
-macro_rules! entry_of_name {
-    ($value:ident; $($name:ident { $($entry:tt)* } $asked:tt $line:tt $texts:tt;)*) => {
+// A value that counts for nothing, for a field of a `Command`.
+macro_rules! blank {
+    (cell) => {
+        None
+    };
+    (to) => {
+        None
+    };
+    (edge) => {
+        None
+    };
+    (res) => {
+        0
+    };
+    (k) => {
+        0
+    };
+    (position) => {
+        0
+    };
+}
+
+// The commands of all rows, with blank values.
+macro_rules! blank_commands {
+    ($(
+        ($command:ident $({ $($field:ident),* })? $(($function:ident $({ $($given:ident),* })?))?)
+        $entry:tt $line:tt $texts:tt;
+    )*) => {
+        &[$(
+            Command::$command
+                $({ $($field: blank!($field)),* })?
+                $((IndexFunction::$function $({ $($given: blank!($given)),* })?))?
+        ),*]
+    };
+}
+
+/// A command of each name, in the order of their table. It stands for all commands of that name: its
+/// values are blank.
+pub(crate) static COMMANDS: &[Command] = commands!(blank_commands!);
+
+// The entry of a command.
+macro_rules! entry_of_command {
+    ($value:ident; $(
+        ($command:ident $({ $($field:ident),* })? $(($function:ident $({ $($given:ident),* })?))?)
+        { $($entry:tt)* } $line:tt $texts:tt;
+    )*) => {
         match $value {
-            $(CommandName::$name => Entry { $($entry)* }),*
+            $(Command::$command
+                $({ $($field: _),* })?
+                $((IndexFunction::$function $({ $($given: _),* })?))? => Entry { $($entry)* }),*
         }
     };
 }
 
-// What help says of the command that is this name.
-macro_rules! texts_of_name {
-    ($value:ident; $($name:ident $entry:tt $asked:tt $line:tt { $($texts:tt)* };)*) => {
+// What help says of a command.
+macro_rules! texts_of_command {
+    ($value:ident; $(
+        ($command:ident $({ $($field:ident),* })? $(($function:ident $({ $($given:ident),* })?))?)
+        $entry:tt $line:tt { $($texts:tt)* };
+    )*) => {
         match $value {
-            $(CommandName::$name => HelpTexts { $($texts)* }),*
+            $(Command::$command
+                $({ $($field: _),* })?
+                $((IndexFunction::$function $({ $($given: _),* })?))? => HelpTexts { $($texts)* }),*
         }
     };
 }
 
-impl CommandName {
-    /// The command's word and options, as its row of the table has them.
-    pub(crate) fn entry<'a>(self) -> Entry<'a>
-        ensures { record {
-          word = result.word.now;
-          options = result.options.now;
-        } ≡ entry_of self }
-    {
-        commands!(entry_of_name! self;)
-    }
+/// A command's word and options, as its row of the table has them.
+pub(crate) fn entry_of<'a>(command: Command) -> Entry<'a>
+    ensures { record {
+      word = result.word.now;
+      options = result.options.now;
+    } ≡ entry_of command }
+{
+    commands!(entry_of_command! command;)
+}
 
-    /// What help says of the command.
-    pub(crate) fn texts<'a>(self) -> HelpTexts<'a> {
-        commands!(texts_of_name! self;)
-    }
+/// What help says of a command.
+pub(crate) fn texts<'a>(command: Command) -> HelpTexts<'a> {
+    commands!(texts_of_command! command;)
 }

@@ -11,9 +11,11 @@ ghost use Rattle.h3_words.specs.Values.{AsksFor};
 ghost use Rattle.h3_words.specs.Version.{asks_version};
 ghost use Rattle.h3_words.specs.declared.words.ArgsError.TheVariants.{Memory, Version};
 
-use crate::commands::{COMMAND_NAMES, CommandName, command_line};
+use crate::commands::{command_line, file, filled, named_by};
+use crate::help::list_usage;
 use crate::options::{CommandFile, OPTIONS};
 use crate::rows::{row_options, rows_agree, rows_fault};
+use crate::table::COMMANDS;
 use clap::error::ErrorKind;
 use h3_requests::{Command, RowOptions};
 use std::alloc::{AllocError, Global};
@@ -60,7 +62,7 @@ impl ArgsError {
     fn from_parse(
         alloc: Global,
         error: clap::Error,
-        names: &[CommandName],
+        commands: &[Command],
         words: &[String],
     ) -> ArgsError
         ensures { IsReportedAs (kind_of error) result }
@@ -68,7 +70,7 @@ impl ArgsError {
         if error.kind() == ErrorKind::OutOfMemory {
             return ArgsError::Memory;
         }
-        match text_of(alloc, &error, names, words) {
+        match text_of(alloc, &error, commands, words) {
             Ok(text) => match error.kind() {
                 ErrorKind::DisplayHelp => ArgsError::Help(text),
                 _ => ArgsError::Usage(text),
@@ -114,12 +116,12 @@ fn with_negatives_joined(alloc: Global, words: &[String]) -> Result<Vec<String>,
 fn text_of(
     alloc: Global,
     error: &clap::Error,
-    names: &[CommandName],
+    commands: &[Command],
     words: &[String],
 ) -> Result<String, AllocError> {
     if error.kind() == ErrorKind::UnknownArgument {
         let joined = with_negatives_joined(alloc, words)?;
-        let parser = command_line(alloc, names)?;
+        let parser = command_line(alloc, commands)?;
         if let Err(of_number) = parser.try_get_matches_from(joined.as_slice()) {
             match of_number.kind() {
                 ErrorKind::ValueValidation => return format!(in alloc; "{of_number}"),
@@ -142,10 +144,10 @@ fn asks_for_version(words: &[String]) -> bool
 }
 
 /// The command that the word after the program's name names.
-fn named_command(words: &[String]) -> Option<CommandName>
+fn named_command(words: &[String]) -> Option<Command>
     ensures { result ≡ command_of (map string_bytes words.now) }
 {
-    CommandName::named_by(words.get(1)?.as_str())
+    named_by(words.get(1)?.as_str())
 }
 
 /// Why the words, of which the second names no command, ask for none.
@@ -153,20 +155,20 @@ fn without_command(alloc: Global, words: &[String]) -> ArgsError
     requires unnamed { command_of (map string_bytes words.now) ≡ None }
     ensures { IsFaultOf (fault_of app (map string_bytes words.now)) result }
 {
-    let parser = match command_line(alloc, COMMAND_NAMES) {
+    let parser = match command_line(alloc, COMMANDS) {
         Ok(parser) => parser,
         Err(_) => return ArgsError::Memory,
     };
     match parser.try_get_matches_from(words) {
         Ok(_) => unreachable!(),
-        Err(error) => ArgsError::from_parse(alloc, error, COMMAND_NAMES, words),
+        Err(error) => ArgsError::from_parse(alloc, error, COMMANDS, words),
     }
 }
 
 /// Parses the words of the command, which the second of them names. `clap` is given no other
 /// command: it would look at none, and what it builds of all takes most of a call's time.
-fn parse_command(alloc: Global, name: CommandName, words: &[String]) -> Result<Words, ArgsError>
-    requires named { command_of (map string_bytes words.now) ≡ Some name }
+fn parse_command(alloc: Global, command: Command, words: &[String]) -> Result<Words, ArgsError>
+    requires named { command_of (map string_bytes words.now) ≡ Some command }
     ensures read { IfOk result (AsksFor (map string_bytes words.now)) }
     ensures accepted { OnOk result (fault_of app (map string_bytes words.now) ≡ []) }
     ensures agreed { OnOk result
@@ -175,20 +177,20 @@ fn parse_command(alloc: Global, name: CommandName, words: &[String]) -> Result<W
         → IfErr result (λ fault. fault ≡ Memory) }
     ensures faults { IfErr result (IsRefusalOf (map string_bytes words.now)) }
 {
-    let parser = command_line(alloc, &[name])?;
+    let parser = command_line(alloc, &[command])?;
     let matches = match parser.try_get_matches_from(words) {
         Ok(matches) => matches,
-        Err(error) => return Err(ArgsError::from_parse(alloc, error, &[name], words)),
+        Err(error) => return Err(ArgsError::from_parse(alloc, error, &[command], words)),
     };
     let Some((_, inner)) = matches.subcommand() else {
         unreachable!()
     };
     if !rows_agree(inner) {
-        return Err(ArgsError::Usage(rows_fault(alloc, name.list_usage(), inner)?));
+        return Err(ArgsError::Usage(rows_fault(alloc, list_usage(command), inner)?));
     }
     Ok(Words {
-        command: name.command(inner),
-        file: name.file(alloc, inner)?,
+        command: filled(command, inner),
+        file: file(alloc, command, inner)?,
         rows: row_options(alloc, inner)?,
     })
 }

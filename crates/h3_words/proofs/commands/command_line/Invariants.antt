@@ -4,5 +4,5 @@ use Rattle.clap.specs.Words.{app_of}
 use Rattle.h3_words.proofs.Building.{bare_app, with_command}
 use Rattle.h3_words.proofs.commands.command_line.Given as goal
 
-abbrev pub invariant-loop-name : goal.invariant-loop-name
-invariant-loop-name l = app_of l.parser ≡ fold with_command bare_app (take l.name-index l.fn.names)
+abbrev pub invariant-loop-command : goal.invariant-loop-command
+invariant-loop-command l = app_of l.parser ≡ fold with_command bare_app (take l.command-index l.fn.commands)

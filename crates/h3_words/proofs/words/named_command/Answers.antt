@@ -3,13 +3,13 @@ use Rattle.std.specs.Prelude.{find, option_and_then, option_map, slice_get, stri
 use Rattle.std.specs.Str.{bytes_eq}
 use Rattle.std.proofs.lemmas.Option.{slice_get-map, slice_get_read}
 use Rattle.clap.specs.Words.{Text}
-use Rattle.h3_words.specs.Commands.{command_names, command_of, word_of}
-use Rattle.h3_words.specs.declared.commands.CommandName.{CommandName}
+use Rattle.h3_words.specs.Commands.{commands, command_of, word_of}
+use Rattle.h3_requests.specs.declared.command.Command.{Command}
 use Rattle.h3_words.proofs.words.named_command.Goals as goal
 
 -- the command that has this word
-abbrev by_word : Text → Option CommandName
-by_word word = find (λ k. bytes_eq (word_of k) word) command_names
+abbrev by_word : Text → Option Command
+by_word word = find (λ k. bytes_eq (word_of k) word) commands
 
 -- what the second of the words names
 second : {A : Type 0} (v : A → Text) (xs : List A) (found : Option A) → slice_get xs 1 ≡ found → command_of (map v xs) ≡ option_and_then by_word (option_map v found)

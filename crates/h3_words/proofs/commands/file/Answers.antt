@@ -3,20 +3,20 @@ use Rattle.std.specs.Prelude.{option_map, string_bytes}
 use Rattle.h3_words.proofs.Values.{named_by_path, no_path}
 use Rattle.h3_words.specs.Values.{HasPath}
 use Rattle.h3_words.specs.declared.options.CommandOption.TheVariants.{Table, Region, Zones}
-use Rattle.h3_words.proofs.commands.CommandName.file.Goals as goal
+use Rattle.h3_words.proofs.commands.file.Goals as goal
 
 none : {A : Type 0} (o : Option A) → ((x : A) → o ≡ Some x → ⊥) → o ≡ None
 none None other = refl
 none (Some x) other = absurd (other x refl)
 
 pub returns-in-Some : goal.returns-in-Some
-returns-in-Some c = λ text found. named_by_path _ _ _ (subst (λ o. HasPath text c.args.self Table (option_map string_bytes o)) c.in-Some.is (c.in_ok-path.ensures text found))
+returns-in-Some c = λ text found. named_by_path _ _ _ (subst (λ o. HasPath text c.args.command Table (option_map string_bytes o)) c.in-Some.is (c.in_ok-path.ensures text found))
 
 pub returns-in-Some-2 : goal.returns-in-Some-2
-returns-in-Some-2 c = λ text found. named_by_path _ _ _ (subst (λ o. HasPath text c.args.self Region (option_map string_bytes o)) c.in-Some-2.is (c.in_ok-path-2.ensures text found))
+returns-in-Some-2 c = λ text found. named_by_path _ _ _ (subst (λ o. HasPath text c.args.command Region (option_map string_bytes o)) c.in-Some-2.is (c.in_ok-path-2.ensures text found))
 
 pub returns-in-Some-3 : goal.returns-in-Some-3
-returns-in-Some-3 c = λ text found. named_by_path _ _ _ (subst (λ o. HasPath text c.args.self Zones (option_map string_bytes o)) c.in-Some-3.is (c.in_ok-path-3.ensures text found))
+returns-in-Some-3 c = λ text found. named_by_path _ _ _ (subst (λ o. HasPath text c.args.command Zones (option_map string_bytes o)) c.in-Some-3.is (c.in_ok-path-3.ensures text found))
 
 pub returns-in-None : goal.returns-in-None
 returns-in-None c = λ text found. (

@@ -3,7 +3,7 @@ use Rattle.clap.specs.Words.{App, with_rule}
 use Rattle.h3_words.specs.Commands.{leaf_with, word_of}
 use Rattle.h3_words.specs.declared.options.CommandOption.TheVariants.{Cell}
 use Rattle.h3_words.proofs.Building.{leaf_more}
-use Rattle.h3_words.proofs.commands.CommandName.parser.Goals as goal
+use Rattle.h3_words.proofs.commands.parser_of.Goals as goal
 
 pub loop-option-init : goal.loop-option-init
 loop-option-init c = (c.described-parser.ensures.app, c.described-parser.ensures.local)
@@ -18,4 +18,4 @@ loop-option-preserved c =
 
 pub returns-clause-shape : goal.returns-clause-shape
 returns-clause-shape c =
-    ap (λ (a : App). a.top) c.loop-option.invariant.0 ∙ ap (leaf_with (word_of c.args.self)) (take_all _ _ c.loop-option-test.false ∙ c.options-option-items.ensures)
+    ap (λ (a : App). a.top) c.loop-option.invariant.0 ∙ ap (leaf_with (word_of c.args.command)) (take_all _ _ c.loop-option-test.false ∙ c.options-option-items.ensures)
