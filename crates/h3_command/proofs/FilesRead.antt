@@ -1,11 +1,9 @@
 -- How a file of cells is read.
-use Rattle.std.proofs.Common.{◌≡◌, ◌^◌, List, None, Some, Err, ap, sym, ◌∙◌, refl, subst}
+use Rattle.std.proofs.Common.{◌≡◌, ◌^◌, List, Err, ap, sym, refl, subst}
 use Rattle.h3_index.specs.Cell.{Address}
-use Rattle.h3_index.specs.declared.error.H3Error.{H3Error}
 use Rattle.h3_lines.specs.Numbered.{faulty_line}
-use Rattle.h3_lines.specs.ListRead.{ListRead, ListRefused, RefusesByLine}
+use Rattle.h3_lines.specs.ListRead.{ListRefused, RefusesByLine}
 use Rattle.h3_lines.specs.Reads.{SourceUse}
-use Rattle.h3_lines.specs.declared.run_error.AnswerError.TheVariants.{File}
 use Rattle.h3_lines.specs.declared.run_error.CellFile.{CellFile}
 use Rattle.h3_lines.specs.declared.run_error.CellFile.TheVariants.{Region, Zones}
 use Rattle.h3_lines.specs.declared.run_error.Fault.TheVariants.{Memory, Read, Write}
@@ -13,8 +11,8 @@ use Rattle.h3_lines.specs.declared.run_error.RunError.{RunError}
 use Rattle.h3_lines.specs.declared.run_error.RunError.TheVariants.{Error, Fault}
 use Rattle.h3_regions.specs.Zones.{IsZones}
 use Rattle.h3_command.specs.Combination.{AreArranged, in_file}
-use Rattle.h3_command.specs.Files.{file_error, judged_cells, unless_error}
-use Rattle.h3_command.specs.Run.{GivesFile, RefusesFile}
+use Rattle.h3_command.specs.Files.{judged_cells}
+use Rattle.h3_command.specs.Run.{RefusesFile}
 
 -- one with a faulty line, or that is not read to its end
 pub file_refused : (kind : CellFile) (file : SourceUse) (e : RunError) (told : ListRefused RefusesByLine (2 ^ 40) 65536 file e) → RefusesFile kind told.list file (Err (in_file kind e))

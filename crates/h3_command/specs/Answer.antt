@@ -16,7 +16,7 @@ use Rattle.h3_lines.specs.declared.run_error.CellFile.TheVariants.{Region, Zones
 use Rattle.h3_functions.specs.Edges.{are_neighbor_cells, cells_to_directed_edge, get_directed_edge_destination, origin_to_directed_edges, pair_of}
 use Rattle.h3_functions.specs.Hierarchy.{cell_to_children, child_pos_to_cell}
 use Rattle.h3_functions.specs.Inspection.{for_value}
-use Rattle.h3_functions.specs.Outcome.{outcome_of}
+use Rattle.h3_functions.specs.Outcome.{function_name, outcome_of}
 use Rattle.h3_functions.specs.declared.outcome.Outcome.{Outcome}
 use Rattle.h3_functions.specs.declared.outcome.Outcome.TheVariants.{Cell, Count, Edges, Number, Truth}
 use Rattle.h3_functions.specs.Resolutions.{get_num_cells, get_pentagons, get_res0_cells}
@@ -35,7 +35,7 @@ use Rattle.h3_requests.specs.declared.rows.RowOptions.{RowOptions}
 use Rattle.h3_lines.specs.Pieces.{rows_of}
 use Rattle.h3_rows.specs.Cells.{cells_of}
 use Rattle.h3_rows.specs.RowsAnswer.{Form}
-use Rattle.h3_command.specs.Rows.{function_name, list_form, listed_answer, pair_form, rows_form}
+use Rattle.h3_command.specs.Rows.{list_form, listed_answer, pair_form, rows_form}
 
 -- Request: what a command reads and writes: an answer that its words alone fix, one about the cells listed on standard input,
 -- also with the number of a faulty line, one for each line of it, or one about the links of a base cell table; or one about

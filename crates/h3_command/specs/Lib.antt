@@ -6,7 +6,6 @@ pub mod EdgeExamples
 pub mod Examples
 pub mod FileQuery
 pub mod Files
-pub mod ListQuery
 pub mod Listed
 pub mod Long
 pub mod LongAnswers
@@ -20,4 +19,3 @@ pub mod TableLines
 pub mod TableLists
 pub mod TableQuery
 pub mod WordsQuery
-pub mod Work

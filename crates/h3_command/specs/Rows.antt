@@ -1,30 +1,12 @@
 -- Lists, bare or of rows: answered line by line, where each row is written with the answer to its own cell beside it, or by
 -- their cells as a whole.
-use Rattle.std.specs.Prelude.{ℕ, List, [], Option, None, Some, codes, option_map}
+use Rattle.std.specs.Prelude.{ℕ, List, [], Option, None, Some, option_map}
 use Rattle.h3_lines.specs.Answer.{Answer}
 use Rattle.h3_lines.specs.EachLine.{list_answer}
-use Rattle.h3_requests.specs.declared.command.IndexFunction.{IndexFunction}
-use Rattle.h3_requests.specs.declared.command.IndexFunction.TheVariants as each
 use Rattle.h3_requests.specs.declared.rows.RowOptions.{RowOptions}
 use Rattle.h3_rows.specs.RowForm.{form_of, pair_form_of}
 use Rattle.h3_rows.specs.RowsAnswer.{Form}
 use Rattle.h3_rows.specs.RowsAnswer.{list_answer as row_answers}
-
--- function_name function: the name of H3's function, which the new column of rows has in a header
-abbrev pub function_name : IndexFunction → List ℕ
-function_name each.IsValidCell = codes "isValidCell"
-function_name each.IsValidDirectedEdge = codes "isValidDirectedEdge"
-function_name each.GetResolution = codes "getResolution"
-function_name each.GetBaseCellNumber = codes "getBaseCellNumber"
-function_name each.IsPentagon = codes "isPentagon"
-function_name each.IsResClassIII = codes "isResClassIII"
-function_name (each.CellToParent res) = codes "cellToParent"
-function_name (each.CellToCenterChild res) = codes "cellToCenterChild"
-function_name (each.CellToLastChild res) = codes "cellToLastChild"
-function_name (each.CellToChildrenSize res) = codes "cellToChildrenSize"
-function_name (each.CellToChildPos res) = codes "cellToChildPos"
-function_name each.GetDirectedEdgeOrigin = codes "getDirectedEdgeOrigin"
-function_name each.OriginToDirectedEdges = codes "originToDirectedEdges"
 
 -- rows_form rows name: the form of a list's rows, if it has rows, where the new column has this name unless another is given
 abbrev pub rows_form : Option RowOptions → List ℕ → Option Form

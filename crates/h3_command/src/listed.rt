@@ -84,6 +84,8 @@ pub(crate) trait ListFunction {
 
 /// Writes what a function answers about the cells of a list, or about those of its rows. An error of
 /// either is reported with its line.
+// Inlined, its blocks would take their place on the stack while `perform` runs another command.
+#[inline(never)]
 pub(crate) fn answer_whole_numbered<R: Source, W: Sink, F: ListFunction + Drop>(
     alloc: Global,
     function: F,
@@ -100,6 +102,8 @@ pub(crate) fn answer_whole_numbered<R: Source, W: Sink, F: ListFunction + Drop>(
 }
 
 /// As `answer_whole_numbered`, but an error of a bare list is reported without its line.
+// Inlined, as the one above.
+#[inline(never)]
 pub(crate) fn answer_whole<R: Source, W: Sink, F: ListFunction + Drop>(
     alloc: Global,
     function: F,

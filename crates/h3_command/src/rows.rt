@@ -2,15 +2,15 @@
 //! its own cell beside it.
 
 ghost use Rattle.std.specs.Prelude.{◌≡◌};
+ghost use Rattle.h3_functions.specs.Outcome.{function_name};
 ghost use Rattle.h3_lines.specs.Reads.{source_use};
 ghost use Rattle.h3_lines.specs.Write.{sink_use};
 ghost use Rattle.h3_command.specs.Answer.{answer_for};
 ghost use Rattle.h3_command.specs.LongAnswers.{between_parts};
-ghost use Rattle.h3_command.specs.Rows.{function_name, pair_form, rows_form};
+ghost use Rattle.h3_command.specs.Rows.{pair_form, rows_form};
 ghost use Rattle.h3_command.specs.Run.{EndsLines};
 
-use crate::per_index::AnswerOf;
-use crate::work::index_functions;
+use crate::per_index::{AnswerOf, index_functions};
 use h3_lines::{AnswerLine, LinesFunction, RunError, answer_each, answer_each_lines};
 use h3_requests::{IndexFunction, RowOptions};
 use h3_rows::{answer_rows, answer_rows_lines};

@@ -8,50 +8,87 @@ ghost use Rattle.h3_command.specs.Answer.{reads_list, reads_table, request, requ
 ghost use Rattle.h3_command.specs.Files.{CountsPrintedAddUp};
 ghost use Rattle.h3_command.specs.NewColumns.{AnswersAreWords, RowsStandOnce, WordPairsAreKept, WordPairsAreUncut, WordsAreFields, WordsAreKept};
 ghost use Rattle.h3_command.specs.Run.{Ends, Runs};
-ghost use Rattle.h3_command.specs.Work.{request_of_work};
 
 use crate::children::cells_to_children;
-use crate::file_query::answer_over_file;
+use crate::edges::*;
+use crate::file_query::{FileQuery, answer_over_file};
+use crate::files::Combination;
 use crate::laws::answers_are_fields;
-use crate::list_query::answer_list;
-use crate::per_index::write_answer_for;
+use crate::listed::{answer_whole, answer_whole_numbered};
+use crate::per_index::{index_functions, write_answer_for};
 use crate::rows::answer_function;
-use crate::table_lists::answer_over_table;
+use crate::sets::*;
+use crate::sizes::uncompact_cells_size;
+use crate::table_lists::{TableLines, answer_over_table};
 use crate::table_query::over_table;
-use crate::words_query::write_words_answer;
-use crate::work::{Work, work_of};
+use crate::walks::*;
+use crate::words_query::{WordsQuery, write_words_answer};
 use h3_lines::{RunError, report};
 use h3_regions::laws::counts_add_up;
-use h3_requests::{Command, RowOptions};
+use h3_requests::Command::*;
+use h3_requests::{Command, IndexFunction, RowOptions};
 use h3_rows::laws::answers_stand_beside;
 use h3_streams::{Sink, Source};
 use std::alloc::Global;
 
-/// Does the work of a command, up to the line on standard error.
+// What a command does: a function of one index by its row in the table of these, and any other by its arm.
+macro_rules! perform_command {
+    (
+        $command:ident $out:ident { $($arms:tt)* }
+        $($function:ident { $index:ident $(, $field:ident)* } $name:literal;)*
+    ) => {
+        match *$command {
+            $(Command::$function { $index $(, $field)* } => {
+                write_answer_for(IndexFunction::$function { $($field),* }, $index, $out)
+            })*
+            $($arms)*
+        }
+    };
+}
+
+/// Does what a command asks, up to the line on standard error.
 fn perform<R: Source, T: Source, W: Sink>(
     alloc: Global,
-    work: Work,
+    command: &Command,
     rows: &Option<RowOptions>,
     input: &mut R,
     table: &mut T,
     out: &mut W,
 ) -> Result<(), RunError>
-    ensures ends { Ends (request_of_work rows.now work) (source_use R.left R.has_failed input.old input.new)
+    ensures ends { Ends (request_of rows.now command.now) (source_use R.left R.has_failed input.old input.new)
         (source_use T.left T.has_failed table.old table.new) result
         (sink_use W.taken W.has_failed out.old out.new) }
-    ensures input_kept { reads_list (request_of_work rows.now work) ≡ false → input.new ≡ input.old }
-    ensures table_kept { reads_table (request_of_work rows.now work) ≡ false → table.new ≡ table.old }
+    ensures input_kept { reads_list (request_of rows.now command.now) ≡ false → input.new ≡ input.old }
+    ensures table_kept { reads_table (request_of rows.now command.now) ≡ false → table.new ≡ table.old }
 {
-    match work {
-        Work::Index(function, index) => write_answer_for(function, index, out),
-        Work::Words(query) => write_words_answer(query, out),
-        Work::List(query) => answer_list(alloc, query, rows, input, out),
-        Work::File(query) => answer_over_file(alloc, query, rows, input, table, out),
-        Work::Table(query) => over_table(alloc, query, table, out),
-        Work::EachIndex(function) => answer_function(alloc, rows, function, input, out),
-        Work::EachChildren { res } => cells_to_children(alloc, res, rows, input, out),
-        Work::EachOverTable(lines) => answer_over_table(alloc, lines, rows, input, table, out),
-    }
+    index_functions!(perform_command! command out {
+        GetNumCells { res } => write_words_answer(WordsQuery::NumCells { res }, out),
+        GetRes0Cells => write_words_answer(WordsQuery::Res0Cells, out),
+        GetPentagons { res } => write_words_answer(WordsQuery::Pentagons { res }, out),
+        CellToChildren { cell, res } => write_words_answer(WordsQuery::Children { cell, res }, out),
+        ChildPosToCell { position, cell, res } => write_words_answer(WordsQuery::ChildAt { position, cell, res }, out),
+        ForEach(function) => answer_function(alloc, rows, function, input, out),
+        CellsToChildren { res } => cells_to_children(alloc, res, rows, input, out),
+        CompactCells => answer_whole(alloc, CompactList, rows, input, out),
+        UncompactCells { res } => answer_whole(alloc, UncompactList { res }, rows, input, out),
+        UncompactCellsSize { res } => uncompact_cells_size(alloc, res, rows, input, out),
+        UniteCells => answer_whole_numbered(alloc, UniteList, rows, input, out),
+        IntersectCells => answer_over_file(alloc, FileQuery::Combined(Combination::Shared), rows, input, table, out),
+        SubtractCells => answer_over_file(alloc, FileQuery::Combined(Combination::Left), rows, input, table, out),
+        AreCoveredCells => answer_over_file(alloc, FileQuery::Covered, rows, input, table, out),
+        CellsToZones => answer_over_file(alloc, FileQuery::Zones, rows, input, table, out),
+        CountCellsInZones => answer_over_file(alloc, FileQuery::Counts, rows, input, table, out),
+        GridDiskUnsafe { cell, k } => over_table(alloc, grid_disk_unsafe(cell, k), table, out),
+        GridDiskDistancesUnsafe { cell, k } => over_table(alloc, grid_disk_distances_unsafe(cell, k), table, out),
+        GridRingUnsafe { cell, k } => over_table(alloc, grid_ring_unsafe(cell, k), table, out),
+        AreNeighborCells { cell, to } => over_table(alloc, are_neighbor_cells(cell, to), table, out),
+        CellsToDirectedEdge { cell, to } => over_table(alloc, cells_to_directed_edge(cell, to), table, out),
+        GetDirectedEdgeDestination { edge } => over_table(alloc, get_directed_edge_destination(edge), table, out),
+        GridDisksUnsafe { k } => answer_over_table(alloc, TableLines::Disk { k }, rows, input, table, out),
+        GridDisksDistancesUnsafe { k } => answer_over_table(alloc, TableLines::DiskDistances { k }, rows, input, table, out),
+        GridRingsUnsafe { k } => answer_over_table(alloc, TableLines::Ring { k }, rows, input, table, out),
+        GetDirectedEdgeDestinations => answer_over_table(alloc, TableLines::Destination, rows, input, table, out),
+    })
 }
 
 /// Runs a command, as `run` does, over a list that has rows, if it is said how they are read and
@@ -104,7 +141,7 @@ pub fn run_over<R: Source, T: Source, W: Sink, E: Sink>(
     counts_add_up();
     answers_stand_beside();
     answers_are_fields();
-    let ending = perform(alloc, work_of(command), rows, input, table, out);
+    let ending = perform(alloc, command, rows, input, table, out);
     report(err, ending)
 }
 

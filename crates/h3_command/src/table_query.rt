@@ -108,7 +108,7 @@ fn write_query<W: Sink>(table: &BaseTable, query: TableQuery, out: &mut W) -> Re
 }
 
 /// Reads the table and writes what the words ask of it, or returns their error.
-// Inlined, its blocks would take their place on the stack while `perform` runs another kind.
+// Inlined, its blocks would take their place on the stack while `perform` runs another command.
 #[inline(never)]
 pub(crate) fn over_table<T: Source, W: Sink>(
     alloc: Global,
