@@ -8,7 +8,7 @@ use Rattle.h3_functions.specs.Inspection as inspection
 use Rattle.h3_functions.specs.declared.outcome.Outcome.{Outcome}
 use Rattle.h3_functions.specs.declared.outcome.Outcome.TheVariants.{Cell, Count, Edges, Number, Truth}
 
--- a function of one index: its name in H3, and what it returns for an index, by its kind
+-- a function of one index: its name, and what it returns for an index, by its kind
 pub record Function : Type 0 where
   pub name : List ℕ
   pub outcome : ℕ → Outcome

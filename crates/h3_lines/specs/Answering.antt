@@ -34,7 +34,7 @@ TakesSome sink bytes = SomeBeginning (λ part. Appends sink.before sink.after pa
 abbrev pub Breaks : List ℕ → SinkUse → RunError → Type 0
 Breaks all sink e = (e ≡ Fault Write) × (0 < length all) × TakesSome sink all
 
--- FailsPush bytes sink e: a push fails, and a beginning of these bytes is taken
+-- a push fails, and a beginning of these bytes is taken; private contracts alone cite it
 abbrev pub FailsPush : List ℕ → SinkUse → RunError → Type 0
 FailsPush all sink e = (e ≡ Fault Write) × (0 < length all) × AppendsPart sink.before sink.after all × (sink.has_failed ≡ true)
 

@@ -1,5 +1,5 @@
 -- The commands, and the command line that is given to `clap`.
-use Rattle.std.specs.Prelude.{Bool, ℕ, ℤ, pos, List, [], ◌∷◌, ◌++◌, Option, map, find, slice_get, option_and_then, true, codes}
+use Rattle.std.specs.Prelude.{Bool, ℕ, ℤ, pos, List, [], ◌∷◌, ◌++◌, Option, None, map, find, slice_get, option_and_then, true, codes}
 use Rattle.std.specs.List.{list_any}
 use Rattle.std.specs.Str.{bytes_eq}
 use Rattle.clap.specs.Words.{App, Shape, Text}
@@ -11,12 +11,62 @@ use Rattle.h3_requests.specs.declared.command.Command.{Command}
 use Rattle.h3_requests.specs.declared.command.Command.TheVariants as command
 use Rattle.h3_words.specs.declared.options.CommandOption.{CommandOption}
 use Rattle.h3_words.specs.declared.options.CommandOption.TheVariants as option
-use Rattle.h3_words.specs.declared.table.TheConstants.{COMMANDS}
 
--- commands: a command of each name, in the order in which `clap` is given them; their values count for nothing. It is the
--- list of the program, and the clause `taken` of `read_words` shows that no command is missing from it.
+-- commands: a command of each name, with blank values, in the order in which `clap` is given them
 abbrev pub commands : List Command
-commands = COMMANDS.now
+commands =
+    command.IsValidCell None ∷
+    command.GetResolution None ∷
+    command.GetBaseCellNumber None ∷
+    command.IsPentagon None ∷
+    command.IsResClassIII None ∷
+    command.GetNumCells (pos 0) ∷
+    command.GetRes0Cells ∷
+    command.GetPentagons (pos 0) ∷
+    command.CellToParent None (pos 0) ∷
+    command.CellToCenterChild None (pos 0) ∷
+    command.CellToLastChild None (pos 0) ∷
+    command.CellToChildren None (pos 0) ∷
+    command.CellToChildrenSize None (pos 0) ∷
+    command.CellToChildPos None (pos 0) ∷
+    command.ChildPosToCell 0 None (pos 0) ∷
+    command.CompactCells ∷
+    command.UncompactCells (pos 0) ∷
+    command.UncompactCellsSize (pos 0) ∷
+    command.UniteCells ∷
+    command.IntersectCells ∷
+    command.SubtractCells ∷
+    command.AreCoveredCells ∷
+    command.CellsToZones ∷
+    command.CountCellsInZones ∷
+    command.GridDiskUnsafe None (pos 0) ∷
+    command.GridDiskDistancesUnsafe None (pos 0) ∷
+    command.GridRingUnsafe None (pos 0) ∷
+    command.AreNeighborCells None None ∷
+    command.CellsToDirectedEdge None None ∷
+    command.IsValidDirectedEdge None ∷
+    command.GetDirectedEdgeOrigin None ∷
+    command.GetDirectedEdgeDestination None ∷
+    command.OriginToDirectedEdges None ∷
+    command.ForEach each.IsValidCell ∷
+    command.ForEach each.IsValidDirectedEdge ∷
+    command.ForEach each.GetResolution ∷
+    command.ForEach each.GetBaseCellNumber ∷
+    command.ForEach each.IsPentagon ∷
+    command.ForEach each.IsResClassIII ∷
+    command.ForEach (each.CellToParent (pos 0)) ∷
+    command.ForEach (each.CellToCenterChild (pos 0)) ∷
+    command.ForEach (each.CellToLastChild (pos 0)) ∷
+    command.CellsToChildren (pos 0) ∷
+    command.ForEach (each.CellToChildrenSize (pos 0)) ∷
+    command.ForEach (each.CellToChildPos (pos 0)) ∷
+    command.GridDisksUnsafe (pos 0) ∷
+    command.GridDisksDistancesUnsafe (pos 0) ∷
+    command.GridRingsUnsafe (pos 0) ∷
+    command.ForEach each.GetDirectedEdgeOrigin ∷
+    command.GetDirectedEdgeDestinations ∷
+    command.ForEach each.OriginToDirectedEdges ∷
+    []
 
 -- the value that a command has for an option: an index or none, or a number
 pub data Value : Type 0 where
@@ -148,6 +198,6 @@ app_with ks = record {
 abbrev pub app : App
 app = app_with commands
 
--- command_of words: the command that the word after the program's name names, if it names one
+-- command_of words: the command that the word after the program's name names, if it names one, with blank values
 abbrev pub command_of : List Text → Option Command
 command_of words = option_and_then (λ word. find (λ k. bytes_eq (word_of k) word) commands) (slice_get words 1)

@@ -1,5 +1,6 @@
 pub mod Call
 pub mod Commands
+mod Examples
 pub mod Faults
 pub mod Given
 pub mod Options

@@ -52,8 +52,8 @@ AreRead k found (v ∷ vs) =
 abbrev pub HasPath : (CommandOption → Option Text) → Command → CommandOption → Option Text → Type 0
 HasPath text k o path = MatchBool (has_option k o) (path ≡ text o) (path ≡ None)
 
--- HasFile text name file: a file is that of an option which the command has, at the path that is the option's text; where there is none, the
--- command has no option for a file
+-- HasFile text command file: a file is that of an option which the command has, at the path that is the option's text;
+-- where there is none, the command has no option for a file
 abbrev pub HasFile : (CommandOption → Option Text) → Command → Option CommandFile → Type 0
 HasFile text k None = (has_option k Table ≡ false) × (has_option k Region ≡ false) × (has_option k Zones ≡ false)
 HasFile text k (Some f) = (has_option k (option_of_file f) ≡ true) × (text (option_of_file f) ≡ Some (path_of f))
