@@ -1,11 +1,9 @@
 pub mod AnsweredLines
-pub mod Blocks
 pub mod EndsEach
 pub mod Lengths
 pub mod Lines
 pub mod Listed
 pub mod Pages
-pub mod Pieces
 pub mod PlainLines
 pub mod PlainRows
 pub mod RowLines

@@ -6,7 +6,7 @@ use Rattle.std.proofs.lemmas.Bool.Decides.{nat_tests}
 use Rattle.h3_index.specs.CellNumber.{cell_in}
 use Rattle.h3_index.specs.Text.{parsed_number, parsed_index, trimmed, without_prefix}
 use Rattle.h3_lines.specs.List.{said_by, said_by_cell, said_by_index}
-use Rattle.h3_lines.proofs.Pieces.{uncut_byte, uncut_none}
+use Rattle.h3_lines.specs.PiecesLaws.{uncut_byte, uncut_none}
 use Rattle.h3_lines.specs.Pieces.{Uncut}
 
 pub nothing_left : (rest : List ℕ) (b : Bool) → (length rest == 0) ≡ b → (n : ℕ) → parsed_number (without_prefix rest) ≡ Some n → b ≡ false

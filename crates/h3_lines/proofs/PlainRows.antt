@@ -4,12 +4,12 @@ use Rattle.std.specs.List.{list_all}
 use Rattle.std.proofs.Common.{◌≡◌, ℕ, ◌+◌, ◌-◌, ◌<◌, ◌≤◌, Bool, false, true, List, [], ◌∷◌, ◌++◌, length, take, drop, get_or, Option, None, Some, Result, Ok, Err, IfOk, IfNone, sym, ap, ◌∙◌, refl, subst, append_assoc, length-append, length-take, arith}
 use Rattle.std.proofs.lemmas.List.{take_rest}
 use Rattle.h3_index.specs.Text.{parsed_index}
-use Rattle.h3_lines.proofs.Pieces.{cut_at_mark, rows_go}
+use Rattle.h3_lines.specs.PiecesLaws.{cut_at_mark, rows_go}
 use Rattle.h3_lines.specs.Pieces.{Piece, pieces_of, rows_of}
 use Rattle.h3_lines.specs.Splitting.{BeginsLines, BeginsPlain, Goes, ParseAll, ParsesAs}
 use Rattle.h3_lines.specs.declared.run_error.RunError.{RunError}
 use Rattle.h3_lines.proofs.PlainLines.{digits_uncut}
-use Rattle.h3_lines.proofs.Scan.{split_at}
+use Rattle.h3_lines.specs.ScanLaws.{split_at}
 
 -- fifteen digits and a line feed
 pub begins_plain : (bytes : List ℕ) (index : ℕ) → 15 < length bytes → get_or bytes 15 0 ≡ 10 → list_all (λ b. is_digit b 16) (take 15 bytes) ≡ true → parsed_index (take 15 bytes) ≡ Some index

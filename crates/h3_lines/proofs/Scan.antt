@@ -1,33 +1,13 @@
 -- Bytes that are searched for the first mark outside quotes.
-use Rattle.std.proofs.Common.{◌≡◌, ℕ, ◌+◌, ◌<◌, ◌≤◌, ◌==◌, Bool, true, false, not, ◌&&◌, ◌||◌, List, [], ◌∷◌, ◌++◌, length, take, drop, get_or, sym, ap, ◌∙◌, refl, subst, length-take, take-append-drop, take_all, add-one, arith}
-use Rattle.std.proofs.Math.Seq.{drop-cons, take-add}
+use Rattle.std.proofs.Common.{◌≡◌, ℕ, ◌+◌, ◌<◌, ◌≤◌, ◌==◌, Bool, true, false, not, ◌&&◌, ◌||◌, List, [], ◌∷◌, ◌++◌, length, take, drop, get_or, sym, ap, ◌∙◌, refl, subst, take-append-drop, take_all, arith}
+use Rattle.std.proofs.Math.Seq.{take-add}
 use Rattle.std.proofs.lemmas.Bool.Decides.{nat_tests}
-use Rattle.std.proofs.lemmas.List.{get_or-take, get_or-drop, take_more}
-use Rattle.std.proofs.lemmas.List.Elements.{All-from_get_or}
-use Rattle.std.proofs.lemmas.List.Sums.{list_all-from_AllPass}
+use Rattle.std.proofs.lemmas.List.{get_or-drop, take_more}
 use Rattle.std.specs.List.{list_all}
 use Rattle.memchr.specs.Find.{is_byte, is_byte2}
 use Rattle.h3_lines.specs.Pieces.{CutsAt, Uncut}
-use Rattle.h3_lines.proofs.Pieces.{uncut_byte, uncut_none, uncut_then}
-
-negated : (b : Bool) → (b ≡ true → ⊥) → not b ≡ true
-negated true h = absurd (h refl)
-negated false h = refl
-
--- no byte before a place passes a test
-pub none_below : (test : ℕ → Bool) (bytes : List ℕ) (k : ℕ) → k ≤ length bytes → ((j : ℕ) → 0 ≤ j → j < k → test (get_or bytes j 0) ≡ true → ⊥) → list_all (λ b. not (test b)) (take k bytes) ≡ true
-none_below test bytes k within none =
-    list_all-from_AllPass (λ b. not (test b)) (take k bytes) (All-from_get_or (λ b. not (test b) ≡ true) (take k bytes) 0
-    (λ i below. let short : i < k = omega (arith, length-take {A = ℕ}) in rw (get_or-take k bytes i 0 short) (negated (test (get_or bytes i 0)) (none i (omega arith) short))))
-
-pub neither : (x y more : Bool) → (not (x || y) && more) ≡ true → (x ≡ false) × (y ≡ false) × (more ≡ true)
-neither true y more h = absurd (cc)
-neither false true more h = absurd (cc)
-neither false false more h = (refl, refl, h)
-
-pub other : (x more : Bool) → (not x && more) ≡ true → (x ≡ false) × (more ≡ true)
-other true more h = absurd (cc)
-other false more h = (refl, h)
+use Rattle.h3_lines.specs.PiecesLaws.{both, uncut_byte, uncut_none, uncut_then}
+use Rattle.h3_lines.specs.ScanLaws.{neither, none_below, split_at}
 
 -- neither marks nor quotes
 quiet : (mark : ℕ) (inside : Bool) (bytes : List ℕ) → list_all (λ b. not (is_byte2 mark 34 b)) bytes ≡ true → Uncut mark true inside bytes inside
@@ -40,14 +20,8 @@ quiet mark inside (b ∷ bs) h =
 unmarked : (mark : ℕ) (inside : Bool) (bytes : List ℕ) → list_all (λ b. not (is_byte mark b)) bytes ≡ true → Uncut mark false inside bytes inside
 unmarked mark inside [] h = uncut_none mark false inside
 unmarked mark inside (b ∷ bs) h =
-    let (m, more) = other (b == mark) (list_all (λ b. not (is_byte mark b)) bs) h in
+    let (m, more) = both (b == mark) (list_all (λ b. not (is_byte mark b)) bs) h in
     uncut_byte mark false inside b bs m refl (unmarked mark inside bs more)
-
--- the bytes on both sides of a place
-pub split_at : (bytes : List ℕ) (k mark : ℕ) → k < length bytes → get_or bytes k 0 ≡ mark → bytes ≡ take k bytes ++ mark ∷ drop (k + 1) bytes
-split_at bytes k mark within is =
-    let cut : drop k bytes ≡ mark ∷ drop (k + 1) bytes = rw (add-one, ← is) (drop-cons bytes k 0 within) in
-    sym (take-append-drop k bytes) ∙ ap (λ l. take k bytes ++ l) cut
 
 -- ---- the steps of the search
 

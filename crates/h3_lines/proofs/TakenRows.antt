@@ -5,7 +5,7 @@ use Rattle.std.specs.Io.KnownBytes.{Consumes, Keeps}
 use Rattle.std.proofs.KnownBytes.{Consumes-kept, Consumes-nil, Consumes-trans}
 use Rattle.h3_streams.specs.Stream.{HasLeft, Pulls}
 use Rattle.h3_lines.specs.declared.run_error.RunError.{RunError}
-use Rattle.h3_lines.proofs.Pieces.{cut_at_end, cut_at_mark, cut_goes_on, rows_go, uncut_then}
+use Rattle.h3_lines.specs.PiecesLaws.{cut_at_end, cut_at_mark, cut_goes_on, rows_go, uncut_then}
 use Rattle.h3_lines.specs.Pieces.{Piece, Uncut, pieces_of, rows_of, without_last_nothing}
 use Rattle.h3_lines.specs.Splitting.{Goes, RefusesAfter, StopsReading, StopsTaking, TakesAll}
 use Rattle.h3_lines.proofs.Pages.{all_bytes, at_end, one_at_least, one_less}

@@ -5,7 +5,7 @@ use Rattle.h3_lines.specs.Answer.{AreLines}
 use Rattle.h3_lines.specs.Pieces.{Piece, cut, CutsAt, Uncut}
 use Rattle.h3_rows.specs.RowsAnswer.{each_with, row_with, rows_with}
 use Rattle.h3_rows.proofs.Finding.{cuts_first}
-use Rattle.h3_rows.proofs.Pieces.{cut_at_end, first_piece, uncut_none, uncut_then}
+use Rattle.h3_lines.specs.PiecesLaws.{cut_at_end, first_piece, uncut_none, uncut_then}
 
 each_first : (separator : ℕ) (line : List ℕ) (a : Piece) (rest ps : List Piece) (p : Piece) → rest ≡ p ∷ ps → each_with separator line (a ∷ rest) ≡ row_with separator line a.0 ++ each_with separator line rest
 each_first separator line a rest ps p is = rw is refl

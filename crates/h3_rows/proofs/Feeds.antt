@@ -4,12 +4,13 @@ use Rattle.h3_rows.specs.Row.{quotes_are_sound}
 use Rattle.std.proofs.Common.{Bool, false, ◌&&◌, ◌||◌, sym, ◌≡◌, ℕ, ◌<◌, ◌≤◌, ◌==◌, true, not, List, [], ◌∷◌, length, get_or, take_all, refl, subst, arith}
 use Rattle.std.specs.List.{count_by, list_all}
 use Rattle.memchr.specs.Find.{is_byte}
-use Rattle.h3_rows.proofs.Scan.{none_below, other}
+use Rattle.h3_lines.specs.PiecesLaws.{both}
+use Rattle.h3_lines.specs.ScanLaws.{none_below}
 
 none_counted : (bytes : List ℕ) → list_all (λ b. not (is_byte 10 b)) bytes ≡ true → 0 ≡ count_by (λ b. b == 10) bytes
 none_counted [] h = refl
 none_counted (b ∷ bs) h =
-    let (m, more) = other (b == 10) (list_all (λ b. not (is_byte 10 b)) bs) h in
+    let (m, more) = both (b == 10) (list_all (λ b. not (is_byte 10 b)) bs) h in
     rw m (none_counted bs more)
 
 pub no_feeds : (bytes : List ℕ) → ((j : ℕ) → 0 ≤ j → j < length bytes → is_byte 10 (get_or bytes j 0) ≡ true → ⊥) → 0 ≡ count_by (λ b. b == 10) bytes
@@ -20,7 +21,7 @@ no_feeds bytes none =
 none_opens : (separator : ℕ) (start after inside : Bool) (bytes : List ℕ) → list_all (λ b. not (is_byte 34 b)) bytes ≡ true → quotes_are_sound separator start after inside bytes ≡ true
 none_opens separator start after inside [] h = refl
 none_opens separator start after inside (b ∷ bs) h =
-    let (m, more) = other (b == 34) (list_all (λ b. not (is_byte 34 b)) bs) h in
+    let (m, more) = both (b == 34) (list_all (λ b. not (is_byte 34 b)) bs) h in
     rw m (none_opens separator (not inside && (b == separator || (start && is_blank b))) false inside bs more)
 
 pub no_quotes : (separator : ℕ) (bytes : List ℕ) → ((j : ℕ) → 0 ≤ j → j < length bytes → is_byte 34 (get_or bytes j 0) ≡ true → ⊥) → true ≡ quotes_are_sound separator true false false bytes

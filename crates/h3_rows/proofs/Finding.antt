@@ -3,7 +3,7 @@ use Rattle.std.proofs.Common.{◌≡◌, ℕ, zero, suc, ◌-◌, ◌<◌, ◌==
 use Rattle.std.proofs.lemmas.Bool.Decides.{nat_tests}
 use Rattle.h3_lines.specs.Pieces.{Piece, cut, inside_after, CutsAt, Uncut}
 use Rattle.h3_rows.specs.Row.{piece_at}
-use Rattle.h3_rows.proofs.Pieces.{cut_at_end, cut_at_mark}
+use Rattle.h3_lines.specs.PiecesLaws.{cut_at_end, cut_at_mark}
 
 pub same_mark : (mark : ℕ) → (mark == mark) ≡ true
 same_mark mark = grind (arith, nat_tests)

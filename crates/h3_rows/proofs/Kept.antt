@@ -6,7 +6,7 @@ use Rattle.h3_rows.specs.Laws.{FieldsAreKept, PairsAreKept, RowsAreWhole}
 use Rattle.h3_lines.specs.Pieces.{Piece, cut, inside_after, turned, with_first}
 use Rattle.h3_rows.specs.Row.{ends_in_return}
 use Rattle.h3_rows.proofs.Finding.{same_mark}
-use Rattle.h3_rows.proofs.Pieces.{cut_at_end, first_piece}
+use Rattle.h3_lines.specs.PiecesLaws.{cut_at_end, first_piece}
 
 with_first-append : (b : ℕ) (ps qs : List Piece) (p : Piece) (more : List Piece) → ps ≡ p ∷ more → with_first b (ps ++ qs) ≡ with_first b ps ++ qs
 with_first-append b ps qs p more is = rw is refl

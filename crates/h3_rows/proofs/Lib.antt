@@ -4,14 +4,11 @@ pub mod Blocks
 pub mod EndsRows
 pub mod Feeds
 pub mod Finding
-pub mod Items
 pub mod Kept
 pub mod Masks
-pub mod Pieces
 pub mod PlainAnswers
 pub mod PlainRows
 pub mod ReadBack
-pub mod Scan
 pub mod Stand
 pub mod Steps
 pub mod TakenCells

@@ -9,7 +9,7 @@ use Rattle.std.specs.List.{prefix_len, list_all}
 use lib.Lanes.{chunk, zip2, mask_l, top}
 use Rattle.memchr.specs.Find.{is_byte3}
 use Rattle.h3_rows.specs.Lanes.{IsOneLine, StopsAfter, first_set}
-use Rattle.h3_rows.proofs.Scan.{none_below}
+use Rattle.h3_lines.specs.ScanLaws.{none_below}
 
 same : ℕ → ℕ → ℕ
 same x y = cond (eqb x y) 255 0

@@ -23,7 +23,7 @@ use Rattle.h3_rows.specs.declared.said.Said.TheVariants.{Index}
 use Rattle.h3_rows.specs.declared.state.RowState.{RowState}
 use Rattle.h3_rows.proofs.Beside.{first_with, last_with}
 use Rattle.h3_rows.proofs.Blanks.{other_last}
-use Rattle.h3_rows.proofs.Pieces.{cut_at_mark, uncut_none}
+use Rattle.h3_lines.specs.PiecesLaws.{cut_at_mark, uncut_none}
 use Rattle.h3_rows.proofs.PlainRows.{plain_feeds, plain_sound, plain_uncut, quiet_uncut}
 use Rattle.h3_rows.proofs.Steps.{passed_is}
 use Rattle.h3_rows.proofs.Texts.{text_said_parsed}

@@ -11,8 +11,8 @@ use Rattle.h3_rows.specs.Plain.{IsPlainRow, PassesFields, is_plain, quote_or_fee
 use Rattle.h3_lines.specs.Pieces.{cut, Uncut}
 use Rattle.h3_rows.specs.Row.{piece_at, quotes_are_sound}
 use Rattle.h3_rows.proofs.Finding.{field_here, field_last, field_passed}
-use Rattle.h3_rows.proofs.Pieces.{uncut_byte, uncut_none}
-use Rattle.h3_rows.proofs.Scan.{neither, split_at}
+use Rattle.h3_lines.specs.PiecesLaws.{uncut_byte, uncut_none}
+use Rattle.h3_lines.specs.ScanLaws.{neither, split_at}
 
 no_quote : (quotes : Bool) (b : ℕ) → (b == quote_or_feed quotes) ≡ false → (quotes && (b == 34)) ≡ false
 no_quote true b h = h

@@ -6,8 +6,7 @@ use Rattle.h3_lines.specs.Pieces.{inside_after, is_uncut, pieces_of, turned, Unc
 use Rattle.h3_rows.specs.Row.{ends_in_return, return_of, row_body}
 use Rattle.h3_rows.specs.RowsAnswer.{row_with}
 use Rattle.h3_rows.proofs.Kept.{and_false, return_last}
-use Rattle.h3_rows.proofs.Pieces.{rows_go}
-use Rattle.h3_rows.proofs.Pieces.{both, cut_at_mark, inside_after-append, uncut_then}
+use Rattle.h3_lines.specs.PiecesLaws.{both, cut_at_mark, inside_after-append, rows_go, uncut_then}
 
 -- a beginning of uncut bytes is uncut
 uncut_front : (mark : ℕ) (quotes inside : Bool) (xs ys : List ℕ) → is_uncut mark quotes inside (xs ++ ys) ≡ true → is_uncut mark quotes inside xs ≡ true

@@ -16,7 +16,7 @@ use Rattle.h3_rows.specs.Row.{next_number, row_body}
 use Rattle.h3_rows.specs.RowsAnswer.{Form, State, Step, answer_said, beside, ends, faulty, goes_on, is_malformed, row_said, row_step, row_with, rows_then}
 use Rattle.h3_rows.specs.declared.said.Said.{Said}
 use Rattle.h3_rows.specs.declared.said.Said.TheVariants.{Index, Missing}
-use Rattle.h3_rows.proofs.Pieces.{first_piece}
+use Rattle.h3_lines.specs.PiecesLaws.{first_piece}
 
 -- a step that ends nothing: its text, the number after it, and that the fields before the cell's and the rows that are
 -- held back are the same

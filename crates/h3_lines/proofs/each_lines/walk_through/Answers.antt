@@ -2,7 +2,8 @@ use Rattle.std.proofs.Common.{◌+◌, ◌∷◌, [], IsOk, ap, ◌∙◌, drop,
 use Rattle.std.proofs.lemmas.Result.{err_from_is_err_and}
 use Rattle.std.specs.Iterator.{Yields}
 use Rattle.h3_lines.specs.Answer.{whole_items}
-use Rattle.h3_lines.proofs.Lines.{passed_more, passed_none, split_at, whole_at}
+use Rattle.h3_lines.proofs.Lines.{passed_more, passed_none}
+use Rattle.h3_lines.specs.ItemLaws.{split_at, whole_at}
 use Rattle.h3_lines.proofs.each_lines.walk_through.Goals as goal
 
 pub loop-item-init : goal.loop-item-init

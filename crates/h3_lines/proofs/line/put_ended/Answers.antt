@@ -1,5 +1,5 @@
 use Rattle.std.proofs.Common.{◌+◌, ◌-◌, arith, length}
-use Rattle.h3_lines.proofs.Blocks.{bytes_put}
+use Rattle.h3_lines.specs.BlockLaws.{bytes_put}
 use Rattle.h3_lines.proofs.line.put_ended.Goals as goal
 
 pub returns-clause-line : goal.returns-clause-line

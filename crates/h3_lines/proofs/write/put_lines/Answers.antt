@@ -8,7 +8,7 @@ use Rattle.h3_lines.specs.Answering.{FailsPush, Moves}
 use Rattle.h3_lines.specs.Write.{sink_use}
 use Rattle.h3_lines.specs.EachLaws.{moves_none, moves_put, push_more, push_then}
 use Rattle.h3_lines.proofs.AnsweredLines.{moves_on}
-use Rattle.h3_lines.proofs.Lines.{split_at, whole_at}
+use Rattle.h3_lines.specs.ItemLaws.{split_at, whole_at}
 use Rattle.h3_lines.proofs.write.put_lines.Goals as goal
 
 pub loop-item-init : goal.loop-item-init

@@ -3,7 +3,8 @@ use Rattle.std.proofs.lemmas.Result.{err_from_is_err_and}
 use Rattle.std.specs.Iterator.{Yields}
 use Rattle.h3_lines.specs.Answer.{walked, written}
 use Rattle.h3_lines.specs.Write.{Writes, sink_use}
-use Rattle.h3_lines.proofs.Lines.{held_ends, held_more, held_none, split_at, whole_at}
+use Rattle.h3_lines.proofs.Lines.{held_ends, held_more, held_none}
+use Rattle.h3_lines.specs.ItemLaws.{split_at, whole_at}
 use Rattle.h3_lines.proofs.Written.{begins_part}
 use Rattle.h3_lines.proofs.write.write_walk.Goals as goal
 

@@ -8,7 +8,7 @@ use Rattle.h3_lines.specs.Write.{sink_use}
 use Rattle.h3_rows.specs.RowsAnswer.{rows_with}
 use Rattle.h3_lines.specs.EachLaws.{breaks_more, breaks_then, moves_none, moves_then}
 use Rattle.h3_rows.proofs.Beside.{all_lines, with_more}
-use Rattle.h3_rows.proofs.Items.{split_at, whole_at}
+use Rattle.h3_lines.specs.ItemLaws.{split_at, whole_at}
 use Rattle.h3_rows.proofs.each_lines.put_lines_beside.Goals as goal
 
 pub loop-item-init : goal.loop-item-init

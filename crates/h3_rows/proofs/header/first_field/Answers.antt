@@ -1,7 +1,7 @@
 use Rattle.std.proofs.Common.{ap}
 use Rattle.h3_rows.specs.RowsAnswer.{places_of}
 use Rattle.h3_rows.proofs.Finding.{cuts_first}
-use Rattle.h3_rows.proofs.Pieces.{cut_at_end}
+use Rattle.h3_lines.specs.PiecesLaws.{cut_at_end}
 use Rattle.h3_rows.proofs.header.first_field.Goals as goal
 
 pub returns-in-Ok-clause-places : goal.returns-in-Ok-clause-places

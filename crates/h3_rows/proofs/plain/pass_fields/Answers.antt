@@ -1,7 +1,7 @@
 use Rattle.std.proofs.Common.{◌≡◌, ◌<◌, arith, get_or, take, drop, ◌+◌}
 use Rattle.std.proofs.lemmas.List.{take_rest}
 use Rattle.h3_rows.proofs.PlainRows.{passes_more}
-use Rattle.h3_rows.proofs.Scan.{split_at}
+use Rattle.h3_lines.specs.ScanLaws.{split_at}
 use Rattle.h3_rows.proofs.plain.pass_fields.Goals as goal
 
 pub loop-left-preserved : goal.loop-left-preserved

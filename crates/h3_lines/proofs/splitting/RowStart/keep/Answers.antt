@@ -2,7 +2,7 @@ use Rattle.std.proofs.Common.{rules, length-take-le, ◌≡◌, ◌++◌, false,
 use Rattle.h3_lines.specs.Pieces.{Uncut}
 use Rattle.std.specs.Vec.{with_items}
 use Rattle.std.proofs.lemmas.List.{with_items_is}
-use Rattle.h3_lines.proofs.Pieces.{uncut_then}
+use Rattle.h3_lines.specs.PiecesLaws.{uncut_then}
 use Rattle.h3_lines.proofs.TakenRows.{refused_long}
 use Rattle.h3_lines.proofs.splitting.RowStart.keep.Goals as goal
 

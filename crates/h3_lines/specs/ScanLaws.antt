@@ -1,4 +1,4 @@
--- Bytes that are searched.
+-- Laws of bytes that are searched. Proofs alone cite this file.
 use Rattle.std.proofs.Common.{◌≡◌, ℕ, ◌+◌, ◌<◌, ◌≤◌, Bool, true, false, not, ◌&&◌, ◌||◌, List, ◌∷◌, ◌++◌, length, take, drop, get_or, sym, ap, ◌∙◌, refl, length-take, take-append-drop, add-one, arith}
 use Rattle.std.proofs.Math.Seq.{drop-cons}
 use Rattle.std.proofs.lemmas.List.{get_or-take}
@@ -20,10 +20,6 @@ pub neither : (x y more : Bool) → (not (x || y) && more) ≡ true → (x ≡ f
 neither true y more h = absurd (cc)
 neither false true more h = absurd (cc)
 neither false false more h = (refl, refl, h)
-
-pub other : (x more : Bool) → (not x && more) ≡ true → (x ≡ false) × (more ≡ true)
-other true more h = absurd (cc)
-other false more h = (refl, h)
 
 -- the bytes on both sides of a place
 pub split_at : (bytes : List ℕ) (k mark : ℕ) → k < length bytes → get_or bytes k 0 ≡ mark → bytes ≡ take k bytes ++ mark ∷ drop (k + 1) bytes

@@ -1,4 +1,4 @@
--- Pieces that end, that go on, and that grow too long.
+-- Laws of pieces that end, that go on, and that grow too long. Proofs alone cite this file.
 use Rattle.std.proofs.Common.{◌≡◌, ℕ, ◌==◌, Bool, true, false, not, ◌&&◌, List, [], ◌∷◌, ◌++◌, if◌then◌else◌, sym, ap, ◌∙◌, refl, subst}
 use Rattle.h3_lines.specs.Pieces.{Piece, Uncut, cut, inside_after, is_uncut, pieces_of, rows_of, turned, with_first, without_last_nothing}
 

@@ -1,4 +1,4 @@
--- Lines that are put into a block.
+-- Laws of bytes that are put into a block. Proofs alone cite this file.
 use Rattle.std.proofs.Common.{◌≡◌, ℕ, suc, ◌+◌, ◌<◌, ◌≤◌, List, [], ◌∷◌, ◌++◌, length, take, drop, set, sym, ap, ◌∙◌, refl, arith, append_assoc, length-append, length-drop, length-take-le}
 use Rattle.std.proofs.lemmas.List.{take-append-le, take_more_set}
 

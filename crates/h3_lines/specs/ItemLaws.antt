@@ -1,4 +1,4 @@
--- Items that a loop takes.
+-- Laws of the items that a loop takes from an iterator. Proofs alone cite this file.
 use Rattle.std.proofs.Common.{◌≡◌, ◌+◌, List, [], ◌∷◌, ◌++◌, length, take, drop, map, Option, None, Some, sym, ap, ◌∙◌, refl, subst, append-nil, take-append-drop}
 use Rattle.std.proofs.lemmas.List.{drop_more}
 use Rattle.std.specs.Iterator.{AlwaysYields, Yields}
