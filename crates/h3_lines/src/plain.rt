@@ -65,7 +65,49 @@ fn plain_lines<'b>(bytes: &'b [u8], indexes: &mut [u64; LINES]) -> (usize, &'b [
     (LINES, left)
 }
 
-/// Has the lines with these indexes taken, in order, once they are looked up together.
+/// Where each of the next lines, at most 16, is looked for first.
+trait Places {
+    /// The place for the line with this number, from 0; `None` if that is where the one before it was
+    /// found. It may be any.
+    fn of_line(&self, number: usize) -> Option<usize>
+        requires { number < 16 };
+}
+
+/// A place for each line.
+impl Places for [usize; LINES] {
+    #[inline(always)]
+    fn of_line(&self, number: usize) -> Option<usize> {
+        Some(self[number])
+    }
+}
+
+/// No place for any line.
+impl Places for () {
+    #[inline(always)]
+    fn of_line(&self, _number: usize) -> Option<usize> {
+        None
+    }
+}
+
+/// Has the lines with these indexes taken, in order.
+// By the type of the places, so that where there are none a line does not ask whether there are.
+#[inline(always)]
+fn take_at<J: IndexJob, P: Places>(job: &mut J, indexes: &[u64], places: &P) -> Result<(), RunError>
+    requires few { J.count job.old + length indexes.now < 2 ^ 63 }
+    requires within { length indexes.now ≤ 16 }
+    ensures ok { OnOk result ((rows : List Piece) → ParseAll rows indexes.now →
+        J.taken job.old rows job.new) }
+    ensures counted { OnOk result (J.count job.new ≤ J.count job.old + length indexes.now) }
+    ensures err { IfErr result (λ e. (rows : List Piece) → ParseAll rows indexes.now →
+        (later : List Piece) → J.refused job.old (rows ++ later) job.new e) }
+{
+    for i in 0..indexes.len() {
+        job.take_index(indexes[i], places.of_line(i))?;
+    }
+    Ok(())
+}
+
+/// The same, once they are looked up together.
 #[inline(always)]
 fn take_indexes<J: IndexJob>(job: &mut J, indexes: &[u64]) -> Result<(), RunError>
     requires few { J.count job.old + length indexes.now < 2 ^ 63 }
@@ -76,15 +118,10 @@ fn take_indexes<J: IndexJob>(job: &mut J, indexes: &[u64]) -> Result<(), RunErro
     ensures err { IfErr result (λ e. (rows : List Piece) → ParseAll rows indexes.now →
         (later : List Piece) → J.refused job.old (rows ++ later) job.new e) }
 {
-    let places = job.look_ahead(indexes);
-    for i in 0..indexes.len() {
-        let place = match &places {
-            Some(places) => Some(places[i]),
-            None => None,
-        };
-        job.take_index(indexes[i], place)?;
+    match job.look_ahead(indexes) {
+        Some(places) => take_at(job, indexes, &places),
+        None => take_at(job, indexes, &()),
     }
-    Ok(())
 }
 
 /// Has the plain lines taken that bytes begin with, up to 16 together, and returns the bytes after them;

@@ -4,7 +4,7 @@ use Rattle.std.proofs.lemmas.List.{take_more}
 use Rattle.std.proofs.lemmas.Result.{err_from_is_err_and}
 use Rattle.h3_lines.specs.Splitting.{ParseAll}
 use Rattle.h3_lines.proofs.PlainRows.{parse_none, together_refused, together_then}
-use Rattle.h3_lines.proofs.plain.take_indexes.Goals as goal
+use Rattle.h3_lines.proofs.plain.take_at.Goals as goal
 
 pub loop-i-init : goal.loop-i-init
 loop-i-init g c = record {

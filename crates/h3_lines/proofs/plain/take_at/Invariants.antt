@@ -1,7 +1,7 @@
 use Rattle.std.proofs.Common.{◌≤◌, ◌+◌, List, take}
 use Rattle.h3_lines.specs.Pieces.{Piece}
 use Rattle.h3_lines.specs.Splitting.{ParseAll}
-use Rattle.h3_lines.proofs.plain.take_indexes.Given as goal
+use Rattle.h3_lines.proofs.plain.take_at.Given as goal
 
 abbrev pub invariant-loop-i : goal.invariant-loop-i
 invariant-loop-i g l = record {
