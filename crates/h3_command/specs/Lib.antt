@@ -19,3 +19,4 @@ pub mod TableLines
 pub mod TableLists
 pub mod TableQuery
 pub mod WordsQuery
+pub mod Work

@@ -21,3 +21,4 @@ mod table_query;
 mod uncompacted_lines;
 mod walks;
 mod words_query;
+mod work;

@@ -1,6 +1,6 @@
 //! Running a command.
 
-ghost use Rattle.std.specs.Prelude.{◌≡◌, false};
+ghost use Rattle.std.specs.Prelude.{◌≡◌, false, true};
 ghost use Rattle.h3_lines.specs.Reads.{source_use};
 ghost use Rattle.h3_lines.specs.Write.{Reports, sink_use};
 ghost use Rattle.h3_rows.specs.Laws.{FieldsAreKept, OutputReadsBack, RowsAreWhole, RowsGiveBack, RowsStand, RowsStandUntil};
@@ -10,40 +10,65 @@ ghost use Rattle.h3_command.specs.NewColumns.{AnswersAreWords, RowsStandOnce, Wo
 ghost use Rattle.h3_command.specs.Run.{Ends, Runs};
 
 use crate::children::cells_to_children;
-use crate::edges::*;
-use crate::file_query::{FileQuery, answer_over_file};
-use crate::files::Combination;
+use crate::file_query::FileQuery::*;
+use crate::file_query::answer_over_file;
+use crate::files::Combination::*;
 use crate::laws::answers_are_fields;
 use crate::listed::{answer_whole, answer_whole_numbered};
-use crate::per_index::{index_functions, write_answer_for};
+use crate::per_index::write_answer_for;
 use crate::rows::answer_function;
 use crate::sets::*;
 use crate::sizes::uncompact_cells_size;
-use crate::table_lists::{TableLines, answer_over_table};
+use crate::table_lists::TableLines::*;
+use crate::table_lists::answer_over_table;
 use crate::table_query::over_table;
-use crate::walks::*;
-use crate::words_query::{WordsQuery, write_words_answer};
+use crate::words_query::write_words_answer;
+use crate::work::{Work, work_of};
 use h3_lines::{RunError, report};
 use h3_regions::laws::counts_add_up;
 use h3_requests::Command::*;
-use h3_requests::{Command, IndexFunction, RowOptions};
+use h3_requests::{Command, RowOptions};
 use h3_rows::laws::answers_stand_beside;
 use h3_streams::{Sink, Source};
 use std::alloc::Global;
 
-// What a command does: a function of one index by its row in the table of these, and any other by its arm.
-macro_rules! perform_command {
-    (
-        $command:ident $out:ident { $($arms:tt)* }
-        $($function:ident { $index:ident $(, $field:ident)* } $name:literal;)*
-    ) => {
-        match *$command {
-            $(Command::$function { $index $(, $field)* } => {
-                write_answer_for(IndexFunction::$function { $($field),* }, $index, $out)
-            })*
-            $($arms)*
+/// Does what a command about a list asks, up to the line on standard error.
+fn perform_over_list<R: Source, T: Source, W: Sink>(
+    alloc: Global,
+    command: &Command,
+    rows: &Option<RowOptions>,
+    input: &mut R,
+    table: &mut T,
+    out: &mut W,
+) -> Result<(), RunError>
+    requires { reads_list (request_of rows.now command.now) ≡ true }
+    ensures ends { Ends (request_of rows.now command.now) (source_use R.left R.has_failed input.old input.new)
+        (source_use T.left T.has_failed table.old table.new) result
+        (sink_use W.taken W.has_failed out.old out.new) }
+    ensures table_kept { reads_table (request_of rows.now command.now) ≡ false → table.new ≡ table.old }
+{
+    match *command {
+        ForEach(function) => answer_function(alloc, rows, function, input, out),
+        CellsToChildren { res } => cells_to_children(alloc, res, rows, input, out),
+        CompactCells => answer_whole(alloc, CompactList, rows, input, out),
+        UncompactCells { res } => answer_whole(alloc, UncompactList { res }, rows, input, out),
+        UncompactCellsSize { res } => uncompact_cells_size(alloc, res, rows, input, out),
+        UniteCells => answer_whole_numbered(alloc, UniteList, rows, input, out),
+        IntersectCells => answer_over_file(alloc, Combined(Shared), rows, input, table, out),
+        SubtractCells => answer_over_file(alloc, Combined(Left), rows, input, table, out),
+        AreCoveredCells => answer_over_file(alloc, Covered, rows, input, table, out),
+        CellsToZones => answer_over_file(alloc, Zones, rows, input, table, out),
+        CountCellsInZones => answer_over_file(alloc, Counts, rows, input, table, out),
+        GridDisksUnsafe { k } => answer_over_table(alloc, Disk { k }, rows, input, table, out),
+        GridDisksDistancesUnsafe { k } => {
+            answer_over_table(alloc, DiskDistances { k }, rows, input, table, out)
         }
-    };
+        GridRingsUnsafe { k } => answer_over_table(alloc, Ring { k }, rows, input, table, out),
+        GetDirectedEdgeDestinations => {
+            answer_over_table(alloc, Destination, rows, input, table, out)
+        }
+        _ => unreachable!(),
+    }
 }
 
 /// Does what a command asks, up to the line on standard error.
@@ -61,34 +86,12 @@ fn perform<R: Source, T: Source, W: Sink>(
     ensures input_kept { reads_list (request_of rows.now command.now) ≡ false → input.new ≡ input.old }
     ensures table_kept { reads_table (request_of rows.now command.now) ≡ false → table.new ≡ table.old }
 {
-    index_functions!(perform_command! command out {
-        GetNumCells { res } => write_words_answer(WordsQuery::NumCells { res }, out),
-        GetRes0Cells => write_words_answer(WordsQuery::Res0Cells, out),
-        GetPentagons { res } => write_words_answer(WordsQuery::Pentagons { res }, out),
-        CellToChildren { cell, res } => write_words_answer(WordsQuery::Children { cell, res }, out),
-        ChildPosToCell { position, cell, res } => write_words_answer(WordsQuery::ChildAt { position, cell, res }, out),
-        ForEach(function) => answer_function(alloc, rows, function, input, out),
-        CellsToChildren { res } => cells_to_children(alloc, res, rows, input, out),
-        CompactCells => answer_whole(alloc, CompactList, rows, input, out),
-        UncompactCells { res } => answer_whole(alloc, UncompactList { res }, rows, input, out),
-        UncompactCellsSize { res } => uncompact_cells_size(alloc, res, rows, input, out),
-        UniteCells => answer_whole_numbered(alloc, UniteList, rows, input, out),
-        IntersectCells => answer_over_file(alloc, FileQuery::Combined(Combination::Shared), rows, input, table, out),
-        SubtractCells => answer_over_file(alloc, FileQuery::Combined(Combination::Left), rows, input, table, out),
-        AreCoveredCells => answer_over_file(alloc, FileQuery::Covered, rows, input, table, out),
-        CellsToZones => answer_over_file(alloc, FileQuery::Zones, rows, input, table, out),
-        CountCellsInZones => answer_over_file(alloc, FileQuery::Counts, rows, input, table, out),
-        GridDiskUnsafe { cell, k } => over_table(alloc, grid_disk_unsafe(cell, k), table, out),
-        GridDiskDistancesUnsafe { cell, k } => over_table(alloc, grid_disk_distances_unsafe(cell, k), table, out),
-        GridRingUnsafe { cell, k } => over_table(alloc, grid_ring_unsafe(cell, k), table, out),
-        AreNeighborCells { cell, to } => over_table(alloc, are_neighbor_cells(cell, to), table, out),
-        CellsToDirectedEdge { cell, to } => over_table(alloc, cells_to_directed_edge(cell, to), table, out),
-        GetDirectedEdgeDestination { edge } => over_table(alloc, get_directed_edge_destination(edge), table, out),
-        GridDisksUnsafe { k } => answer_over_table(alloc, TableLines::Disk { k }, rows, input, table, out),
-        GridDisksDistancesUnsafe { k } => answer_over_table(alloc, TableLines::DiskDistances { k }, rows, input, table, out),
-        GridRingsUnsafe { k } => answer_over_table(alloc, TableLines::Ring { k }, rows, input, table, out),
-        GetDirectedEdgeDestinations => answer_over_table(alloc, TableLines::Destination, rows, input, table, out),
-    })
+    match work_of(command) {
+        Work::Index(function, index) => write_answer_for(function, index, out),
+        Work::Words(query) => write_words_answer(query, out),
+        Work::Table(query) => over_table(alloc, query, table, out),
+        Work::List => perform_over_list(alloc, command, rows, input, table, out),
+    }
 }
 
 /// Runs a command, as `run` does, over a list that has rows, if it is said how they are read and
