@@ -13,10 +13,7 @@ use Rattle.h3_grid.specs.declared.iter.Edges.{Edges}
 use Rattle.h3_functions.specs.Edges.{origin_to_directed_edges}
 use Rattle.h3_functions.specs.Inspection.{cell_from, for_value}
 use Rattle.h3_functions.specs.Items.{Lists}
-
-map_same : {A : Type 0} (xs : List A) → map (λ x. x) xs ≡ xs
-map_same [] = refl
-map_same (x ∷ xs) = ap (λ l. x ∷ l) (map_same xs)
+use Rattle.h3_lines.specs.ItemLaws.{map_same}
 
 map_length : {A B : Type 0} (f : A → B) (xs : List A) → length (map f xs) ≡ length xs
 map_length f [] = refl

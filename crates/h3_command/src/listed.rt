@@ -84,7 +84,7 @@ pub(crate) trait ListFunction {
 
 /// Writes what a function answers about the cells of a list, or about those of its rows. An error of
 /// either is reported with its line.
-// Inlined, its blocks would take their place on the stack while `perform` runs another command.
+// Inlined, its blocks would take their place on the stack while `perform_over_list` runs another command.
 #[inline(never)]
 pub(crate) fn answer_whole_numbered<R: Source, W: Sink, F: ListFunction + Drop>(
     alloc: Global,

@@ -2,7 +2,7 @@
 
 ghost use Rattle.std.specs.Prelude.{◌≡◌, false, true};
 ghost use Rattle.h3_lines.specs.Reads.{source_use};
-ghost use Rattle.h3_lines.specs.Write.{Reports, sink_use};
+ghost use Rattle.h3_lines.specs.Write.{sink_use};
 ghost use Rattle.h3_rows.specs.Laws.{FieldsAreKept, OutputReadsBack, RowsAreWhole, RowsGiveBack, RowsStand, RowsStandUntil};
 ghost use Rattle.h3_command.specs.Answer.{reads_list, reads_table, request, request_of};
 ghost use Rattle.h3_command.specs.Files.{CountsPrintedAddUp};

@@ -20,7 +20,7 @@ pub(crate) enum Work {
     /// A function of one index answers the index of a word.
     Index(IndexFunction, Option<u64>),
 
-    /// Words alone fix the answer, in another way.
+    /// Words alone fix the answer, and no function of one index gives it.
     Words(WordsQuery),
 
     /// Words ask this of a base cell table, or have this error.
@@ -30,7 +30,8 @@ pub(crate) enum Work {
     List,
 }
 
-// The work of a command: that of a function of one index by its row in the table of these, and any other by its arm.
+// The work of a command: that of a function of one index by its row in the table of these, and any other by its arm;
+// one about a list has none.
 macro_rules! work_of_command {
     (
         $command:ident { $($arms:tt)* }

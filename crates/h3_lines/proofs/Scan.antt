@@ -6,7 +6,7 @@ use Rattle.std.proofs.lemmas.List.{get_or-drop, take_more}
 use Rattle.std.specs.List.{list_all}
 use Rattle.memchr.specs.Find.{is_byte, is_byte2}
 use Rattle.h3_lines.specs.Pieces.{CutsAt, Uncut}
-use Rattle.h3_lines.specs.PiecesLaws.{both, uncut_byte, uncut_none, uncut_then}
+use Rattle.h3_lines.specs.PiecesLaws.{and_false, both, uncut_byte, uncut_none, uncut_then}
 use Rattle.h3_lines.specs.ScanLaws.{neither, none_below, split_at}
 
 -- neither marks nor quotes
@@ -45,10 +45,6 @@ module _ (mark : ℕ) (inside here : Bool) (bytes : List ℕ) (at : ℕ) where
 
   pub quote_more : at < length bytes → get_or bytes at 0 ≡ 34 → (34 == mark) ≡ false → Uncut mark true inside (take at bytes) here → Uncut mark true inside (take (at + 1) bytes) (not here)
   quote_more within is m u = byte_more within (subst (λ b. Uncut mark true here (b ∷ []) (not here)) (sym is) (record { uncut = rw m refl; inside_is = refl })) u
-
-  and_false : (x : Bool) → (x && false) ≡ false
-  and_false true = refl
-  and_false false = refl
 
   -- what is no quote cuts nothing inside quotes
   pub inside_more : at < length bytes → (get_or bytes at 0 == 34) ≡ false → here ≡ true → Uncut mark true inside (take at bytes) here → Uncut mark true inside (take (at + 1) bytes) here

@@ -6,6 +6,10 @@ pub both : (b n : Bool) → (not b && n) ≡ true → (b ≡ false) × (n ≡ tr
 both true n h = absurd (cc)
 both false n h = (refl, h)
 
+pub and_false : (x : Bool) → (x && false) ≡ false
+and_false true = refl
+and_false false = refl
+
 module _ (mark : ℕ) (quotes : Bool) where
   -- a piece that ends
   pub cut_at_mark : (inside : Bool) (piece rest : List ℕ) → is_uncut mark quotes inside piece ≡ true → inside_after quotes inside piece ≡ false → (mark == mark) ≡ true

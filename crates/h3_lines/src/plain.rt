@@ -90,7 +90,7 @@ impl Places for () {
 }
 
 /// Has the lines with these indexes taken, in order.
-// By the type of the places, so that where there are none a line does not ask whether there are.
+// Generic over the places: where there are none, no line tests for one.
 #[inline(always)]
 fn take_at<J: IndexJob, P: Places>(job: &mut J, indexes: &[u64], places: &P) -> Result<(), RunError>
     requires few { J.count job.old + length indexes.now < 2 ^ 63 }

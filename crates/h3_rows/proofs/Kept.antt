@@ -6,7 +6,7 @@ use Rattle.h3_rows.specs.Laws.{FieldsAreKept, PairsAreKept, RowsAreWhole}
 use Rattle.h3_lines.specs.Pieces.{Piece, cut, inside_after, turned, with_first}
 use Rattle.h3_rows.specs.Row.{ends_in_return}
 use Rattle.h3_rows.proofs.Finding.{same_mark}
-use Rattle.h3_lines.specs.PiecesLaws.{cut_at_end, first_piece}
+use Rattle.h3_lines.specs.PiecesLaws.{and_false, cut_at_end, first_piece}
 
 with_first-append : (b : ℕ) (ps qs : List Piece) (p : Piece) (more : List Piece) → ps ≡ p ∷ more → with_first b (ps ++ qs) ≡ with_first b ps ++ qs
 with_first-append b ps qs p more is = rw is refl
@@ -18,10 +18,6 @@ both_true false y h = absurd (cc)
 not_true : (x : Bool) → not x ≡ true → x ≡ false
 not_true true h = absurd (cc)
 not_true false h = refl
-
-pub and_false : (x : Bool) → (x && false) ≡ false
-and_false true = refl
-and_false false = refl
 
 module _ (mark : ℕ) (quotes : Bool) (unquoted : (34 == mark) ≡ false) where
   -- a mark turns nothing

@@ -5,8 +5,8 @@ use Rattle.h3_rows.specs.Laws.{OutputReadsBack, RowsReadBack, all_with}
 use Rattle.h3_lines.specs.Pieces.{inside_after, is_uncut, pieces_of, turned, Uncut}
 use Rattle.h3_rows.specs.Row.{ends_in_return, return_of, row_body}
 use Rattle.h3_rows.specs.RowsAnswer.{row_with}
-use Rattle.h3_rows.proofs.Kept.{and_false, return_last}
-use Rattle.h3_lines.specs.PiecesLaws.{both, cut_at_mark, inside_after-append, rows_go, uncut_then}
+use Rattle.h3_rows.proofs.Kept.{return_last}
+use Rattle.h3_lines.specs.PiecesLaws.{and_false, both, cut_at_mark, inside_after-append, rows_go, uncut_then}
 
 -- a beginning of uncut bytes is uncut
 uncut_front : (mark : ℕ) (quotes inside : Bool) (xs ys : List ℕ) → is_uncut mark quotes inside (xs ++ ys) ≡ true → is_uncut mark quotes inside xs ≡ true
