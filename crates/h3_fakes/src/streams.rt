@@ -15,6 +15,9 @@ pub enum Faults {
     Once(u64),
 }
 
+/// No call fails.
+pub const NO_FAULT: Faults = Faults::From(u64::MAX);
+
 impl Faults {
     /// The first call that fails.
     pub fn first(self) -> u64 {
@@ -30,6 +33,16 @@ impl Faults {
             Faults::Once(only) => call == only,
         }
     }
+}
+
+/// How many pulls of at most `most` bytes take so many bytes.
+pub fn pulls_of(bytes: usize, most: usize) -> u64 {
+    bytes.div_ceil(most.max(1)) as u64
+}
+
+/// How many of them read a text: the last one finds its end.
+pub fn pulls_to_end(text: &str, most: usize) -> u64 {
+    pulls_of(text.len(), most).saturating_add(1)
 }
 
 /// A source over bytes in memory, which gives at most `most` of them a pull.
@@ -117,7 +130,7 @@ impl<const N: usize> FaultySink<N> {
         FaultySink {
             bytes: ArrayVec::new(),
             most,
-            faults: Faults::From(u64::MAX),
+            faults: NO_FAULT,
             calls: 0,
             flushes: 0,
             flush_fails: true,

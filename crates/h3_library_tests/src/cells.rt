@@ -1,6 +1,7 @@
 //! Cells: their numbers, the moves from one to another, and those that are found by a number.
 
-use crate::rows::{Expected, cell, holds, same};
+use crate::rows::{Expected, cell, same};
+use h3_fakes::holds;
 use h3_index::{Cell, H3Error, is_pentagon_base, num_cells, pentagon, res0_cell, resolution_from};
 use std::cmp::Ordering;
 

@@ -3,8 +3,9 @@
 //! rounds of steps reach.
 
 use crate::grid::test_table;
-use crate::rows::{cell, holds};
+use crate::rows::cell;
 use h3_directions::{DIRECTIONS, Direction};
+use h3_fakes::holds;
 use h3_grid::{Disk, step};
 use h3_index::Cell;
 use h3_table::BaseTable;
@@ -122,7 +123,12 @@ fn disk_cells(
 
 /// Whether the walk wrote these cells.
 fn wrote(all: &[Visit], cells: &[Cell]) -> bool {
-    all.len() == cells.len() && all.iter().zip(cells).all(|(at, cell)| at.cell == *cell)
+    for (at, cell) in all.iter().zip(cells) {
+        if at.cell != *cell {
+            return false;
+        }
+    }
+    all.len() == cells.len()
 }
 
 /// Whether a step leads from one cell of a disk to another.
@@ -198,6 +204,16 @@ fn add_round(table: &BaseTable, cells: &mut Vec<Cell>) -> Result<(), AllocError>
     Ok(())
 }
 
+/// Whether all cells of a list are in another one.
+fn are_in(cells: &[Cell], others: &[Cell]) -> bool {
+    for cell in cells {
+        if !others.contains(cell) {
+            return false;
+        }
+    }
+    true
+}
+
 /// Whether the cells of a disk are those that as many rounds of steps reach as its radius.
 fn are_reached(
     alloc: Global,
@@ -211,10 +227,7 @@ fn are_reached(
     for _round in 0..k {
         add_round(table, &mut reached)?;
     }
-    Ok(
-        cells.iter().all(|cell| reached.contains(cell))
-            && reached.iter().all(|cell| cells.contains(cell)),
-    )
+    Ok(are_in(cells, &reached) && are_in(&reached, cells))
 }
 
 /// Whether all this holds of the disk of a radius with these moves, whose places make this many

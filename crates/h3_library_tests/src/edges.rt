@@ -1,6 +1,7 @@
 //! Directed edges, by their numbers and by the cells that they leave.
 
-use crate::rows::{Expected, cell, holds, same};
+use crate::rows::{Expected, cell, same};
+use h3_fakes::holds;
 use h3_index::{Cell, Edge, H3Error, write_index};
 use std::cmp::Ordering;
 use std::process::Abort;

@@ -1,13 +1,13 @@
 //! Steps, disks, rings, neighbors and edges over tables.
 
-use crate::rows::{Expected, cell, clone_of, copy_of, holds, is_cell, same};
-use crate::table::read;
+use crate::rows::{Expected, cell, clone_of, copy_of, is_cell, same};
 use h3_directions::Direction;
-use h3_fakes::{TableFile, open_file, table_file};
+use h3_fakes::{TableFile, holds, open_file, table_file};
 use h3_grid::{
     Disk, Edges, Ring, are_neighbors, disk_len, edge_between, edge_destination, edges_of, step,
 };
 use h3_index::{Cell, Edge, H3Error};
+use h3_streams::Streamed;
 use h3_table::BaseTable;
 use h3_table::vectors::TestTable;
 use std::alloc::Global;
@@ -57,7 +57,7 @@ const CENTRE: u64 = 0x803dfffffffffff;
 
 /// Reads the base cell table of a file.
 fn table_in(rt: &impl Abort, alloc: Global, file: &TableFile) -> BaseTable {
-    match read(alloc, file.as_str()) {
+    match BaseTable::read(alloc, &mut Streamed::new(file.as_bytes())) {
         Ok(table) => table,
         Err(_) => panic!(rt; "the table is refused"),
     }

@@ -1,6 +1,7 @@
 //! The hierarchy of cells: parents, children and positions among them.
 
-use crate::rows::{Expected, cell, clone_of, copy_of, holds, is_cell, same};
+use crate::rows::{Expected, cell, clone_of, copy_of, is_cell, same};
+use h3_fakes::holds;
 use h3_index::{Cell, H3Error};
 use h3_tree::{
     Children, center_child, child_at, child_pos, children, children_at, children_size, last_child,

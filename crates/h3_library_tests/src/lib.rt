@@ -1,5 +1,5 @@
-//! The tests of `h3_index`, `h3_directions`, `h3_lattice`, `h3_tree`, `h3_set`, `h3_regions` and
-//! `h3_grid`, a file for each subject.
+//! The tests of `h3_index`, `h3_lattice`, `h3_tree`, `h3_set`, `h3_regions` and `h3_grid`, a file for
+//! each subject.
 #![tactic(auto)]
 
 #[cfg(test)]
@@ -8,10 +8,6 @@ mod cells;
 mod chart;
 #[cfg(test)]
 mod edges;
-#[cfg(test)]
-mod errors;
-#[cfg(test)]
-mod format_two;
 #[cfg(test)]
 mod grid;
 #[cfg(test)]
@@ -23,11 +19,7 @@ mod rows;
 #[cfg(test)]
 mod sets;
 #[cfg(test)]
-mod streams;
-#[cfg(test)]
 mod sums;
-#[cfg(test)]
-mod table;
 #[cfg(test)]
 mod texts;
 #[cfg(test)]

@@ -3,7 +3,8 @@
 
 ghost use Rattle.std.specs.Prelude.{◌≤◌};
 
-use crate::rows::{cell, holds, is_cell};
+use crate::rows::{cell, is_cell, is_list};
+use h3_fakes::holds;
 use h3_index::{Cell, H3Error};
 use h3_regions::{
     Region, Zones, count, find_overlap, intersect, join, order_zones, subtract, unite,
@@ -54,16 +55,6 @@ fn put(slots: &mut [Cell; MOST], first: &[u64], second: &[u64]) -> usize
         }
     }
     (first.len() + second.len()).min(MOST)
-}
-
-/// Whether these are the cells, in this order.
-fn is_list(rt: &HostRuntime, cells: &[Cell], expected: &[u64]) -> bool {
-    for (place, (cell, raw)) in cells.iter().zip(expected).enumerate() {
-        if !holds(rt, place, cell.raw() == *raw) {
-            return false;
-        }
-    }
-    cells.len() == expected.len()
 }
 
 /// Whether these are the cells, once they are in ascending order.
@@ -525,6 +516,9 @@ fn a_region_may_be_given_by_cells_that_overlap(rt: HostRuntime) {
     assert!(rt; !region.covers(cell(&rt, 0x8528340ffffffff)));
 }
 
+/// None of resolution 0, and six of each other one.
+const SIX_EACH: [u64; 16] = [0, 6, 6, 6, 6, 6, 6, 6, 6, 6, 6, 6, 6, 6, 6, 6];
+
 /// Whether 90 zones, six of each resolution from 1 to 15, are each their own.
 fn are_of_all_resolutions(zones: &Zones) -> bool {
     let mut sizes = [0u64; 16];
@@ -535,7 +529,7 @@ fn are_of_all_resolutions(zones: &Zones) -> bool {
             return false;
         }
     }
-    zones.cells().len() == 90 && sizes[0] == 0 && sizes.iter().skip(1).all(|size| *size == 6)
+    zones.cells().len() == 90 && sizes == SIX_EACH
 }
 
 /// What is left of a cell of resolution 0 without one of resolution 15.
@@ -595,6 +589,15 @@ struct Set<'a> {
     first: &'a [Cell],
     second: &'a [Cell],
     kind: Kind,
+}
+
+/// The set of this kind of the leaves that two lists cover.
+fn set_of<'a>(first: &'a [Cell], second: &'a [Cell], kind: Kind) -> Set<'a> {
+    Set {
+        first,
+        second,
+        kind,
+    }
 }
 
 #[derive(Clone, Copy)]
@@ -673,18 +676,14 @@ fn agree(leaves: &[Cell], first: [Cell; 8], second: [Cell; 8]) -> bool {
     let (mut cells, mut others) = (first, second);
     let mut slots = [Cell::in_base(0); SLOTS];
     let mut more = slots;
-    let set = |kind| Set {
-        first: &first,
-        second: &second,
-        kind,
-    };
+    let both = set_of(&first, &second, Kind::Both);
+    let beyond = set_of(&first, &second, Kind::Beyond);
     let one = Region::of(&mut cells);
     let other = Region::of(&mut others);
     let shared = intersect(&one, &other, &mut slots);
     match subtract(&one, &other, &mut more) {
         Some(left) => {
-            is_region_of(leaves, set(Kind::Both), shared.cells())
-                && is_region_of(leaves, set(Kind::Beyond), left.cells())
+            is_region_of(leaves, both, shared.cells()) && is_region_of(leaves, beyond, left.cells())
         }
         None => false,
     }
@@ -697,12 +696,8 @@ fn agree_united(leaves: &[Cell], first: [Cell; 8], second: [Cell; 8]) -> bool {
         *slot = *cell;
     }
     let count = unite(&mut all);
-    let set = Set {
-        first: &first,
-        second: &second,
-        kind: Kind::Either,
-    };
-    is_region_of(leaves, set, &all[..count])
+    let either = set_of(&first, &second, Kind::Either);
+    is_region_of(leaves, either, &all[..count])
 }
 
 #[test]

@@ -1,6 +1,7 @@
 //! Sets of cells: compaction and uncompaction.
 
-use crate::rows::{cell, clone_of, copy_of, holds, is_cell};
+use crate::rows::{cell, clone_of, copy_of, is_cell, is_list};
+use h3_fakes::holds;
 use h3_index::{Cell, H3Error};
 use h3_set::{Compaction, Uncompact, compact_cells, compact_in_order, compact_in_place, uncompact};
 use h3_tree::{Children, children};
@@ -140,14 +141,14 @@ fn an_uncompact_holds_the_rest_a_resolution_and_children(rt: HostRuntime) {
     assert!(rt; size_of::<Uncompact<'_>>() == parts);
 }
 
-/// Whether a list has these cells.
-fn is_list(rt: &HostRuntime, cells: &[Cell], expected: &[u64]) -> bool {
-    for (place, (cell, raw)) in cells.iter().zip(expected).enumerate() {
-        if !holds(rt, place, cell.raw() == *raw) {
+/// Whether each slot from a place on has this cell.
+fn are_all(slots: &[Cell], from: usize, cell: Cell) -> bool {
+    for slot in slots.iter().skip(from) {
+        if *slot != cell {
             return false;
         }
     }
-    cells.len() == expected.len()
+    true
 }
 
 /// Whether the compacted list of the cells has the cells expected, and the slots after as many as
@@ -162,7 +163,7 @@ fn compacts(rt: &HostRuntime, cells: &[Cell], expected: &[u64]) -> bool {
     let Ok(count) = compact_cells(cells, &mut slots) else {
         return false;
     };
-    is_list(rt, &slots[..count], expected) && slots.iter().skip(given).all(|slot| *slot == other)
+    is_list(rt, &slots[..count], expected) && are_all(&slots, given, other)
 }
 
 /// The descendants of a cell at a resolution; none where they are refused.
@@ -556,12 +557,15 @@ fn compacted_parts(alloc: Global, cells: &[Cell]) -> Result<Vec<Cell>, AllocErro
 
 /// Whether cells are of several resolutions.
 fn has_resolutions(cells: &[Cell]) -> bool {
-    match cells.first() {
-        Some(first) => cells
-            .iter()
-            .any(|cell| cell.resolution() != first.resolution()),
-        None => false,
+    let Some(first) = cells.first() else {
+        return false;
+    };
+    for cell in cells {
+        if cell.resolution() != first.resolution() {
+            return true;
+        }
     }
+    false
 }
 
 /// Whether the compacted lists of the parts of a list of cells are shorter than the list, have

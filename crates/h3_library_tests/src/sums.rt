@@ -1,7 +1,8 @@
 //! Directions, carries, and the sums of a cell and a direction.
 
-use crate::rows::{cell, differ, holds, is_cell};
+use crate::rows::{cell, is_cell};
 use h3_directions::{DIRECTIONS, Direction};
+use h3_fakes::{differ, holds};
 use h3_index::{Cell, Edge};
 use h3_lattice::{Class, Digits, Moved, add, add_at, carry, edge_direction, turn};
 use std::process::Abort;

@@ -1,6 +1,7 @@
 //! The texts of indexes: how they are read, written, displayed and parsed, and lines of cells.
 
-use crate::rows::{Expected, cell, holds, same};
+use crate::rows::{Expected, cell, same};
+use h3_fakes::holds;
 use h3_index::{
     Cell, Edge, H3Error, index_bytes, is_blank_text, put_cell_line, put_children_lines, read_index,
     read_plain, write_index,
@@ -59,11 +60,21 @@ fn only_lower_case_digits_are_plain(rt: HostRuntime) {
     }
 }
 
+/// Whether all bytes are zeros as text.
+fn are_zeros(bytes: &[u8]) -> bool {
+    for byte in bytes {
+        if *byte != b'0' {
+            return false;
+        }
+    }
+    true
+}
+
 /// Whether the bytes of an index are this text, and zeros after it.
 fn has_bytes(index: u64, text: &[u8]) -> bool {
     let (bytes, length) = index_bytes(index);
     let (front, rest) = bytes.split_at(length);
-    front == text && rest.iter().all(|byte| *byte == b'0')
+    front == text && are_zeros(rest)
 }
 
 /// The front of one text, a digit more at a time. Eight digits and more are plain.

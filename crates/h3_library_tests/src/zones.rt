@@ -2,7 +2,8 @@
 
 ghost use Rattle.std.specs.Prelude.{◌≡◌, ◌+◌, ◌≤◌, length, sum};
 
-use crate::rows::{cell, holds};
+use crate::rows::{cell, is_list};
+use h3_fakes::holds;
 use h3_index::Cell;
 use h3_regions::laws::zones_are_lawful;
 use h3_regions::{
@@ -397,16 +398,12 @@ fn cells_are_counted_one_by_one(rt: HostRuntime) {
 }
 
 /// Whether cells are put in the order of their numbers.
-fn are_ordered(cells: &mut [Cell], expected: &[u64]) -> bool {
+fn are_ordered(rt: &HostRuntime, cells: &mut [Cell], expected: &[u64]) -> bool {
     if order_zones(cells).is_err() {
         return false;
     }
     order_by_number(cells);
-    cells.len() == expected.len()
-        && cells
-            .iter()
-            .zip(expected)
-            .all(|(cell, raw)| cell.raw() == *raw)
+    is_list(rt, cells, expected)
 }
 
 #[test]
@@ -414,6 +411,6 @@ fn zones_stand_in_the_order_of_their_numbers(rt: HostRuntime) {
     for (row, (list, expected)) in LISTS.iter().zip(&BY_NUMBER).enumerate() {
         let mut slots = [Cell::in_base(0); MOST];
         let given = put(&mut slots, list);
-        assert!(rt; holds(&rt, row, are_ordered(&mut slots[..given], expected)));
+        assert!(rt; holds(&rt, row, are_ordered(&rt, &mut slots[..given], expected)));
     }
 }

@@ -1,9 +1,8 @@
 //! Commands over the cells of rows: their answers, and how they end where a read or a write fails.
 
-use crate::cases::NO_FAULT;
-use crate::words::read;
-use h3_command::run::run_over;
-use h3_fakes::{Faults, FaultySink, FaultySource};
+use h3_fakes::{Faults, FaultySink, FaultySource, NO_FAULT};
+use h3_parses::read;
+use h3_runs::run_over_rows;
 use std::alloc::Global;
 
 /// The words of a command, the table that it reads, and its output, its line on standard error and
@@ -22,7 +21,7 @@ fn ends(alloc: Global, row: &Row, most: usize, reads: Faults, writes: Faults) ->
     let mut out = FaultySink::<2048>::new(64, writes);
     let mut err = FaultySink::<64>::new(64, NO_FAULT);
     let ended = match read(alloc, line) {
-        Ok(words) => run_over(
+        Ok(words) => run_over_rows(
             alloc,
             &words.command,
             &words.rows,

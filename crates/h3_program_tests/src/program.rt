@@ -1,9 +1,10 @@
 //! Command lines that are run over streams and a file in memory.
 
-use crate::words::words_of;
 use arrayvec::ArrayVec;
 use h3_fakes::table_file;
-use h3_program::{NamedFile, OpenFault, OpenFile, OpenFiles, run_words};
+use h3_line_runs::run_line;
+use h3_parses::words_of;
+use h3_program::{NamedFile, OpenFault, OpenFile, OpenFiles};
 use h3_streams::{Sink, Source, Streamed};
 use h3_table::vectors::TestTable;
 use std::alloc::Global;
@@ -132,7 +133,7 @@ fn status_of<W: Sink, E: Sink>(
     let words = words_of(alloc, line).ok()?;
     let mut input = Streamed::new(list.as_bytes());
     let mut file = NamedFile::new(files);
-    Some(run_words(alloc, words, &mut input, &mut file, out, err))
+    Some(run_line(alloc, words, &mut input, &mut file, out, err))
 }
 
 /// Runs a command line over a list, and a file at a path.

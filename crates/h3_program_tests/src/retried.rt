@@ -1,7 +1,8 @@
 //! Calls that are interrupted, or fail with another error.
 
-use crate::words::words_of;
-use h3_program::{NamedFile, Retried, SystemFiles, run_words};
+use h3_line_runs::run_line;
+use h3_parses::words_of;
+use h3_program::{NamedFile, Retried, SystemFiles};
 use h3_streams::Streamed;
 use std::alloc::Global;
 use std::io;
@@ -175,7 +176,7 @@ fn ends<R: AllocGlobal + Files>(rt: &R, line: &str, status: u8, output: &str, te
     let mut out = Streamed::new(Retried::new(interrupted(&mut written, 3)));
     let mut err = Streamed::new(Retried::new(interrupted(&mut reported, 3)));
     let alloc = rt.alloc();
-    let ended = run_words(alloc, words, &mut input, &mut file, &mut out, &mut err);
+    let ended = run_line(alloc, words, &mut input, &mut file, &mut out, &mut err);
     ended == status
         && written.as_slice() == output.as_bytes()
         && reported.as_slice() == text.as_bytes()

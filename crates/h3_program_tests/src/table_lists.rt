@@ -1,10 +1,8 @@
 //! Commands that answer each line or row of a list over a table, and children.
 
-use crate::cases::NO_FAULT;
-use crate::files::pulls_to_end;
-use crate::words::read;
-use h3_command::run::run_over;
-use h3_fakes::{Faults, FaultySink, FaultySource, table_file};
+use h3_fakes::{Faults, FaultySink, FaultySource, NO_FAULT, pulls_to_end, table_file};
+use h3_parses::read;
+use h3_runs::run_over_rows;
 use h3_table::vectors::TestTable;
 use std::alloc::Global;
 
@@ -46,7 +44,7 @@ fn over(
     let mut out = FaultySink::new(64, NO_FAULT);
     let mut err = FaultySink::new(64, NO_FAULT);
     let (command, rows) = (&words.command, &words.rows);
-    let status = run_over(
+    let status = run_over_rows(
         alloc, command, rows, &mut input, &mut table, &mut out, &mut err,
     );
     Some(Outcome {

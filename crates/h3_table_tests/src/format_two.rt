@@ -1,0 +1,269 @@
+//! Files of base cell tables in format 2.
+
+use crate::table::{ends, has_link, has_links, is_refused, read};
+use h3_directions::{DIRECTIONS, Direction, TableError};
+use h3_fakes::holds;
+use h3_index::is_pentagon_base;
+use h3_table::vectors::{TestTable, link};
+use std::alloc::{AllocError, Global};
+
+const HEADER: &str = "base,k,j,jk,i,ik,ij,rk,rj,rjk,ri,rik,rij\n";
+
+/// The first record of the plain table.
+const FIRST: &str = "0,110,11,121,1,111,12,0,0,0,0,0,0\n";
+
+/// A record: a base cell, six neighbors and six numbers of turns.
+type Record = [u8; 13];
+
+/// The records of a table.
+fn records(alloc: Global, table: TestTable) -> Result<Vec<Record>, AllocError> {
+    let mut records = Vec::new(alloc);
+    for base in 0..122u8 {
+        if !is_pentagon_base(base) {
+            let mut record = [base; 13];
+            for i in 0..6 {
+                let (to, turns) = link(table, base, DIRECTIONS[i]);
+                record[1 + i] = to;
+                record[7 + i] = turns;
+            }
+            records.push(record)?;
+        }
+    }
+    Ok(records)
+}
+
+/// The text of a record.
+fn line_of(alloc: Global, record: &Record) -> Result<String, AllocError> {
+    let mut line = format!(in alloc; "{}", record[0])?;
+    for i in 1..13 {
+        let field = format!(in alloc; ",{}", record[i])?;
+        line.push_str(&field)?;
+    }
+    Ok(line)
+}
+
+/// The text of a table file, each record ended in the same way.
+fn text_of(alloc: Global, records: &[Record], end: &str) -> Result<String, AllocError> {
+    let mut text = String::new(alloc);
+    text.push_str(HEADER.trim_end())?;
+    text.push_str(end)?;
+    for record in records {
+        text.push_str(&line_of(alloc, record)?)?;
+        text.push_str(end)?;
+    }
+    Ok(text)
+}
+
+/// The text of the file of a table.
+fn file_of(alloc: Global, table: TestTable) -> Result<String, AllocError> {
+    text_of(alloc, &records(alloc, table)?, "\n")
+}
+
+#[test]
+fn sound_tables_are_accepted(rt: HostRuntime) -> Result<(), AllocError> {
+    for table in [TestTable::Plain, TestTable::Twisted] {
+        let records = records(rt.alloc(), table)?;
+        assert!(rt; records.len() == 110);
+        for (row, end) in ["\n", "\r\n", "\r", "\n\n"].iter().enumerate() {
+            let text = text_of(rt.alloc(), &records, end)?;
+            assert!(rt; holds(&rt, row, has_links(&rt, &text, table)));
+        }
+    }
+    Ok(())
+}
+
+#[test]
+fn links_are_those_of_worked_records(rt: HostRuntime) -> Result<(), AllocError> {
+    static LINKS: [(Direction, u8, u8); 6] = [
+        (Direction::K, 18, 0),
+        (Direction::J, 41, 5),
+        (Direction::JK, 29, 5),
+        (Direction::I, 31, 1),
+        (Direction::IK, 19, 1),
+        (Direction::IJ, 42, 0),
+    ];
+    let plain = file_of(rt.alloc(), TestTable::Plain)?;
+    let first = format!(in rt.alloc(); "{HEADER}{FIRST}1,111,")?;
+    assert!(rt; plain.starts_with(first.as_str()));
+    let twisted = file_of(rt.alloc(), TestTable::Twisted)?;
+    assert!(rt; twisted.contains("\n30,18,41,29,31,19,42,0,5,5,1,1,0\n"));
+    let Ok(table) = read(rt.alloc(), &twisted) else {
+        panic!(rt; "it is refused")
+    };
+    for (row, (direction, to, turns)) in LINKS.iter().enumerate() {
+        assert!(rt; holds(&rt, row, has_link(&table, 30, *direction, *to, *turns)));
+    }
+    Ok(())
+}
+
+#[test]
+fn records_come_in_any_order(rt: HostRuntime) -> Result<(), AllocError> {
+    let mut records = records(rt.alloc(), TestTable::Twisted)?;
+    records.reverse();
+    let text = text_of(rt.alloc(), &records, "\n")?;
+    assert!(rt; has_links(&rt, &text, TestTable::Twisted));
+    Ok(())
+}
+
+/// The text of a record with zeros in front of its numbers, the first of them in quotes.
+fn padded_line(alloc: Global, record: &Record) -> Result<String, AllocError> {
+    let mut line = format!(in alloc; "\"{:03}\"", record[0])?;
+    for i in 1..13 {
+        let field = format!(in alloc; ",{:03}", record[i])?;
+        line.push_str(&field)?;
+    }
+    Ok(line)
+}
+
+/// The file of the plain table with a byte order mark and such records.
+fn padded_file(alloc: Global) -> Result<String, AllocError> {
+    let mut text = format!(in alloc; "\u{feff}{HEADER}")?;
+    for record in &records(alloc, TestTable::Plain)? {
+        text.push_str(&padded_line(alloc, record)?)?;
+        text.push('\n')?;
+    }
+    Ok(text)
+}
+
+#[test]
+fn marks_quotes_and_zeros_are_let_through(rt: HostRuntime) -> Result<(), AllocError> {
+    let padded = padded_file(rt.alloc())?;
+    assert!(rt; has_links(&rt, &padded, TestTable::Plain));
+    Ok(())
+}
+
+#[test]
+fn headers_are_exact(rt: HostRuntime) {
+    static HEADERS: [&str; 6] = [
+        "base,k,j,jk,i,ik,ij,rk,rj,rjk,ri,rik\n",
+        "base,k,j,jk,i,ik,ij,rk,rj,rjk,ri,rik,rij,\n",
+        "base,k,j,i,jk,ik,ij,rk,rj,ri,rjk,rik,rij\n",
+        "base,rk,rj,rjk,ri,rik,rij,k,j,jk,i,ik,ij\n",
+        "Base,k,j,jk,i,ik,ij,rk,rj,rjk,ri,rik,rij\n",
+        "0,110,11,121,1,111,12,0,0,0,0,0,0\n",
+    ];
+    for (row, text) in HEADERS.iter().enumerate() {
+        let read = read(rt.alloc(), text);
+        assert!(rt; holds(&rt, row, ends(read, Some(TableError::Form(1)))));
+    }
+}
+
+#[test]
+fn each_header_wants_its_own_records(rt: HostRuntime) -> Result<(), AllocError> {
+    let alloc = rt.alloc();
+    assert!(rt; is_refused(alloc, "base,dir,to,rot\n", FIRST, TableError::Form(2))?);
+    assert!(rt; is_refused(alloc, HEADER, "0,1,110,0\n", TableError::Form(2))?);
+    Ok(())
+}
+
+#[test]
+fn the_first_faulty_record_decides(rt: HostRuntime) -> Result<(), AllocError> {
+    static ROWS: [(&str, TableError); 14] = [
+        ("0,110,11,121,1,111,12,0,0,0,0,0\n", TableError::Form(2)),
+        ("0,110,11,121,1,111,12,0,0,0,0,0,0,0\n", TableError::Form(2)),
+        ("0,110,11,121,1,111,12,0,0,0,0,0,\n", TableError::Form(2)),
+        ("0,110,11,121,1,111,0012,0,0,0,0,0,0\n", TableError::Form(2)),
+        ("0,110,11,121,1,111, 12,0,0,0,0,0,0\n", TableError::Form(2)),
+        ("4,110,11,121,1,111,12,0,0,0,0,0,x\n", TableError::Form(2)),
+        ("4,110,11,121,1,111,12,0,0,0,0,0,0\n", TableError::Range(2)),
+        (
+            "122,110,11,121,1,111,12,0,0,0,0,0,0\n",
+            TableError::Range(2),
+        ),
+        (
+            "256,110,11,121,1,111,12,0,0,0,0,0,0\n",
+            TableError::Range(2),
+        ),
+        ("0,122,11,121,1,111,12,0,0,0,0,0,0\n", TableError::Range(2)),
+        ("0,110,11,121,1,111,122,0,0,0,0,0,0\n", TableError::Range(2)),
+        ("0,110,11,121,1,111,12,6,0,0,0,0,0\n", TableError::Range(2)),
+        ("0,110,11,121,1,111,12,0,0,0,0,0,6\n", TableError::Range(2)),
+        ("\n", TableError::Missing),
+    ];
+    for (row, (rest, error)) in ROWS.iter().enumerate() {
+        let is_refused = is_refused(rt.alloc(), HEADER, rest, *error)?;
+        assert!(rt; holds(&rt, row, is_refused));
+    }
+    Ok(())
+}
+
+/// After the first record of the plain table.
+#[test]
+fn a_faulty_second_record_decides(rt: HostRuntime) -> Result<(), AllocError> {
+    static ROWS: [(&str, TableError); 4] = [
+        (
+            "0,110,11,121,1,111,12,0,0,0,0,0,0\n0,1,2,3,5,6,7,0,0,0,0,0,0\n",
+            TableError::Repeated(3),
+        ),
+        (
+            "0,110,11,121,1,111,12,0,0,0,0,0,0\n0,1,2,3,5,6,7,0,0,0,0,0,6\n",
+            TableError::Range(3),
+        ),
+        (
+            "0,110,11,121,1,111,12,0,0,0,0,0,0\n0,1,2,3,5,6,7,0,0,0,0,0\n",
+            TableError::Form(3),
+        ),
+        (
+            "0,110,11,121,1,111,12,0,0,0,0,0,0\n\n1,1,2,3,5,6,7,0,0,0,0,0,0\n",
+            TableError::Missing,
+        ),
+    ];
+    for (row, (rest, error)) in ROWS.iter().enumerate() {
+        let is_refused = is_refused(rt.alloc(), HEADER, rest, *error)?;
+        assert!(rt; holds(&rt, row, is_refused));
+    }
+    Ok(())
+}
+
+#[test]
+fn a_missing_or_repeated_record_is_refused(rt: HostRuntime) -> Result<(), AllocError> {
+    let mut records = records(rt.alloc(), TestTable::Plain)?;
+    let plain = text_of(rt.alloc(), &records, "\n")?;
+    assert!(rt; is_refused(rt.alloc(), &plain, FIRST, TableError::Repeated(112))?);
+    let _ = records.pop();
+    let short = text_of(rt.alloc(), &records, "\n")?;
+    assert!(rt; ends(read(rt.alloc(), &short), Some(TableError::Missing)));
+    Ok(())
+}
+
+/// Whether the plain table with the record of a base cell changed is refused with an error.
+fn is_refused_with(alloc: Global, change: &Record, error: TableError) -> Result<bool, AllocError> {
+    let mut records = records(alloc, TestTable::Plain)?;
+    for record in records.as_mut_slice() {
+        if record[0] == change[0] {
+            *record = *change;
+        }
+    }
+    let text = text_of(alloc, &records, "\n")?;
+    Ok(ends(read(alloc, &text), Some(error)))
+}
+
+#[test]
+fn the_first_check_that_fails_decides(rt: HostRuntime) -> Result<(), AllocError> {
+    static ROWS: [(Record, TableError); 3] = [
+        (
+            [0, 110, 110, 121, 1, 111, 12, 0, 0, 0, 0, 0, 0],
+            TableError::Neighbours(0),
+        ),
+        (
+            [0, 110, 11, 121, 1, 111, 12, 1, 0, 0, 0, 0, 0],
+            TableError::Reversal(0, Direction::K),
+        ),
+        (
+            [60, 48, 71, 59, 61, 49, 72, 0, 0, 0, 1, 0, 0],
+            TableError::Reversal(60, Direction::I),
+        ),
+    ];
+    let skew = file_of(rt.alloc(), TestTable::Skew)?;
+    assert!(rt;
+        ends(
+            read(rt.alloc(), &skew),
+            Some(TableError::Corner(0, Direction::K))
+        )
+    );
+    for (row, (change, error)) in ROWS.iter().enumerate() {
+        let is_refused = is_refused_with(rt.alloc(), change, *error)?;
+        assert!(rt; holds(&rt, row, is_refused));
+    }
+    Ok(())
+}

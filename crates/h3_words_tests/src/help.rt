@@ -1,0 +1,439 @@
+//! Lines that ask for help or the version, and what help says.
+
+use crate::refused_words::is_invalid;
+use h3_parses::read;
+use h3_words::ArgsError;
+use std::alloc::Global;
+
+/// The text of the help that a line asks for; an empty one if it asks for none.
+pub fn help_of(alloc: Global, line: &str) -> String {
+    match read(alloc, line) {
+        Err(ArgsError::Help(text)) => text,
+        _ => String::new(alloc),
+    }
+}
+
+/// Whether a line asks for help.
+fn asks_for_help(alloc: Global, line: &str) -> bool {
+    !help_of(alloc, line).is_empty()
+}
+
+/// Lines that ask for help.
+static HELP: [&str; 30] = [
+    "h3 --help",
+    "h3 -h",
+    "h3 isValidCell --help",
+    "h3 isValidCell -c 0 -h",
+    "h3 getNumCells --help",
+    "h3 getRes0Cells --help",
+    "h3 cellToParent --help",
+    "h3 childPosToCell --help",
+    "h3 compactCells --help",
+    "h3 uncompactCells -r 6 --help",
+    "h3 uncompactCellsSize --help",
+    "h3 uniteCells --help",
+    "h3 intersectCells --help",
+    "h3 subtractCells --region r -h",
+    "h3 areCoveredCells -h",
+    "h3 cellsToZones --zones z --help",
+    "h3 countCellsInZones --help",
+    "h3 gridDiskUnsafe --help",
+    "h3 gridDiskDistancesUnsafe -k 1 --help",
+    "h3 gridRingUnsafe -h",
+    "h3 areNeighborCells --help",
+    "h3 cellsToDirectedEdge -c 0 --help",
+    "h3 isValidDirectedEdge --help",
+    "h3 getDirectedEdgeOrigin -h",
+    "h3 getDirectedEdgeDestination --edge 0 --help",
+    "h3 originToDirectedEdges --help",
+    "h3 areValidCells --help",
+    "h3 cellsToParents -h",
+    "h3 cellsToChildPositions -r 0 --help",
+    "h3 originsToDirectedEdges --help",
+];
+
+#[test]
+fn helps(rt: HostRuntime) {
+    for line in &HELP {
+        assert!(&rt; asks_for_help(rt.alloc(), line), "{line}");
+    }
+}
+
+/// Whether a line asks for the version.
+fn asks_for_version(alloc: Global, line: &str) -> bool {
+    matches!(read(alloc, line), Err(ArgsError::Version))
+}
+
+/// Lines that ask for the version.
+static VERSION: [&str; 6] = [
+    "h3 --version",
+    "h3 -V",
+    "h3 --version --help",
+    "h3 -V isValidCell",
+    "h3 --version isValidCell -c 85283473fffffff",
+    "another --version",
+];
+
+#[test]
+fn is_asked_for_the_version(rt: HostRuntime) {
+    for line in &VERSION {
+        assert!(&rt; asks_for_version(rt.alloc(), line), "{line}");
+    }
+}
+
+/// Lines that do not ask for the version, and are invalid.
+static NO_VERSION: [&str; 9] = [
+    "h3 -v",
+    "h3 --Version",
+    "h3 --versio",
+    "h3 --version=1",
+    "h3 -VV",
+    "h3 version",
+    "h3 isValidCell -V",
+    "h3 isValidCell --version -c 85283473fffffff",
+    "h3 getRes0Cells --version",
+];
+
+#[test]
+fn refuses_the_version_elsewhere(rt: HostRuntime) {
+    for line in &NO_VERSION {
+        assert!(&rt; is_invalid(rt.alloc(), line), "{line}");
+    }
+    assert!(&rt; asks_for_help(rt.alloc(), "h3 --help --version"));
+    assert!(&rt; is_invalid(rt.alloc(), "--version"));
+}
+
+/// The words that name the commands.
+static COMMAND_WORDS: [&str; 51] = [
+    "isValidCell",
+    "getResolution",
+    "getBaseCellNumber",
+    "isPentagon",
+    "isResClassIII",
+    "getNumCells",
+    "getRes0Cells",
+    "getPentagons",
+    "cellToParent",
+    "cellToCenterChild",
+    "cellToLastChild",
+    "cellToChildren",
+    "cellToChildrenSize",
+    "cellToChildPos",
+    "childPosToCell",
+    "compactCells",
+    "uncompactCells",
+    "uncompactCellsSize",
+    "uniteCells",
+    "intersectCells",
+    "subtractCells",
+    "areCoveredCells",
+    "cellsToZones",
+    "countCellsInZones",
+    "gridDiskUnsafe",
+    "gridDiskDistancesUnsafe",
+    "gridRingUnsafe",
+    "areNeighborCells",
+    "cellsToDirectedEdge",
+    "isValidDirectedEdge",
+    "getDirectedEdgeOrigin",
+    "getDirectedEdgeDestination",
+    "originToDirectedEdges",
+    "areValidCells",
+    "areValidDirectedEdges",
+    "getResolutions",
+    "getBaseCellNumbers",
+    "arePentagons",
+    "areResClassIII",
+    "cellsToParents",
+    "cellsToCenterChildren",
+    "cellsToLastChildren",
+    "cellsToChildren",
+    "cellsToChildrenSizes",
+    "cellsToChildPositions",
+    "gridDisksUnsafe",
+    "gridDisksDistancesUnsafe",
+    "gridRingsUnsafe",
+    "getDirectedEdgeOrigins",
+    "getDirectedEdgeDestinations",
+    "originsToDirectedEdges",
+];
+
+/// Whether a line of a text begins with a word.
+fn lists(text: &str, word: &str) -> bool {
+    for line in text.lines() {
+        if line.split_whitespace().next() == Some(word) {
+            return true;
+        }
+    }
+    false
+}
+
+#[test]
+fn help_lists_the_commands(rt: HostRuntime) {
+    let text = help_of(rt.alloc(), "h3 --help");
+    for word in &COMMAND_WORDS {
+        assert!(&rt; lists(text.as_str(), word), "{word}");
+    }
+}
+
+/// The groups of commands in help.
+static GROUPS: [&str; 5] = [
+    "Cells:",
+    "Hierarchy:",
+    "With a table of base cells, made by h3-table:",
+    "Directed edges:",
+    "Lists on standard input, one index a line:",
+];
+
+/// Whether no line of a text is longer than 80 bytes.
+fn is_narrow(text: &str) -> bool {
+    for line in text.lines() {
+        if line.len() > 80 {
+            return false;
+        }
+    }
+    true
+}
+
+/// Whether a text has this line.
+fn has_line(text: &str, wanted: &str) -> bool {
+    for line in text.lines() {
+        if line == wanted {
+            return true;
+        }
+    }
+    false
+}
+
+/// Whether no line of a text is longer than 80 bytes, and each group begins with a line of its own.
+fn is_grouped(text: &str) -> bool {
+    for group in &GROUPS {
+        if !has_line(text, group) {
+            return false;
+        }
+    }
+    is_narrow(text)
+}
+
+#[test]
+fn help_groups_the_commands(rt: HostRuntime) {
+    assert!(&rt; is_grouped(help_of(rt.alloc(), "h3 --help").as_str()));
+}
+
+/// Lines that ask for help of a command over a region or zones, and what it says of the file.
+static FILE_HELP: [(&str, &str); 5] = [
+    (
+        "h3 intersectCells --help",
+        "region: line 2: error 5: E_CELL_INVALID",
+    ),
+    ("h3 subtractCells --help", "region: open, status 3"),
+    ("h3 areCoveredCells --help", "--region <region>"),
+    (
+        "h3 cellsToZones --help",
+        "zones: error 10: E_DUPLICATE_INPUT",
+    ),
+    ("h3 countCellsInZones --help", "zones: open, status 3"),
+];
+
+/// Whether a line asks for help that has a text, in lines of at most 80 bytes.
+fn narrow_help_says(alloc: Global, line: &str, said: &str) -> bool {
+    let text = help_of(alloc, line);
+    is_narrow(text.as_str()) && text.contains(said)
+}
+
+/// The first of these lines whose help is not narrow or lacks the text beside it, or how many they
+/// are.
+fn first_unsaid(alloc: Global, rows: &[(&str, &str)]) -> usize {
+    for (row, (line, said)) in rows.iter().enumerate() {
+        if !narrow_help_says(alloc, line, said) {
+            return row;
+        }
+    }
+    rows.len()
+}
+
+#[test]
+fn help_says_what_a_file_may_be_refused_for(rt: HostRuntime) {
+    let row = first_unsaid(rt.alloc(), &FILE_HELP);
+    assert!(&rt; row == FILE_HELP.len(), "row {row}");
+}
+
+/// How a list is given to each command that reads one.
+static LIST_USAGES: [(&str, &str); 27] = [
+    ("h3 compactCells -h", "Usage: h3 compactCells < cells\n"),
+    (
+        "h3 uncompactCells -h",
+        "Usage: h3 uncompactCells --resolution <resolution> < cells\n",
+    ),
+    (
+        "h3 uncompactCellsSize -h",
+        "Usage: h3 uncompactCellsSize --resolution <resolution> < cells\n",
+    ),
+    ("h3 uniteCells -h", "Usage: h3 uniteCells < cells\n"),
+    (
+        "h3 intersectCells -h",
+        "Usage: h3 intersectCells --region <region> < cells\n",
+    ),
+    (
+        "h3 subtractCells -h",
+        "Usage: h3 subtractCells --region <region> < cells\n",
+    ),
+    (
+        "h3 areCoveredCells -h",
+        "Usage: h3 areCoveredCells --region <region> < cells\n",
+    ),
+    (
+        "h3 cellsToZones -h",
+        "Usage: h3 cellsToZones --zones <zones> < cells\n",
+    ),
+    (
+        "h3 countCellsInZones -h",
+        "Usage: h3 countCellsInZones --zones <zones> < cells\n",
+    ),
+    ("h3 areValidCells -h", "Usage: h3 areValidCells < cells\n"),
+    (
+        "h3 areValidDirectedEdges -h",
+        "Usage: h3 areValidDirectedEdges < edges\n",
+    ),
+    ("h3 getResolutions -h", "Usage: h3 getResolutions < cells\n"),
+    (
+        "h3 getBaseCellNumbers -h",
+        "Usage: h3 getBaseCellNumbers < cells\n",
+    ),
+    ("h3 arePentagons -h", "Usage: h3 arePentagons < cells\n"),
+    ("h3 areResClassIII -h", "Usage: h3 areResClassIII < cells\n"),
+    (
+        "h3 cellsToParents -h",
+        "Usage: h3 cellsToParents --resolution <resolution> < cells\n",
+    ),
+    (
+        "h3 cellsToCenterChildren -h",
+        "Usage: h3 cellsToCenterChildren --resolution <resolution> < cells\n",
+    ),
+    (
+        "h3 cellsToLastChildren -h",
+        "Usage: h3 cellsToLastChildren --resolution <resolution> < cells\n",
+    ),
+    (
+        "h3 cellsToChildren -h",
+        "Usage: h3 cellsToChildren --resolution <resolution> < cells\n",
+    ),
+    (
+        "h3 cellsToChildrenSizes -h",
+        "Usage: h3 cellsToChildrenSizes --resolution <resolution> < cells\n",
+    ),
+    (
+        "h3 cellsToChildPositions -h",
+        "Usage: h3 cellsToChildPositions --resolution <resolution> < cells\n",
+    ),
+    (
+        "h3 gridDisksUnsafe -h",
+        "Usage: h3 gridDisksUnsafe -k <k> --table <table> < cells\n",
+    ),
+    (
+        "h3 gridDisksDistancesUnsafe -h",
+        "Usage: h3 gridDisksDistancesUnsafe -k <k> --table <table> < cells\n",
+    ),
+    (
+        "h3 gridRingsUnsafe -h",
+        "Usage: h3 gridRingsUnsafe -k <k> --table <table> < cells\n",
+    ),
+    (
+        "h3 getDirectedEdgeOrigins -h",
+        "Usage: h3 getDirectedEdgeOrigins < edges\n",
+    ),
+    (
+        "h3 getDirectedEdgeDestinations -h",
+        "Usage: h3 getDirectedEdgeDestinations --table <table> < edges\n",
+    ),
+    (
+        "h3 originsToDirectedEdges -h",
+        "Usage: h3 originsToDirectedEdges < cells\n",
+    ),
+];
+
+/// Lines that ask for help of a command that reads rows, and what it says of them.
+static ROWS_HELP: [(&str, &str); 24] = [
+    ("h3 cellsToParents --help", "\nRows:\n"),
+    ("h3 cellsToParents --help", "--field <number>"),
+    ("h3 cellsToParents --help", "--column <column>"),
+    ("h3 cellsToParents --help", "--header "),
+    ("h3 cellsToParents --help", "--separator <separator>"),
+    ("h3 cellsToParents --help", "--csv "),
+    ("h3 cellsToParents --help", "--as <name>"),
+    ("h3 cellsToParents --help", "--keep-going "),
+    (
+        "h3 cellsToParents --help",
+        "\nOf a CSV file, each row with its answer at the end:\n\
+        h3 cellsToParents -r 4 --csv --column cell < trips.csv\n",
+    ),
+    (
+        "h3 areValidDirectedEdges --help",
+        "\nh3 areValidDirectedEdges --csv --column edge < trips.csv\n",
+    ),
+    (
+        "h3 cellsToZones --help",
+        "\nOf a CSV file, each row with its zone at the end:\n",
+    ),
+    (
+        "h3 originsToDirectedEdges --help",
+        "\nOf a CSV file, each row once for each answer, which is at the end:\n",
+    ),
+    (
+        "h3 uniteCells --help",
+        "\nOf a CSV file, whose cells are the list:\nh3 uniteCells --csv ",
+    ),
+    (
+        "h3 gridDisksUnsafe --help",
+        "\nThe table cannot be the pipe of the list.\n",
+    ),
+    ("h3 getResolutions --help", "\nRows:\n"),
+    ("h3 areCoveredCells --help", "--keep-going "),
+    ("h3 cellsToZones --help", "--csv "),
+    ("h3 cellsToChildren --help", "--keep-going "),
+    ("h3 gridDisksUnsafe --help", "--as <name>"),
+    ("h3 gridDisksDistancesUnsafe --help", "--keep-going "),
+    ("h3 getDirectedEdgeDestinations --help", "--keep-going "),
+    ("h3 uncompactCells --help", "\nRows:\n"),
+    ("h3 intersectCells --help", "--field <number>"),
+    ("h3 countCellsInZones --help", "--csv "),
+];
+
+#[test]
+fn help_says_how_rows_are_read(rt: HostRuntime) {
+    let row = first_unsaid(rt.alloc(), &ROWS_HELP);
+    assert!(&rt; row == ROWS_HELP.len(), "row {row}");
+}
+
+/// Whether a line asks for help that has a text.
+fn help_says(alloc: Global, line: &str, said: &str) -> bool {
+    help_of(alloc, line).contains(said)
+}
+
+#[test]
+fn help_says_how_a_list_is_given(rt: HostRuntime) {
+    for (line, said) in &LIST_USAGES {
+        assert!(&rt; help_says(rt.alloc(), line, said), "{line}");
+    }
+}
+
+/// Lines that ask for help of a command that tells an error of a list with its line.
+static LINE_HELP: [&str; 9] = [
+    "h3 uniteCells --help",
+    "h3 areValidDirectedEdges --help",
+    "h3 cellsToParents --help",
+    "h3 originsToDirectedEdges --help",
+    "h3 cellsToChildren --help",
+    "h3 gridDisksUnsafe --help",
+    "h3 gridDisksDistancesUnsafe --help",
+    "h3 gridRingsUnsafe --help",
+    "h3 getDirectedEdgeDestinations --help",
+];
+
+#[test]
+fn help_says_that_an_error_of_a_list_is_told_with_its_line(rt: HostRuntime) {
+    let said = "as line 2: error 1: E_FAILED.\n";
+    for line in &LINE_HELP {
+        assert!(&rt; help_says(rt.alloc(), line, said), "{line}");
+    }
+}

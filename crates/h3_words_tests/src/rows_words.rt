@@ -1,0 +1,491 @@
+//! The words of the options of rows: what they parse as, and which are invalid.
+
+use crate::refused_words::{first_unsaid, first_valid};
+use h3_parses::{read, read_apart};
+use h3_requests::{CellField, RowOptions};
+use h3_words::ArgsError;
+use std::alloc::Global;
+
+/// The field that has the cell.
+#[derive(Clone, Copy, Drop)]
+enum Field {
+    Number(u16),
+    Column(&'static str),
+}
+
+/// What options of rows parse as: the field, whether there is a header, the separator, whether
+/// quotes count, the name of the new column, and whether a run goes on after a row with an error.
+type Expected = (Field, bool, u8, bool, Option<&'static str>, bool);
+
+/// Whether the cell is in this field.
+fn is_field(field: &CellField, expected: Field) -> bool {
+    match (field, expected) {
+        (CellField::Number(number), Field::Number(wanted)) => *number == wanted,
+        (CellField::Column(name), Field::Column(wanted)) => name.as_str() == wanted,
+        _ => false,
+    }
+}
+
+/// Whether this is the name of the new column.
+fn is_name(name: &Option<String>, expected: Option<&str>) -> bool {
+    match (name, expected) {
+        (Some(name), Some(wanted)) => name.as_str() == wanted,
+        (None, None) => true,
+        _ => false,
+    }
+}
+
+/// Whether options are those.
+fn are_those(rows: &RowOptions, expected: &Expected) -> bool {
+    is_field(&rows.field, expected.0)
+        && rows.has_header == expected.1
+        && rows.separator == expected.2
+        && rows.quotes == expected.3
+        && is_name(&rows.name, expected.4)
+        && rows.keeps_going == expected.5
+}
+
+/// Whether a line asks for a command on rows, with these options.
+fn asks_for_rows(alloc: Global, line: &str, expected: &Expected) -> bool {
+    match read(alloc, line) {
+        Ok(words) => match &words.rows {
+            Some(rows) => are_those(rows, expected),
+            None => false,
+        },
+        Err(_) => false,
+    }
+}
+
+/// The first of these lines that does not ask for the rows beside it, or how many they are.
+fn first_other(alloc: Global, rows: &[(&str, Expected)]) -> usize {
+    for (row, (line, expected)) in rows.iter().enumerate() {
+        if !asks_for_rows(alloc, line, expected) {
+            return row;
+        }
+    }
+    rows.len()
+}
+
+/// Lines with the field by its number or its name.
+static FIELDS: [(&str, Expected); 12] = [
+    (
+        "h3 cellsToParents -r 4 --field 2",
+        (Field::Number(2), false, b'\t', false, None, false),
+    ),
+    (
+        "h3 cellsToParents --field=2 -r 4",
+        (Field::Number(2), false, b'\t', false, None, false),
+    ),
+    (
+        "h3 getResolutions --field 1",
+        (Field::Number(1), false, b'\t', false, None, false),
+    ),
+    (
+        "h3 getResolutions --field 65535",
+        (Field::Number(65535), false, b'\t', false, None, false),
+    ),
+    (
+        "h3 getResolutions --field +3",
+        (Field::Number(3), false, b'\t', false, None, false),
+    ),
+    (
+        "h3 getResolutions --field 007",
+        (Field::Number(7), false, b'\t', false, None, false),
+    ),
+    (
+        "h3 getResolutions --column cell",
+        (Field::Column("cell"), true, b'\t', false, None, false),
+    ),
+    (
+        "h3 getResolutions --column=cell",
+        (Field::Column("cell"), true, b'\t', false, None, false),
+    ),
+    (
+        "h3 getResolutions --column=",
+        (Field::Column(""), true, b'\t', false, None, false),
+    ),
+    (
+        "h3 getResolutions --column -",
+        (Field::Column("-"), true, b'\t', false, None, false),
+    ),
+    (
+        "h3 getResolutions --field 1 --header",
+        (Field::Number(1), true, b'\t', false, None, false),
+    ),
+    (
+        "h3 getResolutions --header --field 1",
+        (Field::Number(1), true, b'\t', false, None, false),
+    ),
+];
+
+#[test]
+fn reads_fields(rt: HostRuntime) {
+    let row = first_other(rt.alloc(), &FIELDS);
+    assert!(&rt; row == FIELDS.len(), "row {row}");
+}
+
+/// Lines with a separator, and with quotes that count.
+static SEPARATORS: [(&str, Expected); 10] = [
+    (
+        "h3 areValidCells --field 1 --separator ,",
+        (Field::Number(1), false, b',', false, None, false),
+    ),
+    (
+        "h3 areValidCells --field 1 --separator=;",
+        (Field::Number(1), false, b';', false, None, false),
+    ),
+    (
+        "h3 areValidCells --column c --separator |",
+        (Field::Column("c"), true, b'|', false, None, false),
+    ),
+    (
+        "h3 areValidCells --field 1 --separator \\t",
+        (Field::Number(1), false, b'\t', false, None, false),
+    ),
+    (
+        "h3 areValidCells --csv --field 1 --separator \\t",
+        (Field::Number(1), false, b'\t', true, None, false),
+    ),
+    (
+        "h3 areValidCells --field 1 --separator \\",
+        (Field::Number(1), false, b'\\', false, None, false),
+    ),
+    (
+        "h3 areValidCells --field 1 --separator==",
+        (Field::Number(1), false, b'=', false, None, false),
+    ),
+    (
+        "h3 cellsToParents -r 4 --csv --column cell",
+        (Field::Column("cell"), true, b',', true, None, false),
+    ),
+    (
+        "h3 cellsToParents --csv --field 2 -r 4",
+        (Field::Number(2), false, b',', true, None, false),
+    ),
+    (
+        "h3 arePentagons --separator ; --csv --field 2",
+        (Field::Number(2), false, b';', true, None, false),
+    ),
+];
+
+#[test]
+fn reads_separators(rt: HostRuntime) {
+    let row = first_other(rt.alloc(), &SEPARATORS);
+    assert!(&rt; row == SEPARATORS.len(), "row {row}");
+}
+
+/// Lines with the name of the new column, that go on, and of the other commands.
+static NAMES: [(&str, Expected); 9] = [
+    (
+        "h3 getResolutions --column cell --as res",
+        (
+            Field::Column("cell"),
+            true,
+            b'\t',
+            false,
+            Some("res"),
+            false,
+        ),
+    ),
+    (
+        "h3 getResolutions --as=a-b.1 --header --field 3",
+        (Field::Number(3), true, b'\t', false, Some("a-b.1"), false),
+    ),
+    (
+        "h3 getResolutions --column cell --as=",
+        (Field::Column("cell"), true, b'\t', false, Some(""), false),
+    ),
+    (
+        "h3 getResolutions --column c --as a,b",
+        (Field::Column("c"), true, b'\t', false, Some("a,b"), false),
+    ),
+    (
+        "h3 getResolutions --field 1 --keep-going",
+        (Field::Number(1), false, b'\t', false, None, true),
+    ),
+    (
+        "h3 getResolutions --keep-going --column cell",
+        (Field::Column("cell"), true, b'\t', false, None, true),
+    ),
+    (
+        "h3 cellsToZones --zones z --csv --column cell --as zone --keep-going",
+        (Field::Column("cell"), true, b',', true, Some("zone"), true),
+    ),
+    (
+        "h3 areCoveredCells --region r --field 2 --header --as in --keep-going",
+        (Field::Number(2), true, b'\t', false, Some("in"), true),
+    ),
+    (
+        "h3 originsToDirectedEdges --field 1",
+        (Field::Number(1), false, b'\t', false, None, false),
+    ),
+];
+
+#[test]
+fn reads_names_of_columns(rt: HostRuntime) {
+    let row = first_other(rt.alloc(), &NAMES);
+    assert!(&rt; row == NAMES.len(), "row {row}");
+}
+
+/// Lines of commands that answer about their list as a whole.
+static LISTS: [(&str, Expected); 9] = [
+    (
+        "h3 compactCells --field 2 --header",
+        (Field::Number(2), true, b'\t', false, None, false),
+    ),
+    (
+        "h3 compactCells --column cell",
+        (Field::Column("cell"), true, b'\t', false, None, false),
+    ),
+    (
+        "h3 uncompactCells --csv -r 6 --column a",
+        (Field::Column("a"), true, b',', true, None, false),
+    ),
+    (
+        "h3 uncompactCells -r 6 --header --field 1",
+        (Field::Number(1), true, b'\t', false, None, false),
+    ),
+    (
+        "h3 uncompactCellsSize -r 6 --field 1 --separator ;",
+        (Field::Number(1), false, b';', false, None, false),
+    ),
+    (
+        "h3 uniteCells --field 65535 --csv",
+        (Field::Number(65535), false, b',', true, None, false),
+    ),
+    (
+        "h3 intersectCells --region r --field 3",
+        (Field::Number(3), false, b'\t', false, None, false),
+    ),
+    (
+        "h3 subtractCells --column=cell --region r",
+        (Field::Column("cell"), true, b'\t', false, None, false),
+    ),
+    (
+        "h3 countCellsInZones --zones z --csv --column cell",
+        (Field::Column("cell"), true, b',', true, None, false),
+    ),
+];
+
+#[test]
+fn reads_rows_of_lists(rt: HostRuntime) {
+    let row = first_other(rt.alloc(), &LISTS);
+    assert!(&rt; row == LISTS.len(), "row {row}");
+}
+
+/// Lines of commands on a bare list, or on none.
+static BARE: [&str; 13] = [
+    "h3 compactCells",
+    "h3 uncompactCells -r 6",
+    "h3 uncompactCellsSize -r 6",
+    "h3 uniteCells",
+    "h3 intersectCells --region r",
+    "h3 subtractCells --region r",
+    "h3 areCoveredCells --region r",
+    "h3 cellsToZones --zones z",
+    "h3 countCellsInZones --zones z",
+    "h3 cellsToParents -r 4",
+    "h3 getResolutions",
+    "h3 isValidCell -c 0",
+    "h3 getRes0Cells",
+];
+
+/// Whether a line asks for a command without rows.
+fn asks_for_no_rows(alloc: Global, line: &str) -> bool {
+    match read(alloc, line) {
+        Ok(words) => words.rows.is_none(),
+        Err(_) => false,
+    }
+}
+
+#[test]
+fn reads_no_rows(rt: HostRuntime) {
+    for line in &BARE {
+        assert!(&rt; asks_for_no_rows(rt.alloc(), line), "{line}");
+    }
+}
+
+/// Lines with a number out of range, an option twice, or an option without what it goes with.
+static INVALID: [&str; 29] = [
+    "h3 getResolutions --field 0",
+    "h3 getResolutions --field 65536",
+    "h3 getResolutions --field -1",
+    "h3 getResolutions --field=-1",
+    "h3 getResolutions --field x",
+    "h3 getResolutions --field 1.0",
+    "h3 getResolutions --field=",
+    "h3 getResolutions --field",
+    "h3 getResolutions --column",
+    "h3 getResolutions --field 99999999999999999999",
+    "h3 getResolutions --field 1 --field 2",
+    "h3 getResolutions --column a --column b",
+    "h3 getResolutions --field 1 --header --header",
+    "h3 getResolutions --field 1 --csv --csv",
+    "h3 getResolutions --field 1 --separator , --separator ;",
+    "h3 getResolutions --column a --as b --as c",
+    "h3 getResolutions --field 1 --keep-going --keep-going",
+    "h3 getResolutions --field 1 --column a",
+    "h3 cellsToParents -r 4 --column a --field 1",
+    "h3 getResolutions --header",
+    "h3 getResolutions --column a --header",
+    "h3 getResolutions --separator ,",
+    "h3 getResolutions --csv",
+    "h3 getResolutions --keep-going",
+    "h3 getResolutions --as a",
+    "h3 getResolutions --field 1 --as a",
+    "h3 getResolutions --header --as a",
+    "h3 cellsToParents -r 4 --csv",
+    "h3 getResolutions --csv --separator ; --keep-going",
+];
+
+#[test]
+fn refuses_options_without_company(rt: HostRuntime) {
+    let row = first_valid(rt.alloc(), &INVALID);
+    assert!(&rt; row == INVALID.len(), "row {row}");
+}
+
+/// Lines with an unfit separator or name, a flag with a value, or an option of other commands.
+static UNFIT: [&str; 40] = [
+    "h3 getResolutions --field 1 --separator a",
+    "h3 getResolutions --field 1 --separator Z",
+    "h3 getResolutions --field 1 --separator 0",
+    "h3 getResolutions --field 1 --separator 9",
+    "h3 getResolutions --field 1 --separator -",
+    "h3 getResolutions --field 1 --separator \"",
+    "h3 getResolutions --field 1 --separator ,,",
+    "h3 getResolutions --field 1 --separator=",
+    "h3 getResolutions --field 1 --separator",
+    "h3 getResolutions --field 1 --separator \\n",
+    "h3 getResolutions --field 1 --separator \\tt",
+    "h3 getResolutions --field 1 --separator \u{e9}",
+    "h3 getResolutions --field 1 --separator \u{7f}\u{7f}",
+    "h3 getResolutions --csv --column a --as b,c",
+    "h3 getResolutions --column a --as b\"",
+    "h3 getResolutions --column a --separator . --as b.c",
+    "h3 getResolutions --column a --as",
+    "h3 getResolutions --column a --as --csv",
+    "h3 getResolutions --column --csv",
+    "h3 getResolutions --field 1 --csv=true",
+    "h3 getResolutions --field 1 --header=1",
+    "h3 getResolutions --field 1 --keep-going=",
+    "h3 getResolutions --field 1 --csv true",
+    "h3 getResolutions --field 1 --cs",
+    "h3 getResolutions --field 1 -csv",
+    "h3 compactCells --field 1 --keep-going",
+    "h3 compactCells --column a --as b",
+    "h3 uncompactCells -r 6 --column a --as b",
+    "h3 uncompactCells -r 6 --field 1 --keep-going",
+    "h3 uncompactCellsSize -r 6 --field 1 --keep-going",
+    "h3 uniteCells --field 1 --keep-going",
+    "h3 uniteCells --column a --as b",
+    "h3 intersectCells --region r --field 1 --keep-going",
+    "h3 subtractCells --region r --column a --as b",
+    "h3 countCellsInZones --zones z --csv --column a --as b",
+    "h3 countCellsInZones --zones z --csv",
+    "h3 compactCells --header",
+    "h3 isValidCell -c 0 --field 1",
+    "h3 gridDiskUnsafe -c 0 -k 1 --table t --csv",
+    "h3 getRes0Cells --column a",
+];
+
+#[test]
+fn refuses_unfit_values(rt: HostRuntime) {
+    let row = first_valid(rt.alloc(), &UNFIT);
+    assert!(&rt; row == UNFIT.len(), "row {row}");
+}
+
+/// Invalid lines, and what is said of each.
+static SAID: [(&str, &str); 13] = [
+    (
+        "h3 getResolutions --field -1",
+        "invalid value '-1' for '--field <number>': -1 is not in 1..=65535",
+    ),
+    (
+        "h3 getResolutions --field 0",
+        "invalid value '0' for '--field <number>': 0 is not in 1..=65535",
+    ),
+    (
+        "h3 getResolutions --field 1 --column a",
+        "error: the argument '--field <number>' cannot be used with '--column <column>'\n\nUsage: h3 getResolutions < cells\n",
+    ),
+    (
+        "h3 getResolutions --header",
+        "the argument '--header' cannot be used without '--field <number>'",
+    ),
+    (
+        "h3 getResolutions --column a --header",
+        "the argument '--header' cannot be used without '--field <number>'",
+    ),
+    (
+        "h3 getResolutions --separator ,",
+        "the argument '--separator <separator>' cannot be used without '--field <number>' or '--column <column>'",
+    ),
+    (
+        "h3 getResolutions --csv",
+        "the argument '--csv' cannot be used without",
+    ),
+    (
+        "h3 getResolutions --keep-going",
+        "the argument '--keep-going' cannot be used without",
+    ),
+    (
+        "h3 getResolutions --field 1 --as a",
+        "the argument '--as <name>' cannot be used without '--column <column>' or '--header'",
+    ),
+    (
+        "h3 getResolutions --field 1 --separator ab",
+        "invalid value 'ab' for '--separator <separator>': ",
+    ),
+    (
+        "h3 getResolutions --csv --column a --as b,c",
+        "invalid value 'b,c' for '--as <name>': ",
+    ),
+    (
+        "h3 compactCells --keep-going",
+        "unexpected argument '--keep-going' found",
+    ),
+    ("h3 getResolutions --field 1 --csv=1", "--csv"),
+];
+
+#[test]
+fn says_which_option_is_invalid(rt: HostRuntime) {
+    let row = first_unsaid(rt.alloc(), &SAID);
+    assert!(&rt; row == SAID.len(), "row {row}");
+}
+
+/// Whether `getResolutions --column a` may have an option with this value.
+fn may_have(alloc: Global, option: &str, value: &str) -> Option<bool> {
+    let words = ["h3", "getResolutions", "--column", "a", option, value];
+    match read_apart(alloc, &words) {
+        Ok(_) => Some(true),
+        Err(ArgsError::Usage(_)) => Some(false),
+        Err(_) => None,
+    }
+}
+
+/// Options, values with blanks and control characters, and whether the option may have the value.
+static BLANKS: [(&str, &str, bool); 13] = [
+    ("--separator", " ", true),
+    ("--separator", "\t", true),
+    ("--separator", "\u{1f}", true),
+    ("--separator", "\u{7f}", true),
+    ("--separator", "\0", false),
+    ("--separator", "\n", false),
+    ("--separator", "\r", false),
+    ("--separator", "\u{80}", false),
+    ("--as", "a b", true),
+    ("--as", "a\u{e9}", true),
+    ("--as", "a\tb", false),
+    ("--as", "a\nb", false),
+    ("--as", "a\rb", false),
+];
+
+#[test]
+fn reads_blanks_in_values(rt: HostRuntime) {
+    for (option, value, may) in &BLANKS {
+        assert!(&rt;
+            may_have(rt.alloc(), option, value) == Some(*may),
+            "{option}"
+        );
+    }
+}
