@@ -6,7 +6,7 @@ ghost use Rattle.clap.specs.declared.builder.command.Command.TheViews.{out-Comma
 ghost use Rattle.h3_words.specs.Commands.{word_of};
 
 use crate::commands::word;
-use crate::table::{commands, texts};
+use crate::table::{about, commands, notes, usage};
 use clap::Command as Parser;
 use h3_requests::Command;
 use std::alloc::Global;
@@ -75,7 +75,7 @@ pub(crate) const HELP: &str = commands!(help! [] [] [] [] [];);
 
 /// The usage of a command that reads a list, and of any other its word.
 pub(crate) fn list_usage<'a>(command: Command) -> &'a str {
-    texts(command).usage.unwrap_or(word(command))
+    usage(command).unwrap_or(word(command))
 }
 
 /// The command with its texts of help, and without its options.
@@ -83,11 +83,10 @@ pub(crate) fn described<'a>(alloc: Global, command: Command) -> Parser<'a>
     ensures app { app_of result ≡ new_app (word_of command) }
     ensures local { (out-Command result).has_globals ≡ false }
 {
-    let texts = texts(command);
     let parser = Parser::new(alloc, word(command))
-        .about(texts.about)
-        .after_help(texts.notes);
-    match texts.usage {
+        .about(about(command))
+        .after_help(notes(command));
+    match usage(command) {
         Some(usage) => parser.override_usage(usage),
         None => parser,
     }

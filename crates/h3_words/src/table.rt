@@ -16,21 +16,6 @@ pub(crate) struct Entry<'a> {
     pub(crate) options: &'static [CommandOption],
 }
 
-/// What help says of a command.
-#[derive(Drop)]
-pub(crate) struct HelpTexts<'a> {
-    /// The line in the list of all commands.
-    pub(crate) about: &'a str,
-
-    /// What help of the command ends with: the errors beside an invalid command line, in the order
-    /// in which they are looked for, and an example.
-    pub(crate) notes: &'a str,
-
-    /// The usage of a command that reads a list, which shows how one is given; `clap` makes that of
-    /// any other.
-    pub(crate) usage: Option<&'a str>,
-}
-
 // These options, and those of a command that answers about its list as a whole.
 macro_rules! with_list_options {
     ($($own:ident)?) => {
@@ -753,16 +738,29 @@ macro_rules! entry_of_command {
     };
 }
 
-// What help says of a command.
-macro_rules! texts_of_command {
-    ($value:ident; $(
+// One of the texts that help has of a command.
+macro_rules! one_text {
+    (about { about: $about:expr, notes: $notes:expr, usage: $usage:expr, }) => {
+        $about
+    };
+    (notes { about: $about:expr, notes: $notes:expr, usage: $usage:expr, }) => {
+        $notes
+    };
+    (usage { about: $about:expr, notes: $notes:expr, usage: $usage:expr, }) => {
+        $usage
+    };
+}
+
+// That text of a command.
+macro_rules! text_of_command {
+    ($value:ident $text:ident; $(
         ($command:ident $({ $($field:ident),* })? $(($function:ident $({ $($given:ident),* })?))?)
-        $entry:tt $line:tt { $($texts:tt)* };
+        $entry:tt $line:tt $texts:tt;
     )*) => {
         match $value {
             $(Command::$command
                 $({ $($field: _),* })?
-                $((IndexFunction::$function $({ $($given: _),* })?))? => HelpTexts { $($texts)* }),*
+                $((IndexFunction::$function $({ $($given: _),* })?))? => one_text!($text $texts)),*
         }
     };
 }
@@ -777,7 +775,19 @@ pub(crate) fn entry_of<'a>(command: Command) -> Entry<'a>
     commands!(entry_of_command! command;)
 }
 
-/// What help says of a command.
-pub(crate) fn texts<'a>(command: Command) -> HelpTexts<'a> {
-    commands!(texts_of_command! command;)
+/// What the help of a command begins with.
+pub(crate) fn about<'a>(command: Command) -> &'a str {
+    commands!(text_of_command! command about;)
+}
+
+/// What the help of a command ends with: the errors beside an invalid command line, in the order in
+/// which they are looked for, and an example.
+pub(crate) fn notes<'a>(command: Command) -> &'a str {
+    commands!(text_of_command! command notes;)
+}
+
+/// The usage of a command that reads a list, which shows how one is given; `clap` makes that of any
+/// other.
+pub(crate) fn usage<'a>(command: Command) -> Option<&'a str> {
+    commands!(text_of_command! command usage;)
 }
