@@ -1,7 +1,7 @@
 //! The table of the commands: their words and options, what each asks for, and what help says of them.
 
 ghost use Rattle.std.specs.Prelude.{◌≡◌};
-ghost use Rattle.h3_words.specs.Commands.{entry_of};
+ghost use Rattle.h3_words.specs.Commands.{entry_of, options_of, word_of};
 
 use crate::options::CommandOption::{self, *};
 use h3_requests::{Command, IndexFunction};
@@ -724,45 +724,51 @@ macro_rules! blank_commands {
 /// values are blank.
 pub(crate) static COMMANDS: &[Command] = commands!(blank_commands!);
 
-// The entry of a command.
-macro_rules! entry_of_command {
-    ($value:ident; $(
-        ($command:ident $({ $($field:ident),* })? $(($function:ident $({ $($given:ident),* })?))?)
-        { $($entry:tt)* } $line:tt $texts:tt;
-    )*) => {
-        match $value {
-            $(Command::$command
-                $({ $($field: _),* })?
-                $((IndexFunction::$function $({ $($given: _),* })?))? => Entry { $($entry)* }),*
-        }
+// A part of a row.
+macro_rules! part {
+    (word { word: $word:expr, options: $options:expr } $texts:tt) => {
+        $word
     };
-}
-
-// One of the texts that help has of a command.
-macro_rules! one_text {
-    (about { about: $about:expr, notes: $notes:expr, usage: $usage:expr, }) => {
+    (options { word: $word:expr, options: $options:expr } $texts:tt) => {
+        $options
+    };
+    (about $entry:tt { about: $about:expr, notes: $notes:expr, usage: $usage:expr, }) => {
         $about
     };
-    (notes { about: $about:expr, notes: $notes:expr, usage: $usage:expr, }) => {
+    (notes $entry:tt { about: $about:expr, notes: $notes:expr, usage: $usage:expr, }) => {
         $notes
     };
-    (usage { about: $about:expr, notes: $notes:expr, usage: $usage:expr, }) => {
+    (usage $entry:tt { about: $about:expr, notes: $notes:expr, usage: $usage:expr, }) => {
         $usage
     };
 }
 
-// That text of a command.
-macro_rules! text_of_command {
-    ($value:ident $text:ident; $(
+// That part of the row of a command.
+macro_rules! part_of_command {
+    ($value:ident $part:ident; $(
         ($command:ident $({ $($field:ident),* })? $(($function:ident $({ $($given:ident),* })?))?)
         $entry:tt $line:tt $texts:tt;
     )*) => {
         match $value {
             $(Command::$command
                 $({ $($field: _),* })?
-                $((IndexFunction::$function $({ $($given: _),* })?))? => one_text!($text $texts)),*
+                $((IndexFunction::$function $({ $($given: _),* })?))? => part!($part $entry $texts)),*
         }
     };
+}
+
+/// The word that names a command, as its row of the table has it.
+fn word_of<'a>(command: Command) -> &'a str
+    ensures { result.now ≡ word_of command }
+{
+    commands!(part_of_command! command word;)
+}
+
+/// The options that a command has, as its row of the table has them.
+fn options_of(command: Command) -> &'static [CommandOption]
+    ensures { result.now ≡ options_of command }
+{
+    commands!(part_of_command! command options;)
 }
 
 /// A command's word and options, as its row of the table has them.
@@ -772,22 +778,25 @@ pub(crate) fn entry_of<'a>(command: Command) -> Entry<'a>
       options = result.options.now;
     } ≡ entry_of command }
 {
-    commands!(entry_of_command! command;)
+    Entry {
+        word: word_of(command),
+        options: options_of(command),
+    }
 }
 
 /// What the help of a command begins with.
 pub(crate) fn about<'a>(command: Command) -> &'a str {
-    commands!(text_of_command! command about;)
+    commands!(part_of_command! command about;)
 }
 
 /// What the help of a command ends with: the errors beside an invalid command line, in the order in
 /// which they are looked for, and an example.
 pub(crate) fn notes<'a>(command: Command) -> &'a str {
-    commands!(text_of_command! command notes;)
+    commands!(part_of_command! command notes;)
 }
 
 /// The usage of a command that reads a list, which shows how one is given; `clap` makes that of any
 /// other.
 pub(crate) fn usage<'a>(command: Command) -> Option<&'a str> {
-    commands!(text_of_command! command usage;)
+    commands!(part_of_command! command usage;)
 }
