@@ -1,12 +1,13 @@
 -- Counting cells by the cell of a region that covers them.
 use Rattle.std.specs.List.{count_by, flat_map, sum_by}
 use Rattle.std.specs.List.Sorted.{IsPermutation}
-use Rattle.std.proofs.Common.{ℕ, zero, suc, ◌++◌, replicate, length-append, take_all, Contains, ◌≡◌, ◌+◌, ◌<◌, List, [], ◌∷◌, length, take, set, map, not, sum, Bool, true, false, cond, Some, None, refl, arith, ◌∙◌, sym, ap, subst, inl, inr, get_or}
+use Rattle.std.proofs.Common.{ℕ, zero, suc, ◌++◌, replicate, length-append, take_all, Contains, ◌≡◌, ◌+◌, ◌<◌, ◌≤◌, List, [], ◌∷◌, length, take, drop, set, map, not, sum, Bool, true, false, cond, Some, None, refl, arith, ◌∙◌, sym, ap, subst, inl, inr, get_or}
 use Rattle.std.proofs.Math.ListN.{length-set}
+use Rattle.std.proofs.Math.Seq.{drop-append_seam, take-append_seam}
 use Rattle.std.proofs.lemmas.Bool.{cases_eq}
 use Rattle.std.proofs.lemmas.List.{length-map, get_or-set_same, get_or-set_other}
 use Rattle.std.proofs.lemmas.List.Elements.{Contains-get_or}
-use Rattle.std.proofs.lemmas.List.Sums.{count_by_more_no, count_by_more_yes, sum-map, sum_by-append, sum_by-set}
+use Rattle.std.proofs.lemmas.List.Sums.{count_by_more_no, count_by_more_yes, get_or-le-sum_by, sum-map, sum_by-append, sum_by-set}
 use Rattle.std.proofs.lemmas.List.Sorted.{sum_by-IsPermutation}
 use Rattle.h3_index.specs.Cell.{Address}
 use Rattle.h3_index.specs.Descendants.{IsAncestor}
@@ -141,6 +142,24 @@ no_sum (suc n) = no_sum n
 
 pub none_counted : (list : List Address) → AreCounts list [] (replicate {A = ℕ} (length list) 0) 0
 none_counted list = record { each = zeros list; none = refl; all = omega (arith, no_sum (length list)) }
+
+-- no cell is counted at first
+pub counting_begins : (list cells : List Address) → IsCounting list cells (replicate {A = ℕ} (length list) 0) 0 0
+counting_begins list cells = begun list [] cells (replicate {A = ℕ} (length list) 0) 0 (none_counted list)
+
+-- a count, and one more there, in the sum of all
+pub within_all : (counts : List ℕ) (i : ℕ) → i < length counts → get_or counts i 0 ≤ sum counts
+within_all counts i lt = get_or-le-sum_by (λ n. n) counts i 0 lt
+
+pub one_more : (counts : List ℕ) (i : ℕ) → i < length counts → sum (set counts i (get_or counts i 0 + 1)) ≡ sum counts + 1
+one_more counts i lt = omega (arith, sum_by-set (λ n. n) counts i (get_or counts i 0 + 1) 0 lt)
+
+-- the counts of all zones, and what stands after them
+pub counts_first : (n : ℕ) (counts rest : List ℕ) → length counts ≡ n → take n (counts ++ rest) ≡ counts
+counts_first n counts rest e = subst (λ m. take m (counts ++ rest) ≡ counts) e (take-append_seam counts rest)
+
+pub rest_after : (n : ℕ) (counts rest : List ℕ) → length counts ≡ n → drop n (counts ++ rest) ≡ rest
+rest_after n counts rest e = subst (λ m. drop m (counts ++ rest) ≡ rest) e (drop-append_seam counts rest)
 
 -- ---- in parts
 
