@@ -1,6 +1,6 @@
 -- The siblings at the end of a list, and the writes of the pass that closes their sets.
 use Rattle.std.proofs.Common.{ℕ, zero, suc, ◌≡◌, ◌+◌, ◌-◌, ◌<◌, ◌≤◌, List, [], ◌∷◌, ◌++◌, length, take, drop, set, refl, Contains, IsPermutation, arith, ◌∙◌, sym, ap, subst, inl, inr, get_or, append_assoc}
-use Rattle.std.proofs.lemmas.List.{append-nil, drop-set-lt, drop_all, get_or-drop, get_or-take, length-append, length-drop, length-set, length-take, length-take-le, take-append-drop, take-append-le, take_all, take_at, take_more, take_more_set}
+use Rattle.std.proofs.lemmas.List.{append-nil, drop-set-lt, drop_all, drop_more as drop_at, get_or-drop, get_or-take, length-append, length-drop, length-set, length-take, length-take-le, take-append-drop, take-append-le, take_all, take_at, take_more, take_more_set, take_rest}
 use Rattle.std.proofs.Math.Seq.{drop-append_seam}
 use Rattle.std.proofs.lemmas.List.Elements.{All-contains, Contains-append_left, Contains-append_right, Contains-get_or}
 use Rattle.std.proofs.lemmas.Slice.{drop-append-drop}
@@ -28,6 +28,22 @@ pub front_within : (xs : List Address) (a b : ℕ) (y : Address) → a ≤ b →
 front_within xs a b y le m =
     let less : m.0 < a = omega (arith, m.1, length-take a xs) in
     (m.0, omega (arith, m.1, le, length-take a xs, length-take b xs), get_or-take b xs m.0 y (omega (arith, less, le)) ∙ sym (get_or-take a xs m.0 y less) ∙ m.2)
+
+-- the first cell of what is left of a list
+pub first_left : (cells : List Address) (i : ℕ) (x : Address) → x ≡ get_or cells i x → get_or (take (length cells - i) (drop i cells)) 0 x ≡ x
+first_left cells i x is =
+    let none : i + 0 ≡ i = omega arith in
+    ap (λ l. get_or l 0 x) (take_rest cells i) ∙ get_or-drop i cells 0 x ∙ ap (λ n. get_or cells n x) none ∙ sym is
+
+-- the last cell of a list, and of one that ends where a cell is written
+pub last_left : (cells : List Address) (x : Address) → 0 < length cells → x ≡ get_or cells (length cells - 1) x → drop (length cells - 1) cells ≡ x ∷ []
+last_left cells x some is =
+    drop_at cells (length cells - 1) x (omega (arith, some)) ∙ ap (λ y. y ∷ drop (length cells - 1 + 1) cells) (sym is) ∙ ap (λ l. x ∷ l) (drop_all (length cells - 1 + 1) cells (omega (arith, some)))
+
+pub last_written : (cells : List Address) (w : ℕ) (x : Address) → w < length cells → drop (length (take (w + 1) (set cells w x)) - 1) (take (w + 1) (set cells w x)) ≡ x ∷ []
+last_written cells w x lt =
+    let same : length (take (w + 1) (set cells w x)) - 1 ≡ length (take w cells) = omega (arith, length-take (w + 1) (set cells w x), length-set cells w x, length-take w cells, lt) in
+    ap (λ n. drop n (take (w + 1) (set cells w x))) same ∙ ap (λ l. drop (length (take w cells)) l) (take_more_set cells w x lt) ∙ drop-append_seam (take w cells) (x ∷ [])
 
 -- a list is its last cell after the others
 pub last_split : (cells : List Address) (x : Address) → 0 < length cells → x ≡ get_or cells (length cells - 1) x → take (length cells - 1) cells ++ x ∷ [] ≡ cells

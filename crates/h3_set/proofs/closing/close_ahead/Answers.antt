@@ -4,9 +4,12 @@ use Rattle.h3_index.specs.Cell.{Address}
 use Rattle.h3_index.specs.Descendants.{descendants}
 use Rattle.h3_set.specs.Closing.{HasNoSet, IsClosing, StandsFor}
 use Rattle.h3_set.specs.Compacted.{parent_of}
-use Rattle.h3_set.proofs.EndLaws.{before_written, pass_goes_on, set_stands, written_rises}
+use Rattle.h3_set.proofs.EndLaws.{before_written, first_left, last_written, pass_goes_on, set_stands, written_rises}
 use Rattle.h3_set.proofs.closing.close_ahead.Goals as goal
 use Rattle.h3_set.proofs.closing.close_ahead.Goals.{After-close-w, After-ancestor_at-parent}
+
+pub siblings_at_front-count-requires-clause-first : goal.siblings_at_front-count-requires-clause-first
+siblings_at_front-count-requires-clause-first c = first_left c.loop-i.cells c.loop-i.i c.index-cells-i.result c.index-cells-i.is
 
 -- the set that comes next
 found : (c : After-ancestor_at-parent) → take c.siblings_at_front-count.result (drop c.loop-i.i c.loop-i.cells) ≡ descendants (parent_of c.index-cells-i.result) c.args.level
@@ -25,6 +28,9 @@ stands c all inv =
 -- a list that the pass goes over
 inv_at : (c : After-ancestor_at-parent) → IsClosing c.requires.closing.0 c.loop-i.cells c.loop-i.w c.loop-i.i
 inv_at c = c.loop-i.invariant.closing c.requires.closing.0 c.requires.closing.1
+
+pub close-w-requires-clause-last : goal.close-w-requires-clause-last
+close-w-requires-clause-last c = last_written c.loop-i.cells c.loop-i.w c.ancestor_at-parent.result (omega (arith, (inv_at c.before).behind, c.loop-i-test.true))
 
 pub close-w-requires-clause-rising : goal.close-w-requires-clause-rising
 close-w-requires-clause-rising c =

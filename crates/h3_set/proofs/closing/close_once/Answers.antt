@@ -5,8 +5,11 @@ use Rattle.h3_index.specs.Descendants.{children, ancestor_at}
 use Rattle.h3_set.specs.Closing.{HasNoSet, IsRising}
 use Rattle.h3_set.specs.Compacted.{parent_of}
 use Rattle.h3_set.proofs.ClosedLaws.{front_closed, none_closed}
-use Rattle.h3_set.proofs.EndLaws.{front_within, last_split, set_leads}
+use Rattle.h3_set.proofs.EndLaws.{front_within, last_left, last_split, set_leads}
 use Rattle.h3_set.proofs.closing.close_once.Goals as goal
+
+pub siblings_at_end-count-requires : goal.siblings_at_end-count-requires
+siblings_at_end-count-requires c = last_left c.args.cells.now c.index-cells-len.result c.requires.some c.index-cells-len.is
 
 pub returns-then-count-eq0-clause-none : goal.returns-then-count-eq0-clause-none
 returns-then-count-eq0-clause-none c = λ z.

@@ -1,8 +1,8 @@
-use Rattle.std.proofs.Common.{◌≡◌, IsPermutation, length, take, arith, subst}
+use Rattle.std.proofs.Common.{◌≡◌, IsPermutation, length, take, arith, subst, sym}
 use Rattle.std.proofs.lemmas.List.{length-drop}
-use Rattle.h3_set.specs.Closing.{IsClosing, IsRising}
+use Rattle.h3_set.specs.Closing.{HasNoSet, IsClosing, IsRising}
 use Rattle.h3_set.specs.Compacted.{compacted}
-use Rattle.h3_set.proofs.EndLaws.{one_stands, pass_begins, pass_ends, pass_goes_on, written_rises}
+use Rattle.h3_set.proofs.EndLaws.{before_written, last_written, one_stands, pass_begins, pass_ends, pass_goes_on, written_rises}
 use Rattle.h3_set.proofs.OverlapLaws.{apart_rises, rising_order}
 use Rattle.h3_set.proofs.closing.compact_apart.Goals as goal
 use Rattle.h3_set.proofs.closing.compact_apart.Goals.{After-loop-i}
@@ -10,6 +10,15 @@ use Rattle.h3_set.proofs.closing.compact_apart.Goals.{After-loop-i}
 pub loop-i-init : goal.loop-i-init
 loop-i-init c =
     pass_begins c.cells_form_trees.ensures c.args.cells.now (record { valid = c.requires.valid; rises = apart_rises c.cells_form_intervals.ensures c.args.cells.now c.requires.valid c.requires.in_order c.requires.apart })
+
+pub close-len-requires-clause-last : goal.close-len-requires-clause-last
+close-len-requires-clause-last c =
+    last_written c.loop-i.cells c.loop-i.written c.index-cells-i.result (omega (arith, c.loop-i.invariant.behind, c.loop-i-test.true))
+
+pub close-len-requires-clause-closed : goal.close-len-requires-clause-closed
+close-len-requires-clause-closed c =
+    let inv = c.loop-i.invariant in
+    subst HasNoSet (sym (before_written c.loop-i.cells c.loop-i.written c.index-cells-i.result (omega (arith, inv.behind, c.loop-i-test.true)))) inv.closed
 
 pub close-len-requires-clause-rising : goal.close-len-requires-clause-rising
 close-len-requires-clause-rising c =

@@ -4,7 +4,7 @@ use Rattle.std.proofs.lemmas.List.{take_rest}
 use Rattle.h3_index.specs.Cell.{resolution}
 use Rattle.h3_set.specs.Compacted.{parent_of}
 use Rattle.h3_set.proofs.ChildLaws.{above_is, skips_of, some_skips, Skips}
-use Rattle.h3_set.proofs.EndLaws.{ends_in_six, enough, first_count, first_finds, first_level, found_last}
+use Rattle.h3_set.proofs.EndLaws.{ends_in_six, enough, first_count, first_finds, first_left, first_level, found_last}
 use Rattle.h3_set.proofs.closing.siblings_at_end.Goals as goal
 
 some_level : (ds : List ℕ) (k : ℕ) → get_or ds k 7 ≡ 6 → 0 < length ds
@@ -27,6 +27,9 @@ returns-then-cells-count-clause-none c = λ z pos i is.
     let k : Skips (parent_of c.args.last) c.from.result = skips_of (parent_of x) c.ancestor_at-above.result c.from.result c.is_pentagon.result above c.is_pentagon.ensures c.from.ensures in
     let room = enough c.cells_form_trees.ensures c.args.cells.now x c.requires c.resolution-level.result c.from.result level (omega (arith, pos, level)) k i is in
     omega (arith, room, c.if-cells-count.true, c.from-count.ensures)
+
+pub siblings_at_front-requires-clause-first : goal.siblings_at_front-requires-clause-first
+siblings_at_front-requires-clause-first c = first_left c.args.cells.now (length c.args.cells.now - c.from-count.result) c.index-cells-from.result c.index-cells-from.is
 
 pub returns-then-siblings_at_front-count-clause-none :
     goal.returns-then-siblings_at_front-count-clause-none
