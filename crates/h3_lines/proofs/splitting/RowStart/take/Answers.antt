@@ -3,6 +3,18 @@ use Rattle.std.proofs.lemmas.Result.{err_from_is_err_and, IfErr-weaker}
 use Rattle.h3_lines.proofs.TakenRows.{cut_length, ended_then, goes_refused, goes_then, refused_after}
 use Rattle.h3_lines.proofs.splitting.RowStart.take.Goals as goal
 
+pub end_row-requires-clause-few : goal.end_row-requires-clause-few
+end_row-requires-clause-few g c =
+    omega (arith, c.requires, c.loop-row.invariant.counted, cut_length _ _ _ _ c.in-Ok.ensures.cut.split)
+
+pub take_first-requires-in-Ok : goal.take_first-requires-in-Ok
+take_first-requires-in-Ok g c =
+    omega (arith, c.requires, c.loop-row.invariant.counted, c.in_ok-end_row-in-Ok.ensures.counted, cut_length _ _ _ _ c.in-Ok.ensures.cut.split)
+
+pub loop-row-smaller : goal.loop-row-smaller
+loop-row-smaller g c =
+    omega (arith, c.in_ok-bytes-in-Ok.ensures.fewer, cut_length _ _ _ _ c.in-Ok.ensures.cut.split)
+
 pub loop-row-preserved : goal.loop-row-preserved
 loop-row-preserved g c =
     let s = c.args.self.now in
