@@ -66,6 +66,13 @@ pub breaks_header : (form : Form) (s : RowState) (line bytes : List ℕ) (column
     → StepEnds (header_step form (state_of s bytes) line column) (held_of s.before bytes) e sink
 breaks_header form s line bytes column before' e sink known is b next = rw (known, is) (breaks_ends [] (bytes ++ row_with form.separator line form.name) next e sink b)
 
+-- a header that is taken
+pub puts_header : {S : Type 0} (taken : S → Option (List ℕ)) (failed : S → Bool) (form : Form) (s a : RowState) (line bytes bytes' : List ℕ) (column : Result ℕ ColumnError) (before' : ℕ) (x y : S) → s.before ≡ None → column ≡ Ok before'
+    → a.number ≡ next_number s.number line → a.before ≡ Some before' → a.kept ≡ s.kept → Moves taken failed (bytes ++ row_with form.separator line form.name) bytes' x y
+    → StepsTo taken failed (header_step form (state_of s bytes) line column) (state_of a bytes') (held_of s.before bytes) (held_of a.before bytes') x y
+puts_header taken failed form s a line bytes bytes' column before' x y known is n b kept m =
+    record { text = bytes ++ row_with form.separator line form.name; is = rw (known, is, n, b, kept) refl; moves = rw (known, b) m }
+
 -- the bytes before a header are no answers
 pub held_nothing : (b : Option ℕ) (n : ℕ) (bytes : List ℕ) → n ≡ 0 → held_of b (take n bytes) ≡ []
 held_nothing None n bytes none = refl

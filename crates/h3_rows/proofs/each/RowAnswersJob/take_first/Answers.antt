@@ -1,4 +1,4 @@
-use Rattle.std.proofs.Common.{false, [], ◌∷◌, refl, take}
+use Rattle.std.proofs.Common.{false, [], ◌∷◌, ap, arith, length, length-append, refl, take}
 use Rattle.std.proofs.lemmas.List.{take_rest}
 use Rattle.h3_lines.specs.Pieces.{CutsAt}
 use Rattle.h3_lines.specs.EachLaws.{answered_none}
@@ -14,6 +14,16 @@ returns-in_default-clause-none g c = (answered_none g.W.Sink.taken g.W.Sink.has_
 
 pub returns-in-None-clause-none : goal.returns-in-None-clause-none
 returns-in-None-clause-none g c = rw c.in-None.ensures.none (answered_none g.W.Sink.taken g.W.Sink.has_failed _ _ _ _, refl, refl)
+
+pub slice_bounds-result-count : goal.slice_bounds-result-count
+slice_bounds-result-count g c =
+    let p = c.in-Some-put_plain.ensures.some in
+    omega (arith, ap length p.split, length-append p.row (10 ∷ p.after), p.size_is)
+
+pub slice_bounds-result-start : goal.slice_bounds-result-start
+slice_bounds-result-start g c =
+    let p = c.in-Some-put_plain.ensures.some in
+    omega (arith, ap length p.split, length-append p.row (10 ∷ p.after), p.size_is)
 
 pub returns-in-Some-put_plain-clause-some : goal.returns-in-Some-put_plain-clause-some
 returns-in-Some-put_plain-clause-some g c =
