@@ -1,6 +1,6 @@
-use Rattle.std.proofs.Common.{◌≡◌, ◌+◌, ◌∙◌, ap, arith, drop, length, replicate, sum, take, ℕ}
+use Rattle.std.proofs.Common.{◌≡◌, ◌+◌, ◌∙◌, ap, arith, length, replicate, sum, take, ℕ}
 use Rattle.std.proofs.lemmas.List.{length-map, length-take-le}
-use Rattle.h3_regions.proofs.CountingLaws.{counts_first, counts_in_parts, rest_after}
+use Rattle.h3_regions.proofs.CountingLaws.{counts_first, counts_in_parts}
 use Rattle.h3_regions.proofs.ZoneLaws.{zones_are_one}
 use Rattle.h3_regions.proofs.counting.count_indexed.Goals as goal
 
