@@ -789,14 +789,12 @@ pub(crate) fn about<'a>(command: Command) -> &'a str {
     commands!(part_of_command! command about;)
 }
 
-/// What the help of a command ends with: the errors beside an invalid command line, in the order in
-/// which they are looked for, and an example.
+/// What the help of a command ends with: its errors, in the order they are checked, and an example.
 pub(crate) fn notes<'a>(command: Command) -> &'a str {
     commands!(part_of_command! command notes;)
 }
 
-/// The usage of a command that reads a list, which shows how one is given; `clap` makes that of any
-/// other.
+/// The usage of a command that reads a list; `clap` makes that of any other.
 pub(crate) fn usage<'a>(command: Command) -> Option<&'a str> {
     commands!(part_of_command! command usage;)
 }
