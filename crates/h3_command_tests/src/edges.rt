@@ -1,6 +1,7 @@
 //! Commands on neighbors and directed edges.
 
 use crate::cases::{answers_over, index_of, refuses, refuses_table, writes};
+use crate::expected::{expect, expect_all, expect_row};
 use arrayvec::ArrayString;
 use h3_fakes::table_file;
 use h3_requests::Command;
@@ -90,10 +91,10 @@ fn first_wrong_pair(alloc: Global, file: &str, pairs: &[(&str, &str, &str)]) -> 
 fn neighbors_are_found(rt: HostRuntime) {
     let plain = table_file(TestTable::Plain);
     let row = first_wrong_pair(rt.alloc(), &plain, &PLAIN_PAIRS);
-    assert!(&rt; row == PLAIN_PAIRS.len(), "row {row}");
+    expect_all(&rt, row, PLAIN_PAIRS.len());
     let twisted = table_file(TestTable::Twisted);
     let row = first_wrong_pair(rt.alloc(), &twisted, &TWISTED_PAIRS);
-    assert!(&rt; row == TWISTED_PAIRS.len(), "row {row}");
+    expect_all(&rt, row, TWISTED_PAIRS.len());
 }
 
 /// Two cells, and the error of both commands.
@@ -137,9 +138,9 @@ fn first_edge(alloc: Global, file: &str, pairs: &[(&str, &str)]) -> usize {
 fn pairs_of_cells_are_refused(rt: HostRuntime) {
     let plain = table_file(TestTable::Plain);
     let row = first_answered(rt.alloc(), &plain, &REFUSED_PAIRS);
-    assert!(&rt; row == REFUSED_PAIRS.len(), "row {row}");
+    expect_all(&rt, row, REFUSED_PAIRS.len());
     let row = first_edge(rt.alloc(), &plain, &NO_NEIGHBORS);
-    assert!(&rt; row == NO_NEIGHBORS.len(), "row {row}");
+    expect_all(&rt, row, NO_NEIGHBORS.len());
 }
 
 /// A word as a line.
@@ -174,11 +175,11 @@ static TWISTED_EDGES: [(&str, &str, &str); 2] = [
 fn edges_lead_from_a_cell_to_another(rt: HostRuntime) {
     let plain = table_file(TestTable::Plain);
     for (cell, edge, to) in &PLAIN_EDGES {
-        assert!(&rt; leads(rt.alloc(), &plain, cell, edge, to), "{edge}");
+        expect(&rt, edge, leads(rt.alloc(), &plain, cell, edge, to));
     }
     let twisted = table_file(TestTable::Twisted);
     for (cell, edge, to) in &TWISTED_EDGES {
-        assert!(&rt; leads(rt.alloc(), &twisted, cell, edge, to), "{edge}");
+        expect(&rt, edge, leads(rt.alloc(), &twisted, cell, edge, to));
     }
 }
 
@@ -190,7 +191,7 @@ fn an_edge_into_a_pentagon_base_cell_has_no_destination(rt: HostRuntime) {
     let plain = table_file(TestTable::Plain);
     for edge in &INTO_PENTAGON_BASES {
         let refused = answers_over(rt.alloc(), &plain, destination(edge), "", PENTAGON);
-        assert!(&rt; refused, "{edge}");
+        expect(&rt, edge, refused);
     }
 }
 
@@ -210,9 +211,9 @@ static TESTED: [(&str, &str); 9] = [
 #[test]
 fn edges_are_tested(rt: HostRuntime) {
     for (edge, text) in &TESTED {
-        assert!(&rt; writes(rt.alloc(), is_edge(edge), text), "{edge}");
+        expect(&rt, edge, writes(rt.alloc(), is_edge(edge), text));
     }
-    assert!(&rt; refuses(rt.alloc(), is_edge("xyz"), FAILED));
+    expect(&rt, "xyz", refuses(rt.alloc(), is_edge("xyz"), FAILED));
 }
 
 /// Cells, and the edges that leave them.
@@ -238,7 +239,7 @@ static LEAVING: [(&str, &str); 3] = [
 #[test]
 fn the_edges_of_a_cell_are_listed(rt: HostRuntime) {
     for (cell, lines) in &LEAVING {
-        assert!(&rt; writes(rt.alloc(), edges(cell), lines), "{cell}");
+        expect(&rt, cell, writes(rt.alloc(), edges(cell), lines));
     }
 }
 
@@ -261,10 +262,10 @@ fn words_that_are_no_edge_are_refused(rt: HostRuntime) {
     for (edge, line) in &NO_EDGES {
         let refused = refuses(rt.alloc(), origin(edge), line)
             && refuses(rt.alloc(), destination(edge), line);
-        assert!(&rt; refused, "{edge}");
+        expect(&rt, edge, refused);
     }
     for (cell, line) in &NO_CELLS {
-        assert!(&rt; refuses(rt.alloc(), edges(cell), line), "{cell}");
+        expect(&rt, cell, refuses(rt.alloc(), edges(cell), line));
     }
 }
 
@@ -283,7 +284,7 @@ fn the_cell_is_judged_before_the_second_cell(rt: HostRuntime) {
     for (row, (cell, to, line)) in JUDGED_IN_ORDER.iter().enumerate() {
         let refused = refuses(rt.alloc(), neighbors(cell, to), line)
             && refuses(rt.alloc(), edge_between(cell, to), line);
-        assert!(&rt; refused, "row {row}");
+        expect_row(&rt, row, refused);
     }
 }
 
@@ -306,6 +307,6 @@ static TO_REFUSE: [Command; 3] = [
 fn the_table_is_judged_before_the_cells_and_the_edge(rt: HostRuntime) {
     for (row, command) in TO_REFUSE.iter().enumerate() {
         let refused = refuses_table(rt.alloc(), "", *command, "table: form 1\n");
-        assert!(&rt; refused, "row {row}");
+        expect_row(&rt, row, refused);
     }
 }

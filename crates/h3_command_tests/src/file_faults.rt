@@ -1,6 +1,7 @@
 //! Commands over a file of cells and a list, where a faulty line is known before a read that fails,
 //! and where a page of the list is answered before one.
 
+use crate::expected::expect_row;
 use crate::files::{CELL, Failing, FileRow, WELL, ZONES, over};
 use h3_fakes::{Faults, pulls_of, pulls_to_end};
 use h3_requests::Command;
@@ -183,14 +184,14 @@ fn list_is_known(alloc: Global, row: &FileRow, bytes: usize) -> bool {
 #[test]
 fn a_faulty_line_of_a_file_that_is_known_decides_before_a_read_fault(rt: HostRuntime) {
     for (number, (row, bytes)) in FAULTY_FILES.iter().enumerate() {
-        assert!(&rt; file_is_known(rt.alloc(), row, *bytes), "row {number}");
+        expect_row(&rt, number, file_is_known(rt.alloc(), row, *bytes));
     }
 }
 
 #[test]
 fn a_faulty_line_of_a_list_that_is_known_decides_before_a_read_fault(rt: HostRuntime) {
     for (number, (row, bytes)) in FAULTY_LISTS.iter().enumerate() {
-        assert!(&rt; list_is_known(rt.alloc(), row, *bytes), "row {number}");
+        expect_row(&rt, number, list_is_known(rt.alloc(), row, *bytes));
     }
 }
 
@@ -238,6 +239,6 @@ fn flushes_each_page(alloc: Global, command: Command, outputs: &[&str; 5]) -> bo
 fn a_page_is_flushed_before_the_next_one_is_read(rt: HostRuntime) {
     for (number, (command, outputs)) in PAGED.iter().enumerate() {
         let right = flushes_each_page(rt.alloc(), *command, outputs);
-        assert!(&rt; right, "row {number}");
+        expect_row(&rt, number, right);
     }
 }

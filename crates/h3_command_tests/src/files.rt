@@ -1,5 +1,6 @@
 //! Commands over a file of cells and a list.
 
+use crate::expected::expect_row;
 use h3_fakes::{Faults, FaultySink, FaultySource, NO_FAULT, pulls_to_end};
 use h3_requests::Command;
 use h3_runs::run_command;
@@ -325,14 +326,14 @@ fn refuses(alloc: Global, row: &FileRow) -> bool {
 #[test]
 fn lists_are_answered_over_files(rt: HostRuntime) {
     for (number, row) in ANSWERED.iter().enumerate() {
-        assert!(&rt; answers(rt.alloc(), row), "row {number}");
+        expect_row(&rt, number, answers(rt.alloc(), row));
     }
 }
 
 #[test]
 fn files_are_judged_before_lists(rt: HostRuntime) {
     for (number, row) in FILE_REFUSED.iter().enumerate() {
-        assert!(&rt; refuses(rt.alloc(), row), "row {number}");
+        expect_row(&rt, number, refuses(rt.alloc(), row));
     }
 }
 
@@ -422,6 +423,6 @@ fn each_stream_that_fails_ends_the_run(rt: HostRuntime) {
             && stops_at_the_file(alloc, row)
             && stops_at_the_list(alloc, row, before)
             && stops_at_the_output(alloc, row);
-        assert!(&rt; right, "row {number}");
+        expect_row(&rt, number, right);
     }
 }

@@ -6,6 +6,8 @@ mod cases;
 #[cfg(test)]
 mod edges;
 #[cfg(test)]
+mod expected;
+#[cfg(test)]
 mod file_faults;
 #[cfg(test)]
 mod files;

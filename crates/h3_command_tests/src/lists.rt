@@ -1,6 +1,7 @@
 //! Lists whose lines are long, faulty, or cut by a reader that fails.
 
 use crate::cases::{Case, Reads};
+use crate::expected::expect;
 use crate::readers::stops_at_fault;
 use arrayvec::ArrayString;
 use h3_fakes::{Faults, NO_FAULT};
@@ -114,16 +115,36 @@ const CELL_INVALID: &str = "error 5: E_CELL_INVALID\n";
 #[test]
 fn lines_have_at_most_64_bytes(rt: HostRuntime) {
     let blank = after(64, ' ', "\n");
-    assert!(&rt; is_compacted(rt.alloc(), &compaction(&blank, "", "")));
+    expect(
+        &rt,
+        "64 blanks",
+        is_compacted(rt.alloc(), &compaction(&blank, "", "")),
+    );
     let indented = after(49, ' ', "85283473fffffff");
     let one = "85283473fffffff\n";
-    assert!(&rt; is_compacted(rt.alloc(), &compaction(&indented, one, "")));
+    expect(
+        &rt,
+        "49 blanks and a cell",
+        is_compacted(rt.alloc(), &compaction(&indented, one, "")),
+    );
     let blank = after(65, ' ', "");
-    assert!(&rt; is_known(rt.alloc(), &compaction(&blank, "", FAILED), 65));
+    expect(
+        &rt,
+        "65 blanks",
+        is_known(rt.alloc(), &compaction(&blank, "", FAILED), 65),
+    );
     let indented = after(50, ' ', "85283473fffffff");
-    assert!(&rt; is_known(rt.alloc(), &compaction(&indented, "", FAILED), 65));
+    expect(
+        &rt,
+        "50 blanks and a cell",
+        is_known(rt.alloc(), &compaction(&indented, "", FAILED), 65),
+    );
     let long = after(65, '8', "");
-    assert!(&rt; is_known(rt.alloc(), &compaction(&long, "", FAILED), 65));
+    expect(
+        &rt,
+        "65 digits",
+        is_known(rt.alloc(), &compaction(&long, "", FAILED), 65),
+    );
 }
 
 /// Faulty lists, their errors, and the bytes by which they are known.
@@ -146,7 +167,7 @@ static FAULTY: [(&str, &str, usize); 8] = [
 fn a_faulty_line_that_is_known_decides_before_a_read_fault(rt: HostRuntime) {
     for (list, line, bytes) in &FAULTY {
         let case = compaction(list, "", line);
-        assert!(&rt; is_known(rt.alloc(), &case, *bytes), "{list}");
+        expect(&rt, list, is_known(rt.alloc(), &case, *bytes));
     }
 }
 
@@ -180,11 +201,11 @@ static FAULTY_AT: [(&str, &str, usize); 5] = [
 fn a_faulty_line_of_a_union_is_told(rt: HostRuntime) {
     for (list, line, bytes) in &FAULTY_AT {
         let case = refused_union(list, line);
-        assert!(&rt; is_known(rt.alloc(), &case, *bytes), "{list}");
+        expect(&rt, list, is_known(rt.alloc(), &case, *bytes));
     }
     let long = after(65, '8', "");
     let case = refused_union(&long, "line 1: error 1: E_FAILED\n");
-    assert!(&rt; is_known(rt.alloc(), &case, 65));
+    expect(&rt, "65 digits", is_known(rt.alloc(), &case, 65));
 }
 
 /// Lists whose last line is not ended, and their compactions or the error.
@@ -198,8 +219,12 @@ static UNENDED: [(&str, &str, &str); 3] = [
 fn a_last_line_that_a_read_fault_cuts_is_not_looked_at(rt: HostRuntime) {
     for (list, output, line) in &UNENDED {
         let case = compaction(list, output, line);
-        assert!(&rt; is_torn(rt.alloc(), &case), "{list}");
+        expect(&rt, list, is_torn(rt.alloc(), &case));
     }
     let long = after(64, '8', "");
-    assert!(&rt; is_torn(rt.alloc(), &compaction(&long, "", FAILED)));
+    expect(
+        &rt,
+        "64 digits",
+        is_torn(rt.alloc(), &compaction(&long, "", FAILED)),
+    );
 }

@@ -1,6 +1,7 @@
 //! Functions of each index of a list, over readers and writers that fail.
 
 use crate::cases::{Streams, WELL, for_each};
+use crate::expected::{expect, expect_at};
 use crate::plurals::answer_to;
 use arrayvec::ArrayString;
 use h3_fakes::{Faults, FaultySink, NO_FAULT};
@@ -91,9 +92,17 @@ fn a_long_line_is_refused_before_a_read_fault(rt: HostRuntime) {
     let long = "8888888888888888888888888888888888888888888888888888888888888888888888";
     let case = for_each(PARENTS, long, "");
     let known = case.read(rt.alloc(), 1, Faults::From(65));
-    assert!(&rt; known.is("", "line 1: error 1: E_FAILED\n", 1) && known.pulls == 65);
+    expect(
+        &rt,
+        "a fault after 65 bytes",
+        known.is("", "line 1: error 1: E_FAILED\n", 1) && known.pulls == 65,
+    );
     let torn = case.read(rt.alloc(), 1, Faults::From(64));
-    assert!(&rt; torn.is("", READ_FAULT, 4) && torn.pulls == 65);
+    expect(
+        &rt,
+        "a fault after 64 bytes",
+        torn.is("", READ_FAULT, 4) && torn.pulls == 65,
+    );
 }
 
 /// Four cells, and so their own answer: of as many bytes each.
@@ -113,7 +122,11 @@ fn lines_are_written_as_they_are_read(rt: HostRuntime) {
     let case = for_each(PARENTS, FOUR, "");
     let run = case.over(rt.alloc(), line_by_line(NO_FAULT));
     let whole = run.is(FOUR, "", 0) && run.pulls == 5;
-    assert!(&rt; whole && run.out.calls() == 8 && run.out.flushes() == 4);
+    expect(
+        &rt,
+        "four lines",
+        whole && run.out.calls() == 8 && run.out.flushes() == 4,
+    );
 }
 
 /// Whether at a write fault at a call, where each line read is a push and a flush, what the pushes
@@ -133,7 +146,7 @@ fn nothing_is_read_after_a_write_fault(rt: HostRuntime) {
     for call in 0..8u64 {
         let right = stops_at_write_fault(rt.alloc(), Faults::From(call))
             && stops_at_write_fault(rt.alloc(), Faults::Once(call));
-        assert!(&rt; right, "call {call}");
+        expect_at(&rt, "call", call, right);
     }
 }
 
@@ -180,6 +193,6 @@ static COUNTS: [usize; 8] = [1, 2, 2007, 2008, 2048, 2049, 4013, 4014];
 fn lines_are_flushed_before_an_error(rt: HostRuntime) {
     for count in &COUNTS {
         let right = flushes_once(rt.alloc(), *count) && reports_a_flush_fault(rt.alloc(), *count);
-        assert!(&rt; right, "{count} lines");
+        expect_at(&rt, "lines", *count as u64, right);
     }
 }

@@ -1,6 +1,7 @@
 //! The answers to a page of a list are flushed before the next one is read.
 
 use crate::cases::{Streams, WELL, for_each};
+use crate::expected::expect_at;
 use h3_fakes::Faults;
 use h3_requests::IndexFunction;
 
@@ -19,6 +20,6 @@ fn a_page_is_flushed_before_the_next_one_is_read(rt: HostRuntime) {
         let run = case.over(rt.alloc(), streams);
         let read = pages as usize * 16;
         let answered = run.status == 4 && FOUR.as_bytes().get(..read) == Some(run.out.bytes());
-        assert!(&rt; answered && run.out.flushes() == pages, "{pages}");
+        expect_at(&rt, "pages", pages, answered && run.out.flushes() == pages);
     }
 }

@@ -1,6 +1,7 @@
 //! Functions of each index of a list, where the list is longer than a page of 65536 bytes.
 
 use crate::cases::{Reads, for_each, whole};
+use crate::expected::expect_at;
 use crate::plurals::line_at;
 use h3_fakes::{Faults, FaultySink, FaultySource, NO_FAULT};
 use h3_requests::{Command, IndexFunction};
@@ -40,7 +41,12 @@ static BLANK_LINES: [usize; 6] = [65510, 65520, 65521, 65535, 65536, 65537];
 #[test]
 fn a_line_is_answered_wherever_a_page_ends(rt: HostRuntime) {
     for count in &BLANK_LINES {
-        assert!(&rt; is_answered_after(rt.alloc(), *count), "{count}");
+        expect_at(
+            &rt,
+            "after",
+            *count as u64,
+            is_answered_after(rt.alloc(), *count),
+        );
     }
 }
 
@@ -63,9 +69,11 @@ static CUT_AFTER: [usize; 7] = [65504, 65505, 65520, 65521, 65535, 65536, 65537]
 #[test]
 fn lines_that_a_read_fault_cuts_are_not_answered_on_a_second_page(rt: HostRuntime) {
     for count in &CUT_AFTER {
-        assert!(&rt;
+        expect_at(
+            &rt,
+            "after",
+            *count as u64,
             is_answered_before_a_read_fault(rt.alloc(), *count),
-            "{count}"
         );
     }
 }
@@ -141,6 +149,11 @@ static BLANKS: [usize; 5] = [0, 1, 8, 15, 16];
 #[test]
 fn a_list_of_several_pages_is_answered_in_its_order(rt: HostRuntime) {
     for blanks in &BLANKS {
-        assert!(&rt; has_all_positions(rt.alloc(), *blanks), "{blanks}");
+        expect_at(
+            &rt,
+            "blanks",
+            *blanks as u64,
+            has_all_positions(rt.alloc(), *blanks),
+        );
     }
 }

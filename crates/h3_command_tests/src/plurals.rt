@@ -1,6 +1,7 @@
 //! Functions of one index, answered for each line of a list.
 
 use crate::cases::{Outcome, Reads, for_each, index_of, whole};
+use crate::expected::{expect, expect_at, expect_row};
 use arrayvec::ArrayString;
 use h3_fakes::NO_FAULT;
 use h3_requests::{Command, IndexFunction};
@@ -163,7 +164,7 @@ static LENGTHS: [usize; 5] = [64, 65, 64, 65, 65];
 #[test]
 fn lines_are_as_long_as_they_should_be(rt: HostRuntime) {
     for (line, length) in LINES.iter().skip(15).zip(&LENGTHS) {
-        assert!(&rt; line.len() == *length, "{length}");
+        expect_at(&rt, "length", *length as u64, line.len() == *length);
     }
 }
 
@@ -190,7 +191,7 @@ fn all_answer_as_alone(alloc: Global, res: i32, list: &str, most: usize) -> bool
 fn lines_are_answered_as_by_the_function_alone(rt: HostRuntime) {
     for line in &LINES {
         let list = among("\n85283473fffffff\n", line, "\n8009fffffffffff");
-        assert!(&rt; all_answer_as_alone(rt.alloc(), 4, &list, 16), "{line}");
+        expect(&rt, line, all_answer_as_alone(rt.alloc(), 4, &list, 16));
     }
 }
 
@@ -202,7 +203,7 @@ fn lines_are_answered_so_after_an_edge(rt: HostRuntime) {
         let origin = IndexFunction::GetDirectedEdgeOrigin;
         let right = is_answered_as_alone(rt.alloc(), is_edge, &list, 65536)
             && is_answered_as_alone(rt.alloc(), origin, &list, 65536);
-        assert!(&rt; right, "{line}");
+        expect(&rt, line, right);
     }
 }
 
@@ -302,7 +303,7 @@ static ANSWERS: [(IndexFunction, &str, &str); 13] = [
 fn cells_are_answered(rt: HostRuntime) {
     for (row, (function, list, output)) in ANSWERS.iter().enumerate() {
         let right = is_answered(rt.alloc(), *function, list, output, "");
-        assert!(&rt; right, "row {row}");
+        expect_row(&rt, row, right);
     }
 }
 
@@ -326,7 +327,7 @@ static EMPTY_LISTS: [&str; 3] = ["", "\n\n\n", " \t\r\n\r\n "];
 fn a_list_without_an_index_has_no_answer(rt: HostRuntime) {
     for (row, list) in EMPTY_LISTS.iter().enumerate() {
         for function in &functions!(16) {
-            assert!(&rt; has_no_answer(rt.alloc(), *function, list), "row {row}");
+            expect_row(&rt, row, has_no_answer(rt.alloc(), *function, list));
         }
     }
 }
@@ -365,9 +366,10 @@ static REFUSED: [(&str, &str, &str); 6] = [
 fn the_first_line_that_is_refused_ends_the_answer(rt: HostRuntime) {
     let parents = IndexFunction::CellToParent { res: 4 };
     for (list, output, line) in &REFUSED {
-        assert!(&rt;
+        expect(
+            &rt,
+            line,
             is_answered(rt.alloc(), parents, list, output, line),
-            "{line}"
         );
     }
 }
@@ -389,7 +391,7 @@ fn a_resolution_out_of_range_is_refused_at_the_first_index(rt: HostRuntime) {
         let first = "\n \n85283473fffffff\nxyz\n";
         let right = is_answered(rt.alloc(), *function, first, "", outside)
             && is_answered(rt.alloc(), *function, "xyz\n85283473fffffff\n", "", none);
-        assert!(&rt; right, "row {row}");
+        expect_row(&rt, row, right);
     }
 }
 
@@ -420,6 +422,6 @@ static FAULTY: [(&str, usize); 3] = [
 #[test]
 fn nothing_is_read_after_a_line_that_is_refused(rt: HostRuntime) {
     for (list, bytes) in &FAULTY {
-        assert!(&rt; is_known(rt.alloc(), list, *bytes), "{list}");
+        expect(&rt, list, is_known(rt.alloc(), list, *bytes));
     }
 }

@@ -3,6 +3,7 @@
 use crate::cases::{
     BELOW_BASE_20, Case, EDGE_CASES, HEXAGON, LIST_CASES, PLAIN_CASES, Reads, WALK_CASES, whole,
 };
+use crate::expected::{expect, expect_at, expect_row};
 use h3_fakes::{Faults, NO_FAULT, bases_file, table_file};
 use h3_requests::Command;
 use h3_table::vectors::TestTable;
@@ -38,7 +39,7 @@ fn meets_each_fault(alloc: Global, case: &Case<'_>, most: usize) -> bool {
 #[test]
 fn a_plain_command_reads_nothing(rt: HostRuntime) {
     for (row, case) in PLAIN_CASES.iter().enumerate() {
-        assert!(&rt; is_answered(rt.alloc(), case, 1, NO_FAULT), "row {row}");
+        expect_row(&rt, row, is_answered(rt.alloc(), case, 1, NO_FAULT));
     }
 }
 
@@ -53,7 +54,7 @@ fn meets_each_fault_of_a_list(alloc: Global, case: &Case<'_>) -> bool {
 #[test]
 fn a_list_whose_read_fails_is_a_read_fault(rt: HostRuntime) {
     for (row, case) in LIST_CASES.iter().enumerate() {
-        assert!(&rt; meets_each_fault_of_a_list(rt.alloc(), case), "row {row}");
+        expect_row(&rt, row, meets_each_fault_of_a_list(rt.alloc(), case));
     }
 }
 
@@ -61,7 +62,7 @@ fn a_list_whose_read_fails_is_a_read_fault(rt: HostRuntime) {
 fn a_long_list_that_is_read_byte_by_byte_may_fail_at_each(rt: HostRuntime) {
     let list = Reads::List(BELOW_BASE_20);
     let case = whole(Command::CompactCells, list, "8029fffffffffff\n");
-    assert!(&rt; meets_each_fault(rt.alloc(), &case, 1));
+    expect(&rt, "a long list", meets_each_fault(rt.alloc(), &case, 1));
 }
 
 #[test]
@@ -72,7 +73,7 @@ fn a_table_whose_read_fails_is_a_read_fault(rt: HostRuntime) {
         let right = meets_each_fault(rt.alloc(), &case, 61)
             && meets_each_fault(rt.alloc(), &case, 4096)
             && is_answered(rt.alloc(), &case, 1, NO_FAULT);
-        assert!(&rt; right, "row {row}");
+        expect_row(&rt, row, right);
     }
 }
 
@@ -83,9 +84,9 @@ fn a_table_that_is_read_byte_by_byte_may_fail_at_each(rt: HostRuntime) {
     let case = case.on_table(file.as_str());
     for pull in 0..case.pulls(1) {
         let stops = stops_at_fault(rt.alloc(), &case, 1, Faults::From(pull));
-        assert!(&rt; stops, "pull {pull}");
+        expect_at(&rt, "pull", pull, stops);
     }
-    assert!(&rt; is_answered(rt.alloc(), &case, 1, NO_FAULT));
+    expect(&rt, "no fault", is_answered(rt.alloc(), &case, 1, NO_FAULT));
 }
 
 /// Tables with a faulty record before others, and one the first fault of which is at its end.
@@ -120,6 +121,6 @@ fn a_read_fault_comes_before_the_refusal_of_a_table(rt: HostRuntime) {
         let right = meets_each_fault(rt.alloc(), &case, 1)
             && meets_each_fault(rt.alloc(), &case, 2)
             && meets_each_fault(rt.alloc(), &case, 4096);
-        assert!(&rt; right, "{file}");
+        expect(&rt, file, right);
     }
 }

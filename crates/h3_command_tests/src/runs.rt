@@ -4,6 +4,7 @@ use crate::cases::{
     BELOW_BASE_20, CHILDREN, HEXAGON, PENTAGON, Reads, Row, answers, answers_row, first_wrong,
     index_of, refuses, whole, writes,
 };
+use crate::expected::{expect, expect_all, expect_row};
 use h3_fakes::NO_FAULT;
 use h3_requests::Command;
 use std::alloc::Global;
@@ -43,7 +44,7 @@ fn cells_are_tested(rt: HostRuntime) {
     for (word, line) in &TESTED {
         let cell = index_of(word);
         let command = Command::IsValidCell { cell };
-        assert!(&rt; writes(rt.alloc(), command, line), "{word}");
+        expect(&rt, word, writes(rt.alloc(), command, line));
     }
 }
 
@@ -61,7 +62,7 @@ fn words_that_parse_as_no_index_are_refused(rt: HostRuntime) {
                 Command::CellToChildren { cell, res: 16 },
                 FAILED,
             );
-        assert!(&rt; refused, "{word}");
+        expect(&rt, word, refused);
     }
 }
 
@@ -94,7 +95,7 @@ static PARTS: [Row; 10] = [
 #[test]
 fn parts_of_cells_are_written(rt: HostRuntime) {
     let row = first_wrong(rt.alloc(), &PARTS);
-    assert!(&rt; row == PARTS.len(), "row {row}");
+    expect_all(&rt, row, PARTS.len());
 }
 
 /// Numbers of cells.
@@ -107,7 +108,7 @@ static COUNTS: [Row; 3] = [
 #[test]
 fn cells_are_counted(rt: HostRuntime) {
     let row = first_wrong(rt.alloc(), &COUNTS);
-    assert!(&rt; row == COUNTS.len(), "row {row}");
+    expect_all(&rt, row, COUNTS.len());
 }
 
 /// Whether a command writes `count` indexes, of which these are the first and the last lines.
@@ -124,7 +125,11 @@ fn has_ends(alloc: Global, command: Command, count: usize, first: &str, last: &s
 fn base_cells_are_listed(rt: HostRuntime) {
     let first = "8001fffffffffff\n8003fffffffffff\n";
     let last = "\n80f3fffffffffff\n";
-    assert!(&rt; has_ends(rt.alloc(), Command::GetRes0Cells, 122, first, last));
+    expect(
+        &rt,
+        "base cells",
+        has_ends(rt.alloc(), Command::GetRes0Cells, 122, first, last),
+    );
 }
 
 /// The pentagons of resolution 0.
@@ -137,11 +142,23 @@ const COARSEST_PENTAGONS: &str =
 fn pentagons_are_listed(rt: HostRuntime) {
     let (first, last) = ("81083ffffffffff\n", "\n81ea3ffffffffff\n");
     let finer = Command::GetPentagons { res: 1 };
-    assert!(&rt; has_ends(rt.alloc(), finer, 12, first, last));
+    expect(
+        &rt,
+        "resolution 1",
+        has_ends(rt.alloc(), finer, 12, first, last),
+    );
     let coarsest = Command::GetPentagons { res: 0 };
-    assert!(&rt; writes(rt.alloc(), coarsest, COARSEST_PENTAGONS));
+    expect(
+        &rt,
+        "resolution 0",
+        writes(rt.alloc(), coarsest, COARSEST_PENTAGONS),
+    );
     let outside = Command::GetPentagons { res: 16 };
-    assert!(&rt; refuses(rt.alloc(), outside, RES_DOMAIN));
+    expect(
+        &rt,
+        "resolution 16",
+        refuses(rt.alloc(), outside, RES_DOMAIN),
+    );
 }
 
 /// Ancestors, at these resolutions.
@@ -167,7 +184,11 @@ fn ancestors_are_written(rt: HostRuntime) {
         cell: NO_CELL,
         res: 16,
     };
-    assert!(&rt; refuses(rt.alloc(), no_cell, CELL_INVALID));
+    expect(
+        &rt,
+        "an index of no cell",
+        refuses(rt.alloc(), no_cell, CELL_INVALID),
+    );
 }
 
 /// Descendants, and numbers of them.
@@ -314,7 +335,7 @@ static DESCENDANTS: [Row; 17] = [
 #[test]
 fn descendants_are_written(rt: HostRuntime) {
     for (number, row) in DESCENDANTS.iter().enumerate() {
-        assert!(&rt; answers_row(rt.alloc(), row), "row {number}");
+        expect_row(&rt, number, answers_row(rt.alloc(), row));
     }
 }
 
@@ -337,7 +358,7 @@ fn positions_are_written(rt: HostRuntime) {
             res: *res,
         };
         let row = (command, *output, *line);
-        assert!(&rt; answers_row(rt.alloc(), &row), "row {number}");
+        expect_row(&rt, number, answers_row(rt.alloc(), &row));
     }
 }
 
@@ -362,7 +383,7 @@ fn descendants_are_found_by_position(rt: HostRuntime) {
             res: *res,
         };
         let row = (command, *output, *line);
-        assert!(&rt; answers_row(rt.alloc(), &row), "row {number}");
+        expect_row(&rt, number, answers_row(rt.alloc(), &row));
     }
 }
 
@@ -397,7 +418,7 @@ fn lists_are_uncompacted(rt: HostRuntime) {
         let command = Command::UncompactCells { res: *res };
         let list = Reads::List(list);
         let right = answers(rt.alloc(), command, list, output, line, &PIECES);
-        assert!(&rt; right, "row {number}");
+        expect_row(&rt, number, right);
     }
 }
 
@@ -445,7 +466,7 @@ fn what_lists_uncompact_to_is_counted(rt: HostRuntime) {
         let command = Command::UncompactCellsSize { res: *res };
         let list = Reads::List(list);
         let right = answers(rt.alloc(), command, list, output, line, &PIECES);
-        assert!(&rt; right, "row {number}");
+        expect_row(&rt, number, right);
     }
 }
 
@@ -516,7 +537,7 @@ fn first_wrong_list(alloc: Global, command: Command, rows: &[(&str, &str, &str)]
 #[test]
 fn lists_are_compacted(rt: HostRuntime) {
     let row = first_wrong_list(rt.alloc(), Command::CompactCells, &COMPACTED);
-    assert!(&rt; row == COMPACTED.len(), "row {row}");
+    expect_all(&rt, row, COMPACTED.len());
 }
 
 /// The compaction of all the cells below base cell 20 but the last one.
@@ -529,7 +550,11 @@ fn a_list_that_lacks_a_cell_is_compacted(rt: HostRuntime) {
     let (most, _) = BELOW_BASE_20.split_at(48 * 16);
     let list = Reads::List(most);
     let compact = Command::CompactCells;
-    assert!(&rt; answers(rt.alloc(), compact, list, ALL_BUT_ONE, "", &PIECES));
+    expect(
+        &rt,
+        "all cells but the last",
+        answers(rt.alloc(), compact, list, ALL_BUT_ONE, "", &PIECES),
+    );
 }
 
 /// Lists whose cells may repeat and overlap, and the compacted list of what they cover, or the
@@ -586,5 +611,5 @@ static UNITED: [(&str, &str, &str); 11] = [
 #[test]
 fn lists_are_united(rt: HostRuntime) {
     let row = first_wrong_list(rt.alloc(), Command::UniteCells, &UNITED);
-    assert!(&rt; row == UNITED.len(), "row {row}");
+    expect_all(&rt, row, UNITED.len());
 }

@@ -4,6 +4,7 @@ use crate::cases::{
     BESIDE, HEXAGON, PENTAGON, PENTAGON_LINE, Row, answers_row_over, first_wrong_over, index_of,
     refuses, refuses_table,
 };
+use crate::expected::{expect, expect_all, expect_row};
 use crate::table_files::without_last;
 use h3_fakes::{changed_file, open_file, table_file};
 use h3_requests::Command;
@@ -199,7 +200,7 @@ static PLAIN_WALKS: [Row; 21] = [
 fn walks_over_the_plain_table_are_answered(rt: HostRuntime) {
     let plain = table_file(TestTable::Plain);
     let row = first_wrong_over(rt.alloc(), &plain, &PLAIN_WALKS);
-    assert!(&rt; row == PLAIN_WALKS.len(), "row {row}");
+    expect_all(&rt, row, PLAIN_WALKS.len());
 }
 
 /// Walks over the twisted table.
@@ -230,7 +231,7 @@ static TWISTED_WALKS: [Row; 4] = [
 fn walks_over_the_twisted_table_are_answered(rt: HostRuntime) {
     let twisted = table_file(TestTable::Twisted);
     let row = first_wrong_over(rt.alloc(), &twisted, &TWISTED_WALKS);
-    assert!(&rt; row == TWISTED_WALKS.len(), "row {row}");
+    expect_all(&rt, row, TWISTED_WALKS.len());
 }
 
 /// A ring that does not close.
@@ -248,7 +249,11 @@ static OPEN_RING: Row = (
 #[test]
 fn a_ring_that_does_not_close_is_refused_after_its_cells(rt: HostRuntime) {
     let open = open_file();
-    assert!(&rt; answers_row_over(rt.alloc(), &open, &OPEN_RING));
+    expect(
+        &rt,
+        "an open ring",
+        answers_row_over(rt.alloc(), &open, &OPEN_RING),
+    );
 }
 
 /// The disk of radius 1 around the cell of many tests.
@@ -262,13 +267,29 @@ fn tables_are_refused(rt: HostRuntime) {
     let alloc = rt.alloc();
     let plain = table_file(TestTable::Plain);
     let short = without_last(plain.as_str());
-    assert!(&rt; refuses_table(alloc, short, DISK, "table: missing\n"));
+    expect(
+        &rt,
+        "short",
+        refuses_table(alloc, short, DISK, "table: missing\n"),
+    );
     let turned = changed_file(TestTable::Plain, 1, 110, 1);
-    assert!(&rt; refuses_table(alloc, &turned, DISK, "table: reversal 0 1\n"));
+    expect(
+        &rt,
+        "turned",
+        refuses_table(alloc, &turned, DISK, "table: reversal 0 1\n"),
+    );
     let skew = table_file(TestTable::Skew);
-    assert!(&rt; refuses_table(alloc, &skew, DISK, "table: corner 0 1\n"));
+    expect(
+        &rt,
+        "skew",
+        refuses_table(alloc, &skew, DISK, "table: corner 0 1\n"),
+    );
     let twice = changed_file(TestTable::Plain, 2, 110, 0);
-    assert!(&rt; refuses_table(alloc, &twice, DISK, "table: neighbours 0\n"));
+    expect(
+        &rt,
+        "twice",
+        refuses_table(alloc, &twice, DISK, "table: neighbours 0\n"),
+    );
 }
 
 /// Files, and the lines that refuse them.
@@ -284,7 +305,7 @@ static SHORT_FILES: [(&str, &str); 3] = [
 #[test]
 fn short_tables_are_refused(rt: HostRuntime) {
     for (file, line) in &SHORT_FILES {
-        assert!(&rt; refuses_table(rt.alloc(), file, DISK, line), "{line}");
+        expect(&rt, line, refuses_table(rt.alloc(), file, DISK, line));
     }
 }
 
@@ -308,7 +329,7 @@ static WALKS_TO_REFUSE: [Command; 3] = [
 fn the_table_is_judged_before_the_walk(rt: HostRuntime) {
     for (row, command) in WALKS_TO_REFUSE.iter().enumerate() {
         let refused = refuses_table(rt.alloc(), "", *command, "table: form 1\n");
-        assert!(&rt; refused, "row {row}");
+        expect_row(&rt, row, refused);
     }
 }
 
@@ -329,6 +350,6 @@ fn the_index_is_judged_before_the_table(rt: HostRuntime) {
                 line,
             )
             && refuses(rt.alloc(), Command::GridRingUnsafe { cell, k: -1 }, line);
-        assert!(&rt; refused, "{word}");
+        expect(&rt, word, refused);
     }
 }

@@ -4,6 +4,7 @@ use crate::cases::{
     Case, EDGE_CASES, LIST_CASES, PLAIN_CASES, PLURAL_CASES, Reads, Streams, WALK_CASES, WELL,
     whole,
 };
+use crate::expected::{expect, expect_row};
 use arrayvec::ArrayVec;
 use h3_fakes::{Faults, FaultySink, NO_FAULT, bases_file};
 use h3_requests::Command;
@@ -177,7 +178,7 @@ fn a_plain_command_whose_write_fails_is_a_write_fault(rt: HostRuntime) {
             && meets_each_fault(rt.alloc(), case, 16)
             && meets_each_fault(rt.alloc(), case, 64)
             && ends_well(rt.alloc(), case);
-        assert!(&rt; right, "row {row}");
+        expect_row(&rt, row, right);
     }
 }
 
@@ -192,14 +193,14 @@ fn list_is_well_written(alloc: Global, case: &Case<'_>) -> bool {
 #[test]
 fn a_command_on_a_list_whose_write_fails_is_a_write_fault(rt: HostRuntime) {
     for (row, case) in LIST_CASES.iter().enumerate() {
-        assert!(&rt; list_is_well_written(rt.alloc(), case), "row {row}");
+        expect_row(&rt, row, list_is_well_written(rt.alloc(), case));
     }
 }
 
 #[test]
 fn a_function_of_each_index_whose_write_fails_is_a_write_fault(rt: HostRuntime) {
     for (row, case) in PLURAL_CASES.iter().enumerate() {
-        assert!(&rt; list_is_well_written(rt.alloc(), case), "row {row}");
+        expect_row(&rt, row, list_is_well_written(rt.alloc(), case));
     }
 }
 
@@ -211,7 +212,7 @@ fn a_walk_whose_write_fails_is_a_write_fault(rt: HostRuntime) {
         let right = meets_each_fault(rt.alloc(), &case, 1)
             && meets_each_fault(rt.alloc(), &case, 16)
             && ends_well(rt.alloc(), &case);
-        assert!(&rt; right, "row {row}");
+        expect_row(&rt, row, right);
     }
 }
 
@@ -223,7 +224,7 @@ fn a_command_on_edges_whose_write_fails_is_a_write_fault(rt: HostRuntime) {
         let right = meets_each_fault(rt.alloc(), &case, 1)
             && meets_each_fault(rt.alloc(), &case, 64)
             && ends_well(rt.alloc(), &case);
-        assert!(&rt; right, "row {row}");
+        expect_row(&rt, row, right);
     }
 }
 
@@ -232,9 +233,17 @@ fn a_writer_with_room_for_20_bytes_has_the_first_20(rt: HostRuntime) {
     let [_, case, _, _] = PLAIN_CASES;
     let mut out = Streamed::new(ArrayVec::<u8, 20>::new());
     let mut err: FaultySink<64> = FaultySink::new(64, NO_FAULT);
-    assert!(&rt; case.status(rt.alloc(), &mut out, &mut err) == 4);
-    assert!(&rt; out.into_inner().as_slice() == b"862834707ffffff\n8628".as_slice());
-    assert!(&rt; err.bytes() == WRITE_FAULT.as_bytes());
+    expect(
+        &rt,
+        "status",
+        case.status(rt.alloc(), &mut out, &mut err) == 4,
+    );
+    expect(
+        &rt,
+        "output",
+        out.into_inner().as_slice() == b"862834707ffffff\n8628".as_slice(),
+    );
+    expect(&rt, "standard error", err.bytes() == WRITE_FAULT.as_bytes());
 }
 
 /// Whether a command writes these first 40 bytes, over a writer that has room for no more. The
@@ -253,10 +262,18 @@ fn a_long_list_is_written_from_the_start(rt: HostRuntime) {
         cell: Some(0x8001fffffffffff),
         res: 15,
     };
-    assert!(&rt; begins(rt.alloc(), children, Reads::Nothing, begun));
+    expect(
+        &rt,
+        "children",
+        begins(rt.alloc(), children, Reads::Nothing, begun),
+    );
     let list = Reads::List("8001fffffffffff\n8003fffffffffff\n");
     let descendants = Command::UncompactCells { res: 15 };
-    assert!(&rt; begins(rt.alloc(), descendants, list, begun));
+    expect(
+        &rt,
+        "descendants",
+        begins(rt.alloc(), descendants, list, begun),
+    );
 }
 
 #[test]
@@ -267,8 +284,12 @@ fn a_long_disk_is_written_from_the_start(rt: HostRuntime) {
     let k = i32::MAX;
     let disk = Command::GridDiskUnsafe { cell, k };
     let begun = "8f2834700000000\n8f2834700000006\n8f283470";
-    assert!(&rt; begins(rt.alloc(), disk, table, begun));
+    expect(&rt, "disk", begins(rt.alloc(), disk, table, begun));
     let distances = Command::GridDiskDistancesUnsafe { cell, k };
     let begun = "8f2834700000000 0\n8f2834700000006 1\n8f28";
-    assert!(&rt; begins(rt.alloc(), distances, table, begun));
+    expect(
+        &rt,
+        "distances",
+        begins(rt.alloc(), distances, table, begun),
+    );
 }

@@ -2,6 +2,7 @@
 
 use super::without_last;
 use crate::cases::{BESIDE, HEXAGON, PENTAGON_LINE, Row, first_wrong_over, refuses_table};
+use crate::expected::{expect, expect_all};
 use h3_directions::Direction;
 use h3_fakes::bases_file;
 use h3_grid::step;
@@ -76,7 +77,7 @@ static PLAIN_WALKS: [Row; 7] = [
 fn walks_over_the_plain_table_are_answered(rt: HostRuntime) {
     let plain = bases_file(TestTable::Plain);
     let row = first_wrong_over(rt.alloc(), &plain, &PLAIN_WALKS);
-    assert!(&rt; row == PLAIN_WALKS.len(), "row {row}");
+    expect_all(&rt, row, PLAIN_WALKS.len());
 }
 
 /// Walks over the twisted table.
@@ -97,7 +98,7 @@ static TWISTED_WALKS: [Row; 2] = [
 fn walks_over_the_twisted_table_are_answered(rt: HostRuntime) {
     let twisted = bases_file(TestTable::Twisted);
     let row = first_wrong_over(rt.alloc(), &twisted, &TWISTED_WALKS);
-    assert!(&rt; row == TWISTED_WALKS.len(), "row {row}");
+    expect_all(&rt, row, TWISTED_WALKS.len());
 }
 
 /// Where a step in the direction I leads from 813d3ffffffffff, and its turns.
@@ -121,9 +122,9 @@ fn leads(reached: Option<(u64, u8)>, cell: u64, turns: u8) -> bool {
 #[test]
 fn steps_cross_into_turned_frames(rt: HostRuntime) {
     let plain = step_over(rt.alloc(), TestTable::Plain);
-    assert!(&rt; leads(plain, 0x813ebffffffffff, 0), "plain");
+    expect(&rt, "plain", leads(plain, 0x813ebffffffffff, 0));
     let twisted = step_over(rt.alloc(), TestTable::Twisted);
-    assert!(&rt; leads(twisted, 0x813efffffffffff, 1), "twisted");
+    expect(&rt, "twisted", leads(twisted, 0x813efffffffffff, 1));
 }
 
 /// The records of the other format under each header.
@@ -140,13 +141,22 @@ fn tables_are_refused(rt: HostRuntime) {
     };
     let file = bases_file(TestTable::Plain);
     let short = without_last(file.as_str());
-    assert!(&rt; refuses_table(rt.alloc(), short, command, "table: missing\n"));
+    expect(
+        &rt,
+        "short",
+        refuses_table(rt.alloc(), short, command, "table: missing\n"),
+    );
     let skew = bases_file(TestTable::Skew);
-    assert!(&rt; refuses_table(rt.alloc(), &skew, command, "table: corner 0 1\n"));
+    expect(
+        &rt,
+        "skew",
+        refuses_table(rt.alloc(), &skew, command, "table: corner 0 1\n"),
+    );
     for file in &MIXED_FILES {
-        assert!(&rt;
+        expect(
+            &rt,
+            file,
             refuses_table(rt.alloc(), file, command, "table: form 2\n"),
-            "{file}"
         );
     }
 }
