@@ -1,5 +1,6 @@
 //! The words of commands over a file: a table, a region or zones.
 
+use crate::expected::{expect, expect_all};
 use crate::words::{CELL, EDGE};
 use h3_parses::{read, read_apart};
 use h3_requests::Command;
@@ -94,7 +95,7 @@ static DISKS: [(&str, Command, &str); 4] = [
 #[test]
 fn reads_disks(rt: HostRuntime) {
     let row = first_other(rt.alloc(), Kind::Table, &DISKS);
-    assert!(&rt; row == DISKS.len(), "row {row}");
+    expect_all(&rt, row, DISKS.len());
 }
 
 /// Lines of distances and rings, and the path of the table.
@@ -122,7 +123,7 @@ static DISTANCES_AND_RINGS: [(&str, Command, &str); 3] = [
 #[test]
 fn reads_distances_and_rings(rt: HostRuntime) {
     let row = first_other(rt.alloc(), Kind::Table, &DISTANCES_AND_RINGS);
-    assert!(&rt; row == DISTANCES_AND_RINGS.len(), "row {row}");
+    expect_all(&rt, row, DISTANCES_AND_RINGS.len());
 }
 
 /// Lines of commands on two cells over a table.
@@ -155,7 +156,7 @@ static OF_TWO_CELLS: [(&str, Command); 5] = [
 #[test]
 fn reads_two_cells(rt: HostRuntime) {
     let row = first_other_table(rt.alloc(), &OF_TWO_CELLS);
-    assert!(&rt; row == OF_TWO_CELLS.len(), "row {row}");
+    expect_all(&rt, row, OF_TWO_CELLS.len());
 }
 
 /// Lines of a command on an edge over a table.
@@ -173,7 +174,7 @@ static OF_AN_EDGE_OVER_A_TABLE: [(&str, Command); 2] = [
 #[test]
 fn reads_an_edge_over_a_table(rt: HostRuntime) {
     let row = first_other_table(rt.alloc(), &OF_AN_EDGE_OVER_A_TABLE);
-    assert!(&rt; row == OF_AN_EDGE_OVER_A_TABLE.len(), "row {row}");
+    expect_all(&rt, row, OF_AN_EDGE_OVER_A_TABLE.len());
 }
 
 /// Lines of commands that answer a list over a table.
@@ -207,7 +208,7 @@ static OF_A_LIST_OVER_A_TABLE: [(&str, Command); 6] = [
 #[test]
 fn reads_lists_over_a_table(rt: HostRuntime) {
     let row = first_other_table(rt.alloc(), &OF_A_LIST_OVER_A_TABLE);
-    assert!(&rt; row == OF_A_LIST_OVER_A_TABLE.len(), "row {row}");
+    expect_all(&rt, row, OF_A_LIST_OVER_A_TABLE.len());
 }
 
 /// Lines of commands over a region, and its path.
@@ -238,7 +239,7 @@ static OVER_A_REGION: [(&str, Command, &str); 5] = [
 #[test]
 fn reads_the_path_of_a_region(rt: HostRuntime) {
     let row = first_other(rt.alloc(), Kind::Region, &OVER_A_REGION);
-    assert!(&rt; row == OVER_A_REGION.len(), "row {row}");
+    expect_all(&rt, row, OVER_A_REGION.len());
 }
 
 /// Lines of commands over zones, and their path.
@@ -264,7 +265,7 @@ static OVER_ZONES: [(&str, Command, &str); 4] = [
 #[test]
 fn reads_the_path_of_zones(rt: HostRuntime) {
     let row = first_other(rt.alloc(), Kind::Zones, &OVER_ZONES);
-    assert!(&rt; row == OVER_ZONES.len(), "row {row}");
+    expect_all(&rt, row, OVER_ZONES.len());
 }
 
 /// Words with a path that has blanks.
@@ -287,5 +288,5 @@ fn keeps_a_path_as_it_is(rt: HostRuntime) {
         Ok(words) => are_over(&words, Kind::Table, disk, path),
         Err(_) => false,
     };
-    assert!(&rt; kept);
+    expect(&rt, "blanks are kept", kept);
 }

@@ -1,5 +1,6 @@
 //! Lines that ask for help or the version, and what help says.
 
+use crate::expected::{expect, expect_all};
 use crate::refused_words::is_invalid;
 use h3_parses::read;
 use h3_words::ArgsError;
@@ -55,7 +56,7 @@ static HELP: [&str; 30] = [
 #[test]
 fn helps(rt: HostRuntime) {
     for line in &HELP {
-        assert!(&rt; asks_for_help(rt.alloc(), line), "{line}");
+        expect(&rt, line, asks_for_help(rt.alloc(), line));
     }
 }
 
@@ -77,7 +78,7 @@ static VERSION: [&str; 6] = [
 #[test]
 fn is_asked_for_the_version(rt: HostRuntime) {
     for line in &VERSION {
-        assert!(&rt; asks_for_version(rt.alloc(), line), "{line}");
+        expect(&rt, line, asks_for_version(rt.alloc(), line));
     }
 }
 
@@ -97,10 +98,14 @@ static NO_VERSION: [&str; 9] = [
 #[test]
 fn refuses_the_version_elsewhere(rt: HostRuntime) {
     for line in &NO_VERSION {
-        assert!(&rt; is_invalid(rt.alloc(), line), "{line}");
+        expect(&rt, line, is_invalid(rt.alloc(), line));
     }
-    assert!(&rt; asks_for_help(rt.alloc(), "h3 --help --version"));
-    assert!(&rt; is_invalid(rt.alloc(), "--version"));
+    expect(
+        &rt,
+        "h3 --help --version",
+        asks_for_help(rt.alloc(), "h3 --help --version"),
+    );
+    expect(&rt, "--version", is_invalid(rt.alloc(), "--version"));
 }
 
 /// The words that name the commands.
@@ -172,7 +177,7 @@ fn lists(text: &str, word: &str) -> bool {
 fn help_lists_the_commands(rt: HostRuntime) {
     let text = help_of(rt.alloc(), "h3 --help");
     for word in &COMMAND_WORDS {
-        assert!(&rt; lists(text.as_str(), word), "{word}");
+        expect(&rt, word, lists(text.as_str(), word));
     }
 }
 
@@ -217,7 +222,11 @@ fn is_grouped(text: &str) -> bool {
 
 #[test]
 fn help_groups_the_commands(rt: HostRuntime) {
-    assert!(&rt; is_grouped(help_of(rt.alloc(), "h3 --help").as_str()));
+    expect(
+        &rt,
+        "help is grouped",
+        is_grouped(help_of(rt.alloc(), "h3 --help").as_str()),
+    );
 }
 
 /// Lines that ask for help of a command over a region or zones, and what it says of the file.
@@ -255,7 +264,7 @@ fn first_unsaid(alloc: Global, rows: &[(&str, &str)]) -> usize {
 #[test]
 fn help_says_what_a_file_may_be_refused_for(rt: HostRuntime) {
     let row = first_unsaid(rt.alloc(), &FILE_HELP);
-    assert!(&rt; row == FILE_HELP.len(), "row {row}");
+    expect_all(&rt, row, FILE_HELP.len());
 }
 
 /// How a list is given to each command that reads one.
@@ -402,7 +411,7 @@ static ROWS_HELP: [(&str, &str); 24] = [
 #[test]
 fn help_says_how_rows_are_read(rt: HostRuntime) {
     let row = first_unsaid(rt.alloc(), &ROWS_HELP);
-    assert!(&rt; row == ROWS_HELP.len(), "row {row}");
+    expect_all(&rt, row, ROWS_HELP.len());
 }
 
 /// Whether a line asks for help that has a text.
@@ -413,7 +422,7 @@ fn help_says(alloc: Global, line: &str, said: &str) -> bool {
 #[test]
 fn help_says_how_a_list_is_given(rt: HostRuntime) {
     for (line, said) in &LIST_USAGES {
-        assert!(&rt; help_says(rt.alloc(), line, said), "{line}");
+        expect(&rt, line, help_says(rt.alloc(), line, said));
     }
 }
 
@@ -434,6 +443,6 @@ static LINE_HELP: [&str; 9] = [
 fn help_says_that_an_error_of_a_list_is_told_with_its_line(rt: HostRuntime) {
     let said = "as line 2: error 1: E_FAILED.\n";
     for line in &LINE_HELP {
-        assert!(&rt; help_says(rt.alloc(), line, said), "{line}");
+        expect(&rt, line, help_says(rt.alloc(), line, said));
     }
 }

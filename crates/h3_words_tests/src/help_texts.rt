@@ -1,5 +1,6 @@
 //! What help says of each command and each option.
 
+use crate::expected::{expect, expect_of};
 use crate::help::help_of;
 use std::alloc::Global;
 
@@ -290,18 +291,20 @@ fn help_begins(alloc: Global, line: &str, about: &str) -> bool {
     help_of(alloc, line).lines().next() == Some(about)
 }
 
+/// Whether the help of a command begins with what it answers.
+fn own_help_begins(alloc: Global, word: &str, about: &str) -> bool {
+    match format!(in alloc; "h3 {word} --help") {
+        Ok(line) => help_begins(alloc, line.as_str(), about),
+        Err(_) => false,
+    }
+}
+
 #[test]
 fn help_says_what_each_command_answers(rt: HostRuntime) {
     for (word, listed, about) in &ABOUT {
-        assert!(&rt;
-            help_tells(rt.alloc(), "h3 --help", word, listed),
-            "{word} in the list"
-        );
-        let line = format!(in rt.alloc(); "h3 {word} --help");
-        match line {
-            Ok(line) => assert!(&rt; help_begins(rt.alloc(), line.as_str(), about), "{word}"),
-            Err(_) => assert!(&rt; false),
-        }
+        let is_listed = help_tells(rt.alloc(), "h3 --help", word, listed);
+        expect_of(&rt, word, "in the list", is_listed);
+        expect(&rt, word, own_help_begins(rt.alloc(), word, about));
     }
 }
 
@@ -414,6 +417,6 @@ static OPTION_TEXTS: [(&str, &str, &str); 22] = [
 #[test]
 fn help_says_what_each_option_is(rt: HostRuntime) {
     for (line, form, said) in &OPTION_TEXTS {
-        assert!(&rt; help_tells(rt.alloc(), line, form, said), "{line} {form}");
+        expect_of(&rt, line, form, help_tells(rt.alloc(), line, form, said));
     }
 }

@@ -4,6 +4,8 @@
 #[cfg(test)]
 mod commands;
 #[cfg(test)]
+mod expected;
+#[cfg(test)]
 mod file_words;
 #[cfg(test)]
 mod help;

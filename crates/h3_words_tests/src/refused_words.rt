@@ -1,5 +1,6 @@
 //! Invalid command lines, and what is said of them.
 
+use crate::expected::expect_all;
 use h3_parses::read;
 use h3_words::ArgsError;
 use std::alloc::Global;
@@ -63,7 +64,7 @@ static OTHER_WORDS: [&str; 29] = [
 #[test]
 fn refuses_other_words(rt: HostRuntime) {
     let row = first_valid(rt.alloc(), &OTHER_WORDS);
-    assert!(&rt; row == OTHER_WORDS.len(), "row {row}");
+    expect_all(&rt, row, OTHER_WORDS.len());
 }
 
 /// Invalid lines of commands over a region or zones, and of options that other commands have.
@@ -100,7 +101,7 @@ static OTHER_WORDS_OF_REGIONS_AND_ZONES: [&str; 27] = [
 #[test]
 fn refuses_other_words_of_regions_and_zones(rt: HostRuntime) {
     let row = first_valid(rt.alloc(), &OTHER_WORDS_OF_REGIONS_AND_ZONES);
-    assert!(&rt; row == OTHER_WORDS_OF_REGIONS_AND_ZONES.len(), "row {row}");
+    expect_all(&rt, row, OTHER_WORDS_OF_REGIONS_AND_ZONES.len());
 }
 
 /// Invalid lines of disks and rings.
@@ -132,7 +133,7 @@ static OTHER_WORDS_OF_DISKS_AND_RINGS: [&str; 22] = [
 #[test]
 fn refuses_other_words_of_disks_and_rings(rt: HostRuntime) {
     let row = first_valid(rt.alloc(), &OTHER_WORDS_OF_DISKS_AND_RINGS);
-    assert!(&rt; row == OTHER_WORDS_OF_DISKS_AND_RINGS.len(), "row {row}");
+    expect_all(&rt, row, OTHER_WORDS_OF_DISKS_AND_RINGS.len());
 }
 
 /// Invalid lines of commands on two cells and edges.
@@ -166,7 +167,7 @@ static OTHER_WORDS_OF_EDGES: [&str; 24] = [
 #[test]
 fn refuses_other_words_of_edges(rt: HostRuntime) {
     let row = first_valid(rt.alloc(), &OTHER_WORDS_OF_EDGES);
-    assert!(&rt; row == OTHER_WORDS_OF_EDGES.len(), "row {row}");
+    expect_all(&rt, row, OTHER_WORDS_OF_EDGES.len());
 }
 
 /// Invalid lines of functions of each index of a list.
@@ -206,7 +207,7 @@ static OTHER_WORDS_OF_FUNCTIONS: [&str; 30] = [
 #[test]
 fn refuses_other_words_of_functions_of_each_index(rt: HostRuntime) {
     let row = first_valid(rt.alloc(), &OTHER_WORDS_OF_FUNCTIONS);
-    assert!(&rt; row == OTHER_WORDS_OF_FUNCTIONS.len(), "row {row}");
+    expect_all(&rt, row, OTHER_WORDS_OF_FUNCTIONS.len());
 }
 
 /// Invalid lines of commands that answer each line of a list over a table, and of children.
@@ -238,7 +239,7 @@ static OTHER_WORDS_OF_LISTS_OVER_TABLES: [&str; 22] = [
 #[test]
 fn refuses_other_words_of_lists_over_tables(rt: HostRuntime) {
     let row = first_valid(rt.alloc(), &OTHER_WORDS_OF_LISTS_OVER_TABLES);
-    assert!(&rt; row == OTHER_WORDS_OF_LISTS_OVER_TABLES.len(), "row {row}");
+    expect_all(&rt, row, OTHER_WORDS_OF_LISTS_OVER_TABLES.len());
 }
 
 /// Invalid lines, and what is said of each.
@@ -312,5 +313,5 @@ pub fn first_unsaid(alloc: Global, rows: &[(&str, &str)]) -> usize {
 #[test]
 fn says_what_is_invalid(rt: HostRuntime) {
     let row = first_unsaid(rt.alloc(), &SAID);
-    assert!(&rt; row == SAID.len(), "row {row}");
+    expect_all(&rt, row, SAID.len());
 }

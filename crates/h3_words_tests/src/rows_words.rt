@@ -1,5 +1,6 @@
 //! The words of the options of rows: what they parse as, and which are invalid.
 
+use crate::expected::{expect, expect_all};
 use crate::refused_words::{first_unsaid, first_valid};
 use h3_parses::{read, read_apart};
 use h3_requests::{CellField, RowOptions};
@@ -121,7 +122,7 @@ static FIELDS: [(&str, Expected); 12] = [
 #[test]
 fn reads_fields(rt: HostRuntime) {
     let row = first_other(rt.alloc(), &FIELDS);
-    assert!(&rt; row == FIELDS.len(), "row {row}");
+    expect_all(&rt, row, FIELDS.len());
 }
 
 /// Lines with a separator, and with quotes that count.
@@ -171,7 +172,7 @@ static SEPARATORS: [(&str, Expected); 10] = [
 #[test]
 fn reads_separators(rt: HostRuntime) {
     let row = first_other(rt.alloc(), &SEPARATORS);
-    assert!(&rt; row == SEPARATORS.len(), "row {row}");
+    expect_all(&rt, row, SEPARATORS.len());
 }
 
 /// Lines with the name of the new column, that go on, and of the other commands.
@@ -224,7 +225,7 @@ static NAMES: [(&str, Expected); 9] = [
 #[test]
 fn reads_names_of_columns(rt: HostRuntime) {
     let row = first_other(rt.alloc(), &NAMES);
-    assert!(&rt; row == NAMES.len(), "row {row}");
+    expect_all(&rt, row, NAMES.len());
 }
 
 /// Lines of commands that answer about their list as a whole.
@@ -270,7 +271,7 @@ static LISTS: [(&str, Expected); 9] = [
 #[test]
 fn reads_rows_of_lists(rt: HostRuntime) {
     let row = first_other(rt.alloc(), &LISTS);
-    assert!(&rt; row == LISTS.len(), "row {row}");
+    expect_all(&rt, row, LISTS.len());
 }
 
 /// Lines of commands on a bare list, or on none.
@@ -301,7 +302,7 @@ fn asks_for_no_rows(alloc: Global, line: &str) -> bool {
 #[test]
 fn reads_no_rows(rt: HostRuntime) {
     for line in &BARE {
-        assert!(&rt; asks_for_no_rows(rt.alloc(), line), "{line}");
+        expect(&rt, line, asks_for_no_rows(rt.alloc(), line));
     }
 }
 
@@ -341,7 +342,7 @@ static INVALID: [&str; 29] = [
 #[test]
 fn refuses_options_without_company(rt: HostRuntime) {
     let row = first_valid(rt.alloc(), &INVALID);
-    assert!(&rt; row == INVALID.len(), "row {row}");
+    expect_all(&rt, row, INVALID.len());
 }
 
 /// Lines with an unfit separator or name, a flag with a value, or an option of other commands.
@@ -391,7 +392,7 @@ static UNFIT: [&str; 40] = [
 #[test]
 fn refuses_unfit_values(rt: HostRuntime) {
     let row = first_valid(rt.alloc(), &UNFIT);
-    assert!(&rt; row == UNFIT.len(), "row {row}");
+    expect_all(&rt, row, UNFIT.len());
 }
 
 /// Invalid lines, and what is said of each.
@@ -450,7 +451,7 @@ static SAID: [(&str, &str); 13] = [
 #[test]
 fn says_which_option_is_invalid(rt: HostRuntime) {
     let row = first_unsaid(rt.alloc(), &SAID);
-    assert!(&rt; row == SAID.len(), "row {row}");
+    expect_all(&rt, row, SAID.len());
 }
 
 /// Whether `getResolutions --column a` may have an option with this value.
@@ -483,9 +484,10 @@ static BLANKS: [(&str, &str, bool); 13] = [
 #[test]
 fn reads_blanks_in_values(rt: HostRuntime) {
     for (option, value, may) in &BLANKS {
-        assert!(&rt;
+        expect(
+            &rt,
+            option,
             may_have(rt.alloc(), option, value) == Some(*may),
-            "{option}"
         );
     }
 }

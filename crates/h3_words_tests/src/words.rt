@@ -1,5 +1,6 @@
 //! The words of a command line: those of commands without a file.
 
+use crate::expected::{expect, expect_all};
 use h3_parses::read;
 use h3_requests::{Command, IndexFunction};
 use std::alloc::Global;
@@ -52,7 +53,7 @@ static VALID_CELL: [(&str, Option<u64>); 6] = [
 fn reads_commands(rt: HostRuntime) {
     for (line, cell) in &VALID_CELL {
         let command = Command::IsValidCell { cell: *cell };
-        assert!(&rt; asks_for(rt.alloc(), line, command), "{line}");
+        expect(&rt, line, asks_for(rt.alloc(), line, command));
     }
 }
 
@@ -84,7 +85,7 @@ static OF_A_CELL: [(&str, Command); 6] = [
 #[test]
 fn reads_a_cell(rt: HostRuntime) {
     let row = first_other(rt.alloc(), &OF_A_CELL);
-    assert!(&rt; row == OF_A_CELL.len(), "row {row}");
+    expect_all(&rt, row, OF_A_CELL.len());
 }
 
 /// Lines of commands with a resolution, and on a list.
@@ -114,7 +115,7 @@ static OF_A_RESOLUTION: [(&str, Command); 8] = [
 #[test]
 fn reads_resolutions(rt: HostRuntime) {
     let row = first_other(rt.alloc(), &OF_A_RESOLUTION);
-    assert!(&rt; row == OF_A_RESOLUTION.len(), "row {row}");
+    expect_all(&rt, row, OF_A_RESOLUTION.len());
 }
 
 /// Lines of commands on a cell with a resolution.
@@ -156,7 +157,7 @@ static OF_A_CELL_AND_A_RESOLUTION: [(&str, Command); 7] = [
 #[test]
 fn reads_a_cell_and_a_resolution(rt: HostRuntime) {
     let row = first_other(rt.alloc(), &OF_A_CELL_AND_A_RESOLUTION);
-    assert!(&rt; row == OF_A_CELL_AND_A_RESOLUTION.len(), "row {row}");
+    expect_all(&rt, row, OF_A_CELL_AND_A_RESOLUTION.len());
 }
 
 /// Lines of functions of each index of a list.
@@ -183,7 +184,7 @@ static FUNCTIONS: [(&str, IndexFunction); 8] = [
 #[test]
 fn reads_functions_of_each_index_of_a_list(rt: HostRuntime) {
     let row = first_other_function(rt.alloc(), &FUNCTIONS);
-    assert!(&rt; row == FUNCTIONS.len(), "row {row}");
+    expect_all(&rt, row, FUNCTIONS.len());
 }
 
 /// Lines of functions of each cell of a list with a resolution.
@@ -217,7 +218,7 @@ static FUNCTIONS_WITH_A_RESOLUTION: [(&str, IndexFunction); 6] = [
 #[test]
 fn reads_functions_of_each_cell_of_a_list_and_a_resolution(rt: HostRuntime) {
     let row = first_other_function(rt.alloc(), &FUNCTIONS_WITH_A_RESOLUTION);
-    assert!(&rt; row == FUNCTIONS_WITH_A_RESOLUTION.len(), "row {row}");
+    expect_all(&rt, row, FUNCTIONS_WITH_A_RESOLUTION.len());
 }
 
 /// Lines of commands on an edge.
@@ -239,5 +240,5 @@ static OF_AN_EDGE: [(&str, Command); 3] = [
 #[test]
 fn reads_edges(rt: HostRuntime) {
     let row = first_other(rt.alloc(), &OF_AN_EDGE);
-    assert!(&rt; row == OF_AN_EDGE.len(), "row {row}");
+    expect_all(&rt, row, OF_AN_EDGE.len());
 }
