@@ -1,7 +1,7 @@
 //! Cells: their numbers, the moves from one to another, and those that are found by a number.
 
+use crate::expected::{expect, expect_row};
 use crate::rows::{Expected, cell, same};
-use h3_fakes::holds;
 use h3_index::{Cell, H3Error, is_pentagon_base, num_cells, pentagon, res0_cell, resolution_from};
 use std::cmp::Ordering;
 
@@ -15,12 +15,12 @@ const PENTAGON: u64 = 0x8009fffffffffff;
 fn a_cell_has_the_fields_of_its_number(rt: HostRuntime) {
     static DIGITS: [u8; 15] = [0, 6, 4, 3, 4, 7, 7, 7, 7, 7, 7, 7, 7, 7, 7];
     let hexagon = cell(&rt, HEXAGON);
-    assert!(rt; hexagon.raw() == HEXAGON);
-    assert!(rt; hexagon.resolution() == 5);
-    assert!(rt; hexagon.base_cell() == 20);
+    expect(&rt, "number", hexagon.raw() == HEXAGON);
+    expect(&rt, "resolution", hexagon.resolution() == 5);
+    expect(&rt, "base cell", hexagon.base_cell() == 20);
     for r in 1..16u8 {
         let place = usize::from(r) - 1;
-        assert!(rt; holds(&rt, place, hexagon.digit(r) == DIGITS[place]));
+        expect_row(&rt, place, hexagon.digit(r) == DIGITS[place]);
     }
 }
 
@@ -42,12 +42,10 @@ fn a_digit_is_replaced(rt: HostRuntime) {
         (1, 6, 0x8529b473fffffff),
     ];
     for (row, (r, digit, expected)) in ROWS.iter().enumerate() {
-        assert!(rt;
-            holds(
-                &rt,
-                row,
-                same(with_digit(HEXAGON, *r, *digit), Ok(*expected))
-            )
+        expect_row(
+            &rt,
+            row,
+            same(with_digit(HEXAGON, *r, *digit), Ok(*expected)),
         );
     }
 }
@@ -70,7 +68,7 @@ fn the_base_cell_is_replaced(rt: HostRuntime) {
         (PENTAGON, 0, 0x8001fffffffffff),
     ];
     for (row, (cell, base, expected)) in ROWS.iter().enumerate() {
-        assert!(rt; holds(&rt, row, same(with_base(*cell, *base), Ok(*expected))));
+        expect_row(&rt, row, same(with_base(*cell, *base), Ok(*expected)));
     }
 }
 
@@ -97,7 +95,7 @@ fn other_numbers_are_no_cells(rt: HostRuntime) {
         0x82080ffffffffff,
     ];
     for (row, raw) in NUMBERS.iter().enumerate() {
-        assert!(rt; holds(&rt, row, same(number_of(*raw), Err(H3Error::CellInvalid))));
+        expect_row(&rt, row, same(number_of(*raw), Err(H3Error::CellInvalid)));
     }
 }
 
@@ -105,13 +103,17 @@ fn other_numbers_are_no_cells(rt: HostRuntime) {
 #[test]
 fn digits_beside_the_deleted_subsequence_are_accepted(rt: HostRuntime) {
     for (row, raw) in [0x820817fffffffff, 0x82088ffffffffff].iter().enumerate() {
-        assert!(rt; holds(&rt, row, same(number_of(*raw), Ok(*raw))));
+        expect_row(&rt, row, same(number_of(*raw), Ok(*raw)));
     }
 }
 
 #[test]
 fn twelve_base_cells_are_pentagons(rt: HostRuntime) {
-    assert!(rt; (0..255u8).filter(|b| is_pentagon_base(*b)).count() == 12);
+    expect(
+        &rt,
+        "pentagons",
+        (0..255u8).filter(|b| is_pentagon_base(*b)).count() == 12,
+    );
 }
 
 #[test]
@@ -125,9 +127,9 @@ fn pentagons_and_classes_are_returned(rt: HostRuntime) {
     ];
     for (row, (raw, is_pentagon, is_inside, is_class_iii)) in ROWS.iter().enumerate() {
         let found = cell(&rt, *raw);
-        assert!(rt; holds(&rt, row, found.is_pentagon() == *is_pentagon));
-        assert!(rt; holds(&rt, row, found.in_pentagon_base() == *is_inside));
-        assert!(rt; holds(&rt, row, found.is_class_iii() == *is_class_iii));
+        expect_row(&rt, row, found.is_pentagon() == *is_pentagon);
+        expect_row(&rt, row, found.in_pentagon_base() == *is_inside);
+        expect_row(&rt, row, found.is_class_iii() == *is_class_iii);
     }
 }
 
@@ -153,7 +155,7 @@ fn cells_are_raised(rt: HostRuntime) {
         (0x81083ffffffffff, None),
     ];
     for (row, (raw, next)) in ROWS.iter().enumerate() {
-        assert!(rt; holds(&rt, row, raises_to(cell(&rt, *raw), *next)));
+        expect_row(&rt, row, raises_to(cell(&rt, *raw), *next));
     }
 }
 
@@ -166,7 +168,7 @@ fn a_unit_is_one_in_the_last_digit(rt: HostRuntime) {
         (0x862834707ffffff, 0x8000000),
     ];
     for (row, (raw, unit)) in ROWS.iter().enumerate() {
-        assert!(rt; holds(&rt, row, cell(&rt, *raw).last_digit_step() == *unit));
+        expect_row(&rt, row, cell(&rt, *raw).last_digit_step() == *unit);
     }
 }
 
@@ -185,7 +187,7 @@ fn whole_numbers_are_resolutions(rt: HostRuntime) {
         (i32::MAX, Err(H3Error::ResDomain)),
     ];
     for (row, (res, expected)) in ROWS.iter().enumerate() {
-        assert!(rt; holds(&rt, row, same(resolution_of(*res), *expected)));
+        expect_row(&rt, row, same(resolution_of(*res), *expected));
     }
 }
 
@@ -198,7 +200,7 @@ fn cells_are_counted(rt: HostRuntime) {
         (16, Err(H3Error::ResDomain)),
     ];
     for (row, (res, expected)) in ROWS.iter().enumerate() {
-        assert!(rt; holds(&rt, row, same(num_cells(*res), *expected)));
+        expect_row(&rt, row, same(num_cells(*res), *expected));
     }
 }
 
@@ -215,7 +217,7 @@ fn base_cells_are_made(rt: HostRuntime) {
         (122, Err(H3Error::Domain)),
     ];
     for (row, (b, expected)) in ROWS.iter().enumerate() {
-        assert!(rt; holds(&rt, row, same(base_cell(*b), *expected)));
+        expect_row(&rt, row, same(base_cell(*b), *expected));
     }
 }
 
@@ -245,7 +247,7 @@ fn pentagons_are_made(rt: HostRuntime) {
         (15, -1, Err(H3Error::Domain)),
     ];
     for (row, (res, n, expected)) in ROWS.iter().enumerate() {
-        assert!(rt; holds(&rt, row, same(pentagon_of(*res, *n), *expected)));
+        expect_row(&rt, row, same(pentagon_of(*res, *n), *expected));
     }
 }
 
@@ -254,8 +256,16 @@ fn cells_are_ordered_by_number(rt: HostRuntime) {
     let first = cell(&rt, 0x8001fffffffffff);
     let last = cell(&rt, 0x80f3fffffffffff);
     let finer = cell(&rt, 0x81083ffffffffff);
-    assert!(rt; first < last && last < finer);
-    assert!(rt; first == cell(&rt, 0x8001fffffffffff) && first != last);
-    assert!(rt; matches!(first.cmp(&last), Ordering::Less));
-    assert!(rt; matches!(finer.cmp(&last), Ordering::Greater));
+    expect(&rt, "in order", first < last && last < finer);
+    expect(
+        &rt,
+        "equal",
+        first == cell(&rt, 0x8001fffffffffff) && first != last,
+    );
+    expect(&rt, "less", matches!(first.cmp(&last), Ordering::Less));
+    expect(
+        &rt,
+        "greater",
+        matches!(finer.cmp(&last), Ordering::Greater),
+    );
 }

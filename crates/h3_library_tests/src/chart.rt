@@ -2,6 +2,7 @@
 //! between its cells lead where the places of the spiral say, and its cells are those that as many
 //! rounds of steps reach.
 
+use crate::expected::expect;
 use crate::grid::test_table;
 use crate::rows::cell;
 use h3_directions::{DIRECTIONS, Direction};
@@ -298,8 +299,8 @@ fn disks_are_charts(rt: HostRuntime) -> Result<(), AllocError> {
     // of this disk, over two base cells, no step is refused
     let across = (cell(&rt, 0x813d3ffffffffff), 1);
     let charted = is_disk_charted(rt.alloc(), &twisted, across, &MOVES[..7], 24)?;
-    assert!(rt; matches!(charted, Some(true)));
-    assert!(rt; is_table_charted(&rt, &plain)?);
-    assert!(rt; is_table_charted(&rt, &twisted)?);
+    expect(&rt, "beside", matches!(charted, Some(true)));
+    expect(&rt, "plain", is_table_charted(&rt, &plain)?);
+    expect(&rt, "twisted", is_table_charted(&rt, &twisted)?);
     Ok(())
 }

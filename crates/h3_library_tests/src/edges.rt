@@ -1,7 +1,7 @@
 //! Directed edges, by their numbers and by the cells that they leave.
 
+use crate::expected::{expect, expect_row};
 use crate::rows::{Expected, cell, same};
-use h3_fakes::holds;
 use h3_index::{Cell, Edge, H3Error, write_index};
 use std::cmp::Ordering;
 use std::process::Abort;
@@ -22,10 +22,14 @@ fn edge(rt: &impl Abort, raw: u64) -> Edge {
 #[test]
 fn an_edge_has_the_fields_of_its_number(rt: HostRuntime) {
     let found = edge(&rt, EDGE);
-    assert!(rt; found.raw() == EDGE);
-    assert!(rt; found.origin().raw() == HEXAGON);
-    assert!(rt; found.direction() == 1);
-    assert!(rt; write_index(found.raw()).as_str() == "115283473fffffff");
+    expect(&rt, "number", found.raw() == EDGE);
+    expect(&rt, "origin", found.origin().raw() == HEXAGON);
+    expect(&rt, "direction", found.direction() == 1);
+    expect(
+        &rt,
+        "text",
+        write_index(found.raw()).as_str() == "115283473fffffff",
+    );
 }
 
 fn number_of(raw: u64) -> Result<u64, H3Error> {
@@ -52,12 +56,10 @@ fn other_numbers_are_no_edges(rt: HostRuntime) {
         0,
     ];
     for (row, raw) in NUMBERS.iter().enumerate() {
-        assert!(rt;
-            holds(
-                &rt,
-                row,
-                same(number_of(*raw), Err(H3Error::DirEdgeInvalid))
-            )
+        expect_row(
+            &rt,
+            row,
+            same(number_of(*raw), Err(H3Error::DirEdgeInvalid)),
         );
     }
 }
@@ -83,7 +85,7 @@ fn edges_are_made_of_a_cell_and_a_direction(rt: HostRuntime) {
         (0x8108bffffffffff, 1, Ok(0x11108bffffffffff)),
     ];
     for (row, (origin, direction, expected)) in ROWS.iter().enumerate() {
-        assert!(rt; holds(&rt, row, same(edge_from(*origin, *direction), *expected)));
+        expect_row(&rt, row, same(edge_from(*origin, *direction), *expected));
     }
 }
 
@@ -97,7 +99,7 @@ fn edges_are_those_with_their_numbers(rt: HostRuntime) {
             Ok(made) => made == edge(&rt, raw),
             Err(_) => false,
         };
-        assert!(rt; holds(&rt, usize::from(direction), is_same));
+        expect_row(&rt, usize::from(direction), is_same);
     }
 }
 
@@ -106,8 +108,12 @@ fn edges_are_ordered_by_number(rt: HostRuntime) {
     // the direction decides before the origin's resolution
     let first = edge(&rt, EDGE);
     let last = edge(&rt, 0x12009fffffffffff);
-    assert!(rt; first < last && first != last);
-    assert!(rt; first == edge(&rt, EDGE));
-    assert!(rt; matches!(first.cmp(&last), Ordering::Less));
-    assert!(rt; matches!(last.cmp(&first), Ordering::Greater));
+    expect(&rt, "in order", first < last && first != last);
+    expect(&rt, "equal", first == edge(&rt, EDGE));
+    expect(&rt, "less", matches!(first.cmp(&last), Ordering::Less));
+    expect(
+        &rt,
+        "greater",
+        matches!(last.cmp(&first), Ordering::Greater),
+    );
 }

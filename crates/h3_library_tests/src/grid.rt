@@ -1,5 +1,6 @@
 //! Steps, disks, rings, neighbors and edges over tables.
 
+use crate::expected::{expect, expect_row};
 use crate::rows::{Expected, cell, clone_of, copy_of, is_cell, same};
 use h3_directions::Direction;
 use h3_fakes::{TableFile, holds, open_file, table_file};
@@ -89,17 +90,31 @@ fn steps_cross_base_cells(rt: HostRuntime) {
     let from = cell(&rt, 0x813d3ffffffffff);
     let in_plain = cell(&rt, 0x813ebffffffffff);
     let in_twisted = cell(&rt, 0x813efffffffffff);
-    assert!(rt; leads(&plain, from, Direction::I, 0, (0x813ebffffffffff, 0)));
-    assert!(rt; leads(&plain, in_plain, Direction::JK, 0, (0x813d3ffffffffff, 0)));
-    assert!(rt; leads(&twisted, from, Direction::I, 0, (0x813efffffffffff, 1)));
-    assert!(rt;
+    expect(
+        &rt,
+        "plain",
+        leads(&plain, from, Direction::I, 0, (0x813ebffffffffff, 0)),
+    );
+    expect(
+        &rt,
+        "back by plain",
+        leads(&plain, in_plain, Direction::JK, 0, (0x813d3ffffffffff, 0)),
+    );
+    expect(
+        &rt,
+        "twisted",
+        leads(&twisted, from, Direction::I, 0, (0x813efffffffffff, 1)),
+    );
+    expect(
+        &rt,
+        "back by twisted",
         leads(
             &twisted,
             in_twisted,
             Direction::JK,
             1,
-            (0x813d3ffffffffff, 0)
-        )
+            (0x813d3ffffffffff, 0),
+        ),
     );
 }
 
@@ -107,9 +122,9 @@ fn steps_cross_base_cells(rt: HostRuntime) {
 fn steps_end_at_pentagon_base_cells(rt: HostRuntime) {
     let plain = test_table(&rt, rt.alloc(), TestTable::Plain);
     let beside = step(&plain, cell(&rt, BESIDE), Direction::JK, 0);
-    assert!(rt; matches!(beside, Err(H3Error::Pentagon)));
+    expect(&rt, "beside", matches!(beside, Err(H3Error::Pentagon)));
     let inside = step(&plain, cell(&rt, 0x8108bffffffffff), Direction::I, 0);
-    assert!(rt; matches!(inside, Err(H3Error::Pentagon)));
+    expect(&rt, "inside", matches!(inside, Err(H3Error::Pentagon)));
 }
 
 /// The ring of a cell in a disk of radius 2 at most, by its place.
@@ -187,10 +202,22 @@ fn disks_are_walked_ring_by_ring(rt: HostRuntime) {
     let plain = test_table(&rt, rt.alloc(), TestTable::Plain);
     let twisted = test_table(&rt, rt.alloc(), TestTable::Twisted);
     let hexagon = cell(&rt, HEXAGON);
-    assert!(rt; has_disk(&rt, &plain, (hexagon, 1), &DISK, End::Done));
-    assert!(rt; has_disk(&rt, &plain, (hexagon, 0), &DISK[..1], End::Done));
+    expect(
+        &rt,
+        "radius 1",
+        has_disk(&rt, &plain, (hexagon, 1), &DISK, End::Done),
+    );
+    expect(
+        &rt,
+        "radius 0",
+        has_disk(&rt, &plain, (hexagon, 0), &DISK[..1], End::Done),
+    );
     let first = cell(&rt, 0x813d3ffffffffff);
-    assert!(rt; has_disk(&rt, &twisted, (first, 1), &TURNED, End::Done));
+    expect(
+        &rt,
+        "twisted",
+        has_disk(&rt, &twisted, (first, 1), &TURNED, End::Done),
+    );
 }
 
 #[test]
@@ -219,8 +246,16 @@ fn disks_cross_base_cells(rt: HostRuntime) {
     let centre = cell(&rt, CENTRE);
     for table in [TestTable::Plain, TestTable::Twisted] {
         let table = test_table(&rt, rt.alloc(), table);
-        assert!(rt; has_disk(&rt, &table, (centre, 1), &CELLS[..7], End::Done));
-        assert!(rt; has_disk(&rt, &table, (centre, 2), &CELLS, End::Done));
+        expect(
+            &rt,
+            "radius 1",
+            has_disk(&rt, &table, (centre, 1), &CELLS[..7], End::Done),
+        );
+        expect(
+            &rt,
+            "radius 2",
+            has_disk(&rt, &table, (centre, 2), &CELLS, End::Done),
+        );
     }
 }
 
@@ -229,10 +264,22 @@ fn disks_end_at_pentagon_base_cells(rt: HostRuntime) {
     static BEGUN: [u64; 3] = [BESIDE, 0x8023fffffffffff, 0x8021fffffffffff];
     let plain = test_table(&rt, rt.alloc(), TestTable::Plain);
     let beside = cell(&rt, BESIDE);
-    assert!(rt; has_disk(&rt, &plain, (beside, 1), &BEGUN, End::Refused));
-    assert!(rt; has_disk(&rt, &plain, (beside, i32::MAX), &BEGUN, End::Refused));
+    expect(
+        &rt,
+        "radius 1",
+        has_disk(&rt, &plain, (beside, 1), &BEGUN, End::Refused),
+    );
+    expect(
+        &rt,
+        "the largest radius",
+        has_disk(&rt, &plain, (beside, i32::MAX), &BEGUN, End::Refused),
+    );
     let inside = cell(&rt, 0x8108bffffffffff);
-    assert!(rt; has_disk(&rt, &plain, (inside, 0), &[0x8108bffffffffff], End::Done));
+    expect(
+        &rt,
+        "inside",
+        has_disk(&rt, &plain, (inside, 0), &[0x8108bffffffffff], End::Done),
+    );
 }
 
 /// Whether a disk and a copy of it give the same.
@@ -265,15 +312,15 @@ fn disk_is_cloned(rt: &HostRuntime, table: &BaseTable, origin: Cell) -> bool {
 fn a_copy_or_a_clone_of_a_disk_goes_on_where_it_stands(rt: HostRuntime) {
     let plain = test_table(&rt, rt.alloc(), TestTable::Plain);
     let origin = cell(&rt, HEXAGON);
-    assert!(rt; disk_is_copied(&rt, &plain, origin));
-    assert!(rt; disk_is_cloned(&rt, &plain, origin));
+    expect(&rt, "copy", disk_is_copied(&rt, &plain, origin));
+    expect(&rt, "clone", disk_is_cloned(&rt, &plain, origin));
 }
 
 /// It has room for these alone, and what is copied owns no collection.
 #[test]
 fn a_disk_holds_a_cell_a_direction_and_counters(rt: HostRuntime) {
     let parts = size_of::<(&BaseTable, Cell, u8, u8, Direction, u32, u32, u8, u32, bool)>();
-    assert!(rt; size_of::<Disk<'_>>() == parts);
+    expect(&rt, "size", size_of::<Disk<'_>>() == parts);
 }
 
 /// Whether these cells are the next of a ring.
@@ -332,11 +379,27 @@ fn rings_are_walked_around(rt: HostRuntime) {
     let plain = test_table(&rt, rt.alloc(), TestTable::Plain);
     let twisted = test_table(&rt, rt.alloc(), TestTable::Twisted);
     let (hexagon, pentagon) = (cell(&rt, HEXAGON), cell(&rt, PENTAGON));
-    assert!(rt; has_ring(&rt, &plain, (hexagon, 1), &RING, End::Done));
-    assert!(rt; has_ring(&rt, &plain, (pentagon, 0), &[PENTAGON], End::Done));
+    expect(
+        &rt,
+        "hexagon",
+        has_ring(&rt, &plain, (hexagon, 1), &RING, End::Done),
+    );
+    expect(
+        &rt,
+        "pentagon",
+        has_ring(&rt, &plain, (pentagon, 0), &[PENTAGON], End::Done),
+    );
     let centre = cell(&rt, CENTRE);
-    assert!(rt; has_ring(&rt, &plain, (centre, 2), &TWELVE, End::Done));
-    assert!(rt; has_ring(&rt, &twisted, (centre, 2), &TWELVE, End::Done));
+    expect(
+        &rt,
+        "plain",
+        has_ring(&rt, &plain, (centre, 2), &TWELVE, End::Done),
+    );
+    expect(
+        &rt,
+        "twisted",
+        has_ring(&rt, &twisted, (centre, 2), &TWELVE, End::Done),
+    );
 }
 
 #[test]
@@ -344,8 +407,16 @@ fn rings_end_at_pentagon_base_cells(rt: HostRuntime) {
     static BEGUN: [u64; 3] = [0x800dfffffffffff, 0x8023fffffffffff, 0x8021fffffffffff];
     let plain = test_table(&rt, rt.alloc(), TestTable::Plain);
     let beside = cell(&rt, BESIDE);
-    assert!(rt; has_ring(&rt, &plain, (beside, 1), &BEGUN, End::Refused));
-    assert!(rt; has_ring(&rt, &plain, (beside, i32::MAX), &[], End::Refused));
+    expect(
+        &rt,
+        "radius 1",
+        has_ring(&rt, &plain, (beside, 1), &BEGUN, End::Refused),
+    );
+    expect(
+        &rt,
+        "the largest radius",
+        has_ring(&rt, &plain, (beside, i32::MAX), &[], End::Refused),
+    );
 }
 
 /// On this table the ring of radius 2 around base cell 0 does not close.
@@ -367,7 +438,11 @@ fn a_ring_that_does_not_close_is_refused_after_its_cells(rt: HostRuntime) {
     ];
     let open = table_in(&rt, rt.alloc(), &open_file());
     let origin = cell(&rt, 0x8001fffffffffff);
-    assert!(rt; has_ring(&rt, &open, (origin, 2), &TWELVE, End::Refused));
+    expect(
+        &rt,
+        "an open ring",
+        has_ring(&rt, &open, (origin, 2), &TWELVE, End::Refused),
+    );
 }
 
 /// Whether a ring and a copy of it give the same.
@@ -400,8 +475,8 @@ fn ring_is_cloned(rt: &HostRuntime, table: &BaseTable, origin: Cell) -> bool {
 fn a_copy_or_a_clone_of_a_ring_goes_on_where_it_stands(rt: HostRuntime) {
     let plain = test_table(&rt, rt.alloc(), TestTable::Plain);
     let origin = cell(&rt, HEXAGON);
-    assert!(rt; ring_is_copied(&rt, &plain, origin));
-    assert!(rt; ring_is_cloned(&rt, &plain, origin));
+    expect(&rt, "copy", ring_is_copied(&rt, &plain, origin));
+    expect(&rt, "clone", ring_is_cloned(&rt, &plain, origin));
 }
 
 /// It has room for these alone, and what is copied owns no collection.
@@ -421,7 +496,7 @@ fn a_ring_holds_two_cells_a_direction_and_counters(rt: HostRuntime) {
             bool,
         ),
     >();
-    assert!(rt; size_of::<Ring<'_>>() == parts);
+    expect(&rt, "size", size_of::<Ring<'_>>() == parts);
 }
 
 /// Why a disk is refused before it begins.
@@ -465,19 +540,15 @@ fn walks_are_refused_before_they_begin(rt: HostRuntime) {
     let plain = test_table(&rt, rt.alloc(), TestTable::Plain);
     for (row, (origin, k, disk, ring)) in ROWS.iter().enumerate() {
         let origin = cell(&rt, *origin);
-        assert!(rt;
-            holds(
-                &rt,
-                row,
-                is_refusal(disk_refusal(&plain, origin, *k), *disk)
-            )
+        expect_row(
+            &rt,
+            row,
+            is_refusal(disk_refusal(&plain, origin, *k), *disk),
         );
-        assert!(rt;
-            holds(
-                &rt,
-                row,
-                is_refusal(ring_refusal(&plain, origin, *k), *ring)
-            )
+        expect_row(
+            &rt,
+            row,
+            is_refusal(ring_refusal(&plain, origin, *k), *ring),
         );
     }
 }
@@ -492,7 +563,7 @@ fn disks_have_sizes(rt: HostRuntime) {
         (-1, Err(H3Error::Domain)),
     ];
     for (row, (k, expected)) in ROWS.iter().enumerate() {
-        assert!(rt; holds(&rt, row, same(disk_len(*k), *expected)));
+        expect_row(&rt, row, same(disk_len(*k), *expected));
     }
 }
 
@@ -522,7 +593,7 @@ fn neighbors_are_a_step_apart(rt: HostRuntime) {
     let plain = test_table(&rt, rt.alloc(), TestTable::Plain);
     for (row, (a, b, expected)) in ROWS.iter().enumerate() {
         let found = are_neighbors(&plain, cell(&rt, *a), cell(&rt, *b));
-        assert!(rt; holds(&rt, row, is_same(found, *expected)));
+        expect_row(&rt, row, is_same(found, *expected));
     }
 }
 
@@ -545,23 +616,31 @@ fn joins(table: &BaseTable, edge: u64, a: u64, b: u64) -> bool {
 fn edges_lead_to_neighbors(rt: HostRuntime) {
     let plain = test_table(&rt, rt.alloc(), TestTable::Plain);
     let twisted = test_table(&rt, rt.alloc(), TestTable::Twisted);
-    assert!(rt; joins(&plain, 0x115283473fffffff, HEXAGON, 0x85283477fffffff));
-    assert!(rt;
+    expect(
+        &rt,
+        "plain",
+        joins(&plain, 0x115283473fffffff, HEXAGON, 0x85283477fffffff),
+    );
+    expect(
+        &rt,
+        "twisted",
         joins(
             &twisted,
             0x1413d3ffffffffff,
             0x813d3ffffffffff,
-            0x813efffffffffff
-        )
+            0x813efffffffffff,
+        ),
     );
     // the way back, in the frame of the other base cell
-    assert!(rt;
+    expect(
+        &rt,
+        "back by twisted",
         joins(
             &twisted,
             0x1113efffffffffff,
             0x813efffffffffff,
-            0x813d3ffffffffff
-        )
+            0x813d3ffffffffff,
+        ),
     );
 }
 
@@ -578,20 +657,24 @@ fn edges_between_other_cells_are_refused(rt: HostRuntime) {
     ];
     let plain = test_table(&rt, rt.alloc(), TestTable::Plain);
     for (row, (a, b, error)) in ROWS.iter().enumerate() {
-        assert!(rt; holds(&rt, row, same(between(&plain, *a, *b), Err(*error))));
+        expect_row(&rt, row, same(between(&plain, *a, *b), Err(*error)));
     }
     // into a pentagon base cell, and out of one
-    assert!(rt;
+    expect(
+        &rt,
+        "into a pentagon base cell",
         same(
             destination(&plain, 0x11021fffffffffff),
-            Err(H3Error::Pentagon)
-        )
+            Err(H3Error::Pentagon),
+        ),
     );
-    assert!(rt;
+    expect(
+        &rt,
+        "out of a pentagon base cell",
         same(
             destination(&plain, 0x12009fffffffffff),
-            Err(H3Error::Pentagon)
-        )
+            Err(H3Error::Pentagon),
+        ),
     );
 }
 
@@ -623,8 +706,16 @@ fn edges_leave_a_cell(rt: HostRuntime) {
         0x15009fffffffffff,
         0x16009fffffffffff,
     ];
-    assert!(rt; edges_are(&rt, &mut edges_of(cell(&rt, HEXAGON)), &EDGES));
-    assert!(rt; edges_are(&rt, &mut edges_of(cell(&rt, PENTAGON)), &OF_PENTAGON));
+    expect(
+        &rt,
+        "hexagon",
+        edges_are(&rt, &mut edges_of(cell(&rt, HEXAGON)), &EDGES),
+    );
+    expect(
+        &rt,
+        "pentagon",
+        edges_are(&rt, &mut edges_of(cell(&rt, PENTAGON)), &OF_PENTAGON),
+    );
 }
 
 /// Whether edges, after the first two of them, and a clone of them give the rest.
@@ -641,13 +732,17 @@ fn edges_are_cloned(rt: &HostRuntime, mut edges: Edges) -> bool {
 fn a_copy_or_a_clone_of_edges_goes_on_where_they_stand(rt: HostRuntime) {
     let mut edges = edges_of(cell(&rt, HEXAGON));
     let mut again = copy_of(&edges);
-    assert!(rt; edges_are(&rt, &mut edges, &EDGES));
-    assert!(rt; edges_are(&rt, &mut again, &EDGES));
-    assert!(rt; edges_are_cloned(&rt, edges_of(cell(&rt, HEXAGON))));
+    expect(&rt, "edges", edges_are(&rt, &mut edges, &EDGES));
+    expect(&rt, "copy", edges_are(&rt, &mut again, &EDGES));
+    expect(
+        &rt,
+        "clone",
+        edges_are_cloned(&rt, edges_of(cell(&rt, HEXAGON))),
+    );
 }
 
 /// They have room for these alone, and what is copied owns no collection.
 #[test]
 fn edges_hold_a_cell_and_a_direction(rt: HostRuntime) {
-    assert!(rt; size_of::<Edges>() == size_of::<(Cell, u8)>());
+    expect(&rt, "size", size_of::<Edges>() == size_of::<(Cell, u8)>());
 }

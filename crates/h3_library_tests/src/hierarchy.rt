@@ -1,5 +1,6 @@
 //! The hierarchy of cells: parents, children and positions among them.
 
+use crate::expected::{expect, expect_row};
 use crate::rows::{Expected, cell, clone_of, copy_of, is_cell, same};
 use h3_fakes::holds;
 use h3_index::{Cell, H3Error};
@@ -48,7 +49,7 @@ fn parents(rt: HostRuntime) {
         (-1, Err(H3Error::ResDomain)),
     ];
     for (row, (res, expected)) in ROWS.iter().enumerate() {
-        assert!(rt; holds(&rt, row, same(parent_of(HEXAGON, *res), *expected)));
+        expect_row(&rt, row, same(parent_of(HEXAGON, *res), *expected));
     }
 }
 
@@ -81,9 +82,17 @@ fn has_children(rt: &HostRuntime, cell: u64, res: i32, expected: &[u64]) -> bool
 
 #[test]
 fn cells_have_children(rt: HostRuntime) {
-    assert!(rt; has_children(&rt, HEXAGON, 6, &CHILDREN));
-    assert!(rt; has_children(&rt, PENTAGON, 1, &CHILDREN_OF_PENTAGON));
-    assert!(rt; matches!(children_of(HEXAGON, 4), Err(H3Error::ResDomain)));
+    expect(&rt, "hexagon", has_children(&rt, HEXAGON, 6, &CHILDREN));
+    expect(
+        &rt,
+        "pentagon",
+        has_children(&rt, PENTAGON, 1, &CHILDREN_OF_PENTAGON),
+    );
+    expect(
+        &rt,
+        "coarser",
+        matches!(children_of(HEXAGON, 4), Err(H3Error::ResDomain)),
+    );
 }
 
 /// Whether children and a copy of them give the same.
@@ -110,14 +119,18 @@ fn are_cloned(rt: &HostRuntime) -> bool {
 
 #[test]
 fn a_copy_or_a_clone_of_children_goes_on_where_they_stand(rt: HostRuntime) {
-    assert!(rt; are_copied(&rt));
-    assert!(rt; are_cloned(&rt));
+    expect(&rt, "copy", are_copied(&rt));
+    expect(&rt, "clone", are_cloned(&rt));
 }
 
 /// They have room for a cell and two numbers alone, and what is copied owns no collection.
 #[test]
 fn children_hold_a_cell_and_two_numbers(rt: HostRuntime) {
-    assert!(rt; size_of::<Children>() == size_of::<(Cell, u64, u64)>());
+    expect(
+        &rt,
+        "size",
+        size_of::<Children>() == size_of::<(Cell, u64, u64)>(),
+    );
 }
 
 /// At its own resolution there is the cell alone.
@@ -125,8 +138,16 @@ fn children_hold_a_cell_and_two_numbers(rt: HostRuntime) {
 fn children_at_a_known_resolution(rt: HostRuntime) {
     let parent = cell(&rt, HEXAGON);
     let own = parent.resolution();
-    assert!(rt; gives(&rt, &mut children_at(parent, own), &[HEXAGON]));
-    assert!(rt; begins(&rt, &mut children_at(parent, 15), &[0x8f2834700000000]));
+    expect(
+        &rt,
+        "its own resolution",
+        gives(&rt, &mut children_at(parent, own), &[HEXAGON]),
+    );
+    expect(
+        &rt,
+        "resolution 15",
+        begins(&rt, &mut children_at(parent, 15), &[0x8f2834700000000]),
+    );
 }
 
 /// Whether the sibling groups of resolution 2 below a coarser cell have these parents.
@@ -146,7 +167,11 @@ fn has_groups(rt: &HostRuntime, cell: Cell, parents: &[u64]) -> bool {
 
 #[test]
 fn sibling_groups_of_grandchildren(rt: HostRuntime) {
-    assert!(rt; has_groups(&rt, cell(&rt, PENTAGON), &CHILDREN_OF_PENTAGON));
+    expect(
+        &rt,
+        "pentagon",
+        has_groups(&rt, cell(&rt, PENTAGON), &CHILDREN_OF_PENTAGON),
+    );
 }
 
 fn key_of(cell: u64) -> Result<u64, H3Error> {
@@ -163,7 +188,7 @@ fn a_cell_comes_after_its_children(rt: HostRuntime) {
     ];
     let mut before = 0;
     for (row, (cell, key)) in ROWS.iter().enumerate() {
-        assert!(rt; holds(&rt, row, before < *key && same(key_of(*cell), Ok(*key))));
+        expect_row(&rt, row, before < *key && same(key_of(*cell), Ok(*key)));
         before = *key;
     }
 }
@@ -183,7 +208,7 @@ fn children_are_counted(rt: HostRuntime) {
         (HEXAGON, 16, Err(H3Error::ResDomain)),
     ];
     for (row, (cell, res, expected)) in ROWS.iter().enumerate() {
-        assert!(rt; holds(&rt, row, same(size_of_children(*cell, *res), *expected)));
+        expect_row(&rt, row, same(size_of_children(*cell, *res), *expected));
     }
 }
 
@@ -201,7 +226,7 @@ fn center_children(rt: HostRuntime) {
         (16, Err(H3Error::ResDomain)),
     ];
     for (row, (res, expected)) in ROWS.iter().enumerate() {
-        assert!(rt; holds(&rt, row, same(center_of(HEXAGON, *res), *expected)));
+        expect_row(&rt, row, same(center_of(HEXAGON, *res), *expected));
     }
 }
 
@@ -223,7 +248,7 @@ fn last_children(rt: HostRuntime) {
         (HEXAGON, 16, Err(H3Error::ResDomain)),
     ];
     for (row, (cell, res, expected)) in ROWS.iter().enumerate() {
-        assert!(rt; holds(&rt, row, same(last_of(*cell, *res), *expected)));
+        expect_row(&rt, row, same(last_of(*cell, *res), *expected));
     }
 }
 
@@ -260,7 +285,7 @@ fn children_go_from_the_center_to_the_last(rt: HostRuntime) {
             Ok(ends) => ends_of(cell, *res) == Some(ends),
             Err(_) => false,
         };
-        assert!(rt; holds(&rt, row, right));
+        expect_row(&rt, row, right);
     }
 }
 
@@ -282,7 +307,7 @@ fn positions(rt: HostRuntime) {
         (0x820817fffffffff, 0, Ok(1)),
     ];
     for (row, (cell, res, expected)) in ROWS.iter().enumerate() {
-        assert!(rt; holds(&rt, row, same(position_of(*cell, *res), *expected)));
+        expect_row(&rt, row, same(position_of(*cell, *res), *expected));
     }
 }
 
@@ -304,6 +329,6 @@ fn members_at_positions(rt: HostRuntime) {
         (41, 0x8108bffffffffff, 0, Err(H3Error::ResMismatch)),
     ];
     for (row, (position, cell, res, expected)) in ROWS.iter().enumerate() {
-        assert!(rt; holds(&rt, row, same(member_at(*position, *cell, *res), *expected)));
+        expect_row(&rt, row, same(member_at(*position, *cell, *res), *expected));
     }
 }

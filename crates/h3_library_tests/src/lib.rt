@@ -9,6 +9,8 @@ mod chart;
 #[cfg(test)]
 mod edges;
 #[cfg(test)]
+mod expected;
+#[cfg(test)]
 mod grid;
 #[cfg(test)]
 mod hierarchy;

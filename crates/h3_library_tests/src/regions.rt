@@ -3,6 +3,7 @@
 
 ghost use Rattle.std.specs.Prelude.{◌≤◌};
 
+use crate::expected::{expect, expect_row};
 use crate::rows::{cell, is_cell, is_list};
 use h3_fakes::holds;
 use h3_index::{Cell, H3Error};
@@ -162,7 +163,7 @@ fn cells_are_united(rt: HostRuntime) {
         ),
     ];
     for (place, row) in ROWS.iter().enumerate() {
-        assert!(rt; holds(&rt, place, unites(&rt, row)));
+        expect_row(&rt, place, unites(&rt, row));
     }
 }
 
@@ -258,7 +259,7 @@ fn regions_share(rt: HostRuntime) {
         ),
     ];
     for (place, row) in ROWS.iter().enumerate() {
-        assert!(rt; holds(&rt, place, shares(&rt, row)));
+        expect_row(&rt, place, shares(&rt, row));
     }
 }
 
@@ -358,7 +359,7 @@ fn what_one_region_has_beyond_another(rt: HostRuntime) {
         ),
     ];
     for (place, row) in ROWS.iter().enumerate() {
-        assert!(rt; holds(&rt, place, leaves_list(&rt, row)));
+        expect_row(&rt, place, leaves_list(&rt, row));
     }
 }
 
@@ -382,9 +383,15 @@ fn pentagons_have_six_children_at_every_level(rt: HostRuntime) {
         let pentagon = [Cell::in_base(4).center_descendant(res).raw()];
         let six = pentagon_children(res);
         let (five, one) = (&six[1..], &six[..1]);
-        assert!(rt; unites(&rt, &(five, one, &pentagon)) && unites(&rt, &(five, five, five)));
-        assert!(rt;
-            leaves_list(&rt, &(&pentagon, one, five)) && shares(&rt, &(&pentagon, one, one))
+        expect(
+            &rt,
+            "they unite",
+            unites(&rt, &(five, one, &pentagon)) && unites(&rt, &(five, five, five)),
+        );
+        expect(
+            &rt,
+            "what is left, and shared",
+            leaves_list(&rt, &(&pentagon, one, five)) && shares(&rt, &(&pentagon, one, one)),
         );
     }
 }
@@ -429,9 +436,13 @@ fn cells_lie_in_zones(rt: HostRuntime) {
         (HEXAGON, 0),
         (PENTAGON, PENTAGON),
     ];
-    assert!(rt; are_zones(&rt, &[part, PENTAGON], &rows));
-    assert!(rt; are_zones(&rt, &CHILDREN, &[(part, part), (HEXAGON, 0)]));
-    assert!(rt; are_zones(&rt, &[], &[(BASE, 0)]));
+    expect(&rt, "two zones", are_zones(&rt, &[part, PENTAGON], &rows));
+    expect(
+        &rt,
+        "children",
+        are_zones(&rt, &CHILDREN, &[(part, part), (HEXAGON, 0)]),
+    );
+    expect(&rt, "none", are_zones(&rt, &[], &[(BASE, 0)]));
 }
 
 /// What the zones of two cells count and join of four.
@@ -454,8 +465,12 @@ fn cells_are_counted_by_zones(rt: HostRuntime) {
     let part = cell(&rt, CHILDREN[4]);
     let seen = [part, cell(&rt, GRANDCHILDREN[0]), cell(&rt, HEXAGON), part];
     let (counts, places) = counts_and_joins(part, cell(&rt, PENTAGON), &seen);
-    assert!(rt; counts == [0, 3, 1]);
-    assert!(rt; places == [Some(part), Some(part), None, Some(part), Some(part)]);
+    expect(&rt, "counts", counts == [0, 3, 1]);
+    expect(
+        &rt,
+        "places",
+        places == [Some(part), Some(part), None, Some(part), Some(part)],
+    );
 }
 
 /// Whether two cells, which overlap, are refused as zones, and are the same then in some order.
@@ -479,9 +494,9 @@ fn two_overlap(first: Cell, second: Cell) -> bool {
 fn zones_that_overlap_are_refused(rt: HostRuntime) {
     let coarse = cell(&rt, HEXAGON);
     let fine = cell(&rt, CHILDREN[4]);
-    assert!(rt; two_overlap(coarse, fine));
-    assert!(rt; two_overlap(fine, coarse));
-    assert!(rt; two_overlap(fine, fine));
+    expect(&rt, "coarse and fine", two_overlap(coarse, fine));
+    expect(&rt, "fine and coarse", two_overlap(fine, coarse));
+    expect(&rt, "fine and fine", two_overlap(fine, fine));
 }
 
 /// Whether the first two cells of a list that overlap are those at two places, where any do.
@@ -496,24 +511,42 @@ fn the_first_overlap_is_found(rt: HostRuntime) {
     let fine = cell(&rt, CHILDREN[4]);
     let other = cell(&rt, CHILDREN[5]);
     let pentagon = cell(&rt, PENTAGON);
-    assert!(rt; is_found(&[pentagon, fine, other, coarse], Some((3, 1))));
-    assert!(rt; is_found(&[coarse, pentagon, other, pentagon], Some((2, 0))));
-    assert!(rt; is_found(&[other, other, other, fine], Some((1, 0))));
-    assert!(rt;
+    expect(
+        &rt,
+        "3 and 1",
+        is_found(&[pentagon, fine, other, coarse], Some((3, 1))),
+    );
+    expect(
+        &rt,
+        "2 and 0",
+        is_found(&[coarse, pentagon, other, pentagon], Some((2, 0))),
+    );
+    expect(
+        &rt,
+        "1 and 0",
+        is_found(&[other, other, other, fine], Some((1, 0))),
+    );
+    expect(
+        &rt,
+        "a grandchild",
         is_found(
             &[other, fine, pentagon, cell(&rt, GRANDCHILDREN[0])],
-            Some((3, 1))
-        )
+            Some((3, 1)),
+        ),
     );
-    assert!(rt; is_found(&[other, fine, pentagon, cell(&rt, 0x8528340ffffffff)], None));
+    expect(
+        &rt,
+        "none",
+        is_found(&[other, fine, pentagon, cell(&rt, 0x8528340ffffffff)], None),
+    );
 }
 
 #[test]
 fn a_region_may_be_given_by_cells_that_overlap(rt: HostRuntime) {
     let mut cells = [cell(&rt, HEXAGON), cell(&rt, CHILDREN[4])];
     let region = Region::of(&mut cells);
-    assert!(rt; region.covers(cell(&rt, CHILDREN[5])));
-    assert!(rt; !region.covers(cell(&rt, 0x8528340ffffffff)));
+    expect(&rt, "inside", region.covers(cell(&rt, CHILDREN[5])));
+    expect(&rt, "outside", !region.covers(cell(&rt, 0x8528340ffffffff)));
 }
 
 /// None of resolution 0, and six of each other one.
@@ -540,10 +573,18 @@ fn zones_are_of_all_resolutions(rt: HostRuntime) {
     let mut slots = [fine; 90];
     let whole = Region::of(&mut cells);
     let taken = Region::of(&mut others);
-    assert!(rt; subtract(&whole, &taken, &mut slots[..89]).is_none());
+    expect(
+        &rt,
+        "too few slots",
+        subtract(&whole, &taken, &mut slots[..89]).is_none(),
+    );
     match subtract(&whole, &taken, &mut slots) {
-        Some(left) => assert!(rt; are_of_all_resolutions(&left.zones()) && !left.covers(fine)),
-        None => assert!(rt; false),
+        Some(left) => expect(
+            &rt,
+            "zones",
+            are_of_all_resolutions(&left.zones()) && !left.covers(fine),
+        ),
+        None => expect(&rt, "it is subtracted", false),
     }
 }
 
@@ -708,7 +749,7 @@ fn regions_are_those_of_sets_of_leaves(rt: HostRuntime) {
         let first = some_cells(&leaves, &mut state);
         let second = some_cells(&leaves, &mut state);
         let is_right = agree(&leaves, first, second) && agree_united(&leaves, first, second);
-        assert!(rt; holds(&rt, row, is_right));
+        expect_row(&rt, row, is_right);
     }
 }
 
@@ -766,12 +807,10 @@ fn zones_are_those_above_leaves(rt: HostRuntime) {
     let mut state = 1;
     for row in 0..500 {
         let cells = some_cells(&leaves, &mut state);
-        assert!(rt;
-            holds(
-                &rt,
-                row,
-                is_zoned(&leaves, cells, 8) && is_zoned(&leaves, cells, 3)
-            )
+        expect_row(
+            &rt,
+            row,
+            is_zoned(&leaves, cells, 8) && is_zoned(&leaves, cells, 3),
         );
     }
 }

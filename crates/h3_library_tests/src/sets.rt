@@ -1,5 +1,6 @@
 //! Sets of cells: compaction and uncompaction.
 
+use crate::expected::expect;
 use crate::rows::{cell, clone_of, copy_of, is_cell, is_list};
 use h3_fakes::holds;
 use h3_index::{Cell, H3Error};
@@ -80,30 +81,54 @@ fn is_refused(cells: &[Cell], res: i32, expected: H3Error) -> bool {
 #[test]
 fn one_cell_is_uncompacted(rt: HostRuntime) {
     let cells = [cell(&rt, HEXAGON)];
-    assert!(rt; uncompacts(&rt, &cells, 6, &CHILDREN));
-    assert!(rt; is_refused(&cells, 4, H3Error::ResMismatch));
-    assert!(rt; is_refused(&cells, -1, H3Error::ResDomain));
+    expect(&rt, "resolution 6", uncompacts(&rt, &cells, 6, &CHILDREN));
+    expect(
+        &rt,
+        "resolution 4",
+        is_refused(&cells, 4, H3Error::ResMismatch),
+    );
+    expect(
+        &rt,
+        "resolution -1",
+        is_refused(&cells, -1, H3Error::ResDomain),
+    );
     let finest = [cell(&rt, 0x8f2834700000000)];
-    assert!(rt; uncompacts(&rt, &finest, 15, &[0x8f2834700000000]));
+    expect(
+        &rt,
+        "resolution 15",
+        uncompacts(&rt, &finest, 15, &[0x8f2834700000000]),
+    );
 }
 
 #[test]
 fn cells_of_two_resolutions_are_uncompacted(rt: HostRuntime) {
     let cells = [cell(&rt, PENTAGON), cell(&rt, BESIDE)];
-    assert!(rt; uncompacts(&rt, &cells, 1, &BELOW_BOTH));
+    expect(&rt, "both", uncompacts(&rt, &cells, 1, &BELOW_BOTH));
 }
 
 #[test]
 fn no_cells_are_uncompacted(rt: HostRuntime) {
-    assert!(rt; uncompacts(&rt, &[], 5, &[]));
-    assert!(rt; is_refused(&[], 16, H3Error::ResDomain));
-    assert!(rt; is_refused(&[], -1, H3Error::ResDomain));
+    expect(&rt, "resolution 5", uncompacts(&rt, &[], 5, &[]));
+    expect(
+        &rt,
+        "resolution 16",
+        is_refused(&[], 16, H3Error::ResDomain),
+    );
+    expect(
+        &rt,
+        "resolution -1",
+        is_refused(&[], -1, H3Error::ResDomain),
+    );
 }
 
 #[test]
 fn repeats_are_uncompacted(rt: HostRuntime) {
     let repeated = cell(&rt, HEXAGON);
-    assert!(rt; uncompacts(&rt, &[repeated, repeated], 5, &[HEXAGON, HEXAGON]));
+    expect(
+        &rt,
+        "repeated",
+        uncompacts(&rt, &[repeated, repeated], 5, &[HEXAGON, HEXAGON]),
+    );
 }
 
 /// Whether an uncompacted list and a copy of it give the same.
@@ -130,15 +155,19 @@ fn is_cloned(rt: &HostRuntime, cells: &[Cell]) -> bool {
 
 #[test]
 fn a_copy_or_a_clone_of_an_uncompact_goes_on_where_it_stands(rt: HostRuntime) {
-    assert!(rt; is_copied(&rt, &[cell(&rt, HEXAGON)]));
-    assert!(rt; is_cloned(&rt, &[cell(&rt, PENTAGON), cell(&rt, BESIDE)]));
+    expect(&rt, "copy", is_copied(&rt, &[cell(&rt, HEXAGON)]));
+    expect(
+        &rt,
+        "clone",
+        is_cloned(&rt, &[cell(&rt, PENTAGON), cell(&rt, BESIDE)]),
+    );
 }
 
 /// It has room for these alone, and what is copied owns no collection.
 #[test]
 fn an_uncompact_holds_the_rest_a_resolution_and_children(rt: HostRuntime) {
     let parts = size_of::<(&[Cell], u8, Option<Children>)>();
-    assert!(rt; size_of::<Uncompact<'_>>() == parts);
+    expect(&rt, "size", size_of::<Uncompact<'_>>() == parts);
 }
 
 /// Whether each slot from a place on has this cell.
@@ -185,16 +214,16 @@ fn descendants(alloc: Global, cell: u64, res: i32) -> Result<Vec<Cell>, AllocErr
 fn seven_siblings_are_compacted(rt: HostRuntime) -> Result<(), AllocError> {
     let mut cells = descendants(rt.alloc(), HEXAGON, 6)?;
     cells.reverse();
-    assert!(rt; compacts(&rt, &cells, &[HEXAGON]));
+    expect(&rt, "hexagon", compacts(&rt, &cells, &[HEXAGON]));
     Ok(())
 }
 
 #[test]
 fn the_six_siblings_of_a_pentagon_are_compacted(rt: HostRuntime) -> Result<(), AllocError> {
     let mut cells = descendants(rt.alloc(), PENTAGON, 1)?;
-    assert!(rt; compacts(&rt, &cells, &[PENTAGON]));
+    expect(&rt, "pentagon", compacts(&rt, &cells, &[PENTAGON]));
     let _ = cells.pop();
-    assert!(rt; compacts(&rt, &cells, &BELOW_BOTH[..5]));
+    expect(&rt, "all but one", compacts(&rt, &cells, &BELOW_BOTH[..5]));
     Ok(())
 }
 
@@ -253,16 +282,20 @@ fn two_levels_are_compacted(rt: HostRuntime) -> Result<(), AllocError> {
         0x8229affffffffff,
     ];
     let mut cells = descendants(rt.alloc(), BASE, 2)?;
-    assert!(rt; cells.len() == 49);
-    assert!(rt; compacts(&rt, &cells, &[BASE]));
-    assert!(rt; rounds_agree(&rt, &cells));
-    assert!(rt; is_cell(cells.pop(), 0x8229b7fffffffff));
-    assert!(rt; compacts(&rt, &cells, &REST));
-    assert!(rt; rounds_agree(&rt, &cells));
+    expect(&rt, "49 cells", cells.len() == 49);
+    expect(&rt, "all", compacts(&rt, &cells, &[BASE]));
+    expect(&rt, "rounds of all", rounds_agree(&rt, &cells));
+    expect(&rt, "the last", is_cell(cells.pop(), 0x8229b7fffffffff));
+    expect(&rt, "all but the last", compacts(&rt, &cells, &REST));
+    expect(&rt, "rounds of all but the last", rounds_agree(&rt, &cells));
     cells.push(Cell::in_base(121))?;
-    assert!(rt; rounds_agree(&rt, &cells));
+    expect(
+        &rt,
+        "rounds with another base cell",
+        rounds_agree(&rt, &cells),
+    );
     cells.reverse();
-    assert!(rt; rounds_agree(&rt, &cells));
+    expect(&rt, "rounds in reverse", rounds_agree(&rt, &cells));
     Ok(())
 }
 
@@ -280,9 +313,13 @@ fn starts(cells: &[Cell], level: u8, len: usize) -> bool {
 
 #[test]
 fn no_cells_are_compacted(rt: HostRuntime) {
-    assert!(rt; compacts(&rt, &[], &[]));
+    expect(&rt, "none", compacts(&rt, &[], &[]));
     let started = Compaction::start(&[], &mut []);
-    assert!(rt; matches!(started, Ok(first) if first.level() == 0 && first.len() == 0));
+    expect(
+        &rt,
+        "the first round",
+        matches!(started, Ok(first) if first.level() == 0 && first.len() == 0),
+    );
 }
 
 /// Whether compaction found that cells overlap.
@@ -321,10 +358,14 @@ fn two_overlap(rt: &HostRuntime, first: Cell, second: Cell) -> bool {
 fn cells_that_overlap_are_refused(rt: HostRuntime) {
     let fine = cell(&rt, HEXAGON);
     let coarse = cell(&rt, PARENT);
-    assert!(rt; two_overlap(&rt, fine, fine));
-    assert!(rt; two_overlap(&rt, fine, coarse));
-    assert!(rt; two_overlap(&rt, coarse, fine));
-    assert!(rt; two_overlap(&rt, cell(&rt, PENTAGON), cell(&rt, 0x820837fffffffff)));
+    expect(&rt, "fine and fine", two_overlap(&rt, fine, fine));
+    expect(&rt, "fine and coarse", two_overlap(&rt, fine, coarse));
+    expect(&rt, "coarse and fine", two_overlap(&rt, coarse, fine));
+    expect(
+        &rt,
+        "in a pentagon",
+        two_overlap(&rt, cell(&rt, PENTAGON), cell(&rt, 0x820837fffffffff)),
+    );
 }
 
 /// Whether the list of up to 64 cells is refused because cells overlap.
@@ -339,9 +380,9 @@ fn a_distant_ancestor_is_refused(rt: HostRuntime) -> Result<(), AllocError> {
     let mut cells = descendants(rt.alloc(), BASE, 2)?;
     cells.truncate(42);
     cells.push(cell(&rt, BASE))?;
-    assert!(rt; overlaps(&cells));
+    expect(&rt, "in order", overlaps(&cells));
     cells.reverse();
-    assert!(rt; overlaps(&cells));
+    expect(&rt, "in reverse", overlaps(&cells));
     Ok(())
 }
 
@@ -368,21 +409,25 @@ fn agrees_in_place(cells: &[Cell]) -> bool {
 #[test]
 fn cells_are_compacted_in_place(rt: HostRuntime) -> Result<(), AllocError> {
     let coarse = cell(&rt, PARENT);
-    assert!(rt; agrees_in_place(&[]));
-    assert!(rt; agrees_in_place(&[coarse]));
-    assert!(rt; agrees_in_place(&[coarse, coarse]));
+    expect(&rt, "none", agrees_in_place(&[]));
+    expect(&rt, "one", agrees_in_place(&[coarse]));
+    expect(&rt, "twice", agrees_in_place(&[coarse, coarse]));
     let mut cells = descendants(rt.alloc(), PENTAGON, 2)?;
-    assert!(rt; cells.len() == 41);
-    assert!(rt; agrees_in_place(&cells));
+    expect(&rt, "41 cells", cells.len() == 41);
+    expect(&rt, "in order", agrees_in_place(&cells));
     cells.reverse();
     cells.push(coarse)?;
-    assert!(rt; agrees_in_place(&cells));
+    expect(&rt, "in reverse, and another", agrees_in_place(&cells));
     cells.push(cell(&rt, PENTAGON))?;
-    assert!(rt; agrees_in_place(&cells));
+    expect(&rt, "with an ancestor", agrees_in_place(&cells));
     let _ = cells.pop();
-    assert!(rt; matches!(compact_in_place(&mut cells), Ok(2)));
+    expect(
+        &rt,
+        "two are left",
+        matches!(compact_in_place(&mut cells), Ok(2)),
+    );
     cells.truncate(2);
-    assert!(rt; is_list(&rt, &cells, &[PENTAGON, PARENT]));
+    expect(&rt, "which two", is_list(&rt, &cells, &[PENTAGON, PARENT]));
     Ok(())
 }
 
@@ -394,12 +439,28 @@ fn cells_are_compacted_in_order(rt: HostRuntime) {
     for (place, child) in CHILDREN.iter().enumerate() {
         cells[place + 1] = cell(&rt, *child);
     }
-    assert!(rt; matches!(compact_in_order(&mut cells), Ok(2)));
-    assert!(rt; is_list(&rt, &cells[..2], &[HEXAGON, 0x80f3fffffffffff]));
-    assert!(rt; matches!(compact_in_place(&mut cells[..2]), Ok(2)));
-    assert!(rt; is_list(&rt, &cells[..2], &[0x80f3fffffffffff, HEXAGON]));
+    expect(
+        &rt,
+        "two in order",
+        matches!(compact_in_order(&mut cells), Ok(2)),
+    );
+    expect(
+        &rt,
+        "which two in order",
+        is_list(&rt, &cells[..2], &[HEXAGON, 0x80f3fffffffffff]),
+    );
+    expect(
+        &rt,
+        "two in place",
+        matches!(compact_in_place(&mut cells[..2]), Ok(2)),
+    );
+    expect(
+        &rt,
+        "which two in place",
+        is_list(&rt, &cells[..2], &[0x80f3fffffffffff, HEXAGON]),
+    );
     let mut twice = [Cell::in_base(121); 2];
-    assert!(rt; is_overlap(compact_in_order(&mut twice)));
+    expect(&rt, "twice", is_overlap(compact_in_order(&mut twice)));
 }
 
 /// Whether the compacted list of the cells has this many cells, and these are its first and its
@@ -421,10 +482,14 @@ fn has_ends(cells: &[Cell], slots: &mut [Cell], count: usize, first: u64, last: 
 fn six_levels_are_compacted(rt: HostRuntime) -> Result<(), AllocError> {
     let mut cells = descendants(rt.alloc(), BASE, 6)?;
     let mut slots = descendants(rt.alloc(), BASE, 6)?;
-    assert!(rt; cells.len() == 117649);
-    assert!(rt; has_ends(&cells, &mut slots, 1, BASE, BASE));
+    expect(&rt, "117649 cells", cells.len() == 117649);
+    expect(&rt, "in order", has_ends(&cells, &mut slots, 1, BASE, BASE));
     cells.reverse();
-    assert!(rt; has_ends(&cells, &mut slots, 1, BASE, BASE));
+    expect(
+        &rt,
+        "in reverse",
+        has_ends(&cells, &mut slots, 1, BASE, BASE),
+    );
     Ok(())
 }
 
@@ -432,13 +497,25 @@ fn six_levels_are_compacted(rt: HostRuntime) -> Result<(), AllocError> {
 fn five_levels_below_a_pentagon_are_compacted(rt: HostRuntime) -> Result<(), AllocError> {
     let mut cells = descendants(rt.alloc(), PENTAGON, 5)?;
     let mut slots = descendants(rt.alloc(), PENTAGON, 5)?;
-    assert!(rt; cells.len() == 14006);
-    assert!(rt; has_ends(&cells, &mut slots, 1, PENTAGON, PENTAGON));
-    assert!(rt; is_cell(cells.pop(), 0x8509b6dbfffffff));
+    expect(&rt, "14006 cells", cells.len() == 14006);
+    expect(
+        &rt,
+        "all",
+        has_ends(&cells, &mut slots, 1, PENTAGON, PENTAGON),
+    );
+    expect(&rt, "the last", is_cell(cells.pop(), 0x8509b6dbfffffff));
     let (first, last) = (0x81083ffffffffff, 0x8509b6d7fffffff);
-    assert!(rt; has_ends(&cells, &mut slots, 29, first, last));
+    expect(
+        &rt,
+        "all but the last",
+        has_ends(&cells, &mut slots, 29, first, last),
+    );
     cells.reverse();
-    assert!(rt; has_ends(&cells, &mut slots, 29, first, last));
+    expect(
+        &rt,
+        "in reverse",
+        has_ends(&cells, &mut slots, 29, first, last),
+    );
     Ok(())
 }
 
@@ -460,7 +537,7 @@ fn siblings_of_two_parents_are_not_one_set(rt: HostRuntime) -> Result<(), AllocE
     for cell in next.iter().skip(1) {
         cells.push(*cell)?;
     }
-    assert!(rt; compacts(&rt, &cells, &CELLS));
+    expect(&rt, "cells", compacts(&rt, &cells, &CELLS));
     Ok(())
 }
 
@@ -486,12 +563,16 @@ fn cells_of_several_resolutions_are_compacted(rt: HostRuntime) -> Result<(), All
     ];
     let mut cells = descendants(rt.alloc(), HEXAGON, 6)?;
     add(&mut cells, &OTHERS)?;
-    assert!(rt; compacts(&rt, &cells, &[PARENT]));
+    expect(&rt, "in order", compacts(&rt, &cells, &[PARENT]));
     cells.reverse();
-    assert!(rt; compacts(&rt, &cells, &[PARENT]));
-    assert!(rt; starts(&cells, 6, 13));
+    expect(&rt, "in reverse", compacts(&rt, &cells, &[PARENT]));
+    expect(&rt, "the first round", starts(&cells, 6, 13));
     let two = [cell(&rt, HEXAGON), cell(&rt, 0x81083ffffffffff)];
-    assert!(rt; compacts(&rt, &two, &[0x81083ffffffffff, HEXAGON]));
+    expect(
+        &rt,
+        "two cells",
+        compacts(&rt, &two, &[0x81083ffffffffff, HEXAGON]),
+    );
     Ok(())
 }
 
@@ -499,7 +580,11 @@ fn cells_of_several_resolutions_are_compacted(rt: HostRuntime) -> Result<(), All
 #[test]
 fn coarser_cells_come_first(rt: HostRuntime) {
     let two = [cell(&rt, 0x81003ffffffffff), cell(&rt, 0x800bfffffffffff)];
-    assert!(rt; compacts(&rt, &two, &[0x800bfffffffffff, 0x81003ffffffffff]));
+    expect(
+        &rt,
+        "two cells",
+        compacts(&rt, &two, &[0x800bfffffffffff, 0x81003ffffffffff]),
+    );
 }
 
 #[test]
@@ -521,7 +606,7 @@ fn cells_of_two_resolutions_below_a_pentagon_are_compacted(
     ];
     let mut cells = Vec::new(rt.alloc());
     add(&mut cells, &CELLS)?;
-    assert!(rt; compacts(&rt, &cells, &[PENTAGON]));
+    expect(&rt, "pentagon", compacts(&rt, &cells, &[PENTAGON]));
     Ok(())
 }
 
@@ -588,11 +673,11 @@ fn compacts_in_parts(rt: &HostRuntime, cells: &[Cell]) -> Result<bool, AllocErro
 #[test]
 fn a_list_is_compacted_in_parts(rt: HostRuntime) -> Result<(), AllocError> {
     let mut cells = descendants(rt.alloc(), BASE, 5)?;
-    assert!(rt; cells.len() == 16807);
-    assert!(rt; compacts_in_parts(&rt, &cells)?);
+    expect(&rt, "16807 cells", cells.len() == 16807);
+    expect(&rt, "in order", compacts_in_parts(&rt, &cells)?);
     cells.reverse();
-    assert!(rt; compacts_in_parts(&rt, &cells)?);
+    expect(&rt, "in reverse", compacts_in_parts(&rt, &cells)?);
     let _ = cells.pop();
-    assert!(rt; compacts_in_parts(&rt, &cells)?);
+    expect(&rt, "all but the last", compacts_in_parts(&rt, &cells)?);
     Ok(())
 }

@@ -1,5 +1,6 @@
 //! Directions, carries, and the sums of a cell and a direction.
 
+use crate::expected::{expect, expect_row};
 use crate::rows::{cell, is_cell};
 use h3_directions::{DIRECTIONS, Direction};
 use h3_fakes::{differ, holds};
@@ -152,22 +153,20 @@ fn directions_have_opposites_and_turns(rt: HostRuntime) {
         (6, Direction::IJ, Direction::K, Direction::J),
     ];
     for (row, (digit, direction, opposite, turned)) in ROWS.iter().enumerate() {
-        assert!(rt; holds(&rt, row, direction.digit() == *digit));
-        assert!(rt;
-            holds(
-                &rt,
-                row,
-                is_direction(Direction::from_digit(*digit), Some(*direction))
-            )
+        expect_row(&rt, row, direction.digit() == *digit);
+        expect_row(
+            &rt,
+            row,
+            is_direction(Direction::from_digit(*digit), Some(*direction)),
         );
-        assert!(rt; holds(&rt, row, direction.opposite() == *opposite));
-        assert!(rt; holds(&rt, row, turn(*direction, 1) == *turned));
-        assert!(rt; holds(&rt, row, turn(*direction, 0) == *direction));
-        assert!(rt; holds(&rt, row, turn(*direction, 3) == *opposite));
-        assert!(rt; holds(&rt, row, turn(*direction, 255) == *opposite));
+        expect_row(&rt, row, direction.opposite() == *opposite);
+        expect_row(&rt, row, turn(*direction, 1) == *turned);
+        expect_row(&rt, row, turn(*direction, 0) == *direction);
+        expect_row(&rt, row, turn(*direction, 3) == *opposite);
+        expect_row(&rt, row, turn(*direction, 255) == *opposite);
     }
     for (row, digit) in [0, 7, 255].iter().enumerate() {
-        assert!(rt; holds(&rt, row, is_direction(Direction::from_digit(*digit), None)));
+        expect_row(&rt, row, is_direction(Direction::from_digit(*digit), None));
     }
 }
 
@@ -190,7 +189,7 @@ fn edges_have_directions(rt: HostRuntime) {
         (0x165283473fffffff, Direction::IJ),
     ];
     for (row, (edge, direction)) in ROWS.iter().enumerate() {
-        assert!(rt; holds(&rt, row, leaves(*edge, *direction)));
+        expect_row(&rt, row, leaves(*edge, *direction));
     }
 }
 
@@ -219,9 +218,9 @@ fn carries_are_those_of_the_tables(rt: HostRuntime) {
     for digit in 0..7u8 {
         let row = usize::from(digit);
         let three = has_carries(&rt, Class::Three, digit, &CARRIES_THREE[row]);
-        assert!(rt; holds(&rt, row, three));
+        expect_row(&rt, row, three);
         let two = has_carries(&rt, Class::Two, digit, &CARRIES_TWO[row]);
-        assert!(rt; holds(&rt, row, two));
+        expect_row(&rt, row, two);
     }
 }
 
@@ -255,7 +254,11 @@ fn across(cell: u64, direction: Direction) -> Option<(Direction, Digits)> {
 
 #[test]
 fn a_sum_lies_inside(rt: HostRuntime) {
-    assert!(rt; is_cell(inside(0x85283473fffffff, Direction::IJ), 0x85283447fffffff));
+    expect(
+        &rt,
+        "inside",
+        is_cell(inside(0x85283473fffffff, Direction::IJ), 0x85283447fffffff),
+    );
 }
 
 #[test]
@@ -265,7 +268,7 @@ fn a_sum_at_a_given_resolution_is_the_same(rt: HostRuntime) {
         panic!(rt; "it is in a pentagon base cell");
     }
     match add_at(start, start.resolution(), Direction::IJ) {
-        Moved::Inside(sum) => assert!(rt; sum.raw() == 0x85283447fffffff),
+        Moved::Inside(sum) => expect(&rt, "inside", sum.raw() == 0x85283447fffffff),
         Moved::Across(_, _) => panic!(rt; "it lies across"),
     }
 }
@@ -275,12 +278,12 @@ fn a_sum_lies_across(rt: HostRuntime) {
     let Some((border, digits)) = across(0x813d3ffffffffff, Direction::I) else {
         panic!(rt; "it lies inside")
     };
-    assert!(rt; border == Direction::I);
-    assert!(rt; digits.resolution() == 1);
-    assert!(rt; digits.digit(1) == 2);
-    assert!(rt; digits.digit(2) == 7);
-    assert!(rt; digits.turned(1).digit(1) == 3);
-    assert!(rt; digits.at(30).raw() == 0x813cbffffffffff);
+    expect(&rt, "border", border == Direction::I);
+    expect(&rt, "resolution", digits.resolution() == 1);
+    expect(&rt, "digit 1", digits.digit(1) == 2);
+    expect(&rt, "digit 2", digits.digit(2) == 7);
+    expect(&rt, "a turn", digits.turned(1).digit(1) == 3);
+    expect(&rt, "the cell", digits.at(30).raw() == 0x813cbffffffffff);
 }
 
 #[test]
@@ -288,21 +291,21 @@ fn a_base_cell_has_no_digit_to_add_to(rt: HostRuntime) {
     let Some((border, digits)) = across(0x803dfffffffffff, Direction::JK) else {
         panic!(rt; "it lies inside")
     };
-    assert!(rt; border == Direction::JK);
-    assert!(rt; digits.resolution() == 0);
-    assert!(rt; digits.at(0).raw() == 0x8001fffffffffff);
+    expect(&rt, "border", border == Direction::JK);
+    expect(&rt, "resolution", digits.resolution() == 0);
+    expect(&rt, "the cell", digits.at(0).raw() == 0x8001fffffffffff);
 }
 
 #[test]
 fn classes_alternate(rt: HostRuntime) {
-    assert!(rt; Class::at(0) == Class::Two);
-    assert!(rt; Class::at(15) == Class::Three);
+    expect(&rt, "resolution 0", Class::at(0) == Class::Two);
+    expect(&rt, "resolution 15", Class::at(15) == Class::Three);
 }
 
 #[test]
 fn only_the_same_directions_and_classes_are_equal(rt: HostRuntime) {
-    assert!(rt; differ(&rt, &DIRECTIONS));
-    assert!(rt; differ(&rt, &[Class::Two, Class::Three]));
+    expect(&rt, "directions", differ(&rt, &DIRECTIONS));
+    expect(&rt, "classes", differ(&rt, &[Class::Two, Class::Three]));
 }
 
 /// The digits of the sum of a cell and the direction I, which lies across a border.
@@ -321,7 +324,11 @@ fn only_the_same_sums_and_digits_are_equal(rt: HostRuntime) {
     let same = digits_across(&rt, 0x813f3ffffffffff);
     let short = beside.turned(4);
     let long = digits_across(&rt, 0x853d2493fffffff);
-    assert!(rt; short.resolution() == 1 && short.digit(1) == 4 && long.resolution() == 5);
+    expect(
+        &rt,
+        "digits",
+        short.resolution() == 1 && short.digit(1) == 4 && long.resolution() == 5,
+    );
     let sums = [
         Moved::Inside(cell(&rt, 0x813d3ffffffffff)),
         Moved::Inside(cell(&rt, 0x85283473fffffff)),
@@ -329,7 +336,7 @@ fn only_the_same_sums_and_digits_are_equal(rt: HostRuntime) {
         Moved::Across(Direction::K, long),
         Moved::Across(Direction::J, short),
     ];
-    assert!(rt; differ(&rt, &sums));
-    assert!(rt; differ(&rt, &[short, long, beside]));
-    assert!(rt; beside == same);
+    expect(&rt, "sums", differ(&rt, &sums));
+    expect(&rt, "digits differ", differ(&rt, &[short, long, beside]));
+    expect(&rt, "the same digits", beside == same);
 }

@@ -1,5 +1,6 @@
 //! The texts of indexes: how they are read, written, displayed and parsed, and lines of cells.
 
+use crate::expected::{expect, expect_row};
 use crate::rows::{Expected, cell, same};
 use h3_fakes::holds;
 use h3_index::{
@@ -30,7 +31,7 @@ fn texts_are_read(rt: HostRuntime) {
         ("fedcba9876543210f", Err(H3Error::Failed)),
     ];
     for (row, (text, expected)) in ROWS.iter().enumerate() {
-        assert!(rt; holds(&rt, row, same(read_index(text.as_bytes()), *expected)));
+        expect_row(&rt, row, same(read_index(text.as_bytes()), *expected));
     }
 }
 
@@ -56,7 +57,7 @@ fn only_lower_case_digits_are_plain(rt: HostRuntime) {
         ("0000000f", Some(15)),
     ];
     for (row, (text, expected)) in ROWS.iter().enumerate() {
-        assert!(rt; holds(&rt, row, is_plain(text.as_bytes(), *expected)));
+        expect_row(&rt, row, is_plain(text.as_bytes(), *expected));
     }
 }
 
@@ -102,11 +103,11 @@ fn one_to_sixteen_digits_are_read(rt: HostRuntime) {
     for row in 0..16usize {
         let digits = &text[..row + 1];
         let number = NUMBERS[row];
-        assert!(rt; holds(&rt, row, same(read_index(digits), Ok(number))));
-        assert!(rt; holds(&rt, row, is_plain(digits, (row >= 7).then_some(number))));
-        assert!(rt; holds(&rt, row, has_bytes(number, digits)));
+        expect_row(&rt, row, same(read_index(digits), Ok(number)));
+        expect_row(&rt, row, is_plain(digits, (row >= 7).then_some(number)));
+        expect_row(&rt, row, has_bytes(number, digits));
     }
-    assert!(rt; has_bytes(0, b"0"));
+    expect(&rt, "0", has_bytes(0, b"0"));
 }
 
 /// Whether a text with another byte at a place is refused. The bytes are those right below and
@@ -130,7 +131,7 @@ fn are_refused_at(rt: &HostRuntime, place: usize) -> bool {
 #[test]
 fn bytes_beside_the_digits_are_refused(rt: HostRuntime) {
     for place in 0..15usize {
-        assert!(rt; holds(&rt, place, are_refused_at(&rt, place)));
+        expect_row(&rt, place, are_refused_at(&rt, place));
     }
 }
 
@@ -143,7 +144,7 @@ fn indexes_are_written(rt: HostRuntime) {
         (u64::MAX, "ffffffffffffffff"),
     ];
     for (row, (index, text)) in ROWS.iter().enumerate() {
-        assert!(rt; holds(&rt, row, write_index(*index).as_str() == *text));
+        expect_row(&rt, row, write_index(*index).as_str() == *text);
     }
 }
 
@@ -154,9 +155,17 @@ fn cells_and_edges_are_displayed(rt: HostRuntime) -> Result<(), AllocError> {
         panic!(rt; "no edge")
     };
     let text = format!(in rt.alloc(); "{cell} {edge}")?;
-    assert!(rt; text.as_str() == "85283473fffffff 115283473fffffff");
+    expect(
+        &rt,
+        "a cell and an edge",
+        text.as_str() == "85283473fffffff 115283473fffffff",
+    );
     let padded = format!(in rt.alloc(); "{cell:>17}|{edge:<18}|")?;
-    assert!(rt; padded.as_str() == "  85283473fffffff|115283473fffffff  |");
+    expect(
+        &rt,
+        "padded",
+        padded.as_str() == "  85283473fffffff|115283473fffffff  |",
+    );
     Ok(())
 }
 
@@ -174,7 +183,7 @@ fn cells_are_parsed(rt: HostRuntime) {
         ("115283473fffffff", Err(H3Error::CellInvalid)),
     ];
     for (row, (text, expected)) in ROWS.iter().enumerate() {
-        assert!(rt; holds(&rt, row, same(parsed_cell(text), *expected)));
+        expect_row(&rt, row, same(parsed_cell(text), *expected));
     }
 }
 
@@ -190,7 +199,7 @@ fn edges_are_parsed(rt: HostRuntime) {
         ("85283473fffffff", Err(H3Error::DirEdgeInvalid)),
     ];
     for (row, (text, expected)) in ROWS.iter().enumerate() {
-        assert!(rt; holds(&rt, row, same(parsed_edge(text), *expected)));
+        expect_row(&rt, row, same(parsed_edge(text), *expected));
     }
 }
 
@@ -219,7 +228,7 @@ fn lines_are_put_one_after_another(rt: HostRuntime) {
     let mut bytes = [b'.'; 20];
     for (row, (raw, text)) in ROWS.iter().enumerate() {
         let end = put_cell_line(cell(&rt, *raw), &mut bytes, 3);
-        assert!(rt; holds(&rt, row, &bytes[..end] == text.as_bytes()));
+        expect_row(&rt, row, &bytes[..end] == text.as_bytes());
     }
 }
 
@@ -261,7 +270,7 @@ fn the_lines_of_children_are_put_together(rt: HostRuntime) {
     let mut bytes = [b'.'; 116];
     for (row, (raw, text)) in ROWS.iter().enumerate() {
         let parent = cell(&rt, *raw);
-        assert!(rt; holds(&rt, row, puts_children(&mut bytes, parent, text)));
+        expect_row(&rt, row, puts_children(&mut bytes, parent, text));
     }
 }
 
@@ -276,6 +285,6 @@ fn texts_of_blanks_alone_are_blank(rt: HostRuntime) {
         ("8 ", false),
     ];
     for (row, (text, expected)) in ROWS.iter().enumerate() {
-        assert!(rt; holds(&rt, row, is_blank_text(text.as_bytes()) == *expected));
+        expect_row(&rt, row, is_blank_text(text.as_bytes()) == *expected);
     }
 }

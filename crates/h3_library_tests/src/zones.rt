@@ -2,6 +2,7 @@
 
 ghost use Rattle.std.specs.Prelude.{◌≡◌, ◌+◌, ◌≤◌, length, sum};
 
+use crate::expected::expect_row;
 use crate::rows::{cell, is_list};
 use h3_fakes::holds;
 use h3_index::Cell;
@@ -202,7 +203,7 @@ fn are_near_all(rt: &HostRuntime, list: &[u64], rows: &[Row; SIZE]) -> bool {
 fn zones_are_found_near_a_place(rt: HostRuntime) {
     for (row, list) in LISTS.iter().enumerate() {
         for step in STEPS {
-            assert!(rt; holds(&rt, row, are_near_all(&rt, list, &rows_of(&rt, list, step))));
+            expect_row(&rt, row, are_near_all(&rt, list, &rows_of(&rt, list, step)));
         }
     }
 }
@@ -306,7 +307,7 @@ fn zones_are_found_by_tables(rt: HostRuntime) {
         for table in TABLES {
             for step in STEPS {
                 let rows = rows_of(&rt, list, step);
-                assert!(rt; holds(&rt, row, are_indexed(&rt, list, table, &rows)));
+                expect_row(&rt, row, are_indexed(&rt, list, table, &rows));
             }
         }
     }
@@ -392,7 +393,7 @@ fn are_taken(rt: &HostRuntime, list: &[u64], rows: &[Row; SIZE]) -> bool {
 fn cells_are_counted_one_by_one(rt: HostRuntime) {
     for (row, list) in LISTS.iter().enumerate() {
         for step in STEPS {
-            assert!(rt; holds(&rt, row, are_taken(&rt, list, &rows_of(&rt, list, step))));
+            expect_row(&rt, row, are_taken(&rt, list, &rows_of(&rt, list, step)));
         }
     }
 }
@@ -411,6 +412,6 @@ fn zones_stand_in_the_order_of_their_numbers(rt: HostRuntime) {
     for (row, (list, expected)) in LISTS.iter().zip(&BY_NUMBER).enumerate() {
         let mut slots = [Cell::in_base(0); MOST];
         let given = put(&mut slots, list);
-        assert!(rt; holds(&rt, row, are_ordered(&rt, &mut slots[..given], expected)));
+        expect_row(&rt, row, are_ordered(&rt, &mut slots[..given], expected));
     }
 }
