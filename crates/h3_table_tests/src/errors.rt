@@ -1,7 +1,8 @@
 //! The errors of the library: their numbers, their names, their texts, and which are equal.
 
+use crate::expected::{expect, expect_row};
 use h3_directions::{Direction, TableError};
-use h3_fakes::{differ, holds};
+use h3_fakes::differ;
 use h3_index::H3Error;
 use h3_streams::StreamFault;
 use std::alloc::AllocError;
@@ -58,7 +59,7 @@ static ERRORS: [(H3Error, u8, &str, &str); 10] = [
 #[test]
 fn errors_have_their_numbers_and_names(rt: HostRuntime) {
     for (row, (error, number, name, _)) in ERRORS.iter().enumerate() {
-        assert!(rt; holds(&rt, row, error.number() == *number && error.name() == *name));
+        expect_row(&rt, row, error.number() == *number && error.name() == *name);
     }
 }
 
@@ -66,10 +67,10 @@ fn errors_have_their_numbers_and_names(rt: HostRuntime) {
 fn errors_have_texts(rt: HostRuntime) -> Result<(), AllocError> {
     for (row, (error, _, _, text)) in ERRORS.iter().enumerate() {
         let shown = format!(in rt.alloc(); "{error}")?;
-        assert!(rt; holds(&rt, row, shown.as_str() == *text));
+        expect_row(&rt, row, shown.as_str() == *text);
     }
     let shown = format!(in rt.alloc(); "{}", StreamFault)?;
-    assert!(rt; shown.as_str() == "the stream failed");
+    expect(&rt, "StreamFault", shown.as_str() == "the stream failed");
     Ok(())
 }
 
@@ -87,7 +88,7 @@ fn only_the_same_errors_are_equal(rt: HostRuntime) {
         H3Error::ResMismatch,
         H3Error::MemoryAlloc,
     ];
-    assert!(rt; differ(&rt, &VALUES));
+    expect(&rt, "errors of the library", differ(&rt, &VALUES));
 }
 
 #[test]
@@ -120,7 +121,7 @@ fn table_errors_have_texts(rt: HostRuntime) -> Result<(), AllocError> {
     ];
     for (row, (error, text)) in ROWS.iter().enumerate() {
         let shown = format!(in rt.alloc(); "{error}")?;
-        assert!(rt; holds(&rt, row, shown.as_str() == *text));
+        expect_row(&rt, row, shown.as_str() == *text);
     }
     Ok(())
 }
@@ -146,5 +147,5 @@ fn only_the_same_table_errors_are_equal(rt: HostRuntime) {
         TableError::Corner(1, Direction::J),
         TableError::Corner(2, Direction::K),
     ];
-    assert!(rt; differ(&rt, &VALUES));
+    expect(&rt, "errors of tables", differ(&rt, &VALUES));
 }

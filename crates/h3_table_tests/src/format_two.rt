@@ -1,8 +1,8 @@
 //! Files of base cell tables in format 2.
 
+use crate::expected::{expect, expect_row};
 use crate::table::{ends, has_link, has_links, is_refused, read};
 use h3_directions::{DIRECTIONS, Direction, TableError};
-use h3_fakes::holds;
 use h3_index::is_pentagon_base;
 use h3_table::vectors::{TestTable, link};
 use std::alloc::{AllocError, Global};
@@ -63,10 +63,10 @@ fn file_of(alloc: Global, table: TestTable) -> Result<String, AllocError> {
 fn sound_tables_are_accepted(rt: HostRuntime) -> Result<(), AllocError> {
     for table in [TestTable::Plain, TestTable::Twisted] {
         let records = records(rt.alloc(), table)?;
-        assert!(rt; records.len() == 110);
+        expect(&rt, "110 records", records.len() == 110);
         for (row, end) in ["\n", "\r\n", "\r", "\n\n"].iter().enumerate() {
             let text = text_of(rt.alloc(), &records, end)?;
-            assert!(rt; holds(&rt, row, has_links(&rt, &text, table)));
+            expect_row(&rt, row, has_links(&rt, &text, table));
         }
     }
     Ok(())
@@ -84,14 +84,18 @@ fn links_are_those_of_worked_records(rt: HostRuntime) -> Result<(), AllocError> 
     ];
     let plain = file_of(rt.alloc(), TestTable::Plain)?;
     let first = format!(in rt.alloc(); "{HEADER}{FIRST}1,111,")?;
-    assert!(rt; plain.starts_with(first.as_str()));
+    expect(&rt, "the first record", plain.starts_with(first.as_str()));
     let twisted = file_of(rt.alloc(), TestTable::Twisted)?;
-    assert!(rt; twisted.contains("\n30,18,41,29,31,19,42,0,5,5,1,1,0\n"));
+    expect(
+        &rt,
+        "the record of base cell 30",
+        twisted.contains("\n30,18,41,29,31,19,42,0,5,5,1,1,0\n"),
+    );
     let Ok(table) = read(rt.alloc(), &twisted) else {
         panic!(rt; "it is refused")
     };
     for (row, (direction, to, turns)) in LINKS.iter().enumerate() {
-        assert!(rt; holds(&rt, row, has_link(&table, 30, *direction, *to, *turns)));
+        expect_row(&rt, row, has_link(&table, 30, *direction, *to, *turns));
     }
     Ok(())
 }
@@ -101,7 +105,7 @@ fn records_come_in_any_order(rt: HostRuntime) -> Result<(), AllocError> {
     let mut records = records(rt.alloc(), TestTable::Twisted)?;
     records.reverse();
     let text = text_of(rt.alloc(), &records, "\n")?;
-    assert!(rt; has_links(&rt, &text, TestTable::Twisted));
+    expect(&rt, "twisted", has_links(&rt, &text, TestTable::Twisted));
     Ok(())
 }
 
@@ -128,7 +132,7 @@ fn padded_file(alloc: Global) -> Result<String, AllocError> {
 #[test]
 fn marks_quotes_and_zeros_are_let_through(rt: HostRuntime) -> Result<(), AllocError> {
     let padded = padded_file(rt.alloc())?;
-    assert!(rt; has_links(&rt, &padded, TestTable::Plain));
+    expect(&rt, "padded", has_links(&rt, &padded, TestTable::Plain));
     Ok(())
 }
 
@@ -144,15 +148,23 @@ fn headers_are_exact(rt: HostRuntime) {
     ];
     for (row, text) in HEADERS.iter().enumerate() {
         let read = read(rt.alloc(), text);
-        assert!(rt; holds(&rt, row, ends(read, Some(TableError::Form(1)))));
+        expect_row(&rt, row, ends(read, Some(TableError::Form(1))));
     }
 }
 
 #[test]
 fn each_header_wants_its_own_records(rt: HostRuntime) -> Result<(), AllocError> {
     let alloc = rt.alloc();
-    assert!(rt; is_refused(alloc, "base,dir,to,rot\n", FIRST, TableError::Form(2))?);
-    assert!(rt; is_refused(alloc, HEADER, "0,1,110,0\n", TableError::Form(2))?);
+    expect(
+        &rt,
+        "another header",
+        is_refused(alloc, "base,dir,to,rot\n", FIRST, TableError::Form(2))?,
+    );
+    expect(
+        &rt,
+        "another record",
+        is_refused(alloc, HEADER, "0,1,110,0\n", TableError::Form(2))?,
+    );
     Ok(())
 }
 
@@ -182,7 +194,7 @@ fn the_first_faulty_record_decides(rt: HostRuntime) -> Result<(), AllocError> {
     ];
     for (row, (rest, error)) in ROWS.iter().enumerate() {
         let is_refused = is_refused(rt.alloc(), HEADER, rest, *error)?;
-        assert!(rt; holds(&rt, row, is_refused));
+        expect_row(&rt, row, is_refused);
     }
     Ok(())
 }
@@ -210,7 +222,7 @@ fn a_faulty_second_record_decides(rt: HostRuntime) -> Result<(), AllocError> {
     ];
     for (row, (rest, error)) in ROWS.iter().enumerate() {
         let is_refused = is_refused(rt.alloc(), HEADER, rest, *error)?;
-        assert!(rt; holds(&rt, row, is_refused));
+        expect_row(&rt, row, is_refused);
     }
     Ok(())
 }
@@ -219,10 +231,18 @@ fn a_faulty_second_record_decides(rt: HostRuntime) -> Result<(), AllocError> {
 fn a_missing_or_repeated_record_is_refused(rt: HostRuntime) -> Result<(), AllocError> {
     let mut records = records(rt.alloc(), TestTable::Plain)?;
     let plain = text_of(rt.alloc(), &records, "\n")?;
-    assert!(rt; is_refused(rt.alloc(), &plain, FIRST, TableError::Repeated(112))?);
+    expect(
+        &rt,
+        "a record too many",
+        is_refused(rt.alloc(), &plain, FIRST, TableError::Repeated(112))?,
+    );
     let _ = records.pop();
     let short = text_of(rt.alloc(), &records, "\n")?;
-    assert!(rt; ends(read(rt.alloc(), &short), Some(TableError::Missing)));
+    expect(
+        &rt,
+        "a record too few",
+        ends(read(rt.alloc(), &short), Some(TableError::Missing)),
+    );
     Ok(())
 }
 
@@ -255,15 +275,17 @@ fn the_first_check_that_fails_decides(rt: HostRuntime) -> Result<(), AllocError>
         ),
     ];
     let skew = file_of(rt.alloc(), TestTable::Skew)?;
-    assert!(rt;
+    expect(
+        &rt,
+        "skew",
         ends(
             read(rt.alloc(), &skew),
-            Some(TableError::Corner(0, Direction::K))
-        )
+            Some(TableError::Corner(0, Direction::K)),
+        ),
     );
     for (row, (change, error)) in ROWS.iter().enumerate() {
         let is_refused = is_refused_with(rt.alloc(), change, *error)?;
-        assert!(rt; holds(&rt, row, is_refused));
+        expect_row(&rt, row, is_refused);
     }
     Ok(())
 }

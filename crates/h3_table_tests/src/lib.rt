@@ -5,6 +5,8 @@
 #[cfg(test)]
 mod errors;
 #[cfg(test)]
+mod expected;
+#[cfg(test)]
 mod format_two;
 #[cfg(test)]
 mod streams;

@@ -2,6 +2,7 @@
 
 ghost use Rattle.std.specs.Prelude.{◌≤◌, IfOk};
 
+use crate::expected::{expect, expect_row};
 use h3_fakes::holds;
 use h3_streams::{CountedReader, Sink, Source, StreamFault, Streamed};
 use std::alloc::AllocError;
@@ -19,20 +20,24 @@ fn moves(found: Result<usize, StreamFault>, expected: usize) -> bool {
 fn a_streamed_reader_is_read(rt: HostRuntime) {
     let mut source = Streamed::new(b"abc".as_slice());
     let mut page = [0; 2];
-    assert!(rt; moves(source.pull(&mut page), 2));
-    assert!(rt; page == *b"ab");
-    assert!(rt; moves(source.pull(&mut page), 1));
-    assert!(rt; moves(source.pull(&mut page), 0));
-    assert!(rt; !source.failed());
+    expect(&rt, "two bytes", moves(source.pull(&mut page), 2));
+    expect(&rt, "which two", page == *b"ab");
+    expect(&rt, "one byte", moves(source.pull(&mut page), 1));
+    expect(&rt, "the end", moves(source.pull(&mut page), 0));
+    expect(&rt, "no failure", !source.failed());
 }
 
 #[test]
 fn a_streamed_writer_is_written(rt: HostRuntime) {
     let mut sink = Streamed::new(Vec::new(rt.alloc()));
-    assert!(rt; moves(sink.push(b"abc"), 3));
-    assert!(rt; sink.flush().is_ok());
-    assert!(rt; !sink.failed());
-    assert!(rt; sink.into_inner().as_slice() == b"abc".as_slice());
+    expect(&rt, "push", moves(sink.push(b"abc"), 3));
+    expect(&rt, "flush", sink.flush().is_ok());
+    expect(&rt, "no failure", !sink.failed());
+    expect(
+        &rt,
+        "what was pushed",
+        sink.into_inner().as_slice() == b"abc".as_slice(),
+    );
 }
 
 /// A reader and writer that counts its calls, and what they were handed.
@@ -159,22 +164,30 @@ fn flushed(mut stream: Streamed<Counting>) -> Outcome {
 fn each_call_is_handed_on_once(rt: HostRuntime) {
     for (row, length) in LENGTHS.iter().enumerate() {
         let good = stream_with(1, u32::MAX, LONG);
-        assert!(rt; holds(&rt, row, pulled(good, *length).is_good(false, 1, *length)));
+        expect_row(&rt, row, pulled(good, *length).is_good(false, 1, *length));
         let good = stream_with(1, u32::MAX, LONG);
-        assert!(rt; holds(&rt, row, pushed(good, *length).is_good(false, 1, *length)));
+        expect_row(&rt, row, pushed(good, *length).is_good(false, 1, *length));
     }
-    assert!(rt; flushed(stream_with(1, u32::MAX, LONG)).is_good(false, 1, 0));
+    expect(
+        &rt,
+        "flush",
+        flushed(stream_with(1, u32::MAX, LONG)).is_good(false, 1, 0),
+    );
 }
 
 #[test]
 fn a_failure_is_returned_and_kept(rt: HostRuntime) {
     for (row, length) in LENGTHS.iter().enumerate() {
         let bad = stream_with(0, u32::MAX, LONG);
-        assert!(rt; holds(&rt, row, pulled(bad, *length).is_bad(1, *length)));
+        expect_row(&rt, row, pulled(bad, *length).is_bad(1, *length));
         let bad = stream_with(0, u32::MAX, LONG);
-        assert!(rt; holds(&rt, row, pushed(bad, *length).is_bad(1, *length)));
+        expect_row(&rt, row, pushed(bad, *length).is_bad(1, *length));
     }
-    assert!(rt; flushed(stream_with(0, u32::MAX, LONG)).is_bad(1, 0));
+    expect(
+        &rt,
+        "flush",
+        flushed(stream_with(0, u32::MAX, LONG)).is_bad(1, 0),
+    );
 }
 
 /// Whether a pull after a failed one is handed on once.
@@ -198,23 +211,31 @@ fn flushes_after_failure() -> bool {
 #[test]
 fn a_call_after_a_failed_one_is_handed_on_once(rt: HostRuntime) {
     for (row, length) in LENGTHS.iter().enumerate() {
-        assert!(rt; holds(&rt, row, pulls_after_failure(*length)));
-        assert!(rt; holds(&rt, row, pushes_after_failure(*length)));
+        expect_row(&rt, row, pulls_after_failure(*length));
+        expect_row(&rt, row, pushes_after_failure(*length));
     }
-    assert!(rt; flushes_after_failure());
+    expect(&rt, "flush", flushes_after_failure());
 }
 
 #[test]
 fn a_call_that_moves_no_byte(rt: HostRuntime) {
     // for a reader it is the end
     let at_end = pulled(stream_with(1, u32::MAX, 0), LONG);
-    assert!(rt; matches!(at_end.moved, Some(0)) && !at_end.failed && at_end.calls == 1);
+    expect(
+        &rt,
+        "the end",
+        matches!(at_end.moved, Some(0)) && !at_end.failed && at_end.calls == 1,
+    );
 
     // for a writer it is a failure, unless there was none to write
     let mut pushed_none = stream_with(2, u32::MAX, 0);
-    assert!(rt; moves(pushed_none.push(b""), 0));
-    assert!(rt; !pushed_none.failed());
-    assert!(rt; pushed(pushed_none, 3).is_bad(2, 3));
+    expect(&rt, "no byte is pushed", moves(pushed_none.push(b""), 0));
+    expect(&rt, "no failure", !pushed_none.failed());
+    expect(
+        &rt,
+        "none of three bytes is pushed",
+        pushed(pushed_none, 3).is_bad(2, 3),
+    );
 }
 
 #[test]
@@ -223,22 +244,30 @@ fn a_read_past_the_limit_is_not_made(rt: HostRuntime) {
     let mut source = Streamed::new(b"abcd".as_slice());
     let mut reader = CountedReader::new(&mut source, 3);
     for byte in *b"abc" {
-        assert!(rt; moves(reader.read(&mut page), 1) && page[0] == byte);
+        expect(
+            &rt,
+            "a byte",
+            moves(reader.read(&mut page), 1) && page[0] == byte,
+        );
     }
-    assert!(rt; reader.read(&mut page).is_err());
-    assert!(rt; reader.reads_left() == 0);
-    assert!(rt; !source.failed());
-    assert!(rt; moves(source.pull(&mut page), 1) && page[0] == b'd');
+    expect(&rt, "no read is left", reader.read(&mut page).is_err());
+    expect(&rt, "reads left", reader.reads_left() == 0);
+    expect(&rt, "no failure", !source.failed());
+    expect(
+        &rt,
+        "the next byte",
+        moves(source.pull(&mut page), 1) && page[0] == b'd',
+    );
 }
 
 #[test]
 fn the_end_and_empty_pages_are_read(rt: HostRuntime) {
     let mut source = Streamed::new(b"a".as_slice());
     let mut reader = CountedReader::new(&mut source, 3);
-    assert!(rt; moves(reader.read(&mut []), 0));
-    assert!(rt; moves(reader.read(&mut [0; 2]), 1));
-    assert!(rt; moves(reader.read(&mut [0; 2]), 0));
-    assert!(rt; reader.reads_left() == 0);
+    expect(&rt, "none into no room", moves(reader.read(&mut []), 0));
+    expect(&rt, "one byte", moves(reader.read(&mut [0; 2]), 1));
+    expect(&rt, "the end", moves(reader.read(&mut [0; 2]), 0));
+    expect(&rt, "reads left", reader.reads_left() == 0);
 }
 
 /// Two pages, a part of one, and the end are four reads.
@@ -247,11 +276,23 @@ fn bytes_are_read_to_their_end(rt: HostRuntime) {
     let mut page = [0; 2];
     let mut source = Streamed::new(b"abcde".as_slice());
     let mut reader = CountedReader::new(&mut source, 4);
-    assert!(rt; moves(reader.read(&mut page), 2) && page == *b"ab");
-    assert!(rt; moves(reader.read(&mut page), 2) && page == *b"cd");
-    assert!(rt; moves(reader.read(&mut page), 1) && page[0] == b'e');
-    assert!(rt; moves(reader.read(&mut page), 0));
-    assert!(rt; reader.reads_left() == 0);
+    expect(
+        &rt,
+        "the first page",
+        moves(reader.read(&mut page), 2) && page == *b"ab",
+    );
+    expect(
+        &rt,
+        "the second page",
+        moves(reader.read(&mut page), 2) && page == *b"cd",
+    );
+    expect(
+        &rt,
+        "a part of a page",
+        moves(reader.read(&mut page), 1) && page[0] == b'e',
+    );
+    expect(&rt, "the end", moves(reader.read(&mut page), 0));
+    expect(&rt, "reads left", reader.reads_left() == 0);
 }
 
 /// Whether of three reads the one after some good ones is a fault. A fourth read is not made.
@@ -291,6 +332,6 @@ fn is_asked_whole(length: usize) -> bool {
 #[test]
 fn a_page_is_asked_for_whole(rt: HostRuntime) {
     for (row, length) in LENGTHS.iter().enumerate() {
-        assert!(rt; holds(&rt, row, is_asked_whole(*length)));
+        expect_row(&rt, row, is_asked_whole(*length));
     }
 }

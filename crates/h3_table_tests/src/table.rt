@@ -1,5 +1,6 @@
 //! Base cell tables, and their files in format 1.
 
+use crate::expected::{expect, expect_row};
 use h3_directions::{DIRECTIONS, Direction, TableError};
 use h3_fakes::{Faults, FaultySource, holds};
 use h3_index::is_pentagon_base;
@@ -99,18 +100,18 @@ pub fn is_refused(
 /// 732 links of two bytes each, and no address of anything else.
 #[test]
 fn a_table_holds_links_alone(rt: HostRuntime) {
-    assert!(rt; size_of::<BaseTable>() == 1464);
-    assert!(rt; align_of::<BaseTable>() == 1);
+    expect(&rt, "size", size_of::<BaseTable>() == 1464);
+    expect(&rt, "alignment", align_of::<BaseTable>() == 1);
 }
 
 #[test]
 fn sound_tables_are_accepted(rt: HostRuntime) -> Result<(), AllocError> {
     for table in [TestTable::Plain, TestTable::Twisted] {
         let records = records(rt.alloc(), table)?;
-        assert!(rt; records.len() == 660);
+        expect(&rt, "660 records", records.len() == 660);
         for (row, end) in ["\n", "\r\n", "\r", "\n\n"].iter().enumerate() {
             let text = text_of(rt.alloc(), &records, end)?;
-            assert!(rt; holds(&rt, row, has_links(&rt, &text, table)));
+            expect_row(&rt, row, has_links(&rt, &text, table));
         }
     }
     Ok(())
@@ -131,8 +132,16 @@ fn bytes_are_read_as_sources_are(rt: HostRuntime) -> Result<(), AllocError> {
     let Ok(table) = BaseTable::from_csv(rt.alloc(), plain.as_bytes()) else {
         panic!(rt; "it is refused")
     };
-    assert!(rt; has_link(&table, 0, Direction::K, 110, 0));
-    assert!(rt; has_link(&table, 121, Direction::IJ, 11, 0));
+    expect(
+        &rt,
+        "the first link",
+        has_link(&table, 0, Direction::K, 110, 0),
+    );
+    expect(
+        &rt,
+        "the last link",
+        has_link(&table, 121, Direction::IJ, 11, 0),
+    );
     let skew = file_of(rt.alloc(), TestTable::Skew)?;
     let rows = [
         ("", TableError::Form(1)),
@@ -142,7 +151,7 @@ fn bytes_are_read_as_sources_are(rt: HostRuntime) -> Result<(), AllocError> {
     ];
     for (row, (file, error)) in rows.iter().enumerate() {
         let read = BaseTable::from_csv(rt.alloc(), file.as_bytes());
-        assert!(rt; holds(&rt, row, ends(read, Some(*error))));
+        expect_row(&rt, row, ends(read, Some(*error)));
     }
     Ok(())
 }
@@ -165,21 +174,37 @@ fn is_closed(table: &BaseTable, base: u8) -> bool {
 fn a_closed_table_leads_to_pentagons(rt: HostRuntime) {
     let table = BaseTable::closed();
     for base in 0..122u8 {
-        assert!(rt; holds(&rt, usize::from(base), is_closed(&table, base)));
+        expect_row(&rt, usize::from(base), is_closed(&table, base));
     }
 }
 
 #[test]
 fn links_are_those_of_worked_records(rt: HostRuntime) -> Result<(), AllocError> {
     let plain = file_of(rt.alloc(), TestTable::Plain)?;
-    assert!(rt; plain.starts_with("base,dir,to,rot\n0,1,110,0\n0,2,11,0\n"));
+    expect(
+        &rt,
+        "plain",
+        plain.starts_with("base,dir,to,rot\n0,1,110,0\n0,2,11,0\n"),
+    );
     let twisted = file_of(rt.alloc(), TestTable::Twisted)?;
-    assert!(rt; twisted.starts_with("base,dir,to,rot\n0,1,110,2\n0,2,11,5\n"));
+    expect(
+        &rt,
+        "twisted",
+        twisted.starts_with("base,dir,to,rot\n0,1,110,2\n0,2,11,5\n"),
+    );
     let Ok(table) = read(rt.alloc(), &twisted) else {
         panic!(rt; "it is refused")
     };
-    assert!(rt; has_link(&table, 30, Direction::I, 31, 1));
-    assert!(rt; has_link(&table, 31, Direction::K, 30, 5));
+    expect(
+        &rt,
+        "from 30 to 31",
+        has_link(&table, 30, Direction::I, 31, 1),
+    );
+    expect(
+        &rt,
+        "from 31 to 30",
+        has_link(&table, 31, Direction::K, 30, 5),
+    );
     Ok(())
 }
 
@@ -188,7 +213,7 @@ fn records_come_in_any_order(rt: HostRuntime) -> Result<(), AllocError> {
     let mut records = records(rt.alloc(), TestTable::Plain)?;
     records.reverse();
     let text = text_of(rt.alloc(), &records, "\n")?;
-    assert!(rt; has_links(&rt, &text, TestTable::Plain));
+    expect(&rt, "plain", has_links(&rt, &text, TestTable::Plain));
     Ok(())
 }
 
@@ -196,7 +221,7 @@ fn records_come_in_any_order(rt: HostRuntime) -> Result<(), AllocError> {
 fn a_byte_order_mark_is_let_through(rt: HostRuntime) -> Result<(), AllocError> {
     let plain = file_of(rt.alloc(), TestTable::Plain)?;
     let marked = format!(in rt.alloc(); "\u{feff}{plain}")?;
-    assert!(rt; has_links(&rt, &marked, TestTable::Plain));
+    expect(&rt, "marked", has_links(&rt, &marked, TestTable::Plain));
     Ok(())
 }
 
@@ -223,8 +248,16 @@ fn padded_file(alloc: Global) -> Result<String, AllocError> {
 /// Numbers have one to three digits.
 #[test]
 fn quotes_and_zeros_are_let_through(rt: HostRuntime) -> Result<(), AllocError> {
-    assert!(rt; has_links(&rt, &quoted_file(rt.alloc())?, TestTable::Plain));
-    assert!(rt; has_links(&rt, &padded_file(rt.alloc())?, TestTable::Plain));
+    expect(
+        &rt,
+        "quoted",
+        has_links(&rt, &quoted_file(rt.alloc())?, TestTable::Plain),
+    );
+    expect(
+        &rt,
+        "padded",
+        has_links(&rt, &padded_file(rt.alloc())?, TestTable::Plain),
+    );
     Ok(())
 }
 
@@ -234,9 +267,13 @@ fn blank_lines_are_let_through(rt: HostRuntime) -> Result<(), AllocError> {
     for _line in 0..20_000 {
         long.push('\n')?;
     }
-    assert!(rt; has_links(&rt, &long, TestTable::Plain));
+    expect(&rt, "long", has_links(&rt, &long, TestTable::Plain));
     long.push_str("0,1,110,0\n")?;
-    assert!(rt; ends(read(rt.alloc(), &long), Some(TableError::Repeated(662))));
+    expect(
+        &rt,
+        "a record too many",
+        ends(read(rt.alloc(), &long), Some(TableError::Repeated(662))),
+    );
     Ok(())
 }
 
@@ -253,7 +290,7 @@ fn headers_are_exact(rt: HostRuntime) {
     ];
     for (row, text) in HEADERS.iter().enumerate() {
         let read = read(rt.alloc(), text);
-        assert!(rt; holds(&rt, row, ends(read, Some(TableError::Form(1)))));
+        expect_row(&rt, row, ends(read, Some(TableError::Form(1))));
     }
 }
 
@@ -282,7 +319,7 @@ fn the_first_faulty_record_decides(rt: HostRuntime) -> Result<(), AllocError> {
     ];
     for (row, (rest, error)) in ROWS.iter().enumerate() {
         let is_refused = is_refused(rt.alloc(), HEADER, rest, *error)?;
-        assert!(rt; holds(&rt, row, is_refused));
+        expect_row(&rt, row, is_refused);
     }
     Ok(())
 }
@@ -291,10 +328,18 @@ fn the_first_faulty_record_decides(rt: HostRuntime) -> Result<(), AllocError> {
 fn a_missing_or_repeated_record_is_refused(rt: HostRuntime) -> Result<(), AllocError> {
     let mut records = records(rt.alloc(), TestTable::Plain)?;
     let plain = text_of(rt.alloc(), &records, "\n")?;
-    assert!(rt; is_refused(rt.alloc(), &plain, "0,1,110,0\n", TableError::Repeated(662))?);
+    expect(
+        &rt,
+        "a record too many",
+        is_refused(rt.alloc(), &plain, "0,1,110,0\n", TableError::Repeated(662))?,
+    );
     let _ = records.pop();
     let short = text_of(rt.alloc(), &records, "\n")?;
-    assert!(rt; ends(read(rt.alloc(), &short), Some(TableError::Missing)));
+    expect(
+        &rt,
+        "a record too few",
+        ends(read(rt.alloc(), &short), Some(TableError::Missing)),
+    );
     Ok(())
 }
 
@@ -332,15 +377,17 @@ fn the_first_check_that_fails_decides(rt: HostRuntime) -> Result<(), AllocError>
         ([121, 6, 10, 0], TableError::Neighbours(121)),
     ];
     let skew = file_of(rt.alloc(), TestTable::Skew)?;
-    assert!(rt;
+    expect(
+        &rt,
+        "skew",
         ends(
             read(rt.alloc(), &skew),
-            Some(TableError::Corner(0, Direction::K))
-        )
+            Some(TableError::Corner(0, Direction::K)),
+        ),
     );
     for (row, (change, error)) in ROWS.iter().enumerate() {
         let is_refused = is_refused_with(rt.alloc(), &[*change], *error)?;
-        assert!(rt; holds(&rt, row, is_refused));
+        expect_row(&rt, row, is_refused);
     }
     Ok(())
 }
@@ -363,9 +410,17 @@ fn corners_are_checked_at_every_base_cell(rt: HostRuntime) -> Result<(), AllocEr
         [115, 3, 108, 0],
     ];
     let first = TableError::Corner(39, Direction::IJ);
-    assert!(rt; is_refused_with(rt.alloc(), &EXCHANGED, first)?);
+    expect(
+        &rt,
+        "the first corner",
+        is_refused_with(rt.alloc(), &EXCHANGED, first)?,
+    );
     let later = TableError::Corner(103, Direction::IJ);
-    assert!(rt; is_refused_with(rt.alloc(), &EXCHANGED_LATER, later)?);
+    expect(
+        &rt,
+        "a later corner",
+        is_refused_with(rt.alloc(), &EXCHANGED_LATER, later)?,
+    );
     Ok(())
 }
 
@@ -425,9 +480,13 @@ fn is_read_to_its_end(rt: &HostRuntime, text: &str, expected: Option<TableError>
 #[test]
 fn a_table_is_read_to_its_end_and_no_further(rt: HostRuntime) -> Result<(), AllocError> {
     let plain = file_of(rt.alloc(), TestTable::Plain)?;
-    assert!(rt; is_read_to_its_end(&rt, &plain, None));
+    expect(&rt, "plain", is_read_to_its_end(&rt, &plain, None));
     let faulty = format!(in rt.alloc(); "0{plain}")?;
-    assert!(rt; is_read_to_its_end(&rt, &faulty, Some(TableError::Form(1))));
+    expect(
+        &rt,
+        "faulty",
+        is_read_to_its_end(&rt, &faulty, Some(TableError::Form(1))),
+    );
     Ok(())
 }
 
@@ -462,9 +521,13 @@ fn fails_at_each_read(rt: &HostRuntime, file: &str, expected: Option<TableError>
 #[test]
 fn a_read_that_fails_is_a_read_fault_and_the_last_one(rt: HostRuntime) -> Result<(), AllocError> {
     let sound = file_of(rt.alloc(), TestTable::Plain)?;
-    assert!(rt; fails_at_each_read(&rt, &sound, None));
+    expect(&rt, "sound", fails_at_each_read(&rt, &sound, None));
     let malformed = format!(in rt.alloc(); "0{sound}")?;
-    assert!(rt; fails_at_each_read(&rt, &malformed, Some(TableError::Form(1))));
+    expect(
+        &rt,
+        "malformed",
+        fails_at_each_read(&rt, &malformed, Some(TableError::Form(1))),
+    );
     Ok(())
 }
 
@@ -472,8 +535,16 @@ fn a_read_that_fails_is_a_read_fault_and_the_last_one(rt: HostRuntime) -> Result
 fn a_table_is_read_byte_by_byte(rt: HostRuntime) -> Result<(), AllocError> {
     let sound = file_of(rt.alloc(), TestTable::Plain)?;
     let reads = sound.len() as u64 + 1;
-    assert!(rt; takes_reads(rt.alloc(), &sound, (1, reads), None, reads));
+    expect(
+        &rt,
+        "as many reads as it takes",
+        takes_reads(rt.alloc(), &sound, (1, reads), None, reads),
+    );
     let fault = Some(TableError::Read);
-    assert!(rt; takes_reads(rt.alloc(), &sound, (1, reads - 1), fault, reads));
+    expect(
+        &rt,
+        "one read less",
+        takes_reads(rt.alloc(), &sound, (1, reads - 1), fault, reads),
+    );
     Ok(())
 }
