@@ -1,5 +1,6 @@
 //! Lists of cells that are read from a source.
 
+use crate::expected::{expect, expect_row};
 use arrayvec::ArrayVec;
 use h3_fakes::{Faults, FaultySource};
 use h3_index::{Cell, H3Error};
@@ -91,7 +92,7 @@ static LISTS: [(&str, usize); 15] = [
 fn lists_are_read(rt: HostRuntime) {
     for (row, (text, count)) in LISTS.iter().enumerate() {
         let (cells, _) = CELLS.split_at((*count).min(2));
-        assert!(&rt; lists(rt.alloc(), text.as_bytes(), cells), "row {row}");
+        expect_row(&rt, row, lists(rt.alloc(), text.as_bytes(), cells));
     }
 }
 
@@ -118,7 +119,7 @@ static FAULTY: [(&str, H3Error); 15] = [
 #[test]
 fn the_first_faulty_line_decides(rt: HostRuntime) {
     for (text, error) in &FAULTY {
-        assert!(&rt; refuses(rt.alloc(), text.as_bytes(), *error), "{text}");
+        expect(&rt, text, refuses(rt.alloc(), text.as_bytes(), *error));
     }
 }
 
@@ -136,13 +137,21 @@ fn after(count: usize, front: u8, bytes: &[u8]) -> ArrayVec<u8, 128> {
 fn a_line_has_at_most_64_bytes(rt: HostRuntime) {
     let (one, _) = CELLS.split_at(1);
     let line = after(64, b' ', b"\n");
-    assert!(&rt; lists(rt.alloc(), &line, &[]));
+    expect(&rt, "64 blanks", lists(rt.alloc(), &line, &[]));
     let line = after(65, b' ', b"");
-    assert!(&rt; refuses(rt.alloc(), &line, H3Error::Failed));
+    expect(
+        &rt,
+        "65 blanks",
+        refuses(rt.alloc(), &line, H3Error::Failed),
+    );
     let line = after(49, b' ', b"85283473fffffff");
-    assert!(&rt; lists(rt.alloc(), &line, one));
+    expect(&rt, "49 blanks and a cell", lists(rt.alloc(), &line, one));
     let line = after(50, b' ', b"85283473fffffff\n");
-    assert!(&rt; refuses(rt.alloc(), &line, H3Error::Failed));
+    expect(
+        &rt,
+        "50 blanks and a cell",
+        refuses(rt.alloc(), &line, H3Error::Failed),
+    );
 }
 
 /// Whether a list of this line `count` times has as many of this cell.
@@ -167,7 +176,11 @@ fn repeats(alloc: Global, line: &[u8], count: usize, number: u64) -> bool {
 
 #[test]
 fn a_list_of_many_pages_is_read(rt: HostRuntime) {
-    assert!(&rt; repeats(rt.alloc(), b"85283473fffffff\r\n", 10000, 0x85283473fffffff));
+    expect(
+        &rt,
+        "10000 lines",
+        repeats(rt.alloc(), b"85283473fffffff\r\n", 10000, 0x85283473fffffff),
+    );
 }
 
 /// Lists, the bytes of a pull, the pull that fails, and whether this counts: no line before it is
@@ -190,7 +203,7 @@ const EIGHTS: &str = "8888888888888888888888888888888888888888888888888888888888
 
 #[test]
 fn a_read_fault_counts_before_a_faulty_line(rt: HostRuntime) {
-    assert!(&rt; EIGHTS.len() == 65);
+    expect(&rt, "65 digits", EIGHTS.len() == 65);
     for (row, (text, most, calls, counts)) in CUT.iter().enumerate() {
         let refusal = if *counts {
             RunError::Fault(Fault::Read)
@@ -198,7 +211,7 @@ fn a_read_fault_counts_before_a_faulty_line(rt: HostRuntime) {
             RunError::Error(AnswerError::Call(H3Error::Failed))
         };
         let refused = refuses_with(rt.alloc(), text.as_bytes(), *most, *calls, refusal);
-        assert!(&rt; refused, "row {row}");
+        expect_row(&rt, row, refused);
     }
 }
 
@@ -230,6 +243,6 @@ static IN_THREE_READS: [(&str, &str, Option<RunError>); 4] = [
 fn reads_past_the_limit_are_read_faults(rt: HostRuntime) {
     for (row, (list, left, error)) in IN_THREE_READS.iter().enumerate() {
         let right = ends_in_three(rt.alloc(), list.as_bytes(), left.as_bytes(), *error);
-        assert!(&rt; right, "row {row}");
+        expect_row(&rt, row, right);
     }
 }

@@ -1,5 +1,6 @@
 //! Lines that are written to a sink, by blocks.
 
+use crate::expected::expect;
 use h3_fakes::{Faults, FaultySink};
 use h3_index::{Cell, H3Error};
 use h3_lines::{AnswerError, Fault, RunError, write_lines, write_walk};
@@ -32,19 +33,43 @@ fn many_lines_go_out_by_blocks(rt: HostRuntime) {
     // 10 * 2 + 90 * 3 + 900 * 4 + 9000 * 5 + 4000 * 6 bytes, in blocks of at least 32096: two of
     // them, the rest, and a flush
     let mut out: FaultySink<72890> = FaultySink::new(131072, Faults::From(4));
-    assert!(&rt; write_lines(&mut out, 0..14000u64).is_ok());
-    assert!(&rt; out.bytes().len() == 72890 && have_numbers(out.bytes(), 14000));
+    expect(
+        &rt,
+        "a fault after the last call",
+        write_lines(&mut out, 0..14000u64).is_ok(),
+    );
+    expect(
+        &rt,
+        "all lines",
+        out.bytes().len() == 72890 && have_numbers(out.bytes(), 14000),
+    );
     let mut out: FaultySink<72890> = FaultySink::new(131072, Faults::From(3));
-    assert!(&rt; write_lines(&mut out, 0..14000u64) == Err(RunError::Fault(Fault::Write)));
+    expect(
+        &rt,
+        "a fault at the last call",
+        write_lines(&mut out, 0..14000u64) == Err(RunError::Fault(Fault::Write)),
+    );
 }
 
 #[test]
 fn lines_go_out_while_there_is_room(rt: HostRuntime) {
     // 10 * 2 + 90 * 3 + 900 * 4 + 7222 * 5 bytes
     let mut out: FaultySink<40000> = FaultySink::new(65536, Faults::From(4));
-    assert!(&rt; write_lines(&mut out, 0..14000u64) == Err(RunError::Fault(Fault::Write)));
-    assert!(&rt; out.bytes().len() == 40000);
-    assert!(&rt; out.bytes().starts_with(b"0\n1\n2\n") && out.bytes().ends_with(b"8221\n"));
+    expect(
+        &rt,
+        "no more room",
+        write_lines(&mut out, 0..14000u64) == Err(RunError::Fault(Fault::Write)),
+    );
+    expect(
+        &rt,
+        "as many bytes as there is room for",
+        out.bytes().len() == 40000,
+    );
+    expect(
+        &rt,
+        "the lines in room",
+        out.bytes().starts_with(b"0\n1\n2\n") && out.bytes().ends_with(b"8221\n"),
+    );
 }
 
 /// The cell of these walks.
@@ -66,15 +91,25 @@ fn walk_ends(calls: u64, refusal: RunError) -> bool {
 
 #[test]
 fn the_lines_of_a_walk_stand_before_its_error(rt: HostRuntime) {
-    assert!(&rt; walk_ends(2, RunError::Error(AnswerError::Call(H3Error::Pentagon))));
+    expect(
+        &rt,
+        "the error",
+        walk_ends(2, RunError::Error(AnswerError::Call(H3Error::Pentagon))),
+    );
     // the flush fails, and is reported in place of the error
-    assert!(&rt; walk_ends(1, RunError::Fault(Fault::Write)));
+    expect(
+        &rt,
+        "the fault in place of the error",
+        walk_ends(1, RunError::Fault(Fault::Write)),
+    );
     // where no line comes before the error, nothing is written or flushed
     let mut out: FaultySink<64> = FaultySink::new(64, Faults::From(0));
     let refused: [Result<Cell, H3Error>; 1] = [Err(H3Error::Pentagon)];
     let written = write_walk(&mut out, refused.iter().copied());
-    assert!(&rt;
-        written == Err(RunError::Error(AnswerError::Call(H3Error::Pentagon))) && out.calls() == 0
+    expect(
+        &rt,
+        "no line before the error",
+        written == Err(RunError::Error(AnswerError::Call(H3Error::Pentagon))) && out.calls() == 0,
     );
 }
 
@@ -103,14 +138,20 @@ fn a_walk_of_many_lines_goes_out_by_blocks(rt: HostRuntime) {
     let mut steps: [Result<Cell, H3Error>; 2100] = [cell(); 2100];
     let mut out: FaultySink<33600> = FaultySink::new(65536, Faults::From(3));
     let written = write_walk(&mut out, steps.iter().copied());
-    assert!(&rt; written == Ok(()) && has_lines(&out, 33600, 3));
+    expect(
+        &rt,
+        "2100 lines",
+        written == Ok(()) && has_lines(&out, 33600, 3),
+    );
     // an error after 2099 lines
     steps[2099] = Err(H3Error::Pentagon);
     let mut out: FaultySink<33600> = FaultySink::new(65536, Faults::From(3));
     let written = write_walk(&mut out, steps.iter().copied());
-    assert!(&rt;
+    expect(
+        &rt,
+        "2099 lines",
         written == Err(RunError::Error(AnswerError::Call(H3Error::Pentagon)))
-            && has_lines(&out, 33584, 3)
+            && has_lines(&out, 33584, 3),
     );
 }
 

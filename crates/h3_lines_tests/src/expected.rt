@@ -1,0 +1,13 @@
+//! How a test fails. A call of these is proved sooner than an assertion in the test itself.
+
+use std::process::Abort;
+
+/// Fails, and says of what, unless it holds.
+pub fn expect(rt: &impl Abort, what: &str, holds: bool) {
+    assert!(rt; holds, "{what}");
+}
+
+/// Fails, and tells the row, unless it holds.
+pub fn expect_row(rt: &impl Abort, row: usize, holds: bool) {
+    assert!(rt; holds, "row {row}");
+}
