@@ -7,6 +7,7 @@ use h3_fakes::table_file;
 use h3_requests::Command;
 use h3_table::vectors::TestTable;
 use std::alloc::Global;
+use std::process::Abort;
 
 fn neighbors(cell: &str, to: &str) -> Command {
     Command::AreNeighborCells {
@@ -171,16 +172,19 @@ static TWISTED_EDGES: [(&str, &str, &str); 2] = [
     ("813efffffffffff", "1113efffffffffff", "813d3ffffffffff"),
 ];
 
+/// Fails unless over a table each edge leaves its cell and leads to the other.
+fn expect_edges(rt: &impl Abort, alloc: Global, file: &str, edges: &[(&str, &str, &str)]) {
+    for (cell, edge, to) in edges {
+        expect(rt, edge, leads(alloc, file, cell, edge, to));
+    }
+}
+
 #[test]
 fn edges_lead_from_a_cell_to_another(rt: HostRuntime) {
     let plain = table_file(TestTable::Plain);
-    for (cell, edge, to) in &PLAIN_EDGES {
-        expect(&rt, edge, leads(rt.alloc(), &plain, cell, edge, to));
-    }
+    expect_edges(&rt, rt.alloc(), &plain, &PLAIN_EDGES);
     let twisted = table_file(TestTable::Twisted);
-    for (cell, edge, to) in &TWISTED_EDGES {
-        expect(&rt, edge, leads(rt.alloc(), &twisted, cell, edge, to));
-    }
+    expect_edges(&rt, rt.alloc(), &twisted, &TWISTED_EDGES);
 }
 
 /// Edges into a pentagon base cell.

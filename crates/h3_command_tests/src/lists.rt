@@ -93,6 +93,11 @@ fn is_known(alloc: Global, case: &Case<'_>, bytes: usize) -> bool {
     true
 }
 
+/// The same of the union of the cells of a list that is refused with this line.
+fn union_is_known(alloc: Global, list: &str, line: &str, bytes: usize) -> bool {
+    is_known(alloc, &refused_union(list, line), bytes)
+}
+
 /// Whether a list is judged at its end alone: a fault of the reader after its last byte counts.
 fn is_torn(alloc: Global, case: &Case<'_>) -> bool {
     for most in &PIECES {
@@ -112,39 +117,31 @@ const FAILED: &str = "error 1: E_FAILED\n";
 /// The error line for a line that parses as the index of no cell.
 const CELL_INVALID: &str = "error 5: E_CELL_INVALID\n";
 
+/// Whether the compaction of a list of one line, a character `count` times and then a text, writes
+/// this output.
+fn line_is_compacted(alloc: Global, count: usize, front: char, text: &str, output: &str) -> bool {
+    let list = after(count, front, text);
+    is_compacted(alloc, &compaction(&list, output, ""))
+}
+
+/// Whether the compaction of such a list knows after its first 65 bytes that its line is too long.
+fn line_is_too_long(alloc: Global, count: usize, front: char, text: &str) -> bool {
+    let list = after(count, front, text);
+    is_known(alloc, &compaction(&list, "", FAILED), 65)
+}
+
 #[test]
 fn lines_have_at_most_64_bytes(rt: HostRuntime) {
-    let blank = after(64, ' ', "\n");
-    expect(
-        &rt,
-        "64 blanks",
-        is_compacted(rt.alloc(), &compaction(&blank, "", "")),
-    );
-    let indented = after(49, ' ', "85283473fffffff");
-    let one = "85283473fffffff\n";
-    expect(
-        &rt,
-        "49 blanks and a cell",
-        is_compacted(rt.alloc(), &compaction(&indented, one, "")),
-    );
-    let blank = after(65, ' ', "");
-    expect(
-        &rt,
-        "65 blanks",
-        is_known(rt.alloc(), &compaction(&blank, "", FAILED), 65),
-    );
-    let indented = after(50, ' ', "85283473fffffff");
-    expect(
-        &rt,
-        "50 blanks and a cell",
-        is_known(rt.alloc(), &compaction(&indented, "", FAILED), 65),
-    );
-    let long = after(65, '8', "");
-    expect(
-        &rt,
-        "65 digits",
-        is_known(rt.alloc(), &compaction(&long, "", FAILED), 65),
-    );
+    let alloc = rt.alloc();
+    let cell = "85283473fffffff";
+    let blank = line_is_compacted(alloc, 64, ' ', "\n", "");
+    expect(&rt, "64 blanks", blank);
+    let indented = line_is_compacted(alloc, 49, ' ', cell, "85283473fffffff\n");
+    expect(&rt, "49 blanks and a cell", indented);
+    expect(&rt, "65 blanks", line_is_too_long(alloc, 65, ' ', ""));
+    let indented = line_is_too_long(alloc, 50, ' ', cell);
+    expect(&rt, "50 blanks and a cell", indented);
+    expect(&rt, "65 digits", line_is_too_long(alloc, 65, '8', ""));
 }
 
 /// Faulty lists, their errors, and the bytes by which they are known.
@@ -200,12 +197,15 @@ static FAULTY_AT: [(&str, &str, usize); 5] = [
 #[test]
 fn a_faulty_line_of_a_union_is_told(rt: HostRuntime) {
     for (list, line, bytes) in &FAULTY_AT {
-        let case = refused_union(list, line);
-        expect(&rt, list, is_known(rt.alloc(), &case, *bytes));
+        expect(&rt, list, union_is_known(rt.alloc(), list, line, *bytes));
     }
     let long = after(65, '8', "");
-    let case = refused_union(&long, "line 1: error 1: E_FAILED\n");
-    expect(&rt, "65 digits", is_known(rt.alloc(), &case, 65));
+    let line = "line 1: error 1: E_FAILED\n";
+    expect(
+        &rt,
+        "65 digits",
+        union_is_known(rt.alloc(), &long, line, 65),
+    );
 }
 
 /// Lists whose last line is not ended, and their compactions or the error.

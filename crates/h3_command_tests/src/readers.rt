@@ -8,6 +8,7 @@ use h3_fakes::{Faults, NO_FAULT, bases_file, table_file};
 use h3_requests::Command;
 use h3_table::vectors::TestTable;
 use std::alloc::Global;
+use std::process::Abort;
 
 /// Whether the whole answer is given, in as many pulls as that takes.
 fn is_answered(alloc: Global, case: &Case<'_>, most: usize, faults: Faults) -> bool {
@@ -65,16 +66,27 @@ fn a_long_list_that_is_read_byte_by_byte_may_fail_at_each(rt: HostRuntime) {
     expect(&rt, "a long list", meets_each_fault(rt.alloc(), &case, 1));
 }
 
+/// Whether a command over a table meets each fault of its reader.
+fn meets_each_fault_of_a_table(alloc: Global, file: &str, case: &Case<'_>) -> bool {
+    let case = case.on_table(file);
+    meets_each_fault(alloc, &case, 61)
+        && meets_each_fault(alloc, &case, 4096)
+        && is_answered(alloc, &case, 1, NO_FAULT)
+}
+
+/// Fails unless each of these commands over a table meets each fault of its reader.
+fn expect_each_fault(rt: &impl Abort, alloc: Global, what: &str, file: &str, cases: &[Case<'_>]) {
+    for (row, case) in cases.iter().enumerate() {
+        let right = meets_each_fault_of_a_table(alloc, file, case);
+        expect_at(rt, what, row as u64, right);
+    }
+}
+
 #[test]
 fn a_table_whose_read_fails_is_a_read_fault(rt: HostRuntime) {
     let file = table_file(TestTable::Plain);
-    for (row, case) in WALK_CASES.iter().chain(EDGE_CASES.iter()).enumerate() {
-        let case = case.on_table(file.as_str());
-        let right = meets_each_fault(rt.alloc(), &case, 61)
-            && meets_each_fault(rt.alloc(), &case, 4096)
-            && is_answered(rt.alloc(), &case, 1, NO_FAULT);
-        expect_row(&rt, row, right);
-    }
+    expect_each_fault(&rt, rt.alloc(), "walk", file.as_str(), &WALK_CASES);
+    expect_each_fault(&rt, rt.alloc(), "edge", file.as_str(), &EDGE_CASES);
 }
 
 #[test]

@@ -334,9 +334,11 @@ static DESCENDANTS: [Row; 17] = [
 
 #[test]
 fn descendants_are_written(rt: HostRuntime) {
-    for (number, row) in DESCENDANTS.iter().enumerate() {
-        expect_row(&rt, number, answers_row(rt.alloc(), row));
-    }
+    expect_all(
+        &rt,
+        first_wrong(rt.alloc(), &DESCENDANTS),
+        DESCENDANTS.len(),
+    );
 }
 
 /// Cells, and their positions among the descendants of an ancestor of this resolution.
