@@ -7,6 +7,7 @@ pub mod Pages
 pub mod PlainLines
 pub mod PlainRows
 pub mod RowLines
+pub mod RowStarts
 pub mod Scan
 pub mod TakenRows
 pub mod Written

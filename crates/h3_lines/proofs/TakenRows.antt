@@ -5,8 +5,8 @@ use Rattle.std.specs.Io.KnownBytes.{Consumes, Keeps}
 use Rattle.std.proofs.KnownBytes.{Consumes-kept, Consumes-nil, Consumes-trans}
 use Rattle.h3_streams.specs.Stream.{HasLeft, Pulls}
 use Rattle.h3_lines.specs.declared.run_error.RunError.{RunError}
-use Rattle.h3_lines.specs.PiecesLaws.{cut_at_end, cut_at_mark, cut_goes_on, rows_go, uncut_then}
-use Rattle.h3_lines.specs.Pieces.{Piece, Uncut, pieces_of, rows_of, without_last_nothing}
+use Rattle.h3_lines.specs.PiecesLaws.{cut_at_end, cut_at_mark, cut_goes_on, rows_go}
+use Rattle.h3_lines.specs.Pieces.{CutsAt, Piece, Uncut, pieces_of, rows_of, without_last_nothing}
 use Rattle.h3_lines.specs.Splitting.{Goes, RefusesAfter, StopsReading, StopsTaking, TakesAll}
 use Rattle.h3_lines.proofs.Pages.{all_bytes, at_end, one_at_least, one_less}
 
@@ -16,7 +16,7 @@ cut_length bytes before after mark split =
     omega (arith, whole)
 
 -- the last piece
-piece_at_end : (qs : Bool) (line : List ℕ) (o : Bool) → Uncut 10 qs false line o → pieces_of qs line ≡ (line, o) ∷ []
+pub piece_at_end : (qs : Bool) (line : List ℕ) (o : Bool) → Uncut 10 qs false line o → pieces_of qs line ≡ (line, o) ∷ []
 piece_at_end qs line o h = cut_at_end 10 qs false line h.uncut ∙ ap (λ t. (line, t) ∷ []) h.inside_is
 
 -- the last row, if it has any byte
@@ -29,15 +29,24 @@ first_kept : (piece : List ℕ) (t : Bool) (ps : List Piece) → 0 < length piec
 first_kept piece t [] some = let filled : (length piece == 0) ≡ false = grind (arith, nat_tests) in ([], rw filled refl)
 first_kept piece t (q ∷ qs) some = (without_last_nothing (q ∷ qs), refl)
 
-module _ {V : Type 0} (qs : Bool) (taken : V → List Piece → V → Type 0) where
-  -- rows are taken where none is begun
-  pub goes_at_start : {v w : V} (line bytes after : List ℕ) → line ≡ [] → Goes qs taken v [] bytes w [] after → Goes qs taken v line bytes w line after
-  goes_at_start {v} {w} line bytes after none g = subst (λ l. Goes qs taken v l bytes w l after) (sym none) g
+-- a row that ends, whatever bytes follow
+cut_before : {qs : Bool} (bytes row after : List ℕ) → CutsAt 10 qs false bytes row after → (rest : List ℕ) → pieces_of qs (bytes ++ rest) ≡ (row, false) ∷ pieces_of qs (after ++ rest)
+cut_before {qs} bytes row after cuts rest =
+    ap (pieces_of qs) (ap (λ l. l ++ rest) cuts.split ∙ append_assoc row (10 ∷ after) rest) ∙ cut_at_mark 10 qs false row (after ++ rest) cuts.begins.uncut cuts.begins.inside_is refl
 
-  -- bytes are kept of a line that does not end in them
-  pub goes_kept : {v w : V} (line line' bytes : List ℕ) → taken v [] w → line' ≡ line ++ bytes → Goes qs taken v line bytes w line' []
-  goes_kept line line' bytes none is =
-      record { ended = []; rows = λ rest. ap (pieces_of qs) (sym (append_assoc line bytes rest) ∙ ap (λ l. l ++ rest) (sym is)); takes = none }
+module _ {V : Type 0} (qs : Bool) (taken : V → List Piece → V → Type 0) where
+  -- no row is taken
+  pub goes_none : {v : V} (bytes : List ℕ) → taken v [] v → Goes qs taken v [] bytes v [] bytes
+  goes_none bytes none = record { ended = []; rows = λ rest. refl; takes = none }
+
+  -- bytes begin with those of a row that was begun
+  pub goes_on : {v w : V} {whole : List ℕ} (line front left : List ℕ) → Goes qs taken v [] whole w [] left → whole ≡ line ++ front → Goes qs taken v line front w left []
+  goes_on line front left g is =
+      record { ended = g.ended; rows = λ rest. ap (pieces_of qs) (sym (append_assoc line front rest) ∙ ap (λ l. l ++ rest) (sym is)) ∙ g.rows rest; takes = g.takes }
+
+  -- a row ends
+  pub goes_cut : {v w : V} (bytes row after : List ℕ) → CutsAt 10 qs false bytes row after → taken v ((row, false) ∷ []) w → Goes qs taken v [] bytes w [] after
+  goes_cut bytes row after cuts takes' = record { ended = (row, false) ∷ []; rows = cut_before bytes row after cuts; takes = takes' }
 
   module _ (both : (u v w : V) (xs ys : List Piece) → taken u xs v → taken v ys w → taken u (xs ++ ys) w) where
     pub goes_then : {u v w : V} {line1 bytes1 line2 bytes2 line3 bytes3 : List ℕ} → Goes qs taken u line1 bytes1 v line2 bytes2 → Goes qs taken v line2 bytes2 w line3 bytes3 → Goes qs taken u line1 bytes1 w line3 bytes3
@@ -54,53 +63,33 @@ module _ {V : Type 0} (qs : Bool) (taken : V → List Piece → V → Type 0) wh
     pub goes_settled : {u v w : V} {line1 bytes1 line2 bytes2 : List ℕ} → Goes qs taken u line1 bytes1 v line2 bytes2 → taken v [] w → Goes qs taken u line1 bytes1 w line2 bytes2
     goes_settled g q = record { ended = g.ended; rows = g.rows; takes = taken_settled g.takes q }
 
-    -- a line ended, and then others
-    pub ended_then : {u v w : V} {first before before' front : List ℕ} (bytes line after : List ℕ)
-        → Goes qs taken u first front v before bytes → bytes ≡ line ++ 10 ∷ after → Goes qs taken v before (line ++ 10 ∷ []) w before' [] → Goes qs taken u first front w before' after
-    ended_then {u} {v} {w} {before = before} {before' = before'} bytes line after f split g =
-        let regroup : (rest : List ℕ) → bytes ++ rest ≡ (line ++ 10 ∷ []) ++ (after ++ rest) =
-        λ rest. ap (λ l. l ++ rest) split ∙ append_assoc line (10 ∷ after) rest ∙ sym (append_assoc line (10 ∷ []) (after ++ rest)) in record {
-          ended = f.ended ++ g.ended;
-          rows = λ rest. f.rows rest ∙ ap (λ ls. f.ended ++ ls) (ap (λ l. pieces_of qs (before ++ l)) (regroup rest) ∙ g.rows (after ++ rest)) ∙ sym (append_assoc f.ended g.ended (pieces_of qs (before' ++ (after ++ rest))));
-          takes = both u v w f.ended g.ended f.takes g.takes;
-        }
-
-  -- a row ends
-  pub goes_ended : {v w : V} {o : Bool} (line bytes whole line' : List ℕ) → whole ≡ line ++ bytes → Uncut 10 qs false line o → Uncut 10 qs o bytes false → line' ≡ [] → taken v ((whole, false) ∷ []) w
-      → Goes qs taken v line (bytes ++ 10 ∷ []) w line' []
-  goes_ended line bytes whole line' is h k none takes' =
-      let u = uncut_then 10 qs line bytes h k in
-      let ends : (rest : List ℕ) → pieces_of qs (line ++ ((bytes ++ 10 ∷ []) ++ rest)) ≡ (line ++ bytes, false) ∷ pieces_of qs rest =
-      λ rest. ap (λ l. pieces_of qs (line ++ l)) (append_assoc bytes (10 ∷ []) rest) ∙ ap (pieces_of qs) (sym (append_assoc line bytes (10 ∷ rest))) ∙ cut_at_mark 10 qs false (line ++ bytes) rest u.uncut u.inside_is refl in
-      record { ended = (whole, false) ∷ []; rows = λ rest. rw (none, is) (ends rest); takes = takes' }
-
   -- all rows up to the end
-  pub last_taken : {v w : V} {o : Bool} (line whole : List ℕ) → whole ≡ line → 0 < length line → Uncut 10 qs false line o → taken v ((whole, o) ∷ []) w → taken v (rows_of qs line) w
-  last_taken {v} {w} {o} line whole is some h takes' = subst (λ ls. taken v ls w) (ap (λ l. (l, o) ∷ []) is ∙ sym (row_at_end qs line o some h)) takes'
+  pub last_taken : {v w : V} {o : Bool} (line : List ℕ) → 0 < length line → Uncut 10 qs false line o → taken v ((line, o) ∷ []) w → taken v (rows_of qs line) w
+  last_taken {v} {w} {o} line some h takes' = subst (λ ls. taken v ls w) (sym (row_at_end qs line o some h)) takes'
 
 module _ {V : Type 0} (qs : Bool) (refused : V → List Piece → V → RunError → Type 0) where
   -- a row is refused that ends
-  pub refused_ended : {v w : V} {e : RunError} {o : Bool} (line bytes whole rest : List ℕ) → whole ≡ line ++ bytes → Uncut 10 qs false line o → Uncut 10 qs o bytes false → ((later : List Piece) → refused v ((whole, false) ∷ later) w e)
-      → refused v (rows_of qs (line ++ (bytes ++ 10 ∷ rest))) w e
-  refused_ended {v} {w} {e} line bytes whole rest is h k refuses =
-      let u = uncut_then 10 qs line bytes h k in
-      let pieces : pieces_of qs (line ++ (bytes ++ 10 ∷ rest)) ≡ ((whole, false) ∷ []) ++ pieces_of qs rest =
-      ap (pieces_of qs) (sym (append_assoc line bytes (10 ∷ rest))) ∙ cut_at_mark 10 qs false (line ++ bytes) rest u.uncut u.inside_is refl ∙ ap (λ l. (l, false) ∷ pieces_of qs rest) (sym is) in
-      let ends : rows_of qs (line ++ (bytes ++ 10 ∷ rest)) ≡ (whole, false) ∷ rows_of qs rest = rows_go qs (line ++ (bytes ++ 10 ∷ rest)) rest ((whole, false) ∷ []) pieces in
-      subst (λ ls. refused v ls w e) (sym ends) (refuses (rows_of qs rest))
+  pub refused_cut : {v w : V} {e : RunError} (bytes row after rest : List ℕ) → CutsAt 10 qs false bytes row after → ((later : List Piece) → refused v ((row, false) ∷ later) w e) → refused v (rows_of qs (bytes ++ rest)) w e
+  refused_cut {v} {w} {e} bytes row after rest cuts refuses =
+      let ends : rows_of qs (bytes ++ rest) ≡ (row, false) ∷ rows_of qs (after ++ rest) = rows_go qs (bytes ++ rest) (after ++ rest) ((row, false) ∷ []) (cut_before bytes row after cuts rest) in
+      subst (λ ls. refused v ls w e) (sym ends) (refuses (rows_of qs (after ++ rest)))
+
+  -- bytes begin with those of a row that was begun
+  pub refused_on : {v w : V} {e : RunError} {whole : List ℕ} (line front : List ℕ) → ((rest : List ℕ) → refused v (rows_of qs (whole ++ rest)) w e) → whole ≡ line ++ front → (rest : List ℕ) → refused v (rows_of qs (line ++ (front ++ rest))) w e
+  refused_on {v} {w} {e} line front refuses is rest = subst (λ l. refused v (rows_of qs l) w e) (ap (λ l. l ++ rest) is ∙ append_assoc line front rest) (refuses rest)
 
   -- a row is too long
-  pub refused_long : {v w : V} {e : RunError} {o o' : Bool} (longest : ℕ) (line bytes rest : List ℕ) → Uncut 10 qs false line o → Uncut 10 qs o bytes o' → longest < length line + length bytes
-      → ((p : Piece) → longest < length p.0 → (later : List Piece) → refused v (p ∷ later) w e) → refused v (rows_of qs (line ++ (bytes ++ rest))) w e
-  refused_long {v} {w} {e} longest line bytes rest h k full refuses =
-      let (p, t, ps, is) = cut_goes_on 10 qs false (line ++ bytes) rest (uncut_then 10 qs line bytes h k).uncut in
-      let long : longest < length ((line ++ bytes) ++ p) = simp length-append (omega arith) in
-      let (more, kept) = first_kept ((line ++ bytes) ++ p) t ps (omega (arith, long)) in
-      let ends : rows_of qs (line ++ (bytes ++ rest)) ≡ ((line ++ bytes) ++ p, t) ∷ more = ap (rows_of qs) (sym (append_assoc line bytes rest)) ∙ ap without_last_nothing is ∙ kept in
-      subst (λ l. refused v l w e) (sym ends) (refuses ((line ++ bytes) ++ p, t) long more)
+  pub refused_long : {v w : V} {e : RunError} {o : Bool} (longest : ℕ) (line rest : List ℕ) → Uncut 10 qs false line o → longest < length line
+      → ((p : Piece) → longest < length p.0 → (later : List Piece) → refused v (p ∷ later) w e) → refused v (rows_of qs (line ++ rest)) w e
+  refused_long {v} {w} {e} longest line rest h full refuses =
+      let (p, t, ps, is) = cut_goes_on 10 qs false line rest h.uncut in
+      let long : longest < length (line ++ p) = simp length-append (omega arith) in
+      let (more, kept) = first_kept (line ++ p) t ps (omega (arith, long)) in
+      let ends : rows_of qs (line ++ rest) ≡ (line ++ p, t) ∷ more = ap without_last_nothing is ∙ kept in
+      subst (λ l. refused v l w e) (sym ends) (refuses (line ++ p, t) long more)
 
-  pub last_refused : {v w : V} {e : RunError} {o : Bool} (line whole : List ℕ) → whole ≡ line → 0 < length line → Uncut 10 qs false line o → ((later : List Piece) → refused v ((whole, o) ∷ later) w e) → refused v (rows_of qs line) w e
-  last_refused {v} {w} {e} {o} line whole is some h refuses = subst (λ ls. refused v ls w e) (ap (λ l. (l, o) ∷ []) is ∙ sym (row_at_end qs line o some h)) (refuses [])
+  pub last_refused : {v w : V} {e : RunError} {o : Bool} (line : List ℕ) → 0 < length line → Uncut 10 qs false line o → ((later : List Piece) → refused v ((line, o) ∷ later) w e) → refused v (rows_of qs line) w e
+  last_refused {v} {w} {e} {o} line some h refuses = subst (λ ls. refused v ls w e) (sym (row_at_end qs line o some h)) (refuses [])
 
 module _ {V : Type 0} (qs : Bool) (taken : V → List Piece → V → Type 0) (refused : V → List Piece → V → RunError → Type 0) (then_refused : (u v w : V) (xs ys : List Piece) (e : RunError) → taken u xs v → refused v ys w e → refused u (xs ++ ys) w e) where
   -- lines are refused after others were taken
@@ -109,26 +98,8 @@ module _ {V : Type 0} (qs : Bool) (taken : V → List Piece → V → Type 0) (r
   goes_refused {u} {v} {w} {e} {line1} {bytes1} {line2} {bytes2} rest g refuses =
       subst (λ ls. refused u ls w e) (sym (rows_go qs (line1 ++ (bytes1 ++ rest)) (line2 ++ (bytes2 ++ rest)) g.ended (g.rows rest))) (then_refused u v w g.ended (rows_of qs (line2 ++ (bytes2 ++ rest))) e g.takes refuses)
 
-  -- bytes are refused where no row is begun
-  pub refused_at_start : {v w : V} {e : RunError} (line bytes : List ℕ) → line ≡ [] → refused v (rows_of qs bytes) w e → refused v (rows_of qs (line ++ bytes)) w e
-  refused_at_start {v} {w} {e} line bytes none refuses = subst (λ l. refused v (rows_of qs (l ++ bytes)) w e) (sym none) refuses
-
   pub refused_settled : {u v w : V} {e : RunError} {xs : List Piece} → taken u xs v → refused v [] w e → refused u xs w e
   refused_settled {u} {v} {w} {e} {xs} p q = subst (λ ls. refused u ls w e) (append-nil xs) (then_refused u v w xs [] e p q)
-
-  pub refused_after : {u v w : V} {e : RunError} {first before front : List ℕ} (bytes line after rest : List ℕ) → Goes qs taken u first front v before bytes → bytes ≡ line ++ 10 ∷ after
-      → refused v (rows_of qs (before ++ (line ++ 10 ∷ (after ++ rest)))) w e → refused u (rows_of qs (first ++ (front ++ rest))) w e
-  refused_after {v = v} {w = w} {e = e} {before = before} bytes line after rest g split refuses =
-      let regroup : bytes ++ rest ≡ line ++ 10 ∷ (after ++ rest) = ap (λ l. l ++ rest) split ∙ append_assoc line (10 ∷ after) rest in
-      goes_refused rest g (subst (λ l. refused v (rows_of qs (before ++ l)) w e) (sym regroup) refuses)
-
--- ---- the room of a row
-
-pub take_none : (l : List ℕ) (n : ℕ) → n ≡ 0 → take n l ≡ []
-take_none l n is = rw is refl
-
-pub short_take : (l : List ℕ) (n most : ℕ) → n ≤ most → length (take n l) ≤ most
-short_take l n most within = omega (arith, length-take {A = ℕ})
 
 -- ---- pages
 
@@ -142,8 +113,8 @@ pub record Took {V : Type 0} (qs : Bool) (taken : V → List Piece → V → Typ
   pub short : length bytes + reads * size ≤ limit * size
 
 module _ {V : Type 0} (qs : Bool) (taken : V → List Piece → V → Type 0) where
-  pub took_none : (v : V) (line : List ℕ) (now : Option (List ℕ)) (limit size : ℕ) → line ≡ [] → taken v [] v → Took qs taken v v line now now limit limit size
-  took_none v line now limit size none start = record { bytes = []; told = Consumes-nil now; goes = goes_kept qs taken [] line [] start none; counted = omega arith; short = omega arith }
+  pub took_none : (v : V) (now : Option (List ℕ)) (limit size : ℕ) → taken v [] v → Took qs taken v v [] now now limit limit size
+  took_none v now limit size start = record { bytes = []; told = Consumes-nil now; goes = goes_none qs taken [] start; counted = omega arith; short = omega arith }
 
   pub took_more : ((u v w : V) (xs ys : List Piece) → taken u xs v → taken v ys w → taken u (xs ++ ys) w) → {v w : V} {line : List ℕ} {old now : Option (List ℕ)} {limit reads size : ℕ} → Took qs taken v w line old now limit reads size
       → (now' : Option (List ℕ)) (reads' : ℕ) (page : List ℕ) (n : ℕ) (w' : V) (line' : List ℕ) → Pulls now now' page n → 0 < n → n ≤ length page → length page ≡ size → reads' + 1 ≡ reads

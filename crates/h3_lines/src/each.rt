@@ -16,7 +16,7 @@ ghost use Rattle.h3_lines.specs.declared.splitting.TheConstants.{LONGEST_LINE};
 use crate::line::{BLOCK, Line};
 use crate::plain::{IndexJob, LINES, take_plain};
 use crate::run_error::{AnswerError, Fault, RunError};
-use crate::splitting::{Job, LONGEST_LINE, MAX_READS, PAGE, Taking, drive, row_room};
+use crate::splitting::{Job, LONGEST_LINE, MAX_READS, PAGE, Taking, drive, row_page};
 use crate::write::{make_room, write_held};
 use h3_index::{H3Error, is_blank_text, read_index};
 use h3_streams::{CountedReader, Sink, Source};
@@ -307,13 +307,11 @@ impl<'a, 'f, W: Sink, A: Answering> Job for Answers<'a, 'f, W, A> {
 fn answer_lines<'a, 'f, R: Source, W: Sink, A: Answering>(
     answers: &mut Answers<'a, 'f, W, A>,
     input: &mut R,
-    room: Vec<u8>,
     page: &mut [u8],
 ) -> Result<(), RunError>
     requires first { answers.old.held.number ≡ 1 }
     requires empty { answers.old.held.end ≡ 0 }
-    requires room { length room.items ≡ LONGEST_LINE }
-    requires page { length page.old ≡ PAGE }
+    requires page { length page.old ≡ LONGEST_LINE + PAGE }
     ensures ends { EndsEach (A.answer_of answers.old.function.now)
         (R.left input.old) (R.left input.new)
         (R.has_failed input.old) (R.has_failed input.new) result
@@ -321,7 +319,7 @@ fn answer_lines<'a, 'f, R: Source, W: Sink, A: Answering>(
     ensures same { answers.new.held.out.ghost_name ≡ answers.old.held.out.ghost_name }
 {
     let mut reader = CountedReader::new(&mut *input, MAX_READS);
-    let ending = drive(answers, &mut reader, false, room, page);
+    let ending = drive(answers, &mut reader, false, PAGE, page);
     // The proof reads what the source is after the reads from this use of it.
     let _ = &*input;
     ending
@@ -334,11 +332,9 @@ pub(crate) fn answer_pages<R: Source, W: Sink, A: Answering>(
     function: &A,
     input: &mut R,
     out: &mut W,
-    room: Vec<u8>,
     page: &mut [u8],
 ) -> Result<(), RunError>
-    requires room { length room.items ≡ LONGEST_LINE }
-    requires page { length page.old ≡ PAGE }
+    requires page { length page.old ≡ LONGEST_LINE + PAGE }
     ensures { EndsEach (A.answer_of function.now) (R.left input.old) (R.left input.new)
         (R.has_failed input.old) (R.has_failed input.new) result
         (sink_use W.taken W.has_failed out.old out.new) }
@@ -351,7 +347,7 @@ pub(crate) fn answer_pages<R: Source, W: Sink, A: Answering>(
         end: 0,
     };
     let mut answers = Answers { held, function };
-    let ending = answer_lines(&mut answers, input, room, page);
+    let ending = answer_lines(&mut answers, input, page);
     // The proof reads what the sink is after the writes from this use of it.
     let _ = &*out;
     ending
@@ -382,7 +378,6 @@ pub fn answer_each<R: Source, W: Sink, F: AnswerLine>(
         (R.has_failed input.old) (R.has_failed input.new) result
         (sink_use W.taken W.has_failed out.old out.new) }
 {
-    let room = row_room(alloc, LONGEST_LINE)?;
-    let mut page = vec![in alloc; 0u8; PAGE].map_err(|_| RunError::Fault(Fault::Memory))?;
-    answer_pages(&Short { function }, input, out, room, &mut page)
+    let mut page = row_page(alloc, LONGEST_LINE, PAGE)?;
+    answer_pages(&Short { function }, input, out, &mut page)
 }

@@ -10,8 +10,8 @@ ghost use Rattle.h3_lines.specs.Write.{sink_use};
 
 use crate::each::{Answering, Held, answer_pages, refuse};
 use crate::line::Line;
-use crate::run_error::{Fault, RunError};
-use crate::splitting::{LONGEST_LINE, PAGE, row_room};
+use crate::run_error::RunError;
+use crate::splitting::{LONGEST_LINE, PAGE, row_page};
 use crate::write::put_lines;
 use h3_index::H3Error;
 use h3_streams::{Sink, Source};
@@ -105,7 +105,6 @@ pub fn answer_each_lines<R: Source, W: Sink, F: LinesFunction>(
         (R.has_failed input.old) (R.has_failed input.new) result
         (sink_use W.taken W.has_failed out.old out.new) }
 {
-    let room = row_room(alloc, LONGEST_LINE)?;
-    let mut page = vec![in alloc; 0u8; PAGE].map_err(|_| RunError::Fault(Fault::Memory))?;
-    answer_pages(&Long { function }, input, out, room, &mut page)
+    let mut page = row_page(alloc, LONGEST_LINE, PAGE)?;
+    answer_pages(&Long { function }, input, out, &mut page)
 }

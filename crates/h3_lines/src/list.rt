@@ -9,7 +9,7 @@ ghost use Rattle.h3_lines.specs.Numbered.{without_number};
 ghost use Rattle.h3_lines.specs.Reads.{source_use};
 
 use crate::run_error::{AnswerError, Fault, RunError};
-use crate::splitting::{LONGEST_LINE, MAX_READS, PAGE, row_room};
+use crate::splitting::{LONGEST_LINE, MAX_READS, PAGE, row_page};
 use crate::taking::{CellTaker, take_cells, take_list};
 use h3_index::{Cell, H3Error, is_blank_text, read_index};
 use h3_streams::Source;
@@ -64,26 +64,26 @@ fn without_line(refusal: RunError) -> RunError
     }
 }
 
-/// Reads a list in at most a given number of reads, each to a page.
+/// Reads a list in at most a given number of reads, each of at most `size` bytes.
 ///
 /// # Errors
 ///
-/// As of `read_cells`; the page is the caller's.
+/// As of `read_cells`.
 pub fn read_list<R: Source>(
     alloc: Global,
     input: &mut R,
     limit: u64,
-    page: &mut [u8],
+    size: usize,
 ) -> Result<Vec<Cell>, RunError>
-    requires room { 0 < length page.old }
-    requires few { limit * length page.old < 2 ^ 62 }
-    ensures cells { IfOk result (λ cells. ListRead limit (length page.old)
+    requires some { 0 < size }
+    requires few { limit * size < 2 ^ 62 }
+    ensures cells { IfOk result (λ cells. ListRead limit size
         (source_use R.left R.has_failed input.old input.new) cells.items) }
-    ensures refused { IfErr result (ListRefused RefusesByError limit (length page.old)
+    ensures refused { IfErr result (ListRefused RefusesByError limit size
         (source_use R.left R.has_failed input.old input.new)) }
 {
-    let room = row_room(alloc, LONGEST_LINE)?;
-    match take_list(Vec::new(alloc), input, limit, room, page) {
+    let mut page = row_page(alloc, LONGEST_LINE, size)?;
+    match take_list(Vec::new(alloc), input, limit, size, &mut page) {
         Ok(cells) => Ok(cells),
         Err(refusal) => Err(without_line(refusal)),
     }

@@ -1,6 +1,6 @@
 //! Pages of bytes that are split into rows, and lines, which are rows without quotes.
 
-ghost use Rattle.std.specs.Prelude.{◌≡◌, ◌≤◌, ◌<◌, ◌+◌, ◌*◌, ◌^◌, ◌⊎◌, ◌==◌, ℕ, Bool, true, false, List, [], ◌∷◌, ◌++◌, length, take, drop, IfOk, IfErr, IfSome, IfNone, OnOk};
+ghost use Rattle.std.specs.Prelude.{◌≡◌, ◌≤◌, ◌<◌, ◌+◌, ◌-◌, ◌*◌, ◌^◌, ◌⊎◌, ◌==◌, ℕ, Bool, true, false, List, [], ◌∷◌, ◌++◌, length, take, drop, IfOk, IfErr, IfSome, IfNone, OnOk};
 ghost use Rattle.h3_streams.specs.Counted.{KeepsSource, reads_allowed, source_of};
 ghost use Rattle.h3_lines.specs.Pieces.{CutsAt, Piece, Uncut, rows_of};
 ghost use Rattle.h3_lines.specs.Splitting.{Goes, StopsReading, StopsTaking, TakesAll};
@@ -12,7 +12,6 @@ use crate::run_error::{Fault, RunError};
 use h3_streams::{CountedReader, Source};
 use memchr::{memchr, memchr2};
 use std::alloc::Global;
-use std::marker::PhantomData;
 
 /// The bytes that are read at once.
 pub const PAGE: usize = 65536;
@@ -23,16 +22,20 @@ pub const MAX_READS: u64 = 1 << 40;
 /// The bytes that a line may have.
 pub(crate) const LONGEST_LINE: usize = 64;
 
-/// Returns room for the beginning of a row of at most `longest` bytes that crosses two pages.
+/// Returns a page for reads of `size` bytes, with room before them for the beginning of a row of at most
+/// `longest` bytes.
 ///
 /// # Errors
 ///
 /// `Fault::Memory` if there is no memory for it.
-pub fn row_room(alloc: Global, longest: usize) -> Result<Vec<u8>, RunError>
-    ensures ok { IfOk result (λ room. length room.items ≡ longest) }
+pub fn row_page(alloc: Global, longest: usize, size: usize) -> Result<Vec<u8>, RunError>
+    ensures ok { IfOk result (λ page. length page.items ≡ longest + size) }
     ensures err { IfErr result (λ e. e ≡ refusal.Fault Memory) }
 {
-    vec![in alloc; 0u8; longest].map_err(|_| RunError::Fault(Fault::Memory))
+    let Some(length) = longest.checked_add(size) else {
+        return Err(RunError::Fault(Fault::Memory));
+    };
+    vec![in alloc; 0u8; length].map_err(|_| RunError::Fault(Fault::Memory))
 }
 
 /// What contracts say of a [`Job`]: the rows that it has taken, and those that it refuses.
@@ -166,200 +169,198 @@ pub fn split(mark: u8, quotes: bool, inside: bool, bytes: &[u8]) -> Result<(&[u8
     }
 }
 
-/// Puts bytes at a place of others.
-fn put(bytes: &mut [u8], at: usize, more: &[u8])
-    requires { at + length more.now ≤ length bytes.old }
-    ensures { take (at + length more.now) bytes.new ≡ take at bytes.old ++ more.now }
-{
-    bytes[at..at + more.len()].copy_from_slice(more);
-}
-
-/// The beginning of a row that is not ended yet.
-#[derive(Drop)]
-struct RowStart<J: Taking> {
-    quotes: bool,
-    bytes: Vec<u8>,
+/// The beginning of a row that is not ended yet, at the front of a page: how many bytes it has, and
+/// whether a quote is open at its end.
+#[derive(Clone, Copy)]
+struct RowStart {
     held: usize,
     inside: bool,
-    of: PhantomData<J>,
-    ghost room: { length bytes.items ≡ J.longest },
-    ghost short: { held ≤ J.longest },
-    ghost uncut: { Uncut 10 quotes false (take held bytes.items) inside },
-    ghost outside: { quotes ≡ false → inside ≡ false },
 }
 
-impl<J: Job> RowStart<J> {
-    /// At the start of a row, of which the beginning is kept in this room.
-    fn new(quotes: bool, room: Vec<u8>) -> Self
-        requires { length room.items ≡ J.longest }
-        ensures { (result.held ≡ 0) × (result.quotes ≡ quotes) }
-    {
-        RowStart {
-            quotes,
-            bytes: room,
-            held: 0,
-            inside: false,
-            of: PhantomData,
-        }
-    }
+/// As `split` at a line feed, of bytes that begin with a row's beginning, which is not searched again.
+#[inline(always)]
+fn split_row(quotes: bool, start: RowStart, bytes: &[u8]) -> Result<(&[u8], &[u8]), bool>
+    requires held { start.held ≤ length bytes.now }
+    requires uncut { Uncut 10 quotes false (take start.held bytes.now) start.inside }
+    requires outside { quotes ≡ false → start.inside ≡ false }
+    ensures cut { IfOk result (λ p. CutsAt 10 quotes false bytes.now p.0.now p.1.now) }
+    ensures uncut { IfErr result (λ after. Uncut 10 quotes false bytes.now after) }
+    ensures outside { IfErr result (λ after. quotes ≡ false → after ≡ false) }
+{
+    let (more, after) = split(b'\n', quotes, start.inside, &bytes[start.held..])?;
+    Ok((&bytes[..start.held + more.len()], after))
+}
 
-    /// Keeps more bytes of the row, which is faulty once it has more than it may have.
-    fn keep(&mut self, job: &mut J, more: &[u8], inside: bool) -> Result<(), RunError>
-        requires uncut { Uncut 10 self.old.quotes self.old.inside more.now inside }
-        requires outside { self.old.quotes ≡ false → inside ≡ false }
-        ensures kept { OnOk result ((take self.new.held self.new.bytes.items
-            ≡ take self.old.held self.old.bytes.items ++ more.now)
-            × (self.new.inside ≡ inside) × (job.new ≡ job.old)) }
-        ensures held { OnOk result (self.new.held ≡ self.old.held + length more.now) }
-        ensures same { self.new.quotes ≡ self.old.quotes }
-        ensures err { IfErr result (λ e. (rest : List ℕ) → J.refused job.old
-            (rows_of self.old.quotes
-            (take self.old.held self.old.bytes.items ++ (more.now ++ rest))) job.new e) }
-    {
-        if more.len() > self.bytes.len() - self.held {
-            return Err(job.refuse_long());
-        }
-        put(&mut self.bytes, self.held, more);
-        self.held += more.len();
-        self.inside = inside;
-        Ok(())
+/// Has rows taken that the bytes begin with, as long as the job takes them there, and returns the bytes
+/// after them.
+#[inline(always)]
+fn take_first<'b, J: Job>(job: &mut J, quotes: bool, bytes: &'b [u8]) -> Result<&'b [u8], RunError>
+    requires { J.count job.old + length bytes.now < 2 ^ 63 }
+    ensures ok { IfOk result (λ left.
+        Goes quotes J.taken job.old [] bytes.now job.new [] left.now) }
+    ensures fewer { IfOk result (λ left. length left.now ≤ length bytes.now) }
+    ensures counted { IfOk result (λ left.
+        J.count job.new + length left.now ≤ J.count job.old + length bytes.now) }
+    ensures err { IfErr result (λ e. (rest : List ℕ) →
+        J.refused job.old (rows_of quotes (bytes.now ++ rest)) job.new e) }
+{
+    let mut left = bytes;
+    while let Some(after) = job.take_first(quotes, left)? {
+        left = after;
     }
+    Ok(left)
+}
 
-    /// Ends the row by these bytes, and has it taken.
-    fn end_row(&mut self, job: &mut J, more: &[u8]) -> Result<(), RunError>
-        requires uncut { Uncut 10 self.old.quotes self.old.inside more.now false }
-        requires few { J.count job.old + self.old.held + length more.now < 2 ^ 63 }
-        ensures ok { OnOk result (Goes self.old.quotes J.taken job.old
-            (take self.old.held self.old.bytes.items) (more.now ++ 10 ∷ [])
-            job.new (take self.new.held self.new.bytes.items) []) }
-        ensures counted { OnOk result (J.count job.new + self.new.held
-            ≤ J.count job.old + self.old.held + length more.now + 1) }
-        ensures inside { OnOk result (self.new.inside ≡ false) }
-        ensures same { self.new.quotes ≡ self.old.quotes }
-        ensures err { IfErr result (λ e. (rest : List ℕ) → J.refused job.old
-            (rows_of self.old.quotes
-            (take self.old.held self.old.bytes.items ++ (more.now ++ 10 ∷ rest)))
-            job.new e) }
-    {
-        if self.held == 0 {
-            self.inside = false;
-            return job.take(more, false);
-        }
-        self.keep(job, more, false)?;
-        job.take(&self.bytes[..self.held], false)?;
-        self.held = 0;
-        Ok(())
-    }
-
-    /// Has rows taken that a page begins with, unless a row is begun, and returns the bytes after
-    /// them.
-    #[inline(always)]
-    fn take_first<'b>(&self, job: &mut J, page: &'b [u8]) -> Result<&'b [u8], RunError>
-        requires { J.count job.old + length page.now < 2 ^ 63 }
-        ensures ok { IfOk result (λ left. Goes self.now.quotes J.taken job.old
-            (take self.now.held self.now.bytes.items) page.now
-            job.new (take self.now.held self.now.bytes.items) left.now) }
-        ensures fewer { IfOk result (λ left. length left.now ≤ length page.now) }
-        ensures counted { IfOk result (λ left.
-            J.count job.new + length left.now ≤ J.count job.old + length page.now) }
-        ensures err { IfErr result (λ e. (rest : List ℕ) → J.refused job.old
-            (rows_of self.now.quotes
-            (take self.now.held self.now.bytes.items ++ (page.now ++ rest))) job.new e) }
-    {
-        if self.held > 0 {
-            return Ok(page);
-        }
-        let mut bytes = page;
-        while let Some(after) = job.take_first(self.quotes, bytes)? {
-            bytes = after;
-        }
-        Ok(bytes)
-    }
-
-    /// Has the rows taken that end in a page, and keeps the beginning of the next one.
-    fn take(&mut self, job: &mut J, page: &[u8]) -> Result<(), RunError>
-        requires { J.count job.old + self.old.held + length page.now < 2 ^ 63 }
-        ensures ok { OnOk result (Goes self.old.quotes J.taken job.old
-            (take self.old.held self.old.bytes.items) page.now
-            job.new (take self.new.held self.new.bytes.items) []) }
-        ensures counted { OnOk result (J.count job.new + self.new.held
-            ≤ J.count job.old + self.old.held + length page.now) }
-        ensures same { self.new.quotes ≡ self.old.quotes }
-        ensures err { IfErr result (λ e. (rest : List ℕ) → J.refused job.old
-            (rows_of self.old.quotes
-            (take self.old.held self.old.bytes.items ++ (page.now ++ rest))) job.new e) }
-    {
-        let mut bytes = self.take_first(job, page)?;
-        loop {
-            match split(b'\n', self.quotes, self.inside, bytes) {
-                Ok((row, after)) => {
-                    self.end_row(job, row)?;
-                    bytes = self.take_first(job, after)?;
-                }
-                Err(inside) => return self.keep(job, bytes, inside),
+/// Has the rows taken that end in the bytes. Returns the bytes after them, which begin the next row, and
+/// whether a quote is open at their end.
+fn take_rows<'b, J: Job>(
+    job: &mut J,
+    quotes: bool,
+    bytes: &'b [u8],
+) -> Result<(&'b [u8], bool), RunError>
+    requires { J.count job.old + length bytes.now < 2 ^ 63 }
+    ensures ok { IfOk result (λ p.
+        Goes quotes J.taken job.old [] bytes.now job.new [] p.0.now) }
+    ensures uncut { IfOk result (λ p. Uncut 10 quotes false p.0.now p.1) }
+    ensures outside { IfOk result (λ p. quotes ≡ false → p.1 ≡ false) }
+    ensures counted { IfOk result (λ p.
+        J.count job.new + length p.0.now ≤ J.count job.old + length bytes.now) }
+    ensures err { IfErr result (λ e. (rest : List ℕ) →
+        J.refused job.old (rows_of quotes (bytes.now ++ rest)) job.new e) }
+{
+    let mut left = bytes;
+    loop {
+        left = take_first(job, quotes, left)?;
+        match split(b'\n', quotes, false, left) {
+            Ok((row, after)) => {
+                job.take(row, false)?;
+                left = after;
             }
+            Err(inside) => return Ok((left, inside)),
         }
-    }
-
-    /// The same, and then nothing is held back.
-    fn take_page(&mut self, job: &mut J, page: &[u8]) -> Result<(), RunError>
-        requires { J.count job.old + self.old.held + length page.now < 2 ^ 63 }
-        ensures ok { OnOk result (Goes self.old.quotes J.taken job.old
-            (take self.old.held self.old.bytes.items) page.now
-            job.new (take self.new.held self.new.bytes.items) []) }
-        ensures settled { OnOk result (J.settled job.new) }
-        ensures counted { OnOk result (J.count job.new + self.new.held
-            ≤ J.count job.old + self.old.held + length page.now) }
-        ensures same { self.new.quotes ≡ self.old.quotes }
-        ensures err { IfErr result (λ e. (rest : List ℕ) → J.refused job.old
-            (rows_of self.old.quotes
-            (take self.old.held self.old.bytes.items ++ (page.now ++ rest))) job.new e) }
-    {
-        self.take(job, page)?;
-        job.settle()
-    }
-
-    /// Has the last row taken, and then nothing is held back.
-    fn finish(self, job: &mut J) -> Result<(), RunError>
-        requires { J.count job.old + self.held < 2 ^ 63 }
-        ensures ok { OnOk result (J.taken job.old
-            (rows_of self.quotes (take self.held self.bytes.items)) job.new) }
-        ensures settled { OnOk result (J.settled job.new) }
-        ensures err { IfErr result (λ e. J.refused job.old
-            (rows_of self.quotes (take self.held self.bytes.items)) job.new e) }
-    {
-        if self.held == 0 {
-            return job.settle();
-        }
-        job.take(&self.bytes[..self.held], self.inside)?;
-        job.settle()
     }
 }
 
-/// Has the rows of a source taken by a job, page by page. A row is taken in its page, or, if it crosses
-/// two pages, in `room`, where its beginning is kept.
+/// The same, of bytes that begin with a row's beginning.
+fn take_begun<'b, J: Job>(
+    job: &mut J,
+    quotes: bool,
+    start: RowStart,
+    bytes: &'b [u8],
+) -> Result<(&'b [u8], bool), RunError>
+    requires held { start.held ≤ length bytes.now }
+    requires uncut { Uncut 10 quotes false (take start.held bytes.now) start.inside }
+    requires outside { quotes ≡ false → start.inside ≡ false }
+    requires few { J.count job.old + length bytes.now < 2 ^ 63 }
+    ensures ok { IfOk result (λ p.
+        Goes quotes J.taken job.old [] bytes.now job.new [] p.0.now) }
+    ensures uncut { IfOk result (λ p. Uncut 10 quotes false p.0.now p.1) }
+    ensures outside { IfOk result (λ p. quotes ≡ false → p.1 ≡ false) }
+    ensures counted { IfOk result (λ p.
+        J.count job.new + length p.0.now ≤ J.count job.old + length bytes.now) }
+    ensures err { IfErr result (λ e. (rest : List ℕ) →
+        J.refused job.old (rows_of quotes (bytes.now ++ rest)) job.new e) }
+{
+    if start.held == 0 {
+        return take_rows(job, quotes, bytes);
+    }
+    match split_row(quotes, start, bytes) {
+        Ok((row, after)) => {
+            job.take(row, false)?;
+            take_rows(job, quotes, after)
+        }
+        Err(inside) => Ok((bytes, inside)),
+    }
+}
+
+/// Moves the last of the page's first `end` bytes to its front.
+fn move_to_front(page: &mut [u8], end: usize, held: usize)
+    requires held { held ≤ end }
+    requires end { end ≤ length page.old }
+    ensures { take held page.new ≡ drop (end - held) (take end page.old) }
+{
+    // So a row that takes many reads stays where it is.
+    if held < end {
+        page.copy_within(end - held..end, 0);
+    }
+}
+
+/// Has the rows taken that end in the page's first `end` bytes, and then nothing is held back. Moves the
+/// beginning of the next row to the page's front.
+fn take_page<J: Job>(
+    job: &mut J,
+    quotes: bool,
+    start: RowStart,
+    longest: usize,
+    page: &mut [u8],
+    end: usize,
+) -> Result<RowStart, RunError>
+    requires longest { longest ≡ J.longest }
+    requires held { start.held ≤ end }
+    requires end { end ≤ length page.old }
+    requires uncut { Uncut 10 quotes false (take start.held page.old) start.inside }
+    requires outside { quotes ≡ false → start.inside ≡ false }
+    requires few { J.count job.old + end < 2 ^ 63 }
+    ensures ok { IfOk result (λ next. Goes quotes J.taken job.old [] (take end page.old)
+        job.new [] (take next.held page.new)) }
+    ensures short { IfOk result (λ next. next.held ≤ J.longest) }
+    ensures uncut { IfOk result (λ next.
+        Uncut 10 quotes false (take next.held page.new) next.inside) }
+    ensures outside { IfOk result (λ next. quotes ≡ false → next.inside ≡ false) }
+    ensures settled { OnOk result (J.settled job.new) }
+    ensures counted { IfOk result (λ next. J.count job.new + next.held ≤ J.count job.old + end) }
+    ensures err { IfErr result (λ e. (rest : List ℕ) →
+        J.refused job.old (rows_of quotes (take end page.old ++ rest)) job.new e) }
+{
+    let (left, inside) = take_begun(job, quotes, start, &page[..end])?;
+    let held = left.len();
+    if held > longest {
+        return Err(job.refuse_long());
+    }
+    job.settle()?;
+    move_to_front(page, end, held);
+    Ok(RowStart { held, inside })
+}
+
+/// Has the last row taken, of which these bytes are known, and then nothing is held back.
+fn finish<J: Job>(job: &mut J, quotes: bool, row: &[u8], inside: bool) -> Result<(), RunError>
+    requires uncut { Uncut 10 quotes false row.now inside }
+    requires few { J.count job.old + length row.now < 2 ^ 63 }
+    ensures ok { OnOk result (J.taken job.old (rows_of quotes row.now) job.new) }
+    ensures settled { OnOk result (J.settled job.new) }
+    ensures err { IfErr result (λ e. J.refused job.old (rows_of quotes row.now) job.new e) }
+{
+    if row.is_empty() {
+        return job.settle();
+    }
+    job.take(row, inside)?;
+    job.settle()
+}
+
+/// Has the rows of a source taken by a job, read by read. A row is taken in the page: the beginning of one
+/// that is not ended stands at its front, and the next read goes right behind it.
 ///
 /// # Errors
 ///
 /// The first one that is met, of:
 ///
-/// - The job's, of a row, or of one that is longer than it may be. The room is as long as that
-///   (`row_room`), and the page is not empty.
+/// - The job's, of a row, or of one that is longer than it may be. The page is as long as that and a read
+///   of `size` bytes, which is not empty (`row_page`).
 /// - `Fault::Read` if a read fails, or none is left.
 pub fn drive<'a, J: Job, R: Source>(
     job: &mut J,
     reader: &mut CountedReader<'a, R>,
     quotes: bool,
-    room: Vec<u8>,
+    size: usize,
     page: &mut [u8],
 ) -> Result<(), RunError>
-    requires room { length room.items ≡ J.longest }
-    requires page { 0 < length page.old }
-    requires few { J.count job.old + reads_allowed reader.old * length page.old < 2 ^ 63 }
+    requires page { length page.old ≡ J.longest + size }
+    requires some { 0 < size }
+    requires few { J.count job.old + reads_allowed reader.old * size < 2 ^ 63 }
     requires settled { J.settled job.old }
     ensures ok { OnOk result (TakesAll quotes J.taken job.old job.new
         (R.left (source_of reader.old)) (R.left (source_of reader.new))
-        (reads_allowed reader.old) (length page.old)) }
+        (reads_allowed reader.old) size) }
     ensures settled { OnOk result (J.settled job.new) }
     ensures err { IfErr result (λ e. (
         (e ≡ refusal.Fault Read) × StopsReading quotes J.longest J.taken J.settled job.old job.new
@@ -367,20 +368,25 @@ pub fn drive<'a, J: Job, R: Source>(
         (R.has_failed (source_of reader.new) ≡ true) (reads_allowed reader.old))
         ⊎ (StopsTaking quotes J.longest J.taken J.refused J.settled job.old job.new e
         (R.left (source_of reader.old)) (R.left (source_of reader.new))
-        (reads_allowed reader.old) (length page.old)
+        (reads_allowed reader.old) size
         × (R.has_failed (source_of reader.new) ≡ R.has_failed (source_of reader.old)))) }
     ensures sound { OnOk result
         (R.has_failed (source_of reader.new) ≡ R.has_failed (source_of reader.old)) }
     ensures same { KeepsSource reader.old reader.new }
 {
-    let mut start = RowStart::new(quotes, room);
+    let longest = page.len() - size;
+    let mut start = RowStart {
+        held: 0,
+        inside: false,
+    };
     loop {
-        let Ok(count) = reader.read(page) else {
+        let Ok(count) = reader.read(&mut page[start.held..start.held + size]) else {
             return Err(RunError::Fault(Fault::Read));
         };
         if count == 0 {
-            return start.finish(job);
+            return finish(job, quotes, &page[..start.held], start.inside);
         }
-        start.take_page(job, &page[..count])?;
+        let end = start.held + count;
+        start = take_page(job, quotes, start, longest, page, end)?;
     }
 }

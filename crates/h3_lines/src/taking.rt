@@ -16,7 +16,7 @@ ghost use Rattle.h3_lines.specs.declared.splitting.TheConstants.{LONGEST_LINE};
 use crate::list::{cell_with, read_line};
 use crate::plain::{IndexJob, LINES, take_plain};
 use crate::run_error::{AnswerError, Fault, RunError};
-use crate::splitting::{Job, LONGEST_LINE, MAX_READS, PAGE, Taking, drive, row_room};
+use crate::splitting::{Job, LONGEST_LINE, MAX_READS, PAGE, Taking, drive, row_page};
 use h3_index::{Cell, H3Error};
 use h3_streams::{CountedReader, Source};
 use std::alloc::Global;
@@ -157,27 +157,27 @@ impl<V: CellTaker> Job for NumberedLines<V> {
     }
 }
 
-/// Has the cells of a list taken, in at most a given number of reads, each to a page.
+/// Has the cells of a list taken, in at most a given number of reads of a given size.
 pub(crate) fn take_list<V: CellTaker + Drop, R: Source>(
     taker: V,
     input: &mut R,
     limit: u64,
-    room: Vec<u8>,
+    size: usize,
     page: &mut [u8],
 ) -> Result<V, RunError>
     requires first { V.count taker ≡ 0 }
-    requires room { length room.items ≡ LONGEST_LINE }
-    requires page { 0 < length page.old }
-    requires few { limit * length page.old < 2 ^ 62 }
+    requires page { length page.old ≡ LONGEST_LINE + size }
+    requires some { 0 < size }
+    requires few { limit * size < 2 ^ 62 }
     ensures taken { IfOk result (λ after. (cells : List Address)
-        × ListRead limit (length page.old) (source_use R.left R.has_failed input.old input.new) cells
+        × ListRead limit size (source_use R.left R.has_failed input.old input.new) cells
         × V.taken taker cells after) }
-    ensures refused { IfErr result (ListRefused RefusesByLine limit (length page.old)
+    ensures refused { IfErr result (ListRefused RefusesByLine limit size
         (source_use R.left R.has_failed input.old input.new)) }
 {
     let mut lines = NumberedLines { taker, number: 1 };
     let mut reader = CountedReader::new(&mut *input, limit);
-    let read = drive(&mut lines, &mut reader, false, room, page);
+    let read = drive(&mut lines, &mut reader, false, size, page);
     // The proof reads what the source is after the reads from this use of it.
     let _ = &*input;
     read?;
@@ -205,7 +205,6 @@ pub fn take_cells<V: CellTaker + Drop, R: Source>(
     ensures refused { IfErr result (ListRefused RefusesByLine MAX_READS PAGE
         (source_use R.left R.has_failed input.old input.new)) }
 {
-    let room = row_room(alloc, LONGEST_LINE)?;
-    let mut page = vec![in alloc; 0u8; PAGE].map_err(|_| RunError::Fault(Fault::Memory))?;
-    take_list(taker, input, MAX_READS, room, &mut page)
+    let mut page = row_page(alloc, LONGEST_LINE, PAGE)?;
+    take_list(taker, input, MAX_READS, PAGE, &mut page)
 }

@@ -219,8 +219,7 @@ fn a_read_fault_counts_before_a_faulty_line(rt: HostRuntime) {
 /// then: without an error, or with this one.
 fn ends_in_three(alloc: Global, list: &[u8], left: &[u8], error: Option<RunError>) -> bool {
     let mut source = Streamed::new(list);
-    let mut page = [0; 1];
-    let read = read_list(alloc, &mut source, 3, &mut page);
+    let read = read_list(alloc, &mut source, 3, 1);
     source.into_inner() == left && read.err() == error
 }
 

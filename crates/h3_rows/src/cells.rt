@@ -18,8 +18,7 @@ use crate::said::Said;
 use crate::state::{RowState, first_state};
 use h3_index::{Cell, H3Error};
 use h3_lines::{
-    AnswerError, CellTaker, ColumnError, Fault, Job, MAX_READS, PAGE, RunError, Taking, drive,
-    row_room,
+    AnswerError, CellTaker, ColumnError, Job, MAX_READS, PAGE, RunError, Taking, drive, row_page,
 };
 use h3_requests::{CellField, RowOptions};
 use h3_streams::{CountedReader, Source};
@@ -160,12 +159,10 @@ fn take_pages<V: CellTaker + Drop, R: Source>(
     taker: V,
     options: &RowOptions,
     input: &mut R,
-    room: Vec<u8>,
     page: &mut [u8],
 ) -> Result<V, RunError>
     requires first { V.count taker ≡ 0 }
-    requires room { length room.items ≡ LONGEST }
-    requires page { length page.old ≡ PAGE }
+    requires page { length page.old ≡ LONGEST + PAGE }
     ensures taken { IfOk result (λ after. (cells : List Address)
         × AllRowsRead (form_of options.now []) (Ok cells) (R.left input.old) (R.left input.new)
         × V.taken taker cells after) }
@@ -179,7 +176,7 @@ fn take_pages<V: CellTaker + Drop, R: Source>(
         state: first_state(options),
     };
     let mut reader = CountedReader::new(&mut *input, MAX_READS);
-    let reading = drive(&mut rows, &mut reader, options.quotes, room, page);
+    let reading = drive(&mut rows, &mut reader, options.quotes, PAGE, page);
     // The proof reads what the source is after the reads from this use of it.
     let _ = &*input;
     reading?;
@@ -222,7 +219,6 @@ pub fn take_row_cells<V: CellTaker + Drop, R: Source>(
     ensures refused { IfErr result (λ e. RefusesRows (form_of options.now [])
         (R.left input.old) (R.left input.new) (R.has_failed input.old) (R.has_failed input.new) e) }
 {
-    let room = row_room(alloc, LONGEST)?;
-    let mut page = vec![in alloc; 0u8; PAGE].map_err(|_| RunError::Fault(Fault::Memory))?;
-    take_pages(taker, options, input, room, &mut page)
+    let mut page = row_page(alloc, LONGEST, PAGE)?;
+    take_pages(taker, options, input, &mut page)
 }

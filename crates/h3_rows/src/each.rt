@@ -25,8 +25,8 @@ use crate::state::{RowState, first_state};
 use crate::write::{put_bytes, put_row};
 use h3_index::{H3Error, read_plain};
 use h3_lines::{
-    ANSWER, AnswerError, AnswerLine, BLOCK, ColumnError, Fault, Job, MAX_READS, PAGE, RunError,
-    Taking, drive, refuse, row_room, write_held,
+    ANSWER, AnswerError, AnswerLine, BLOCK, ColumnError, Job, MAX_READS, PAGE, RunError, Taking,
+    drive, refuse, row_page, write_held,
 };
 use h3_requests::{CellField, RowOptions};
 use h3_streams::{CountedReader, Sink, Source};
@@ -551,7 +551,6 @@ impl<'a, 'f, W: Sink, F: RowFunction> Job for RowAnswers<'a, 'f, W, F> {
 fn answer_input<'a, 'f, R: Source, W: Sink, F: RowFunction>(
     answers: &mut RowAnswers<'a, 'f, W, F>,
     input: &mut R,
-    room: Vec<u8>,
     page: &mut [u8],
 ) -> Result<(), RunError>
     requires first { state_of answers.old.state (take answers.old.end answers.old.block)
@@ -560,8 +559,7 @@ fn answer_input<'a, 'f, R: Source, W: Sink, F: RowFunction>(
         answers.old.job.now.is_pair) }
     requires empty { answers.old.end ≡ 0 }
     requires few { answers.old.state.number ≡ 1 }
-    requires room { length room.items ≡ LONGEST }
-    requires page { length page.old ≡ PAGE }
+    requires page { length page.old ≡ LONGEST + PAGE }
     ensures ends { EndsRows answers.old.job.now.options.now.quotes
         (rows_answer
         (columns_form answers.old.job.now.options.now answers.old.job.now.name.now
@@ -578,7 +576,7 @@ fn answer_input<'a, 'f, R: Source, W: Sink, F: RowFunction>(
 {
     let mut reader = CountedReader::new(&mut *input, MAX_READS);
     let quotes = answers.job.options.quotes;
-    let reading = drive(answers, &mut reader, quotes, room, page);
+    let reading = drive(answers, &mut reader, quotes, PAGE, page);
     // The proof reads what the source is after the reads from this use of it.
     let _ = &*input;
     reading?;
@@ -593,11 +591,9 @@ fn answer_pages<'f, R: Source, W: Sink, F: RowFunction>(
     job: &'f RowJob<'f, F>,
     input: &mut R,
     out: &mut W,
-    room: Vec<u8>,
     page: &mut [u8],
 ) -> Result<(), RunError>
-    requires room { length room.items ≡ LONGEST }
-    requires page { length page.old ≡ PAGE }
+    requires page { length page.old ≡ LONGEST + PAGE }
     ensures { EndsRows job.now.options.now.quotes
         (rows_answer (columns_form job.now.options.now job.now.name.now job.now.is_pair)
         (F.answer_of job.now.function.now))
@@ -618,7 +614,7 @@ fn answer_pages<'f, R: Source, W: Sink, F: RowFunction>(
         block: [0; BLOCK],
         end: 0,
     };
-    let ending = answer_input(&mut answers, input, room, page);
+    let ending = answer_input(&mut answers, input, page);
     // The proof reads what the sink is after the writes from this use of it.
     let _ = &*out;
     ending
@@ -641,15 +637,14 @@ pub(crate) fn answer_input_by<R: Source, W: Sink, F: RowFunction>(
         (R.has_failed input.old) (R.has_failed input.new) result
         (sink_use W.taken W.has_failed out.old out.new) }
 {
-    let room = row_room(alloc, LONGEST)?;
-    let mut page = vec![in alloc; 0u8; PAGE].map_err(|_| RunError::Fault(Fault::Memory))?;
+    let mut page = row_page(alloc, LONGEST, PAGE)?;
     let job = RowJob {
         options,
         name,
         is_pair,
         function,
     };
-    answer_pages(&job, input, out, room, &mut page)
+    answer_pages(&job, input, out, &mut page)
 }
 
 /// Writes each row of an input with the answer to its own cell beside it, in order, up to the end or

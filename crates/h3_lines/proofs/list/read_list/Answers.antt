@@ -1,4 +1,4 @@
-use Rattle.std.proofs.Common.{length, refl}
+use Rattle.std.proofs.Common.{refl}
 use Rattle.std.proofs.lemmas.Result.{err_from_is_err_and}
 use Rattle.h3_lines.specs.declared.run_error.Fault.TheVariants.{Memory}
 use Rattle.h3_lines.specs.declared.run_error.RunError.TheVariants.{Fault}
@@ -12,11 +12,11 @@ returns-in-Ok-clause-cells g c =
     let (cells, told, is) = c.in-Ok.ensures.taken in
     items_read _ _ cells c.args.limit _ input c.new.ensures.items is told
 
-pub returns-in-Err-clause-refused : goal.returns-in-Err-clause-refused
-returns-in-Err-clause-refused g c = rw c.without_line.ensures (refused_unnumbered _ _ _ c.in-Err.refusal c.in-Err.ensures.refused)
+pub returns-clause-refused : goal.returns-clause-refused
+returns-clause-refused g c = rw c.without_line.ensures (refused_unnumbered _ _ _ c.in-Err.refusal c.in-Err.ensures.refused)
 
-pub returns-in_err-room-clause-refused : goal.returns-in_err-room-clause-refused
-returns-in_err-room-clause-refused g c =
+pub returns-in_err-page-clause-refused : goal.returns-in_err-page-clause-refused
+returns-in_err-page-clause-refused g c =
     let p = err_from_is_err_and c.from_residual.result c.from_residual.ensures.1 in
     let input = source_use g.R.Source.left g.R.Source.has_failed c.args.input.now c.args.input.now in
-    rw (p.1, p.2, c.in_err-room.ensures.err) (refused_unnumbered c.args.limit (length c.args.page.now) input (Fault Memory) (list_unread c.args.limit (length c.args.page.now) input refl refl))
+    rw (p.1, p.2, c.in_err-page.ensures.err) (refused_unnumbered c.args.limit c.args.size input (Fault Memory) (list_unread c.args.limit c.args.size input refl refl))

@@ -24,7 +24,7 @@ returns-in_err-reading-clause-ends g c =
     (λ v. state_of v.state (take v.end v.block)) (λ v. held_of v.state.before (take v.end v.block)) (λ v. v.out.now) _ _ _
     (λ v w ls t. t.0) (λ v w ls t. ap (λ j last. rows_then last (columns_form j.now.options.now j.now.name.now j.now.is_pair) (g.F.RowFunction.answer_of j.now.function.now)) t.1) (λ v w ls e r. r.0) (λ v is. is)
     (λ s. end_of form.choice s s.before) v w (g.R.Source.left c.args.input.now) (g.R.Source.left after) (g.R.Source.has_failed c.args.input.now) (g.R.Source.has_failed after) e
-    (held_nothing v.state.before v.end v.block c.requires.empty) (rw (c.new-reader.ensures.source, c.new-reader.ensures.limit, c.requires.page) at c.in_err-reading.ensures.err) in
+    (held_nothing v.state.before v.end v.block c.requires.empty) (rw (c.new-reader.ensures.source, c.new-reader.ensures.limit) at c.in_err-reading.ensures.err) in
     let first = subst (λ x. EndsRows v.job.now.options.now.quotes (rows_then (λ s. end_of form.choice s s.before) form answer x) (rows_then nothing_last form answer x) (g.R.Source.left c.args.input.now) (g.R.Source.left after) (g.R.Source.has_failed c.args.input.now) (g.R.Source.has_failed after) (Err e) sink) c.requires.first ends in
     rw (p.1, p.2) (ends_at g.R.Source.left g.R.Source.has_failed after _ v.job.now.options.now.quotes (rows_then (λ s. end_of form.choice s s.before) form answer (start form)) (rows_then nothing_last form answer (start form)) (g.R.Source.left c.args.input.now) (g.R.Source.has_failed c.args.input.now) (Err e) sink (search (rules, c.drive-reading.ensures.same)) first)
 
@@ -35,7 +35,7 @@ returns-clause-ends g c =
     let after = source_of c.drive-reading.new.reader in
     let form = columns_form v.job.now.options.now v.job.now.name.now v.job.now.is_pair in
     let answer = g.F.RowFunction.answer_of v.job.now.function.now in
-    let all = rw (c.new-reader.ensures.source, c.new-reader.ensures.limit, c.requires.page) at c.in_ok-reading.ensures.ok in
+    let all = rw (c.new-reader.ensures.source, c.new-reader.ensures.limit) at c.in_ok-reading.ensures.ok in
     let job : w.job ≡ v.job = all.takes.1 in
     let ends = ends_late v.job.now.options.now.quotes g.W.Sink.taken g.W.Sink.has_failed (λ v last. rows_then last (columns_form v.job.now.options.now v.job.now.name.now v.job.now.is_pair) (g.F.RowFunction.answer_of v.job.now.function.now)) (λ v last s. refl)
     (λ v. state_of v.state (take v.end v.block)) (λ v. held_of v.state.before (take v.end v.block)) (λ v. v.out.now) _ (λ v ls w e. ⊥) _
