@@ -15,7 +15,7 @@ ghost use Rattle.h3_lines.specs.declared.splitting.TheConstants.{LONGEST_LINE};
 
 use crate::line::{BLOCK, Line};
 use crate::plain::{IndexJob, LINES, take_plain};
-use crate::run_error::{AnswerError, Fault, RunError};
+use crate::run_error::{AnswerError, RunError};
 use crate::splitting::{Job, LONGEST_LINE, MAX_READS, PAGE, Taking, drive, row_page};
 use crate::write::{make_room, write_held};
 use h3_index::{H3Error, is_blank_text, read_index};
@@ -367,7 +367,7 @@ pub(crate) fn answer_pages<R: Source, W: Sink, A: Answering>(
 /// - `AnswerError::At` with the line of the first error.
 /// - `Fault::Read` if a read fails, or the end is not found in 2^40 reads.
 /// - `Fault::Write` if a push or a flush fails.
-/// - `Fault::Memory` if there is no memory for the page and a line.
+/// - `Fault::Memory` if there is no memory for the page.
 pub fn answer_each<R: Source, W: Sink, F: AnswerLine>(
     alloc: Global,
     function: &F,

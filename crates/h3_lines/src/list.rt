@@ -103,7 +103,7 @@ pub fn read_list<R: Source>(
 /// - That of the first faulty line: `Failed` if it has more than 64 bytes or parses as no index,
 ///   `CellInvalid` if no cell has the index.
 /// - `Fault::Read` if a read fails, or the end is not found in 2^40 reads.
-/// - `Fault::Memory` if there is no memory for the page, a line, or a cell.
+/// - `Fault::Memory` if there is no memory for the page or a cell.
 pub fn read_cells<R: Source>(alloc: Global, input: &mut R) -> Result<Vec<Cell>, RunError>
     ensures cells { IfOk result (λ cells. ListRead MAX_READS PAGE
         (source_use R.left R.has_failed input.old input.new) cells.items) }
@@ -126,7 +126,7 @@ pub fn read_cells<R: Source>(alloc: Global, input: &mut R) -> Result<Vec<Cell>, 
 /// - `AnswerError::At` with the first faulty line and its error: `Failed` if it has more than 64 bytes or parses as no index,
 ///   `CellInvalid` if no cell has the index.
 /// - `Fault::Read` if a read fails, or the end is not found in 2^40 reads.
-/// - `Fault::Memory` if there is no memory for the page, a line, or a cell.
+/// - `Fault::Memory` if there is no memory for the page or a cell.
 pub fn read_numbered_cells<R: Source>(alloc: Global, input: &mut R) -> Result<Vec<Cell>, RunError>
     ensures cells { IfOk result (λ cells. ListRead MAX_READS PAGE
         (source_use R.left R.has_failed input.old input.new) cells.items) }

@@ -337,8 +337,8 @@ fn finish<J: Job>(job: &mut J, quotes: bool, row: &[u8], inside: bool) -> Result
     job.settle()
 }
 
-/// Has the rows of a source taken by a job, read by read. A row is taken in the page: the beginning of one
-/// that is not ended stands at its front, and the next read goes right behind it.
+/// Has the rows of a source taken by a job, read by read. Each row is taken in the page: the beginning of
+/// one that is not ended is moved to the page's front, and the next read goes right behind it.
 ///
 /// # Errors
 ///

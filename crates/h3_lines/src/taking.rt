@@ -15,7 +15,7 @@ ghost use Rattle.h3_lines.specs.declared.splitting.TheConstants.{LONGEST_LINE};
 
 use crate::list::{cell_with, read_line};
 use crate::plain::{IndexJob, LINES, take_plain};
-use crate::run_error::{AnswerError, Fault, RunError};
+use crate::run_error::{AnswerError, RunError};
 use crate::splitting::{Job, LONGEST_LINE, MAX_READS, PAGE, Taking, drive, row_page};
 use h3_index::{Cell, H3Error};
 use h3_streams::{CountedReader, Source};

@@ -204,7 +204,7 @@ fn take_pages<V: CellTaker + Drop, R: Source>(
 /// - `AnswerError::At` with the number of the first row that is malformed or faulty: `Failed`, or
 ///   `CellInvalid` if no cell has the index.
 /// - `Fault::Read` if a read fails, or the end is not found in 2^40 reads.
-/// - `Fault::Memory` if there is no memory for the page, a row, or what takes the cells.
+/// - `Fault::Memory` if there is no memory for the page or what takes the cells.
 pub fn take_row_cells<V: CellTaker + Drop, R: Source>(
     alloc: Global,
     taker: V,

@@ -665,7 +665,7 @@ pub(crate) fn answer_input_by<R: Source, W: Sink, F: RowFunction>(
 ///   goes on; `AnswerError::AtAndMore` at the end of a run that went on after an error.
 /// - `Fault::Read` if a read fails, or the end is not found in 2^40 reads.
 /// - `Fault::Write` if a push or a flush fails.
-/// - `Fault::Memory` if there is no memory for the page and a row.
+/// - `Fault::Memory` if there is no memory for the page.
 pub fn answer_rows<R: Source, W: Sink, F: AnswerLine>(
     alloc: Global,
     options: &RowOptions,
