@@ -181,6 +181,12 @@ fn a_list_of_many_pages_is_read(rt: HostRuntime) {
         "10000 lines",
         repeats(rt.alloc(), b"85283473fffffff\r\n", 10000, 0x85283473fffffff),
     );
+    let line = after(49, b' ', b"85283473fffffff\n");
+    expect(
+        &rt,
+        "3000 lines of 64 bytes",
+        repeats(rt.alloc(), &line, 3000, 0x85283473fffffff),
+    );
 }
 
 /// Lists, the bytes of a pull, the pull that fails, and whether this counts: no line before it is
