@@ -1,7 +1,7 @@
 //! Cells: their numbers, the moves from one to another, and those that are found by a number.
 
 use crate::expected::{expect, expect_row};
-use crate::rows::{Expected, cell, same};
+use crate::rows::{Expected, cell, same, same_cell};
 use h3_index::{Cell, H3Error, is_pentagon_base, num_cells, pentagon, res0_cell, resolution_from};
 use std::cmp::Ordering;
 
@@ -24,13 +24,12 @@ fn a_cell_has_the_fields_of_its_number(rt: HostRuntime) {
     }
 }
 
-/// The number of a cell with another digit; `Failed` where the digit cannot be replaced.
-fn with_digit(cell: u64, r: u8, digit: u8) -> Result<u64, H3Error> {
-    let cell = Cell::new(cell)?;
+/// Whether a cell with another digit has a number; it has not where the digit cannot be replaced.
+fn has_with_digit(cell: Cell, r: u8, digit: u8, expected: u64) -> bool {
     if r < 1 || r > cell.resolution() || digit > 6 || cell.in_pentagon_base() {
-        return Err(H3Error::Failed);
+        return false;
     }
-    Ok(cell.with_digit(r, digit).raw())
+    cell.with_digit(r, digit).raw() == expected
 }
 
 #[test]
@@ -41,22 +40,18 @@ fn a_digit_is_replaced(rt: HostRuntime) {
         (5, 4, 0x85283473fffffff),
         (1, 6, 0x8529b473fffffff),
     ];
+    let hexagon = cell(&rt, HEXAGON);
     for (row, (r, digit, expected)) in ROWS.iter().enumerate() {
-        expect_row(
-            &rt,
-            row,
-            same(with_digit(HEXAGON, *r, *digit), Ok(*expected)),
-        );
+        expect_row(&rt, row, has_with_digit(hexagon, *r, *digit, *expected));
     }
 }
 
-/// The number of a cell with another base cell; `Failed` where that is none or a pentagon.
-fn with_base(cell: u64, base: u8) -> Result<u64, H3Error> {
-    let cell = Cell::new(cell)?;
+/// Whether a cell with another base cell has a number; it has not where that is none or a pentagon.
+fn has_with_base(cell: Cell, base: u8, expected: u64) -> bool {
     if base > 121 || is_pentagon_base(base) {
-        return Err(H3Error::Failed);
+        return false;
     }
-    Ok(cell.with_base(base).raw())
+    cell.with_base(base).raw() == expected
 }
 
 #[test]
@@ -67,13 +62,10 @@ fn the_base_cell_is_replaced(rt: HostRuntime) {
         (0x85f23473fffffff, 0, 0x85003473fffffff),
         (PENTAGON, 0, 0x8001fffffffffff),
     ];
-    for (row, (cell, base, expected)) in ROWS.iter().enumerate() {
-        expect_row(&rt, row, same(with_base(*cell, *base), Ok(*expected)));
+    for (row, (raw, base, expected)) in ROWS.iter().enumerate() {
+        let is_right = has_with_base(cell(&rt, *raw), *base, *expected);
+        expect_row(&rt, row, is_right);
     }
-}
-
-fn number_of(raw: u64) -> Result<u64, H3Error> {
-    Ok(Cell::new(raw)?.raw())
 }
 
 #[test]
@@ -95,7 +87,11 @@ fn other_numbers_are_no_cells(rt: HostRuntime) {
         0x82080ffffffffff,
     ];
     for (row, raw) in NUMBERS.iter().enumerate() {
-        expect_row(&rt, row, same(number_of(*raw), Err(H3Error::CellInvalid)));
+        expect_row(
+            &rt,
+            row,
+            same_cell(Cell::new(*raw), Err(H3Error::CellInvalid)),
+        );
     }
 }
 
@@ -103,7 +99,7 @@ fn other_numbers_are_no_cells(rt: HostRuntime) {
 #[test]
 fn digits_beside_the_deleted_subsequence_are_accepted(rt: HostRuntime) {
     for (row, raw) in [0x820817fffffffff, 0x82088ffffffffff].iter().enumerate() {
-        expect_row(&rt, row, same(number_of(*raw), Ok(*raw)));
+        expect_row(&rt, row, same_cell(Cell::new(*raw), Ok(*raw)));
     }
 }
 
@@ -173,7 +169,10 @@ fn a_unit_is_one_in_the_last_digit(rt: HostRuntime) {
 }
 
 fn resolution_of(res: i32) -> Result<u64, H3Error> {
-    Ok(u64::from(resolution_from(res)?))
+    match resolution_from(res) {
+        Ok(resolution) => Ok(u64::from(resolution)),
+        Err(error) => Err(error),
+    }
 }
 
 #[test]
@@ -204,10 +203,6 @@ fn cells_are_counted(rt: HostRuntime) {
     }
 }
 
-fn base_cell(b: i32) -> Result<u64, H3Error> {
-    Ok(res0_cell(b)?.raw())
-}
-
 #[test]
 fn base_cells_are_made(rt: HostRuntime) {
     static ROWS: [(i32, Expected); 4] = [
@@ -217,12 +212,8 @@ fn base_cells_are_made(rt: HostRuntime) {
         (122, Err(H3Error::Domain)),
     ];
     for (row, (b, expected)) in ROWS.iter().enumerate() {
-        expect_row(&rt, row, same(base_cell(*b), *expected));
+        expect_row(&rt, row, same_cell(res0_cell(*b), *expected));
     }
-}
-
-fn pentagon_of(res: i32, n: i32) -> Result<u64, H3Error> {
-    Ok(pentagon(res, n)?.raw())
 }
 
 #[test]
@@ -247,7 +238,7 @@ fn pentagons_are_made(rt: HostRuntime) {
         (15, -1, Err(H3Error::Domain)),
     ];
     for (row, (res, n, expected)) in ROWS.iter().enumerate() {
-        expect_row(&rt, row, same(pentagon_of(*res, *n), *expected));
+        expect_row(&rt, row, same_cell(pentagon(*res, *n), *expected));
     }
 }
 

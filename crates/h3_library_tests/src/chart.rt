@@ -11,7 +11,6 @@ use h3_grid::{Disk, step};
 use h3_index::Cell;
 use h3_table::BaseTable;
 use h3_table::vectors::TestTable;
-use std::alloc::{AllocError, Global};
 
 /// The moves of a disk of radius 2, and whether each writes a cell. The first seven are those of
 /// radius 1.
@@ -76,56 +75,83 @@ fn moved(table: &BaseTable, at: &Visit, direction: Direction) -> Option<Visit> {
     }
 }
 
-/// What the moves of a disk write, up to the first that is refused.
-fn visits(
-    alloc: Global,
-    table: &BaseTable,
-    origin: Cell,
-    moves: &[(Direction, bool)],
-) -> Result<Vec<Visit>, AllocError> {
+/// How many cells a disk of radius 2 has.
+const SIZE: usize = 19;
+
+/// What the moves of a disk write, up to the first that is refused: so many visits.
+fn visits(table: &BaseTable, origin: Cell, moves: &[(Direction, bool)]) -> ([Visit; SIZE], usize) {
     let mut at = Visit {
         cell: origin,
         rotation: 0,
         place: (0, 0),
     };
-    let mut all = Vec::new(alloc);
-    all.push(at)?;
+    let mut all = [at; SIZE];
+    let mut count = 1usize;
     for (direction, writes) in moves {
         let Some(next) = moved(table, &at, *direction) else {
-            return Ok(all);
+            return (all, count);
         };
         at = next;
-        if *writes {
-            all.push(at)?;
+        if *writes && count < SIZE {
+            all[count] = at;
+            count += 1;
         }
     }
-    Ok(all)
+    (all, count)
+}
+
+/// More cells than two rounds of steps reach, which are 43 at most.
+const MOST: usize = 64;
+
+/// A list of up to these cells.
+#[derive(Drop)]
+struct Cells {
+    slots: [Cell; MOST],
+    count: usize,
+}
+
+impl Cells {
+    /// A list of no cells.
+    fn none() -> Cells {
+        Cells {
+            slots: [Cell::in_base(0); MOST],
+            count: 0,
+        }
+    }
+
+    /// The cells of the list.
+    fn all(&self) -> &[Cell] {
+        &self.slots[..self.count.min(MOST)]
+    }
+
+    /// Adds a cell, where there is room.
+    fn push(&mut self, cell: Cell) {
+        if self.count < MOST {
+            self.slots[self.count] = cell;
+            self.count += 1;
+        }
+    }
 }
 
 /// The cells of a disk; none where it is refused.
-fn disk_cells(
-    alloc: Global,
-    table: &BaseTable,
-    origin: Cell,
-    k: i32,
-) -> Result<Option<Vec<Cell>>, AllocError> {
-    let mut cells = Vec::new(alloc);
+fn disk_cells(table: &BaseTable, origin: Cell, k: i32) -> Option<Cells> {
     let Ok(walk) = Disk::new(table, origin, k) else {
-        return Ok(None);
+        return None;
     };
+    let mut cells = Cells::none();
     for item in walk {
         match item {
-            Ok((cell, _)) => cells.push(cell)?,
-            Err(_) => return Ok(None),
+            Ok((cell, _)) => cells.push(cell),
+            Err(_) => return None,
         }
     }
-    Ok(Some(cells))
+    Some(cells)
 }
 
 /// Whether the walk wrote these cells.
 fn wrote(all: &[Visit], cells: &[Cell]) -> bool {
-    for (at, cell) in all.iter().zip(cells) {
-        if at.cell != *cell {
+    for place in 0..all.len().min(cells.len()) {
+        if all[place].cell != cells[place] {
             return false;
         }
     }
@@ -185,24 +211,21 @@ fn pairs_apart(table: &BaseTable, all: &[Visit]) -> Option<u32> {
 }
 
 /// Adds the cells that a step reaches from a cell to a list, if they are not in it.
-fn add_neighbors(table: &BaseTable, cell: Cell, cells: &mut Vec<Cell>) -> Result<(), AllocError> {
+fn add_neighbors(table: &BaseTable, cell: Cell, cells: &mut Cells) {
     for direction in DIRECTIONS {
-        if let Ok((reached, _)) = step(table, cell, direction, 0) {
-            if !cells.contains(&reached) {
-                cells.push(reached)?;
-            }
+        if let Ok((reached, _)) = step(table, cell, direction, 0)
+            && !cells.all().contains(&reached)
+        {
+            cells.push(reached);
         }
     }
-    Ok(())
 }
 
 /// Adds the cells that a step reaches from the cells of a list to it.
-fn add_round(table: &BaseTable, cells: &mut Vec<Cell>) -> Result<(), AllocError> {
-    let before = cells.clone()?;
-    for cell in &before {
-        add_neighbors(table, *cell, cells)?;
+fn add_round(table: &BaseTable, cells: &mut Cells) {
+    for place in 0..cells.count.min(MOST) {
+        add_neighbors(table, cells.slots[place], cells);
     }
-    Ok(())
 }
 
 /// Whether all cells of a list are in another one.
@@ -216,91 +239,78 @@ fn are_in(cells: &[Cell], others: &[Cell]) -> bool {
 }
 
 /// Whether the cells of a disk are those that as many rounds of steps reach as its radius.
-fn are_reached(
-    alloc: Global,
-    table: &BaseTable,
-    origin: Cell,
-    k: i32,
-    cells: &[Cell],
-) -> Result<bool, AllocError> {
-    let mut reached = Vec::new(alloc);
-    reached.push(origin)?;
+fn are_reached(table: &BaseTable, origin: Cell, k: i32, cells: &[Cell]) -> bool {
+    let mut reached = Cells::none();
+    reached.push(origin);
     for _round in 0..k {
-        add_round(table, &mut reached)?;
+        add_round(table, &mut reached);
     }
-    Ok(are_in(cells, &reached) && are_in(&reached, cells))
+    are_in(cells, reached.all()) && are_in(reached.all(), cells)
 }
 
 /// Whether all this holds of the disk of a radius with these moves, whose places make this many
 /// pairs a direction apart; `None` where the disk is refused.
 fn is_disk_charted(
-    alloc: Global,
     table: &BaseTable,
     (origin, k): (Cell, i32),
     moves: &[(Direction, bool)],
     pairs: u32,
-) -> Result<Option<bool>, AllocError> {
-    let Some(cells) = disk_cells(alloc, table, origin, k)? else {
-        return Ok(None);
+) -> Option<bool> {
+    let Some(cells) = disk_cells(table, origin, k) else {
+        return None;
     };
-    let all = visits(alloc, table, origin, moves)?;
-    let has_pairs = match pairs_apart(table, &all) {
-        Some(count) => count == pairs,
-        None => false,
-    };
-    let are_reached = are_reached(alloc, table, origin, k, &cells)?;
-    Ok(Some(wrote(&all, &cells) && has_pairs && are_reached))
+    let (visits, count) = visits(table, origin, moves);
+    let all = &visits[..count.min(SIZE)];
+    let is_charted = wrote(all, cells.all())
+        && pairs_apart(table, all) == Some(pairs)
+        && are_reached(table, origin, k, cells.all());
+    Some(is_charted)
 }
 
 /// Whether it holds of radius 1 and 2, whose places make 24 and 84 pairs a direction apart, where
 /// these disks are not refused.
-fn is_cell_charted(alloc: Global, table: &BaseTable, origin: Cell) -> Result<bool, AllocError> {
-    let first = is_disk_charted(alloc, table, (origin, 1), &MOVES[..7], 24)?;
-    let second = is_disk_charted(alloc, table, (origin, 2), &MOVES, 84)?;
-    Ok(first.unwrap_or(true) && second.unwrap_or(true))
+fn is_cell_charted(table: &BaseTable, origin: Cell) -> bool {
+    let first = is_disk_charted(table, (origin, 1), &MOVES[..7], 24);
+    let second = is_disk_charted(table, (origin, 2), &MOVES, 84);
+    first.unwrap_or(true) && second.unwrap_or(true)
 }
 
 /// How many cells of resolution 1 there are in a base cell; `None` where it does not hold of one of
 /// them.
-fn charted_in(rt: &HostRuntime, table: &BaseTable, base: u8) -> Result<Option<u32>, AllocError> {
+fn charted_in(rt: &HostRuntime, table: &BaseTable, base: u8) -> Option<u32> {
     let mut count: u32 = 0;
     for digit in 0..7u64 {
         let raw = 0x0810_03ff_ffff_ffff | u64::from(base) << 45 | digit << 42;
         if let Ok(cell) = Cell::new(raw) {
-            if !holds(
-                rt,
-                digit as usize,
-                is_cell_charted(rt.alloc(), table, cell)?,
-            ) {
-                return Ok(None);
+            if !holds(rt, digit as usize, is_cell_charted(table, cell)) {
+                return None;
             }
             count = count.saturating_add(1);
         }
     }
-    Ok(Some(count))
+    Some(count)
 }
 
 /// Whether it holds of all cells of resolution 1.
-fn is_table_charted(rt: &HostRuntime, table: &BaseTable) -> Result<bool, AllocError> {
+fn is_table_charted(rt: &HostRuntime, table: &BaseTable) -> bool {
     let mut count: u32 = 0;
     for base in 0..122u8 {
-        match charted_in(rt, table, base)? {
+        match charted_in(rt, table, base) {
             Some(charted) => count = count.saturating_add(charted),
-            None => return Ok(holds(rt, usize::from(base), false)),
+            None => return holds(rt, usize::from(base), false),
         }
     }
-    Ok(count == 842)
+    count == 842
 }
 
 #[test]
-fn disks_are_charts(rt: HostRuntime) -> Result<(), AllocError> {
+fn disks_are_charts(rt: HostRuntime) {
     let plain = test_table(&rt, rt.alloc(), TestTable::Plain);
     let twisted = test_table(&rt, rt.alloc(), TestTable::Twisted);
     // of this disk, over two base cells, no step is refused
     let across = (cell(&rt, 0x813d3ffffffffff), 1);
-    let charted = is_disk_charted(rt.alloc(), &twisted, across, &MOVES[..7], 24)?;
-    expect(&rt, "beside", matches!(charted, Some(true)));
-    expect(&rt, "plain", is_table_charted(&rt, &plain)?);
-    expect(&rt, "twisted", is_table_charted(&rt, &twisted)?);
-    Ok(())
+    let charted = is_disk_charted(&twisted, across, &MOVES[..7], 24);
+    expect(&rt, "beside", charted == Some(true));
+    expect(&rt, "plain", is_table_charted(&rt, &plain));
+    expect(&rt, "twisted", is_table_charted(&rt, &twisted));
 }

@@ -1,8 +1,8 @@
 //! Directed edges, by their numbers and by the cells that they leave.
 
 use crate::expected::{expect, expect_row};
-use crate::rows::{Expected, cell, same};
-use h3_index::{Cell, Edge, H3Error, write_index};
+use crate::rows::{Expected, cell, same_edge};
+use h3_index::{Edge, H3Error, write_index};
 use std::cmp::Ordering;
 use std::process::Abort;
 
@@ -32,10 +32,6 @@ fn an_edge_has_the_fields_of_its_number(rt: HostRuntime) {
     );
 }
 
-fn number_of(raw: u64) -> Result<u64, H3Error> {
-    Ok(Edge::new(raw)?.raw())
-}
-
 #[test]
 fn other_numbers_are_no_edges(rt: HostRuntime) {
     static NUMBERS: [u64; 10] = [
@@ -59,13 +55,9 @@ fn other_numbers_are_no_edges(rt: HostRuntime) {
         expect_row(
             &rt,
             row,
-            same(number_of(*raw), Err(H3Error::DirEdgeInvalid)),
+            same_edge(Edge::new(*raw), Err(H3Error::DirEdgeInvalid)),
         );
     }
-}
-
-fn edge_from(origin: u64, direction: u8) -> Result<u64, H3Error> {
-    Ok(Edge::from_parts(Cell::new(origin)?, direction)?.raw())
 }
 
 #[test]
@@ -85,7 +77,8 @@ fn edges_are_made_of_a_cell_and_a_direction(rt: HostRuntime) {
         (0x8108bffffffffff, 1, Ok(0x11108bffffffffff)),
     ];
     for (row, (origin, direction, expected)) in ROWS.iter().enumerate() {
-        expect_row(&rt, row, same(edge_from(*origin, *direction), *expected));
+        let found = Edge::from_parts(cell(&rt, *origin), *direction);
+        expect_row(&rt, row, same_edge(found, *expected));
     }
 }
 

@@ -1,7 +1,7 @@
 //! Steps, disks, rings, neighbors and edges over tables.
 
 use crate::expected::{expect, expect_row};
-use crate::rows::{Expected, cell, clone_of, copy_of, is_cell, same};
+use crate::rows::{Expected, cell, clone_of, copy_of, is_cell, same, same_cell, same_edge};
 use h3_directions::Direction;
 use h3_fakes::{TableFile, holds, open_file, table_file};
 use h3_grid::{
@@ -597,51 +597,34 @@ fn neighbors_are_a_step_apart(rt: HostRuntime) {
     }
 }
 
-/// The number of the edge between two cells.
-fn between(table: &BaseTable, a: u64, b: u64) -> Result<u64, H3Error> {
-    Ok(edge_between(table, Cell::new(a)?, Cell::new(b)?)?.raw())
-}
-
-/// The number of the cell that an edge leads to.
-fn destination(table: &BaseTable, edge: u64) -> Result<u64, H3Error> {
-    Ok(edge_destination(table, Edge::new(edge)?)?.raw())
+/// Whether an edge leads to the cell expected, or is refused with the error expected.
+fn leads_to(table: &BaseTable, edge: u64, expected: Expected) -> bool {
+    match Edge::new(edge) {
+        Ok(edge) => same_cell(edge_destination(table, edge), expected),
+        Err(_) => false,
+    }
 }
 
 /// Whether this edge leads from one cell to another.
-fn joins(table: &BaseTable, edge: u64, a: u64, b: u64) -> bool {
-    same(between(table, a, b), Ok(edge)) && same(destination(table, edge), Ok(b))
+fn joins(table: &BaseTable, edge: u64, a: Cell, b: Cell) -> bool {
+    same_edge(edge_between(table, a, b), Ok(edge)) && leads_to(table, edge, Ok(b.raw()))
 }
 
 #[test]
 fn edges_lead_to_neighbors(rt: HostRuntime) {
     let plain = test_table(&rt, rt.alloc(), TestTable::Plain);
     let twisted = test_table(&rt, rt.alloc(), TestTable::Twisted);
-    expect(
-        &rt,
-        "plain",
-        joins(&plain, 0x115283473fffffff, HEXAGON, 0x85283477fffffff),
-    );
-    expect(
-        &rt,
-        "twisted",
-        joins(
-            &twisted,
-            0x1413d3ffffffffff,
-            0x813d3ffffffffff,
-            0x813efffffffffff,
-        ),
-    );
+    let hexagon = cell(&rt, HEXAGON);
+    let beside = cell(&rt, 0x85283477fffffff);
+    let there = joins(&plain, 0x115283473fffffff, hexagon, beside);
+    expect(&rt, "plain", there);
+    let first = cell(&rt, 0x813d3ffffffffff);
+    let second = cell(&rt, 0x813efffffffffff);
+    let there = joins(&twisted, 0x1413d3ffffffffff, first, second);
+    expect(&rt, "twisted", there);
     // the way back, in the frame of the other base cell
-    expect(
-        &rt,
-        "back by twisted",
-        joins(
-            &twisted,
-            0x1113efffffffffff,
-            0x813efffffffffff,
-            0x813d3ffffffffff,
-        ),
-    );
+    let back = joins(&twisted, 0x1113efffffffffff, second, first);
+    expect(&rt, "back by twisted", back);
 }
 
 #[test]
@@ -657,25 +640,14 @@ fn edges_between_other_cells_are_refused(rt: HostRuntime) {
     ];
     let plain = test_table(&rt, rt.alloc(), TestTable::Plain);
     for (row, (a, b, error)) in ROWS.iter().enumerate() {
-        expect_row(&rt, row, same(between(&plain, *a, *b), Err(*error)));
+        let found = edge_between(&plain, cell(&rt, *a), cell(&rt, *b));
+        expect_row(&rt, row, same_edge(found, Err(*error)));
     }
     // into a pentagon base cell, and out of one
-    expect(
-        &rt,
-        "into a pentagon base cell",
-        same(
-            destination(&plain, 0x11021fffffffffff),
-            Err(H3Error::Pentagon),
-        ),
-    );
-    expect(
-        &rt,
-        "out of a pentagon base cell",
-        same(
-            destination(&plain, 0x12009fffffffffff),
-            Err(H3Error::Pentagon),
-        ),
-    );
+    let into = leads_to(&plain, 0x11021fffffffffff, Err(H3Error::Pentagon));
+    expect(&rt, "into a pentagon base cell", into);
+    let out = leads_to(&plain, 0x12009fffffffffff, Err(H3Error::Pentagon));
+    expect(&rt, "out of a pentagon base cell", out);
 }
 
 /// Whether these edges are the next.

@@ -1,7 +1,7 @@
 //! The hierarchy of cells: parents, children and positions among them.
 
 use crate::expected::{expect, expect_row};
-use crate::rows::{Expected, cell, clone_of, copy_of, is_cell, same};
+use crate::rows::{Expected, cell, clone_of, copy_of, is_cell, same, same_cell};
 use h3_fakes::holds;
 use h3_index::{Cell, H3Error};
 use h3_tree::{
@@ -35,10 +35,6 @@ static CHILDREN_OF_PENTAGON: [u64; 6] = [
     0x8109bffffffffff,
 ];
 
-fn parent_of(cell: u64, res: i32) -> Result<u64, H3Error> {
-    Ok(parent(Cell::new(cell)?, res)?.raw())
-}
-
 #[test]
 fn parents(rt: HostRuntime) {
     static ROWS: [(i32, Expected); 5] = [
@@ -48,13 +44,17 @@ fn parents(rt: HostRuntime) {
         (16, Err(H3Error::ResDomain)),
         (-1, Err(H3Error::ResDomain)),
     ];
+    let hexagon = cell(&rt, HEXAGON);
     for (row, (res, expected)) in ROWS.iter().enumerate() {
-        expect_row(&rt, row, same(parent_of(HEXAGON, *res), *expected));
+        expect_row(&rt, row, same_cell(parent(hexagon, *res), *expected));
     }
 }
 
 fn children_of(cell: u64, res: i32) -> Result<Children, H3Error> {
-    children(Cell::new(cell)?, res)
+    match Cell::new(cell) {
+        Ok(cell) => children(cell, res),
+        Err(error) => Err(error),
+    }
 }
 
 /// Whether these cells are the next children.
@@ -174,10 +174,6 @@ fn sibling_groups_of_grandchildren(rt: HostRuntime) {
     );
 }
 
-fn key_of(cell: u64) -> Result<u64, H3Error> {
-    Ok(post_order_key(Cell::new(cell)?))
-}
-
 /// The last child of a cell, the cell, and a child of the next one.
 #[test]
 fn a_cell_comes_after_its_children(rt: HostRuntime) {
@@ -186,15 +182,12 @@ fn a_cell_comes_after_its_children(rt: HostRuntime) {
         (HEXAGON, 0x283473fffffff),
         (0x862834747ffffff, 0x2834747ffffff),
     ];
-    let mut before = 0;
-    for (row, (cell, key)) in ROWS.iter().enumerate() {
-        expect_row(&rt, row, before < *key && same(key_of(*cell), Ok(*key)));
+    let mut before = 0u64;
+    for (row, (raw, key)) in ROWS.iter().enumerate() {
+        let found = post_order_key(cell(&rt, *raw));
+        expect_row(&rt, row, before < *key && found == *key);
         before = *key;
     }
-}
-
-fn size_of_children(cell: u64, res: i32) -> Result<u64, H3Error> {
-    children_size(Cell::new(cell)?, res)
 }
 
 #[test]
@@ -207,13 +200,10 @@ fn children_are_counted(rt: HostRuntime) {
         (HEXAGON, 4, Err(H3Error::ResDomain)),
         (HEXAGON, 16, Err(H3Error::ResDomain)),
     ];
-    for (row, (cell, res, expected)) in ROWS.iter().enumerate() {
-        expect_row(&rt, row, same(size_of_children(*cell, *res), *expected));
+    for (row, (raw, res, expected)) in ROWS.iter().enumerate() {
+        let found = children_size(cell(&rt, *raw), *res);
+        expect_row(&rt, row, same(found, *expected));
     }
-}
-
-fn center_of(cell: u64, res: i32) -> Result<u64, H3Error> {
-    Ok(center_child(Cell::new(cell)?, res)?.raw())
 }
 
 #[test]
@@ -225,13 +215,10 @@ fn center_children(rt: HostRuntime) {
         (4, Err(H3Error::ResDomain)),
         (16, Err(H3Error::ResDomain)),
     ];
+    let hexagon = cell(&rt, HEXAGON);
     for (row, (res, expected)) in ROWS.iter().enumerate() {
-        expect_row(&rt, row, same(center_of(HEXAGON, *res), *expected));
+        expect_row(&rt, row, same_cell(center_child(hexagon, *res), *expected));
     }
-}
-
-fn last_of(cell: u64, res: i32) -> Result<u64, H3Error> {
-    Ok(last_child(Cell::new(cell)?, res)?.raw())
 }
 
 #[test]
@@ -247,25 +234,37 @@ fn last_children(rt: HostRuntime) {
         (HEXAGON, 4, Err(H3Error::ResDomain)),
         (HEXAGON, 16, Err(H3Error::ResDomain)),
     ];
-    for (row, (cell, res, expected)) in ROWS.iter().enumerate() {
-        expect_row(&rt, row, same(last_of(*cell, *res), *expected));
+    for (row, (raw, res, expected)) in ROWS.iter().enumerate() {
+        let found = last_child(cell(&rt, *raw), *res);
+        expect_row(&rt, row, same_cell(found, *expected));
     }
 }
 
 /// The first and the last of a cell's children at a resolution; `None` where it has none there.
 fn ends_of(cell: Cell, res: i32) -> Option<(Cell, Cell)> {
-    let mut ends = None;
-    for child in children(cell, res).ok()? {
-        ends = match ends {
-            Some((first, _)) => Some((first, child)),
-            None => Some((child, child)),
-        };
+    let Ok(mut items) = children(cell, res) else {
+        return None;
+    };
+    let Some(first) = items.next() else {
+        return None;
+    };
+    let mut last = first;
+    for child in items {
+        last = child;
     }
-    ends
+    Some((first, last))
 }
 
-fn ends_by_digits(cell: Cell, res: i32) -> Result<(Cell, Cell), H3Error> {
-    Ok((center_child(cell, res)?, last_child(cell, res)?))
+/// Whether a cell has such children, and they are the center child and the last one.
+fn has_ends(cell: Cell, res: i32) -> bool {
+    match (
+        ends_of(cell, res),
+        center_child(cell, res),
+        last_child(cell, res),
+    ) {
+        (Some((first, last)), Ok(center), Ok(end)) => first == center && last == end,
+        _ => false,
+    }
 }
 
 /// The children of a cell at a resolution begin with the center child and end with the last one.
@@ -279,18 +278,9 @@ fn children_go_from_the_center_to_the_last(rt: HostRuntime) {
         (PENTAGON, 1),
         (PENTAGON, 4),
     ];
-    for (row, (number, res)) in ROWS.iter().enumerate() {
-        let cell = cell(&rt, *number);
-        let right = match ends_by_digits(cell, *res) {
-            Ok(ends) => ends_of(cell, *res) == Some(ends),
-            Err(_) => false,
-        };
-        expect_row(&rt, row, right);
+    for (row, (raw, res)) in ROWS.iter().enumerate() {
+        expect_row(&rt, row, has_ends(cell(&rt, *raw), *res));
     }
-}
-
-fn position_of(cell: u64, res: i32) -> Result<u64, H3Error> {
-    child_pos(Cell::new(cell)?, res)
 }
 
 #[test]
@@ -306,13 +296,10 @@ fn positions(rt: HostRuntime) {
         (0x8108bffffffffff, 0, Ok(1)),
         (0x820817fffffffff, 0, Ok(1)),
     ];
-    for (row, (cell, res, expected)) in ROWS.iter().enumerate() {
-        expect_row(&rt, row, same(position_of(*cell, *res), *expected));
+    for (row, (raw, res, expected)) in ROWS.iter().enumerate() {
+        let found = child_pos(cell(&rt, *raw), *res);
+        expect_row(&rt, row, same(found, *expected));
     }
-}
-
-fn member_at(position: u64, cell: u64, res: i32) -> Result<u64, H3Error> {
-    Ok(child_at(position, Cell::new(cell)?, res)?.raw())
 }
 
 #[test]
@@ -328,7 +315,8 @@ fn members_at_positions(rt: HostRuntime) {
         (41, 0x8108bffffffffff, 16, Err(H3Error::ResDomain)),
         (41, 0x8108bffffffffff, 0, Err(H3Error::ResMismatch)),
     ];
-    for (row, (position, cell, res, expected)) in ROWS.iter().enumerate() {
-        expect_row(&rt, row, same(member_at(*position, *cell, *res), *expected));
+    for (row, (position, raw, res, expected)) in ROWS.iter().enumerate() {
+        let found = child_at(*position, cell(&rt, *raw), *res);
+        expect_row(&rt, row, same_cell(found, *expected));
     }
 }

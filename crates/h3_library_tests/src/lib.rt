@@ -15,6 +15,8 @@ mod grid;
 #[cfg(test)]
 mod hierarchy;
 #[cfg(test)]
+mod leaves;
+#[cfg(test)]
 mod regions;
 #[cfg(test)]
 mod rows;
@@ -24,5 +26,7 @@ mod sets;
 mod sums;
 #[cfg(test)]
 mod texts;
+#[cfg(test)]
+mod zoned;
 #[cfg(test)]
 mod zones;

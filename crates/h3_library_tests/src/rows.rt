@@ -1,7 +1,7 @@
 //! What the tests of all subjects share: cells, and comparisons.
 
 use h3_fakes::holds;
-use h3_index::{Cell, H3Error};
+use h3_index::{Cell, Edge, H3Error};
 use std::alloc::AllocError;
 use std::process::Abort;
 
@@ -17,6 +17,22 @@ pub fn same(found: Result<u64, H3Error>, expected: Expected) -> bool {
     }
 }
 
+/// Whether a call returned the cell with the number, or the error, that was expected.
+pub fn same_cell(found: Result<Cell, H3Error>, expected: Expected) -> bool {
+    match found {
+        Ok(cell) => same(Ok(cell.raw()), expected),
+        Err(error) => same(Err(error), expected),
+    }
+}
+
+/// Whether a call returned the edge with the number, or the error, that was expected.
+pub fn same_edge(found: Result<Edge, H3Error>, expected: Expected) -> bool {
+    match found {
+        Ok(edge) => same(Ok(edge.raw()), expected),
+        Err(error) => same(Err(error), expected),
+    }
+}
+
 /// Whether an iterator gave a cell, and this one.
 pub fn is_cell(found: Option<Cell>, expected: u64) -> bool {
     match found {
@@ -27,8 +43,8 @@ pub fn is_cell(found: Option<Cell>, expected: u64) -> bool {
 
 /// Whether these are the cells, in this order.
 pub fn is_list(rt: &HostRuntime, cells: &[Cell], expected: &[u64]) -> bool {
-    for (place, (cell, raw)) in cells.iter().zip(expected).enumerate() {
-        if !holds(rt, place, cell.raw() == *raw) {
+    for place in 0..cells.len().min(expected.len()) {
+        if !holds(rt, place, cells[place].raw() == expected[place]) {
             return false;
         }
     }
@@ -41,6 +57,17 @@ pub fn cell(rt: &impl Abort, raw: u64) -> Cell {
         Ok(cell) => cell,
         Err(_) => panic!(rt; "{raw:x} is no cell"),
     }
+}
+
+/// Puts the cells of a list into the first slots; returns how many they are.
+pub fn put(slots: &mut [Cell], raws: &[u64]) -> usize {
+    let count = raws.len().min(slots.len());
+    for place in 0..count {
+        if let Ok(cell) = Cell::new(raws[place]) {
+            slots[place] = cell;
+        }
+    }
+    count
 }
 
 /// A copy, of a type that is `Copy`.

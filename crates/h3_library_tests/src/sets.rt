@@ -8,6 +8,7 @@ use h3_set::{Compaction, Uncompact, compact_cells, compact_in_order, compact_in_
 use h3_tree::{Children, children};
 use std::alloc::{AllocError, Global};
 use std::mem::size_of;
+use std::process::Abort;
 
 /// A hexagon of resolution 5, and its children.
 const HEXAGON: u64 = 0x85283473fffffff;
@@ -195,36 +196,37 @@ fn compacts(rt: &HostRuntime, cells: &[Cell], expected: &[u64]) -> bool {
     is_list(rt, &slots[..count], expected) && are_all(&slots, given, other)
 }
 
+/// Adds a cell to a list.
+fn push(rt: &impl Abort, cells: &mut Vec<Cell>, cell: Cell) {
+    expect(rt, "memory", cells.push(cell).is_ok());
+}
+
 /// The descendants of a cell at a resolution; none where they are refused.
-fn descendants(alloc: Global, cell: u64, res: i32) -> Result<Vec<Cell>, AllocError> {
+fn descendants(rt: &impl Abort, alloc: Global, cell: u64, res: i32) -> Vec<Cell> {
     let mut cells = Vec::new(alloc);
-    let Ok(ancestor) = Cell::new(cell) else {
-        return Ok(cells);
-    };
-    let Ok(items) = children(ancestor, res) else {
-        return Ok(cells);
-    };
-    for cell in items {
-        cells.push(cell)?;
+    if let Ok(ancestor) = Cell::new(cell)
+        && let Ok(items) = children(ancestor, res)
+    {
+        for cell in items {
+            push(rt, &mut cells, cell);
+        }
     }
-    Ok(cells)
+    cells
 }
 
 #[test]
-fn seven_siblings_are_compacted(rt: HostRuntime) -> Result<(), AllocError> {
-    let mut cells = descendants(rt.alloc(), HEXAGON, 6)?;
+fn seven_siblings_are_compacted(rt: HostRuntime) {
+    let mut cells = descendants(&rt, rt.alloc(), HEXAGON, 6);
     cells.reverse();
     expect(&rt, "hexagon", compacts(&rt, &cells, &[HEXAGON]));
-    Ok(())
 }
 
 #[test]
-fn the_six_siblings_of_a_pentagon_are_compacted(rt: HostRuntime) -> Result<(), AllocError> {
-    let mut cells = descendants(rt.alloc(), PENTAGON, 1)?;
+fn the_six_siblings_of_a_pentagon_are_compacted(rt: HostRuntime) {
+    let mut cells = descendants(&rt, rt.alloc(), PENTAGON, 1);
     expect(&rt, "pentagon", compacts(&rt, &cells, &[PENTAGON]));
     let _ = cells.pop();
     expect(&rt, "all but one", compacts(&rt, &cells, &BELOW_BOTH[..5]));
-    Ok(())
 }
 
 /// Whether two lists of slots have the same cells from one place to another.
@@ -266,7 +268,7 @@ fn rounds_agree(rt: &HostRuntime, cells: &[Cell]) -> bool {
 }
 
 #[test]
-fn two_levels_are_compacted(rt: HostRuntime) -> Result<(), AllocError> {
+fn two_levels_are_compacted(rt: HostRuntime) {
     static REST: [u64; 12] = [
         0x81283ffffffffff,
         0x81287ffffffffff,
@@ -281,14 +283,14 @@ fn two_levels_are_compacted(rt: HostRuntime) -> Result<(), AllocError> {
         0x8229a7fffffffff,
         0x8229affffffffff,
     ];
-    let mut cells = descendants(rt.alloc(), BASE, 2)?;
+    let mut cells = descendants(&rt, rt.alloc(), BASE, 2);
     expect(&rt, "49 cells", cells.len() == 49);
     expect(&rt, "all", compacts(&rt, &cells, &[BASE]));
     expect(&rt, "rounds of all", rounds_agree(&rt, &cells));
     expect(&rt, "the last", is_cell(cells.pop(), 0x8229b7fffffffff));
     expect(&rt, "all but the last", compacts(&rt, &cells, &REST));
     expect(&rt, "rounds of all but the last", rounds_agree(&rt, &cells));
-    cells.push(Cell::in_base(121))?;
+    push(&rt, &mut cells, Cell::in_base(121));
     expect(
         &rt,
         "rounds with another base cell",
@@ -296,7 +298,6 @@ fn two_levels_are_compacted(rt: HostRuntime) -> Result<(), AllocError> {
     );
     cells.reverse();
     expect(&rt, "rounds in reverse", rounds_agree(&rt, &cells));
-    Ok(())
 }
 
 /// Whether a compaction of cells has this level and this many slots in use before its first round.
@@ -376,14 +377,13 @@ fn overlaps(cells: &[Cell]) -> bool {
 
 /// The cells below the first six children of base cell 20, then base cell 20.
 #[test]
-fn a_distant_ancestor_is_refused(rt: HostRuntime) -> Result<(), AllocError> {
-    let mut cells = descendants(rt.alloc(), BASE, 2)?;
+fn a_distant_ancestor_is_refused(rt: HostRuntime) {
+    let mut cells = descendants(&rt, rt.alloc(), BASE, 2);
     cells.truncate(42);
-    cells.push(cell(&rt, BASE))?;
+    push(&rt, &mut cells, cell(&rt, BASE));
     expect(&rt, "in order", overlaps(&cells));
     cells.reverse();
     expect(&rt, "in reverse", overlaps(&cells));
-    Ok(())
 }
 
 /// Whether the cells are compacted in their own memory as they are in slots, or refused with the
@@ -407,18 +407,18 @@ fn agrees_in_place(cells: &[Cell]) -> bool {
 }
 
 #[test]
-fn cells_are_compacted_in_place(rt: HostRuntime) -> Result<(), AllocError> {
+fn cells_are_compacted_in_place(rt: HostRuntime) {
     let coarse = cell(&rt, PARENT);
     expect(&rt, "none", agrees_in_place(&[]));
     expect(&rt, "one", agrees_in_place(&[coarse]));
     expect(&rt, "twice", agrees_in_place(&[coarse, coarse]));
-    let mut cells = descendants(rt.alloc(), PENTAGON, 2)?;
+    let mut cells = descendants(&rt, rt.alloc(), PENTAGON, 2);
     expect(&rt, "41 cells", cells.len() == 41);
     expect(&rt, "in order", agrees_in_place(&cells));
     cells.reverse();
-    cells.push(coarse)?;
+    push(&rt, &mut cells, coarse);
     expect(&rt, "in reverse, and another", agrees_in_place(&cells));
-    cells.push(cell(&rt, PENTAGON))?;
+    push(&rt, &mut cells, cell(&rt, PENTAGON));
     expect(&rt, "with an ancestor", agrees_in_place(&cells));
     let _ = cells.pop();
     expect(
@@ -428,7 +428,6 @@ fn cells_are_compacted_in_place(rt: HostRuntime) -> Result<(), AllocError> {
     );
     cells.truncate(2);
     expect(&rt, "which two", is_list(&rt, &cells, &[PENTAGON, PARENT]));
-    Ok(())
 }
 
 /// In post order a cell comes before the coarser ones of later base cells, which have the smaller
@@ -479,9 +478,9 @@ fn has_ends(cells: &[Cell], slots: &mut [Cell], count: usize, first: u64, last: 
 }
 
 #[test]
-fn six_levels_are_compacted(rt: HostRuntime) -> Result<(), AllocError> {
-    let mut cells = descendants(rt.alloc(), BASE, 6)?;
-    let mut slots = descendants(rt.alloc(), BASE, 6)?;
+fn six_levels_are_compacted(rt: HostRuntime) {
+    let mut cells = descendants(&rt, rt.alloc(), BASE, 6);
+    let mut slots = descendants(&rt, rt.alloc(), BASE, 6);
     expect(&rt, "117649 cells", cells.len() == 117649);
     expect(&rt, "in order", has_ends(&cells, &mut slots, 1, BASE, BASE));
     cells.reverse();
@@ -490,13 +489,12 @@ fn six_levels_are_compacted(rt: HostRuntime) -> Result<(), AllocError> {
         "in reverse",
         has_ends(&cells, &mut slots, 1, BASE, BASE),
     );
-    Ok(())
 }
 
 #[test]
-fn five_levels_below_a_pentagon_are_compacted(rt: HostRuntime) -> Result<(), AllocError> {
-    let mut cells = descendants(rt.alloc(), PENTAGON, 5)?;
-    let mut slots = descendants(rt.alloc(), PENTAGON, 5)?;
+fn five_levels_below_a_pentagon_are_compacted(rt: HostRuntime) {
+    let mut cells = descendants(&rt, rt.alloc(), PENTAGON, 5);
+    let mut slots = descendants(&rt, rt.alloc(), PENTAGON, 5);
     expect(&rt, "14006 cells", cells.len() == 14006);
     expect(
         &rt,
@@ -516,12 +514,11 @@ fn five_levels_below_a_pentagon_are_compacted(rt: HostRuntime) -> Result<(), All
         "in reverse",
         has_ends(&cells, &mut slots, 29, first, last),
     );
-    Ok(())
 }
 
 /// Digit 0 below one cell of resolution 5, digits 1 to 6 below the next.
 #[test]
-fn siblings_of_two_parents_are_not_one_set(rt: HostRuntime) -> Result<(), AllocError> {
+fn siblings_of_two_parents_are_not_one_set(rt: HostRuntime) {
     static CELLS: [u64; 7] = [
         0x862834707ffffff,
         0x86283474fffffff,
@@ -531,28 +528,26 @@ fn siblings_of_two_parents_are_not_one_set(rt: HostRuntime) -> Result<(), AllocE
         0x86283476fffffff,
         0x862834777ffffff,
     ];
-    let mut cells = descendants(rt.alloc(), HEXAGON, 6)?;
+    let mut cells = descendants(&rt, rt.alloc(), HEXAGON, 6);
     cells.truncate(1);
-    let next = descendants(rt.alloc(), 0x85283477fffffff, 6)?;
+    let next = descendants(&rt, rt.alloc(), 0x85283477fffffff, 6);
     for cell in next.iter().skip(1) {
-        cells.push(*cell)?;
+        push(&rt, &mut cells, *cell);
     }
     expect(&rt, "cells", compacts(&rt, &cells, &CELLS));
-    Ok(())
 }
 
 /// Adds cells to a list; those that are none are left out.
-fn add(cells: &mut Vec<Cell>, others: &[u64]) -> Result<(), AllocError> {
+fn add(rt: &impl Abort, cells: &mut Vec<Cell>, others: &[u64]) {
     for raw in others {
         if let Ok(cell) = Cell::new(*raw) {
-            cells.push(cell)?;
+            push(rt, cells, cell);
         }
     }
-    Ok(())
 }
 
 #[test]
-fn cells_of_several_resolutions_are_compacted(rt: HostRuntime) -> Result<(), AllocError> {
+fn cells_of_several_resolutions_are_compacted(rt: HostRuntime) {
     static OTHERS: [u64; 6] = [
         0x85283463fffffff,
         0x85283467fffffff,
@@ -561,8 +556,8 @@ fn cells_of_several_resolutions_are_compacted(rt: HostRuntime) -> Result<(), All
         0x85283477fffffff,
         0x8528347bfffffff,
     ];
-    let mut cells = descendants(rt.alloc(), HEXAGON, 6)?;
-    add(&mut cells, &OTHERS)?;
+    let mut cells = descendants(&rt, rt.alloc(), HEXAGON, 6);
+    add(&rt, &mut cells, &OTHERS);
     expect(&rt, "in order", compacts(&rt, &cells, &[PARENT]));
     cells.reverse();
     expect(&rt, "in reverse", compacts(&rt, &cells, &[PARENT]));
@@ -573,7 +568,6 @@ fn cells_of_several_resolutions_are_compacted(rt: HostRuntime) -> Result<(), All
         "two cells",
         compacts(&rt, &two, &[0x81083ffffffffff, HEXAGON]),
     );
-    Ok(())
 }
 
 /// A coarser cell has a smaller number than any finer one, wherever their base cells are.
@@ -588,9 +582,7 @@ fn coarser_cells_come_first(rt: HostRuntime) {
 }
 
 #[test]
-fn cells_of_two_resolutions_below_a_pentagon_are_compacted(
-    rt: HostRuntime,
-) -> Result<(), AllocError> {
+fn cells_of_two_resolutions_below_a_pentagon_are_compacted(rt: HostRuntime) {
     static CELLS: [u64; 11] = [
         0x8108bffffffffff,
         0x8108fffffffffff,
@@ -605,9 +597,8 @@ fn cells_of_two_resolutions_below_a_pentagon_are_compacted(
         0x820837fffffffff,
     ];
     let mut cells = Vec::new(rt.alloc());
-    add(&mut cells, &CELLS)?;
+    add(&rt, &mut cells, &CELLS);
     expect(&rt, "pentagon", compacts(&rt, &cells, &[PENTAGON]));
-    Ok(())
 }
 
 /// The compacted list of a list of cells; no cells where it is refused.
@@ -672,7 +663,7 @@ fn compacts_in_parts(rt: &HostRuntime, cells: &[Cell]) -> Result<bool, AllocErro
 
 #[test]
 fn a_list_is_compacted_in_parts(rt: HostRuntime) -> Result<(), AllocError> {
-    let mut cells = descendants(rt.alloc(), BASE, 5)?;
+    let mut cells = descendants(&rt, rt.alloc(), BASE, 5);
     expect(&rt, "16807 cells", cells.len() == 16807);
     expect(&rt, "in order", compacts_in_parts(&rt, &cells)?);
     cells.reverse();

@@ -141,10 +141,23 @@ fn is_direction(found: Option<Direction>, expected: Option<Direction>) -> bool {
     }
 }
 
+/// A digit, its direction, the opposite one, and the direction turned once.
+type Turns = (u8, Direction, Direction, Direction);
+
+/// Whether a direction has this digit, and turns so.
+fn turns((digit, direction, opposite, turned): Turns) -> bool {
+    direction.digit() == digit
+        && is_direction(Direction::from_digit(digit), Some(direction))
+        && direction.opposite() == opposite
+        && turn(direction, 1) == turned
+        && turn(direction, 0) == direction
+        && turn(direction, 3) == opposite
+        && turn(direction, 255) == opposite
+}
+
 #[test]
 fn directions_have_opposites_and_turns(rt: HostRuntime) {
-    // a digit, its direction, the opposite one, and the direction turned once
-    static ROWS: [(u8, Direction, Direction, Direction); 6] = [
+    static ROWS: [Turns; 6] = [
         (1, Direction::K, Direction::IJ, Direction::IK),
         (2, Direction::J, Direction::IK, Direction::JK),
         (3, Direction::JK, Direction::I, Direction::K),
@@ -152,21 +165,13 @@ fn directions_have_opposites_and_turns(rt: HostRuntime) {
         (5, Direction::IK, Direction::J, Direction::I),
         (6, Direction::IJ, Direction::K, Direction::J),
     ];
-    for (row, (digit, direction, opposite, turned)) in ROWS.iter().enumerate() {
-        expect_row(&rt, row, direction.digit() == *digit);
-        expect_row(
-            &rt,
-            row,
-            is_direction(Direction::from_digit(*digit), Some(*direction)),
-        );
-        expect_row(&rt, row, direction.opposite() == *opposite);
-        expect_row(&rt, row, turn(*direction, 1) == *turned);
-        expect_row(&rt, row, turn(*direction, 0) == *direction);
-        expect_row(&rt, row, turn(*direction, 3) == *opposite);
-        expect_row(&rt, row, turn(*direction, 255) == *opposite);
+    for row in 0..ROWS.len() {
+        expect_row(&rt, row, turns(ROWS[row]));
     }
-    for (row, digit) in [0, 7, 255].iter().enumerate() {
-        expect_row(&rt, row, is_direction(Direction::from_digit(*digit), None));
+    static OTHERS: [u8; 3] = [0, 7, 255];
+    for row in 0..OTHERS.len() {
+        let found = Direction::from_digit(OTHERS[row]);
+        expect_row(&rt, row, is_direction(found, None));
     }
 }
 

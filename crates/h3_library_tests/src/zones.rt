@@ -3,7 +3,7 @@
 ghost use Rattle.std.specs.Prelude.{◌≡◌, ◌+◌, ◌≤◌, length, sum};
 
 use crate::expected::expect_row;
-use crate::rows::{cell, is_list};
+use crate::rows::{cell, is_list, put};
 use h3_fakes::holds;
 use h3_index::Cell;
 use h3_regions::laws::zones_are_lawful;
@@ -114,9 +114,9 @@ type Row = (Cell, u64);
 /// The rows for a list of zones: with no zone where the list does not have it.
 fn rows_of(rt: &impl Abort, list: &[u64], step: usize) -> [Row; SIZE] {
     let mut rows = [(Cell::in_base(0), 0); SIZE];
-    for (place, row) in rows.iter_mut().enumerate() {
+    for place in 0..SIZE {
         let (raw, zone) = ROWS[place.wrapping_mul(step) % SIZE];
-        *row = (cell(rt, raw), if list.contains(&zone) { zone } else { 0 });
+        rows[place] = (cell(rt, raw), if list.contains(&zone) { zone } else { 0 });
     }
     rows
 }
@@ -124,22 +124,10 @@ fn rows_of(rt: &impl Abort, list: &[u64], step: usize) -> [Row; SIZE] {
 /// The cells of rows.
 fn cells_of(rows: &[Row; SIZE]) -> [Cell; SIZE] {
     let mut cells = [Cell::in_base(0); SIZE];
-    for (slot, (seen, _)) in cells.iter_mut().zip(rows) {
-        *slot = *seen;
+    for place in 0..SIZE {
+        cells[place] = rows[place].0;
     }
     cells
-}
-
-/// Puts the cells of a list into the first slots; returns how many they are.
-fn put(slots: &mut [Cell; MOST], list: &[u64]) -> usize
-    ensures { result ≤ MOST }
-{
-    for (slot, raw) in slots.iter_mut().zip(list) {
-        if let Ok(cell) = Cell::new(*raw) {
-            *slot = cell;
-        }
-    }
-    list.len().min(MOST)
 }
 
 /// The number of a zone, 0 for none.
@@ -185,7 +173,7 @@ fn are_near(
 /// Whether the rows' zones are found from the first place, the third, and one after all.
 fn are_near_all(rt: &HostRuntime, list: &[u64], rows: &[Row; SIZE]) -> bool {
     let mut slots = [Cell::in_base(0); MOST];
-    let given = put(&mut slots, list);
+    let given = put(&mut slots, list).min(MOST);
     let Ok(zones) = Zones::of(&mut slots[..given]) else {
         return false;
     };
@@ -228,8 +216,8 @@ fn are_joined(rt: &HostRuntime, index: &ZoneIndex, rows: &[Row; SIZE]) -> bool {
     let mut others = [beside; SIZE + 1];
     join_indexed(index, &cells, &mut places);
     join(&index.zones(), &cells, &mut others);
-    for (row, (found, (_, zone))) in places.iter().zip(rows).enumerate() {
-        if !holds(rt, row, number(*found) == *zone) {
+    for row in 0..SIZE {
+        if !holds(rt, row, number(places[row]) == rows[row].1) {
             return false;
         }
     }
@@ -276,29 +264,45 @@ fn are_found_in(rt: &HostRuntime, tabled: &TabledZones, rows: &[Row; SIZE]) -> b
     true
 }
 
-/// Whether zones with a table answer as the rows say.
-fn are_indexed(rt: &HostRuntime, list: &[u64], table: usize, rows: &[Row; SIZE]) -> bool {
-    let mut slots = [Cell::in_base(0); MOST];
-    let mut places = [7u32; ROOM];
-    let given = put(&mut slots, list);
-    let Ok(zones) = Zones::of(&mut slots[..given]) else {
-        return false;
-    };
-    let others = [3u32; ROOM];
-    let kept = TabledZones::over(&zones, &others[..table.min(ROOM)]);
-    if !are_found_in(rt, &kept, rows) {
-        return false;
-    }
-    write_table(&zones, &mut places[..table.min(ROOM)]);
-    let kept = TabledZones::over(&zones, &places[..table.min(ROOM)]);
-    if !are_found_in(rt, &kept, rows) {
-        return false;
-    }
-    let index = ZoneIndex::of(&zones, &mut places[..table.min(ROOM)]);
+/// Whether zones with a table, which may be that of other zones, answer as the rows say.
+fn are_tabled<'a>(
+    rt: &HostRuntime,
+    zones: &Zones<'a>,
+    table: &'a [u32],
+    rows: &[Row; SIZE],
+) -> bool {
+    are_found_in(rt, &TabledZones::over(zones, table), rows)
+}
+
+/// Whether an index of zones answers as the rows say.
+fn is_index<'a>(
+    rt: &HostRuntime,
+    zones: &Zones<'a>,
+    places: &'a mut [u32],
+    rows: &[Row; SIZE],
+) -> bool {
+    let index = ZoneIndex::of(zones, places);
     index.zones().cells() == zones.cells()
         && are_found(rt, &index, rows)
         && are_joined(rt, &index, rows)
         && are_counted(rt, &index, rows)
+}
+
+/// Whether zones with a table answer as the rows say.
+fn are_indexed(rt: &HostRuntime, list: &[u64], table: usize, rows: &[Row; SIZE]) -> bool {
+    let mut slots = [Cell::in_base(0); MOST];
+    let given = put(&mut slots, list).min(MOST);
+    let Ok(zones) = Zones::of(&mut slots[..given]) else {
+        return false;
+    };
+    let size = table.min(ROOM);
+    let others = [3u32; ROOM];
+    if !are_tabled(rt, &zones, &others[..size], rows) {
+        return false;
+    }
+    let mut places = [7u32; ROOM];
+    write_table(&zones, &mut places[..size]);
+    are_tabled(rt, &zones, &places[..size], rows) && is_index(rt, &zones, &mut places[..size], rows)
 }
 
 #[test]
@@ -364,7 +368,7 @@ fn are_counts_of(rt: &HostRuntime, zones: &Zones, counts: &[u64], rows: &[Row; S
 /// Whether the rows are counted one by one, as they are all at once.
 fn are_taken(rt: &HostRuntime, list: &[u64], rows: &[Row; SIZE]) -> bool {
     let mut slots = [Cell::in_base(0); MOST];
-    let given = put(&mut slots, list);
+    let given = put(&mut slots, list).min(MOST);
     let Ok(zones) = Zones::of(&mut slots[..given]) else {
         return false;
     };
@@ -399,7 +403,10 @@ fn cells_are_counted_one_by_one(rt: HostRuntime) {
 }
 
 /// Whether cells are put in the order of their numbers.
-fn are_ordered(rt: &HostRuntime, cells: &mut [Cell], expected: &[u64]) -> bool {
+fn are_ordered(rt: &HostRuntime, list: &[u64], expected: &[u64]) -> bool {
+    let mut slots = [Cell::in_base(0); MOST];
+    let given = put(&mut slots, list).min(MOST);
+    let cells = &mut slots[..given];
     if order_zones(cells).is_err() {
         return false;
     }
@@ -409,9 +416,7 @@ fn are_ordered(rt: &HostRuntime, cells: &mut [Cell], expected: &[u64]) -> bool {
 
 #[test]
 fn zones_stand_in_the_order_of_their_numbers(rt: HostRuntime) {
-    for (row, (list, expected)) in LISTS.iter().zip(&BY_NUMBER).enumerate() {
-        let mut slots = [Cell::in_base(0); MOST];
-        let given = put(&mut slots, list);
-        expect_row(&rt, row, are_ordered(&rt, &mut slots[..given], expected));
+    for row in 0..LISTS.len() {
+        expect_row(&rt, row, are_ordered(&rt, LISTS[row], BY_NUMBER[row]));
     }
 }
