@@ -4,7 +4,7 @@
 
 use crate::expected::expect;
 use crate::grid::test_table;
-use crate::rows::cell;
+use crate::rows::{Cells, cell};
 use h3_directions::{DIRECTIONS, Direction};
 use h3_fakes::holds;
 use h3_grid::{Disk, step};
@@ -100,39 +100,6 @@ fn visits(table: &BaseTable, origin: Cell, moves: &[(Direction, bool)]) -> ([Vis
     (all, count)
 }
 
-/// More cells than two rounds of steps reach, which are 43 at most.
-const MOST: usize = 64;
-
-/// A list of up to these cells.
-#[derive(Drop)]
-struct Cells {
-    slots: [Cell; MOST],
-    count: usize,
-}
-
-impl Cells {
-    /// A list of no cells.
-    fn none() -> Cells {
-        Cells {
-            slots: [Cell::in_base(0); MOST],
-            count: 0,
-        }
-    }
-
-    /// The cells of the list.
-    fn all(&self) -> &[Cell] {
-        &self.slots[..self.count.min(MOST)]
-    }
-
-    /// Adds a cell, where there is room.
-    fn push(&mut self, cell: Cell) {
-        if self.count < MOST {
-            self.slots[self.count] = cell;
-            self.count += 1;
-        }
-    }
-}
-
 /// The cells of a disk; none where it is refused.
 fn disk_cells(table: &BaseTable, origin: Cell, k: i32) -> Option<Cells> {
     let Ok(walk) = Disk::new(table, origin, k) else {
@@ -221,10 +188,13 @@ fn add_neighbors(table: &BaseTable, cell: Cell, cells: &mut Cells) {
     }
 }
 
-/// Adds the cells that a step reaches from the cells of a list to it.
+/// Adds the cells that a step reaches from the cells of a list to it: there are 43 at most after two
+/// rounds.
 fn add_round(table: &BaseTable, cells: &mut Cells) {
-    for place in 0..cells.count.min(MOST) {
-        add_neighbors(table, cells.slots[place], cells);
+    for place in 0..cells.all().len() {
+        if let Some(cell) = cells.at(place) {
+            add_neighbors(table, cell, cells);
+        }
     }
 }
 

@@ -59,6 +59,74 @@ pub fn cell(rt: &impl Abort, raw: u64) -> Cell {
     }
 }
 
+/// More cells than most lists have.
+pub const MOST: usize = 64;
+
+/// A list of up to these cells.
+#[derive(Drop)]
+pub struct Cells {
+    slots: [Cell; MOST],
+    count: usize,
+}
+
+impl Cells {
+    /// A list of no cells.
+    pub fn none() -> Cells {
+        Cells {
+            slots: [Cell::in_base(0); MOST],
+            count: 0,
+        }
+    }
+
+    /// The cells of the list.
+    pub fn all(&self) -> &[Cell] {
+        &self.slots[..self.count.min(MOST)]
+    }
+
+    /// The same, to change them.
+    pub fn all_mut(&mut self) -> &mut [Cell] {
+        let count = self.count.min(MOST);
+        let slots = &mut self.slots;
+        &mut slots[..count]
+    }
+
+    /// The cell at a place, where there is one.
+    pub fn at(&self, place: usize) -> Option<Cell> {
+        if place < self.count && place < MOST {
+            return Some(self.slots[place]);
+        }
+        None
+    }
+
+    /// Adds a cell, where there is room.
+    pub fn push(&mut self, cell: Cell) {
+        if self.count < MOST {
+            self.slots[self.count] = cell;
+            self.count += 1;
+        }
+    }
+
+    /// Takes the last cell, where there is one.
+    pub fn pop(&mut self) -> Option<Cell> {
+        let last = self.count.min(MOST);
+        if last == 0 {
+            return None;
+        }
+        self.count = last - 1;
+        Some(self.slots[last - 1])
+    }
+
+    /// Leaves the first cells, up to a count.
+    pub fn truncate(&mut self, count: usize) {
+        self.count = self.count.min(count);
+    }
+
+    /// Turns the order of the cells round.
+    pub fn reverse(&mut self) {
+        self.all_mut().reverse();
+    }
+}
+
 /// Puts the cells of a list into the first slots; returns how many they are.
 pub fn put(slots: &mut [Cell], raws: &[u64]) -> usize {
     let count = raws.len().min(slots.len());

@@ -1,7 +1,7 @@
 //! Sets of cells: compaction and uncompaction.
 
 use crate::expected::expect;
-use crate::rows::{cell, clone_of, copy_of, is_cell, is_list};
+use crate::rows::{Cells, cell, clone_of, copy_of, is_cell, is_list};
 use h3_fakes::holds;
 use h3_index::{Cell, H3Error};
 use h3_set::{Compaction, Uncompact, compact_cells, compact_in_order, compact_in_place, uncompact};
@@ -196,19 +196,14 @@ fn compacts(rt: &HostRuntime, cells: &[Cell], expected: &[u64]) -> bool {
     is_list(rt, &slots[..count], expected) && are_all(&slots, given, other)
 }
 
-/// Adds a cell to a list.
-fn push(rt: &impl Abort, cells: &mut Vec<Cell>, cell: Cell) {
-    expect(rt, "memory", cells.push(cell).is_ok());
-}
-
-/// The descendants of a cell at a resolution; none where they are refused.
-fn descendants(rt: &impl Abort, alloc: Global, cell: u64, res: i32) -> Vec<Cell> {
-    let mut cells = Vec::new(alloc);
+/// Up to 64 descendants of a cell at a resolution; none where they are refused.
+fn descendants(cell: u64, res: i32) -> Cells {
+    let mut cells = Cells::none();
     if let Ok(ancestor) = Cell::new(cell)
         && let Ok(items) = children(ancestor, res)
     {
         for cell in items {
-            push(rt, &mut cells, cell);
+            cells.push(cell);
         }
     }
     cells
@@ -216,17 +211,21 @@ fn descendants(rt: &impl Abort, alloc: Global, cell: u64, res: i32) -> Vec<Cell>
 
 #[test]
 fn seven_siblings_are_compacted(rt: HostRuntime) {
-    let mut cells = descendants(&rt, rt.alloc(), HEXAGON, 6);
+    let mut cells = descendants(HEXAGON, 6);
     cells.reverse();
-    expect(&rt, "hexagon", compacts(&rt, &cells, &[HEXAGON]));
+    expect(&rt, "hexagon", compacts(&rt, cells.all(), &[HEXAGON]));
 }
 
 #[test]
 fn the_six_siblings_of_a_pentagon_are_compacted(rt: HostRuntime) {
-    let mut cells = descendants(&rt, rt.alloc(), PENTAGON, 1);
-    expect(&rt, "pentagon", compacts(&rt, &cells, &[PENTAGON]));
+    let mut cells = descendants(PENTAGON, 1);
+    expect(&rt, "pentagon", compacts(&rt, cells.all(), &[PENTAGON]));
     let _ = cells.pop();
-    expect(&rt, "all but one", compacts(&rt, &cells, &BELOW_BOTH[..5]));
+    expect(
+        &rt,
+        "all but one",
+        compacts(&rt, cells.all(), &BELOW_BOTH[..5]),
+    );
 }
 
 /// Whether two lists of slots have the same cells from one place to another.
@@ -283,21 +282,25 @@ fn two_levels_are_compacted(rt: HostRuntime) {
         0x8229a7fffffffff,
         0x8229affffffffff,
     ];
-    let mut cells = descendants(&rt, rt.alloc(), BASE, 2);
-    expect(&rt, "49 cells", cells.len() == 49);
-    expect(&rt, "all", compacts(&rt, &cells, &[BASE]));
-    expect(&rt, "rounds of all", rounds_agree(&rt, &cells));
+    let mut cells = descendants(BASE, 2);
+    expect(&rt, "49 cells", cells.all().len() == 49);
+    expect(&rt, "all", compacts(&rt, cells.all(), &[BASE]));
+    expect(&rt, "rounds of all", rounds_agree(&rt, cells.all()));
     expect(&rt, "the last", is_cell(cells.pop(), 0x8229b7fffffffff));
-    expect(&rt, "all but the last", compacts(&rt, &cells, &REST));
-    expect(&rt, "rounds of all but the last", rounds_agree(&rt, &cells));
-    push(&rt, &mut cells, Cell::in_base(121));
+    expect(&rt, "all but the last", compacts(&rt, cells.all(), &REST));
+    expect(
+        &rt,
+        "rounds of all but the last",
+        rounds_agree(&rt, cells.all()),
+    );
+    cells.push(Cell::in_base(121));
     expect(
         &rt,
         "rounds with another base cell",
-        rounds_agree(&rt, &cells),
+        rounds_agree(&rt, cells.all()),
     );
     cells.reverse();
-    expect(&rt, "rounds in reverse", rounds_agree(&rt, &cells));
+    expect(&rt, "rounds in reverse", rounds_agree(&rt, cells.all()));
 }
 
 /// Whether a compaction of cells has this level and this many slots in use before its first round.
@@ -378,12 +381,12 @@ fn overlaps(cells: &[Cell]) -> bool {
 /// The cells below the first six children of base cell 20, then base cell 20.
 #[test]
 fn a_distant_ancestor_is_refused(rt: HostRuntime) {
-    let mut cells = descendants(&rt, rt.alloc(), BASE, 2);
+    let mut cells = descendants(BASE, 2);
     cells.truncate(42);
-    push(&rt, &mut cells, cell(&rt, BASE));
-    expect(&rt, "in order", overlaps(&cells));
+    cells.push(cell(&rt, BASE));
+    expect(&rt, "in order", overlaps(cells.all()));
     cells.reverse();
-    expect(&rt, "in reverse", overlaps(&cells));
+    expect(&rt, "in reverse", overlaps(cells.all()));
 }
 
 /// Whether the cells are compacted in their own memory as they are in slots, or refused with the
@@ -412,22 +415,26 @@ fn cells_are_compacted_in_place(rt: HostRuntime) {
     expect(&rt, "none", agrees_in_place(&[]));
     expect(&rt, "one", agrees_in_place(&[coarse]));
     expect(&rt, "twice", agrees_in_place(&[coarse, coarse]));
-    let mut cells = descendants(&rt, rt.alloc(), PENTAGON, 2);
-    expect(&rt, "41 cells", cells.len() == 41);
-    expect(&rt, "in order", agrees_in_place(&cells));
+    let mut cells = descendants(PENTAGON, 2);
+    expect(&rt, "41 cells", cells.all().len() == 41);
+    expect(&rt, "in order", agrees_in_place(cells.all()));
     cells.reverse();
-    push(&rt, &mut cells, coarse);
-    expect(&rt, "in reverse, and another", agrees_in_place(&cells));
-    push(&rt, &mut cells, cell(&rt, PENTAGON));
-    expect(&rt, "with an ancestor", agrees_in_place(&cells));
+    cells.push(coarse);
+    expect(&rt, "in reverse, and another", agrees_in_place(cells.all()));
+    cells.push(cell(&rt, PENTAGON));
+    expect(&rt, "with an ancestor", agrees_in_place(cells.all()));
     let _ = cells.pop();
     expect(
         &rt,
         "two are left",
-        matches!(compact_in_place(&mut cells), Ok(2)),
+        matches!(compact_in_place(cells.all_mut()), Ok(2)),
     );
     cells.truncate(2);
-    expect(&rt, "which two", is_list(&rt, &cells, &[PENTAGON, PARENT]));
+    expect(
+        &rt,
+        "which two",
+        is_list(&rt, cells.all(), &[PENTAGON, PARENT]),
+    );
 }
 
 /// In post order a cell comes before the coarser ones of later base cells, which have the smaller
@@ -477,10 +484,23 @@ fn has_ends(cells: &[Cell], slots: &mut [Cell], count: usize, first: u64, last: 
         && is_cell(compacted.last().copied(), last)
 }
 
+/// The descendants of a cell at a resolution; none where they are refused.
+fn long_descendants(rt: &impl Abort, alloc: Global, cell: u64, res: i32) -> Vec<Cell> {
+    let mut cells = Vec::new(alloc);
+    if let Ok(ancestor) = Cell::new(cell)
+        && let Ok(items) = children(ancestor, res)
+    {
+        for cell in items {
+            expect(rt, "memory", cells.push(cell).is_ok());
+        }
+    }
+    cells
+}
+
 #[test]
 fn six_levels_are_compacted(rt: HostRuntime) {
-    let mut cells = descendants(&rt, rt.alloc(), BASE, 6);
-    let mut slots = descendants(&rt, rt.alloc(), BASE, 6);
+    let mut cells = long_descendants(&rt, rt.alloc(), BASE, 6);
+    let mut slots = long_descendants(&rt, rt.alloc(), BASE, 6);
     expect(&rt, "117649 cells", cells.len() == 117649);
     expect(&rt, "in order", has_ends(&cells, &mut slots, 1, BASE, BASE));
     cells.reverse();
@@ -493,8 +513,8 @@ fn six_levels_are_compacted(rt: HostRuntime) {
 
 #[test]
 fn five_levels_below_a_pentagon_are_compacted(rt: HostRuntime) {
-    let mut cells = descendants(&rt, rt.alloc(), PENTAGON, 5);
-    let mut slots = descendants(&rt, rt.alloc(), PENTAGON, 5);
+    let mut cells = long_descendants(&rt, rt.alloc(), PENTAGON, 5);
+    let mut slots = long_descendants(&rt, rt.alloc(), PENTAGON, 5);
     expect(&rt, "14006 cells", cells.len() == 14006);
     expect(
         &rt,
@@ -528,20 +548,22 @@ fn siblings_of_two_parents_are_not_one_set(rt: HostRuntime) {
         0x86283476fffffff,
         0x862834777ffffff,
     ];
-    let mut cells = descendants(&rt, rt.alloc(), HEXAGON, 6);
+    let mut cells = descendants(HEXAGON, 6);
     cells.truncate(1);
-    let next = descendants(&rt, rt.alloc(), 0x85283477fffffff, 6);
-    for cell in next.iter().skip(1) {
-        push(&rt, &mut cells, *cell);
+    let next = descendants(0x85283477fffffff, 6);
+    for place in 1..7usize {
+        if let Some(cell) = next.at(place) {
+            cells.push(cell);
+        }
     }
-    expect(&rt, "cells", compacts(&rt, &cells, &CELLS));
+    expect(&rt, "cells", compacts(&rt, cells.all(), &CELLS));
 }
 
 /// Adds cells to a list; those that are none are left out.
-fn add(rt: &impl Abort, cells: &mut Vec<Cell>, others: &[u64]) {
+fn add(cells: &mut Cells, others: &[u64]) {
     for raw in others {
         if let Ok(cell) = Cell::new(*raw) {
-            push(rt, cells, cell);
+            cells.push(cell);
         }
     }
 }
@@ -556,12 +578,12 @@ fn cells_of_several_resolutions_are_compacted(rt: HostRuntime) {
         0x85283477fffffff,
         0x8528347bfffffff,
     ];
-    let mut cells = descendants(&rt, rt.alloc(), HEXAGON, 6);
-    add(&rt, &mut cells, &OTHERS);
-    expect(&rt, "in order", compacts(&rt, &cells, &[PARENT]));
+    let mut cells = descendants(HEXAGON, 6);
+    add(&mut cells, &OTHERS);
+    expect(&rt, "in order", compacts(&rt, cells.all(), &[PARENT]));
     cells.reverse();
-    expect(&rt, "in reverse", compacts(&rt, &cells, &[PARENT]));
-    expect(&rt, "the first round", starts(&cells, 6, 13));
+    expect(&rt, "in reverse", compacts(&rt, cells.all(), &[PARENT]));
+    expect(&rt, "the first round", starts(cells.all(), 6, 13));
     let two = [cell(&rt, HEXAGON), cell(&rt, 0x81083ffffffffff)];
     expect(
         &rt,
@@ -596,9 +618,9 @@ fn cells_of_two_resolutions_below_a_pentagon_are_compacted(rt: HostRuntime) {
         0x82082ffffffffff,
         0x820837fffffffff,
     ];
-    let mut cells = Vec::new(rt.alloc());
-    add(&rt, &mut cells, &CELLS);
-    expect(&rt, "pentagon", compacts(&rt, &cells, &[PENTAGON]));
+    let mut cells = Cells::none();
+    add(&mut cells, &CELLS);
+    expect(&rt, "pentagon", compacts(&rt, cells.all(), &[PENTAGON]));
 }
 
 /// The compacted list of a list of cells; no cells where it is refused.
@@ -646,29 +668,29 @@ fn has_resolutions(cells: &[Cell]) -> bool {
 
 /// Whether the compacted lists of the parts of a list of cells are shorter than the list, have
 /// cells of several resolutions, and compact to what the whole list does.
-fn compacts_in_parts(rt: &HostRuntime, cells: &[Cell]) -> Result<bool, AllocError> {
-    let joined = compacted_parts(rt.alloc(), cells)?;
-    let parts = compacted(rt.alloc(), &joined)?;
-    let whole = compacted(rt.alloc(), cells)?;
-    Ok(
-        holds(rt, 0, joined.len() < cells.len())
-            && holds(rt, 1, has_resolutions(&joined))
-            && holds(
-                rt,
-                2,
-                !whole.is_empty() && parts.as_slice() == whole.as_slice(),
-            ),
-    )
+fn compacts_in_parts(rt: &HostRuntime, cells: &[Cell]) -> bool {
+    let Ok(joined) = compacted_parts(rt.alloc(), cells) else {
+        return false;
+    };
+    let Ok(parts) = compacted(rt.alloc(), &joined) else {
+        return false;
+    };
+    let Ok(whole) = compacted(rt.alloc(), cells) else {
+        return false;
+    };
+    let is_same = !whole.is_empty() && parts.as_slice() == whole.as_slice();
+    holds(rt, 0, joined.len() < cells.len())
+        && holds(rt, 1, has_resolutions(&joined))
+        && holds(rt, 2, is_same)
 }
 
 #[test]
-fn a_list_is_compacted_in_parts(rt: HostRuntime) -> Result<(), AllocError> {
-    let mut cells = descendants(&rt, rt.alloc(), BASE, 5);
+fn a_list_is_compacted_in_parts(rt: HostRuntime) {
+    let mut cells = long_descendants(&rt, rt.alloc(), BASE, 5);
     expect(&rt, "16807 cells", cells.len() == 16807);
-    expect(&rt, "in order", compacts_in_parts(&rt, &cells)?);
+    expect(&rt, "in order", compacts_in_parts(&rt, &cells));
     cells.reverse();
-    expect(&rt, "in reverse", compacts_in_parts(&rt, &cells)?);
+    expect(&rt, "in reverse", compacts_in_parts(&rt, &cells));
     let _ = cells.pop();
-    expect(&rt, "all but the last", compacts_in_parts(&rt, &cells)?);
-    Ok(())
+    expect(&rt, "all but the last", compacts_in_parts(&rt, &cells));
 }
