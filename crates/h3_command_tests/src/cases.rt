@@ -7,6 +7,10 @@ use h3_runs::run_command;
 use h3_streams::Sink;
 use std::alloc::Global;
 
+/// The bytes of the longest answers. One size for all of them is one sink, over which the commands
+/// are compiled once.
+pub const LONG: usize = 300_000;
+
 /// What a command reads.
 #[derive(Clone, Copy)]
 pub enum Reads<'a> {

@@ -1,7 +1,7 @@
 //! Functions of each index of a list, over readers and writers that fail.
 
-use crate::cases::{Streams, WELL, for_each};
-use crate::expected::{expect, expect_at};
+use crate::cases::{LONG, Streams, WELL, for_each};
+use crate::expected::{expect, expect_at, expect_pair};
 use crate::plurals::answer_to;
 use arrayvec::ArrayString;
 use h3_fakes::{Faults, FaultySink, NO_FAULT};
@@ -82,7 +82,7 @@ fn the_lines_before_a_read_fault_are_answered(rt: HostRuntime) {
             let right = stops_at_each_fault(rt.alloc(), *function, list, 5)
                 && stops_at_each_fault(rt.alloc(), *function, list, 16)
                 && stops_at_each_fault(rt.alloc(), *function, list, 65536);
-            assert!(&rt; right, "function {row}, list {place}");
+            expect_pair(&rt, row, place, right);
         }
     }
 }
@@ -163,7 +163,7 @@ fn refused_after(count: usize) -> ArrayString<65536> {
 /// Whether lines are flushed once before an error.
 fn flushes_once(alloc: Global, count: usize) -> bool {
     let list = refused_after(count);
-    let mut out: FaultySink<65536> = FaultySink::new(65536, NO_FAULT);
+    let mut out: FaultySink<LONG> = FaultySink::new(65536, NO_FAULT);
     let mut err: FaultySink<64> = FaultySink::new(64, NO_FAULT);
     let status = for_each(PARENTS, &list, "").status(alloc, &mut out, &mut err);
     status == 1
@@ -176,7 +176,7 @@ fn flushes_once(alloc: Global, count: usize) -> bool {
 /// Whether a flush that fails before an error is a write fault.
 fn reports_a_flush_fault(alloc: Global, count: usize) -> bool {
     let list = refused_after(count);
-    let mut out: FaultySink<65536> = FaultySink::refusing_flush(65536);
+    let mut out: FaultySink<LONG> = FaultySink::refusing_flush(65536);
     let mut err: FaultySink<64> = FaultySink::new(64, NO_FAULT);
     let status = for_each(PARENTS, &list, "").status(alloc, &mut out, &mut err);
     status == 4

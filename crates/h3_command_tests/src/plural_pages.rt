@@ -1,34 +1,33 @@
 //! Functions of each index of a list, where the list is longer than a page of 65536 bytes.
 
-use crate::cases::{Reads, for_each, whole};
+use crate::cases::{LONG, Reads, for_each, whole};
 use crate::expected::expect_at;
 use crate::plurals::line_at;
+use arrayvec::ArrayString;
 use h3_fakes::{Faults, FaultySink, FaultySource, NO_FAULT};
 use h3_requests::{Command, IndexFunction};
 use h3_runs::run_command;
-use h3_streams::Streamed;
+use h3_streams::Sink;
 use itoa::Buffer;
-use std::alloc::{AllocError, Global};
+use std::alloc::Global;
 
 /// A function that answers a cell of resolution 5 with itself.
 const PARENTS: IndexFunction = IndexFunction::CellToParent { res: 5 };
 
 /// A list of `count` line feeds, and then a text.
-fn after_line_feeds(alloc: Global, count: usize, text: &str) -> Result<String, AllocError> {
-    let mut list = String::new(alloc);
+fn after_line_feeds(count: usize, text: &str) -> ArrayString<70_000> {
+    let mut list = ArrayString::new();
     for _ in 0..count {
-        list.push_str("\n")?;
+        let _ = list.try_push_str("\n");
     }
-    list.push_str(text)?;
-    Ok(list)
+    let _ = list.try_push_str(text);
+    list
 }
 
 /// Whether lines after `count` blank ones are answered, up to the one that is refused.
 fn is_answered_after(alloc: Global, count: usize) -> bool {
     let text = "85283473fffffff\n 0X85283447FFFFFFF\r\nxyz";
-    let Ok(list) = after_line_feeds(alloc, count, text) else {
-        return false;
-    };
+    let list = after_line_feeds(count, text);
     let case = for_each(PARENTS, list.as_str(), "");
     let run = case.read(alloc, 65536, NO_FAULT);
     let line = line_at(count.saturating_add(2), "error 1: E_FAILED\n");
@@ -54,9 +53,7 @@ fn a_line_is_answered_wherever_a_page_ends(rt: HostRuntime) {
 /// the second page is not read.
 fn is_answered_before_a_read_fault(alloc: Global, count: usize) -> bool {
     let begun = "85283473fffffff\n85283447fffffff\n";
-    let Ok(list) = after_line_feeds(alloc, count, begun) else {
-        return false;
-    };
+    let list = after_line_feeds(count, begun);
     let run = for_each(PARENTS, list.as_str(), "").read(alloc, 65536, Faults::From(1));
     let ended = 65536usize.saturating_sub(count) / 16;
     let output = begun.get(..ended.saturating_mul(16)).unwrap_or("");
@@ -78,69 +75,55 @@ fn lines_that_a_read_fault_cuts_are_not_answered_on_a_second_page(rt: HostRuntim
     }
 }
 
-/// Some spaces.
-fn spaces(alloc: Global, count: usize) -> Result<Vec<u8>, AllocError> {
-    let mut bytes = Vec::new(alloc);
-    for _ in 0..count {
-        bytes.push(b' ')?;
+/// Puts spaces, the 7^5 descendants of a cell at resolution 10, ascending, and a line that is
+/// refused; returns whether that succeeds.
+fn put_descendants(alloc: Global, blanks: usize, list: &mut FaultySink<LONG>) -> bool {
+    for _ in 0..blanks {
+        let _ = list.push(b" ");
     }
-    Ok(bytes)
-}
-
-/// The 7^5 descendants of a cell at resolution 10, ascending, after `blanks` spaces; and a line
-/// that is refused.
-fn descendants(alloc: Global, blanks: usize) -> Option<Vec<u8>> {
     let children = Command::CellToChildren {
         cell: Some(0x85283473fffffff),
         res: 10,
     };
-    let mut out = Streamed::new(spaces(alloc, blanks).ok()?);
     let mut err: FaultySink<64> = FaultySink::new(64, NO_FAULT);
-    if whole(children, Reads::Nothing, "").status(alloc, &mut out, &mut err) != 0 {
-        return None;
-    }
-    let mut list = out.into_inner();
-    match list.extend_from_slice(b"xyz") {
-        Ok(()) => Some(list),
-        Err(_) => None,
-    }
+    let status = whole(children, Reads::Nothing, "").status(alloc, list, &mut err);
+    status == 0 && list.push(b"xyz").is_ok()
 }
 
 /// The numbers below `count`, one a line.
-fn numbers(alloc: Global, count: u32) -> Result<String, AllocError> {
-    let mut lines = String::new(alloc);
+fn numbers(count: u32) -> FaultySink<LONG> {
+    let mut lines = FaultySink::new(65536, NO_FAULT);
     for number in 0..count {
         let mut buffer = Buffer::new();
-        lines.push_str(buffer.format(number))?;
-        lines.push_str("\n")?;
+        let _ = lines.push(buffer.format(number).as_bytes());
+        let _ = lines.push(b"\n");
     }
-    Ok(lines)
+    lines
 }
 
 /// Whether the positions of cells among the descendants of their ancestor are these.
-fn has_positions(alloc: Global, list: &[u8], wanted: &str) -> bool {
+fn has_positions(alloc: Global, list: &[u8], wanted: &[u8]) -> bool {
     let positions = Command::ForEach(IndexFunction::CellToChildPos { res: 5 });
     let mut input = FaultySource::new(list, 65536, NO_FAULT);
     let mut table = FaultySource::new(b"", 0, NO_FAULT);
-    let mut out = Streamed::new(Vec::new(alloc));
+    let mut out: FaultySink<LONG> = FaultySink::new(65536, NO_FAULT);
     let mut err: FaultySink<64> = FaultySink::new(64, NO_FAULT);
     let status = run_command(
         alloc, &positions, &mut input, &mut table, &mut out, &mut err,
     );
     status == 1
         && err.bytes() == b"line 16808: error 1: E_FAILED\n".as_slice()
-        && out.into_inner().as_slice() == wanted.as_bytes()
+        && out.bytes() == wanted
 }
 
 /// Whether the positions of all descendants are those from 0 on, where spaces stand before them.
 fn has_all_positions(alloc: Global, blanks: usize) -> bool {
-    let Some(list) = descendants(alloc, blanks) else {
+    let mut list = FaultySink::new(65536, NO_FAULT);
+    if !put_descendants(alloc, blanks, &mut list) {
         return false;
-    };
-    match numbers(alloc, 16807) {
-        Ok(wanted) => has_positions(alloc, list.as_slice(), wanted.as_str()),
-        Err(_) => false,
     }
+    let wanted = numbers(16807);
+    has_positions(alloc, list.bytes(), wanted.bytes())
 }
 
 /// Numbers of spaces before a list.

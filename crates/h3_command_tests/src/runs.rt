@@ -4,7 +4,7 @@ use crate::cases::{
     BELOW_BASE_20, CHILDREN, HEXAGON, PENTAGON, Reads, Row, answers, answers_row, first_wrong,
     index_of, refuses, whole, writes,
 };
-use crate::expected::{expect, expect_all, expect_row};
+use crate::expected::{expect, expect_all, expect_res, expect_row};
 use h3_fakes::NO_FAULT;
 use h3_requests::Command;
 use std::alloc::Global;
@@ -177,7 +177,7 @@ fn ancestors_are_written(rt: HostRuntime) {
             res: *res,
         };
         let row = (command, *output, *line);
-        assert!(&rt; answers_row(rt.alloc(), &row), "{res}");
+        expect_res(&rt, *res, answers_row(rt.alloc(), &row));
     }
     // an index of no cell, before a resolution that is not allowed
     let no_cell = Command::CellToParent {

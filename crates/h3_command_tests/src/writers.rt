@@ -8,7 +8,7 @@ use crate::expected::{expect, expect_row};
 use arrayvec::ArrayVec;
 use h3_fakes::{Faults, FaultySink, NO_FAULT, bases_file};
 use h3_requests::Command;
-use h3_streams::Streamed;
+use h3_streams::{Sink, Streamed};
 use h3_table::vectors::TestTable;
 use std::alloc::Global;
 
@@ -62,7 +62,9 @@ fn meets_each_fault(alloc: Global, case: &Case<'_>, most: usize) -> bool {
 
 /// Whether a writer that takes no byte gives a write fault, where there is something to write.
 fn fails_where_no_byte_is_taken(alloc: Global, case: &Case<'_>) -> bool {
-    let mut out = Streamed::new(ArrayVec::<u8, 0>::new());
+    let mut full = ArrayVec::<u8, 20>::new();
+    let _ = full.try_extend_from_slice(&[b' '; 20]);
+    let mut out = Streamed::new(full);
     let mut err: FaultySink<64> = FaultySink::new(64, NO_FAULT);
     let status = case.status(alloc, &mut out, &mut err);
     if case.output.is_empty() {
@@ -246,13 +248,24 @@ fn a_writer_with_room_for_20_bytes_has_the_first_20(rt: HostRuntime) {
     expect(&rt, "standard error", err.bytes() == WRITE_FAULT.as_bytes());
 }
 
+/// A writer that has room for 40 bytes beside those that it has.
+fn nearly_full() -> FaultySink<2048> {
+    let mut out = FaultySink::new(64, NO_FAULT);
+    for _ in 0..251u32 {
+        let _ = out.push(b"........");
+    }
+    out
+}
+
 /// Whether a command writes these first 40 bytes, over a writer that has room for no more. The
 /// command has so many cells that none of them comes out in time, if all are computed first.
 fn begins(alloc: Global, command: Command, reads: Reads<'_>, begun: &str) -> bool {
-    let mut out: FaultySink<40> = FaultySink::new(64, NO_FAULT);
-    let mut err: FaultySink<64> = FaultySink::new(64, NO_FAULT);
-    let status = whole(command, reads, "").status(alloc, &mut out, &mut err);
-    status == 4 && out.bytes() == begun.as_bytes() && err.bytes() == WRITE_FAULT.as_bytes()
+    let run = whole(command, reads, "").write(alloc, nearly_full());
+    let bytes = run.out.bytes();
+    run.status == 4
+        && bytes.len() == 2008 + 40
+        && bytes.ends_with(begun.as_bytes())
+        && run.err.bytes() == WRITE_FAULT.as_bytes()
 }
 
 #[test]
