@@ -3,6 +3,10 @@
 #![tactic(auto)]
 
 #[cfg(test)]
+mod expected;
+#[cfg(test)]
+mod line_runs;
+#[cfg(test)]
 mod listed_rows;
 #[cfg(test)]
 mod program;

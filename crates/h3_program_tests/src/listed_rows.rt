@@ -1,5 +1,6 @@
 //! Commands over the cells of rows: their answers, and how they end where a read or a write fails.
 
+use crate::expected::expect;
 use h3_fakes::{Faults, FaultySink, FaultySource, NO_FAULT};
 use h3_parses::read;
 use h3_runs::run_over_rows;
@@ -118,7 +119,7 @@ static ANSWERED: [Row; 9] = [
 #[test]
 fn cells_of_rows_are_answered(rt: HostRuntime) {
     for row in &ANSWERED {
-        assert!(&rt; ends_in_pieces(rt.alloc(), row), "{}", row.0);
+        expect(&rt, row.0, ends_in_pieces(rt.alloc(), row));
     }
 }
 
@@ -207,7 +208,7 @@ static REFUSED: [Row; 11] = [
 #[test]
 fn the_first_faulty_row_decides(rt: HostRuntime) {
     for row in &REFUSED {
-        assert!(&rt; ends_in_pieces(rt.alloc(), row), "{}", row.0);
+        expect(&rt, row.0, ends_in_pieces(rt.alloc(), row));
     }
 }
 
@@ -225,7 +226,7 @@ fn fails_at_each_read(alloc: Global, row: &Row) -> bool {
 #[test]
 fn a_read_that_fails_ends_rows(rt: HostRuntime) {
     for row in &ANSWERED {
-        assert!(&rt; fails_at_each_read(rt.alloc(), row), "{}", row.0);
+        expect(&rt, row.0, fails_at_each_read(rt.alloc(), row));
     }
 }
 
@@ -233,10 +234,10 @@ fn a_read_that_fails_ends_rows(rt: HostRuntime) {
 fn a_write_that_fails_ends_rows(rt: HostRuntime) {
     for row in &ANSWERED {
         let failed = (row.0, row.1, "", "fault: write\n", 4);
-        assert!(&rt;
+        expect(
+            &rt,
+            row.0,
             ends(rt.alloc(), &failed, 65536, NO_FAULT, Faults::From(0)),
-            "{}",
-            row.0
         );
     }
 }

@@ -1,11 +1,12 @@
 //! Command lines that are run over streams and a file in memory.
 
+use crate::expected::expect;
+use crate::line_runs::run_line;
 use arrayvec::ArrayVec;
 use h3_fakes::table_file;
-use h3_line_runs::run_line;
 use h3_parses::words_of;
 use h3_program::{NamedFile, OpenFault, OpenFile, OpenFiles};
-use h3_streams::{Sink, Source, Streamed};
+use h3_streams::{Source, Streamed};
 use h3_table::vectors::TestTable;
 use std::alloc::Global;
 use std::cell::Cell;
@@ -63,16 +64,16 @@ fn pulls<F: Source>(file: &mut F, bytes: &[u8]) -> bool {
 fn a_named_file_has_the_bytes_at_its_path(rt: HostRuntime) {
     let files = MemoryFiles::new("cells", "abc");
     let mut file = NamedFile::new(&files);
-    assert!(&rt; !pulls(&mut file, b"".as_slice()));
-    assert!(&rt; file.open(" cells").is_err());
-    assert!(&rt; !pulls(&mut file, b"".as_slice()));
+    expect(&rt, "nothing at first", !pulls(&mut file, b"".as_slice()));
+    expect(&rt, "another path", file.open(" cells").is_err());
+    expect(&rt, "nothing after it", !pulls(&mut file, b"".as_slice()));
     for _ in 0..2 {
-        assert!(&rt; file.open("cells").is_ok());
-        assert!(&rt; pulls(&mut file, b"abc".as_slice()));
-        assert!(&rt; pulls(&mut file, b"".as_slice()));
+        expect(&rt, "the path", file.open("cells").is_ok());
+        expect(&rt, "its bytes", pulls(&mut file, b"abc".as_slice()));
+        expect(&rt, "their end", pulls(&mut file, b"".as_slice()));
     }
-    assert!(&rt; file.open("cells ").is_err());
-    assert!(&rt; pulls(&mut file, b"".as_slice()));
+    expect(&rt, "a longer path", file.open("cells ").is_err());
+    expect(&rt, "still their end", pulls(&mut file, b"".as_slice()));
 }
 
 /// A writer that counts its flushes.
@@ -122,15 +123,17 @@ impl Ended {
 
 /// The status of a command line, run over a list, files and these streams, or nothing where
 /// memory runs out for its words.
-fn status_of<W: Sink, E: Sink>(
+fn status_of(
     alloc: Global,
     line: &str,
     list: &str,
     files: &MemoryFiles<'_>,
-    out: &mut W,
-    err: &mut E,
+    out: &mut Streamed<Flushed>,
+    err: &mut Streamed<Flushed>,
 ) -> Option<u8> {
-    let words = words_of(alloc, line).ok()?;
+    let Ok(words) = words_of(alloc, line) else {
+        return None;
+    };
     let mut input = Streamed::new(list.as_bytes());
     let mut file = NamedFile::new(files);
     Some(run_line(alloc, words, &mut input, &mut file, out, err))
@@ -173,7 +176,7 @@ static INVALID: [&str; 4] = [
 #[test]
 fn invalid_command_lines_are_reported_on_standard_error(rt: HostRuntime) {
     for line in &INVALID {
-        assert!(&rt; is_reported(rt.alloc(), line), "{line}");
+        expect(&rt, line, is_reported(rt.alloc(), line));
     }
 }
 
@@ -187,8 +190,16 @@ fn writes_help(alloc: Global, line: &str) -> bool {
 
 #[test]
 fn help_is_written_to_standard_output(rt: HostRuntime) {
-    assert!(&rt; writes_help(rt.alloc(), "h3 --help"));
-    assert!(&rt; writes_help(rt.alloc(), "h3 cellToParent --help"));
+    expect(
+        &rt,
+        "the program's help",
+        writes_help(rt.alloc(), "h3 --help"),
+    );
+    expect(
+        &rt,
+        "a command's help",
+        writes_help(rt.alloc(), "h3 cellToParent --help"),
+    );
 }
 
 /// Whether a run writes to one of its streams alone, and flushes the output so many times.
@@ -215,7 +226,7 @@ static FLUSHES: [(&str, u8); 5] = [
 #[test]
 fn an_output_is_flushed_once(rt: HostRuntime) {
     for (line, count) in &FLUSHES {
-        assert!(&rt; flushes(rt.alloc(), line, *count), "{line}");
+        expect(&rt, line, flushes(rt.alloc(), line, *count));
     }
 }
 
@@ -223,29 +234,36 @@ fn an_output_is_flushed_once(rt: HostRuntime) {
 fn the_version_is_written_to_standard_output(rt: HostRuntime) {
     let ending = (0, "h3 1.3.0\n", "", 0);
     for line in &["h3 --version", "h3 -V", "h3 --version isValidCell"] {
-        assert!(&rt; ends(rt.alloc(), line, "", "", ending), "{line}");
+        expect(&rt, line, ends(rt.alloc(), line, "", "", ending));
     }
+}
+
+/// A stream with room for eight bytes.
+fn nearly_full() -> Streamed<Flushed> {
+    let mut bytes = ArrayVec::new();
+    let _ = bytes.try_extend_from_slice(&[b' '; 4088]);
+    Streamed::new(Flushed { bytes, flushes: 0 })
+}
+
+/// Whether a text that standard output has no room for ends with a write fault.
+fn is_write_fault(alloc: Global, line: &str) -> bool {
+    let files = MemoryFiles::new("", "");
+    let (mut out, mut err) = (nearly_full(), flush_counter());
+    let status = status_of(alloc, line, "", &files, &mut out, &mut err);
+    let reported = err.into_inner().bytes;
+    status == Some(4) && reported.as_slice() == b"fault: write\n".as_slice()
 }
 
 #[test]
 fn a_version_that_cannot_be_written_is_a_write_fault(rt: HostRuntime) {
-    let files = MemoryFiles::new("", "");
-    let mut out = Streamed::new(ArrayVec::<u8, 8>::new());
-    let mut err = Streamed::new(ArrayVec::<u8, 64>::new());
     let line = "h3 --version";
-    let status = status_of(rt.alloc(), line, "", &files, &mut out, &mut err);
-    assert!(&rt; status == Some(4));
-    assert!(&rt; err.into_inner().as_slice() == b"fault: write\n".as_slice());
+    expect(&rt, line, is_write_fault(rt.alloc(), line));
 }
 
 #[test]
 fn help_that_cannot_be_written_is_a_write_fault(rt: HostRuntime) {
-    let files = MemoryFiles::new("", "");
-    let mut out = Streamed::new(ArrayVec::<u8, 8>::new());
-    let mut err = Streamed::new(ArrayVec::<u8, 64>::new());
-    let status = status_of(rt.alloc(), "h3 --help", "", &files, &mut out, &mut err);
-    assert!(&rt; status == Some(4));
-    assert!(&rt; err.into_inner().as_slice() == b"fault: write\n".as_slice());
+    let line = "h3 --help";
+    expect(&rt, line, is_write_fault(rt.alloc(), line));
 }
 
 /// Whether a command line over a file at a path ends so.
@@ -270,7 +288,7 @@ static OVER_NO_TABLE: [&str; 6] = [
 fn table_that_cannot_be_opened(rt: HostRuntime) {
     for line in &OVER_NO_TABLE {
         let refused = (3, "", "table: open\n", 1);
-        assert!(&rt; ends(rt.alloc(), line, "plain.csv", "", refused), "{line}");
+        expect(&rt, line, ends(rt.alloc(), line, "plain.csv", "", refused));
     }
 }
 
@@ -294,7 +312,7 @@ fn is_not_opened(alloc: Global, line: &str, text: &str) -> bool {
 #[test]
 fn cells_that_cannot_be_opened(rt: HostRuntime) {
     for (line, text) in &OVER_NO_CELLS {
-        assert!(&rt; is_not_opened(rt.alloc(), line, text), "{line}");
+        expect(&rt, line, is_not_opened(rt.alloc(), line, text));
     }
 }
 
@@ -328,7 +346,7 @@ static OPENING_NONE: [(&str, u8); 9] = [
 #[test]
 fn opens_no_file(rt: HostRuntime) {
     for (line, status) in &OPENING_NONE {
-        assert!(&rt; opens_none(rt.alloc(), line, *status), "{line}");
+        expect(&rt, line, opens_none(rt.alloc(), line, *status));
     }
 }
 
@@ -359,9 +377,10 @@ fn runs_over_the_table_that_is_opened(rt: HostRuntime) {
     let file = table_file(TestTable::Plain);
     for (line, output) in &OVER_A_TABLE {
         let ending = (0, *output, "", 1);
-        assert!(&rt;
+        expect(
+            &rt,
+            line,
             ends(rt.alloc(), line, "t", file.as_str(), ending),
-            "{line}"
         );
     }
 }
@@ -389,7 +408,7 @@ static AFTER_THE_OPENING: [(&str, u8, &str); 3] = [
 fn errors_after_the_opening(rt: HostRuntime) {
     for (line, status, text) in &AFTER_THE_OPENING {
         let ending = (*status, "", *text, 1);
-        assert!(&rt; ends(rt.alloc(), line, "t", "", ending), "{line}");
+        expect(&rt, line, ends(rt.alloc(), line, "t", "", ending));
     }
 }
 
@@ -440,7 +459,7 @@ fn answers(alloc: Global, line: &str, list: &str, cells: &str, output: &str) -> 
 #[test]
 fn runs_over_the_cells_that_are_opened(rt: HostRuntime) {
     for (line, list, cells, output) in &OVER_CELLS {
-        assert!(&rt; answers(rt.alloc(), line, list, cells, output), "{line}");
+        expect(&rt, line, answers(rt.alloc(), line, list, cells, output));
     }
 }
 
@@ -480,6 +499,6 @@ fn refuses(alloc: Global, line: &str, cells: &str, text: &str) -> bool {
 #[test]
 fn judges_the_cells_that_are_opened_before_the_list(rt: HostRuntime) {
     for (line, cells, text) in &REFUSED_CELLS {
-        assert!(&rt; refuses(rt.alloc(), line, cells, text), "{line}");
+        expect(&rt, line, refuses(rt.alloc(), line, cells, text));
     }
 }

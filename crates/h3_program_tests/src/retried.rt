@@ -1,6 +1,7 @@
 //! Calls that are interrupted, or fail with another error.
 
-use h3_line_runs::run_line;
+use crate::expected::{expect, expect_row, expect_times};
+use crate::line_runs::run_line;
 use h3_parses::words_of;
 use h3_program::{NamedFile, Retried, SystemFiles};
 use h3_streams::Streamed;
@@ -91,7 +92,7 @@ fn reads_all(times: u8, calls: u8) -> bool {
 #[test]
 fn interrupted_reads(rt: HostRuntime) {
     for (times, calls) in &CALLS {
-        assert!(&rt; reads_all(*times, *calls), "{times} times");
+        expect_times(&rt, *times, reads_all(*times, *calls));
     }
 }
 
@@ -108,7 +109,7 @@ fn writes_all(alloc: Global, times: u8, calls: u8) -> bool {
 #[test]
 fn interrupted_writes_and_flushes(rt: HostRuntime) {
     for (times, calls) in &CALLS {
-        assert!(&rt; writes_all(rt.alloc(), *times, *calls), "{times} times");
+        expect_times(&rt, *times, writes_all(rt.alloc(), *times, *calls));
     }
 }
 
@@ -155,7 +156,7 @@ fn other_errors_end_a_call_at_once(rt: HostRuntime) {
         let right = a_read_ends(*kind)
             && a_write_ends(rt.alloc(), *kind)
             && a_flush_ends(rt.alloc(), *kind);
-        assert!(&rt; right, "row {row}");
+        expect_row(&rt, row, right);
     }
 }
 
@@ -184,7 +185,15 @@ fn ends<R: AllocGlobal + Files>(rt: &R, line: &str, status: u8, output: &str, te
 
 #[test]
 fn a_command_over_interrupted_streams(rt: HostRuntime) {
-    assert!(&rt; ends(&rt, "h3 uncompactCells -r 5", 0, LIST, ""));
+    expect(
+        &rt,
+        "an answer",
+        ends(&rt, "h3 uncompactCells -r 5", 0, LIST, ""),
+    );
     let line = "error 12: E_RES_MISMATCH\n";
-    assert!(&rt; ends(&rt, "h3 uncompactCells -r 4", 1, "", line));
+    expect(
+        &rt,
+        "an error",
+        ends(&rt, "h3 uncompactCells -r 4", 1, "", line),
+    );
 }

@@ -1,5 +1,6 @@
 //! Commands that answer each line or row of a list over a table, and children.
 
+use crate::expected::{expect, expect_row};
 use h3_fakes::{Faults, FaultySink, FaultySource, NO_FAULT, pulls_to_end, table_file};
 use h3_parses::read;
 use h3_runs::run_over_rows;
@@ -156,7 +157,7 @@ fn answers(alloc: Global, table: &str, row: &Row) -> bool {
 fn each_edge_of_a_list_leads_to_a_cell(rt: HostRuntime) {
     let table = table_file(TestTable::Plain);
     for (number, row) in DESTINATIONS.iter().enumerate() {
-        assert!(&rt; answers(rt.alloc(), &table, row), "row {number}");
+        expect_row(&rt, number, answers(rt.alloc(), &table, row));
     }
 }
 
@@ -240,7 +241,7 @@ static WALKS: [Row; 12] = [
 fn each_cell_of_a_list_has_its_walk(rt: HostRuntime) {
     let table = table_file(TestTable::Plain);
     for (number, row) in WALKS.iter().enumerate() {
-        assert!(&rt; answers(rt.alloc(), &table, row), "row {number}");
+        expect_row(&rt, number, answers(rt.alloc(), &table, row));
     }
 }
 
@@ -288,7 +289,7 @@ static WALKS_OF_ROWS: [Row; 6] = [
 fn each_row_has_its_walk_beside_it(rt: HostRuntime) {
     let table = table_file(TestTable::Plain);
     for (number, row) in WALKS_OF_ROWS.iter().enumerate() {
-        assert!(&rt; answers(rt.alloc(), &table, row), "row {number}");
+        expect_row(&rt, number, answers(rt.alloc(), &table, row));
     }
 }
 
@@ -342,7 +343,7 @@ static CHILDREN: [Row; 7] = [
 fn each_cell_of_a_list_has_its_children(rt: HostRuntime) {
     let table = table_file(TestTable::Plain);
     for (number, row) in CHILDREN.iter().enumerate() {
-        assert!(&rt; answers(rt.alloc(), &table, row), "row {number}");
+        expect_row(&rt, number, answers(rt.alloc(), &table, row));
     }
 }
 
@@ -358,7 +359,7 @@ static TWISTED: [Row; 1] = [(
 fn the_links_of_the_table_decide(rt: HostRuntime) {
     let table = table_file(TestTable::Twisted);
     for (number, row) in TWISTED.iter().enumerate() {
-        assert!(&rt; answers(rt.alloc(), &table, row), "row {number}");
+        expect_row(&rt, number, answers(rt.alloc(), &table, row));
     }
 }
 
@@ -419,6 +420,6 @@ fn the_table_is_judged_before_the_list(rt: HostRuntime) {
         let right = is_refused(rt.alloc(), line, list, "")
             && is_refused(rt.alloc(), line, list, "85283473fffffff\n")
             && stops(rt.alloc(), line, list, &plain);
-        assert!(&rt; right, "{line}");
+        expect(&rt, line, right);
     }
 }

@@ -1,6 +1,5 @@
-//! Runs of command lines, for tests. They have no contract: a test compares what a run leaves behind
-//! with a row, and the contract of `run_words` would be in each goal about what calls it.
-#![tactic(auto)]
+//! Runs of command lines. They have no contract: a test compares what a run leaves behind with a row,
+//! and the contract of `run_words` would be in each goal about what calls it.
 
 use h3_program::{OpenFile, run_words};
 use h3_streams::{Sink, Source};
