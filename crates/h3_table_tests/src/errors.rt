@@ -1,11 +1,11 @@
 //! The errors of the library: their numbers, their names, their texts, and which are equal.
 
 use crate::expected::{expect, expect_row};
+use crate::table::made;
 use h3_directions::{Direction, TableError};
 use h3_fakes::differ;
 use h3_index::H3Error;
 use h3_streams::StreamFault;
-use std::alloc::AllocError;
 
 /// An error, its number, its name and its text.
 static ERRORS: [(H3Error, u8, &str, &str); 10] = [
@@ -64,14 +64,13 @@ fn errors_have_their_numbers_and_names(rt: HostRuntime) {
 }
 
 #[test]
-fn errors_have_texts(rt: HostRuntime) -> Result<(), AllocError> {
+fn errors_have_texts(rt: HostRuntime) {
     for (row, (error, _, _, text)) in ERRORS.iter().enumerate() {
-        let shown = format!(in rt.alloc(); "{error}")?;
+        let shown = made(&rt, format!(in rt.alloc(); "{error}"));
         expect_row(&rt, row, shown.as_str() == *text);
     }
-    let shown = format!(in rt.alloc(); "{}", StreamFault)?;
+    let shown = made(&rt, format!(in rt.alloc(); "{}", StreamFault));
     expect(&rt, "StreamFault", shown.as_str() == "the stream failed");
-    Ok(())
 }
 
 #[test]
@@ -92,7 +91,7 @@ fn only_the_same_errors_are_equal(rt: HostRuntime) {
 }
 
 #[test]
-fn table_errors_have_texts(rt: HostRuntime) -> Result<(), AllocError> {
+fn table_errors_have_texts(rt: HostRuntime) {
     static ROWS: [(TableError, &str); 9] = [
         (TableError::Read, "the table could not be read"),
         (TableError::Memory, "out of memory"),
@@ -120,10 +119,9 @@ fn table_errors_have_texts(rt: HostRuntime) -> Result<(), AllocError> {
         ),
     ];
     for (row, (error, text)) in ROWS.iter().enumerate() {
-        let shown = format!(in rt.alloc(); "{error}")?;
+        let shown = made(&rt, format!(in rt.alloc(); "{error}"));
         expect_row(&rt, row, shown.as_str() == *text);
     }
-    Ok(())
 }
 
 #[test]

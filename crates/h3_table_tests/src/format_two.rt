@@ -1,11 +1,12 @@
 //! Files of base cell tables in format 2.
 
 use crate::expected::{expect, expect_row};
-use crate::table::{ends, has_link, has_links, is_refused, read};
+use crate::table::{ends, has_link, has_links, is_refused, made, read};
 use h3_directions::{DIRECTIONS, Direction, TableError};
 use h3_index::is_pentagon_base;
 use h3_table::vectors::{TestTable, link};
 use std::alloc::{AllocError, Global};
+use std::process::Abort;
 
 const HEADER: &str = "base,k,j,jk,i,ik,ij,rk,rj,rjk,ri,rik,rij\n";
 
@@ -16,7 +17,7 @@ const FIRST: &str = "0,110,11,121,1,111,12,0,0,0,0,0,0\n";
 type Record = [u8; 13];
 
 /// The records of a table.
-fn records(alloc: Global, table: TestTable) -> Result<Vec<Record>, AllocError> {
+fn records(rt: &impl Abort, alloc: Global, table: TestTable) -> Vec<Record> {
     let mut records = Vec::new(alloc);
     for base in 0..122u8 {
         if !is_pentagon_base(base) {
@@ -26,10 +27,10 @@ fn records(alloc: Global, table: TestTable) -> Result<Vec<Record>, AllocError> {
                 record[1 + i] = to;
                 record[7 + i] = turns;
             }
-            records.push(record)?;
+            expect(rt, "memory", records.push(record).is_ok());
         }
     }
-    Ok(records)
+    records
 }
 
 /// The text of a record.
@@ -55,25 +56,24 @@ fn text_of(alloc: Global, records: &[Record], end: &str) -> Result<String, Alloc
 }
 
 /// The text of the file of a table.
-fn file_of(alloc: Global, table: TestTable) -> Result<String, AllocError> {
-    text_of(alloc, &records(alloc, table)?, "\n")
+fn file_of(rt: &impl Abort, alloc: Global, table: TestTable) -> String {
+    made(rt, text_of(alloc, &records(rt, alloc, table), "\n"))
 }
 
 #[test]
-fn sound_tables_are_accepted(rt: HostRuntime) -> Result<(), AllocError> {
+fn sound_tables_are_accepted(rt: HostRuntime) {
     for table in [TestTable::Plain, TestTable::Twisted] {
-        let records = records(rt.alloc(), table)?;
+        let records = records(&rt, rt.alloc(), table);
         expect(&rt, "110 records", records.len() == 110);
         for (row, end) in ["\n", "\r\n", "\r", "\n\n"].iter().enumerate() {
-            let text = text_of(rt.alloc(), &records, end)?;
+            let text = made(&rt, text_of(rt.alloc(), &records, end));
             expect_row(&rt, row, has_links(&rt, &text, table));
         }
     }
-    Ok(())
 }
 
 #[test]
-fn links_are_those_of_worked_records(rt: HostRuntime) -> Result<(), AllocError> {
+fn links_are_those_of_worked_records(rt: HostRuntime) {
     static LINKS: [(Direction, u8, u8); 6] = [
         (Direction::K, 18, 0),
         (Direction::J, 41, 5),
@@ -82,10 +82,10 @@ fn links_are_those_of_worked_records(rt: HostRuntime) -> Result<(), AllocError> 
         (Direction::IK, 19, 1),
         (Direction::IJ, 42, 0),
     ];
-    let plain = file_of(rt.alloc(), TestTable::Plain)?;
-    let first = format!(in rt.alloc(); "{HEADER}{FIRST}1,111,")?;
+    let plain = file_of(&rt, rt.alloc(), TestTable::Plain);
+    let first = made(&rt, format!(in rt.alloc(); "{HEADER}{FIRST}1,111,"));
     expect(&rt, "the first record", plain.starts_with(first.as_str()));
-    let twisted = file_of(rt.alloc(), TestTable::Twisted)?;
+    let twisted = file_of(&rt, rt.alloc(), TestTable::Twisted);
     expect(
         &rt,
         "the record of base cell 30",
@@ -97,16 +97,14 @@ fn links_are_those_of_worked_records(rt: HostRuntime) -> Result<(), AllocError> 
     for (row, (direction, to, turns)) in LINKS.iter().enumerate() {
         expect_row(&rt, row, has_link(&table, 30, *direction, *to, *turns));
     }
-    Ok(())
 }
 
 #[test]
-fn records_come_in_any_order(rt: HostRuntime) -> Result<(), AllocError> {
-    let mut records = records(rt.alloc(), TestTable::Twisted)?;
+fn records_come_in_any_order(rt: HostRuntime) {
+    let mut records = records(&rt, rt.alloc(), TestTable::Twisted);
     records.reverse();
-    let text = text_of(rt.alloc(), &records, "\n")?;
+    let text = made(&rt, text_of(rt.alloc(), &records, "\n"));
     expect(&rt, "twisted", has_links(&rt, &text, TestTable::Twisted));
-    Ok(())
 }
 
 /// The text of a record with zeros in front of its numbers, the first of them in quotes.
@@ -120,9 +118,9 @@ fn padded_line(alloc: Global, record: &Record) -> Result<String, AllocError> {
 }
 
 /// The file of the plain table with a byte order mark and such records.
-fn padded_file(alloc: Global) -> Result<String, AllocError> {
+fn padded_file(alloc: Global, records: &[Record]) -> Result<String, AllocError> {
     let mut text = format!(in alloc; "\u{feff}{HEADER}")?;
-    for record in &records(alloc, TestTable::Plain)? {
+    for record in records {
         text.push_str(&padded_line(alloc, record)?)?;
         text.push('\n')?;
     }
@@ -130,10 +128,10 @@ fn padded_file(alloc: Global) -> Result<String, AllocError> {
 }
 
 #[test]
-fn marks_quotes_and_zeros_are_let_through(rt: HostRuntime) -> Result<(), AllocError> {
-    let padded = padded_file(rt.alloc())?;
+fn marks_quotes_and_zeros_are_let_through(rt: HostRuntime) {
+    let records = records(&rt, rt.alloc(), TestTable::Plain);
+    let padded = made(&rt, padded_file(rt.alloc(), &records));
     expect(&rt, "padded", has_links(&rt, &padded, TestTable::Plain));
-    Ok(())
 }
 
 #[test]
@@ -153,23 +151,22 @@ fn headers_are_exact(rt: HostRuntime) {
 }
 
 #[test]
-fn each_header_wants_its_own_records(rt: HostRuntime) -> Result<(), AllocError> {
+fn each_header_wants_its_own_records(rt: HostRuntime) {
     let alloc = rt.alloc();
     expect(
         &rt,
         "another header",
-        is_refused(alloc, "base,dir,to,rot\n", FIRST, TableError::Form(2))?,
+        is_refused(alloc, "base,dir,to,rot\n", FIRST, TableError::Form(2)),
     );
     expect(
         &rt,
         "another record",
-        is_refused(alloc, HEADER, "0,1,110,0\n", TableError::Form(2))?,
+        is_refused(alloc, HEADER, "0,1,110,0\n", TableError::Form(2)),
     );
-    Ok(())
 }
 
 #[test]
-fn the_first_faulty_record_decides(rt: HostRuntime) -> Result<(), AllocError> {
+fn the_first_faulty_record_decides(rt: HostRuntime) {
     static ROWS: [(&str, TableError); 14] = [
         ("0,110,11,121,1,111,12,0,0,0,0,0\n", TableError::Form(2)),
         ("0,110,11,121,1,111,12,0,0,0,0,0,0,0\n", TableError::Form(2)),
@@ -193,15 +190,14 @@ fn the_first_faulty_record_decides(rt: HostRuntime) -> Result<(), AllocError> {
         ("\n", TableError::Missing),
     ];
     for (row, (rest, error)) in ROWS.iter().enumerate() {
-        let is_refused = is_refused(rt.alloc(), HEADER, rest, *error)?;
+        let is_refused = is_refused(rt.alloc(), HEADER, rest, *error);
         expect_row(&rt, row, is_refused);
     }
-    Ok(())
 }
 
 /// After the first record of the plain table.
 #[test]
-fn a_faulty_second_record_decides(rt: HostRuntime) -> Result<(), AllocError> {
+fn a_faulty_second_record_decides(rt: HostRuntime) {
     static ROWS: [(&str, TableError); 4] = [
         (
             "0,110,11,121,1,111,12,0,0,0,0,0,0\n0,1,2,3,5,6,7,0,0,0,0,0,0\n",
@@ -221,45 +217,43 @@ fn a_faulty_second_record_decides(rt: HostRuntime) -> Result<(), AllocError> {
         ),
     ];
     for (row, (rest, error)) in ROWS.iter().enumerate() {
-        let is_refused = is_refused(rt.alloc(), HEADER, rest, *error)?;
+        let is_refused = is_refused(rt.alloc(), HEADER, rest, *error);
         expect_row(&rt, row, is_refused);
     }
-    Ok(())
 }
 
 #[test]
-fn a_missing_or_repeated_record_is_refused(rt: HostRuntime) -> Result<(), AllocError> {
-    let mut records = records(rt.alloc(), TestTable::Plain)?;
-    let plain = text_of(rt.alloc(), &records, "\n")?;
+fn a_missing_or_repeated_record_is_refused(rt: HostRuntime) {
+    let mut records = records(&rt, rt.alloc(), TestTable::Plain);
+    let plain = made(&rt, text_of(rt.alloc(), &records, "\n"));
     expect(
         &rt,
         "a record too many",
-        is_refused(rt.alloc(), &plain, FIRST, TableError::Repeated(112))?,
+        is_refused(rt.alloc(), &plain, FIRST, TableError::Repeated(112)),
     );
     let _ = records.pop();
-    let short = text_of(rt.alloc(), &records, "\n")?;
+    let short = made(&rt, text_of(rt.alloc(), &records, "\n"));
     expect(
         &rt,
         "a record too few",
         ends(read(rt.alloc(), &short), Some(TableError::Missing)),
     );
-    Ok(())
 }
 
 /// Whether the plain table with the record of a base cell changed is refused with an error.
-fn is_refused_with(alloc: Global, change: &Record, error: TableError) -> Result<bool, AllocError> {
-    let mut records = records(alloc, TestTable::Plain)?;
+fn is_refused_with(rt: &impl Abort, alloc: Global, change: &Record, error: TableError) -> bool {
+    let mut records = records(rt, alloc, TestTable::Plain);
     for record in records.as_mut_slice() {
         if record[0] == change[0] {
             *record = *change;
         }
     }
-    let text = text_of(alloc, &records, "\n")?;
-    Ok(ends(read(alloc, &text), Some(error)))
+    let text = made(rt, text_of(alloc, &records, "\n"));
+    ends(read(alloc, &text), Some(error))
 }
 
 #[test]
-fn the_first_check_that_fails_decides(rt: HostRuntime) -> Result<(), AllocError> {
+fn the_first_check_that_fails_decides(rt: HostRuntime) {
     static ROWS: [(Record, TableError); 3] = [
         (
             [0, 110, 110, 121, 1, 111, 12, 0, 0, 0, 0, 0, 0],
@@ -274,7 +268,7 @@ fn the_first_check_that_fails_decides(rt: HostRuntime) -> Result<(), AllocError>
             TableError::Reversal(60, Direction::I),
         ),
     ];
-    let skew = file_of(rt.alloc(), TestTable::Skew)?;
+    let skew = file_of(&rt, rt.alloc(), TestTable::Skew);
     expect(
         &rt,
         "skew",
@@ -284,8 +278,7 @@ fn the_first_check_that_fails_decides(rt: HostRuntime) -> Result<(), AllocError>
         ),
     );
     for (row, (change, error)) in ROWS.iter().enumerate() {
-        let is_refused = is_refused_with(rt.alloc(), change, *error)?;
+        let is_refused = is_refused_with(&rt, rt.alloc(), change, *error);
         expect_row(&rt, row, is_refused);
     }
-    Ok(())
 }

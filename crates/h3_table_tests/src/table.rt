@@ -9,6 +9,7 @@ use h3_table::BaseTable;
 use h3_table::vectors::{TestTable, link};
 use std::alloc::{AllocError, Global};
 use std::mem::{align_of, size_of};
+use std::process::Abort;
 
 const HEADER: &str = "base,dir,to,rot\n";
 
@@ -16,17 +17,21 @@ const HEADER: &str = "base,dir,to,rot\n";
 type Record = [u8; 4];
 
 /// The records of a table.
-fn records(alloc: Global, table: TestTable) -> Result<Vec<Record>, AllocError> {
+fn records(rt: &impl Abort, alloc: Global, table: TestTable) -> Vec<Record> {
     let mut records = Vec::new(alloc);
     for base in 0..122u8 {
         if !is_pentagon_base(base) {
             for direction in DIRECTIONS {
                 let (to, turns) = link(table, base, direction);
-                records.push([base, direction.digit(), to, turns])?;
+                expect(
+                    rt,
+                    "memory",
+                    records.push([base, direction.digit(), to, turns]).is_ok(),
+                );
             }
         }
     }
-    Ok(records)
+    records
 }
 
 /// The text of a table file, each record ended in the same way.
@@ -40,8 +45,16 @@ fn text_of(alloc: Global, records: &[Record], end: &str) -> Result<String, Alloc
 }
 
 /// The text of the file of a table.
-fn file_of(alloc: Global, table: TestTable) -> Result<String, AllocError> {
-    text_of(alloc, &records(alloc, table)?, "\n")
+fn file_of(rt: &impl Abort, alloc: Global, table: TestTable) -> String {
+    made(rt, text_of(alloc, &records(rt, alloc, table), "\n"))
+}
+
+/// A text that there was memory for.
+pub fn made(rt: &impl Abort, text: Result<String, AllocError>) -> String {
+    match text {
+        Ok(text) => text,
+        Err(_) => panic!(rt; "memory"),
+    }
 }
 
 /// Reads a table file.
@@ -87,14 +100,11 @@ pub fn has_links(rt: &HostRuntime, text: &str, table: TestTable) -> bool {
 }
 
 /// Whether a table file of a header and what comes after it is refused with an error.
-pub fn is_refused(
-    alloc: Global,
-    header: &str,
-    rest: &str,
-    error: TableError,
-) -> Result<bool, AllocError> {
-    let text = format!(in alloc; "{header}{rest}")?;
-    Ok(ends(read(alloc, &text), Some(error)))
+pub fn is_refused(alloc: Global, header: &str, rest: &str, error: TableError) -> bool {
+    match format!(in alloc; "{header}{rest}") {
+        Ok(text) => ends(read(alloc, &text), Some(error)),
+        Err(_) => false,
+    }
 }
 
 /// 732 links of two bytes each, and no address of anything else.
@@ -105,16 +115,15 @@ fn a_table_holds_links_alone(rt: HostRuntime) {
 }
 
 #[test]
-fn sound_tables_are_accepted(rt: HostRuntime) -> Result<(), AllocError> {
+fn sound_tables_are_accepted(rt: HostRuntime) {
     for table in [TestTable::Plain, TestTable::Twisted] {
-        let records = records(rt.alloc(), table)?;
+        let records = records(&rt, rt.alloc(), table);
         expect(&rt, "660 records", records.len() == 660);
         for (row, end) in ["\n", "\r\n", "\r", "\n\n"].iter().enumerate() {
-            let text = text_of(rt.alloc(), &records, end)?;
+            let text = made(&rt, text_of(rt.alloc(), &records, end));
             expect_row(&rt, row, has_links(&rt, &text, table));
         }
     }
-    Ok(())
 }
 
 /// Whether a table has a link.
@@ -127,8 +136,8 @@ pub fn has_link(table: &BaseTable, base: u8, direction: Direction, to: u8, turns
 }
 
 #[test]
-fn bytes_are_read_as_sources_are(rt: HostRuntime) -> Result<(), AllocError> {
-    let plain = file_of(rt.alloc(), TestTable::Plain)?;
+fn bytes_are_read_as_sources_are(rt: HostRuntime) {
+    let plain = file_of(&rt, rt.alloc(), TestTable::Plain);
     let Ok(table) = BaseTable::from_csv(rt.alloc(), plain.as_bytes()) else {
         panic!(rt; "it is refused")
     };
@@ -142,7 +151,7 @@ fn bytes_are_read_as_sources_are(rt: HostRuntime) -> Result<(), AllocError> {
         "the last link",
         has_link(&table, 121, Direction::IJ, 11, 0),
     );
-    let skew = file_of(rt.alloc(), TestTable::Skew)?;
+    let skew = file_of(&rt, rt.alloc(), TestTable::Skew);
     let rows = [
         ("", TableError::Form(1)),
         ("base,dir,to,rot\n", TableError::Missing),
@@ -153,7 +162,6 @@ fn bytes_are_read_as_sources_are(rt: HostRuntime) -> Result<(), AllocError> {
         let read = BaseTable::from_csv(rt.alloc(), file.as_bytes());
         expect_row(&rt, row, ends(read, Some(*error)));
     }
-    Ok(())
 }
 
 /// Whether each link of a hexagon base cell leads to a pentagon, without turns.
@@ -179,14 +187,14 @@ fn a_closed_table_leads_to_pentagons(rt: HostRuntime) {
 }
 
 #[test]
-fn links_are_those_of_worked_records(rt: HostRuntime) -> Result<(), AllocError> {
-    let plain = file_of(rt.alloc(), TestTable::Plain)?;
+fn links_are_those_of_worked_records(rt: HostRuntime) {
+    let plain = file_of(&rt, rt.alloc(), TestTable::Plain);
     expect(
         &rt,
         "plain",
         plain.starts_with("base,dir,to,rot\n0,1,110,0\n0,2,11,0\n"),
     );
-    let twisted = file_of(rt.alloc(), TestTable::Twisted)?;
+    let twisted = file_of(&rt, rt.alloc(), TestTable::Twisted);
     expect(
         &rt,
         "twisted",
@@ -205,30 +213,27 @@ fn links_are_those_of_worked_records(rt: HostRuntime) -> Result<(), AllocError> 
         "from 31 to 30",
         has_link(&table, 31, Direction::K, 30, 5),
     );
-    Ok(())
 }
 
 #[test]
-fn records_come_in_any_order(rt: HostRuntime) -> Result<(), AllocError> {
-    let mut records = records(rt.alloc(), TestTable::Plain)?;
+fn records_come_in_any_order(rt: HostRuntime) {
+    let mut records = records(&rt, rt.alloc(), TestTable::Plain);
     records.reverse();
-    let text = text_of(rt.alloc(), &records, "\n")?;
+    let text = made(&rt, text_of(rt.alloc(), &records, "\n"));
     expect(&rt, "plain", has_links(&rt, &text, TestTable::Plain));
-    Ok(())
 }
 
 #[test]
-fn a_byte_order_mark_is_let_through(rt: HostRuntime) -> Result<(), AllocError> {
-    let plain = file_of(rt.alloc(), TestTable::Plain)?;
-    let marked = format!(in rt.alloc(); "\u{feff}{plain}")?;
+fn a_byte_order_mark_is_let_through(rt: HostRuntime) {
+    let plain = file_of(&rt, rt.alloc(), TestTable::Plain);
+    let marked = made(&rt, format!(in rt.alloc(); "\u{feff}{plain}"));
     expect(&rt, "marked", has_links(&rt, &marked, TestTable::Plain));
-    Ok(())
 }
 
 /// The file of the plain table, its numbers in quotes.
-fn quoted_file(alloc: Global) -> Result<String, AllocError> {
+fn quoted_file(alloc: Global, records: &[Record]) -> Result<String, AllocError> {
     let mut text = format!(in alloc; "{HEADER}")?;
-    for [base, digit, to, turns] in &records(alloc, TestTable::Plain)? {
+    for [base, digit, to, turns] in records {
         let line = format!(in alloc; "\"{base}\",\"{digit}\",\"{to}\",\"{turns}\"\n")?;
         text.push_str(&line)?;
     }
@@ -236,9 +241,9 @@ fn quoted_file(alloc: Global) -> Result<String, AllocError> {
 }
 
 /// The file of the plain table, with zeros in front of its numbers.
-fn padded_file(alloc: Global) -> Result<String, AllocError> {
+fn padded_file(alloc: Global, records: &[Record]) -> Result<String, AllocError> {
     let mut text = format!(in alloc; "{HEADER}")?;
-    for [base, digit, to, turns] in &records(alloc, TestTable::Plain)? {
+    for [base, digit, to, turns] in records {
         let line = format!(in alloc; "{base:03},{digit:02},{to:03},{turns:03}\n")?;
         text.push_str(&line)?;
     }
@@ -247,34 +252,27 @@ fn padded_file(alloc: Global) -> Result<String, AllocError> {
 
 /// Numbers have one to three digits.
 #[test]
-fn quotes_and_zeros_are_let_through(rt: HostRuntime) -> Result<(), AllocError> {
-    expect(
-        &rt,
-        "quoted",
-        has_links(&rt, &quoted_file(rt.alloc())?, TestTable::Plain),
-    );
-    expect(
-        &rt,
-        "padded",
-        has_links(&rt, &padded_file(rt.alloc())?, TestTable::Plain),
-    );
-    Ok(())
+fn quotes_and_zeros_are_let_through(rt: HostRuntime) {
+    let records = records(&rt, rt.alloc(), TestTable::Plain);
+    let quoted = made(&rt, quoted_file(rt.alloc(), &records));
+    expect(&rt, "quoted", has_links(&rt, &quoted, TestTable::Plain));
+    let padded = made(&rt, padded_file(rt.alloc(), &records));
+    expect(&rt, "padded", has_links(&rt, &padded, TestTable::Plain));
 }
 
 #[test]
-fn blank_lines_are_let_through(rt: HostRuntime) -> Result<(), AllocError> {
-    let mut long = file_of(rt.alloc(), TestTable::Plain)?;
+fn blank_lines_are_let_through(rt: HostRuntime) {
+    let mut long = file_of(&rt, rt.alloc(), TestTable::Plain);
     for _line in 0..20_000 {
-        long.push('\n')?;
+        expect(&rt, "memory", long.push('\n').is_ok());
     }
     expect(&rt, "long", has_links(&rt, &long, TestTable::Plain));
-    long.push_str("0,1,110,0\n")?;
+    expect(&rt, "memory", long.push_str("0,1,110,0\n").is_ok());
     expect(
         &rt,
         "a record too many",
         ends(read(rt.alloc(), &long), Some(TableError::Repeated(662))),
     );
-    Ok(())
 }
 
 #[test]
@@ -295,7 +293,7 @@ fn headers_are_exact(rt: HostRuntime) {
 }
 
 #[test]
-fn the_first_faulty_record_decides(rt: HostRuntime) -> Result<(), AllocError> {
+fn the_first_faulty_record_decides(rt: HostRuntime) {
     static ROWS: [(&str, TableError); 19] = [
         ("4,1,0,0", TableError::Range(2)),
         ("0001,1,110,0", TableError::Form(2)),
@@ -318,34 +316,32 @@ fn the_first_faulty_record_decides(rt: HostRuntime) -> Result<(), AllocError> {
         ("", TableError::Missing),
     ];
     for (row, (rest, error)) in ROWS.iter().enumerate() {
-        let is_refused = is_refused(rt.alloc(), HEADER, rest, *error)?;
+        let is_refused = is_refused(rt.alloc(), HEADER, rest, *error);
         expect_row(&rt, row, is_refused);
     }
-    Ok(())
 }
 
 #[test]
-fn a_missing_or_repeated_record_is_refused(rt: HostRuntime) -> Result<(), AllocError> {
-    let mut records = records(rt.alloc(), TestTable::Plain)?;
-    let plain = text_of(rt.alloc(), &records, "\n")?;
+fn a_missing_or_repeated_record_is_refused(rt: HostRuntime) {
+    let mut records = records(&rt, rt.alloc(), TestTable::Plain);
+    let plain = made(&rt, text_of(rt.alloc(), &records, "\n"));
     expect(
         &rt,
         "a record too many",
-        is_refused(rt.alloc(), &plain, "0,1,110,0\n", TableError::Repeated(662))?,
+        is_refused(rt.alloc(), &plain, "0,1,110,0\n", TableError::Repeated(662)),
     );
     let _ = records.pop();
-    let short = text_of(rt.alloc(), &records, "\n")?;
+    let short = made(&rt, text_of(rt.alloc(), &records, "\n"));
     expect(
         &rt,
         "a record too few",
         ends(read(rt.alloc(), &short), Some(TableError::Missing)),
     );
-    Ok(())
 }
 
 /// The file of the plain table with the records of some base cells and directions changed.
-fn changed_file(alloc: Global, changes: &[Record]) -> Result<String, AllocError> {
-    let mut records = records(alloc, TestTable::Plain)?;
+fn changed_file(rt: &impl Abort, alloc: Global, changes: &[Record]) -> String {
+    let mut records = records(rt, alloc, TestTable::Plain);
     for change in changes {
         for record in records.as_mut_slice() {
             if record[0] == change[0] && record[1] == change[1] {
@@ -353,20 +349,17 @@ fn changed_file(alloc: Global, changes: &[Record]) -> Result<String, AllocError>
             }
         }
     }
-    text_of(alloc, &records, "\n")
+    made(rt, text_of(alloc, &records, "\n"))
 }
 
 /// Whether the plain table with some records changed is refused with an error.
-fn is_refused_with(
-    alloc: Global,
-    changes: &[Record],
-    error: TableError,
-) -> Result<bool, AllocError> {
-    Ok(ends(read(alloc, &changed_file(alloc, changes)?), Some(error)))
+fn is_refused_with(rt: &impl Abort, alloc: Global, changes: &[Record], error: TableError) -> bool {
+    let file = changed_file(rt, alloc, changes);
+    ends(read(alloc, &file), Some(error))
 }
 
 #[test]
-fn the_first_check_that_fails_decides(rt: HostRuntime) -> Result<(), AllocError> {
+fn the_first_check_that_fails_decides(rt: HostRuntime) {
     static ROWS: [(Record, TableError); 7] = [
         ([0, 1, 110, 1], TableError::Reversal(0, Direction::K)),
         ([0, 2, 110, 0], TableError::Neighbours(0)),
@@ -376,7 +369,7 @@ fn the_first_check_that_fails_decides(rt: HostRuntime) -> Result<(), AllocError>
         ([121, 6, 13, 0], TableError::Reversal(11, Direction::K)),
         ([121, 6, 10, 0], TableError::Neighbours(121)),
     ];
-    let skew = file_of(rt.alloc(), TestTable::Skew)?;
+    let skew = file_of(&rt, rt.alloc(), TestTable::Skew);
     expect(
         &rt,
         "skew",
@@ -386,14 +379,13 @@ fn the_first_check_that_fails_decides(rt: HostRuntime) -> Result<(), AllocError>
         ),
     );
     for (row, (change, error)) in ROWS.iter().enumerate() {
-        let is_refused = is_refused_with(rt.alloc(), &[*change], *error)?;
+        let is_refused = is_refused_with(&rt, rt.alloc(), &[*change], *error);
         expect_row(&rt, row, is_refused);
     }
-    Ok(())
 }
 
 #[test]
-fn corners_are_checked_at_every_base_cell(rt: HostRuntime) -> Result<(), AllocError> {
+fn corners_are_checked_at_every_base_cell(rt: HostRuntime) {
     // The neighbors of 50 and 80 in the direction I change places, and each link is still undone.
     // The first corner with one of these links is that of 39, 51 and 50.
     static EXCHANGED: [Record; 4] = [
@@ -413,15 +405,14 @@ fn corners_are_checked_at_every_base_cell(rt: HostRuntime) -> Result<(), AllocEr
     expect(
         &rt,
         "the first corner",
-        is_refused_with(rt.alloc(), &EXCHANGED, first)?,
+        is_refused_with(&rt, rt.alloc(), &EXCHANGED, first),
     );
     let later = TableError::Corner(103, Direction::IJ);
     expect(
         &rt,
         "a later corner",
-        is_refused_with(rt.alloc(), &EXCHANGED_LATER, later)?,
+        is_refused_with(&rt, rt.alloc(), &EXCHANGED_LATER, later),
     );
-    Ok(())
 }
 
 /// A source that counts its calls and keeps the lengths of their buffers. Calls after the end of
@@ -478,16 +469,15 @@ fn is_read_to_its_end(rt: &HostRuntime, text: &str, expected: Option<TableError>
 
 /// An error in the first record is returned after all of the file was read.
 #[test]
-fn a_table_is_read_to_its_end_and_no_further(rt: HostRuntime) -> Result<(), AllocError> {
-    let plain = file_of(rt.alloc(), TestTable::Plain)?;
+fn a_table_is_read_to_its_end_and_no_further(rt: HostRuntime) {
+    let plain = file_of(&rt, rt.alloc(), TestTable::Plain);
     expect(&rt, "plain", is_read_to_its_end(&rt, &plain, None));
-    let faulty = format!(in rt.alloc(); "0{plain}")?;
+    let faulty = made(&rt, format!(in rt.alloc(); "0{plain}"));
     expect(
         &rt,
         "faulty",
         is_read_to_its_end(&rt, &faulty, Some(TableError::Form(1))),
     );
-    Ok(())
 }
 
 /// Whether a file of which one read fails, and each read gives a number of bytes at most, takes
@@ -519,21 +509,20 @@ fn fails_at_each_read(rt: &HostRuntime, file: &str, expected: Option<TableError>
 }
 
 #[test]
-fn a_read_that_fails_is_a_read_fault_and_the_last_one(rt: HostRuntime) -> Result<(), AllocError> {
-    let sound = file_of(rt.alloc(), TestTable::Plain)?;
+fn a_read_that_fails_is_a_read_fault_and_the_last_one(rt: HostRuntime) {
+    let sound = file_of(&rt, rt.alloc(), TestTable::Plain);
     expect(&rt, "sound", fails_at_each_read(&rt, &sound, None));
-    let malformed = format!(in rt.alloc(); "0{sound}")?;
+    let malformed = made(&rt, format!(in rt.alloc(); "0{sound}"));
     expect(
         &rt,
         "malformed",
         fails_at_each_read(&rt, &malformed, Some(TableError::Form(1))),
     );
-    Ok(())
 }
 
 #[test]
-fn a_table_is_read_byte_by_byte(rt: HostRuntime) -> Result<(), AllocError> {
-    let sound = file_of(rt.alloc(), TestTable::Plain)?;
+fn a_table_is_read_byte_by_byte(rt: HostRuntime) {
+    let sound = file_of(&rt, rt.alloc(), TestTable::Plain);
     let reads = sound.len() as u64 + 1;
     expect(
         &rt,
@@ -546,5 +535,4 @@ fn a_table_is_read_byte_by_byte(rt: HostRuntime) -> Result<(), AllocError> {
         "one read less",
         takes_reads(rt.alloc(), &sound, (1, reads - 1), fault, reads),
     );
-    Ok(())
 }
