@@ -1,7 +1,7 @@
 //! Files of base cell tables in format 2.
 
 use crate::expected::{expect, expect_row};
-use crate::table::{ends, has_link, has_links, is_refused, made, read};
+use crate::table::{ends, has_link, has_links, is_refused, made, push_part, read};
 use h3_directions::{DIRECTIONS, Direction, TableError};
 use h3_index::is_pentagon_base;
 use h3_table::vectors::{TestTable, link};
@@ -37,8 +37,7 @@ fn records(rt: &impl Abort, alloc: Global, table: TestTable) -> Vec<Record> {
 fn line_of(alloc: Global, record: &Record) -> Result<String, AllocError> {
     let mut line = format!(in alloc; "{}", record[0])?;
     for i in 1..13 {
-        let field = format!(in alloc; ",{}", record[i])?;
-        line.push_str(&field)?;
+        push_part(&mut line, format!(in alloc; ",{}", record[i]))?;
     }
     Ok(line)
 }
@@ -49,7 +48,7 @@ fn text_of(alloc: Global, records: &[Record], end: &str) -> Result<String, Alloc
     text.push_str(HEADER.trim_end())?;
     text.push_str(end)?;
     for record in records {
-        text.push_str(&line_of(alloc, record)?)?;
+        push_part(&mut text, line_of(alloc, record))?;
         text.push_str(end)?;
     }
     Ok(text)
@@ -111,8 +110,7 @@ fn records_come_in_any_order(rt: HostRuntime) {
 fn padded_line(alloc: Global, record: &Record) -> Result<String, AllocError> {
     let mut line = format!(in alloc; "\"{:03}\"", record[0])?;
     for i in 1..13 {
-        let field = format!(in alloc; ",{:03}", record[i])?;
-        line.push_str(&field)?;
+        push_part(&mut line, format!(in alloc; ",{:03}", record[i]))?;
     }
     Ok(line)
 }
@@ -121,7 +119,7 @@ fn padded_line(alloc: Global, record: &Record) -> Result<String, AllocError> {
 fn padded_file(alloc: Global, records: &[Record]) -> Result<String, AllocError> {
     let mut text = format!(in alloc; "\u{feff}{HEADER}")?;
     for record in records {
-        text.push_str(&padded_line(alloc, record)?)?;
+        push_part(&mut text, padded_line(alloc, record))?;
         text.push('\n')?;
     }
     Ok(text)

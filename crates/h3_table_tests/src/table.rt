@@ -34,12 +34,22 @@ fn records(rt: &impl Abort, alloc: Global, table: TestTable) -> Vec<Record> {
     records
 }
 
+/// Adds a part to a text, where there was memory for both.
+pub fn push_part(text: &mut String, part: Result<String, AllocError>) -> Result<(), AllocError> {
+    match part {
+        Ok(part) => text.push_str(&part),
+        Err(error) => Err(error),
+    }
+}
+
 /// The text of a table file, each record ended in the same way.
 fn text_of(alloc: Global, records: &[Record], end: &str) -> Result<String, AllocError> {
     let mut text = format!(in alloc; "base,dir,to,rot{end}")?;
     for [base, digit, to, turns] in records {
-        let line = format!(in alloc; "{base},{digit},{to},{turns}{end}")?;
-        text.push_str(&line)?;
+        push_part(
+            &mut text,
+            format!(in alloc; "{base},{digit},{to},{turns}{end}"),
+        )?;
     }
     Ok(text)
 }
@@ -234,8 +244,10 @@ fn a_byte_order_mark_is_let_through(rt: HostRuntime) {
 fn quoted_file(alloc: Global, records: &[Record]) -> Result<String, AllocError> {
     let mut text = format!(in alloc; "{HEADER}")?;
     for [base, digit, to, turns] in records {
-        let line = format!(in alloc; "\"{base}\",\"{digit}\",\"{to}\",\"{turns}\"\n")?;
-        text.push_str(&line)?;
+        push_part(
+            &mut text,
+            format!(in alloc; "\"{base}\",\"{digit}\",\"{to}\",\"{turns}\"\n"),
+        )?;
     }
     Ok(text)
 }
@@ -244,8 +256,10 @@ fn quoted_file(alloc: Global, records: &[Record]) -> Result<String, AllocError> 
 fn padded_file(alloc: Global, records: &[Record]) -> Result<String, AllocError> {
     let mut text = format!(in alloc; "{HEADER}")?;
     for [base, digit, to, turns] in records {
-        let line = format!(in alloc; "{base:03},{digit:02},{to:03},{turns:03}\n")?;
-        text.push_str(&line)?;
+        push_part(
+            &mut text,
+            format!(in alloc; "{base:03},{digit:02},{to:03},{turns:03}\n"),
+        )?;
     }
     Ok(text)
 }
