@@ -89,7 +89,7 @@ impl CommandFile {
 }
 
 /// An option: its names, what help says of it, and what its value may be.
-#[derive(Drop)]
+#[derive(Clone, Copy)]
 struct OptionEntry<'a> {
     /// The id of the option in `clap`.
     id: &'a str,
@@ -164,10 +164,10 @@ macro_rules! options {
                 [required!("cell", Some('c'), Some("cell"), None, "A cell's index in hexadecimal")]
                 ("CELL", "a cell", "cell:");
             Resolution
-                [required!("resolution", Some('r'), Some("resolution"), Some(i64::from(i32::MAX)), "A resolution, 0 to 15")]
+                [required!("resolution", Some('r'), Some("resolution"), Some(i32::MAX as i64), "A resolution, 0 to 15")]
                 ("RESOLUTION", "a resolution", "resolution:({0..15})");
             Radius
-                [required!("k", Some('k'), None, Some(i64::from(i32::MAX)), "A radius, from 0: how many steps of the grid")]
+                [required!("k", Some('k'), None, Some(i32::MAX as i64), "A radius, from 0: how many steps of the grid")]
                 ("RADIUS", "a radius", "radius:");
             To
                 [required!("to", None, Some("to"), None, "A second cell's index in hexadecimal")]
@@ -190,7 +190,7 @@ macro_rules! options {
             Field
                 [OptionEntry {
                         least: 1,
-                        most: Some(i64::from(u16::MAX)),
+                        most: Some(u16::MAX as i64),
                         ..of_rows!("number", "field", false, "Read rows; the number of the cell's field")
                     }]
                 ("N", "the number of the field with the cell", "number:");
@@ -223,17 +223,18 @@ macro_rules! names {
     };
 }
 
-// The entry of the option that is this name.
-macro_rules! entry_of_name {
-    ($value:ident; $($name:ident [$entry:expr] $page:tt;)*) => {
-        match $value {
-            $(CommandOption::$name => $entry),*
-        }
+// All entries.
+macro_rules! entries {
+    ($($name:ident [$entry:expr] $page:tt;)*) => {
+        &[$($entry),*]
     };
 }
 
 /// All options, in the order of their table.
 pub(crate) static OPTIONS: &[CommandOption] = options!(names!);
+
+/// The entries of all options, in the order of their table, which is that of their names.
+static ENTRIES: &[OptionEntry<'static>] = options!(entries!);
 
 impl CommandOption {
     /// The option's entry in the table of all options.
@@ -248,7 +249,7 @@ impl CommandOption {
           is_flag = result.is_flag;
         } ≡ option_entry self }
     {
-        options!(entry_of_name! self;)
+        ENTRIES[self as usize]
     }
 
     /// The id of the option in `clap`.
