@@ -1,7 +1,8 @@
 -- From a parse that succeeds to what the words ask for.
 use Rattle.std.proofs.Common.{◌≡◌, ◌∙◌, Bool, cond, true, false, refl, sym, ap, ap₂, subst, List, [], ◌∷◌, ◌||◌, drop, is_some, Option, Some, None, inl, inr}
-use Rattle.std.specs.Prelude.{find, option_map, option_and_then, slice_get}
+use Rattle.std.specs.Prelude.{find, IfErr, option_map, option_and_then, Result, Ok, Err, slice_get}
 use Rattle.std.specs.List.{list_any}
+use Rattle.std.specs.Result.{IsErrAnd}
 use Rattle.std.specs.Str.{bytes_eq}
 use Rattle.std.proofs.lemmas.Slice.Eq.{bytes_eq-Decides}
 use Rattle.clap.specs.Kinds.{HasKind, IsAmong}
@@ -98,6 +99,15 @@ fault_reported a ws e stands kinds f reported = go f reported (subst (λ k. HasK
     go (Usage text) reported (inr among) = (kind_of e, among, reported.0)
     go Version reported has = absurd reported
     go Memory reported has = tt
+
+-- an error for want of memory refuses any words
+pub refused_memory : {T : Type 0} (ws : List Text) (r : Result T ArgsError) → IsErrAnd r (λ f. f ≡ Memory) → IfErr r (IsRefusalOf ws)
+refused_memory ws (Ok v) bad = absurd bad
+refused_memory ws (Err f) is = subst (IsRefusalOf ws) (sym is) tt
+
+pub memory_alone : {T : Type 0} (r : Result T ArgsError) → IsErrAnd r (λ f. f ≡ Memory) → IfErr r (λ f. f ≡ Memory)
+memory_alone (Ok v) bad = absurd bad
+memory_alone (Err f) is = is
 
 -- where no step of the parse fails, memory was wanted
 pub only_memory : (ws : List Text) (f : ArgsError) → IsFaultOf (fault_of app ws) f → fault_of app ws ≡ [] → f ≡ Memory

@@ -1,14 +1,16 @@
 //! The words of a command line.
 
-ghost use Rattle.std.specs.Prelude.{◌≡◌, [], true, false, drop, Err, IfOk, IfErr, None, OnOk, Some, map, string_bytes};
-ghost use Rattle.clap.specs.Words.{fault_of, kind_of};
+ghost use Rattle.std.specs.Prelude.{◌≡◌, [], true, false, drop, Err, IfOk, IfErr, None, OnOk, Option, Some, map, string_bytes};
+ghost use Rattle.clap.specs.Words.{Text, fault_of, found_of, kind_of};
 ghost use Rattle.h3_words.specs.Call.{IsPlainCall};
-ghost use Rattle.h3_words.specs.Commands.{app, command_of};
+ghost use Rattle.h3_words.specs.Commands.{app, command_of, entry_of, values_of_command};
 ghost use Rattle.h3_words.specs.Faults.{IsFaultOf, IsRefusalOf, IsReportedAs};
 ghost use Rattle.h3_words.specs.Given.{given};
-ghost use Rattle.h3_words.specs.Rows.{rows_agree};
-ghost use Rattle.h3_words.specs.Values.{AsksFor};
+ghost use Rattle.h3_words.specs.Rows.{HasRows, found_texts, rows_agree};
+ghost use Rattle.h3_words.specs.Values.{AreFound, AreRead, AsksFor, HasFile, IsAccepted};
 ghost use Rattle.h3_words.specs.Version.{asks_version};
+ghost use Rattle.h3_words.specs.declared.options.CommandOption.{CommandOption};
+ghost use Rattle.h3_words.specs.declared.options.CommandOption.TheVariants.{Field};
 ghost use Rattle.h3_words.specs.declared.words.ArgsError.TheVariants.{Memory, Version};
 
 use crate::commands::{command_line, file, filled, named_by};
@@ -16,6 +18,7 @@ use crate::help::list_usage;
 use crate::options::{CommandFile, OPTIONS};
 use crate::rows::{row_options, rows_agree, rows_fault};
 use crate::table::COMMANDS;
+use clap::ArgMatches;
 use clap::error::ErrorKind;
 use h3_requests::{Command, RowOptions};
 use std::alloc::{AllocError, Global};
@@ -165,6 +168,26 @@ fn without_command(alloc: Global, words: &[String]) -> ArgsError
     }
 }
 
+/// The words of a command, of which a parse found these values.
+///
+/// [`AllocError`] where there is no memory for a path or a name.
+fn words_of(alloc: Global, command: Command, inner: &ArgMatches<'_>) -> Result<Words, AllocError>
+    ensures named { IfOk result (λ words. entry_of words.command ≡ entry_of command) }
+    ensures values { IfOk result (λ words.
+        AreRead command (found_of inner.now) (values_of_command words.command)) }
+    ensures file { IfOk result (λ words. (text : CommandOption → Option Text) →
+        AreFound command text (found_of inner.now) → HasFile text command words.file) }
+    ensures rows { IfOk result (λ words. rows_agree (found_texts (found_of inner.now)) ≡ true
+        → IsAccepted Field (found_texts (found_of inner.now) Field)
+        → HasRows (found_texts (found_of inner.now)) words.rows) }
+{
+    Ok(Words {
+        command: filled(command, inner),
+        file: file(alloc, command, inner)?,
+        rows: row_options(alloc, inner)?,
+    })
+}
+
 /// Parses the words of the command, which the second of them names. `clap` is given no other
 /// command: it would look at none, and what it builds of all takes most of a call's time.
 fn parse_command(alloc: Global, command: Command, words: &[String]) -> Result<Words, ArgsError>
@@ -188,11 +211,7 @@ fn parse_command(alloc: Global, command: Command, words: &[String]) -> Result<Wo
     if !rows_agree(inner) {
         return Err(ArgsError::Usage(rows_fault(alloc, list_usage(command), inner)?));
     }
-    Ok(Words {
-        command: filled(command, inner),
-        file: file(alloc, command, inner)?,
-        rows: row_options(alloc, inner)?,
-    })
+    Ok(words_of(alloc, command, inner)?)
 }
 
 /// Parses the words of a command line that does not ask for the version.

@@ -2,7 +2,7 @@ use Rattle.std.proofs.Common.{sym, ◌∙◌, inr, map, true≢false}
 use Rattle.std.specs.Prelude.{string_bytes}
 use Rattle.clap.specs.Words.{found_of}
 use Rattle.h3_words.proofs.Plain.{call_agrees, call_passes}
-use Rattle.h3_words.proofs.Reading.{agree_found, asks_for, fault_reported, met, only_memory, passed, refused, rows_are, stands_alone}
+use Rattle.h3_words.proofs.Reading.{agree_found, asks_for, fault_reported, memory_alone, met, only_memory, passed, refused, refused_memory, rows_are, stands_alone}
 use Rattle.h3_words.proofs.Values.{has_values}
 use Rattle.h3_words.proofs.words.parse_command.Goals as goal
 
@@ -24,9 +24,9 @@ returns-clause-read c =
     let ws = map string_bytes c.args.words.now in
     let found = found_of c.in-Some.inner.now in
     let are = met c.args.command _ ws _ found c.requires.named c.in_ok-parser.ensures c.in-Ok.ensures.kinds c.in-Ok.ensures.matches c.in-Some.ensures.rows in
-    asks_for c.args.command ws found c.requires.named are _ c.filled.ensures.named
-    (has_values _ found _ c.filled.ensures.values) c.in_ok-file.ensures
-    (rows_are _ found _ (sym c.rows_agree.ensures ∙ c.if-not-rows_agree.false) c.in_ok-row_options.ensures)
+    let read = c.in_ok-words_of.ensures in
+    asks_for c.args.command ws found c.requires.named are _ read.named (has_values _ found _ read.values) read.file
+    (rows_are _ found _ (sym c.rows_agree.ensures ∙ c.if-not-rows_agree.false) read.rows)
 
 pub returns-clause-agreed : goal.returns-clause-agreed
 returns-clause-agreed c =
@@ -56,3 +56,21 @@ returns-then-not-rows_agree-clause-faults c =
       passed _ ws (stands_alone c.args.command _ ws c.requires.named c.in_ok-parser.ensures) c.in-Ok.ensures.kinds,
       sym (agree_found c.args.command _ found are) ∙ sym c.rows_agree.ensures ∙ c.if-not-rows_agree.true,
     )
+
+pub returns-in_err-parser-clause-faults : goal.returns-in_err-parser-clause-faults
+returns-in_err-parser-clause-faults c = refused_memory (map string_bytes c.args.words.now) c.from_residual.result c.from_residual.ensures.1
+
+pub returns-in_err-parser-clause-taken : goal.returns-in_err-parser-clause-taken
+returns-in_err-parser-clause-taken c = λ _. memory_alone c.from_residual.result c.from_residual.ensures.1
+
+pub returns-in_err-rows_fault-clause-faults : goal.returns-in_err-rows_fault-clause-faults
+returns-in_err-rows_fault-clause-faults c = refused_memory (map string_bytes c.args.words.now) c.from_residual-in_err-rows_fault.result c.from_residual-in_err-rows_fault.ensures.1
+
+pub returns-in_err-rows_fault-clause-taken : goal.returns-in_err-rows_fault-clause-taken
+returns-in_err-rows_fault-clause-taken c = λ _. memory_alone c.from_residual-in_err-rows_fault.result c.from_residual-in_err-rows_fault.ensures.1
+
+pub returns-in_err-words_of-clause-faults : goal.returns-in_err-words_of-clause-faults
+returns-in_err-words_of-clause-faults c = refused_memory (map string_bytes c.args.words.now) c.from_residual-in_err-words_of.result c.from_residual-in_err-words_of.ensures.1
+
+pub returns-in_err-words_of-clause-taken : goal.returns-in_err-words_of-clause-taken
+returns-in_err-words_of-clause-taken c = λ _. memory_alone c.from_residual-in_err-words_of.result c.from_residual-in_err-words_of.ensures.1
