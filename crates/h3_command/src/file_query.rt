@@ -80,7 +80,7 @@ fn answer_query<R: Source, W: Sink>(
 
 /// Reads a file of cells, and then writes the answer about them and the cells listed on the input, or
 /// those of its rows.
-// Inlined, its blocks would take their place on the stack while `perform_over_list` runs another command.
+// Inlined, its blocks would take their place on the stack while `perform_over_both` runs another command.
 #[inline(never)]
 pub(crate) fn answer_over_file<R: Source, T: Source, W: Sink>(
     alloc: Global,

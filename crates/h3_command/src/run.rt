@@ -32,6 +32,40 @@ use h3_rows::laws::answers_stand_beside;
 use h3_streams::{Sink, Source};
 use std::alloc::Global;
 
+/// Does what a command asks that reads a file or a table and then a list, up to the line on standard
+/// error.
+fn perform_over_both<R: Source, T: Source, W: Sink>(
+    alloc: Global,
+    command: &Command,
+    rows: &Option<RowOptions>,
+    input: &mut R,
+    table: &mut T,
+    out: &mut W,
+) -> Result<(), RunError>
+    requires list { reads_list (request_of rows.now command.now) ≡ true }
+    requires table { reads_table (request_of rows.now command.now) ≡ true }
+    ensures { Ends (request_of rows.now command.now) (source_use R.left R.has_failed input.old input.new)
+        (source_use T.left T.has_failed table.old table.new) result
+        (sink_use W.taken W.has_failed out.old out.new) }
+{
+    match *command {
+        IntersectCells => answer_over_file(alloc, Combined(Shared), rows, input, table, out),
+        SubtractCells => answer_over_file(alloc, Combined(Left), rows, input, table, out),
+        AreCoveredCells => answer_over_file(alloc, Covered, rows, input, table, out),
+        CellsToZones => answer_over_file(alloc, Zones, rows, input, table, out),
+        CountCellsInZones => answer_over_file(alloc, Counts, rows, input, table, out),
+        GridDisksUnsafe { k } => answer_over_table(alloc, Disk { k }, rows, input, table, out),
+        GridDisksDistancesUnsafe { k } => {
+            answer_over_table(alloc, DiskDistances { k }, rows, input, table, out)
+        }
+        GridRingsUnsafe { k } => answer_over_table(alloc, Ring { k }, rows, input, table, out),
+        GetDirectedEdgeDestinations => {
+            answer_over_table(alloc, Destination, rows, input, table, out)
+        }
+        _ => unreachable!(),
+    }
+}
+
 /// Does what a command about a list asks, up to the line on standard error.
 fn perform_over_list<R: Source, T: Source, W: Sink>(
     alloc: Global,
@@ -54,20 +88,7 @@ fn perform_over_list<R: Source, T: Source, W: Sink>(
         UncompactCells { res } => answer_whole(alloc, UncompactList { res }, rows, input, out),
         UncompactCellsSize { res } => uncompact_cells_size(alloc, res, rows, input, out),
         UniteCells => answer_whole_numbered(alloc, UniteList, rows, input, out),
-        IntersectCells => answer_over_file(alloc, Combined(Shared), rows, input, table, out),
-        SubtractCells => answer_over_file(alloc, Combined(Left), rows, input, table, out),
-        AreCoveredCells => answer_over_file(alloc, Covered, rows, input, table, out),
-        CellsToZones => answer_over_file(alloc, Zones, rows, input, table, out),
-        CountCellsInZones => answer_over_file(alloc, Counts, rows, input, table, out),
-        GridDisksUnsafe { k } => answer_over_table(alloc, Disk { k }, rows, input, table, out),
-        GridDisksDistancesUnsafe { k } => {
-            answer_over_table(alloc, DiskDistances { k }, rows, input, table, out)
-        }
-        GridRingsUnsafe { k } => answer_over_table(alloc, Ring { k }, rows, input, table, out),
-        GetDirectedEdgeDestinations => {
-            answer_over_table(alloc, Destination, rows, input, table, out)
-        }
-        _ => unreachable!(),
+        _ => perform_over_both(alloc, command, rows, input, table, out),
     }
 }
 
