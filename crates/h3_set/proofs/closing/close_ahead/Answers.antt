@@ -8,6 +8,24 @@ use Rattle.h3_set.proofs.EndLaws.{before_written, first_left, last_written, pass
 use Rattle.h3_set.proofs.closing.close_ahead.Goals as goal
 use Rattle.h3_set.proofs.closing.close_ahead.Goals.{After-close-w, After-ancestor_at-parent}
 
+pub loop-i-init : goal.loop-i-init
+loop-i-init c = record { further = omega arith; behind = c.requires.closing.1.behind; within = c.requires.closing.1.within; closing = λ _ h. h }
+
+pub bounds-cells-i : goal.bounds-cells-i
+bounds-cells-i c = c.loop-i-test.true
+
+pub returns-then-count-eq0-clause-closing : goal.returns-then-count-eq0-clause-closing
+returns-then-count-eq0-clause-closing c = c.loop-i.invariant.closing
+
+pub returns-clause-closing : goal.returns-clause-closing
+returns-clause-closing c = c.loop-i.invariant.closing
+
+pub returns-then-count-eq0-clause-further : goal.returns-then-count-eq0-clause-further
+returns-then-count-eq0-clause-further c = c.loop-i.invariant.further
+
+pub returns-clause-further : goal.returns-clause-further
+returns-clause-further c = c.loop-i.invariant.further
+
 pub siblings_at_front-count-requires-clause-first : goal.siblings_at_front-count-requires-clause-first
 siblings_at_front-count-requires-clause-first c = first_left c.loop-i.cells c.loop-i.i c.index-cells-i.result c.index-cells-i.is
 

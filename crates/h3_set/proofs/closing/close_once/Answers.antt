@@ -40,3 +40,14 @@ returns-clause-closed c =
     let back : from + 1 - 1 ≡ from = omega arith in
     let same : take (from + 1 - 1) (set cells from c.ancestor_at.result) ≡ take from cells = ap (λ k. take k (set cells from c.ancestor_at.result)) back ∙ take-set cells from c.ancestor_at.result in
     front_closed (take (from + 1 - 1) (set cells from c.ancestor_at.result)) (take (length cells - 1) cells) (λ y m. front_within cells from (length cells - 1) y (omega (arith, two)) (subst (λ l. Contains l y) same m)) c.requires.closed
+
+pub returns-then-count-eq0-clause-some : goal.returns-then-count-eq0-clause-some
+returns-then-count-eq0-clause-some c = c.requires.some
+
+pub returns-then-count-eq0-clause-closed : goal.returns-then-count-eq0-clause-closed
+returns-then-count-eq0-clause-closed c = c.requires.closed
+
+pub returns-clause-none : goal.returns-clause-none
+returns-clause-none c = λ e.
+    let two : 1 < c.siblings_at_end-count.result = c.siblings_at_end-count.ensures.many (omega (arith, c.if-count-eq0.false)) in
+    absurd (omega (arith, e))

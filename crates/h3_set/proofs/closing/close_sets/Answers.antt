@@ -28,3 +28,12 @@ loop-len-preserved c =
       closed = subst HasNoSet (sym front_less) done.closed;
       done = λ e. subst HasNoSet (sym front) (done.none (e ∙ sym size));
     }
+
+pub returns-clause-within : goal.returns-clause-within
+returns-clause-within c = omega (arith, c.loop-len.invariant.within)
+
+pub returns-clause-leads : goal.returns-clause-leads
+returns-clause-leads c = c.loop-len.invariant.leads
+
+pub returns-clause-closed : goal.returns-clause-closed
+returns-clause-closed c = c.loop-len.invariant.done (omega (arith, c.loop-len.invariant.fewer, c.loop-len-test.false))

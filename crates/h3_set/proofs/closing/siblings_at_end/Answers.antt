@@ -71,3 +71,12 @@ returns-clause-siblings c = λ any.
     let of_f = some_skips (parent_of f) in
     let found = c.siblings_at_front.ensures.siblings some in
     rw same (found_last c.cells_form_trees.ensures cells x c.requires c.resolution-level.result c.from.result level pos k f (omega (arith, same, c.if-cells-count.false)) of_f.0 of_f.1 (c.siblings_at_front.ensures.level some) (sym same ∙ sym equal ∙ c.siblings_at_front.ensures.count some) (rw same at (rw tail at (rw equal at found))))
+
+pub returns-then-digit-ne6-clause-siblings : goal.returns-then-digit-ne6-clause-siblings
+returns-then-digit-ne6-clause-siblings c = λ some. absurd (omega (arith, some))
+
+pub returns-then-cells-count-clause-siblings : goal.returns-then-cells-count-clause-siblings
+returns-then-cells-count-clause-siblings c = λ some. absurd (omega (arith, some))
+
+pub returns-then-siblings_at_front-count-clause-siblings : goal.returns-then-siblings_at_front-count-clause-siblings
+returns-then-siblings_at_front-count-clause-siblings c = λ some. absurd (omega (arith, some))
