@@ -111,14 +111,21 @@ pub(crate) fn copied(alloc: Global, cells: &[Cell]) -> Result<Vec<Cell>, RunErro
     ensures ok { IfOk result (λ copy. copy.items ≡ cells.now) }
     ensures err { IfErr result (λ e. e ≡ refusal.Fault Memory) }
 {
-    let mut copy = Vec::with_capacity(alloc, cells.len()).map_err(|_| RunError::Fault(
-        Fault::Memory,
-    ))?;
-    for cell in cells {
-        copy.push(*cell)
-            .map_err(|_| RunError::Fault(Fault::Memory))?;
+    match cells.to_vec(alloc) {
+        Ok(copy) => Ok(copy),
+        Err(_) => Err(RunError::Fault(Fault::Memory)),
     }
-    Ok(copy)
+}
+
+/// Slots for so many cells. `Fault::Memory` where there is none for them.
+fn slots_for(alloc: Global, count: usize) -> Result<Vec<Cell>, RunError>
+    ensures ok { IfOk result (λ slots. length slots.items ≡ count) }
+    ensures err { IfErr result (λ e. e ≡ refusal.Fault Memory) }
+{
+    match vec![in alloc; Cell::in_base(0); count] {
+        Ok(slots) => Ok(slots),
+        Err(_) => Err(RunError::Fault(Fault::Memory)),
+    }
 }
 
 /// The region of what two lists both cover, in post order. `Fault::Memory` where there is none for
@@ -137,9 +144,7 @@ fn shared_cells(
     let cells = Region::of(cells);
     let others = Region::of(others);
     let room = cells.cells().len() + others.cells().len();
-    let mut slots = vec![in alloc; Cell::in_base(0); room].map_err(|_| RunError::Fault(
-        Fault::Memory,
-    ))?;
+    let mut slots = slots_for(alloc, room)?;
     let shared = intersect(&cells, &others, &mut slots);
     copied(alloc, shared.cells())
 }
@@ -162,9 +167,7 @@ fn left_within(
 {
     // for the proof: that its cells are valid
     let _ = others.cells();
-    let mut slots = vec![in alloc; Cell::in_base(0); room].map_err(|_| RunError::Fault(
-        Fault::Memory,
-    ))?;
+    let mut slots = slots_for(alloc, room)?;
     match subtract(cells, others, &mut slots) {
         Some(left) => {
             let left = copied(alloc, left.cells())?;
