@@ -1,7 +1,7 @@
-use Rattle.std.proofs.Common.{rules, ◌≡◌, ◌∙◌, Option, List, refl, sym, ap, map, Some}
+use Rattle.std.proofs.Common.{rules, ◌≡◌, ◌∙◌, Option, List, refl, sym, ap, map, None, Some}
 use Rattle.std.specs.Prelude.{find, option_and_then, option_map, slice_get, string_bytes}
 use Rattle.std.specs.Str.{bytes_eq}
-use Rattle.std.proofs.lemmas.Option.{slice_get-map, slice_get_read}
+use Rattle.std.proofs.lemmas.Option.{slice_get-map, slice_get_past, slice_get_read}
 use Rattle.clap.specs.Words.{Text}
 use Rattle.h3_words.specs.Commands.{commands, command_of, word_of}
 use Rattle.h3_requests.specs.declared.command.Command.{Command}
@@ -19,3 +19,6 @@ pub returns : goal.returns
 returns c =
     let found = slice_get_read c.args.words.now _ 1 c.in_ok-get.field-0.now refl (search rules) (search rules) in
     c.named_by.ensures ∙ ap by_word c.as_str.ensures.value ∙ sym (second string_bytes c.args.words.now (Some c.in_ok-get.field-0.now) found)
+
+pub returns-in_err-get : goal.returns-in_err-get
+returns-in_err-get c = c.from_residual.ensures ∙ sym (second string_bytes c.args.words.now None (slice_get_past c.args.words.now 1 (search rules)))
