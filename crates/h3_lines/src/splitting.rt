@@ -344,8 +344,8 @@ fn finish<J: Job>(job: &mut J, quotes: bool, row: &[u8], inside: bool) -> Result
 ///
 /// The first one that is met, of:
 ///
-/// - The job's, of a row, or of one that is longer than it may be. The page is as long as that and a read
-///   of `size` bytes, which is not empty (`row_page`).
+/// - The job's, of a row, or of one that is longer than it may be. The page is as long as a row may be and
+///   a read of `size` bytes more (`row_page`), and `size` is not 0.
 /// - `Fault::Read` if a read fails, or none is left.
 pub fn drive<'a, J: Job, R: Source>(
     job: &mut J,
