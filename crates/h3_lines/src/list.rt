@@ -64,11 +64,11 @@ fn without_line(refusal: RunError) -> RunError
     }
 }
 
-/// Reads a list in at most a given number of reads, each of at most `size` bytes.
+/// Reads a list in at most `limit` reads of at most `size` bytes each.
 ///
 /// # Errors
 ///
-/// As of `read_cells`.
+/// As of `read_cells`, with `limit` reads in place of 2^40.
 pub fn read_list<R: Source>(
     alloc: Global,
     input: &mut R,

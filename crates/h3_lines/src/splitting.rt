@@ -13,7 +13,7 @@ use h3_streams::{CountedReader, Source};
 use memchr::{memchr, memchr2};
 use std::alloc::Global;
 
-/// The bytes that are read at once.
+/// The bytes that are read at once. The page of a list is longer (`row_page`).
 pub const PAGE: usize = 65536;
 
 /// The reads that a list may take.
@@ -22,8 +22,8 @@ pub const MAX_READS: u64 = 1 << 40;
 /// The bytes that a line may have.
 pub(crate) const LONGEST_LINE: usize = 64;
 
-/// Returns a page for reads of `size` bytes, with room before them for the beginning of a row of at most
-/// `longest` bytes.
+/// Returns a page of `longest + size` bytes: for the beginning of a row, and a read of `size` bytes behind
+/// it.
 ///
 /// # Errors
 ///
@@ -83,7 +83,8 @@ pub trait Taking {
 
 /// Takes the rows of a list, one after another.
 pub trait Job: Taking {
-    /// Takes a row. With `inside`, a quote is open at its end, and it is the last row.
+    /// Takes a row. With `inside`, a quote is open at its end, and it is the last row. It may be longer
+    /// than a row may be: `refuse_long` is asked only about one whose end is not read yet.
     ///
     /// # Errors
     ///
@@ -191,8 +192,8 @@ fn split_row(quotes: bool, start: RowStart, bytes: &[u8]) -> Result<(&[u8], &[u8
     Ok((&bytes[..start.held + more.len()], after))
 }
 
-/// Has rows taken that the bytes begin with, as long as the job takes them there, and returns the bytes
-/// after them.
+/// Has the job take rows from the front of the bytes until its `take_first` takes none, and returns the
+/// bytes left.
 #[inline(always)]
 fn take_first<'b, J: Job>(job: &mut J, quotes: bool, bytes: &'b [u8]) -> Result<&'b [u8], RunError>
     requires { J.count job.old + length bytes.now < 2 ^ 63 }
@@ -241,7 +242,7 @@ fn take_rows<'b, J: Job>(
     }
 }
 
-/// The same, of bytes that begin with a row's beginning.
+/// As `take_rows`, of bytes whose first `start.held` begin a row and are not searched again.
 fn take_begun<'b, J: Job>(
     job: &mut J,
     quotes: bool,
@@ -279,7 +280,7 @@ fn move_to_front(page: &mut [u8], end: usize, held: usize)
     requires end { end ≤ length page.old }
     ensures { take held page.new ≡ drop (end - held) (take end page.old) }
 {
-    // So a row that takes many reads stays where it is.
+    // A row that takes many reads is at the front already.
     if held < end {
         page.copy_within(end - held..end, 0);
     }
@@ -322,7 +323,7 @@ fn take_page<J: Job>(
     Ok(RowStart { held, inside })
 }
 
-/// Has the last row taken, of which these bytes are known, and then nothing is held back.
+/// Has the last row taken, which has no line feed, unless it is empty. Then nothing is held back.
 fn finish<J: Job>(job: &mut J, quotes: bool, row: &[u8], inside: bool) -> Result<(), RunError>
     requires uncut { Uncut 10 quotes false row.now inside }
     requires few { J.count job.old + length row.now < 2 ^ 63 }
@@ -338,14 +339,14 @@ fn finish<J: Job>(job: &mut J, quotes: bool, row: &[u8], inside: bool) -> Result
 }
 
 /// Has the rows of a source taken by a job, read by read. Each row is taken in the page: the beginning of
-/// one that is not ended is moved to the page's front, and the next read goes right behind it.
+/// one that is not ended is moved to the page's front, and the next read goes right behind it. `page` has
+/// the bytes of the longest row and of one read (`row_page`); `size`, the bytes of a read, is not 0.
 ///
 /// # Errors
 ///
 /// The first one that is met, of:
 ///
-/// - The job's, of a row, or of one that is longer than it may be. The page is as long as a row may be and
-///   a read of `size` bytes more (`row_page`), and `size` is not 0.
+/// - The job's, of a row that it refuses or one that is too long.
 /// - `Fault::Read` if a read fails, or none is left.
 pub fn drive<'a, J: Job, R: Source>(
     job: &mut J,

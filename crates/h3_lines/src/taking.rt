@@ -157,7 +157,7 @@ impl<V: CellTaker> Job for NumberedLines<V> {
     }
 }
 
-/// Has the cells of a list taken, in at most a given number of reads of a given size.
+/// Has the cells of a list taken, in at most `limit` reads of at most `size` bytes each.
 pub(crate) fn take_list<V: CellTaker + Drop, R: Source>(
     taker: V,
     input: &mut R,
