@@ -214,6 +214,8 @@ fn take_first<'b, J: Job>(job: &mut J, quotes: bool, bytes: &'b [u8]) -> Result<
 
 /// Has the rows taken that end in the bytes. Returns the bytes after them, which begin the next row, and
 /// whether a quote is open at their end.
+// Inlined at both calls: behind a call the job is in memory, which takes five instructions a line.
+#[inline(always)]
 fn take_rows<'b, J: Job>(
     job: &mut J,
     quotes: bool,
