@@ -16,7 +16,7 @@ use crate::count_lines::CountLines;
 use crate::files::{look_ahead, table_of};
 use crate::listed::take_listed;
 use h3_index::Cell;
-use h3_lines::{CellTaker, Fault, LINES, RunError, write_lines};
+use h3_lines::{CellJob, Fault, LINES, RunError, write_lines};
 use h3_regions::laws::zones_are_lawful;
 use h3_regions::{TabledZones, Zones, count_next};
 use h3_requests::RowOptions;
@@ -34,7 +34,7 @@ struct Tally<'z> {
     ghost size: { length counts.items ≡ length zones },
 }
 
-impl<'z> CellTaker for Tally<'z> {
+impl<'z> CellJob for Tally<'z> {
     ghost count = { λ t. sum t.counts.items + t.others };
 
     ghost taken = { λ t cells u. (u.zones ≡ t.zones) ×

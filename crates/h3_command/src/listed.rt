@@ -10,7 +10,7 @@ ghost use Rattle.h3_lines.specs.Reads.{source_use};
 ghost use Rattle.h3_lines.specs.Write.{sink_use};
 
 use h3_index::Cell;
-use h3_lines::{CellTaker, RunError, read_cells, take_cells};
+use h3_lines::{CellJob, RunError, read_cells, take_cells};
 use h3_requests::RowOptions;
 use h3_rows::take_row_cells;
 use h3_streams::{Sink, Source};
@@ -18,22 +18,22 @@ use std::alloc::Global;
 
 /// Has the cells of a list taken: those on its lines, or those of its rows. An error of either is
 /// reported with its line.
-pub(crate) fn take_listed<V: CellTaker + Drop, R: Source>(
+pub(crate) fn take_listed<V: CellJob + Drop, R: Source>(
     alloc: Global,
-    taker: V,
+    job: V,
     rows: &Option<RowOptions>,
     input: &mut R,
 ) -> Result<V, RunError>
-    requires { V.count taker ≡ 0 }
+    requires { V.count job ≡ 0 }
     ensures taken { IfOk result (λ after. (cells : List Address)
         × GivesCells (list_form rows.now) (source_use R.left R.has_failed input.old input.new) cells
-        × V.taken taker cells after) }
+        × V.taken job cells after) }
     ensures refused { IfErr result (RefusesNumbered (list_form rows.now)
         (source_use R.left R.has_failed input.old input.new)) }
 {
     match rows {
-        None => take_cells(alloc, taker, input),
-        Some(options) => take_row_cells(alloc, taker, options, input),
+        None => take_cells(alloc, job, input),
+        Some(options) => take_row_cells(alloc, job, options, input),
     }
 }
 

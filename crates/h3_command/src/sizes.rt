@@ -14,7 +14,7 @@ ghost use Rattle.h3_command.specs.Sizes.{IsSizeOf, SizesMore, sizes_none, sizes_
 
 use crate::listed::take_listed;
 use h3_index::{Cell, H3Error, resolution_from};
-use h3_lines::{CellTaker, RunError, write_result};
+use h3_lines::{CellJob, RunError, write_result};
 use h3_requests::RowOptions;
 use h3_streams::{Sink, Source};
 use h3_tree::children_size;
@@ -32,7 +32,7 @@ struct Size {
     ghost at_most_fifteen: { res ≤ 15 },
 }
 
-impl CellTaker for Size {
+impl CellJob for Size {
     // Each cell adds less than 2^64 to the total.
     ghost count = { λ s. s.total / 2 ^ 64 };
 

@@ -22,7 +22,7 @@ pub use list::{read_cells, read_list, read_numbered_cells};
 pub use plain::LINES;
 pub use run_error::{AnswerError, CellFile, ColumnError, Fault, RunError};
 pub use splitting::{Job, MAX_READS, PAGE, Taking, drive, row_page, split};
-pub use taking::{CellTaker, take_cells};
+pub use taking::{CellJob, take_cells};
 pub use write::{
     CellLines, write_all, write_answer, write_cells_lines, write_held, write_lines, write_result,
     write_walk,

@@ -10,7 +10,7 @@ ghost use Rattle.h3_lines.specs.Reads.{source_use};
 
 use crate::run_error::{AnswerError, Fault, RunError};
 use crate::splitting::{LONGEST_LINE, MAX_READS, PAGE, row_page};
-use crate::taking::{CellTaker, take_cells, take_list};
+use crate::taking::{CellJob, take_cells, take_list};
 use h3_index::{Cell, H3Error, is_blank_text, read_index};
 use h3_streams::Source;
 use std::alloc::Global;
@@ -38,7 +38,7 @@ pub(crate) fn read_line(line: &[u8]) -> Result<Option<Cell>, H3Error>
     }
 }
 
-impl CellTaker for Vec<Cell> {
+impl CellJob for Vec<Cell> {
     ghost count = { λ v. 0 };
 
     ghost taken = { λ v cells w. w.items ≡ v.items ++ cells };

@@ -21,8 +21,8 @@ use h3_index::{Cell, H3Error};
 use h3_streams::{CountedReader, Source};
 use std::alloc::Global;
 
-/// What takes the cells of a list, one after another.
-pub trait CellTaker {
+/// A job over the cells of a list: takes them one after another, and keeps or counts them, say.
+pub trait CellJob {
     /// At most how many cells it has taken.
     ghost count: { Self → ℕ };
 
@@ -59,15 +59,15 @@ pub trait CellTaker {
 
 /// Has the cell that the line with this number says taken, if it says one.
 #[inline(always)]
-fn push_parsed<V: CellTaker>(
-    taker: &mut V,
+fn push_parsed<V: CellJob>(
+    job: &mut V,
     number: u64,
     said: Result<Option<Cell>, H3Error>,
     place: Option<usize>,
 ) -> Result<(), RunError>
-    requires few { V.count taker.old < 2 ^ 63 }
-    ensures ok { OnOk result (IfOk said (λ cell. V.taken taker.old (cell_list cell) taker.new)) }
-    ensures counted { V.count taker.new ≤ V.count taker.old + 1 }
+    requires few { V.count job.old < 2 ^ 63 }
+    ensures ok { OnOk result (IfOk said (λ cell. V.taken job.old (cell_list cell) job.new)) }
+    ensures counted { V.count job.new ≤ V.count job.old + 1 }
     ensures said { OnOk result (IsOk said) }
     ensures faulty { (e : H3Error) → said ≡ Err e → result ≡ Err (refusal.Error (At number e)) }
     ensures err { IfErr result (λ e. (later : Result (List Address) AnswerError) →
@@ -75,20 +75,20 @@ fn push_parsed<V: CellTaker>(
 {
     match said {
         Ok(None) => Ok(()),
-        Ok(Some(cell)) => taker.take(cell, place),
+        Ok(Some(cell)) => job.take(cell, place),
         Err(error) => Err(RunError::Error(AnswerError::At(number, error))),
     }
 }
 
-/// What takes the cells of the lines, and the number of the next line.
+/// A job over lines that has the cells on them taken by another, and the number of the next line.
 #[derive(Drop)]
-struct NumberedLines<V: CellTaker> {
-    taker: V,
+struct LineCells<V: CellJob> {
+    job: V,
     number: u64,
-    ghost few: { V.count taker ≤ number },
+    ghost few: { V.count job ≤ number },
 }
 
-impl<V: CellTaker> Taking for NumberedLines<V> {
+impl<V: CellJob> Taking for LineCells<V> {
     ghost longest = { LONGEST_LINE };
 
     ghost count = { λ v. v.number };
@@ -96,7 +96,7 @@ impl<V: CellTaker> Taking for NumberedLines<V> {
     ghost settled = { λ v. ⊤ };
 
     ghost taken = { λ v rows w. (cells : List Address)
-        × HaveCells cells_from v.number rows cells w.number × V.taken v.taker cells w.taker };
+        × HaveCells cells_from v.number rows cells w.number × V.taken v.job cells w.job };
 
     ghost refused = { λ v rows w e. RefusesCells cells_from v.number rows e };
 
@@ -109,7 +109,7 @@ impl<V: CellTaker> Taking for NumberedLines<V> {
         Ok(())
     }
 
-    ghost none_taken = { λ v. ([], have_none cells_from v.number, V.none_taken v.taker) };
+    ghost none_taken = { λ v. ([], have_none cells_from v.number, V.none_taken v.job) };
 
     ghost taken_then = { λ u v w xs ys p q. (
       p.0 ++ q.0,
@@ -121,30 +121,30 @@ impl<V: CellTaker> Taking for NumberedLines<V> {
         refuses_after cells_from u.number v.number xs ys p.0 e p.1 q };
 }
 
-impl<V: CellTaker> IndexJob for NumberedLines<V> {
+impl<V: CellJob> IndexJob for LineCells<V> {
     #[inline(always)]
     fn take_index(&mut self, index: u64, place: Option<usize>) -> Result<(), RunError> {
         let number = self.number;
         self.number += 1;
-        push_parsed(&mut self.taker, number, cell_with(index), place)
+        push_parsed(&mut self.job, number, cell_with(index), place)
     }
 
     #[inline(always)]
     fn looks_ahead(&self) -> bool {
-        self.taker.looks_ahead()
+        self.job.looks_ahead()
     }
 
     #[inline(always)]
     fn look_ahead(&self, indexes: &[u64]) -> Option<[usize; LINES]> {
-        self.taker.look_ahead(indexes)
+        self.job.look_ahead(indexes)
     }
 }
 
-impl<V: CellTaker> Job for NumberedLines<V> {
+impl<V: CellJob> Job for LineCells<V> {
     fn take(&mut self, line: &[u8], _inside: bool) -> Result<(), RunError> {
         let number = self.number;
         self.number += 1;
-        push_parsed(&mut self.taker, number, read_line(line), None)
+        push_parsed(&mut self.job, number, read_line(line), None)
     }
 
     #[inline(always)]
@@ -158,53 +158,53 @@ impl<V: CellTaker> Job for NumberedLines<V> {
 }
 
 /// Has the cells of a list taken, in at most `limit` reads of at most `size` bytes each.
-pub(crate) fn take_list<V: CellTaker + Drop, R: Source>(
-    taker: V,
+pub(crate) fn take_list<V: CellJob + Drop, R: Source>(
+    job: V,
     input: &mut R,
     limit: u64,
     size: usize,
     page: &mut [u8],
 ) -> Result<V, RunError>
-    requires first { V.count taker ≡ 0 }
+    requires first { V.count job ≡ 0 }
     requires page { length page.old ≡ LONGEST_LINE + size }
     requires some { 0 < size }
     requires few { limit * size < 2 ^ 62 }
     ensures taken { IfOk result (λ after. (cells : List Address)
         × ListRead limit size (source_use R.left R.has_failed input.old input.new) cells
-        × V.taken taker cells after) }
+        × V.taken job cells after) }
     ensures refused { IfErr result (ListRefused RefusesByLine limit size
         (source_use R.left R.has_failed input.old input.new)) }
 {
-    let mut lines = NumberedLines { taker, number: 1 };
+    let mut lines = LineCells { job, number: 1 };
     let mut reader = CountedReader::new(&mut *input, limit);
     let read = drive(&mut lines, &mut reader, false, size, page);
     // The proof reads what the source is after the reads from this use of it.
     let _ = &*input;
     read?;
-    let NumberedLines { taker, number: _ } = lines;
-    Ok(taker)
+    let LineCells { job, number: _ } = lines;
+    Ok(job)
 }
 
-/// As `read_numbered_cells`, but each cell is taken as its line is read, so the list is not kept:
-/// what has taken the cells is returned, in the order of the lines.
+/// As `read_numbered_cells`, but a job takes each cell as its line is read, in the order of the lines,
+/// so the list is not kept. The job is returned.
 ///
-/// Nothing may have been taken before.
+/// It may not have taken any cell before.
 ///
 /// # Errors
 ///
-/// As of `read_numbered_cells`; `Fault::Memory` also if there is no memory for what takes the cells.
-pub fn take_cells<V: CellTaker + Drop, R: Source>(
+/// As of `read_numbered_cells`; `Fault::Memory` also if the job has no memory for a cell.
+pub fn take_cells<V: CellJob + Drop, R: Source>(
     alloc: Global,
-    taker: V,
+    job: V,
     input: &mut R,
 ) -> Result<V, RunError>
-    requires { V.count taker ≡ 0 }
+    requires { V.count job ≡ 0 }
     ensures taken { IfOk result (λ after. (cells : List Address)
         × ListRead MAX_READS PAGE (source_use R.left R.has_failed input.old input.new) cells
-        × V.taken taker cells after) }
+        × V.taken job cells after) }
     ensures refused { IfErr result (ListRefused RefusesByLine MAX_READS PAGE
         (source_use R.left R.has_failed input.old input.new)) }
 {
     let mut page = row_page(alloc, LONGEST_LINE, PAGE)?;
-    take_list(taker, input, MAX_READS, PAGE, &mut page)
+    take_list(job, input, MAX_READS, PAGE, &mut page)
 }

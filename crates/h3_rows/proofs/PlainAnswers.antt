@@ -62,14 +62,6 @@ digits_text false field h = digits_trimmed field h
 
 -- ---- the row
 
-no_return : (b : Bool) (row : List ℕ) → 0 < length row → length row ≤ length (if b then take (length row - 1) row else row) → b ≡ false
-no_return true row some long = absurd (omega (arith, length-take {A = ℕ}))
-no_return false row some long = refl
-
-shorter : (b : Bool) (row : List ℕ) → length (if b then take (length row - 1) row else row) ≤ length row
-shorter true row = omega (arith, length-take {A = ℕ})
-shorter false row = omega arith
-
 module _ (form : Form) (answer : Option ℕ → Answer) (s : RowState) (k : ℕ) (known : s.before ≡ Some k) (later : s.number ≡ 1 → ⊥) where
   not_first : (s.number == 1) ≡ false
   not_first = grind (arith, nat_tests)
@@ -103,12 +95,9 @@ module _ (form : Form) (answer : Option ℕ → Answer) (s : RowState) (k : ℕ)
         ∙ with ∙ ap (λ t. row ++ (form.separator ∷ t)) (sym l.split)
 
   pub puts_plain : (bytes row field held held' text : List ℕ) (index : ℕ) → IsPlainRow form.separator form.quotes k bytes row field → list_all (λ b. is_digit b 16) field ≡ true → parsed_index field ≡ Some index
-      → length row ≤ 32768 → (length (row_body row) == 0) ≡ false → length row ≤ length (row_body row) → answer (Some index) ≡ written text → IsOneLine text
+      → length row ≤ 32768 → 0 < length row → ends_in_return row ≡ false → answer (Some index) ≡ written text → IsOneLine text
       → held' ≡ (held ++ (row ++ form.separator ∷ [])) ++ text → PutsPlain form answer s bytes held held' (length row)
-  puts_plain bytes row field held held' text index p digits parses few filled long is line put =
-      let bodied : 0 < length (row_body row) = grind (arith, nat_tests) in
-      let some : 0 < length row = omega (arith, bodied, shorter (ends_in_return row) row) in
-      let ends : ends_in_return row ≡ false = no_return (ends_in_return row) row some long in
+  puts_plain bytes row field held held' text index p digits parses few some ends is line put =
       record {
         row = row;
         after = p.after;

@@ -18,7 +18,7 @@ use crate::said::Said;
 use crate::state::{RowState, first_state};
 use h3_index::{Cell, H3Error};
 use h3_lines::{
-    AnswerError, CellTaker, ColumnError, Job, MAX_READS, PAGE, RunError, Taking, drive, row_page,
+    AnswerError, CellJob, ColumnError, Job, MAX_READS, PAGE, RunError, Taking, drive, row_page,
 };
 use h3_requests::{CellField, RowOptions};
 use h3_streams::{CountedReader, Source};
@@ -81,16 +81,16 @@ fn find_cell(
     }
 }
 
-/// What takes the cells of rows.
+/// A job over rows that has their cells taken by another, and the state before the next row.
 #[derive(Drop)]
-struct RowCells<'f, V: CellTaker> {
-    taker: V,
+struct RowCells<'f, V: CellJob> {
+    job: V,
     options: &'f RowOptions,
     state: RowState,
-    ghost few: { V.count taker ≤ state.number },
+    ghost few: { V.count job ≤ state.number },
 }
 
-impl<'f, V: CellTaker> Taking for RowCells<'f, V> {
+impl<'f, V: CellJob> Taking for RowCells<'f, V> {
     ghost longest = { LONGEST };
 
     ghost count = { λ v. v.state.number };
@@ -99,7 +99,7 @@ impl<'f, V: CellTaker> Taking for RowCells<'f, V> {
 
     ghost taken = { λ v rows w. (cells : List Address)
         × HaveCells cells_in (v.options.now, v.state) rows cells (w.options.now, w.state)
-        × V.taken v.taker cells w.taker };
+        × V.taken v.job cells w.job };
 
     ghost refused = { λ v rows w e. RefusesCells cells_in (v.options.now, v.state) rows e };
 
@@ -112,7 +112,7 @@ impl<'f, V: CellTaker> Taking for RowCells<'f, V> {
     }
 
     ghost none_taken = { λ v.
-        ([], have_none cells_in (v.options.now, v.state), V.none_taken v.taker) };
+        ([], have_none cells_in (v.options.now, v.state), V.none_taken v.job) };
 
     ghost taken_then = { λ u v w xs ys p q. (
       p.0 ++ q.0,
@@ -126,7 +126,7 @@ impl<'f, V: CellTaker> Taking for RowCells<'f, V> {
         p.1 q };
 }
 
-impl<'f, V: CellTaker> Job for RowCells<'f, V> {
+impl<'f, V: CellJob> Job for RowCells<'f, V> {
     fn take(&mut self, row: &[u8], inside: bool) -> Result<(), RunError> {
         match find_cell(self.options, self.state, row, inside) {
             Ok((None, state)) => {
@@ -135,7 +135,7 @@ impl<'f, V: CellTaker> Job for RowCells<'f, V> {
             }
             Ok((Some(cell), state)) => {
                 self.state = state;
-                self.taker.take(cell, None)
+                self.job.take(cell, None)
             }
             Err(error) => Err(RunError::Error(error)),
         }
@@ -155,23 +155,23 @@ fn end_rows(options: &RowOptions, state: RowState) -> Result<(), AnswerError>
 }
 
 /// Has the cells of rows taken, read in pages.
-fn take_pages<V: CellTaker + Drop, R: Source>(
-    taker: V,
+fn take_pages<V: CellJob + Drop, R: Source>(
+    job: V,
     options: &RowOptions,
     input: &mut R,
     page: &mut [u8],
 ) -> Result<V, RunError>
-    requires first { V.count taker ≡ 0 }
+    requires first { V.count job ≡ 0 }
     requires page { length page.old ≡ LONGEST + PAGE }
     ensures taken { IfOk result (λ after. (cells : List Address)
         × AllRowsRead (form_of options.now []) (Ok cells) (R.left input.old) (R.left input.new)
-        × V.taken taker cells after) }
+        × V.taken job cells after) }
     ensures sound { IfOk result (λ after. R.has_failed input.new ≡ R.has_failed input.old) }
     ensures refused { IfErr result (λ e. RefusesRows (form_of options.now [])
         (R.left input.old) (R.left input.new) (R.has_failed input.old) (R.has_failed input.new) e) }
 {
     let mut rows = RowCells {
-        taker,
+        job,
         options,
         state: first_state(options),
     };
@@ -183,18 +183,18 @@ fn take_pages<V: CellTaker + Drop, R: Source>(
     match end_rows(options, rows.state) {
         Ok(()) => {
             let RowCells {
-                taker,
+                job,
                 options: _,
                 state: _,
             } = rows;
-            Ok(taker)
+            Ok(job)
         }
         Err(error) => Err(RunError::Error(error)),
     }
 }
 
-/// Has the cells of the rows of a list taken, one after another, in their order. Empty rows, those
-/// whose cell is missing, and a header have none.
+/// Has a job take the cells of the rows of a list, one after another, in their order, and returns it.
+/// Empty rows, those whose cell is missing, and a header have none.
 ///
 /// # Errors
 ///
@@ -204,21 +204,21 @@ fn take_pages<V: CellTaker + Drop, R: Source>(
 /// - `AnswerError::At` with the number of the first row that is malformed or faulty: `Failed`, or
 ///   `CellInvalid` if no cell has the index.
 /// - `Fault::Read` if a read fails, or the end is not found in 2^40 reads.
-/// - `Fault::Memory` if there is no memory for the page or what takes the cells.
-pub fn take_row_cells<V: CellTaker + Drop, R: Source>(
+/// - `Fault::Memory` if there is no memory for the page, or the job has none for a cell.
+pub fn take_row_cells<V: CellJob + Drop, R: Source>(
     alloc: Global,
-    taker: V,
+    job: V,
     options: &RowOptions,
     input: &mut R,
 ) -> Result<V, RunError>
-    requires { V.count taker ≡ 0 }
+    requires { V.count job ≡ 0 }
     ensures taken { IfOk result (λ after. (cells : List Address)
         × AllRowsRead (form_of options.now []) (Ok cells) (R.left input.old) (R.left input.new)
-        × V.taken taker cells after) }
+        × V.taken job cells after) }
     ensures sound { IfOk result (λ after. R.has_failed input.new ≡ R.has_failed input.old) }
     ensures refused { IfErr result (λ e. RefusesRows (form_of options.now [])
         (R.left input.old) (R.left input.new) (R.has_failed input.old) (R.has_failed input.new) e) }
 {
     let mut page = row_page(alloc, LONGEST, PAGE)?;
-    take_pages(taker, options, input, &mut page)
+    take_pages(job, options, input, &mut page)
 }

@@ -14,7 +14,7 @@ ghost use Rattle.h3_rows.specs.RowForm.{columns_form, form_of};
 ghost use Rattle.h3_rows.specs.RowsAnswer.{State, answer_said, begun_answer, choice_of, chosen_in, empty_answer, empty_step, end_of, faulty, header_step, pair_names, row_said, row_step, row_with, rows_answer, rows_then, start};
 ghost use Rattle.h3_rows.specs.declared.reading.TheConstants.{LONGEST};
 
-use crate::fields::{read_of, row_body, row_ending};
+use crate::fields::{is_bare, read_of, row_body, row_ending};
 use crate::function::{RowFunction, Short, Workspace};
 use crate::header::{chosen_field, column_name, pair_names};
 use crate::lanes::is_one_line;
@@ -388,9 +388,8 @@ fn put_plain<'f, F: RowFunction>(
     let separator = job.options.separator;
     let (row, field) = find_plain(separator, job.options.quotes, before, bytes)?;
     let index = read_plain(field)?;
-    let body = row_body(row);
     // A byte order mark is before the first row alone.
-    if state.number == 1 || body.is_empty() || body.len() < row.len() {
+    if state.number == 1 || !is_bare(row) {
         return None;
     }
     if end + row.len() + ANSWER >= BLOCK {
@@ -539,7 +538,7 @@ impl<'a, 'f, W: Sink, F: RowFunction> Job for RowAnswers<'a, 'f, W, F> {
         ) {
             Some((size, end)) => {
                 self.end = end;
-                self.state = self.state.counted();
+                self.state.count();
                 Ok(Some(&bytes[size + 1..]))
             }
             None => Ok(None),

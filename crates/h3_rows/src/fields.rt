@@ -3,7 +3,7 @@
 ghost use Rattle.std.specs.Prelude.{true, ◌≡◌, ◌==◌, ◌+◌, ◌-◌, ◌<◌, ◌≤◌, ℕ, Bool, false, length, Some, None, MatchOption};
 ghost use Rattle.h3_index.specs.Text.{is_blank, without_leading_blanks, without_trailing_blanks};
 ghost use Rattle.h3_lines.specs.Pieces.{cut};
-ghost use Rattle.h3_rows.specs.Row.{field_text, piece_at, quotes_are_sound, read_of, row_body, row_ending, unquoted, without_order_mark};
+ghost use Rattle.h3_rows.specs.Row.{ends_in_return, field_text, piece_at, quotes_are_sound, read_of, row_body, row_ending, unquoted, without_order_mark};
 
 use h3_lines::split;
 use memchr::memchr;
@@ -144,6 +144,15 @@ pub(crate) fn row_body(line: &[u8]) -> &[u8]
         return &line[..line.len() - 1];
     }
     line
+}
+
+/// Whether a row is neither empty nor ends in a carriage return.
+#[inline(always)]
+pub(crate) fn is_bare(row: &[u8]) -> bool
+    ensures some { result ≡ true → 0 < length row.now }
+    ensures bare { result ≡ true → ends_in_return row.now ≡ false }
+{
+    !row.is_empty() && row[row.len() - 1] != b'\r'
 }
 
 /// The ending of a row: a line feed, with a carriage return before it if the line ends in one.

@@ -52,18 +52,16 @@ impl RowState {
         }
     }
 
-    /// The state after a row without line feeds that changes nothing but the number.
-    pub(crate) fn counted(self) -> RowState
-        requires { self.number < 2 ^ 63 }
-        ensures number { result.number ≡ self.number + 1 }
-        ensures before { result.before ≡ self.before }
-        ensures kept { result.kept ≡ self.kept }
+    /// Passes a row without line feeds that changes nothing but the number.
+    // In place: a new state takes four instructions a row more.
+    #[inline(always)]
+    pub(crate) fn count(&mut self)
+        requires { self.old.number < 2 ^ 63 }
+        ensures number { self.new.number ≡ self.old.number + 1 }
+        ensures before { self.new.before ≡ self.old.before }
+        ensures kept { self.new.kept ≡ self.old.kept }
     {
-        RowState {
-            number: self.number + 1,
-            before: self.before,
-            kept: self.kept,
-        }
+        self.number += 1;
     }
 
     /// The state with an error more.

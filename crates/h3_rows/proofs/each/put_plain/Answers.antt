@@ -14,7 +14,7 @@ returns-in-Some-clause-some g c =
     let mid = c.hold_row-at.new.block in
     let line = subst IsOneLine (put_after mid done.text _ c.hold_row-at.result (omega arith) done.put) (c.is_one_line.ensures c.if-is_one_line.true) in
     puts_plain form answer a.state a.before c.requires.known c.if-state-eq1.false a.bytes.now row c.in_ok-row.field.now (take a.end a.block.now) _ done.text c.in_ok-index.index c.in_ok-row.ensures c.in_ok-index.ensures.digits c.in_ok-index.ensures.parsed
-    (omega (arith, c.if-end-row-ge-BLOCK.false)) (rw c.row_body-body.ensures at (sym c.is_empty.ensures ∙ c.if-is_empty.false)) (rw c.row_body-body.ensures at c.if-body-row.false) done.is line
+    (omega (arith, c.if-end-row-ge-BLOCK.false)) (c.is_bare.ensures.some c.if-not-is_bare.false) (c.is_bare.ensures.bare c.if-not-is_bare.false) done.is line
     (done.put ∙ ap (λ l. l ++ done.text) c.hold_row-at.ensures.held)
 
 pub returns-in_default-clause-none : goal.returns-in_default-clause-none

@@ -34,10 +34,9 @@ returns-in-Some-put_plain-clause-some g c =
     let p = c.in-Some-put_plain.ensures.some in
     let held = take v.end v.block in
     let held' = take c.in-Some-put_plain.end c.put_plain.new.block in
-    let a = c.counted-self.result in
     let cuts : CutsAt 10 c.args.quotes false c.args.bytes.now p.row p.after = plain_cuts form answer v.state c.args.bytes.now held held' size c.args.quotes c.if-quotes-self.false p in
     rw take_rest (record {
       ended = (p.row, false) ∷ [];
       rows = λ rest. first_cut c.args.quotes c.args.bytes.now p.row p.after size cuts p.size_is rest;
-      takes = (plain_answered g.W.Sink.taken g.W.Sink.has_failed form answer v.state a c.in-Some.before c.args.bytes.now held held' size v.out.now c.in-Some.is c.counted-self.ensures.number c.counted-self.ensures.before c.counted-self.ensures.kept p, refl, refl);
+      takes = (plain_answered g.W.Sink.taken g.W.Sink.has_failed form answer v.state c.count.new.self c.in-Some.before c.args.bytes.now held held' size v.out.now c.in-Some.is c.count.ensures.number c.count.ensures.before c.count.ensures.kept p, refl, refl);
     })

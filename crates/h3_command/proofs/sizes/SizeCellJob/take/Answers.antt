@@ -11,7 +11,7 @@ use Rattle.h3_index.specs.declared.error.H3Error.TheVariants.{ResDomain}
 use Rattle.h3_tree.specs.Refusals.{descent_refusal}
 use Rattle.h3_set.specs.Uncompaction.{uncompacted}
 use Rattle.h3_command.specs.Sizes.{IsSizeOf}
-use Rattle.h3_command.proofs.sizes.SizeCellTaker.take.Goals as goal
+use Rattle.h3_command.proofs.sizes.SizeCellJob.take.Goals as goal
 
 -- ---- which cells are refused
 

@@ -1,6 +1,6 @@
 use Rattle.std.proofs.lemmas.Result.{IfErr-weaker}
 use Rattle.h3_lines.proofs.Listed.{line_taken, ok_both, refuses_said, said_parsed}
-use Rattle.h3_lines.proofs.taking.NumberedLinesIndexJob.take_index.Goals as goal
+use Rattle.h3_lines.proofs.taking.LineCellsIndexJob.take_index.Goals as goal
 
 pub returns-clause-err : goal.returns-clause-err
 returns-clause-err g c =
@@ -8,4 +8,4 @@ returns-clause-err g c =
 
 pub returns-clause-ok : goal.returns-clause-ok
 returns-clause-ok g c =
-    ok_both c.push_parsed.result (λ said takes p parses. line_taken g.V.CellTaker.taken c.args.self.now.number p c.cell_with.result (said_parsed p.0 c.args.index c.cell_with.result parses c.cell_with.ensures) said takes) c.push_parsed.ensures.said c.push_parsed.ensures.ok
+    ok_both c.push_parsed.result (λ said takes p parses. line_taken g.V.CellJob.taken c.args.self.now.number p c.cell_with.result (said_parsed p.0 c.args.index c.cell_with.result parses c.cell_with.ensures) said takes) c.push_parsed.ensures.said c.push_parsed.ensures.ok

@@ -1,5 +1,5 @@
 use Rattle.std.proofs.lemmas.Result.{IfErr-weaker}
-use Rattle.h3_lines.proofs.taking.NumberedLinesJob.take_first.Goals as goal
+use Rattle.h3_lines.proofs.taking.LineCellsJob.take_first.Goals as goal
 
 pub returns-clause-some : goal.returns-clause-some
 returns-clause-some g c = c.take_plain.ensures.some c.args._quotes

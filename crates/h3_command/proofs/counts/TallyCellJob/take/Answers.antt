@@ -1,7 +1,7 @@
 use Rattle.std.proofs.Common.{◌≡◌, ◌++◌, ◌∷◌, [], length, take, drop, refl, rules, arith, subst, sym}
 use Rattle.std.proofs.lemmas.Grind.{common_steps}
 use Rattle.h3_regions.specs.Counting.{AreCounts}
-use Rattle.h3_command.proofs.counts.TallyCellTaker.take.Goals as goal
+use Rattle.h3_command.proofs.counts.TallyCellJob.take.Goals as goal
 
 pub returns-clause-ok : goal.returns-clause-ok
 returns-clause-ok c =
