@@ -80,7 +80,7 @@ fn push_parsed<V: CellJob>(
     }
 }
 
-/// A job over lines that has the cells on them taken by another, and the number of the next line.
+/// A job over lines that gives the cells on them to a job over cells. It knows the number of the next line.
 #[derive(Drop)]
 struct LineCells<V: CellJob> {
     job: V,
@@ -186,9 +186,9 @@ pub(crate) fn take_list<V: CellJob + Drop, R: Source>(
 }
 
 /// As `read_numbered_cells`, but a job takes each cell as its line is read, in the order of the lines,
-/// so the list is not kept. The job is returned.
+/// and is returned. The list is kept only if the job keeps it.
 ///
-/// It may not have taken any cell before.
+/// The job must not have taken any cell before.
 ///
 /// # Errors
 ///

@@ -81,7 +81,7 @@ fn find_cell(
     }
 }
 
-/// A job over rows that has their cells taken by another, and the state before the next row.
+/// A job over rows that gives their cells to a job over cells. It knows the state before the next row.
 #[derive(Drop)]
 struct RowCells<'f, V: CellJob> {
     job: V,

@@ -388,7 +388,7 @@ fn put_plain<'f, F: RowFunction>(
     let separator = job.options.separator;
     let (row, field) = find_plain(separator, job.options.quotes, before, bytes)?;
     let index = read_plain(field)?;
-    // A byte order mark is before the first row alone.
+    // A byte order mark is before the first row alone. A carriage return goes behind the answer.
     if state.number == 1 || !is_bare(row) {
         return None;
     }

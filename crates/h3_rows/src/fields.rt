@@ -146,7 +146,7 @@ pub(crate) fn row_body(line: &[u8]) -> &[u8]
     line
 }
 
-/// Whether a row is neither empty nor ends in a carriage return.
+/// Whether a row is not empty and does not end in a carriage return.
 #[inline(always)]
 pub(crate) fn is_bare(row: &[u8]) -> bool
     ensures some { result ≡ true → 0 < length row.now }

@@ -53,7 +53,7 @@ impl RowState {
     }
 
     /// Passes a row without line feeds that changes nothing but the number.
-    // In place: a new state takes four instructions a row more.
+    // In place: a new state would cost four more instructions a row.
     #[inline(always)]
     pub(crate) fn count(&mut self)
         requires { self.old.number < 2 ^ 63 }
