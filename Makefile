@@ -1,7 +1,7 @@
 # `make` proves and builds the program, `make library` the library for C (`CPU=x86-64-v3`: for processors of that level),
 # and `make CRATE` a library of crates.txt. `make install` and `make uninstall` put the program under PREFIX and take it
 # away (`LIBRARY=yes`: with the library for C), for packages below DESTDIR; `make packages` makes packages of what is
-# built, in dist/. `make check` tries what is built, and `make gate` is all that a change has to pass.
+# built, in dist/. `make check` tries the program as it is built, and `make gate` is all that a change has to pass.
 # Crates that do not stand on each other are built at once, as many as the machine has room for.
 SHELL := /bin/bash
 MAKEFLAGS += -j$(shell tools/crate --at-once) --no-print-directory
@@ -36,7 +36,7 @@ packages:
 	@$(alone) tools/packages
 
 check:
-	@$(alone) .ci/run --check
+	@$(alone) .ci/check
 
 gate:
 	@$(alone) .ci/run

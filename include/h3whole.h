@@ -21,7 +21,10 @@
  * cellsToZones, areCoveredCells and countCellsInZones use up to 18 KiB.
  *
  * Threads. Each function may be called from any number of threads at once: the library has no variable that
- * changes. Two calls at once may read the same memory, and must not write to the same.
+ * changes. Two calls at once may read the same memory, and must not write to the same. Memory must stay as it is during
+ * a call that reads it. If another thread writes to it, the call may return and write anything, also what no memory
+ * could give, but it writes nothing outside of the arrays, and does not end the process. The bytes of an H3wTable are
+ * the exception: they must never change.
  *
  * Units. A resolution is 0 to 15, a base cell 0 to 121. A position and a size count cells. */
 #ifndef H3WHOLE_H
@@ -551,12 +554,12 @@ static inline H3Error maxGridDiskSize(int k, int64_t *out) {
  * memory. `*count` is its length. */
 static inline H3Index *h3w_withoutNulls(const H3Index *cells, size_t n, size_t *count) {
     H3Index *kept;
-    size_t i;
+    size_t i, room;
     for (i = *count = 0; i < n; i++) *count += cells[i] != H3_NULL;
     if (*count == n) return NULL;
     kept = (H3Index *)malloc((*count + 1) * sizeof *kept);
     if (!kept) return NULL;
-    for (i = *count = 0; i < n; i++)
+    for (room = *count, i = *count = 0; i < n && *count < room; i++)
         if (cells[i] != H3_NULL) kept[(*count)++] = cells[i];
     return kept;
 }

@@ -31,7 +31,7 @@ from ._memory import View, numpy_room
 from ._memory import room as _room
 from ._memory import room_at
 from ._overlap import overlap_named
-from .errors import H3CellInvalidError, H3FailedError, error_of
+from .errors import H3CellInvalidError, error_of
 from .table import Table
 
 __all__ = [
@@ -101,7 +101,9 @@ def _hint(column: Any) -> str:
         return _ROUNDED
     if str(dtype) in ("int64", "uint64"):
         return ": numpy.ascontiguousarray(column) puts them one after another"
-    if kind in ("O", "S", "U") or isinstance(column, (list, tuple)):
+    if kind == "O":
+        return ": h3whole.columns.str_to_int(column, missing=True) makes one of texts and integers, with 0 for None"
+    if kind in ("S", "U") or isinstance(column, (list, tuple)):
         return ": h3whole.columns.str_to_int makes one of texts, and array('Q', column) of integers"
     if kind in ("i", "u"):
         return ": column.astype('uint64') makes one"
@@ -152,8 +154,17 @@ class _Memory:
     def __exit__(self, *_: Any) -> None:
         self._view.give_back()
 
+    def copied(self) -> "array[int]":
+        """The integers as they are now: another thread may write to the column."""
+        numbers = _room("Q", self.count)
+        ctypes.memmove(numbers.buffer_info()[0], self.address, 8 * self.count)
+        return numbers
+
     def named(self, place: int) -> str:
-        """The index at a place, and the place, as an exception names them."""
+        """The index at a place, and the place, as an exception names them; with a place after the last one, how many
+        indexes there are."""
+        if place >= self.count:
+            return f"among {self.count} cells"
         return f"{_index.from_address(self.address + 8 * place).value:x} at place {place}"
 
 
@@ -355,26 +366,13 @@ def _is_listed(column: Any) -> bool:
 
 
 def _numbers_of(column: Any, missing: bool) -> Tuple[Any, "array[int]"]:
-    """The indexes of a column of texts or of a list, and the places of integers in it, which a list alone has."""
+    """The indexes of a column of texts or of a list, and the places of integers in it, which a list or a column of
+    objects has."""
     integers = array("q")
-    if _is_pandas_index(column):
-        series = column.to_series()
-        return (_to_int(series, missing) if _is_listed(series) else series), integers
-    if isinstance(column, (list, tuple)):
+    if not _is_pandas_index(column):
         return _to_int(column, missing, integers), integers
-    try:
-        numbers = _to_int(column, missing, integers)
-    except H3FailedError:
-        if not any(hasattr(item, "__index__") for item in _objects_in(column)):
-            raise
-        raise _refuse(column) from None
-    if integers:
-        raise _refuse(column)
-    return numbers, integers
-
-
-def _objects_in(column: Any) -> Any:
-    return _items_of(column) if _is_series(column) else column.ravel()
+    series = column.to_series()
+    return (_to_int(series, missing, integers) if _is_listed(series) else series), integers
 
 
 def _as_list_of(column: Any, found: Any, integers: "array[int]", are_indexes: bool, missing: bool) -> Any:
@@ -718,9 +716,10 @@ def _alone(column: Any, items: Any) -> Any:
 
 
 def _first_of_no_cell(given: _Memory) -> str:
+    """The first index that is not a valid cell, with its place. There is none if the column has changed since."""
     (found, address), place = room_at("i", given.count), _size()
     _are_valid_cells(given.address, given.count, address, given.count, ctypes.byref(place))
-    return given.named(found.index(0))
+    return given.named(found.index(0) if 0 in found else given.count)
 
 
 def _refused_cell(number: int, given: _Memory) -> str:
@@ -729,9 +728,7 @@ def _refused_cell(number: int, given: _Memory) -> str:
         return _first_of_no_cell(given)
     if number != 10:
         return f"among {given.count} cells"
-    cells = _room("Q", given.count)
-    ctypes.memmove(cells.buffer_info()[0], given.address, 8 * given.count)
-    return overlap_named(cells)
+    return overlap_named(given.copied())
 
 
 def _set_of_list(column: Any, function: Callable[[Any], Any]) -> Any:
@@ -742,13 +739,12 @@ def _set_of_list(column: Any, function: Callable[[Any], Any]) -> Any:
         raise TypeError("a list is of texts or of integers, and not of both")
     found = function(numbers)
     if _is_pandas_index(column):
-        items = found.to_numpy() if not _is_listed(column.to_series()) else int_to_str(found).to_numpy()
-        return sys.modules["pandas"].Index(items, name=column.name)
+        items = found if integers or not _is_listed(column.to_series()) else int_to_str(found)
+        return sys.modules["pandas"].Index(items.to_numpy(), name=column.name)
     if isinstance(column, (list, tuple)):
         return found.tolist() if integers else int_to_str(found)
-    if _is_numpy(column):
-        return int_to_str(found).astype(object)
-    return int_to_str(found)
+    items = found if integers else int_to_str(found)
+    return items.astype(object)
 
 
 def compact_cells(column: _Column) -> _Column:
@@ -927,16 +923,24 @@ def _lists_of_list(column: Any, find: Callable[..., Tuple[Any, Any]], missing: b
     """The same of a list, a column of texts or an Index. What is listed has the form of its cell."""
     numbers, integers = _numbers_of(column, missing)
     found, starts = _lists_of(numbers, find, missing)
+    if _is_pandas_index(column) and not _is_listed(column.to_series()):
+        return sys.modules["pandas"].Index(found.to_numpy(), name=column.name), starts
     if isinstance(column, (list, tuple)):
-        items = int_to_str(found)
-        for place in integers:
-            items[starts[place] : starts[place + 1]] = found[starts[place] : starts[place + 1]]
-        return items, starts.tolist()
-    if not _is_pandas_index(column):
-        texts = int_to_str(found)
-        return (texts.astype(object) if _is_numpy(column) else texts), starts
-    own = int_to_str(found) if _is_listed(column.to_series()) else found
-    return sys.modules["pandas"].Index(own.to_numpy(), name=column.name), starts
+        return _in_their_form(int_to_str(found), found, starts, integers), starts.tolist()
+    texts = int_to_str(found)
+    if _is_numpy(column):
+        return _in_their_form(texts.astype(object), found, starts, integers), starts
+    items = _in_their_form(texts.to_numpy(dtype=object, copy=True), found.to_numpy(), starts, integers)
+    if _is_pandas_index(column):
+        return sys.modules["pandas"].Index(items, name=column.name), starts
+    return type(found)(items, index=found.index, name=found.name, dtype=object), starts
+
+
+def _in_their_form(texts: Any, found: Any, starts: Any, integers: "array[int]") -> Any:
+    """Lists of cells as texts, but those of a cell that is an integer as integers."""
+    for place in integers:
+        texts[starts[place] : starts[place + 1]] = found[starts[place] : starts[place + 1]]
+    return texts
 
 
 def _lists_of_arrow(column: Any, find: Callable[..., Tuple[Any, Any]], missing: bool) -> Tuple[Any, Any]:
@@ -1112,7 +1116,7 @@ def str_to_int(column: Any, *, missing: bool = False) -> Any:
     Parameters
     ----------
     column : list, numpy array of texts, bytes or objects, Series or Index
-        The texts.
+        The texts. In a column of objects an integer is the index that it is.
     missing : bool, optional
         Write 0 for what is not a text, or does not parse as an index, and raise nothing for it.
 
@@ -1125,8 +1129,14 @@ def str_to_int(column: Any, *, missing: bool = False) -> Any:
     ------
     H3FailedError
         If a text does not parse as an index.
+    H3CellInvalidError
+        If an integer in a column of objects is not 0 to 2^64 - 1.
     """
-    return _to_int(column, missing)
+    if _is_pandas_index(column):
+        items = str_to_int(column.to_series(), missing=missing).to_numpy()
+        return sys.modules["pandas"].Index(items, name=column.name)
+    is_of_objects = _is_listed(column) and not isinstance(column, (list, tuple))
+    return _to_int(column, missing, array("q") if is_of_objects else None)
 
 
 def _write(given: _Memory) -> List[str]:

@@ -96,9 +96,10 @@ def compact_cells(parts: Any, run: Callable[..., Iterable[Part]] = map) -> "arra
         The cells. A column is one of 64-bit integers, as `compact_part` takes it. Each partition of a bag is a part.
     run : callable, optional
         Calls a function for each part of an iterable, as the built-in `map` does, and returns the results in any order:
-        `map` of an executor of concurrent.futures, `imap_unordered` of a pool of multiprocessing, or for a client of
-        dask.distributed `lambda call, parts: client.gather(client.map(call, list(parts)))`. By default `map` itself. It
-        is not used for a bag, which dask's own scheduler runs.
+        `map` of an executor of concurrent.futures, `imap_unordered` of a pool of multiprocessing, or
+        `client.get_executor().map` for a client of dask.distributed. By default `map` itself. A list of parts comes to
+        it as a list, which dask wants, and any other iterable as an iterator, which makes one part after another. It is
+        not used for a bag, which dask's own scheduler runs.
 
     Returns
     -------
@@ -162,9 +163,10 @@ def _run(
     call: Callable[..., Any], parts: Any, sent: Dict[int, Optional[int]], run: Callable[..., Any]
 ) -> Iterable[Any]:
     """What a function gives for each part; what is sent is counted."""
-    found: Iterable[Any] = (
-        _run_bag(call, parts, sent) if hasattr(parts, "to_delayed") else run(call, _numbered(parts, sent))
-    )
+    if hasattr(parts, "to_delayed"):
+        return _run_bag(call, parts, sent)
+    numbered = _numbered(parts, sent)
+    found: Iterable[Any] = run(call, list(numbered) if isinstance(parts, (list, tuple)) else numbered)
     return found
 
 

@@ -93,7 +93,17 @@ def _table_of(zones: "array[int]") -> "Optional[array[int]]":
 
 def _is_column(cells: Any) -> bool:
     is_own = isinstance(cells, (array, memoryview)) or columns._is_series(cells) or columns._is_numpy(cells)
-    return is_own or (columns._is_arrow(cells) and not isinstance(cells, CellSet))
+    return is_own or columns._is_pandas_index(cells) or (columns._is_arrow(cells) and not isinstance(cells, CellSet))
+
+
+def _as_series(column: Any) -> Any:
+    """An Index of pandas as a Series; any other column as it is."""
+    return column.to_series() if columns._is_pandas_index(column) else column
+
+
+def _as_index(column: Any, items: Any) -> Any:
+    """Items for an Index of pandas, as an Index."""
+    return sys.modules["pandas"].Index(items.to_numpy(), name=column.name)
 
 
 def _is_of_objects(column: Any) -> bool:
@@ -201,12 +211,14 @@ class CellSet(Generic[_Cell]):
             return indexes_of(cls._index_of, cells)
         if columns._is_arrow(cells):
             return columns._cells_of_arrow(cells)
+        cells = _as_series(cells)
         return columns._to_int(cells, False, array("q")) if _is_of_objects(cells) else cells
 
     @classmethod
     def _numbers_of(cls, cells: Any, missing: bool, integers: "Optional[array[int]]" = None) -> Any:
         """The same of cells that are asked about; with `missing`, 0 in place of what is not an index. Of a column of
         objects, the places of integers are added to those in `integers`."""
+        cells = _as_series(cells)
         if _is_column(cells) and _is_of_objects(cells):
             return columns._to_int(cells, missing, array("q") if integers is None else integers)
         if _is_column(cells) and columns._is_arrow(cells):
@@ -599,6 +611,8 @@ class CellRegion(CellSet[_Cell]):
             If one is not a valid cell.
         """
         found = self._fill(_are_covered_cells, self._numbers_of(cells, missing), "i", missing, True)
+        if columns._is_pandas_index(cells):
+            return _as_index(cells, found)
         return found if _is_column(cells) else list(map(bool, found))
 
 
@@ -713,6 +727,8 @@ class CellZones(CellSet[_Cell]):
         H3CellInvalidError
             If one is not a valid cell.
         """
+        if columns._is_pandas_index(cells):
+            return _as_index(cells, self.of(_as_series(cells), missing=missing))
         integers = array("q")
         numbers = self._numbers_of(cells, missing, integers)
         found = self._fill(_cells_to_zones, numbers, columns._INDEXES, missing, False)
@@ -765,8 +781,7 @@ class CellZones(CellSet[_Cell]):
 
 def _cells_among(given: Any) -> Any:
     """The indexes of a column that are cells'."""
-    whole = (ctypes.c_char * (8 * given.count)).from_address(given.address)
-    numbers = memoryview(whole).cast("B").cast("Q")
+    numbers = memoryview(given.copied())
     are_cells = columns.are_valid_cells(numbers)
     numpy = sys.modules.get("numpy")
     if numpy is not None:

@@ -158,20 +158,44 @@ class Kinds(unittest.TestCase):
 
     @unittest.skipIf(numpy is None, "numpy is not installed")
     def test_objects(self):
-        """Integers in a column of objects are refused, whatever stands beside them."""
-        others = [columns.are_valid_cells, columns.are_pentagons, columns.are_res_class_III, columns.int_to_str]
-        others += [columns.are_valid_directed_edges, columns.get_directed_edge_origins, columns.compact_cells]
-        kinds = [lambda items: numpy.array(items, dtype=object)]
+        """A column of objects has texts, integers and None: what is found of each has the form of its cell."""
+        given = cells(20)
+        items = [cell if place % 3 else f"{cell:x}" for place, cell in enumerate(given)]
+        refused = [None, float("nan"), 1.5, "xyz", -1, 2**64]
+        for column, listed in self.of_objects([*items, *refused, 5]):
+            numbers = array("Q", given + [0] * len(refused) + [5])
+            for function, _, more, missing in FUNCTIONS:
+                wanted = list(function(numbers, *more, missing=True))
+                if not missing:
+                    rows = zip(wanted, [*items, *refused, 5])
+                    wanted = [(f"{cell:x}" if isinstance(item, str) else cell) if cell else None for cell, item in rows]
+                found = listed(function(column, *more, missing=True))
+                self.assertEqual(found, wanted, (type(column), function))
+                self.assertRaisesRegex(errors.H3FailedError, "None at place 20", function, column, *more)
+            self.assertEqual(listed(columns.are_valid_cells(column, missing=True)), [True] * 20 + [False] * 7)
+            self.assertEqual(listed(columns.str_to_int(column, missing=True)), list(numbers))
+            self.assertRaisesRegex(errors.H3FailedError, "None at place 20", columns.str_to_int, column)
+        children = integers.cell_to_children(0x85283473FFFFFFF, 6)
+        for column, listed in self.of_objects([children[0], f"{children[1]:x}", None]):
+            found, starts = columns.cells_to_children(column, 7, missing=True)
+            wanted = [integers.cell_to_children(child, 7) for child in children[:2]]
+            self.assertEqual(listed(found), wanted[0] + [f"{child:x}" for child in wanted[1]])
+            self.assertEqual((type(found), list(starts)), (type(column), [0, 7, 14, 14]))
+        for column, listed in self.of_objects(children):
+            self.assertEqual(listed(columns.compact_cells(column)), [0x85283473FFFFFFF])
+            self.assertEqual(listed(columns.uncompact_cells(columns.compact_cells(column), 6)), children)
+            self.assertRaisesRegex(TypeError, "str_to_int.column, missing=True.", columns.int_to_str, column)
+        for column, _ in self.of_objects([children[0], f"{children[1]:x}"]):
+            self.assertRaisesRegex(TypeError, "not of both", columns.compact_cells, column)
+
+    def of_objects(self, items):
+        """Columns of these objects, and what makes a list of each."""
+        column = numpy.empty(len(items), dtype=object)
+        column[:] = items
+        yield column, numpy.ndarray.tolist
         if pandas is not None:
-            kinds.append(lambda items: pandas.Series(items, dtype=object))
-        for items in ([0x85283473FFFFFFF], [0x85283473FFFFFFF, None], [None, "85283473fffffff", 5]):
-            for column in (kind(items) for kind in kinds):
-                for function, _, more, _ in FUNCTIONS:
-                    self.assertRaises(TypeError, function, column, *more)
-                    self.assertRaises(TypeError, function, column, *more, missing=True)
-                for function in others:
-                    self.assertRaises(TypeError, function, column)
-                self.assertRaises(TypeError, columns.uncompact_cells, column, 15)
+            yield pandas.Series(items, dtype=object), pandas.Series.tolist
+            yield pandas.Index(items, dtype=object), pandas.Index.tolist
 
     def forms(self, texts):
         """Columns of these texts, and what makes a list of each."""

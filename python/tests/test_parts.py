@@ -51,6 +51,35 @@ def kill_worker_once(marks, number, cells):
 
 
 class Parts(unittest.TestCase):
+    def test_mappers(self):
+        """A mapper that takes lists gets a list for a list."""
+        cells = listed(2)
+        wanted = columns.compact_cells(array("Q", cells))
+
+        def of_lists(call, parts):
+            return [call(parts[place]) for place in range(len(parts))]
+
+        for run in (map, of_lists):
+            for parts in (cut(cells, 4), tuple(cut(cells, 4))):
+                self.assertEqual(compact_cells(parts, run), wanted)
+        self.assertEqual(compact_cells(iter(cut(cells, 4))), wanted)
+
+    def test_part_by_part(self):
+        """Parts that are no list are made one after another, as they are asked for."""
+        made = []
+
+        def parts():
+            for part in cut(listed(1), 3):
+                made.append(len(made))
+                yield part
+
+        def one_by_one(call, numbered):
+            for number, part in enumerate(numbered):
+                self.assertEqual(made, list(range(number + 1)))
+                yield call(part)
+
+        self.assertEqual(len(compact_cells(parts(), one_by_one)), len(columns.compact_cells(array("Q", listed(1)))))
+
     def test_is_that_of_the_whole(self):
         for seed in range(3):
             cells = listed(seed)
@@ -138,10 +167,18 @@ class Cluster(unittest.TestCase):
     def test_arrays(self):
         cells = listed(3)
 
-        def run(call, parts):
-            return self.client.gather(self.client.map(call, list(parts)))
+        def gathered(call, parts):
+            return self.client.gather(self.client.map(call, parts))
 
-        self.assertEqual(compact_cells(cut(cells, 8), run), columns.compact_cells(array("Q", cells)))
+        for run in (gathered, self.client.get_executor().map):
+            for parts in (cut(cells, 8), tuple(cut(cells, 8))):
+                self.assertEqual(compact_cells(parts, run), columns.compact_cells(array("Q", cells)))
+
+    def test_counts(self):
+        cells = listed(6)
+        zones = integers.Zones(integers.cell_to_children(BASE, 3)[::2])
+        found = count_cells(zones, cut(cells, 8), self.client.get_executor().map)
+        self.assertEqual(found, zones.count(array("Q", cells)))
 
     def test_a_bag(self):
         cells = listed(4)

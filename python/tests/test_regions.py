@@ -419,6 +419,30 @@ class Objects(unittest.TestCase):
                     self.assertEqual(message(call, column), wanted)
 
 
+@unittest.skipIf(pandas is None, "pandas is not installed")
+class Merged(unittest.TestCase):
+    """The merge of docs/library/python.md, with points in no zone and zones without a cell: None does not meet None,
+    nor 0 0."""
+
+    def check(self, cells, zones, kind, without):
+        places = pandas.DataFrame({"cell": cells})
+        known = pandas.DataFrame({"zone": zones, "rate": ["day", "free", "night"]})
+        zones = known[known["zone"].notna() & (known["zone"] != 0)]
+        places["zone"] = kind(zones["zone"]).of(places["cell"])
+        self.assertEqual(places["zone"].tolist()[2], without)
+        merged = places.merge(zones, on="zone", how="left", validate="m:1")
+        self.assertEqual(merged["rate"].fillna("none").tolist(), ["day", "night", "none"])
+        # what the page warns of
+        self.assertIn("free", places.merge(known, on="zone", how="left")["rate"].tolist())
+
+    def test_texts(self):
+        self.check([CHILDREN[4], OTHER, "8007fffffffffff"], [CELL, None, OTHER], h3whole.Zones, None)
+
+    def test_integers(self):
+        cells = [int(cell, 16) for cell in (CHILDREN[4], OTHER)] + [0x8007FFFFFFFFFFF]
+        self.check(cells, [int(CELL, 16), 0, int(OTHER, 16)], integers.Zones, 0)
+
+
 class Refused(unittest.TestCase):
     def test_cells(self):
         for make in (h3whole.Region, h3whole.Zones):

@@ -288,7 +288,11 @@ class Errors(unittest.TestCase):
             given = numpy.array(CHILDREN, dtype="uint64")
             self.assertIn("numpy.ascontiguousarray(column)", message(columns.get_resolutions, given[::2]))
             self.assertIn("astype('uint64')", message(columns.get_resolutions, given.astype("int32")))
-            self.assertIn("str_to_int", message(columns.get_resolutions, numpy.array([HEXAGON, 5], dtype=object)))
+            given = numpy.array([HEXAGON, CELL, None], dtype=object)
+            self.assertIn("str_to_int(column, missing=True)", message(columns.int_to_str, given))
+            self.assertEqual(columns.str_to_int(given, missing=True).tolist(), [CELL, CELL, 0])
+            self.assertIn("str_to_int", message(columns.int_to_str, numpy.array([HEXAGON])))
+            given = numpy.array(CHILDREN, dtype="uint64")
             self.assertEqual(columns.get_resolutions(numpy.ascontiguousarray(given[::2])).tolist(), [8] * 172)
 
 

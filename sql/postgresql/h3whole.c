@@ -555,8 +555,8 @@ static void *resize_rows(void *engine, void *memory, size_t size)
 	return MemoryContextAllocHuge((MemoryContext) engine, size);
 }
 
-/* Begins the rows of a walk. */
-static FuncCallContext *begin_walk(FunctionCallInfo fcinfo, h3sql_Walk walk)
+/* Begins the rows of a walk. If it may have none, a pentagon on the way is no error: then it has none. */
+static FuncCallContext *begin_walk(FunctionCallInfo fcinfo, h3sql_Walk walk, bool is_or_none)
 {
 	FuncCallContext *context;
 	h3sql_Rows *rows = new_rows(fcinfo, &context);
@@ -565,24 +565,43 @@ static FuncCallContext *begin_walk(FunctionCallInfo fcinfo, h3sql_Walk walk)
 	H3Error error = h3sql_walk(rows, walk, the_table(), GET_INDEX(0), as_int(k), resize_rows,
 							   context->multi_call_memory_ctx, &memory);
 
-	check_walk(error, GET_INDEX(0), k);
+	if (error == E_PENTAGON && is_or_none)
+		h3sql_listed(rows, rows->own, 0);
+	else
+		check_walk(error, GET_INDEX(0), k);
 	return context;
+}
+
+/* The next row of a walk. */
+static Datum walked(FunctionCallInfo fcinfo, h3sql_Walk walk, bool is_or_none)
+{
+	if (SRF_IS_FIRSTCALL())
+		begin_walk(fcinfo, walk, is_or_none);
+	return next_row(fcinfo);
 }
 
 PG_FUNCTION_INFO_V1(h3whole_grid_disk_unsafe);
 Datum h3whole_grid_disk_unsafe(PG_FUNCTION_ARGS)
 {
-	if (SRF_IS_FIRSTCALL())
-		begin_walk(fcinfo, H3SQL_DISK);
-	return next_row(fcinfo);
+	return walked(fcinfo, H3SQL_DISK, false);
+}
+
+PG_FUNCTION_INFO_V1(h3whole_grid_disk_unsafe_or_none);
+Datum h3whole_grid_disk_unsafe_or_none(PG_FUNCTION_ARGS)
+{
+	return walked(fcinfo, H3SQL_DISK, true);
 }
 
 PG_FUNCTION_INFO_V1(h3whole_grid_ring_unsafe);
 Datum h3whole_grid_ring_unsafe(PG_FUNCTION_ARGS)
 {
-	if (SRF_IS_FIRSTCALL())
-		begin_walk(fcinfo, H3SQL_RING);
-	return next_row(fcinfo);
+	return walked(fcinfo, H3SQL_RING, false);
+}
+
+PG_FUNCTION_INFO_V1(h3whole_grid_ring_unsafe_or_none);
+Datum h3whole_grid_ring_unsafe_or_none(PG_FUNCTION_ARGS)
+{
+	return walked(fcinfo, H3SQL_RING, true);
 }
 
 /* The kind of row that the query expects of a call. */
@@ -598,8 +617,8 @@ static TupleDesc row_kind(FunctionCallInfo fcinfo, FuncCallContext *context)
 	return kind;
 }
 
-PG_FUNCTION_INFO_V1(h3whole_grid_disk_distances_unsafe);
-Datum h3whole_grid_disk_distances_unsafe(PG_FUNCTION_ARGS)
+/* The next row of a disk with distances. */
+static Datum walked_far(FunctionCallInfo fcinfo, bool is_or_none)
 {
 	FuncCallContext *context;
 	h3sql_Rows *rows;
@@ -610,7 +629,7 @@ Datum h3whole_grid_disk_distances_unsafe(PG_FUNCTION_ARGS)
 
 	if (SRF_IS_FIRSTCALL())
 	{
-		context = begin_walk(fcinfo, H3SQL_DISTANCES);
+		context = begin_walk(fcinfo, H3SQL_DISTANCES, is_or_none);
 		context->tuple_desc = row_kind(fcinfo, context);
 	}
 	context = SRF_PERCALL_SETUP();
@@ -622,6 +641,18 @@ Datum h3whole_grid_disk_distances_unsafe(PG_FUNCTION_ARGS)
 	values[0] = INDEX_DATUM(row);
 	values[1] = Int32GetDatum(rows->distances[rows->at - 1]);
 	SRF_RETURN_NEXT(context, HeapTupleGetDatum(heap_form_tuple(context->tuple_desc, values, nulls)));
+}
+
+PG_FUNCTION_INFO_V1(h3whole_grid_disk_distances_unsafe);
+Datum h3whole_grid_disk_distances_unsafe(PG_FUNCTION_ARGS)
+{
+	return walked_far(fcinfo, false);
+}
+
+PG_FUNCTION_INFO_V1(h3whole_grid_disk_distances_unsafe_or_none);
+Datum h3whole_grid_disk_distances_unsafe_or_none(PG_FUNCTION_ARGS)
+{
+	return walked_far(fcinfo, true);
 }
 
 /* Reports an error of a pair of cells: the first that is no cell, or both. */

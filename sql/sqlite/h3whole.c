@@ -1,5 +1,5 @@
-/* H3's functions in SQLite: a loadable extension. A cell is an integer or a text, and what is
- * returned is of the same kind. docs/library/sql.md lists the functions. */
+/* H3's functions in SQLite: a loadable extension. A cell is an integer or a text, and what is returned is of the same
+ * kind, but a zone is what the array has. docs/library/sql.md lists the functions. */
 #include <errno.h>
 #include <limits.h>
 #include <stdio.h>
@@ -28,18 +28,28 @@ static H3Error index_of(sqlite3_value *value, H3Index *out) {
 
 static bool is_text(sqlite3_value *value) { return sqlite3_value_type(value) == SQLITE_TEXT; }
 
+/* Below this each whole number is a real number of its own. */
+#define WHOLE_REALS 9007199254740992.0
+
+/* The whole number that a value is, also a real one, as R binds all numbers; -1 in place of any other value. */
+static int64_t whole_of(sqlite3_value *value) {
+    double real;
+    switch (sqlite3_value_numeric_type(value)) {
+        case SQLITE_INTEGER:
+            return sqlite3_value_int64(value);
+        case SQLITE_FLOAT:
+            real = sqlite3_value_double(value);
+            return real >= 0 && real < WHOLE_REALS && real == (double)(int64_t)real ? (int64_t)real : -1;
+        default:
+            return -1;
+    }
+}
+
 /* What a value is in place of a resolution or a number of steps: the library refuses -1, and so it
  * does all that is no int. */
 static int resolution_of(sqlite3_value *value) {
-    sqlite3_int64 res;
-    if (sqlite3_value_numeric_type(value) != SQLITE_INTEGER) return -1;
-    res = sqlite3_value_int64(value);
+    int64_t res = whole_of(value);
     return res < 0 || res > INT_MAX ? -1 : (int)res;
-}
-
-/* What a value is in place of a position: the library refuses -1. */
-static int64_t position_of(sqlite3_value *value) {
-    return sqlite3_value_numeric_type(value) == SQLITE_INTEGER ? sqlite3_value_int64(value) : -1;
 }
 
 static bool has_null(int count, sqlite3_value **values) {
@@ -238,7 +248,7 @@ static void cell_at_position(sqlite3_context *context, int count, sqlite3_value 
     H3Error error;
     if (has_null(count, values)) return;
     error = index_of(values[1], &index);
-    if (!error) error = h3w_childPosToCell(position_of(values[0]), index, resolution_of(values[2]), &out);
+    if (!error) error = h3w_childPosToCell(whole_of(values[0]), index, resolution_of(values[2]), &out);
     if (error) put_error(context, error, at_position(error, values));
     else put_index(context, out, is_text(values[1]));
 }
@@ -299,10 +309,25 @@ static void *resize(void *engine, void *memory, size_t size) {
     return sqlite3_realloc64(memory, size);
 }
 
+/* A cell as an array has it: a text, or NULL for an integer. */
+typedef struct {
+    H3Index cell;
+    char *text;
+} Item;
+
+/* How an array has its cells, if that is to be kept: as texts that put_index writes so, or as integers; and the items
+ * that it has otherwise. */
+typedef struct {
+    bool is_kept, are_texts;
+    Item *items;
+    size_t count;
+} Given;
+
 /* Cells that come one by one, as integers or texts; all bytes 0, there are none. */
 typedef struct {
     h3sql_List list;
     bool any_text;
+    Given given;
 } Cells;
 
 static H3Error take(Cells *cells, sqlite3_value *value) {
@@ -313,8 +338,14 @@ static H3Error take(Cells *cells, sqlite3_value *value) {
     return error;
 }
 
+static void forget(Given *given) {
+    while (given->count > 0) sqlite3_free(given->items[--given->count].text);
+    sqlite3_free(given->items);
+}
+
 static void release(Cells *cells) {
     sqlite3_free(cells->list.cells);
+    forget(&cells->given);
     memset(cells, 0, sizeof *cells);
 }
 
@@ -364,7 +395,7 @@ static void list_step(sqlite3_context *context, int count, sqlite3_value **value
 
 /* Ends an aggregate. (It is called to give the memory back after an error of a step, too.) */
 static void final(sqlite3_context *context, H3Error (*made)(const h3sql_List *, H3Index *, size_t *)) {
-    Cells none = {{NULL, 0, 0}, false}, *cells = sqlite3_aggregate_context(context, 0);
+    Cells none = {0}, *cells = sqlite3_aggregate_context(context, 0);
     H3Index *out;
     H3Error error = E_MEMORY_ALLOC;
     size_t count = 0;
@@ -385,11 +416,42 @@ static bool is_array(sqlite3_value *value) {
     return text && text[strspn(text, " \t\r\n")] == '[';
 }
 
+/* Whether put_index writes a cell as a value has it. */
+static bool is_written_so(sqlite3_value *value, H3Index cell, bool as_text) {
+    char text[17];
+    if (!is_text(value) || !as_text) return is_text(value) == as_text;
+    return !h3w_h3ToString(cell, text, sizeof text) && !strcmp((const char *)sqlite3_value_text(value), text);
+}
+
+/* Keeps how an array has a cell. */
+static H3Error keep_item(Given *given, sqlite3_value *value, H3Index cell) {
+    size_t count = given->count;
+    Item *items = given->items;
+    char *text = is_text(value) ? sqlite3_mprintf("%s", sqlite3_value_text(value)) : NULL;
+    if (is_text(value) && !text) return E_MEMORY_ALLOC;
+    /* (the room is doubled: it is full whenever it is a power of two) */
+    if ((count & (count - 1)) == 0) items = sqlite3_realloc64(items, (count ? 2 * count : 1) * sizeof *items);
+    if (!items) {
+        sqlite3_free(text);
+        return E_MEMORY_ALLOC;
+    }
+    items[count].cell = cell;
+    items[count].text = text;
+    given->items = items;
+    given->count++;
+    return E_SUCCESS;
+}
+
 /* Takes a cell; where it is no index, `*refused` is what the error is about, in SQLite's memory. */
 static H3Error take_item(Cells *cells, char **refused, sqlite3_value *value, bool is_alone) {
+    Given *given = &cells->given;
     H3Error error = take(cells, value);
+    H3Index cell;
     if (error == E_FAILED) *refused = is_alone ? named(value) : item(value, cells->list.count + 1);
-    return error;
+    if (error || !given->is_kept) return error;
+    cell = cells->list.cells[cells->list.count - 1];
+    if (cells->list.count == 1) given->are_texts = is_text(value);
+    return is_written_so(value, cell, given->are_texts) ? E_SUCCESS : keep_item(given, value, cell);
 }
 
 /* Takes the items of a JSON array, which SQLite reads. */
@@ -435,7 +497,7 @@ static void unite_final(sqlite3_context *context) { final(context, h3sql_unite);
 /* What two lists share, or one has beyond the other. */
 static void operate(sqlite3_context *context, int count, sqlite3_value **values) {
     sqlite3 *engine = sqlite3_context_db_handle(context);
-    Cells given[2] = {{{NULL, 0, 0}, false}, {{NULL, 0, 0}, false}};
+    Cells given[2] = {{{NULL, 0, 0}, false, {0}}, {{NULL, 0, 0}, false, {0}}};
     h3sql_List out = {NULL, 0, 0};
     char *refused = NULL;
     int code = SQLITE_OK, at = 0;
@@ -468,12 +530,14 @@ typedef struct {
     char *text;
     size_t length;
     h3sql_List zones;
+    Given given;
 } Prepared;
 
 static void drop(void *held) {
     Prepared *prepared = held;
     if (--prepared->holders > 0) return;
     sqlite3_free(prepared->zones.cells);
+    forget(&prepared->given);
     sqlite3_free(prepared->text);
     sqlite3_free(prepared);
 }
@@ -486,7 +550,7 @@ typedef struct {
     struct Connection *connection;
 } Module;
 
-#define SETS 9
+#define SETS 12
 
 /* What the functions of one connection share. Each that has it holds it. */
 typedef struct Connection {
@@ -674,11 +738,31 @@ static H3Error keep(Connection *connection, Prepared *prepared, const char *text
     return E_SUCCESS;
 }
 
+static int by_cell(const void *a, const void *b) {
+    H3Index first = *(const H3Index *)a, second = *(const H3Index *)b;
+    return (first > second) - (first < second);
+}
+
+/* Moves how the zones were given to what is prepared of them, in order. */
+static void move_given(Given *to, Given *from) {
+    if (from->count) qsort(from->items, from->count, sizeof *from->items, by_cell);
+    *to = *from;
+    memset(from, 0, sizeof *from);
+}
+
+/* Returns a zone as the array has it, so it equals what the array was made of. */
+static void put_zone(sqlite3_context *context, const Given *given, H3Index zone) {
+    const Item *found = NULL;
+    if (given->count) found = bsearch(&zone, given->items, given->count, sizeof *given->items, by_cell);
+    if (found && found->text) sqlite3_result_text(context, found->text, -1, SQLITE_TRANSIENT);
+    else put_index(context, zone, given->are_texts && !found);
+}
+
 /* Prepares the cells of a value, and keeps those of a text; NULL where they are refused, and the
  * call has ended. The caller holds what is returned. */
 static Prepared *prepare(sqlite3_context *context, sqlite3_value *value, bool is_region) {
     Connection *connection = sqlite3_user_data(context);
-    Cells cells = {{NULL, 0, 0}, false};
+    Cells cells = {0};
     char *refused = NULL;
     int code = SQLITE_OK;
     H3Error error = E_MEMORY_ALLOC;
@@ -687,12 +771,15 @@ static Prepared *prepare(sqlite3_context *context, sqlite3_value *value, bool is
         memset(made, 0, sizeof *made);
         made->holders = 1;
         made->is_region = is_region;
+        cells.given.is_kept = !is_region;
         error = take_array(&cells, &refused, sqlite3_context_db_handle(context), value, &code);
     }
     if (!error && code == SQLITE_OK) error = h3sql_prepare(&made->zones, &cells.list, is_region, resize, NULL);
+    if (made) move_given(&made->given, &cells.given);
+    /* (an item that is kept takes as much as four cells) */
     if (!error && code == SQLITE_OK && is_text(value))
         error = keep(connection, made, (const char *)sqlite3_value_text(value), (size_t)sqlite3_value_bytes(value),
-                     cells.list.count);
+                     cells.list.count + 4 * made->given.count);
     if (error || code != SQLITE_OK) {
         put_list_error(context, code, error, &cells, refused);
         if (made) drop(made);
@@ -723,31 +810,36 @@ static Prepared *prepared_of(sqlite3_context *context, sqlite3_value *value, boo
     return found;
 }
 
-/* The zone of the cell of the first argument among the cells of the second; whether there is no
- * error, with which the call ends. */
-static bool look_up(sqlite3_context *context, sqlite3_value **values, bool is_region, H3Index *zone) {
+/* The zone of the cell of the first argument among the cells of the second, and these, prepared, which the caller
+ * holds; NULL where there is an error, with which the call ends. */
+static Prepared *look_up(sqlite3_context *context, sqlite3_value **values, bool is_region, H3Index *zone) {
     Prepared *prepared = prepared_of(context, values[1], is_region);
     H3Index index;
     H3Error error;
-    if (!prepared) return false;
+    if (!prepared) return NULL;
     error = index_of(values[0], &index);
     if (!error) error = h3sql_zone_of(&prepared->zones, index, zone);
+    if (!error) return prepared;
     drop(prepared);
-    if (error) put_error(context, error, named(values[0]));
-    return !error;
+    put_error(context, error, named(values[0]));
+    return NULL;
 }
 
 static void is_covered(sqlite3_context *context, int count, sqlite3_value **values) {
     H3Index zone = H3_NULL;
-    if (has_null(count, values) || !look_up(context, values, true, &zone)) return;
+    Prepared *region = has_null(count, values) ? NULL : look_up(context, values, true, &zone);
+    if (!region) return;
+    drop(region);
     sqlite3_result_int(context, zone != H3_NULL);
 }
 
 /* NULL where the cell has no zone */
 static void zone_of(sqlite3_context *context, int count, sqlite3_value **values) {
     H3Index zone = H3_NULL;
-    if (has_null(count, values) || !look_up(context, values, false, &zone)) return;
-    if (zone != H3_NULL) put_index(context, zone, is_text(values[0]));
+    Prepared *zones = has_null(count, values) ? NULL : look_up(context, values, false, &zone);
+    if (!zones) return;
+    if (zone != H3_NULL) put_zone(context, &zones->given, zone);
+    drop(zones);
 }
 
 /* The functions of a connection: over its table, which another one may replace, and over what it
@@ -797,7 +889,8 @@ struct Set {
     H3Error (*begin)(Cursor *cursor, sqlite3 *engine, sqlite3_value **values, int *code);
     /* what an error of that is about */
     char *(*about)(H3Error error, Cursor *cursor, sqlite3_value **values);
-    bool is_over_table;
+    /* whether a base cell table is needed, and whether a pentagon on the way gives no rows, and no error */
+    bool is_over_table, is_or_none;
 };
 
 typedef struct {
@@ -934,21 +1027,27 @@ static H3Error begin_ring(Cursor *cursor, sqlite3 *engine, sqlite3_value **value
 #define ARGUMENTS_OF_WALK "\"h3whole.origin\" HIDDEN, \"h3whole.k\" HIDDEN)"
 
 static const Set sets[SETS] = {
-    {"h3_get_res_0_cells", "CREATE TABLE x(value)", 1, 0, 0, begin_res0_cells, about_nothing, false},
+    {"h3_get_res_0_cells", "CREATE TABLE x(value)", 1, 0, 0, begin_res0_cells, about_nothing, false, false},
     {"h3_get_pentagons", "CREATE TABLE x(value, \"h3whole.resolution\" HIDDEN)", 1, 1, 1, begin_pentagons,
-     about_resolution, false},
+     about_resolution, false, false},
     {"h3_origin_to_directed_edges", "CREATE TABLE x(value, \"h3whole.origin\" HIDDEN)", 1, 1, 1, begin_edges,
-     about_index, false},
+     about_index, false, false},
     {"h3_cell_to_ancestors", "CREATE TABLE x(value, \"h3whole.cell\" HIDDEN)", 1, 1, 1, begin_ancestors, about_index,
-     false},
+     false, false},
     {"h3_cell_to_children", "CREATE TABLE x(value, \"h3whole.cell\" HIDDEN, \"h3whole.resolution\" HIDDEN)", 1, 2, 1,
-     begin_children, about_children, false},
+     begin_children, about_children, false, false},
     {"h3_uncompact_cells", "CREATE TABLE x(value, \"h3whole.cells\" HIDDEN, \"h3whole.resolution\" HIDDEN)", 1, 2, 1,
-     begin_uncompacted, about_uncompacted, false},
-    {"h3_grid_disk_unsafe", "CREATE TABLE x(value, " ARGUMENTS_OF_WALK, 1, 2, 1, begin_disk, about_walk, true},
+     begin_uncompacted, about_uncompacted, false, false},
+    {"h3_grid_disk_unsafe", "CREATE TABLE x(value, " ARGUMENTS_OF_WALK, 1, 2, 1, begin_disk, about_walk, true, false},
     {"h3_grid_disk_distances_unsafe", "CREATE TABLE x(value, distance, " ARGUMENTS_OF_WALK, 2, 2, 1, begin_distances,
-     about_walk, true},
-    {"h3_grid_ring_unsafe", "CREATE TABLE x(value, " ARGUMENTS_OF_WALK, 1, 2, 1, begin_ring, about_walk, true},
+     about_walk, true, false},
+    {"h3_grid_ring_unsafe", "CREATE TABLE x(value, " ARGUMENTS_OF_WALK, 1, 2, 1, begin_ring, about_walk, true, false},
+    {"h3_grid_disk_unsafe_or_none", "CREATE TABLE x(value, " ARGUMENTS_OF_WALK, 1, 2, 1, begin_disk, about_walk, true,
+     true},
+    {"h3_grid_disk_distances_unsafe_or_none", "CREATE TABLE x(value, distance, " ARGUMENTS_OF_WALK, 2, 2, 1,
+     begin_distances, about_walk, true, true},
+    {"h3_grid_ring_unsafe_or_none", "CREATE TABLE x(value, " ARGUMENTS_OF_WALK, 1, 2, 1, begin_ring, about_walk, true,
+     true},
 };
 
 static int connect(sqlite3 *engine, void *data, int argc, const char *const *argv, sqlite3_vtab **out, char **message) {
@@ -1073,6 +1172,7 @@ static int filter(sqlite3_vtab_cursor *base, int plan, const char *words, int co
     error = table->set->begin(cursor, table->engine, values, &code);
     if (code == SQLITE_ERROR) return say(base->pVtab, code, sqlite3_mprintf("%s", sqlite3_errmsg(table->engine)));
     if (code != SQLITE_OK) return code;
+    if (error == E_PENTAGON && table->set->is_or_none) return SQLITE_OK;
     if (error == E_MEMORY_ALLOC || !error) return error ? SQLITE_NOMEM : next(base);
     return refuse(base->pVtab, error, table->set->about(error, cursor, values));
 }

@@ -36,6 +36,7 @@ static const char *const statements[] = {
     " h3_zone_of('85283473fffffff', 599686042433355775) FROM h3_cell_to_children(599686042433355775, 6)",
     "SELECT h3_cell_to_parent('85283473fffffff'), count(value) FROM h3_cell_to_children('85283473fffffff')",
     "SELECT group_concat(value) FROM h3_cell_to_ancestors('85283473fffffff')",
+    "SELECT h3_zone_of('862834707ffffff', '[\"0x85283473FFFFFFF\", 576636674163867647, \" 8007fffffffffff\"]')",
 };
 
 /* over the table that a statement reads, which is 1 */

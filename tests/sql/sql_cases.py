@@ -196,6 +196,19 @@ OVER_TABLE_ERRORS = {
     "SELECT h3_get_directed_edge_destination('12009fffffffffff')": "error 9: E_PENTAGON: 12009fffffffffff",
 }
 
+
+def or_none(query):
+    """The query with walks that have no rows in the place of error 9."""
+    return query.replace("_unsafe(", "_unsafe_or_none(")
+
+
+OR_NONE = {or_none(query): wanted for query, wanted in OVER_TABLE.items() if "_unsafe(" in query}
+for query, error in OVER_TABLE_ERRORS.items():
+    if "_unsafe(" in query and error.startswith("error 9: E_PENTAGON: "):
+        OR_NONE[f"SELECT count(*) FROM ({or_none(query)}) AS walked"] = ["0"]
+    elif "_unsafe(" in query:
+        OR_NONE[or_none(query)] = error
+
 # of 8428347ffffffff, and what is left of 8009fffffffffff without 820807fffffffff
 SEVEN = [
     "85283463fffffff",

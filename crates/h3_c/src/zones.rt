@@ -412,11 +412,15 @@ fn clear(counts: &mut [u64])
 }
 
 /// Counts the cells with these indexes by zones, and returns how many have none.
-fn count_all(zones: &Lookup, indexes: &[u64], counts: &mut [u64]) -> u64
+///
+/// Each is judged once more: another thread of the caller may have written to it since. Then the number of its
+/// error and its place are returned; in a contract no memory changes during a call, so there is no error.
+fn count_all(zones: &Lookup, indexes: &[u64], counts: &mut [u64]) -> Result<u64, (u32, usize)>
     requires cells { cells_in indexes.now ≢ None }
     requires size { length counts.old ≡ length (zones_in zones.now) }
-    ensures { (cells : List Address) → cells_in indexes.now ≡ Some cells
-        → AreCounts (zones_in zones.now) cells counts.new result }
+    ensures counted { IfOk result (λ others. (cells : List Address) → cells_in indexes.now ≡ Some cells
+        → AreCounts (zones_in zones.now) cells counts.new others) }
+    ensures all { IfErr result (λ _. ⊥) }
 {
     zones_are_lawful();
     clear(counts);
@@ -432,10 +436,10 @@ fn count_all(zones: &Lookup, indexes: &[u64], counts: &mut [u64]) -> u64
         }
         match Cell::new(indexes[i]) {
             Ok(cell) => others = zones.count_next(cell, counts, others, &mut place),
-            Err(_) => unreachable!(),
+            Err(error) => return Err((u32::from(error.number()), i)),
         }
     }
-    others
+    Ok(others)
 }
 
 /// How many of the cells have each zone, in the order of the zones, and how many have none, once all
@@ -463,7 +467,13 @@ fn count_judged(
     }
     let code = judge(cells, at);
     if code == 0 {
-        *others = count_all(zones, cells, &mut counts[..size]);
+        match count_all(zones, cells, &mut counts[..size]) {
+            Ok(outside) => *others = outside,
+            Err((code, changed)) => {
+                *at = changed;
+                return code;
+            }
+        }
     }
     code
 }

@@ -52,8 +52,7 @@ fn asked_for(alloc: Global, words: &Vec<String>) -> Result<Option<Words>, RunErr
     }
 }
 
-/// What a command has the program read from standard input, as it is said at a terminal; `None` where
-/// that is nothing.
+/// What is said at a terminal before a command reads its bare list; `None` if it reads no list.
 fn awaited_list<'a>(command: &Command) -> Option<&'a str> {
     match command {
         Command::ForEach(IndexFunction::IsValidDirectedEdge | IndexFunction::GetDirectedEdgeOrigin)
@@ -75,6 +74,16 @@ fn awaited_list<'a>(command: &Command) -> Option<&'a str> {
         | Command::GridRingsUnsafe { .. }
         | Command::ForEach(_) => Some("h3: reading cells from standard input, one a line\n"),
         _ => None,
+    }
+}
+
+/// What is said at a terminal before a command reads its list: rows, if it reads those; `None` if it
+/// reads no list.
+fn notice<'a>(asked: &Words) -> Option<&'a str> {
+    let list = awaited_list(&asked.command)?;
+    match &asked.rows {
+        Some(_) => Some("h3: reading rows from standard input\n"),
+        None => Some(list),
     }
 }
 
@@ -175,7 +184,7 @@ fn start<S: Env + Files<File = File> + AllocGlobal, R: Source + Drop, W: Sink, E
                     return 3;
                 }
                 if is_terminal {
-                    input.line = awaited_list(&asked.command);
+                    input.line = notice(&asked);
                 }
                 is_missing = is_file_missing(rt, &asked);
             }

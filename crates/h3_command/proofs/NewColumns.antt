@@ -1,5 +1,5 @@
 -- What stands in the new column of rows.
-use Rattle.std.proofs.Common.{◌≡◌, ℕ, zero, suc, ◌/◌, ◌%◌, ◌<◌, ◌==◌, Bool, true, false, not, ◌&&◌, ◌||◌, List, [], ◌∷◌, ◌++◌, All, map, codes, decimal, Option, None, Some, Result, Ok, Err, if◌then◌else◌, sym, ap, ◌∙◌, refl, append_assoc, append-nil, arith, inl, inr}
+use Rattle.std.proofs.Common.{◌≡◌, ℕ, zero, suc, ◌/◌, ◌%◌, ◌<◌, ◌==◌, nat_le, Bool, true, false, not, ◌&&◌, ◌||◌, List, [], ◌∷◌, ◌++◌, All, map, codes, decimal, Option, None, Some, Result, Ok, Err, if◌then◌else◌, sym, ap, ◌∙◌, refl, append_assoc, append-nil, arith, inl, inr}
 use Rattle.std.proofs.lemmas.Bool.Decides.{nat_tests}
 use Rattle.std.proofs.lemmas.List.Elements.{All-cons, All-head, All-map, All-nil, All-tail}
 use Rattle.std.proofs.lemmas.List.Folds.{flat_map-map, list_all-append, list_all-map}
@@ -11,7 +11,9 @@ use Rattle.h3_index.specs.Cell.{Address, number_of}
 use Rattle.h3_index.specs.Digits.{last_digits}
 use Rattle.h3_index.specs.Edge.{DirectedEdge, edge_number}
 use Rattle.h3_index.specs.Text.{text_of, without_leading_zeros}
+use Rattle.h3_index.specs.Error.{error_name}
 use Rattle.h3_index.specs.declared.error.H3Error.{H3Error}
+use Rattle.h3_index.specs.declared.error.H3Error.TheVariants.{Failed, Domain, ResDomain, CellInvalid, DirEdgeInvalid, Pentagon, DuplicateInput, NotNeighbors, ResMismatch, MemoryAlloc}
 use Rattle.h3_table.specs.Links.{Links}
 use Rattle.h3_functions.specs.Edges.{are_neighbor_cells, cells_to_directed_edge, get_directed_edge_destination, origin_to_directed_edges, pair_of}
 use Rattle.h3_functions.specs.Hierarchy.{cell_to_children}
@@ -22,6 +24,9 @@ use Rattle.h3_set.specs.Compacted.{compacted}
 use Rattle.h3_functions.specs.declared.outcome.Outcome.{Outcome}
 use Rattle.h3_functions.specs.declared.outcome.Outcome.TheVariants.{Cell, Count, Edges, Number, Truth}
 use Rattle.h3_lines.specs.Answer.{Answer, answer_or_error, cell_line, cell_lines, edge_line, edge_lines, number_line, printed, ring_line, ring_line_by, truth_line, walked, zone_line, zone_text}
+use Rattle.h3_lines.specs.RunError.{row_error_name}
+use Rattle.h3_lines.specs.declared.run_error.RowError.{RowError}
+use Rattle.h3_lines.specs.declared.run_error.RowError.TheVariants as of_row
 use Rattle.h3_requests.specs.Rows.{is_separator}
 use Rattle.h3_requests.specs.declared.command.IndexFunction.{IndexFunction}
 use Rattle.h3_requests.specs.declared.command.Command.TheVariants as command
@@ -32,7 +37,7 @@ use Rattle.h3_command.specs.Answer.{answer_for, shown, with_table}
 use Rattle.h3_command.specs.Files.{cell_to_zone, is_covered_cell}
 use Rattle.h3_command.specs.Required.{cell_given, edge_given, index_given}
 use Rattle.h3_command.specs.LongAnswers.{between_parts, whole_walk}
-use Rattle.h3_command.specs.NewColumns.{AnswersAreWords, AnswersBy, AreAnswerLines, AreLinesOf, IsPairOfWords, IsWord, RowsStandOnce, WordPairsAreKept, WordPairsAreUncut, WordsAreFields, WordsAreKept, is_lower_or_digit, is_plain}
+use Rattle.h3_command.specs.NewColumns.{AnswersAreWords, AnswersBy, AreAnswerLines, AreLinesOf, ErrorNamesAreFields, ErrorNamesAreKept, IsPairOfWords, IsWord, RowsStandOnce, WordPairsAreKept, WordPairsAreUncut, WordsAreFields, WordsAreKept, is_lower_or_digit, is_plain}
 use Rattle.h3_command.specs.TableLists.{destination_of}
 
 -- ---- words
@@ -183,28 +188,81 @@ no_quote false = refl
 no_quote_separates : (separator : ℕ) → is_separator separator ≡ true → (34 == separator) ≡ false
 no_quote_separates separator serves = grind (arith, nat_tests)
 
-fields : (separator : ℕ) (quotes : Bool) (text : List ℕ) → ((b : ℕ) → is_lower_or_digit b ≡ true → (b == separator) ≡ false) → IsWord text
+-- texts of bytes that pass a test, none of which is a quote, are not cut by a byte that does not
+fields : (p : ℕ → Bool) (separator : ℕ) (quotes : Bool) (text : List ℕ) → ((b : ℕ) → p b ≡ true → (b == 34) ≡ false) → ((b : ℕ) → p b ≡ true → (b == separator) ≡ false) → list_all p text ≡ true
     → (is_uncut separator quotes false text ≡ true) × (inside_after quotes false text ≡ false)
-fields separator quotes [] other word = (refl, refl)
-fields separator quotes (b ∷ bs) other word =
-    let (first, more) = both (is_lower_or_digit b) (list_all is_lower_or_digit bs) word in
-    let calm : turned quotes false b ≡ false = rw ((no_feed b first).1, no_quote quotes) refl in
-    let (uncut, closed) = fields separator quotes bs other more in
+fields p separator quotes [] free other all = (refl, refl)
+fields p separator quotes (b ∷ bs) free other all =
+    let (first, more) = both (p b) (list_all p bs) all in
+    let calm : turned quotes false b ≡ false = rw (free b first, no_quote quotes) refl in
+    let (uncut, closed) = fields p separator quotes bs free other more in
     (rw (other b first, calm) uncut, rw calm closed)
+
+-- a byte that passes the test is not the separator, a quote, a line feed or a carriage return
+abbrev IsPlainBy : (ℕ → Bool) → ℕ → Type 0
+IsPlainBy p separator = (b : ℕ) → p b ≡ true → ((b == separator) ≡ false) × ((b == 34) ≡ false) × ((b == 10) ≡ false) × ((b == 13) ≡ false)
+
+plain_text : (p : ℕ → Bool) (separator : ℕ) (text : List ℕ) → IsPlainBy p separator → list_all p text ≡ true → is_plain separator text ≡ true
+plain_text p separator [] plain all = refl
+plain_text p separator (b ∷ bs) plain all =
+    let (first, more) = both (p b) (list_all p bs) all in
+    let (other, quote, feed, return) = plain b first in
+    rw (other, quote, feed, return) (plain_text p separator bs plain more)
+
+plain_field : (p : ℕ → Bool) (separator : ℕ) (quotes : Bool) (text : List ℕ) → IsPlainBy p separator → list_all p text ≡ true
+    → (is_plain separator text ≡ true) × (is_uncut separator quotes false text ≡ true) × (is_uncut 10 quotes false text ≡ true) × (inside_after quotes false text ≡ false)
+plain_field p separator quotes text plain all =
+    let (uncut, closed) = fields p separator quotes text (λ b q. (plain b q).1) (λ b q. (plain b q).0) all in
+    (plain_text p separator text plain all, uncut, (fields p 10 quotes text (λ b q. (plain b q).1) (λ b q. (plain b q).2) all).0, closed)
 
 no_return : (b : ℕ) → is_lower_or_digit b ≡ true → (b == 13) ≡ false
 no_return b q = grind (arith, nat_tests)
 
-plain_word : (separator : ℕ) (text : List ℕ) → is_separator separator ≡ true → IsWord text → is_plain separator text ≡ true
-plain_word separator [] serves word = refl
-plain_word separator (b ∷ bs) serves word =
-    let (first, more) = both (is_lower_or_digit b) (list_all is_lower_or_digit bs) word in
-    rw (apart separator b serves first, (no_feed b first).1, (no_feed b first).0, no_return b first) (plain_word separator bs serves more)
-
 pub words_are_fields : WordsAreFields
 words_are_fields separator quotes text serves word =
-    let (uncut, closed) = fields separator quotes text (λ b. apart separator b serves) word in
-    (plain_word separator text serves word, uncut, (fields 10 quotes text (λ b q. (no_feed b q).0) word).0, closed)
+    plain_field is_lower_or_digit separator quotes text (λ b q. (apart separator b serves q, (no_feed b q).1, (no_feed b q).0, no_return b q)) word
+
+-- ---- names of errors
+
+-- a capital letter or an underscore
+is_of_a_name : ℕ → Bool
+is_of_a_name b = (nat_le 65 b && nat_le b 90) || b == 95
+
+name_is : (e : H3Error) → list_all is_of_a_name (error_name e) ≡ true
+unfolding is_of_a_name
+name_is Failed = refl
+name_is Domain = refl
+name_is ResDomain = refl
+name_is CellInvalid = refl
+name_is DirEdgeInvalid = refl
+name_is Pentagon = refl
+name_is DuplicateInput = refl
+name_is NotNeighbors = refl
+name_is ResMismatch = refl
+name_is MemoryAlloc = refl
+
+row_name_is : (e : RowError) → list_all is_of_a_name (row_error_name e) ≡ true
+row_name_is (of_row.Bad fault) = name_is Failed
+row_name_is (of_row.Call e) = name_is e
+
+name_apart : (separator b : ℕ) → is_separator separator ≡ true → (separator == 95) ≡ false → is_of_a_name b ≡ true → (b == separator) ≡ false
+unfolding is_of_a_name
+name_apart separator b p other q = grind (arith, nat_tests)
+
+name_plain : (b : ℕ) → is_of_a_name b ≡ true → ((b == 34) ≡ false) × ((b == 10) ≡ false) × ((b == 13) ≡ false)
+unfolding is_of_a_name
+name_plain b q = (grind (arith, nat_tests), grind (arith, nat_tests), grind (arith, nat_tests))
+
+pub error_names_are_fields : ErrorNamesAreFields
+error_names_are_fields separator quotes e serves other =
+    plain_field is_of_a_name separator quotes (row_error_name e) (λ b q. (name_apart separator b serves other q, (name_plain b q).0, (name_plain b q).1, (name_plain b q).2)) (row_name_is e)
+
+pub error_names_are_kept : FieldsAreKept → ErrorNamesAreKept
+error_names_are_kept kept separator quotes row e serves other closed =
+    let (free, uncut, feed, inside) = error_names_are_fields separator quotes e serves other in
+    kept separator quotes row (row_error_name e) (no_quote_separates separator serves) closed uncut inside
+
+-- ---- pairs of words
 
 -- neither a line feed nor a quote
 is_quiet : ℕ → Bool
@@ -274,12 +332,12 @@ cut_line (b ∷ bs) rest uncut =
     rw (flipped ((b == 10) && true) other) (ap (with_first b) (cut_line bs rest more))
 
 pub rows_stand_once : RowsStandOnce
-rows_stand_once separator row [] all = refl
-rows_stand_once separator row (line ∷ lines) all =
+rows_stand_once separator after row [] all = refl
+rows_stand_once separator after row (line ∷ lines) all =
     let rest : List ℕ = flat_map (λ line. line ++ 10 ∷ []) lines in
     let (p, more, is) = some_piece rest in
     let first : cut 10 false false ((line ++ 10 ∷ []) ++ rest) ≡ (line, false) ∷ (p ∷ more) =
     ap (cut 10 false false) (append_assoc line (10 ∷ []) rest) ∙ cut_line line rest (All-head (λ line. is_uncut 10 false false line ≡ true) line lines all) ∙ ap (λ ps. (line, false) ∷ ps) is in
-    let later : each_with separator row (p ∷ more) ≡ flat_map (row_with separator row) lines =
-    ap (each_with separator row) (sym is) ∙ rows_stand_once separator row lines (All-tail (λ line. is_uncut 10 false false line ≡ true) line lines all) in
-    ap (each_with separator row) first ∙ ap (λ l. row_with separator row line ++ l) later
+    let later : each_with separator after row (p ∷ more) ≡ flat_map (λ line. row_with separator row (line ++ after)) lines =
+    ap (each_with separator after row) (sym is) ∙ rows_stand_once separator after row lines (All-tail (λ line. is_uncut 10 false false line ≡ true) line lines all) in
+    ap (each_with separator after row) first ∙ ap (λ l. row_with separator row (line ++ after) ++ l) later

@@ -1,10 +1,13 @@
--- What stands in the new column of rows: each line of an answer is a word of lower-case letters and digits, or two of them,
--- and so one field, or two, whatever byte separates fields.
+-- What stands in the new columns of rows: each line of an answer is a word of lower-case letters and digits, or two of them,
+-- and so one field, or two, whatever byte separates fields; and the name of an error is one field, unless that is an
+-- underscore.
 use Rattle.std.specs.Prelude.{◌≡◌, ⊤, ℕ, nat_le, Bool, true, false, ◌==◌, not, ◌&&◌, ◌||◌, List, [], ◌∷◌, ◌++◌, All, Option}
 use Rattle.std.specs.List.{flat_map, list_all}
 use Rattle.h3_index.specs.Cell.{Address}
 use Rattle.h3_table.specs.Links.{Links}
 use Rattle.h3_lines.specs.Answer.{Answer}
+use Rattle.h3_lines.specs.RunError.{row_error_name}
+use Rattle.h3_lines.specs.declared.run_error.RowError.{RowError}
 use Rattle.h3_requests.specs.Rows.{is_separator}
 use Rattle.h3_requests.specs.declared.command.Command.{Command}
 use Rattle.h3_requests.specs.declared.command.Command.TheVariants as command
@@ -88,7 +91,20 @@ abbrev pub WordPairsAreKept : Type 0
 WordPairsAreKept = (separator : ℕ) (quotes : Bool) (row a b : List ℕ) → is_separator separator ≡ true → inside_after quotes false row ≡ false → IsWord a → IsWord b
     → cut separator quotes false (row ++ (separator ∷ (a ++ (separator ∷ b)))) ≡ cut separator quotes false row ++ (a, false) ∷ (b, false) ∷ []
 
--- RowsStandOnce: a row stands once for each line of its answer, with that line, where no line has a line feed in it
+-- ErrorNamesAreFields: the name of a row's error is one field of any form of rows whose separator is no underscore (95): it
+-- has no byte that separates fields, no quote and no line end. (`missing` is a word.)
+abbrev pub ErrorNamesAreFields : Type 0
+ErrorNamesAreFields = (separator : ℕ) (quotes : Bool) (e : RowError) → is_separator separator ≡ true → (separator == 95) ≡ false
+    → (is_plain separator (row_error_name e) ≡ true) × (is_uncut separator quotes false (row_error_name e) ≡ true) × (is_uncut 10 quotes false (row_error_name e) ≡ true) × (inside_after quotes false (row_error_name e) ≡ false)
+
+-- ErrorNamesAreKept: so the fields of a row with the name of its error, also of one that has an answer before it, are those
+-- of the row, and then the name
+abbrev pub ErrorNamesAreKept : Type 0
+ErrorNamesAreKept = (separator : ℕ) (quotes : Bool) (row : List ℕ) (e : RowError) → is_separator separator ≡ true → (separator == 95) ≡ false → inside_after quotes false row ≡ false
+    → cut separator quotes false (row ++ separator ∷ row_error_name e) ≡ cut separator quotes false row ++ (row_error_name e, false) ∷ []
+
+-- RowsStandOnce: a row stands once for each line of its answer, with that line and what is after it, where no line has a line
+-- feed in it
 abbrev pub RowsStandOnce : Type 0
-RowsStandOnce = (separator : ℕ) (row : List ℕ) (lines : List (List ℕ)) → All (λ line. is_uncut 10 false false line ≡ true) lines
-    → rows_with separator row (flat_map (λ line. line ++ 10 ∷ []) lines) ≡ flat_map (row_with separator row) lines
+RowsStandOnce = (separator : ℕ) (after row : List ℕ) (lines : List (List ℕ)) → All (λ line. is_uncut 10 false false line ≡ true) lines
+    → rows_with separator after row (flat_map (λ line. line ++ 10 ∷ []) lines) ≡ flat_map (λ line. row_with separator row (line ++ after)) lines

@@ -6,7 +6,7 @@ ghost use Rattle.h3_lines.specs.Write.{sink_use};
 ghost use Rattle.h3_rows.specs.Laws.{FieldsAreKept, OutputReadsBack, RowsAreWhole, RowsGiveBack, RowsStand, RowsStandUntil};
 ghost use Rattle.h3_command.specs.Answer.{reads_list, reads_table, request, request_of};
 ghost use Rattle.h3_command.specs.Files.{CountsPrintedAddUp};
-ghost use Rattle.h3_command.specs.NewColumns.{AnswersAreWords, RowsStandOnce, WordPairsAreKept, WordPairsAreUncut, WordsAreFields, WordsAreKept};
+ghost use Rattle.h3_command.specs.NewColumns.{AnswersAreWords, ErrorNamesAreFields, ErrorNamesAreKept, RowsStandOnce, WordPairsAreKept, WordPairsAreUncut, WordsAreFields, WordsAreKept};
 ghost use Rattle.h3_command.specs.Run.{Ends, Runs};
 
 use crate::children::cells_to_children;
@@ -154,13 +154,16 @@ pub fn run_over<R: Source, T: Source, W: Sink, E: Sink>(
     ensures kept { FieldsAreKept }
 
     // Laws, whatever the command: an answer to a cell is lines or an error, a row stands once for each
-    // of its lines, and each is one field, or two.
+    // of its lines, and each is one field, or two; so is the name of an error, unless an underscore
+    // separates fields.
     ensures words { AnswersAreWords }
     ensures once { RowsStandOnce }
     ensures words_uncut { WordsAreFields }
     ensures pairs_uncut { WordPairsAreUncut }
     ensures fields { WordsAreKept }
     ensures pairs { WordPairsAreKept }
+    ensures errors_uncut { ErrorNamesAreFields }
+    ensures errors { ErrorNamesAreKept }
 {
     counts_add_up();
     answers_stand_beside();

@@ -149,7 +149,7 @@ module _ {V : Type 0} (number : V → ℕ) (taken : V → List Address → V →
   Settled v = ⊤
 
   -- one of the lines after them is refused
-  refused_at : (reads : Type 0) (v w mid : V) (e : RunError) (ended : List Piece) (bytes : List ℕ) → number v ≡ 1 → Takes v ended mid → RefusesAfter false Refuses mid w e ended bytes → RefusesAt reads (listed_cells bytes) (faulty_line bytes) e
+  refused_at : (reads : Type 0) (v w mid : V) (e : RunError) (ended : List Piece) (bytes : List ℕ) → number v ≡ 1 → Takes v ended mid → RefusesAfter (rows_of false) Refuses mid w e ended bytes → RefusesAt reads (listed_cells bytes) (faulty_line bytes) e
   refused_at reads v w mid e ended bytes first takes r =
       let all : RefusesCells cells_from (number v) (rows_of false bytes) e = subst (λ rows. RefusesCells cells_from (number v) rows e) (sym r.rows) (refuses_after cells_from (number v) (number mid) ended r.later takes.0 e takes.1 r.refuses) in
       numbered_refused reads (faulty_line bytes) (listed_cells bytes) e (subst (λ l. IsRefusal l e) (rows_numbered 1 bytes) (subst (λ n. RefusesCells cells_from n (rows_of false bytes) e) first all tt))
@@ -158,9 +158,9 @@ module _ {V : Type 0} (number : V → ℕ) (taken : V → List Address → V →
   abbrev Stops : V → V → RunError → SourceUse → ℕ → ℕ → Type 0
   Stops v w e input reads page =
       ((e ≡ Fault Read) × StopsReading false 64 Takes Settled v w input.left input.left_after (input.has_failed ≡ true) reads)
-      ⊎ (StopsTaking false 64 Takes Refuses Settled v w e input.left input.left_after reads page × NoReadFails input)
+      ⊎ (StopsTaking false (rows_of false) 64 Takes Refuses Settled v w e input.left input.left_after reads page × NoReadFails input)
 
-  pub list_read : (v w : V) (input : SourceUse) (reads page : ℕ) → TakesAll false Takes v w input.left input.left_after reads page → NoReadFails input
+  pub list_read : (v w : V) (input : SourceUse) (reads page : ℕ) → TakesAll (rows_of false) Takes v w input.left input.left_after reads page → NoReadFails input
       → (cells : List Address) × ListRead reads page input cells × taken v cells w
   list_read v w input reads page s sound = (
     s.takes.0,
@@ -185,13 +185,13 @@ module _ {V : Type 0} (number : V → ℕ) (taken : V → List Address → V →
       )
 
   -- and where a line or memory is refused
-  stops_taking : (v w : V) (e : RunError) (input : SourceUse) (reads page : ℕ) → StopsTaking false 64 Takes Refuses Settled v w e input.left input.left_after reads page → StopsWithin page input
+  stops_taking : (v w : V) (e : RunError) (input : SourceUse) (reads page : ℕ) → StopsTaking false (rows_of false) 64 Takes Refuses Settled v w e input.left input.left_after reads page → StopsWithin page input
   stops_taking v w e input reads page s list known =
       let (left, known', split) = left_of input.left input.left_after (s.part ++ s.last) list s.told known in
       (left, known', record { before = s.part; last = s.last; split = split; within = s.short; good = no_fault_yet (number v) (number s.mid) s.part s.ended s.unended s.takes.0 s.takes.1 s.rows s.begun })
 
   -- a list that is refused before the reads end can be read, or is known to be faulty
-  known_within : (v w : V) (e : RunError) (input : SourceUse) (reads page : ℕ) → number v ≡ 1 → (s : StopsTaking false 64 Takes Refuses Settled v w e input.left input.left_after reads page)
+  known_within : (v w : V) (e : RunError) (input : SourceUse) (reads page : ℕ) → number v ≡ 1 → (s : StopsTaking false (rows_of false) 64 Takes Refuses Settled v w e input.left input.left_after reads page)
       → (e ≡ Fault Read → ⊥) → (e ≡ Fault Memory → ⊥) → IsListWithinReads reads page (s.part ++ s.last ++ s.rest)
   known_within v w e input reads page first s other memory = elim s.known [
     | inl within ↦ inl within

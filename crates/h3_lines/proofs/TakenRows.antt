@@ -3,11 +3,11 @@ use Rattle.std.proofs.lemmas.Bool.Decides.{nat_tests}
 use Rattle.std.proofs.Common.{◌≡◌, ℕ, ◌+◌, ◌*◌, ◌<◌, ◌≤◌, ◌==◌, ◌⊎◌, Bool, false, List, [], ◌∷◌, ◌++◌, length, take, Option, sym, ap, ◌∙◌, refl, subst, inl, inr, append_assoc, append-nil, length-append, length-take, arith}
 use Rattle.std.specs.Io.KnownBytes.{Consumes, Keeps}
 use Rattle.std.proofs.KnownBytes.{Consumes-kept, Consumes-nil, Consumes-trans}
-use Rattle.h3_streams.specs.Stream.{HasLeft, Pulls}
+use Rattle.h3_streams.specs.Stream.{Pulls}
 use Rattle.h3_lines.specs.declared.run_error.RunError.{RunError}
 use Rattle.h3_lines.specs.PiecesLaws.{cut_at_end, cut_at_mark, cut_goes_on, rows_go}
 use Rattle.h3_lines.specs.Pieces.{CutsAt, Piece, Uncut, pieces_of, rows_of, without_last_nothing}
-use Rattle.h3_lines.specs.Splitting.{Goes, RefusesAfter, StopsReading, StopsTaking, TakesAll}
+use Rattle.h3_lines.specs.Splitting.{Completes, Goes, RefusesAfter, StopsReading, StopsTaking, TakesEnded}
 use Rattle.h3_lines.proofs.Pages.{all_bytes, at_end, one_at_least, one_less}
 
 pub cut_length : (bytes before after : List ℕ) (mark : ℕ) → bytes ≡ before ++ mark ∷ after → length before + length after + 1 ≡ length bytes
@@ -18,12 +18,6 @@ cut_length bytes before after mark split =
 -- the last piece
 pub piece_at_end : (qs : Bool) (line : List ℕ) (o : Bool) → Uncut 10 qs false line o → pieces_of qs line ≡ (line, o) ∷ []
 piece_at_end qs line o h = cut_at_end 10 qs false line h.uncut ∙ ap (λ t. (line, t) ∷ []) h.inside_is
-
--- the last row, if it has any byte
-pub row_at_end : (qs : Bool) (line : List ℕ) (o : Bool) → 0 < length line → Uncut 10 qs false line o → rows_of qs line ≡ (line, o) ∷ []
-row_at_end qs line o some h =
-    let filled : (length line == 0) ≡ false = grind (arith, nat_tests) in
-    ap without_last_nothing (piece_at_end qs line o h) ∙ rw filled refl
 
 first_kept : (piece : List ℕ) (t : Bool) (ps : List Piece) → 0 < length piece → (qs : List Piece) × (without_last_nothing ((piece, t) ∷ ps) ≡ (piece, t) ∷ qs)
 first_kept piece t [] some = let filled : (length piece == 0) ≡ false = grind (arith, nat_tests) in ([], rw filled refl)
@@ -63,9 +57,16 @@ module _ {V : Type 0} (qs : Bool) (taken : V → List Piece → V → Type 0) wh
     pub goes_settled : {u v w : V} {line1 bytes1 line2 bytes2 : List ℕ} → Goes qs taken u line1 bytes1 v line2 bytes2 → taken v [] w → Goes qs taken u line1 bytes1 w line2 bytes2
     goes_settled g q = record { ended = g.ended; rows = g.rows; takes = taken_settled g.takes q }
 
-  -- all rows up to the end
-  pub last_taken : {v w : V} {o : Bool} (line : List ℕ) → 0 < length line → Uncut 10 qs false line o → taken v ((line, o) ∷ []) w → taken v (rows_of qs line) w
-  last_taken {v} {w} {o} line some h takes' = subst (λ ls. taken v ls w) (sym (row_at_end qs line o some h)) takes'
+-- the last row, if it has any byte
+row_kept : (line : List ℕ) (o : Bool) → 0 < length line → without_last_nothing ((line, o) ∷ []) ≡ (line, o) ∷ []
+row_kept line o some = let filled : (length line == 0) ≡ false = grind (arith, nat_tests) in rw filled refl
+
+module _ {V : Type 0} (line : List ℕ) (o : Bool) (some : 0 < length line) where
+  pub last_taken : (taken : V → List Piece → V → Type 0) {v w : V} → taken v ((line, o) ∷ []) w → taken v (without_last_nothing ((line, o) ∷ [])) w
+  last_taken taken {v} {w} takes = subst (λ ls. taken v ls w) (sym (row_kept line o some)) takes
+
+  pub last_refused : (refused : V → List Piece → V → RunError → Type 0) {v w : V} {e : RunError} → ((later : List Piece) → refused v ((line, o) ∷ later) w e) → refused v (without_last_nothing ((line, o) ∷ [])) w e
+  last_refused refused {v} {w} {e} refuses = subst (λ ls. refused v ls w e) (sym (row_kept line o some)) (refuses [])
 
 module _ {V : Type 0} (qs : Bool) (refused : V → List Piece → V → RunError → Type 0) where
   -- a row is refused that ends
@@ -87,9 +88,6 @@ module _ {V : Type 0} (qs : Bool) (refused : V → List Piece → V → RunError
       let (more, kept) = first_kept (line ++ p) t ps (omega (arith, long)) in
       let ends : rows_of qs (line ++ rest) ≡ (line ++ p, t) ∷ more = ap without_last_nothing is ∙ kept in
       subst (λ l. refused v l w e) (sym ends) (refuses (line ++ p, t) long more)
-
-  pub last_refused : {v w : V} {e : RunError} {o : Bool} (line : List ℕ) → 0 < length line → Uncut 10 qs false line o → ((later : List Piece) → refused v ((line, o) ∷ later) w e) → refused v (rows_of qs line) w e
-  last_refused {v} {w} {e} {o} line some h refuses = subst (λ ls. refused v ls w e) (sym (row_at_end qs line o some h)) (refuses [])
 
 module _ {V : Type 0} (qs : Bool) (taken : V → List Piece → V → Type 0) (refused : V → List Piece → V → RunError → Type 0) (then_refused : (u v w : V) (xs ys : List Piece) (e : RunError) → taken u xs v → refused v ys w e → refused u (xs ++ ys) w e) where
   -- lines are refused after others were taken
@@ -141,21 +139,22 @@ module _ {V : Type 0} (qs : Bool) (taken : V → List Piece → V → Type 0) wh
   took_lines : {v w : V} {line : List ℕ} {o : Bool} {old now : Option (List ℕ)} {limit reads size : ℕ} → Uncut 10 qs false line o → (t : Took qs taken v w line old now limit reads size) → pieces_of qs t.bytes ≡ t.goes.ended ++ (line, o) ∷ []
   took_lines {line = line} {o} h t = ap (pieces_of qs) (sym (append-nil t.bytes)) ∙ t.goes.rows [] ∙ ap (λ ls. t.goes.ended ++ ls) (ap (pieces_of qs) (append-nil line) ∙ piece_at_end qs line o h)
 
-  -- all lines are taken
-  pub took_all : ((u v w : V) (xs ys : List Piece) → taken u xs v → taken v ys w → taken u (xs ++ ys) w) → {v w w' : V} {line : List ℕ} {old now : Option (List ℕ)} {limit reads size : ℕ} → Took qs taken v w line old now limit reads size
-      → (now' : Option (List ℕ)) (page : List ℕ) (n : ℕ) → Pulls now now' page n → n ≡ 0 → 0 < length page → 0 < reads → taken w (rows_of qs line) w' → TakesAll qs taken v w' old now' limit size
-  took_all both {v} {w} {w'} {line} {old} {now} {limit} {reads} {size} t now' page n p none room some last =
+  -- all bytes are read
+  pub took_ended : (longest : ℕ) → {v w : V} {line : List ℕ} {o : Bool} {old now : Option (List ℕ)} {limit reads size : ℕ} → Uncut 10 qs false line o → length line ≤ longest → Took qs taken v w line old now limit reads size
+      → (now' : Option (List ℕ)) (page : List ℕ) (n : ℕ) → Pulls now now' page n → n ≡ 0 → 0 < length page → 0 < reads → TakesEnded qs longest taken v w line o old now' limit size
+  took_ended longest {v} {w} {line} {o} {old} {now} {limit} {reads} {size} h begun t now' page n p none room some =
       let short : length t.bytes + reads * size ≤ limit * size = t.short in
       let one : size ≤ reads * size = one_at_least reads size some in
       let no_bytes : take n page ≡ [] = rw none refl in
-      let pieces : pieces_of qs t.bytes ≡ t.goes.ended ++ pieces_of qs line = ap (pieces_of qs) (sym (append-nil t.bytes)) ∙ t.goes.rows [] ∙ ap (λ l. t.goes.ended ++ pieces_of qs l) (append-nil line) in
-      let lines : rows_of qs t.bytes ≡ t.goes.ended ++ rows_of qs line = rows_go qs t.bytes line t.goes.ended pieces in
       record {
         bytes = t.bytes;
         held = at_end old now t.bytes t.told (p.at_end none room);
         told = subst (Consumes old now') (ap (λ l. t.bytes ++ l) no_bytes ∙ append-nil t.bytes) (Consumes-trans old now now' t.bytes (take n page) t.told p.taken);
         within = omega arith;
-        takes = subst (λ ls. taken v ls w') (sym lines) (both v w w' t.goes.ended (rows_of qs line) t.goes.takes last);
+        ended = t.goes.ended;
+        pieces = took_lines h t;
+        short = begun;
+        takes = t.goes.takes;
       }
 
   -- a read fails, or none is left
@@ -182,16 +181,24 @@ module _ {V : Type 0} (qs : Bool) (taken : V → List Piece → V → Type 0) wh
   -- a line is refused after so many bytes more
   pub took_refused : (longest : ℕ) → (refused : V → List Piece → V → RunError → Type 0) (settled : V → Type 0) → {v w w' : V} {e : RunError} {line : List ℕ} {o : Bool} {old now : Option (List ℕ)} {limit reads size : ℕ} → Uncut 10 qs false line o → length line ≤ longest
       → Took qs taken v w line old now limit reads size → settled w → (now' : Option (List ℕ)) (page : List ℕ) (n : ℕ) → Pulls now now' page n → n ≤ size → 0 < reads
-      → ((rest : List ℕ) → refused w (rows_of qs (line ++ (take n page ++ rest))) w' e) → StopsTaking qs longest taken refused settled v w' e old now' limit size
-  took_refused longest refused settled {v} {w} {w'} {e} {line} {o} {old} {now} {limit} {reads} {size} h begun t settles now' page n p fits some refuses =
+      → ((rest : List ℕ) → refused w (rows_of qs (line ++ (take n page ++ rest))) w' e) → (rows_in : List ℕ → List Piece) → Completes qs rows_in → StopsTaking qs rows_in longest taken refused settled v w' e old now' limit size
+  took_refused longest refused settled {v} {w} {w'} {e} {line} {o} {old} {now} {limit} {reads} {size} h begun t settles now' page n p fits some refuses rows_in completes =
       let front = take n page in
       let told : Consumes old now' (t.bytes ++ front) = Consumes-trans old now now' t.bytes front t.told p.taken in
       let (rest, held) = all_bytes old now' (t.bytes ++ front) told in
       let short : length t.bytes + reads * size ≤ limit * size = t.short in
       let one : size ≤ reads * size = one_at_least reads size some in
       let parts : length (t.bytes ++ front) ≡ length t.bytes + length front = length-append t.bytes front in
-      let after : (more : List ℕ) → RefusesAfter qs refused w w' e t.goes.ended (t.bytes ++ front ++ more) =
-      λ more. record { later = rows_of qs (line ++ (front ++ more)); rows = rows_go qs (t.bytes ++ front ++ more) (line ++ (front ++ more)) t.goes.ended (ap (pieces_of qs) (append_assoc t.bytes front more) ∙ t.goes.rows (front ++ more)); refuses = refuses more } in
+      let after : (more : List ℕ) → RefusesAfter rows_in refused w w' e t.goes.ended (t.bytes ++ front ++ more) =
+      λ more. (
+      let (others, is) = completes (t.bytes ++ front ++ more) in
+      let pieces : pieces_of qs (t.bytes ++ front ++ (more ++ others)) ≡ t.goes.ended ++ pieces_of qs (line ++ (front ++ (more ++ others))) =
+      ap (pieces_of qs) (append_assoc t.bytes front (more ++ others)) ∙ t.goes.rows (front ++ (more ++ others)) in
+      record {
+        later = rows_of qs (line ++ (front ++ (more ++ others)));
+        rows = is ∙ ap (rows_of qs) (append_assoc (t.bytes ++ front) more others) ∙ rows_go qs (t.bytes ++ front ++ (more ++ others)) (line ++ (front ++ (more ++ others))) t.goes.ended pieces;
+        refuses = refuses (more ++ others);
+      }) in
       record {
         part = t.bytes;
         last = front;
@@ -209,34 +216,4 @@ module _ {V : Type 0} (qs : Bool) (taken : V → List Piece → V → Type 0) wh
         settles = settles;
         refuses = after rest;
         known = inr after;
-      }
-
-  -- the last line is refused
-  pub took_refused_last : (longest : ℕ) → (refused : V → List Piece → V → RunError → Type 0) (settled : V → Type 0) → {v w w' : V} {e : RunError} {line : List ℕ} {o : Bool} {old now : Option (List ℕ)} {limit reads size : ℕ} → Uncut 10 qs false line o → length line ≤ longest
-      → Took qs taken v w line old now limit reads size → settled w → (now' : Option (List ℕ)) (page : List ℕ) (n : ℕ) → Pulls now now' page n → n ≡ 0 → 0 < length page → 0 < reads
-      → refused w (rows_of qs line) w' e → StopsTaking qs longest taken refused settled v w' e old now' limit size
-  took_refused_last longest refused settled {v} {w} {w'} {e} {line} {o} {old} {now} {limit} {reads} {size} h begun t settles now' page n p none room some refuses =
-      let no_bytes : take n page ≡ [] = rw none refl in
-      let told : Consumes old now' (t.bytes ++ []) = subst (λ l. Consumes old now' (t.bytes ++ l)) no_bytes (Consumes-trans old now now' t.bytes (take n page) t.told p.taken) in
-      let short : length t.bytes + reads * size ≤ limit * size = t.short in
-      let bytes : length (t.bytes ++ []) ≡ length t.bytes = ap length (append-nil t.bytes) in
-      let whole : length (t.bytes ++ [] ++ []) ≡ length t.bytes = ap length (append-nil (t.bytes ++ [])) ∙ bytes in
-      let one : size ≤ reads * size = one_at_least reads size some in
-      record {
-        part = t.bytes;
-        last = [];
-        rest = [];
-        held = subst (HasLeft old) (sym (append-nil (t.bytes ++ []) ∙ append-nil t.bytes)) (at_end old now t.bytes t.told (p.at_end none room));
-        told = told;
-        short = omega arith;
-        within = omega (arith, bytes, short);
-        ended = t.goes.ended;
-        unended = (line, o);
-        rows = took_lines h t;
-        begun = begun;
-        mid = w;
-        takes = t.goes.takes;
-        settles = settles;
-        refuses = record { later = rows_of qs (line ++ []); rows = rows_go qs (t.bytes ++ [] ++ []) (line ++ []) t.goes.ended (ap (pieces_of qs) (append-nil (t.bytes ++ [])) ∙ t.goes.rows []); refuses = subst (λ l. refused w (rows_of qs l) w' e) (sym (append-nil line)) refuses };
-        known = inl (omega (arith, whole, one, short));
       }

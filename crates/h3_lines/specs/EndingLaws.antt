@@ -6,7 +6,7 @@ use Rattle.h3_lines.specs.Answer.{Answer, before, written}
 use Rattle.h3_lines.specs.Answering.{Answered, EndsBy, RefusesEach}
 use Rattle.h3_lines.specs.EachLaws.{may_after, part_after, taken_after}
 use Rattle.h3_lines.specs.Ending.{EndsEarly, StopsInPage, TakesBeginning}
-use Rattle.h3_lines.specs.Pieces.{Piece, pieces_of, rows_of}
+use Rattle.h3_lines.specs.Pieces.{Piece, pieces_of}
 use Rattle.h3_lines.specs.Splitting.{StopsReading, StopsTaking}
 use Rattle.h3_lines.specs.Write.{SinkUse, Takes, TakesPart, Writes, sink_use}
 use Rattle.h3_lines.specs.declared.run_error.AnswerError.{AnswerError}
@@ -94,7 +94,7 @@ module _ {S L N : Type 0} (taken : S → Option (List ℕ)) (failed : S → Bool
       })
 
 -- what takes the pieces, how it answers them, and how a contract cuts the list
-module _ {S V L N P : Type 0} (qs : Bool) (longest : ℕ) (taken : S → Option (List ℕ)) (failed : S → Bool) (answer_of : V → L → N → List Piece → Answer) (nothing : L) (is_nothing : (v : V) (n : N) → answer_of v nothing n [] ≡ written [])
+module _ {S V L N P : Type 0} (qs : Bool) (rows_in : List ℕ → List Piece) (longest : ℕ) (taken : S → Option (List ℕ)) (failed : S → Bool) (answer_of : V → L → N → List Piece → Answer) (nothing : L) (is_nothing : (v : V) (n : N) → answer_of v nothing n [] ≡ written [])
     (state : V → N) (held : V → List ℕ) (out : V → S) (takes : V → List Piece → V → Type 0) (refused : V → List Piece → V → RunError → Type 0) (settled : V → Type 0)
     (answers : (v w : V) (ls : List Piece) → takes v ls w → Answered taken failed (answer_of v) (state v) (state w) (held v) (held w) (out v) (out w) ls)
     (same : (v w : V) (ls : List Piece) → takes v ls w → answer_of w ≡ answer_of v)
@@ -103,8 +103,8 @@ module _ {S V L N P : Type 0} (qs : Bool) (longest : ℕ) (taken : S → Option 
     (cut : List ℕ → List P) (each : List Piece → List P) (one : Piece → P) (cuts : (bytes : List ℕ) (ended : List Piece) (last : Piece) → pieces_of qs bytes ≡ ended ++ last ∷ [] → cut bytes ≡ each ended ++ one last ∷ [])
     (size : P → ℕ) (sizes : (p : Piece) → size (one p) ≡ length p.0)
     (v w : V) (last : L) (none : held v ≡ []) (begun : List P → Answer) (begins : (ls : List Piece) → answer_of v nothing (state v) ls ≡ begun (each ls))
-    (whole : List ℕ → Answer) (wholes : (bytes : List ℕ) → answer_of v last (state v) (rows_of qs bytes) ≡ whole bytes) (old new : Option (List ℕ)) where
-  stops_in_page : (e : RunError) → StopsTaking qs longest takes refused settled v w e old new (2 ^ 40) 65536 → StopsInPage cut begun old new
+    (whole : List ℕ → Answer) (wholes : (bytes : List ℕ) → answer_of v last (state v) (rows_in bytes) ≡ whole bytes) (old new : Option (List ℕ)) where
+  stops_in_page : (e : RunError) → StopsTaking qs rows_in longest takes refused settled v w e old new (2 ^ 40) 65536 → StopsInPage cut begun old new
   stops_in_page e s = record {
     part = s.part;
     last = s.last;
@@ -119,11 +119,11 @@ module _ {S V L N P : Type 0} (qs : Bool) (longest : ℕ) (taken : S → Option 
     good = ap (λ b. b.ending) (sym (begins s.ended) ∙ begun_whole taken failed (answer_of v) (answers v s.mid s.ended s.takes) none (empty s.mid s.settles) nothing (is_nothing v (state s.mid)));
   }
 
-  refuses_mid : (e : RunError) → (s : StopsTaking qs longest takes refused settled v w e old new (2 ^ 40) 65536)
+  refuses_mid : (e : RunError) → (s : StopsTaking qs rows_in longest takes refused settled v w e old new (2 ^ 40) 65536)
       → RefusesEach (answer_of v) (state s.mid) (held s.mid) s.refuses.later e (sink_use taken failed (out s.mid) (out w))
   refuses_mid e s = subst (λ a. RefusesEach a (state s.mid) (held s.mid) s.refuses.later e (sink_use taken failed (out s.mid) (out w))) (same v s.mid s.ended s.takes) (refuses s.mid w s.refuses.later e s.refuses.refuses)
 
-  stopped : (e : RunError) (has : Bool) → StopsTaking qs longest takes refused settled v w e old new (2 ^ 40) 65536 → EndsEarly cut size longest begun whole old new has e (sink_use taken failed (out v) (out w))
+  stopped : (e : RunError) (has : Bool) → StopsTaking qs rows_in longest takes refused settled v w e old new (2 ^ 40) 65536 → EndsEarly cut size longest begun whole old new has e (sink_use taken failed (out v) (out w))
   unfolding stops_in_page
   stopped (Error e) has s = (
     stops_in_page (Error e) s,
@@ -140,7 +140,7 @@ module _ {S V L N P : Type 0} (qs : Bool) (longest : ℕ) (taken : S → Option 
   stopped (Fault Memory) has s = absurd (refuses_mid (Fault Memory) s last)
 
   -- a read fails, or a piece ends the answer, or a write fails
-  pub ends_early : (had has : Bool) (e : RunError) → ((e ≡ Fault Read) × StopsReading qs longest takes settled v w old new (has ≡ true) (2 ^ 40)) ⊎ (StopsTaking qs longest takes refused settled v w e old new (2 ^ 40) 65536 × (has ≡ had))
+  pub ends_early : (had has : Bool) (e : RunError) → ((e ≡ Fault Read) × StopsReading qs longest takes settled v w old new (has ≡ true) (2 ^ 40)) ⊎ (StopsTaking qs rows_in longest takes refused settled v w e old new (2 ^ 40) 65536 × (has ≡ had))
       → EndsEarly cut size longest begun whole old new has e (sink_use taken failed (out v) (out w))
   ends_early had has e (inr (s, kept)) = stopped e has s
   ends_early had has (Fault Read) (inl (is, s)) = record {

@@ -10,11 +10,13 @@ use Rattle.h3_directions.specs.declared.direction.Direction.TheVariants.{I, K}
 use Rattle.h3_directions.specs.declared.error.TableError.TheVariants as in_table
 use Rattle.h3_lines.specs.Answer.{before, cell_line, refused, ring_line, walked}
 use Rattle.h3_lines.specs.List.{lines_of, listed_cells, said_by}
-use Rattle.h3_lines.specs.RunError.{refusal_line, refusal_status}
+use Rattle.h3_lines.specs.RunError.{refusal_line, refusal_status, row_error_name}
 use Rattle.h3_lines.specs.declared.run_error.CellFile.TheVariants.{Region, Zones}
-use Rattle.h3_lines.specs.declared.run_error.AnswerError.TheVariants.{AtAndMore, Column, File, FileAt, Table}
-use Rattle.h3_lines.specs.declared.run_error.ColumnError.TheVariants.{NotFound, NotUnique}
+use Rattle.h3_lines.specs.declared.run_error.AnswerError.TheVariants.{AtRow, AtRowAndMore, Column, File, FileAt, Table}
+use Rattle.h3_lines.specs.declared.run_error.ColumnError.TheVariants.{NotFound, NotUnique, InUse}
 use Rattle.h3_lines.specs.declared.run_error.Fault.TheVariants.{Memory, Read, Write}
+use Rattle.h3_lines.specs.declared.run_error.RowError.TheVariants as of_row
+use Rattle.h3_lines.specs.declared.run_error.RowFault.TheVariants.{NotAnIndex, NoSuchField, FieldCount, StrayQuote, OpenQuote, CarriageReturn, TooLong}
 use Rattle.h3_lines.specs.declared.run_error.RunError.TheVariants.{Error, Fault}
 
 -- ---- lists
@@ -63,12 +65,24 @@ errors_of_files : map refusal_line (map Error (FileAt Region 12 CellInvalid ∷ 
 unfolding digits
 errors_of_files = refl
 
-errors_of_rows : map refusal_line (map Error (AtAndMore 12 CellInvalid 6 ∷ AtAndMore 2 Failed 0 ∷ Column NotFound ∷ Column NotUnique ∷ []))
-    ≡ map line (codes "line 12: error 5: E_CELL_INVALID and 6 more" ∷ codes "line 2: error 1: E_FAILED" ∷ codes "column: not found" ∷ codes "column: not unique" ∷ [])
+errors_of_rows : map refusal_line (map Error (AtRow 12 (of_row.Call CellInvalid) ∷ AtRowAndMore 12 (of_row.Call CellInvalid) 6 ∷ AtRow 2 (of_row.Bad NotAnIndex) ∷ AtRowAndMore 2 (of_row.Bad NotAnIndex) 0 ∷ AtRowAndMore 2 (of_row.Bad NotAnIndex) 6 ∷ []))
+    ≡ map line (codes "line 12: error 5: E_CELL_INVALID" ∷ codes "line 12: error 5: E_CELL_INVALID and 6 more" ∷ codes "line 2: error 1: E_FAILED: not an index" ∷ codes "line 2: error 1: E_FAILED: not an index" ∷ codes "line 2: error 1: E_FAILED: not an index, and 6 more" ∷ [])
 unfolding digits
 errors_of_rows = refl
 
-statuses_of_rows : map refusal_status (map Error (AtAndMore 12 CellInvalid 6 ∷ AtAndMore 2 Failed 0 ∷ Column NotFound ∷ Column NotUnique ∷ [])) ≡ 1 ∷ 1 ∷ 3 ∷ 3 ∷ []
+reasons : map (λ f. refusal_line (Error (AtRow 3 (of_row.Bad f)))) (NoSuchField ∷ FieldCount 2 3 ∷ FieldCount 1 3 ∷ StrayQuote ∷ OpenQuote ∷ CarriageReturn ∷ TooLong ∷ [])
+    ≡ map (λ reason. line (codes "line 3: error 1: E_FAILED: " ++ reason)) (codes "no such field" ∷ codes "2 fields, the header has 3" ∷ codes "1 fields, the header has 3" ∷ codes "a quote inside a field" ∷ codes "a quote that is not closed" ∷ codes "a carriage return inside a row" ∷ codes "longer than 1048575 bytes" ∷ [])
+unfolding digits
+reasons = refl
+
+names_of_rows : map row_error_name (of_row.Bad StrayQuote ∷ of_row.Call Pentagon ∷ []) ≡ codes "E_FAILED" ∷ codes "E_PENTAGON" ∷ []
+names_of_rows = refl
+
+errors_of_columns : map refusal_line (map (λ e. Error (Column e)) (NotFound ∷ NotUnique ∷ InUse ∷ []))
+    ≡ map line (codes "column: not found" ∷ codes "column: not unique" ∷ codes "column: in use" ∷ [])
+errors_of_columns = refl
+
+statuses_of_rows : map refusal_status (map Error (AtRow 2 (of_row.Bad TooLong) ∷ AtRowAndMore 12 (of_row.Call CellInvalid) 6 ∷ Column NotFound ∷ Column NotUnique ∷ Column InUse ∷ [])) ≡ 1 ∷ 1 ∷ 3 ∷ 3 ∷ 3 ∷ []
 statuses_of_rows = refl
 
 statuses : map refusal_status (map Error (Table in_table.Missing ∷ Table in_table.Read ∷ FileAt Zones 3 Failed ∷ File Zones DuplicateInput ∷ []) ++ map Fault (Memory ∷ Read ∷ Write ∷ []))

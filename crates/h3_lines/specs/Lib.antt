@@ -19,6 +19,7 @@ pub mod Reads
 pub mod RunError
 pub mod ScanLaws
 pub mod Splitting
+pub mod SplittingLaws
 pub mod Taking
 pub mod TakingLaws
 pub mod Write

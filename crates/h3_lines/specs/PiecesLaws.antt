@@ -73,7 +73,7 @@ uncut_byte mark quotes inside b bytes m q u = record { uncut = rw (m, q) u.uncut
 
 -- ---- rows
 
-kept_first : (ended : List Piece) (p : Piece) (ps : List Piece) → without_last_nothing (ended ++ p ∷ ps) ≡ ended ++ without_last_nothing (p ∷ ps)
+pub kept_first : (ended : List Piece) (p : Piece) (ps : List Piece) → without_last_nothing (ended ++ p ∷ ps) ≡ ended ++ without_last_nothing (p ∷ ps)
 kept_first [] p ps = refl
 kept_first (e ∷ []) p ps = refl
 kept_first (e ∷ f ∷ more) p ps = ap (λ l. e ∷ l) (kept_first (f ∷ more) p ps)

@@ -2,23 +2,31 @@
 use Rattle.std.specs.Prelude.{ℕ, ◌==◌, List, [], ◌∷◌, ◌++◌, codes, decimal, Result, Ok, Err, if◌then◌else◌}
 use Rattle.h3_index.specs.Error.{error_name, error_number}
 use Rattle.h3_index.specs.declared.error.H3Error.{H3Error}
-use Rattle.h3_index.specs.declared.error.H3Error.TheVariants.{MemoryAlloc}
+use Rattle.h3_index.specs.declared.error.H3Error.TheVariants.{Failed, MemoryAlloc}
 use Rattle.h3_directions.specs.Direction.{digit_of}
 use Rattle.h3_directions.specs.declared.direction.Direction.{Direction}
 use Rattle.h3_directions.specs.declared.error.TableError.{TableError}
 use Rattle.h3_directions.specs.declared.error.TableError.TheVariants as in_table
 use Rattle.h3_lines.specs.declared.run_error.AnswerError.{AnswerError}
-use Rattle.h3_lines.specs.declared.run_error.AnswerError.TheVariants.{Call, At, AtAndMore, Column, Table, FileAt, File}
+use Rattle.h3_lines.specs.declared.run_error.AnswerError.TheVariants.{Call, At, AtRow, AtRowAndMore, Column, Table, FileAt, File}
 use Rattle.h3_lines.specs.declared.run_error.CellFile.{CellFile}
 use Rattle.h3_lines.specs.declared.run_error.CellFile.TheVariants.{Region, Zones}
 use Rattle.h3_lines.specs.declared.run_error.ColumnError.{ColumnError}
-use Rattle.h3_lines.specs.declared.run_error.ColumnError.TheVariants.{NotFound, NotUnique}
+use Rattle.h3_lines.specs.declared.run_error.ColumnError.TheVariants.{NotFound, NotUnique, InUse}
 use Rattle.h3_lines.specs.declared.run_error.Fault as system
 use Rattle.h3_lines.specs.declared.run_error.Fault.TheVariants.{Memory, Read, Write}
+use Rattle.h3_lines.specs.declared.run_error.RowError.{RowError}
+use Rattle.h3_lines.specs.declared.run_error.RowError.TheVariants as of_row
+use Rattle.h3_lines.specs.declared.run_error.RowFault.{RowFault}
+use Rattle.h3_lines.specs.declared.run_error.RowFault.TheVariants.{NotAnIndex, NoSuchField, FieldCount, StrayQuote, OpenQuote, CarriageReturn, TooLong}
 use Rattle.h3_lines.specs.declared.run_error.RunError.{RunError}
 use Rattle.h3_lines.specs.declared.run_error.RunError.TheVariants.{Error, Fault}
 
--- the number of an H3 error and its name, as `error 9: E_PENTAGON`
+-- error_words e: the number of an H3 error and its name, as `error 9: E_PENTAGON`
+abbrev pub error_words : H3Error → List ℕ
+error_words e = codes "error " ++ decimal (error_number e) ++ codes ": " ++ error_name e
+
+-- error_line e: the line of an H3 error: its number and its name
 abbrev pub error_line : H3Error → List ℕ
 error_line e = codes "error " ++ decimal (error_number e) ++ codes ": " ++ error_name e ++ 10 ∷ []
 
@@ -26,20 +34,45 @@ error_line e = codes "error " ++ decimal (error_number e) ++ codes ": " ++ error
 abbrev pub error_line_at : ℕ → H3Error → List ℕ
 error_line_at line e = codes "line " ++ decimal line ++ codes ": " ++ error_line e
 
--- more_words more: how many errors more followed the first, as ` and 6 more`; no words where none did
-abbrev pub more_words : ℕ → List ℕ
-more_words more = if more == 0 then [] else codes " and " ++ decimal more ++ codes " more"
+-- fault_reason f: why a row has error 1, as `2 fields, the header has 3`, which has the row's number of fields and the header's
+abbrev pub fault_reason : RowFault → List ℕ
+fault_reason NotAnIndex = codes "not an index"
+fault_reason NoSuchField = codes "no such field"
+fault_reason (FieldCount row header) = decimal row ++ codes " fields, the header has " ++ decimal header
+fault_reason StrayQuote = codes "a quote inside a field"
+fault_reason OpenQuote = codes "a quote that is not closed"
+fault_reason CarriageReturn = codes "a carriage return inside a row"
+fault_reason TooLong = codes "longer than 1048575 bytes"
 
--- kept_line row e more: the line of a run that went on after an error at a row, and after so many more: that of the first
--- one, with their number, as `line 12: error 5: E_CELL_INVALID and 6 more`
-abbrev pub kept_line : ℕ → H3Error → ℕ → List ℕ
-kept_line row e more =
-    codes "line " ++ decimal row ++ codes ": error " ++ decimal (error_number e) ++ codes ": " ++ error_name e ++ more_words more ++ 10 ∷ []
+-- row_error_name e: the name of a row's error: `E_FAILED` of a bad row, and else that of its H3 error
+abbrev pub row_error_name : RowError → List ℕ
+row_error_name (of_row.Bad f) = error_name Failed
+row_error_name (of_row.Call e) = error_name e
 
--- column_line e: the line of a column that is not one field of the header
+-- row_error_words e: the number and the name of a row's error, and of a bad row the reason, as `error 1: E_FAILED: not an index`
+abbrev pub row_error_words : RowError → List ℕ
+row_error_words (of_row.Bad f) = error_words Failed ++ codes ": " ++ fault_reason f
+row_error_words (of_row.Call e) = error_words e
+
+-- and_words e: what joins a row's error and how many more followed: after a reason there is a comma
+abbrev pub and_words : RowError → List ℕ
+and_words (of_row.Bad f) = codes ", and "
+and_words (of_row.Call e) = codes " and "
+
+-- more_words e more: how many errors more followed a row's error, as ` and 6 more`; no words where none did
+abbrev pub more_words : RowError → ℕ → List ℕ
+more_words e more = if more == 0 then [] else and_words e ++ decimal more ++ codes " more"
+
+-- row_line row e more: the line of an error at a row that so many more followed, as `line 12: error 5: E_CELL_INVALID and 6 more`
+-- or `line 2: error 1: E_FAILED: not an index, and 6 more`
+abbrev pub row_line : ℕ → RowError → ℕ → List ℕ
+row_line row e more = codes "line " ++ decimal row ++ codes ": " ++ row_error_words e ++ more_words e more ++ 10 ∷ []
+
+-- column_line e: the line of a header whose columns do not serve
 abbrev pub column_line : ColumnError → List ℕ
 column_line NotFound = codes "column: not found" ++ 10 ∷ []
 column_line NotUnique = codes "column: not unique" ++ 10 ∷ []
+column_line InUse = codes "column: in use" ++ 10 ∷ []
 
 -- words and a number, as `table: form 5`
 abbrev pub numbered_line : List ℕ → ℕ → List ℕ
@@ -78,7 +111,8 @@ file_line file line = file_word file ++ codes ": " ++ line
 abbrev pub answer_error_line : AnswerError → List ℕ
 answer_error_line (Call e) = error_line e
 answer_error_line (At line e) = error_line_at line e
-answer_error_line (AtAndMore row e more) = kept_line row e more
+answer_error_line (AtRow row e) = row_line row e 0
+answer_error_line (AtRowAndMore row e more) = row_line row e more
 answer_error_line (Column e) = column_line e
 answer_error_line (Table e) = table_line e
 answer_error_line (FileAt file line e) = file_line file (error_line_at line e)
@@ -95,12 +129,13 @@ abbrev pub refusal_line : RunError → List ℕ
 refusal_line (Error e) = answer_error_line e
 refusal_line (Fault f) = fault_line f
 
--- answer_error_status e: the exit status of an answer's error: 1 for an H3 error, 3 for a column that is not in the header
--- once, and 3 for an error of a base cell table that is neither out of memory nor a read that failed
+-- answer_error_status e: the exit status of an answer's error: 1 for an H3 error, 3 for a header whose columns do not
+-- serve, and 3 for an error of a base cell table that is neither out of memory nor a read that failed
 abbrev pub answer_error_status : AnswerError → ℕ
 answer_error_status (Call e) = 1
 answer_error_status (At line e) = 1
-answer_error_status (AtAndMore row e more) = 1
+answer_error_status (AtRow row e) = 1
+answer_error_status (AtRowAndMore row e more) = 1
 answer_error_status (Column e) = 3
 answer_error_status (Table in_table.Read) = 4
 answer_error_status (Table in_table.Memory) = 1

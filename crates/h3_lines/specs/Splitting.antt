@@ -16,14 +16,27 @@ pub record Goes {V : Type 0} (q : Bool) (taken : V → List Piece → V → Type
   pub rows : (rest : List ℕ) → pieces_of q (row ++ (bytes ++ rest)) ≡ ended ++ pieces_of q (row' ++ (bytes' ++ rest))
   pub takes : taken v ended w
 
--- TakesAll quotes taken v w old new reads page: all bytes of the source, in so many reads of such a page, and their rows
+-- TakesAll rows taken v w old new reads page: all bytes of the source, in so many reads of such a page, and their rows
 -- were taken
-pub record TakesAll {V : Type 0} (q : Bool) (taken : V → List Piece → V → Type 0) (v w : V) (old new : Option (List ℕ)) (reads page : ℕ) : Type 0 where
+pub record TakesAll {V : Type 0} (rows : List ℕ → List Piece) (taken : V → List Piece → V → Type 0) (v w : V) (old new : Option (List ℕ)) (reads page : ℕ) : Type 0 where
   pub bytes : List ℕ
   pub held : HasLeft old bytes
   pub told : Consumes old new bytes
   pub within : IsWithinReads reads page bytes
-  pub takes : taken v (rows_of q bytes) w
+  pub takes : taken v (rows bytes) w
+
+-- TakesEnded quotes longest taken v w left inside old new reads page: all bytes of the source, in so many reads of such a
+-- page, and the rows that end in them were taken; what follows the last of these is left, and is inside quotes or not
+pub record TakesEnded {V : Type 0} (q : Bool) (longest : ℕ) (taken : V → List Piece → V → Type 0) (v w : V) (left : List ℕ) (inside : Bool)
+    (old new : Option (List ℕ)) (reads page : ℕ) : Type 0 where
+  pub bytes : List ℕ
+  pub held : HasLeft old bytes
+  pub told : Consumes old new bytes
+  pub within : IsWithinReads reads page bytes
+  pub ended : List Piece
+  pub pieces : pieces_of q bytes ≡ ended ++ (left, inside) ∷ []
+  pub short : length left ≤ longest
+  pub takes : taken v ended w
 
 -- StopsReading quotes longest taken settled v w old new fails reads: a read failed, or none was left; the source had these
 -- bytes, of which a part was read before; the rows that end in that part were taken
@@ -40,20 +53,24 @@ pub record StopsReading {V : Type 0} (q : Bool) (longest : ℕ) (taken : V → L
   pub takes : taken v ended w
   pub settles : settled w
 
--- RefusesAfter quotes refused v w e ended bytes: the rows of the bytes are these, and others that are refused from the one
+-- RefusesAfter rows refused v w e ended bytes: the rows of the bytes are these, and others that are refused from the one
 -- moment to the other
-pub record RefusesAfter {V : Type 0} (q : Bool) (refused : V → List Piece → V → RunError → Type 0) (v w : V) (e : RunError) (ended : List Piece) (bytes : List ℕ) : Type 0 where
+pub record RefusesAfter {V : Type 0} (rows_in : List ℕ → List Piece) (refused : V → List Piece → V → RunError → Type 0) (v w : V) (e : RunError) (ended : List Piece) (bytes : List ℕ) : Type 0 where
   pub later : List Piece
-  pub rows : rows_of q bytes ≡ ended ++ later
+  pub rows : rows_in bytes ≡ ended ++ later
   pub refuses : refused v later w e
 
--- StopsTaking quotes longest taken refused settled v w e old new reads page: a row was refused or a write failed; the rows
+-- Completes quotes rows_in: bytes are cut as `rows_of` cuts them with some bytes put behind them
+abbrev pub Completes : Bool → (List ℕ → List Piece) → Type 0
+Completes q rows_in = (bytes : List ℕ) → (more : List ℕ) × (rows_in bytes ≡ rows_of q (bytes ++ more))
+
+-- StopsTaking quotes rows longest taken refused settled v w e old new reads page: a row was refused or a write failed; the rows
 -- that end before the last page were taken
 --
 -- The source had these bytes, of which a part was read, and then a page more at most; the rows that end in that part were
 -- taken, and of the others one was refused. So many reads of such a page can find the end of the bytes, or it is refused
 -- whatever bytes come after those that were read.
-pub record StopsTaking {V : Type 0} (q : Bool) (longest : ℕ) (taken : V → List Piece → V → Type 0) (refused : V → List Piece → V → RunError → Type 0) (settled : V → Type 0) (v w : V) (e : RunError)
+pub record StopsTaking {V : Type 0} (q : Bool) (rows_in : List ℕ → List Piece) (longest : ℕ) (taken : V → List Piece → V → Type 0) (refused : V → List Piece → V → RunError → Type 0) (settled : V → Type 0) (v w : V) (e : RunError)
     (old new : Option (List ℕ)) (reads page : ℕ) : Type 0 where
   pub part : List ℕ
   pub last : List ℕ
@@ -69,8 +86,8 @@ pub record StopsTaking {V : Type 0} (q : Bool) (longest : ℕ) (taken : V → Li
   pub mid : V
   pub takes : taken v ended mid
   pub settles : settled mid
-  pub refuses : RefusesAfter q refused mid w e ended (part ++ last ++ rest)
-  pub known : IsWithinReads reads page (part ++ last ++ rest) ⊎ ((after : List ℕ) → RefusesAfter q refused mid w e ended (part ++ last ++ after))
+  pub refuses : RefusesAfter rows_in refused mid w e ended (part ++ last ++ rest)
+  pub known : IsWithinReads reads page (part ++ last ++ rest) ⊎ ((after : List ℕ) → RefusesAfter rows_in refused mid w e ended (part ++ last ++ after))
 
 -- ---- plain lines
 

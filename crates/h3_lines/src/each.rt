@@ -1,7 +1,7 @@
 //! Lists of which each line is answered on its own.
 
 ghost use Rattle.std.proofs.Common.{◌∙◌, refl};
-ghost use Rattle.std.specs.Prelude.{◌≡◌, ◌+◌, ◌<◌, ◌≤◌, ◌++◌, ◌∷◌, ◌^◌, [], ℕ, List, length, Option, Err, take, IfOk, IfErr, OnOk};
+ghost use Rattle.std.specs.Prelude.{◌≡◌, ◌+◌, ◌<◌, ◌≤◌, ◌++◌, ◌∷◌, ◌^◌, [], ℕ, List, length, Option, Err, take, IfOk, IfErr, OnOk, vec_capacity};
 ghost use Rattle.h3_lines.specs.Answer.{Answer, printed, refused};
 ghost use Rattle.h3_lines.specs.Answering.{Answered, EndsBy, Puts, RefusesLines, answer_said, lines_from};
 ghost use Rattle.h3_lines.specs.EachLaws.{answered_none, answered_then, refuses_then};
@@ -307,11 +307,11 @@ impl<'a, 'f, W: Sink, A: Answering> Job for Answers<'a, 'f, W, A> {
 fn answer_lines<'a, 'f, R: Source, W: Sink, A: Answering>(
     answers: &mut Answers<'a, 'f, W, A>,
     input: &mut R,
-    page: &mut [u8],
+    page: &mut Vec<u8>,
 ) -> Result<(), RunError>
     requires first { answers.old.held.number ≡ 1 }
     requires empty { answers.old.held.end ≡ 0 }
-    requires page { length page.old ≡ LONGEST_LINE + PAGE }
+    requires page { LONGEST_LINE + PAGE ≤ vec_capacity page.old }
     ensures ends { EndsEach (A.answer_of answers.old.function.now)
         (R.left input.old) (R.left input.new)
         (R.has_failed input.old) (R.has_failed input.new) result
@@ -319,7 +319,7 @@ fn answer_lines<'a, 'f, R: Source, W: Sink, A: Answering>(
     ensures same { answers.new.held.out.ghost_name ≡ answers.old.held.out.ghost_name }
 {
     let mut reader = CountedReader::new(&mut *input, MAX_READS);
-    let ending = drive(answers, &mut reader, false, PAGE, page);
+    let ending = drive(answers, &mut reader, false, LONGEST_LINE, PAGE, page);
     // The proof reads what the source is after the reads from this use of it.
     let _ = &*input;
     ending
@@ -332,9 +332,9 @@ pub(crate) fn answer_pages<R: Source, W: Sink, A: Answering>(
     function: &A,
     input: &mut R,
     out: &mut W,
-    page: &mut [u8],
+    page: &mut Vec<u8>,
 ) -> Result<(), RunError>
-    requires page { length page.old ≡ LONGEST_LINE + PAGE }
+    requires page { LONGEST_LINE + PAGE ≤ vec_capacity page.old }
     ensures { EndsEach (A.answer_of function.now) (R.left input.old) (R.left input.new)
         (R.has_failed input.old) (R.has_failed input.new) result
         (sink_use W.taken W.has_failed out.old out.new) }

@@ -20,8 +20,10 @@ pub use ending::report;
 pub use line::{ANSWER, BLOCK, Line, RingCell};
 pub use list::{read_cells, read_list, read_numbered_cells};
 pub use plain::LINES;
-pub use run_error::{AnswerError, CellFile, ColumnError, Fault, RunError};
-pub use splitting::{Job, MAX_READS, PAGE, Taking, drive, row_page, split};
+pub use run_error::{AnswerError, CellFile, ColumnError, Fault, RowError, RowFault, RunError};
+pub use splitting::{
+    Job, MAX_READS, PAGE, Taking, drive, drive_to_end, lengthen, row_page, split, take_last,
+};
 pub use taking::{CellJob, take_cells};
 pub use write::{
     CellLines, write_all, write_answer, write_cells_lines, write_held, write_lines, write_result,

@@ -1,7 +1,8 @@
 //! The errors that end a run, with the line and the exit status of each.
 
 ghost use Rattle.std.specs.Prelude.{◌≡◌, ◌≤◌, length};
-ghost use Rattle.h3_lines.specs.RunError.{error_line, error_line_at, file_line, kept_line, link_line, more_words, numbered_line, read_fault_line, table_line};
+ghost use Rattle.h3_lines.specs.RunError.{error_line, error_line_at, error_words, fault_reason, file_line, link_line, numbered_line, read_fault_line, row_line, table_line};
+ghost use Rattle.h3_lines.specs.declared.run_error.RowFault.TheVariants.{FieldCount};
 
 use arrayvec::ArrayString;
 use h3_directions::{Direction, TableError};
@@ -10,7 +11,7 @@ use h3_streams::StreamFault;
 use itoa::Buffer;
 
 /// The room for a line on standard error.
-const LINE_ROOM: usize = 96;
+const LINE_ROOM: usize = 160;
 
 /// Which file of cells an error is about.
 #[derive(Clone, Copy, Debug, Eq, PartialEq)]
@@ -37,14 +38,17 @@ impl CellFile {
     }
 }
 
-/// Why no field of a header is the column that was asked for by its name.
+/// Why the columns of a header do not serve.
 #[derive(Clone, Copy, Debug, Eq, PartialEq)]
 pub enum ColumnError {
-    /// No field has the name, or there is no header.
+    /// No field has the name that was asked for, or there is no header.
     NotFound,
 
-    /// More than one field has the name.
+    /// More than one field has the name that was asked for.
     NotUnique,
+
+    /// A field of the header has the name of a new column already.
+    InUse,
 }
 
 impl ColumnError {
@@ -55,9 +59,113 @@ impl ColumnError {
         ensures { result.bytes ≡ column_line self.now }
     {
         match self {
-            ColumnError::NotFound => fixed_line("column: not found\n"),
-            ColumnError::NotUnique => fixed_line("column: not unique\n"),
+            ColumnError::NotFound => fixed_text("column: not found\n"),
+            ColumnError::NotUnique => fixed_text("column: not unique\n"),
+            ColumnError::InUse => fixed_text("column: in use\n"),
         }
+    }
+}
+
+/// Why a row has error 1, `E_FAILED`.
+#[derive(Clone, Copy, Debug, Eq, PartialEq)]
+pub enum RowFault {
+    /// The text of the cell's field is not an index.
+    NotAnIndex,
+
+    /// The row has fewer fields than the number of the cell's field.
+    NoSuchField,
+
+    /// The row has another number of fields than the header: the row's number, and the header's.
+    FieldCount(u64, u64),
+
+    /// A quote is inside a field.
+    StrayQuote,
+
+    /// A quote is open at the end of the row.
+    OpenQuote,
+
+    /// A carriage return is inside the row, outside quotes.
+    CarriageReturn,
+
+    /// The row is longer than 1,048,575 bytes.
+    TooLong,
+}
+
+impl RowFault {
+    ghost use Rattle.h3_lines.specs.RunError.{fault_reason};
+
+    /// The reason, as error lines have it.
+    fn reason(self) -> ArrayString<LINE_ROOM>
+        ensures reason { result.bytes ≡ fault_reason self }
+        ensures short { length result.bytes ≤ 64 }
+    {
+        match self {
+            RowFault::NotAnIndex => fixed_text("not an index"),
+            RowFault::NoSuchField => fixed_text("no such field"),
+            RowFault::FieldCount(row, header) => field_count_reason(row, header),
+            RowFault::StrayQuote => fixed_text("a quote inside a field"),
+            RowFault::OpenQuote => fixed_text("a quote that is not closed"),
+            RowFault::CarriageReturn => fixed_text("a carriage return inside a row"),
+            RowFault::TooLong => fixed_text("longer than 1048575 bytes"),
+        }
+    }
+}
+
+/// The error of a row.
+#[derive(Clone, Copy, Debug, Eq, PartialEq)]
+pub enum RowError {
+    /// The row has error 1, for this reason.
+    Bad(RowFault),
+
+    /// The call for the row's index gave an H3 error.
+    Call(H3Error),
+}
+
+impl RowError {
+    ghost use Rattle.h3_lines.specs.RunError.{more_words, row_error_name, row_error_words};
+
+    /// The name of the error in H3's table of error codes.
+    pub fn name(self) -> &'static str
+        ensures { result.now ≡ row_error_name self }
+    {
+        match self {
+            RowError::Bad(_) => H3Error::Failed.name(),
+            RowError::Call(error) => error.name(),
+        }
+    }
+
+    /// The number and the name of the error, with the reason if the row is bad.
+    fn words(self) -> ArrayString<LINE_ROOM>
+        ensures words { result.bytes ≡ row_error_words self }
+        ensures short { length result.bytes ≤ 97 }
+    {
+        match self {
+            RowError::Bad(fault) => {
+                let mut words = error_words(H3Error::Failed);
+                words.push_str(": ");
+                words.push_str(fault.reason().as_str());
+                words
+            }
+            RowError::Call(error) => error_words(error),
+        }
+    }
+
+    /// How many errors more followed this one: no words if none did.
+    fn more_words(self, more: u64) -> ArrayString<LINE_ROOM>
+        ensures words { result.bytes ≡ more_words self more }
+        ensures short { length result.bytes ≤ 31 }
+    {
+        let mut decimal = Buffer::new();
+        let mut words = ArrayString::new();
+        if more > 0 {
+            words.push_str(match self {
+                RowError::Bad(_) => ", and ",
+                RowError::Call(_) => " and ",
+            });
+            words.push_str(decimal.format(more));
+            words.push_str(" more");
+        }
+        words
     }
 }
 
@@ -70,11 +178,14 @@ pub enum AnswerError {
     /// A call gave an H3 error at a line of a list. The first line is 1, and blank lines count.
     At(u64, H3Error),
 
-    /// Calls gave H3 errors at rows of a list, and the run went on: the number of the first such
-    /// row, its error, and how many more rows followed that had one.
-    AtAndMore(u64, H3Error, u64),
+    /// A row of a list has an error. The number of a row is that of its first line.
+    AtRow(u64, RowError),
 
-    /// A column that was asked for by its name is not one field of the header.
+    /// Rows of a list have errors, and the run went on: the number of the first such row, its error,
+    /// and how many more rows followed that had one.
+    AtRowAndMore(u64, RowError, u64),
+
+    /// The columns of the header do not serve.
     Column(ColumnError),
 
     /// An error of the base cell table: of its records or its checks. A read that failed and out of
@@ -121,7 +232,8 @@ impl AnswerError {
         match self {
             AnswerError::Call(error) => error_line(*error),
             AnswerError::At(line, error) => error_line_at(*line, *error),
-            AnswerError::AtAndMore(row, error, more) => kept_line(*row, *error, *more),
+            AnswerError::AtRow(row, error) => row_line(*row, *error, 0),
+            AnswerError::AtRowAndMore(row, error, more) => row_line(*row, *error, *more),
             AnswerError::Column(error) => error.line(),
             AnswerError::Table(error) => table_line(*error),
             AnswerError::FileAt(file, line, error) => {
@@ -139,7 +251,8 @@ impl AnswerError {
             AnswerError::Table(TableError::Memory) => 1,
             AnswerError::Table(TableError::Read) => 4,
             AnswerError::Table(_) | AnswerError::Column(_) => 3,
-            AnswerError::Call(_) | AnswerError::At(_, _) | AnswerError::AtAndMore(_, _, _) => 1,
+            AnswerError::Call(_) | AnswerError::At(_, _) => 1,
+            AnswerError::AtRow(_, _) | AnswerError::AtRowAndMore(_, _, _) => 1,
             AnswerError::FileAt(_, _, _) | AnswerError::File(_, _) => 1,
         }
     }
@@ -155,7 +268,7 @@ impl Fault {
         match self {
             Fault::Memory => error_line(H3Error::MemoryAlloc),
             Fault::Read => read_fault_line(),
-            Fault::Write => fixed_line("fault: write\n"),
+            Fault::Write => fixed_text("fault: write\n"),
         }
     }
 
@@ -233,17 +346,26 @@ impl From<TableError> for RunError {
     }
 }
 
+/// The number and the name of an H3 error.
+fn error_words(error: H3Error) -> ArrayString<LINE_ROOM>
+    ensures words { result.bytes ≡ error_words error }
+    ensures short { length result.bytes ≤ 31 }
+{
+    let mut number = Buffer::new();
+    let mut words = ArrayString::new();
+    words.push_str("error ");
+    words.push_str(number.format(error.number()));
+    words.push_str(": ");
+    words.push_str(error.name());
+    words
+}
+
 /// The line of an H3 error.
 fn error_line(error: H3Error) -> ArrayString<LINE_ROOM>
     ensures line { result.bytes ≡ error_line error }
     ensures short { length result.bytes ≤ 32 }
 {
-    let mut number = Buffer::new();
-    let mut line = ArrayString::new();
-    line.push_str("error ");
-    line.push_str(number.format(error.number()));
-    line.push_str(": ");
-    line.push_str(error.name());
+    let mut line = error_words(error);
     line.push_str("\n");
     line
 }
@@ -262,37 +384,32 @@ fn error_line_at(number: u64, error: H3Error) -> ArrayString<LINE_ROOM>
     line
 }
 
-/// How many errors more followed the first: no words if none did.
-fn more_words(more: u64) -> ArrayString<LINE_ROOM>
-    ensures words { result.bytes ≡ more_words more }
-    ensures short { length result.bytes ≤ 30 }
+/// The line of an error at a row, and of how many more followed.
+fn row_line(row: u64, error: RowError, more: u64) -> ArrayString<LINE_ROOM>
+    ensures { result.bytes ≡ row_line row error more }
 {
     let mut decimal = Buffer::new();
-    let mut words = ArrayString::new();
-    if more > 0 {
-        words.push_str(" and ");
-        words.push_str(decimal.format(more));
-        words.push_str(" more");
-    }
-    words
-}
-
-/// The line of a run that went on after an error: the first one, and how many more followed.
-fn kept_line(number: u64, error: H3Error, more: u64) -> ArrayString<LINE_ROOM>
-    ensures { result.bytes ≡ kept_line number error more }
-{
-    let mut decimal = Buffer::new();
-    let mut code = Buffer::new();
     let mut line = ArrayString::new();
     line.push_str("line ");
-    line.push_str(decimal.format(number));
-    line.push_str(": error ");
-    line.push_str(code.format(error.number()));
+    line.push_str(decimal.format(row));
     line.push_str(": ");
-    line.push_str(error.name());
-    line.push_str(more_words(more).as_str());
+    line.push_str(error.words().as_str());
+    line.push_str(error.more_words(more).as_str());
     line.push_str("\n");
     line
+}
+
+/// The reason of a row that has another number of fields than the header.
+fn field_count_reason(row: u64, header: u64) -> ArrayString<LINE_ROOM>
+    ensures reason { result.bytes ≡ fault_reason (FieldCount row header) }
+    ensures short { length result.bytes ≤ 64 }
+{
+    let mut decimal = Buffer::new();
+    let mut reason = ArrayString::new();
+    reason.push_str(decimal.format(row));
+    reason.push_str(" fields, the header has ");
+    reason.push_str(decimal.format(header));
+    reason
 }
 
 /// The line of an error of a file of cells: the file's word before the line of the error.
@@ -307,8 +424,8 @@ fn file_line(file: CellFile, error: ArrayString<LINE_ROOM>) -> ArrayString<LINE_
     line
 }
 
-/// A line of fixed text.
-fn fixed_line(text: &str) -> ArrayString<LINE_ROOM>
+/// Fixed text: a line or a reason.
+fn fixed_text(text: &str) -> ArrayString<LINE_ROOM>
     requires { length text.now ≤ 80 }
     ensures { result.bytes ≡ text.now }
 {
@@ -321,7 +438,7 @@ fn fixed_line(text: &str) -> ArrayString<LINE_ROOM>
 fn read_fault_line() -> ArrayString<LINE_ROOM>
     ensures { result.bytes ≡ read_fault_line }
 {
-    fixed_line("fault: read\n")
+    fixed_text("fault: read\n")
 }
 
 /// The line of an error of a base cell table.
@@ -334,7 +451,7 @@ fn table_line(error: TableError) -> ArrayString<LINE_ROOM>
         TableError::Form(row) => numbered_line("table: form ", row),
         TableError::Range(row) => numbered_line("table: range ", row),
         TableError::Repeated(row) => numbered_line("table: repeated ", row),
-        TableError::Missing => fixed_line("table: missing\n"),
+        TableError::Missing => fixed_text("table: missing\n"),
         TableError::Neighbours(base) => numbered_line("table: neighbours ", u64::from(base)),
         TableError::Reversal(base, direction) => link_line("table: reversal ", base, direction),
         TableError::Corner(base, direction) => link_line("table: corner ", base, direction),

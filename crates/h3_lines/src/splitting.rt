@@ -1,9 +1,9 @@
 //! Pages of bytes that are split into rows, and lines, which are rows without quotes.
 
-ghost use Rattle.std.specs.Prelude.{◌≡◌, ◌≤◌, ◌<◌, ◌+◌, ◌-◌, ◌*◌, ◌^◌, ◌⊎◌, ◌==◌, ℕ, Bool, true, false, List, [], ◌∷◌, ◌++◌, length, take, drop, IfOk, IfErr, IfSome, IfNone, OnOk};
+ghost use Rattle.std.specs.Prelude.{◌≡◌, ◌≤◌, ◌<◌, ◌+◌, ◌-◌, ◌*◌, ◌^◌, ◌⊎◌, ◌==◌, ℕ, Bool, true, false, List, [], ◌∷◌, ◌++◌, length, take, drop, vec_capacity, IfOk, IfErr, IfSome, IfNone, OnOk};
 ghost use Rattle.h3_streams.specs.Counted.{KeepsSource, reads_allowed, source_of};
-ghost use Rattle.h3_lines.specs.Pieces.{CutsAt, Piece, Uncut, rows_of};
-ghost use Rattle.h3_lines.specs.Splitting.{Goes, StopsReading, StopsTaking, TakesAll};
+ghost use Rattle.h3_lines.specs.Pieces.{CutsAt, Piece, Uncut, rows_of, without_last_nothing};
+ghost use Rattle.h3_lines.specs.Splitting.{Completes, Goes, StopsReading, StopsTaking, TakesAll, TakesEnded};
 ghost use Rattle.h3_lines.specs.declared.run_error.Fault.TheVariants.{Memory, Read};
 ghost use Rattle.h3_lines.specs.declared.run_error.RunError.{RunError};
 ghost use Rattle.h3_lines.specs.declared.run_error.RunError.TheVariants as refusal;
@@ -13,7 +13,7 @@ use h3_streams::{CountedReader, Source};
 use memchr::{memchr, memchr2};
 use std::alloc::Global;
 
-/// The bytes that are read at once. The page of a list is longer (`row_page`).
+/// The bytes that are read at once. The page of a list has room for more (`row_page`).
 pub const PAGE: usize = 65536;
 
 /// The reads that a list may take.
@@ -22,20 +22,37 @@ pub const MAX_READS: u64 = 1 << 40;
 /// The bytes that a line may have.
 pub(crate) const LONGEST_LINE: usize = 64;
 
-/// Returns a page of `longest + size` bytes: for the beginning of a row, and a read of `size` bytes behind
-/// it.
+/// Returns an empty page that has room for the beginning of a row, of at most `longest` bytes, and a read
+/// of `size` bytes behind it.
 ///
 /// # Errors
 ///
 /// `Fault::Memory` if there is no memory for it.
 pub fn row_page(alloc: Global, longest: usize, size: usize) -> Result<Vec<u8>, RunError>
-    ensures ok { IfOk result (λ page. length page.items ≡ longest + size) }
+    ensures ok { IfOk result (λ page. longest + size ≤ vec_capacity page) }
+    ensures empty { IfOk result (λ page. length page.items ≡ 0) }
     ensures err { IfErr result (λ e. e ≡ refusal.Fault Memory) }
 {
-    let Some(length) = longest.checked_add(size) else {
+    let Some(room) = longest.checked_add(size) else {
         return Err(RunError::Fault(Fault::Memory));
     };
-    vec![in alloc; 0u8; length].map_err(|_| RunError::Fault(Fault::Memory))
+    Vec::with_capacity(alloc, room).map_err(|_| RunError::Fault(Fault::Memory))
+}
+
+/// Makes a page `size` bytes long, if it is shorter; it has room for them.
+pub fn lengthen(page: &mut Vec<u8>, size: usize)
+    requires { size ≤ vec_capacity page.old }
+    ensures long { size ≤ length page.new.items }
+    ensures longer { length page.old.items < size → length page.new.items ≡ size }
+    ensures same { size ≤ length page.old.items → page.new.items ≡ page.old.items }
+    ensures kept { (n : ℕ) → n ≤ length page.old.items →
+        take n page.new.items ≡ take n page.old.items }
+    ensures room { vec_capacity page.old ≤ vec_capacity page.new }
+{
+    if page.len() < size {
+        // It does not fail, since there is room.
+        let _ = page.resize(size, 0);
+    }
 }
 
 /// What contracts say of a [`Job`]: the rows that it has taken, and those that it refuses.
@@ -84,7 +101,7 @@ pub trait Taking {
 /// Takes the rows of a list, one after another.
 pub trait Job: Taking {
     /// Takes a row. With `inside`, a quote is open at its end, and it is the last row. It may be longer
-    /// than a row may be: `refuse_long` is asked only about one whose end is not read yet.
+    /// than a row may be.
     ///
     /// # Errors
     ///
@@ -307,6 +324,7 @@ fn take_page<J: Job>(
     ensures ok { IfOk result (λ next. Goes quotes J.taken job.old [] (take end page.old)
         job.new [] (take next.held page.new)) }
     ensures short { IfOk result (λ next. next.held ≤ J.longest) }
+    ensures within { IfOk result (λ next. next.held ≤ end) }
     ensures uncut { IfOk result (λ next.
         Uncut 10 quotes false (take next.held page.new) next.inside) }
     ensures outside { IfOk result (λ next. quotes ≡ false → next.inside ≡ false) }
@@ -325,13 +343,19 @@ fn take_page<J: Job>(
     Ok(RowStart { held, inside })
 }
 
-/// Has the last row taken, which has no line feed, unless it is empty. Then nothing is held back.
-fn finish<J: Job>(job: &mut J, quotes: bool, row: &[u8], inside: bool) -> Result<(), RunError>
-    requires uncut { Uncut 10 quotes false row.now inside }
+/// Has the last row taken, which has no line feed, unless it is empty. Then nothing is held back. With
+/// `inside`, a quote is open at its end.
+///
+/// # Errors
+///
+/// The job's, of the row, or if a write fails.
+pub fn take_last<J: Job>(job: &mut J, row: &[u8], inside: bool) -> Result<(), RunError>
     requires few { J.count job.old + length row.now < 2 ^ 63 }
-    ensures ok { OnOk result (J.taken job.old (rows_of quotes row.now) job.new) }
+    ensures ok { OnOk result
+        (J.taken job.old (without_last_nothing ((row.now, inside) ∷ [])) job.new) }
     ensures settled { OnOk result (J.settled job.new) }
-    ensures err { IfErr result (λ e. J.refused job.old (rows_of quotes row.now) job.new e) }
+    ensures err { IfErr result (λ e.
+        J.refused job.old (without_last_nothing ((row.now, inside) ∷ [])) job.new e) }
 {
     if row.is_empty() {
         return job.settle();
@@ -340,9 +364,13 @@ fn finish<J: Job>(job: &mut J, quotes: bool, row: &[u8], inside: bool) -> Result
     job.settle()
 }
 
-/// Has the rows of a source taken by a job, read by read. Each row is taken in the page: the beginning of
-/// one that is not ended is moved to the page's front, and the next read goes right behind it. `page` has
-/// the bytes of the longest row and of one read (`row_page`); `size`, the bytes of a read, is not 0.
+/// Has the rows of a source taken by a job that end in a line feed, read by read. Returns how many bytes
+/// follow the last of them, which are then at the page's front, and whether a quote is open at their end.
+///
+/// Each row is taken in the page: the beginning of one that is not ended is moved to the page's front,
+/// and the next read goes right behind it. `page` has room for the longest row and one read
+/// (`row_page`), and grows only as far as rows need; `longest` is the job's, and `size`, the bytes of a
+/// read, is not 0.
 ///
 /// # Errors
 ///
@@ -350,18 +378,78 @@ fn finish<J: Job>(job: &mut J, quotes: bool, row: &[u8], inside: bool) -> Result
 ///
 /// - The job's, of a row that it refuses or one that is too long.
 /// - `Fault::Read` if a read fails, or none is left.
+pub fn drive_to_end<'a, J: Job, R: Source>(
+    job: &mut J,
+    reader: &mut CountedReader<'a, R>,
+    quotes: bool,
+    longest: usize,
+    size: usize,
+    page: &mut Vec<u8>,
+) -> Result<(usize, bool), RunError>
+    requires longest { longest ≡ J.longest }
+    requires page { longest + size ≤ vec_capacity page.old }
+    requires some { 0 < size }
+    requires few { J.count job.old + reads_allowed reader.old * size < 2 ^ 63 }
+    requires settled { J.settled job.old }
+    ensures ok { IfOk result (λ p. TakesEnded quotes J.longest J.taken job.old job.new
+        (take p.0 page.new.items) p.1
+        (R.left (source_of reader.old)) (R.left (source_of reader.new))
+        (reads_allowed reader.old) size) }
+    ensures within { IfOk result (λ p. p.0 ≤ length page.new.items) }
+    ensures counted { IfOk result (λ p.
+        J.count job.new + p.0 ≤ J.count job.old + reads_allowed reader.old * size) }
+    ensures settled { OnOk result (J.settled job.new) }
+    ensures err { IfErr result (λ e. (
+        (e ≡ refusal.Fault Read) × StopsReading quotes J.longest J.taken J.settled job.old job.new
+        (R.left (source_of reader.old)) (R.left (source_of reader.new))
+        (R.has_failed (source_of reader.new) ≡ true) (reads_allowed reader.old))
+        ⊎ (((rows_in : List ℕ → List Piece) → Completes quotes rows_in →
+        StopsTaking quotes rows_in J.longest J.taken J.refused J.settled job.old job.new e
+        (R.left (source_of reader.old)) (R.left (source_of reader.new))
+        (reads_allowed reader.old) size)
+        × (R.has_failed (source_of reader.new) ≡ R.has_failed (source_of reader.old)))) }
+    ensures sound { OnOk result
+        (R.has_failed (source_of reader.new) ≡ R.has_failed (source_of reader.old)) }
+    ensures same { KeepsSource reader.old reader.new }
+    ensures room { vec_capacity page.old ≤ vec_capacity page.new }
+{
+    let mut start = RowStart {
+        held: 0,
+        inside: false,
+    };
+    loop {
+        lengthen(page, start.held + size);
+        let page = page.as_mut_slice();
+        let Ok(count) = reader.read(&mut page[start.held..start.held + size]) else {
+            return Err(RunError::Fault(Fault::Read));
+        };
+        if count == 0 {
+            return Ok((start.held, start.inside));
+        }
+        let end = start.held + count;
+        start = take_page(job, quotes, start, longest, page, end)?;
+    }
+}
+
+/// As `drive_to_end`, and then has the last row taken, which has no line feed.
+///
+/// # Errors
+///
+/// As of `drive_to_end`, and the job's of the last row.
 pub fn drive<'a, J: Job, R: Source>(
     job: &mut J,
     reader: &mut CountedReader<'a, R>,
     quotes: bool,
+    longest: usize,
     size: usize,
-    page: &mut [u8],
+    page: &mut Vec<u8>,
 ) -> Result<(), RunError>
-    requires page { length page.old ≡ J.longest + size }
+    requires longest { longest ≡ J.longest }
+    requires page { longest + size ≤ vec_capacity page.old }
     requires some { 0 < size }
     requires few { J.count job.old + reads_allowed reader.old * size < 2 ^ 63 }
     requires settled { J.settled job.old }
-    ensures ok { OnOk result (TakesAll quotes J.taken job.old job.new
+    ensures ok { OnOk result (TakesAll (rows_of quotes) J.taken job.old job.new
         (R.left (source_of reader.old)) (R.left (source_of reader.new))
         (reads_allowed reader.old) size) }
     ensures settled { OnOk result (J.settled job.new) }
@@ -369,27 +457,16 @@ pub fn drive<'a, J: Job, R: Source>(
         (e ≡ refusal.Fault Read) × StopsReading quotes J.longest J.taken J.settled job.old job.new
         (R.left (source_of reader.old)) (R.left (source_of reader.new))
         (R.has_failed (source_of reader.new) ≡ true) (reads_allowed reader.old))
-        ⊎ (StopsTaking quotes J.longest J.taken J.refused J.settled job.old job.new e
+        ⊎ (StopsTaking quotes (rows_of quotes) J.longest J.taken J.refused J.settled
+        job.old job.new e
         (R.left (source_of reader.old)) (R.left (source_of reader.new))
         (reads_allowed reader.old) size
         × (R.has_failed (source_of reader.new) ≡ R.has_failed (source_of reader.old)))) }
     ensures sound { OnOk result
         (R.has_failed (source_of reader.new) ≡ R.has_failed (source_of reader.old)) }
     ensures same { KeepsSource reader.old reader.new }
+    ensures room { vec_capacity page.old ≤ vec_capacity page.new }
 {
-    let longest = page.len() - size;
-    let mut start = RowStart {
-        held: 0,
-        inside: false,
-    };
-    loop {
-        let Ok(count) = reader.read(&mut page[start.held..start.held + size]) else {
-            return Err(RunError::Fault(Fault::Read));
-        };
-        if count == 0 {
-            return finish(job, quotes, &page[..start.held], start.inside);
-        }
-        let end = start.held + count;
-        start = take_page(job, quotes, start, longest, page, end)?;
-    }
+    let (held, inside) = drive_to_end(job, reader, quotes, longest, size, page)?;
+    take_last(job, &page[..held], inside)
 }

@@ -1,6 +1,6 @@
 //! Lists of cells, one a line, of which each cell is taken as it is read.
 
-ghost use Rattle.std.specs.Prelude.{◌≡◌, ◌≤◌, ◌<◌, ◌*◌, ◌+◌, ◌^◌, ◌++◌, ◌∷◌, ⊤, ℕ, List, [], length, Result, Err, IsOk, IfOk, IfErr, OnOk};
+ghost use Rattle.std.specs.Prelude.{◌≡◌, ◌≤◌, ◌<◌, ◌*◌, ◌+◌, ◌^◌, ◌++◌, ◌∷◌, ⊤, ℕ, List, [], length, Result, Err, IsOk, IfOk, IfErr, OnOk, vec_capacity};
 ghost use Rattle.h3_index.specs.Cell.{Address};
 ghost use Rattle.h3_index.specs.declared.error.H3Error.{H3Error};
 ghost use Rattle.h3_lines.specs.ListRead.{ListRead, ListRefused, RefusesByLine};
@@ -163,10 +163,10 @@ pub(crate) fn take_list<V: CellJob + Drop, R: Source>(
     input: &mut R,
     limit: u64,
     size: usize,
-    page: &mut [u8],
+    page: &mut Vec<u8>,
 ) -> Result<V, RunError>
     requires first { V.count job ≡ 0 }
-    requires page { length page.old ≡ LONGEST_LINE + size }
+    requires page { LONGEST_LINE + size ≤ vec_capacity page.old }
     requires some { 0 < size }
     requires few { limit * size < 2 ^ 62 }
     ensures taken { IfOk result (λ after. (cells : List Address)
@@ -177,7 +177,7 @@ pub(crate) fn take_list<V: CellJob + Drop, R: Source>(
 {
     let mut lines = LineCells { job, number: 1 };
     let mut reader = CountedReader::new(&mut *input, limit);
-    let read = drive(&mut lines, &mut reader, false, size, page);
+    let read = drive(&mut lines, &mut reader, false, LONGEST_LINE, size, page);
     // The proof reads what the source is after the reads from this use of it.
     let _ = &*input;
     read?;

@@ -2,20 +2,28 @@
 
 use h3_directions::TableError;
 use h3_index::H3Error;
-use h3_lines::{AnswerError, CellFile, ColumnError, Fault, RunError};
+use h3_lines::{AnswerError, CellFile, ColumnError, Fault, RowError, RowFault, RunError};
 
 /// Refusals of each variant.
-static REFUSALS: [RunError; 23] = [
+static REFUSALS: [RunError; 31] = [
     RunError::Error(AnswerError::Call(H3Error::Failed)),
     RunError::Error(AnswerError::Call(H3Error::MemoryAlloc)),
     RunError::Error(AnswerError::At(1, H3Error::Failed)),
     RunError::Error(AnswerError::At(1, H3Error::MemoryAlloc)),
     RunError::Error(AnswerError::At(2, H3Error::Failed)),
-    RunError::Error(AnswerError::AtAndMore(1, H3Error::Failed, 0)),
-    RunError::Error(AnswerError::AtAndMore(1, H3Error::Failed, 1)),
-    RunError::Error(AnswerError::AtAndMore(2, H3Error::Failed, 0)),
+    RunError::Error(AnswerError::AtRow(1, RowError::Call(H3Error::Failed))),
+    RunError::Error(AnswerError::AtRow(2, RowError::Call(H3Error::Failed))),
+    RunError::Error(AnswerError::AtRow(2, RowError::Bad(RowFault::NotAnIndex))),
+    RunError::Error(AnswerError::AtRow(2, RowError::Bad(RowFault::TooLong))),
+    RunError::Error(AnswerError::AtRow(2, RowError::Bad(RowFault::FieldCount(1, 2)))),
+    RunError::Error(AnswerError::AtRow(2, RowError::Bad(RowFault::FieldCount(3, 2)))),
+    RunError::Error(AnswerError::AtRowAndMore(1, RowError::Call(H3Error::Failed), 0)),
+    RunError::Error(AnswerError::AtRowAndMore(1, RowError::Call(H3Error::Failed), 1)),
+    RunError::Error(AnswerError::AtRowAndMore(2, RowError::Call(H3Error::Failed), 0)),
+    RunError::Error(AnswerError::AtRowAndMore(2, RowError::Bad(RowFault::NotAnIndex), 0)),
     RunError::Error(AnswerError::Column(ColumnError::NotFound)),
     RunError::Error(AnswerError::Column(ColumnError::NotUnique)),
+    RunError::Error(AnswerError::Column(ColumnError::InUse)),
     RunError::Fault(Fault::Memory),
     RunError::Fault(Fault::Read),
     RunError::Fault(Fault::Write),

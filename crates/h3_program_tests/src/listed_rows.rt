@@ -1,4 +1,5 @@
-//! Commands over the cells of rows: their answers, and how they end where a read or a write fails.
+//! Commands over rows, most about their cells as a whole: their answers, and how they end where a read or
+//! a write fails.
 
 use crate::expected::expect;
 use h3_fakes::{Faults, FaultySink, FaultySource, NO_FAULT};
@@ -20,7 +21,7 @@ fn ends(alloc: Global, row: &Row, most: usize, reads: Faults, writes: Faults) ->
     let mut input = FaultySource::new(table.as_bytes(), most, reads);
     let mut file = FaultySource::new(FILE.as_bytes(), most, NO_FAULT);
     let mut out = FaultySink::<2048>::new(64, writes);
-    let mut err = FaultySink::<64>::new(64, NO_FAULT);
+    let mut err = FaultySink::<128>::new(64, NO_FAULT);
     let ended = match read(alloc, line) {
         Ok(words) => run_over_rows(
             alloc,
@@ -67,7 +68,7 @@ static ANSWERED: [Row; 9] = [
     ),
     (
         "h3 uncompactCellsSize -r 6 --column cell",
-        "cell\n85283473fffffff\n \t\n",
+        "cell\n85283473fffffff\n  \n",
         "7\n",
         "",
         0,
@@ -137,7 +138,7 @@ static REFUSED: [Row; 11] = [
         "h3 compactCells --field 1",
         "85283473fffffff\n\nxyz\n",
         "",
-        "line 3: error 1: E_FAILED\n",
+        "line 3: error 1: E_FAILED: not an index\n",
         1,
     ),
     (
@@ -165,14 +166,14 @@ static REFUSED: [Row; 11] = [
         "h3 uniteCells --csv --field 1",
         "\"85283473fffffff\n",
         "",
-        "line 1: error 1: E_FAILED\n",
+        "line 1: error 1: E_FAILED: a quote that is not closed\n",
         1,
     ),
     (
         "h3 uniteCells --field 2",
         "a\t85283473fffffff\nb\n",
         "",
-        "line 2: error 1: E_FAILED\n",
+        "line 2: error 1: E_FAILED: no such field\n",
         1,
     ),
     (
@@ -186,7 +187,7 @@ static REFUSED: [Row; 11] = [
         "h3 intersectCells --region r --csv --field 1",
         "5\" pipe,85283473fffffff\n6\" pipe,85283473fffffff\n",
         "",
-        "line 1: error 1: E_FAILED\n",
+        "line 1: error 1: E_FAILED: a quote inside a field\n",
         1,
     ),
     (
@@ -212,11 +213,170 @@ fn the_first_faulty_row_decides(rt: HostRuntime) {
     }
 }
 
+/// Tables whose rows are answered: names of errors, numbers of fields, quotes, carriage returns and names
+/// that are in use.
+static BESIDE: [Row; 21] = [
+    (
+        "h3 getResolutions --field 1 --keep-going --errors",
+        "85283473fffffff\nxyz\n \n\n81087ffffffffff\n",
+        "85283473fffffff\t5\t\nxyz\t\tE_FAILED\n \t\tmissing\n\n81087ffffffffff\t\tE_CELL_INVALID\n",
+        "line 2: error 1: E_FAILED: not an index, and 1 more\n",
+        1,
+    ),
+    (
+        "h3 cellsToParents -r 4 --csv --column cell --keep-going --errors --as up",
+        "cell\n8001fffffffffff\n85283473fffffff\n",
+        "cell,up,upError\n8001fffffffffff,,E_RES_MISMATCH\n85283473fffffff,8428347ffffffff,\n",
+        "line 2: error 12: E_RES_MISMATCH\n",
+        1,
+    ),
+    (
+        "h3 originsToDirectedEdges --csv --field 1 --keep-going --errors",
+        "8009fffffffffff\nx\n",
+        "8009fffffffffff,12009fffffffffff,\n8009fffffffffff,13009fffffffffff,\n8009fffffffffff,14009fffffffffff,\n8009fffffffffff,15009fffffffffff,\n8009fffffffffff,16009fffffffffff,\nx,,E_FAILED\n",
+        "line 2: error 1: E_FAILED: not an index\n",
+        1,
+    ),
+    (
+        "h3 getResolutions --csv --column cell --keep-going --errors",
+        "cell\nx\n5\"\n",
+        "cell,getResolution,error\nx,,E_FAILED\n",
+        "line 3: error 1: E_FAILED: a quote that is not closed\n",
+        1,
+    ),
+    (
+        "h3 getResolutions --csv --column cell",
+        "cell,n,note\n85283473fffffff,1\n",
+        "cell,n,note,getResolution\n",
+        "line 2: error 1: E_FAILED: 2 fields, the header has 3\n",
+        1,
+    ),
+    (
+        "h3 getResolutions --csv --column cell --ragged",
+        "cell,n,note\n85283473fffffff,1\n85283473fffffff,1,a,b\n",
+        "cell,n,note,getResolution\n85283473fffffff,1,5\n85283473fffffff,1,a,b,5\n",
+        "",
+        0,
+    ),
+    (
+        "h3 getResolutions --csv --column cell --keep-going",
+        "cell,n,note\n85283473fffffff,1\n85283473fffffff,1,a\n,\n",
+        "cell,n,note,getResolution\n85283473fffffff,1,\n85283473fffffff,1,a,5\n,,\n",
+        "line 2: error 1: E_FAILED: 2 fields, the header has 3, and 1 more\n",
+        1,
+    ),
+    (
+        "h3 getResolutions --field 3",
+        "a\tb\n",
+        "",
+        "line 1: error 1: E_FAILED: no such field\n",
+        1,
+    ),
+    (
+        "h3 getResolutions --csv --field 2",
+        "a, \",85283473fffffff\nb, \",85283473fffffff\n",
+        "",
+        "line 1: error 1: E_FAILED: a quote inside a field\n",
+        1,
+    ),
+    (
+        "h3 getResolutions --csv --field 2",
+        "a, \"85283473fffffff\"\n",
+        "a, \"85283473fffffff\",5\n",
+        "",
+        0,
+    ),
+    (
+        "h3 getResolutions --csv --field 2",
+        "a\rb,85283473fffffff\n",
+        "",
+        "line 1: error 1: E_FAILED: a carriage return inside a row\n",
+        1,
+    ),
+    (
+        "h3 getResolutions --field 2",
+        "a\rb\t85283473fffffff\n",
+        "a\rb\t85283473fffffff\t5\n",
+        "",
+        0,
+    ),
+    (
+        "h3 getResolutions --csv --column cell",
+        "id,cell\r\r\n1,85283473fffffff",
+        "id,cell,getResolution\r\r\n1,85283473fffffff,5\r\r\n",
+        "",
+        0,
+    ),
+    (
+        "h3 getResolutions --field 1",
+        "85283473fffffff",
+        "85283473fffffff\t5\n",
+        "",
+        0,
+    ),
+    (
+        "h3 getResolutions --field 1",
+        "85283473fffffff\n\r",
+        "85283473fffffff\t5\n\r\n",
+        "",
+        0,
+    ),
+    (
+        "h3 getResolutions --csv --column cell",
+        "cell,getResolution\n",
+        "",
+        "column: in use\n",
+        3,
+    ),
+    (
+        "h3 getResolutions --csv --column cell --as id",
+        "id,cell\n",
+        "",
+        "column: in use\n",
+        3,
+    ),
+    (
+        "h3 getResolutions --csv --column cell --keep-going --errors",
+        "cell,error\n",
+        "",
+        "column: in use\n",
+        3,
+    ),
+    (
+        "h3 getResolutions --csv --field 9 --header --as id2",
+        "id,cell\n",
+        "id,cell,id2\n",
+        "",
+        0,
+    ),
+    (
+        "h3 uniteCells --csv --column cell",
+        "id,cell\n1,85283473fffffff,x\n",
+        "",
+        "line 2: error 1: E_FAILED: 3 fields, the header has 2\n",
+        1,
+    ),
+    (
+        "h3 uniteCells --csv --column cell --ragged",
+        "id,cell\n1,85283473fffffff,x\n",
+        "85283473fffffff\n",
+        "",
+        0,
+    ),
+];
+
+#[test]
+fn rows_have_their_answers_beside_them(rt: HostRuntime) {
+    for row in &BESIDE {
+        expect(&rt, row.0, ends_in_pieces(rt.alloc(), row));
+    }
+}
+
 /// Whether nothing is written where a read fails, whichever of them does.
 fn fails_at_each_read(alloc: Global, row: &Row) -> bool {
     let failed = (row.0, row.1, "", "fault: read\n", 4);
-    for pulls in 0..row.1.len() as u64 {
-        if !ends(alloc, &failed, 1, Faults::From(pulls), NO_FAULT) {
+    for pulls in 0..row.1.len().div_ceil(5) as u64 {
+        if !ends(alloc, &failed, 5, Faults::From(pulls), NO_FAULT) {
             return false;
         }
     }

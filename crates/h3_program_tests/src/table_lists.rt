@@ -97,7 +97,7 @@ static DESTINATIONS: [Row; 11] = [
     (
         "h3 getDirectedEdgeDestinations --table t --csv --column edge",
         "id,edge\r\n\r\n\"1,2\",\" 115283473FFFFFFF \"\r\n3,\r\n4,1413d3ffffffffff",
-        "id,edge,getDirectedEdgeDestination\r\n\r\n\"1,2\",\" 115283473FFFFFFF \",85283477fffffff\r\n3,,\r\n4,1413d3ffffffffff,813ebffffffffff\n",
+        "id,edge,getDirectedEdgeDestination\r\n\r\n\"1,2\",\" 115283473FFFFFFF \",85283477fffffff\r\n3,,\r\n4,1413d3ffffffffff,813ebffffffffff\r\n",
         "",
     ),
     (
@@ -262,7 +262,7 @@ static WALKS_OF_ROWS: [Row; 6] = [
     (
         "h3 gridDisksDistancesUnsafe -k 1 --table t --csv --column cell",
         "id,cell\n1,85283473fffffff\n2,\n",
-        "id,cell,cell,distance\n1,85283473fffffff,85283473fffffff,0\n1,85283473fffffff,85283447fffffff,1\n1,85283473fffffff,8528347bfffffff,1\n1,85283473fffffff,85283463fffffff,1\n1,85283473fffffff,85283477fffffff,1\n1,85283473fffffff,8528340ffffffff,1\n1,85283473fffffff,8528340bfffffff,1\n2,,,\n",
+        "id,cell,near,distance\n1,85283473fffffff,85283473fffffff,0\n1,85283473fffffff,85283447fffffff,1\n1,85283473fffffff,8528347bfffffff,1\n1,85283473fffffff,85283463fffffff,1\n1,85283473fffffff,85283477fffffff,1\n1,85283473fffffff,8528340ffffffff,1\n1,85283473fffffff,8528340bfffffff,1\n2,,,\n",
         "",
     ),
     (

@@ -35,6 +35,12 @@ pub struct RowOptions {
     /// `--keep-going`.
     pub keeps_going: bool,
 
+    /// Whether each row gets one more new column, the name of its error: `--errors`.
+    pub shows_errors: bool,
+
+    /// Whether rows may have another number of fields than the header: `--ragged`.
+    pub is_ragged: bool,
+
     ghost counted: { is_counted field ≡ true },
     ghost separates: { is_separator separator ≡ true },
 }

@@ -7,16 +7,16 @@ use Rattle.h3_rows.specs.RowsAnswer.{each_with, row_with, rows_with}
 use Rattle.h3_rows.proofs.Finding.{cuts_first}
 use Rattle.h3_lines.specs.PiecesLaws.{cut_at_end, first_piece, uncut_none, uncut_then}
 
-each_first : (separator : ℕ) (line : List ℕ) (a : Piece) (rest ps : List Piece) (p : Piece) → rest ≡ p ∷ ps → each_with separator line (a ∷ rest) ≡ row_with separator line a.0 ++ each_with separator line rest
-each_first separator line a rest ps p is = rw is refl
+each_first : (separator : ℕ) (tail line : List ℕ) (a : Piece) (rest ps : List Piece) (p : Piece) → rest ≡ p ∷ ps → each_with separator tail line (a ∷ rest) ≡ row_with separator line (a.0 ++ tail) ++ each_with separator tail line rest
+each_first separator tail line a rest ps p is = rw is refl
 
-pub first_with : (separator : ℕ) (line text answer after : List ℕ) → CutsAt 10 false false text answer after → rows_with separator line text ≡ row_with separator line answer ++ rows_with separator line after
-first_with separator line text answer after c =
+pub first_with : (separator : ℕ) (tail line text answer after : List ℕ) → CutsAt 10 false false text answer after → rows_with separator tail line text ≡ row_with separator line (answer ++ tail) ++ rows_with separator tail line after
+first_with separator tail line text answer after c =
     let (p, ps, is) = first_piece 10 false false after in
-    ap (each_with separator line) (cuts_first 10 false text answer after c) ∙ each_first separator line (answer, false) (cut 10 false false after) ps p is
+    ap (each_with separator tail line) (cuts_first 10 false text answer after c) ∙ each_first separator tail line (answer, false) (cut 10 false false after) ps p is
 
-pub last_with : (separator : ℕ) (line text : List ℕ) (end : Bool) → Uncut 10 false false text end → rows_with separator line text ≡ []
-last_with separator line text end u = ap (each_with separator line) (cut_at_end 10 false false text u.uncut)
+pub last_with : (separator : ℕ) (tail line text : List ℕ) (end : Bool) → Uncut 10 false false text end → rows_with separator tail line text ≡ []
+last_with separator tail line text end u = ap (each_with separator tail line) (cut_at_end 10 false false text u.uncut)
 
 -- ---- answers one after another
 
@@ -24,33 +24,33 @@ last_with separator line text end u = ap (each_with separator line) (cut_at_end 
 grows : (line : List ℕ) (b : ℕ) → Uncut 10 false false line false → (b == 10) ≡ false → Uncut 10 false false (line ++ b ∷ []) false
 grows line b u other = uncut_then 10 false line (b ∷ []) u (record { uncut = rw other refl; inside_is = refl })
 
-line_first : (separator : ℕ) (row line after : List ℕ) → Uncut 10 false false line false → rows_with separator row (line ++ 10 ∷ after) ≡ row_with separator row line ++ rows_with separator row after
-line_first separator row line after u = first_with separator row (line ++ 10 ∷ after) line after (record { begins = u; split = refl })
+line_first : (separator : ℕ) (tail row line after : List ℕ) → Uncut 10 false false line false → rows_with separator tail row (line ++ 10 ∷ after) ≡ row_with separator row (line ++ tail) ++ rows_with separator tail row after
+line_first separator tail row line after u = first_with separator tail row (line ++ 10 ∷ after) line after (record { begins = u; split = refl })
 
 -- lines, of which the first has begun, and more
-lines_more : (separator : ℕ) (row line front more : List ℕ) → Uncut 10 false false line false
-    → rows_with separator row (line ++ (front ++ 10 ∷ more)) ≡ rows_with separator row (line ++ (front ++ 10 ∷ [])) ++ rows_with separator row more
-lines_more separator row line [] more u =
-    line_first separator row line more u ∙ ap (λ l. l ++ rows_with separator row more) (sym (line_first separator row line [] u ∙ append-nil (row_with separator row line)))
-lines_more separator row line (b ∷ bs) more u =
-    let go : (t : Bool) → (b == 10) ≡ t → rows_with separator row (line ++ (b ∷ (bs ++ 10 ∷ more))) ≡ rows_with separator row (line ++ (b ∷ (bs ++ 10 ∷ []))) ++ rows_with separator row more =
-    λ t. elim t as (λ t. (b == 10) ≡ t → rows_with separator row (line ++ (b ∷ (bs ++ 10 ∷ more))) ≡ rows_with separator row (line ++ (b ∷ (bs ++ 10 ∷ []))) ++ rows_with separator row more) [
+lines_more : (separator : ℕ) (tail row line front more : List ℕ) → Uncut 10 false false line false
+    → rows_with separator tail row (line ++ (front ++ 10 ∷ more)) ≡ rows_with separator tail row (line ++ (front ++ 10 ∷ [])) ++ rows_with separator tail row more
+lines_more separator tail row line [] more u =
+    line_first separator tail row line more u ∙ ap (λ l. l ++ rows_with separator tail row more) (sym (line_first separator tail row line [] u ∙ append-nil (row_with separator row (line ++ tail))))
+lines_more separator tail row line (b ∷ bs) more u =
+    let go : (t : Bool) → (b == 10) ≡ t → rows_with separator tail row (line ++ (b ∷ (bs ++ 10 ∷ more))) ≡ rows_with separator tail row (line ++ (b ∷ (bs ++ 10 ∷ []))) ++ rows_with separator tail row more =
+    λ t. elim t as (λ t. (b == 10) ≡ t → rows_with separator tail row (line ++ (b ∷ (bs ++ 10 ∷ more))) ≡ rows_with separator tail row (line ++ (b ∷ (bs ++ 10 ∷ []))) ++ rows_with separator tail row more) [
       | true ↦ λ is. (
           let feed : b ≡ 10 = eqb-true b 10 is in
-          let first : (l : List ℕ) → rows_with separator row (line ++ (b ∷ l)) ≡ row_with separator row line ++ rows_with separator row l = λ l. ap (λ x. rows_with separator row (line ++ (x ∷ l))) feed ∙ line_first separator row line l u in
-          first (bs ++ 10 ∷ more) ∙ ap (λ l. row_with separator row line ++ l) (lines_more separator row [] bs more (uncut_none 10 false false)) ∙ sym (append_assoc (row_with separator row line) (rows_with separator row (bs ++ 10 ∷ [])) (rows_with separator row more))
-          ∙ ap (λ l. l ++ rows_with separator row more) (sym (first (bs ++ 10 ∷ []))))
+          let first : (l : List ℕ) → rows_with separator tail row (line ++ (b ∷ l)) ≡ row_with separator row (line ++ tail) ++ rows_with separator tail row l = λ l. ap (λ x. rows_with separator tail row (line ++ (x ∷ l))) feed ∙ line_first separator tail row line l u in
+          first (bs ++ 10 ∷ more) ∙ ap (λ l. row_with separator row (line ++ tail) ++ l) (lines_more separator tail row [] bs more (uncut_none 10 false false)) ∙ sym (append_assoc (row_with separator row (line ++ tail)) (rows_with separator tail row (bs ++ 10 ∷ [])) (rows_with separator tail row more))
+          ∙ ap (λ l. l ++ rows_with separator tail row more) (sym (first (bs ++ 10 ∷ []))))
       | false ↦ λ other. (
           let next : (l : List ℕ) → line ++ (b ∷ l) ≡ (line ++ b ∷ []) ++ l = λ l. sym (append_assoc line (b ∷ []) l) in
-          ap (rows_with separator row) (next (bs ++ 10 ∷ more)) ∙ lines_more separator row (line ++ b ∷ []) bs more (grows line b u other) ∙ ap (λ l. rows_with separator row l ++ rows_with separator row more) (sym (next (bs ++ 10 ∷ []))))
+          ap (rows_with separator tail row) (next (bs ++ 10 ∷ more)) ∙ lines_more separator tail row (line ++ b ∷ []) bs more (grows line b u other) ∙ ap (λ l. rows_with separator tail row l ++ rows_with separator tail row more) (sym (next (bs ++ 10 ∷ []))))
     ] in
     go (b == 10) refl
 
-pub with_more : (separator : ℕ) (row text more : List ℕ) → AreLines text → rows_with separator row (text ++ more) ≡ rows_with separator row text ++ rows_with separator row more
-with_more separator row text more (inl none) = rw none refl
-with_more separator row text more (inr (front, is)) =
-    ap (λ l. rows_with separator row (l ++ more)) is ∙ ap (rows_with separator row) (append_assoc front (10 ∷ []) more) ∙ lines_more separator row [] front more (uncut_none 10 false false)
-    ∙ ap (λ l. rows_with separator row l ++ rows_with separator row more) (sym is)
+pub with_more : (separator : ℕ) (tail row text more : List ℕ) → AreLines text → rows_with separator tail row (text ++ more) ≡ rows_with separator tail row text ++ rows_with separator tail row more
+with_more separator tail row text more (inl none) = rw none refl
+with_more separator tail row text more (inr (front, is)) =
+    ap (λ l. rows_with separator tail row (l ++ more)) is ∙ ap (rows_with separator tail row) (append_assoc front (10 ∷ []) more) ∙ lines_more separator tail row [] front more (uncut_none 10 false false)
+    ∙ ap (λ l. rows_with separator tail row l ++ rows_with separator tail row more) (sym is)
 
 -- the lines of items
 pub all_lines : {I : Type 0} (line : I → List ℕ) → ((i : I) → AreLines (line i)) → (items : List I) → AreLines (flat_map line items)
@@ -59,17 +59,3 @@ all_lines line are (i ∷ items) = elim (all_lines line are items) [
   | inl none ↦ subst AreLines (sym (ap (λ l. line i ++ l) none ∙ append-nil (line i))) (are i)
   | inr (front, is) ↦ inr (line i ++ front, ap (λ l. line i ++ l) is ∙ sym (append_assoc (line i) front (10 ∷ [])))
 ]
-
--- the bytes of a header with two names, by parts
-pub names_put : (held body first second more ending names : List ℕ) (separator : ℕ) → names ≡ first ++ (separator ∷ (second ++ more))
-    → ((held ++ (body ++ (separator ∷ (first ++ [])))) ++ ([] ++ (separator ∷ (second ++ more)))) ++ ending ≡ held ++ (body ++ (separator ∷ (names ++ ending)))
-names_put held body first second more ending names separator is =
-    let last = separator ∷ (second ++ more) in
-    let front : body ++ (separator ∷ (first ++ [])) ≡ body ++ (separator ∷ first) = ap (λ l. body ++ (separator ∷ l)) (append-nil first) in
-    ap (λ l. ((held ++ l) ++ last) ++ ending) front ∙ append_assoc (held ++ (body ++ (separator ∷ first))) last ending ∙ append_assoc held (body ++ (separator ∷ first)) (last ++ ending)
-    ∙ ap (λ l. held ++ l) (append_assoc body (separator ∷ first) (last ++ ending) ∙ ap (λ l. body ++ (separator ∷ l)) (sym (append_assoc first last ending) ∙ ap (λ l. l ++ ending) (sym is)))
-
--- the bytes of a row that is put part by part
-pub row_bytes : (held row answer ending : List ℕ) (separator : ℕ) → (((held ++ row) ++ (separator ∷ [])) ++ answer) ++ ending ≡ held ++ (row ++ (separator ∷ (answer ++ ending)))
-row_bytes held row answer ending separator =
-    append_assoc ((held ++ row) ++ (separator ∷ [])) answer ending ∙ append_assoc (held ++ row) (separator ∷ []) (answer ++ ending) ∙ append_assoc held row (separator ∷ (answer ++ ending))

@@ -1,17 +1,20 @@
 -- How the answering of rows ends.
-use Rattle.std.proofs.Common.{◌≡◌, ℕ, ◌^◌, ◌⊎◌, Bool, true, List, [], length, Option, Result, Ok, Err, sym, refl, subst, inl, inr}
+use Rattle.std.proofs.Common.{◌≡◌, ℕ, ◌^◌, ◌⊎◌, Bool, true, List, [], ◌++◌, length, Option, Result, Ok, Err, sym, refl, subst, inl, inr}
 use Rattle.h3_lines.specs.Answer.{Answer, written}
 use Rattle.h3_lines.specs.Answering.{Answered, RefusesEach}
 use Rattle.h3_lines.specs.Ending.{AnswersAll}
 use Rattle.h3_lines.specs.EndingLaws.{ends_early as early, last_written}
 use Rattle.h3_lines.specs.Pieces.{Piece, pieces_of}
-use Rattle.h3_lines.specs.Splitting.{StopsReading, StopsTaking, TakesAll}
+use Rattle.h3_lines.specs.Splitting.{Completes, StopsReading, StopsTaking, TakesEnded}
+use Rattle.h3_lines.specs.SplittingLaws.{ended_refused}
 use Rattle.h3_lines.specs.Write.{SinkUse, Writes, sink_use}
 use Rattle.h3_lines.specs.declared.run_error.Fault.TheVariants.{Memory, Read, Write}
 use Rattle.h3_lines.specs.declared.run_error.RunError.{RunError}
 use Rattle.h3_lines.specs.declared.run_error.RunError.TheVariants.{Error, Fault}
 use Rattle.h3_rows.specs.Each.{EndsRows, EndsRowsEarly, by_rows}
-use Rattle.h3_rows.specs.RowsAnswer.{State}
+use Rattle.h3_rows.specs.Row.{list_rows}
+use Rattle.h3_rows.specs.RowsAnswer.{Form, State, begun_answer, end_of, rows_answer, rows_then, start}
+use Rattle.h3_rows.proofs.LastRow.{list_completes}
 
 -- what is last where more rows may come
 abbrev pub nothing_last : State → Answer
@@ -36,35 +39,62 @@ module _ {S V : Type 0} (qs : Bool) (taken : S → Option (List ℕ)) (failed : 
     (empty : (v : V) → settled v → held v ≡ []) where
   -- a read fails, or a row ends the answer, or a write fails
   pub ends_early : (last : State → Answer) (v w : V) (old new : Option (List ℕ)) (had has : Bool) (e : RunError) → held v ≡ []
-      → ((e ≡ Fault Read) × StopsReading qs 65536 takes settled v w old new (has ≡ true) (2 ^ 40)) ⊎ (StopsTaking qs 65536 takes refused settled v w e old new (2 ^ 40) 65536 × (has ≡ had))
+      → ((e ≡ Fault Read) × StopsReading qs 1114111 takes settled v w old new (has ≡ true) (2 ^ 40)) ⊎ (StopsTaking qs (list_rows qs) 1114111 takes refused settled v w e old new (2 ^ 40) 65536 × (has ≡ had))
       → EndsRows qs (answer_of v last (state v)) (answer_of v nothing_last (state v)) old new had has (Err e) (sink_use taken failed (out v) (out w))
   ends_early last v w old new had has e none stops =
       let ends : EndsRowsEarly qs (answer_of v last (state v)) (answer_of v nothing_last (state v)) old new has e (sink_use taken failed (out v) (out w)) =
-      early qs 65536 taken failed answer_of nothing_last (λ v s. none_left v nothing_last s) state held out takes refused settled answers same refuses empty
+      early qs (list_rows qs) 1114111 taken failed answer_of nothing_last (λ v s. none_left v nothing_last s) state held out takes refused settled answers same refuses empty
       (pieces_of qs) (λ ps. ps) (λ p. p) (λ bytes ended last is. is) (λ p. length p.0) (λ p. refl) v w last none (answer_of v nothing_last (state v)) (λ ls. refl) (by_rows qs (answer_of v last (state v))) (λ bytes. refl) old new had has e stops in
       rows_early qs (answer_of v last (state v)) (answer_of v nothing_last (state v)) old new had has e _ stops ends
 
-  all_answered : (last : State → Answer) (v w : V) (u : S) (old new : Option (List ℕ)) (r : Result (Unit {0}) RunError) → held v ≡ [] → TakesAll qs takes v w old new (2 ^ 40) 65536 → settled w
-      → Writes (last (state w)) r (sink_use taken failed (out w) u) → AnswersAll (by_rows qs (answer_of v last (state v))) old new r (sink_use taken failed (out v) u)
-  all_answered last v w u old new r none all settles writes = record {
-    list = all.bytes;
-    held = all.held;
-    told = all.told;
-    within = all.within;
-    writes = last_written taken failed (answer_of v) (answers v w _ all.takes) none (empty w settles) last u r (subst (λ b. Writes b r (sink_use taken failed (out w) u)) (sym (none_left v last (state w))) writes);
-  }
+  -- the same before the end of the source
+  pub ends_before : (last : State → Answer) (v w : V) (old new : Option (List ℕ)) (had has : Bool) (e : RunError) → held v ≡ []
+      → ((e ≡ Fault Read) × StopsReading qs 1114111 takes settled v w old new (has ≡ true) (2 ^ 40))
+      ⊎ (((rows_in : List ℕ → List Piece) → Completes qs rows_in → StopsTaking qs rows_in 1114111 takes refused settled v w e old new (2 ^ 40) 65536) × (has ≡ had))
+      → EndsRows qs (answer_of v last (state v)) (answer_of v nothing_last (state v)) old new had has (Err e) (sink_use taken failed (out v) (out w))
+  ends_before last v w old new had has e none (inl stops) = ends_early last v w old new had has e none (inl stops)
+  ends_before last v w old new had has e none (inr (stops, kept)) = ends_early last v w old new had has e none (inr (stops (list_rows qs) (list_completes qs), kept))
+
+  -- all bytes are read, and the last row ends the answer, or a write fails
+  pub ends_last : (last : State → Answer) (v w x : V) {left : List ℕ} {inside : Bool} (old new : Option (List ℕ)) (had has : Bool) (e : RunError) (more : List Piece) → held v ≡ [] → (t : TakesEnded qs 1114111 takes v w left inside old new (2 ^ 40) 65536)
+      → list_rows qs t.bytes ≡ t.ended ++ more → settled w → has ≡ had → refused w more x e
+      → EndsRows qs (answer_of v last (state v)) (answer_of v nothing_last (state v)) old new had has (Err e) (sink_use taken failed (out v) (out x))
+  ends_last last v w x old new had has e more none t rows settles sound refuses =
+      ends_early last v x old new had has e none (inr (ended_refused qs 1114111 takes (list_rows qs) t more rows refused settled settles refuses, sound))
+
+  module _ (last : State → Answer) (v w x : V) (u : S) {left : List ℕ} {inside : Bool} (old new : Option (List ℕ)) (r : Result (Unit {0}) RunError) (more : List Piece) (none : held v ≡ []) (t : TakesEnded qs 1114111 takes v w left inside old new (2 ^ 40) 65536)
+      (rows : list_rows qs t.bytes ≡ t.ended ++ more) (answered : Answered taken failed (answer_of v) (state v) (state x) (held v) (held x) (out v) (out x) (t.ended ++ more)) (settles : settled x) (writes : Writes (last (state x)) r (sink_use taken failed (out x) u)) where
+    all_answered : AnswersAll (by_rows qs (answer_of v last (state v))) old new r (sink_use taken failed (out v) u)
+    all_answered =
+        let end : Writes (answer_of v last (state x) []) r (sink_use taken failed (out x) u) = subst (λ b. Writes b r (sink_use taken failed (out x) u)) (sym (none_left v last (state x))) writes in
+        record {
+          list = t.bytes;
+          held = t.held;
+          told = t.told;
+          within = t.within;
+          writes = subst (λ ls. Writes (answer_of v last (state v) ls) r (sink_use taken failed (out v) u)) (sym rows) (last_written taken failed (answer_of v) answered none (empty x settles) last u r end);
+        }
 
   -- all rows are answered, and then what is last is written
-  pub ends_late : (last : State → Answer) (v w : V) (u : S) (old new : Option (List ℕ)) (had has : Bool) (r : Result (Unit {0}) RunError) → held v ≡ [] → TakesAll qs takes v w old new (2 ^ 40) 65536 → settled w → has ≡ had
-      → Writes (last (state w)) r (sink_use taken failed (out w) u) → EndsRows qs (answer_of v last (state v)) (answer_of v nothing_last (state v)) old new had has r (sink_use taken failed (out v) u)
+  pub ends_late : (last : State → Answer) (v w x : V) (u : S) {left : List ℕ} {inside : Bool} (old new : Option (List ℕ)) (had has : Bool) (r : Result (Unit {0}) RunError) (more : List Piece) → held v ≡ [] → (t : TakesEnded qs 1114111 takes v w left inside old new (2 ^ 40) 65536)
+      → list_rows qs t.bytes ≡ t.ended ++ more → Answered taken failed (answer_of v) (state v) (state x) (held v) (held x) (out v) (out x) (t.ended ++ more) → settled x → has ≡ had
+      → Writes (last (state x)) r (sink_use taken failed (out x) u) → EndsRows qs (answer_of v last (state v)) (answer_of v nothing_last (state v)) old new had has r (sink_use taken failed (out v) u)
   unfolding Writes
-  ends_late last v w u old new had has (Ok x) none all settles sound writes = (sound, all_answered last v w u old new (Ok x) none all settles writes)
-  ends_late last v w u old new had has (Err (Error e)) none all settles sound writes = (sound, inl (all_answered last v w u old new (Err (Error e)) none all settles writes))
-  ends_late last v w u old new had has (Err (Fault Write)) none all settles sound writes = (sound, inl (all_answered last v w u old new (Err (Fault Write)) none all settles writes))
-  ends_late last v w u old new had has (Err (Fault Read)) none all settles sound never = absurd never
-  ends_late last v w u old new had has (Err (Fault Memory)) none all settles sound never = absurd never
+  ends_late last v w x u old new had has (Ok y) more none t rows answered settles sound writes = (sound, all_answered last v w x u old new (Ok y) more none t rows answered settles writes)
+  ends_late last v w x u old new had has (Err (Error e)) more none t rows answered settles sound writes = (sound, inl (all_answered last v w x u old new (Err (Error e)) more none t rows answered settles writes))
+  ends_late last v w x u old new had has (Err (Fault Write)) more none t rows answered settles sound writes = (sound, inl (all_answered last v w x u old new (Err (Fault Write)) more none t rows answered settles writes))
+  ends_late last v w x u old new had has (Err (Fault Read)) more none t rows answered settles sound never = absurd never
+  ends_late last v w x u old new had has (Err (Fault Memory)) more none t rows answered settles sound never = absurd never
 
 -- the same of what the source is then
-pub ends_at : {R : Type 0} (left : R → Option (List ℕ)) (failed : R → Bool) (after x : R) (qs : Bool) (whole begun : List Piece → Answer) (old : Option (List ℕ)) (had : Bool) (r : Result (Unit {0}) RunError) (sink : SinkUse) → x ≡ after
+ends_at : {R : Type 0} (left : R → Option (List ℕ)) (failed : R → Bool) (after x : R) (qs : Bool) (whole begun : List Piece → Answer) (old : Option (List ℕ)) (had : Bool) (r : Result (Unit {0}) RunError) (sink : SinkUse) → x ≡ after
     → EndsRows qs whole begun old (left after) had (failed after) r sink → EndsRows qs whole begun old (left x) had (failed x) r sink
 ends_at left failed after x qs whole begun old had r sink is ends = subst (λ s. EndsRows qs whole begun old (left s) had (failed s) r sink) (sym is) ends
+
+-- from the beginning of a list
+pub ends_from : {R : Type 0} (left : R → Option (List ℕ)) (failed : R → Bool) (after x : R) (qs : Bool) (form : Form) (answer : Option ℕ → Answer) (s : State) (old : Option (List ℕ)) (had : Bool) (r : Result (Unit {0}) RunError) (sink : SinkUse) → x ≡ after → s ≡ start form
+    → EndsRows qs (rows_then (λ t. end_of form.choice t t.columns) form answer s) (rows_then nothing_last form answer s) old (left after) had (failed after) r sink
+    → EndsRows qs (rows_answer form answer) (begun_answer form answer) old (left x) had (failed x) r sink
+ends_from left failed after x qs form answer s old had r sink is first ends =
+    ends_at left failed after x qs (rows_answer form answer) (begun_answer form answer) old had r sink is
+    (subst (λ t. EndsRows qs (rows_then (λ t. end_of form.choice t t.columns) form answer t) (rows_then nothing_last form answer t) old (left after) had (failed after) r sink) first ends)

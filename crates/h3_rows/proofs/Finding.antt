@@ -1,5 +1,5 @@
 -- Fields that are found.
-use Rattle.std.proofs.Common.{◌≡◌, ℕ, zero, suc, ◌-◌, ◌<◌, ◌==◌, Bool, true, false, List, [], ◌∷◌, None, Some, ap, ◌∙◌, arith}
+use Rattle.std.proofs.Common.{◌≡◌, ℕ, zero, suc, ◌+◌, ◌-◌, ◌<◌, ◌≤◌, ◌==◌, Bool, true, false, List, [], ◌∷◌, Option, None, Some, MatchOption, Bor, ap, ◌∙◌, arith}
 use Rattle.std.proofs.lemmas.Bool.Decides.{nat_tests}
 use Rattle.h3_lines.specs.Pieces.{Piece, cut, inside_after, CutsAt, Uncut}
 use Rattle.h3_rows.specs.Row.{piece_at}
@@ -28,3 +28,39 @@ field_here mark quotes bytes before after k is c = rw is (ap (piece_at 0) (cuts_
 
 pub field_last : (mark : ℕ) (quotes end : Bool) (bytes : List ℕ) (k : ℕ) → k ≡ 0 → Uncut mark quotes false bytes end → piece_at k (cut mark quotes false bytes) ≡ Some bytes
 field_last mark quotes end bytes k is u = rw is (ap (piece_at 0) (cut_at_end mark quotes false bytes u.uncut))
+
+-- ---- a field that is looked for while all are counted
+
+module _ (mark : ℕ) (quotes : Bool) (row : List ℕ) (before : ℕ) where
+  -- so many fields are passed over, and the field after others is among them, or is still to come
+  abbrev pub Finds : ℕ → List ℕ → Option (Bor (List ℕ)) → Type 0
+  Finds passed rest found = MatchOption found
+      ((passed ≤ before) × (piece_at before (cut mark quotes false row)
+      ≡ piece_at (before - passed) (cut mark quotes false rest)))
+      (λ f. (before < passed) × (piece_at before (cut mark quotes false row) ≡ Some f.now))
+
+  pub finds_here : (passed : ℕ) (rest : List ℕ) (found : Option (Bor (List ℕ))) → passed ≡ before
+      → Finds passed rest found
+      → piece_at before (cut mark quotes false row) ≡ piece_at 0 (cut mark quotes false rest)
+  finds_here passed rest None here (up, is) = let none : before - passed ≡ 0 = omega (arith, here) in is
+      ∙ ap (λ k. piece_at k (cut mark quotes false rest)) none
+  finds_here passed rest (Some f) here (past, is) = absurd (omega (arith, here, past))
+
+  pub finds_later : (passed : ℕ) (rest field after : List ℕ) (found : Option (Bor (List ℕ))) → (passed ≡ before → ⊥)
+      → CutsAt mark quotes false rest field after → Finds passed rest found → Finds (passed + 1) after found
+  finds_later passed rest field after None other cuts (up, is) =
+      let some : 0 < before - passed = omega (arith, other, up) in
+      let less : before - passed - 1 ≡ before - (passed + 1) = omega arith in (
+        omega (arith, other, up),
+        is ∙ field_passed mark quotes rest field after (before - passed) some cuts
+            ∙ ap (λ k. piece_at k (cut mark quotes false after)) less,
+      )
+  finds_later passed rest field after (Some f) other cuts (past, is) = (omega (arith, past), is)
+
+  pub finds_end : (passed : ℕ) (rest : List ℕ) (end : Bool) (found : Option (Bor (List ℕ))) → (passed ≡ before → ⊥)
+      → Uncut mark quotes false rest end → Finds passed rest found
+      → MatchOption found (piece_at before (cut mark quotes false row) ≡ None)
+      (λ f. piece_at before (cut mark quotes false row) ≡ Some f.now)
+  finds_end passed rest end None other whole (up, is) = is
+      ∙ no_field mark quotes end rest (before - passed) (omega (arith, other, up)) whole
+  finds_end passed rest end (Some f) other whole (past, is) = is

@@ -1,11 +1,11 @@
 -- Rows with answers, cut again.
-use Rattle.std.proofs.Common.{◌≡◌, ℕ, ◌+◌, ◌-◌, ◌==◌, Bool, true, false, not, ◌&&◌, List, [], ◌∷◌, ◌++◌, length, take, get_or, if◌then◌else◌, sym, ap, ◌∙◌, refl, append_assoc, eqb-true, take_all, arith}
+use Rattle.std.proofs.Common.{◌≡◌, ℕ, ◌==◌, Bool, true, false, not, ◌&&◌, List, [], ◌∷◌, ◌++◌, if◌then◌else◌, sym, ap, ◌∙◌, refl, append_assoc, arith}
 use Rattle.std.proofs.lemmas.Bool.Decides.{nat_tests}
-use Rattle.std.proofs.lemmas.List.{take_more}
 use Rattle.h3_rows.specs.Laws.{FieldsAreKept, PairsAreKept, RowsAreWhole}
 use Rattle.h3_lines.specs.Pieces.{Piece, cut, inside_after, turned, with_first}
-use Rattle.h3_rows.specs.Row.{ends_in_return}
+use Rattle.h3_rows.specs.Row.{returns_of, row_body}
 use Rattle.h3_rows.proofs.Finding.{same_mark}
+use Rattle.h3_rows.proofs.Returns.{body_then_returns}
 use Rattle.h3_lines.specs.PiecesLaws.{and_false, cut_at_end, first_piece}
 
 with_first-append : (b : ℕ) (ps qs : List Piece) (p : Piece) (more : List Piece) → ps ≡ p ∷ more → with_first b (ps ++ qs) ≡ with_first b ps ++ qs
@@ -54,20 +54,5 @@ pairs_are_kept separator quotes row a b other closed uncut outside uncut' outsid
     let second : cut separator quotes false b ≡ (b, false) ∷ [] = cut_at_end separator quotes false b uncut' ∙ ap (λ o. (b, o) ∷ []) outside' in
     cut-append separator quotes other false row (a ++ (separator ∷ b)) closed ∙ ap (λ l. cut separator quotes false row ++ l) (cut-append separator quotes other false a b outside ∙ ap (λ l. l ++ cut separator quotes false b) first ∙ ap (λ l. (a, false) ∷ l) second)
 
-pub return_last : (line : List ℕ) → (get_or line (length line - 1) 0 == 13) ≡ true → line ≡ take (length line - 1) line ++ 13 ∷ []
-return_last [] is = absurd (cc)
-return_last (x ∷ xs) is =
-    let line = x ∷ xs in
-    let same : get_or line (length line - 1) 0 ≡ 13 = eqb-true (get_or line (length line - 1) 0) 13 is in
-    let on : length line - 1 + 1 ≡ length line = omega arith in
-    let last : take (length line - 1 + 1) line ≡ take (length line - 1) line ++ get_or line (length line - 1) 0 ∷ [] = take_more line (length line - 1) 0 (omega arith) in
-    sym (take_all (length line) line (omega arith)) ∙ ap (λ n. take n line) (sym on) ∙ last ∙ ap (λ b. take (length line - 1) line ++ b ∷ []) same
-
 pub rows_are_whole : RowsAreWhole
-rows_are_whole line =
-    let go : (t : Bool) → ends_in_return line ≡ t → (if t then take (length line - 1) line else line) ++ ((if t then 13 ∷ [] else []) ++ 10 ∷ []) ≡ line ++ 10 ∷ [] =
-    λ t. elim t as (λ t. ends_in_return line ≡ t → (if t then take (length line - 1) line else line) ++ ((if t then 13 ∷ [] else []) ++ 10 ∷ []) ≡ line ++ 10 ∷ []) [
-      | true ↦ λ is. sym (append_assoc (take (length line - 1) line) (13 ∷ []) (10 ∷ [])) ∙ ap (λ l. l ++ 10 ∷ []) (sym (return_last line is))
-      | false ↦ λ is. refl
-    ] in
-    go (ends_in_return line) refl
+rows_are_whole line = sym (append_assoc (row_body line) (returns_of line) (10 ∷ [])) ∙ ap (λ l. l ++ 10 ∷ []) (body_then_returns line)

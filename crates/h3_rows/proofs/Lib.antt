@@ -1,3 +1,4 @@
+pub mod Alike
 pub mod Beside
 pub mod Blanks
 pub mod Blocks
@@ -5,10 +6,14 @@ pub mod EndsRows
 pub mod Feeds
 pub mod Finding
 pub mod Kept
+pub mod LastRow
 pub mod Masks
+pub mod Naming
+pub mod Parts
 pub mod PlainAnswers
 pub mod PlainRows
 pub mod ReadBack
+pub mod Returns
 pub mod Stand
 pub mod Steps
 pub mod TakenCells

@@ -1,7 +1,7 @@
 -- Plain rows that are put with the one line that answers their cell.
-use Rattle.std.proofs.Common.{◌≡◌, ℕ, ◌+◌, ◌-◌, ◌<◌, ◌≤◌, ◌==◌, nat_lt, nat_le, Bool, true, false, not, ◌&&◌, if◌then◌else◌, List, [], ◌∷◌, ◌++◌, length, take, drop, get_or, Option, Some, Ok, sym, ap, ◌∙◌, refl, append_assoc, append-nil, length-append, length-take, eqb-true, arith}
+use Rattle.std.proofs.Common.{◌≡◌, ℕ, ◌+◌, ◌-◌, ◌<◌, ◌≤◌, ◌==◌, nat_lt, nat_le, Bool, true, false, not, ◌&&◌, if◌then◌else◌, List, [], ◌∷◌, ◌++◌, length, take, drop, get_or, replicate, Option, None, Some, Ok, sym, ap, ◌∙◌, refl, append_assoc, append-nil, length-append, length-take, eqb-true, arith}
 use Rattle.std.proofs.KnownBytes.{Appends-nil}
-use Rattle.std.proofs.Math.Seq.{drop-append-add, drop-append_seam}
+use Rattle.std.proofs.Math.Seq.{drop-append-add, drop-append_seam, take-append_seam}
 use Rattle.std.proofs.lemmas.Bool.Decides.{nat_tests}
 use Rattle.std.proofs.lemmas.List.{length-take-le, take-append-le, take-take}
 use Rattle.std.proofs.lemmas.List.Elements.{All-get_or}
@@ -16,15 +16,17 @@ use Rattle.h3_lines.specs.Answering.{Answered}
 use Rattle.h3_rows.specs.Answering.{PutsPlain, held_of, state_of}
 use Rattle.h3_rows.specs.Lanes.{IsOneLine}
 use Rattle.h3_rows.specs.Plain.{IsPlainRow}
-use Rattle.h3_rows.specs.Row.{ends_in_return, field_text, next_number, read_of, row_body, unquoted}
-use Rattle.h3_rows.specs.RowsAnswer.{Form, Step, goes_on, is_malformed, row_said, row_step, row_with, rows_then, rows_with, text_said}
+use Rattle.h3_rows.specs.Row.{field_text, next_number, read_of, returns_of, row_body, unquoted}
+use Rattle.h3_rows.specs.RowsAnswer.{Form, Step, answered_with, goes_on, malformed, row_said, row_step, row_with, rows_then, text_said}
 use Rattle.h3_lines.specs.Pieces.{CutsAt, pieces_of}
 use Rattle.h3_rows.specs.declared.said.Said.TheVariants.{Index}
+use Rattle.h3_rows.specs.declared.state.Columns.{Columns}
 use Rattle.h3_rows.specs.declared.state.RowState.{RowState}
 use Rattle.h3_rows.proofs.Beside.{first_with, last_with}
 use Rattle.h3_rows.proofs.Blanks.{other_last}
 use Rattle.h3_lines.specs.PiecesLaws.{cut_at_mark, uncut_none}
-use Rattle.h3_rows.proofs.PlainRows.{plain_feeds, plain_sound, plain_uncut, quiet_uncut}
+use Rattle.h3_rows.proofs.PlainRows.{feedless_uncut, plain_body, plain_feeds, plain_returnless, plain_sound, plain_uncut}
+use Rattle.h3_rows.proofs.Returns.{body_of_row, returns_of_row, row_length}
 use Rattle.h3_rows.proofs.Steps.{passed_is}
 use Rattle.h3_rows.proofs.Texts.{text_said_parsed}
 
@@ -60,54 +62,91 @@ digits_text : (quotes : Bool) (field : List ℕ) → list_all (λ b. is_digit b 
 digits_text true field h = ap unquoted (digits_trimmed field h) ∙ digits_unquoted field h
 digits_text false field h = digits_trimmed field h
 
+pub some_from_test : (l : List ℕ) (b : Bool) → b ≡ (length l == 0) → b ≡ false → 0 < length l
+some_from_test [] b is h = absurd (cc (is, h))
+some_from_test (x ∷ xs) b is h = omega arith
+
 -- ---- the row
 
-module _ (form : Form) (answer : Option ℕ → Answer) (s : RowState) (k : ℕ) (known : s.before ≡ Some k) (later : s.number ≡ 1 → ⊥) where
+module _ (form : Form) (answer : Option ℕ → Answer) (s : RowState) (k : Columns) (known : s.columns ≡ Some k) (later : s.number ≡ 1 → ⊥) (silent : form.shows_errors ≡ false) where
   not_first : (s.number == 1) ≡ false
   not_first = grind (arith, nat_tests)
 
-  module _ (bytes row field held : List ℕ) (p : IsPlainRow form.separator form.quotes k bytes row field) (ends : ends_in_return row ≡ false) (some : 0 < length row) (few : length row ≤ 32768) where
-    body : row_body row ≡ row
-    body = rw ends refl
+  module _ (bytes row field held : List ℕ) (n : ℕ) (p : IsPlainRow form.separator form.quotes k bytes row n field)
+      (some : 0 < length row) (few : length row ≤ 32768) where
+    abbrev line : List ℕ
+    line = row ++ replicate n 13
+
+    body : row_body line ≡ row
+    body = body_of_row row n (plain_body form.quotes row p.plain)
 
     read : read_of s.number row ≡ row
     read = rw not_first refl
 
-    sound : is_malformed form s.number (row, false) ≡ false
+    sound : malformed form s.number (line, false) ≡ None
     sound =
-        let short : nat_lt 65535 (length row) ≡ false = grind (arith, nat_tests) in
-        rw (body, read, short, plain_sound form.separator form.quotes row p.plain) refl
+        let short : nat_lt 1048575 (length row) ≡ false = grind (arith, nat_tests) in
+        let less : length line ≤ 1114111 = omega (arith, row_length row n, p.few, few) in
+        let small : nat_lt 1114111 (length line) ≡ false = grind (arith, nat_tests) in
+        rw (body, read, short, small, plain_returnless form.quotes row p.plain, plain_sound form.separator form.quotes row p.plain) refl
 
-    said : (index : ℕ) → list_all (λ b. is_digit b 16) field ≡ true → parsed_index field ≡ Some index → row_said form s.number k row ≡ Ok (Index (Some index))
-    said index digits parses = rw (read, p.field_is) (ap (λ t. Ok (text_said t)) (digits_text form.quotes field digits) ∙ ap Ok (sym (text_said_parsed field index parses)))
+    said : (index : ℕ) → list_all (λ b. is_digit b 16) field ≡ true → parsed_index field ≡ Some index → row_said form s.number k row ≡ Ok (Index index)
+    said index digits parses = rw (read, p.as_wide, p.field_is) (ap text_said (digits_text form.quotes field digits) ∙ sym (text_said_parsed field index parses))
 
     steps : (index : ℕ) (text : List ℕ) → list_all (λ b. is_digit b 16) field ≡ true → parsed_index field ≡ Some index → answer (Some index) ≡ written text
-        → row_step form answer (state_of s held) (row, false) ≡ goes_on (state_of s held) row (rows_with form.separator row text)
+        → row_step form answer (state_of s held) (line, false)
+        ≡ goes_on (state_of s held) line (answered_with form line text)
     steps index text digits parses is =
         let filled : (length row == 0) ≡ false = grind (arith, nat_tests) in
         rw (known, sound, body, filled, said index digits parses, is) refl
 
-    one_row : (text : List ℕ) → IsOneLine text → rows_with form.separator row text ≡ row ++ (form.separator ∷ text)
+    one_row : (text : List ℕ) (l : IsOneLine text) → answered_with form line text
+        ≡ row ++ (form.separator ∷ (l.line ++ (replicate n 13 ++ 10 ∷ [])))
     one_row text l =
-        let cuts : CutsAt 10 false false text l.line [] = record { begins = quiet_uncut 10 false l.line l.whole; split = l.split } in
-        let with : row_with form.separator row l.line ≡ row ++ (form.separator ∷ (l.line ++ 10 ∷ [])) = rw ends refl in
-        first_with form.separator row text l.line [] cuts ∙ ap (λ r. row_with form.separator row l.line ++ r) (last_with form.separator row [] false (uncut_none 10 false false)) ∙ append-nil (row_with form.separator row l.line)
-        ∙ with ∙ ap (λ t. row ++ (form.separator ∷ t)) (sym l.split)
+        let cuts : CutsAt 10 false false text l.line [] = record { begins = feedless_uncut l.line l.whole; split = l.split } in
+        let ends : returns_of line ≡ replicate n 13 = returns_of_row row n (plain_body form.quotes row p.plain) in
+        let with : row_with form.separator line (l.line ++ [])
+        ≡ row ++ (form.separator ∷ (l.line ++ (replicate n 13 ++ 10 ∷ [])))
+        = ap (λ t. row_with form.separator line t) (append-nil l.line) ∙ rw (body, ends) refl in
+        rw silent (first_with form.separator [] line text l.line [] cuts
+        ∙ ap (λ r. row_with form.separator line (l.line ++ []) ++ r)
+        (last_with form.separator [] line [] false (uncut_none 10 false false))
+        ∙ append-nil (row_with form.separator line (l.line ++ []))
+        ∙ with)
 
-  pub puts_plain : (bytes row field held held' text : List ℕ) (index : ℕ) → IsPlainRow form.separator form.quotes k bytes row field → list_all (λ b. is_digit b 16) field ≡ true → parsed_index field ≡ Some index
-      → length row ≤ 32768 → 0 < length row → ends_in_return row ≡ false → answer (Some index) ≡ written text → IsOneLine text
-      → held' ≡ (held ++ (row ++ form.separator ∷ [])) ++ text → PutsPlain form answer s bytes held held' (length row)
-  puts_plain bytes row field held held' text index p digits parses few some ends is line put =
+  pub puts_plain : (bytes row field held held' text : List ℕ) (n index : ℕ)
+      → IsPlainRow form.separator form.quotes k bytes row n field → list_all (λ b. is_digit b 16) field ≡ true
+      → parsed_index field ≡ Some index
+      → length row ≤ 32768 → 0 < length row → answer (Some index) ≡ written text → (l : IsOneLine text)
+      → held' ≡ (held ++ (row ++ form.separator ∷ [])) ++ (l.line ++ (replicate n 13 ++ 10 ∷ []))
+      → PutsPlain form answer s bytes held held' (length row + n) n
+  puts_plain bytes row field held held' text n index p digits parses few some is l put =
+      let line = row ++ replicate n 13 in
+      let answered = l.line ++ (replicate n 13 ++ 10 ∷ []) in
       record {
-        row = row;
+        row = line;
         after = p.after;
         split = p.split;
-        size_is = refl;
-        plain = p.plain;
-        text = rows_with form.separator row text;
-        is = steps bytes row field held p ends some few index text digits parses is;
-        put = put ∙ append_assoc held (row ++ form.separator ∷ []) text ∙ ap (λ l. held ++ l) (append_assoc row (form.separator ∷ []) text ∙ sym (one_row bytes row field held p ends some few text line));
+        size_is = row_length row n;
+        ending = returns_of_row row n (plain_body form.quotes row p.plain);
+        whole = plain_uncut form.quotes row n p.plain;
+        feedless = plain_feeds form.quotes row n p.plain;
+        text = answered_with form line text;
+        is = steps bytes row field held n p some few index text digits parses is;
+        put = put ∙ append_assoc held (row ++ form.separator ∷ []) answered
+            ∙ ap (λ l. held ++ l) (append_assoc row (form.separator ∷ []) answered
+            ∙ sym (one_row bytes row field held n p some few text l));
       }
+
+-- the bytes before a line feed at their end
+pub before_feed : (old bytes : List ℕ) (last : ℕ) → last ≤ length old → take last old ≡ bytes ++ 10 ∷ []
+    → take (last - 1) old ≡ bytes
+before_feed old bytes last within is =
+    let whole : length (take last old) ≡ last = length-take-le last old within in
+    let size : length bytes + 1 ≡ last = omega (arith, ap length is, length-append bytes (10 ∷ []), whole) in
+    let less : last - 1 ≡ length bytes = omega (arith, size) in
+    sym (take-take (last - 1) last old (omega arith)) ∙ ap (take (last - 1)) is
+    ∙ ap (λ n. take n (bytes ++ 10 ∷ [])) less ∙ take-append_seam bytes (10 ∷ [])
 
 -- what was held before the row is kept
 pub front_kept : (new old more : List ℕ) (end n : ℕ) → end ≤ length old → take n new ≡ take end old ++ more → take end new ≡ take end old
@@ -126,11 +165,11 @@ put_after old text all at within is =
 -- ---- the rows that are taken
 
 module _ {S : Type 0} (taken : S → Option (List ℕ)) (failed : S → Bool) where
-  pub plain_answered : (form : Form) (answer : Option ℕ → Answer) (s a : RowState) (k : ℕ) (bytes held held' : List ℕ) (size : ℕ) (sink : S) → s.before ≡ Some k → a.number ≡ s.number + 1 → a.before ≡ s.before → a.kept ≡ s.kept
-      → (p : PutsPlain form answer s bytes held held' size)
-      → Answered taken failed (λ last. rows_then last form answer) (state_of s held) (state_of a held') (held_of s.before held) (held_of a.before held') sink sink ((p.row, false) ∷ [])
-  plain_answered form answer s a k bytes held held' size sink known n b kept p =
-      let count : a.number ≡ next_number s.number p.row = n ∙ omega (arith, plain_feeds form.quotes p.row p.plain) in
+  pub plain_answered : (form : Form) (answer : Option ℕ → Answer) (s a : RowState) (k : Columns) (bytes held held' : List ℕ) (size returns : ℕ) (sink : S) → s.columns ≡ Some k → a.number ≡ s.number + 1 → a.columns ≡ s.columns → a.kept ≡ s.kept
+      → (p : PutsPlain form answer s bytes held held' size returns)
+      → Answered taken failed (λ last. rows_then last form answer) (state_of s held) (state_of a held') (held_of s.columns held) (held_of a.columns held') sink sink ((p.row, false) ∷ [])
+  plain_answered form answer s a k bytes held held' size returns sink known n b kept p =
+      let count : a.number ≡ next_number s.number p.row = n ∙ omega (arith, p.feedless) in
       let step : row_step form answer (state_of s held) (p.row, false) ≡ record { answer = written p.text; after = state_of a held' } = p.is ∙ ap (λ w. record { answer = written p.text; after = w }) (passed_is s a k known p.row held held' count b kept) in
       record {
         text = p.text;
@@ -145,8 +184,9 @@ same_quotes false true h = absurd (cc)
 same_quotes false false h = refl
 
 -- a plain row ends at its line feed, whether quotes count or not
-pub plain_cuts : (form : Form) (answer : Option ℕ → Answer) (s : RowState) (bytes held held' : List ℕ) (size : ℕ) (quotes : Bool) → not (beq quotes form.quotes) ≡ false → (p : PutsPlain form answer s bytes held held' size) → CutsAt 10 quotes false bytes p.row p.after
-plain_cuts form answer s bytes held held' size quotes is p = record { begins = rw (same_quotes quotes form.quotes is) (plain_uncut form.quotes p.row p.plain); split = p.split }
+pub plain_cuts : (form : Form) (answer : Option ℕ → Answer) (s : RowState) (bytes held held' : List ℕ) (size returns : ℕ) (quotes : Bool) → not (beq quotes form.quotes) ≡ false → (p : PutsPlain form answer s bytes held held' size returns) → CutsAt 10 quotes false bytes p.row p.after
+plain_cuts form answer s bytes held held' size returns quotes is p
+    = record { begins = rw (same_quotes quotes form.quotes is) p.whole; split = p.split }
 
 -- the row that bytes begin with, and the others
 pub first_cut : (qs : Bool) (bytes row after : List ℕ) (size : ℕ) → CutsAt 10 qs false bytes row after → length row ≡ size → (rest : List ℕ) → pieces_of qs (bytes ++ rest) ≡ (row, false) ∷ pieces_of qs (drop (size + 1) bytes ++ rest)

@@ -17,7 +17,8 @@ use Rattle.h3_lines.specs.TakingLaws.{have_all, refuses_after}
 use Rattle.h3_rows.specs.Cells.{AllRowsRead, RefusesRows, RowsReadTo, begun_cells, cells_end, cells_of, cells_then}
 use Rattle.h3_rows.specs.CellsIn.{cells_in}
 use Rattle.h3_rows.specs.RowForm.{form_of}
-use Rattle.h3_rows.specs.RowsAnswer.{Form, before_first}
+use Rattle.h3_rows.specs.RowsAnswer.{Form, columns_first}
+use Rattle.h3_rows.specs.declared.state.Columns.{Columns}
 use Rattle.h3_rows.specs.declared.state.RowState.{RowState}
 
 -- some bytes are held
@@ -40,17 +41,17 @@ module _ {V : Type 0} (state : V → RowOptions × RowState) (taken : V → List
   form v = form_of (state v).0 []
 
   -- from the beginning of a list
-  module _ (v w : V) (old new : Option (List ℕ)) (first : (state v).1.number ≡ 1) (start : (state v).1.before ≡ before_first (form v).has_header (form v).choice) where
-    from_start : (last : Option ℕ → Result (List Address) AnswerError) (rows : List Piece) → cells_then last (form v) 1 (before_first (form v).has_header (form v).choice) rows ≡ cells_in last (state v) rows
+  module _ (v w : V) (old new : Option (List ℕ)) (first : (state v).1.number ≡ 1) (start : (state v).1.columns ≡ columns_first (form v).has_header (form v).choice) where
+    from_start : (last : Option Columns → Result (List Address) AnswerError) (rows : List Piece) → cells_then last (form v) 1 (columns_first (form v).has_header (form v).choice) rows ≡ cells_in last (state v) rows
     from_start last rows = rw (first, start) refl
 
     no_error : (mid : V) (rows : List Piece) (t : Takes v rows mid) → begun_cells (form v) rows ≡ Ok (t.0 ++ [])
     no_error mid rows t = from_start (λ b. Ok []) rows ∙ have_all cells_in (state v) (state mid) rows t.0 t.1 (λ b. Ok [])
 
-    whole : (t : TakesAll (form v).quotes Takes v w old new (2 ^ 40) 65536) → cells_of (form v) (rows_of (form v).quotes t.bytes) ≡ cells_before t.takes.0 (cells_end (form v).choice (state w).1.before)
+    whole : (t : TakesAll (rows_of (form v).quotes) Takes v w old new (2 ^ 40) 65536) → cells_of (form v) (rows_of (form v).quotes t.bytes) ≡ cells_before t.takes.0 (cells_end (form v).choice (state w).1.columns)
     whole t = from_start (cells_end (form v).choice) (rows_of (form v).quotes t.bytes) ∙ have_all cells_in (state v) (state w) (rows_of (form v).quotes t.bytes) t.takes.0 t.takes.1 (cells_end (form v).choice)
 
-    read_to : (e : RunError) → StopsTaking (form v).quotes 65536 Takes Refuses Settled v w e old new (2 ^ 40) 65536 → RowsReadTo (form v) 65536 old new
+    read_to : (e : RunError) → StopsTaking (form v).quotes (rows_of (form v).quotes) 1114111 Takes Refuses Settled v w e old new (2 ^ 40) 65536 → RowsReadTo (form v) 65536 old new
     read_to e s = record {
       part = s.part;
       last = s.last;
@@ -65,7 +66,7 @@ module _ {V : Type 0} (state : V → RowOptions × RowState) (taken : V → List
       good = no_error s.mid s.ended s.takes;
     }
 
-    stops : (e : RunError) (had has : Bool) → has ≡ had → StopsTaking (form v).quotes 65536 Takes Refuses Settled v w e old new (2 ^ 40) 65536 → RefusesRows (form v) old new had has e
+    stops : (e : RunError) (had has : Bool) → has ≡ had → StopsTaking (form v).quotes (rows_of (form v).quotes) 1114111 Takes Refuses Settled v w e old new (2 ^ 40) 65536 → RefusesRows (form v) old new had has e
     unfolding read_to
     stops (Error e) had has sound s =
         let choice = (form v).choice in
@@ -75,7 +76,7 @@ module _ {V : Type 0} (state : V → RowOptions × RowState) (taken : V → List
     stops (Fault Read) had has sound s = absurd (s.refuses.refuses (λ b. Ok []))
     stops (Fault Write) had has sound s = absurd (s.refuses.refuses (λ b. Ok []))
 
-    read_fails : (had has : Bool) → StopsReading (form v).quotes 65536 Takes Settled v w old new (has ≡ true) (2 ^ 40) → RefusesRows (form v) old new had has (Fault Read)
+    read_fails : (had has : Bool) → StopsReading (form v).quotes 1114111 Takes Settled v w old new (has ≡ true) (2 ^ 40) → RefusesRows (form v) old new had has (Fault Read)
     read_fails had has s = (
       record {
         part = s.part;
@@ -94,7 +95,7 @@ module _ {V : Type 0} (state : V → RowOptions × RowState) (taken : V → List
     )
 
     pub refused_early : (had has : Bool) (e : RunError)
-        → ((e ≡ Fault Read) × StopsReading (form v).quotes 65536 Takes Settled v w old new (has ≡ true) (2 ^ 40)) ⊎ (StopsTaking (form v).quotes 65536 Takes Refuses Settled v w e old new (2 ^ 40) 65536 × (has ≡ had)) → RefusesRows (form v) old new had has e
+        → ((e ≡ Fault Read) × StopsReading (form v).quotes 1114111 Takes Settled v w old new (has ≡ true) (2 ^ 40)) ⊎ (StopsTaking (form v).quotes (rows_of (form v).quotes) 1114111 Takes Refuses Settled v w e old new (2 ^ 40) 65536 × (has ≡ had)) → RefusesRows (form v) old new had has e
     refused_early had has e (inr (s, kept)) = stops e had has kept s
     refused_early had has (Fault Read) (inl (is, s)) = read_fails had has s
     refused_early had has (Fault Write) (inl (is, s)) = absurd (cc is)
@@ -102,11 +103,11 @@ module _ {V : Type 0} (state : V → RowOptions × RowState) (taken : V → List
     refused_early had has (Error e) (inl (is, s)) = absurd (cc is)
 
     -- all rows are read, and none is faulty
-    pub read_all : (t : TakesAll (form v).quotes Takes v w old new (2 ^ 40) 65536) → cells_end (form v).choice (state w).1.before ≡ Ok [] → AllRowsRead (form v) (Ok t.takes.0) old new
+    pub read_all : (t : TakesAll (rows_of (form v).quotes) Takes v w old new (2 ^ 40) 65536) → cells_end (form v).choice (state w).1.columns ≡ Ok [] → AllRowsRead (form v) (Ok t.takes.0) old new
     read_all t good = record { list = t.bytes; held = t.held; told = t.told; within = t.within; is = whole t ∙ ap (cells_before t.takes.0) good ∙ ap Ok (append-nil t.takes.0) }
 
     -- all rows are read, and the header did not come
-    pub read_none : (t : TakesAll (form v).quotes Takes v w old new (2 ^ 40) 65536) (e : AnswerError) → cells_end (form v).choice (state w).1.before ≡ Err e → AllRowsRead (form v) (Err e) old new
+    pub read_none : (t : TakesAll (rows_of (form v).quotes) Takes v w old new (2 ^ 40) 65536) (e : AnswerError) → cells_end (form v).choice (state w).1.columns ≡ Err e → AllRowsRead (form v) (Err e) old new
     read_none t e missed = record { list = t.bytes; held = t.held; told = t.told; within = t.within; is = whole t ∙ ap (cells_before t.takes.0) missed }
 
 -- nothing is read where there is no memory

@@ -4,7 +4,6 @@ use Rattle.std.specs.Io.KnownBytes.{Consumes}
 use Rattle.h3_index.specs.Cell.{Address}
 use Rattle.h3_streams.specs.Stream.{HasLeft}
 use Rattle.h3_index.specs.declared.error.H3Error.{H3Error}
-use Rattle.h3_index.specs.declared.error.H3Error.TheVariants.{Failed}
 use Rattle.h3_lines.specs.List.{said_by_index}
 use Rattle.h3_lines.specs.Reads.{IsWithinReads}
 use Rattle.h3_lines.specs.declared.run_error.AnswerError.{AnswerError}
@@ -12,49 +11,60 @@ use Rattle.h3_lines.specs.declared.run_error.AnswerError.TheVariants as ending_b
 use Rattle.h3_lines.specs.declared.run_error.ColumnError.{ColumnError}
 use Rattle.h3_lines.specs.declared.run_error.ColumnError.TheVariants.{NotFound}
 use Rattle.h3_lines.specs.declared.run_error.Fault.TheVariants.{Memory, Read, Write}
+use Rattle.h3_lines.specs.declared.run_error.RowError.{RowError}
+use Rattle.h3_lines.specs.declared.run_error.RowError.TheVariants as row_error
+use Rattle.h3_lines.specs.declared.run_error.RowFault.{RowFault}
 use Rattle.h3_lines.specs.declared.run_error.RunError.{RunError}
 use Rattle.h3_lines.specs.declared.run_error.RunError.TheVariants.{Error, Fault}
 use Rattle.h3_lines.specs.Pieces.{Piece, pieces_of, rows_of}
 use Rattle.h3_lines.specs.Taking.{cell_list, cells_before}
 use Rattle.h3_rows.specs.Row.{next_number, read_of, row_body}
-use Rattle.h3_rows.specs.RowsAnswer.{After, Choice, Form, Named, before_first, chosen_in, is_malformed, row_said}
+use Rattle.h3_rows.specs.RowsAnswer.{After, Choice, Form, Named, columns_first, columns_in, malformed, row_said}
+use Rattle.h3_rows.specs.declared.state.Columns.{Columns}
 use Rattle.h3_rows.specs.declared.said.Said.{Said}
 use Rattle.h3_rows.specs.declared.said.Said.TheVariants.{Index, Missing}
 
 -- ---- the cell of a row
 
--- cell_said said: the cell of a row, by what it says: none where it is missing, and an error where its text is not the
--- index of a cell
-abbrev pub cell_said : Result Said H3Error → Result (Option Address) H3Error
-cell_said (Err e) = Err e
+-- called result: what a call gives, or its error
+abbrev pub called : {A : Type 0} → Result A H3Error → Result A RowError
+called (Ok value) = Ok value
+called (Err e) = Err (row_error.Call e)
+
+-- cell_said said: the cell of a row, by what it says: none where it is missing, and an error where no cell has its index
+abbrev pub cell_said : Result Said RowFault → Result (Option Address) RowError
+cell_said (Err fault) = Err (row_error.Bad fault)
 cell_said (Ok Missing) = Ok None
-cell_said (Ok (Index index)) = said_by_index index
+cell_said (Ok (Index index)) = called (said_by_index (Some index))
 
 -- at_row n cell: the cell, or its error at the row with this number
-abbrev pub at_row : ℕ → Result (Option Address) H3Error → Result (List Address) AnswerError
+abbrev pub at_row : ℕ → Result (Option Address) RowError → Result (List Address) AnswerError
 at_row n (Ok cell) = Ok (cell_list cell)
-at_row n (Err e) = Err (ending_by.At n e)
+at_row n (Err e) = Err (ending_by.AtRow n e)
 
--- Found: the cells of a row, or the error that ends the list; and how many fields are before the cell's in the next row
+-- Found: the cells of a row, or the error that ends the list; and the columns of the next row
 pub record Found : Type 0 where
   pub cells : Result (List Address) AnswerError
-  pub before : Option ℕ
+  pub columns : Option Columns
 
--- header_found column: a header has no cell; it has the column, or its error ends the list
-abbrev pub header_found : Result ℕ ColumnError → Found
-header_found (Ok before) = record { cells = Ok []; before = Some before }
-header_found (Err e) = record { cells = Err (ending_by.Column e); before = None }
+-- header_found columns: a header has no cell; it has the column, or its error ends the list
+abbrev pub header_found : Result Columns ColumnError → Found
+header_found (Ok columns) = record { cells = Ok []; columns = Some columns }
+header_found (Err e) = record { cells = Err (ending_by.Column e); columns = None }
 
--- filled_found form n line before: what a row that is not empty has
-abbrev pub filled_found : Form → ℕ → List ℕ → Option ℕ → Found
-filled_found form n line None = header_found (chosen_in form form.choice (read_of n (row_body line)))
-filled_found form n line (Some before) = record { cells = at_row n (cell_said (row_said form n before (row_body line))); before = Some before }
+-- filled_found form n line columns: what a row that is not empty has
+abbrev pub filled_found : Form → ℕ → List ℕ → Option Columns → Found
+filled_found form n line None = header_found (columns_in form (read_of n (row_body line)))
+filled_found form n line (Some columns) = record { cells = at_row n (cell_said (row_said form n columns (row_body line))); columns = Some columns }
 
--- row_found form n before p: what the row with this number has
-abbrev pub row_found : Form → ℕ → Option ℕ → Piece → Found
-row_found form n before p =
-    if is_malformed form n p then record { cells = Err (ending_by.At n Failed); before = before } else
-    if length (row_body p.0) == 0 then record { cells = Ok []; before = before } else filled_found form n p.0 before
+-- found_unless fault form n columns line: what a row has that is malformed for this reason, or is not
+abbrev pub found_unless : Option RowFault → Form → ℕ → Option Columns → List ℕ → Found
+found_unless (Some fault) form n columns line = record { cells = Err (ending_by.AtRow n (row_error.Bad fault)); columns = columns }
+found_unless None form n columns line = if length (row_body line) == 0 then record { cells = Ok []; columns = columns } else filled_found form n line columns
+
+-- row_found form n columns p: what the row with this number has
+abbrev pub row_found : Form → ℕ → Option Columns → Piece → Found
+row_found form n columns p = found_unless (malformed form n p) form n columns p.0
 
 -- ---- the cells of rows
 
@@ -63,25 +73,25 @@ abbrev pub found_before : Result (List Address) AnswerError → Result (List Add
 found_before (Ok cells) later = cells_before cells later
 found_before (Err e) later = Err e
 
--- cells_then last form n before rows: the cells of rows, of which the first has the number n, and then what is last
-abbrev pub cells_then : (Option ℕ → Result (List Address) AnswerError) → Form → ℕ → Option ℕ → List Piece → Result (List Address) AnswerError
-cells_then last form n before [] = last before
-cells_then last form n before (p ∷ ps) = found_before (row_found form n before p).cells (cells_then last form (next_number n p.0) (row_found form n before p).before ps)
+-- cells_then last form n columns rows: the cells of rows, of which the first has the number n, and then what is last
+abbrev pub cells_then : (Option Columns → Result (List Address) AnswerError) → Form → ℕ → Option Columns → List Piece → Result (List Address) AnswerError
+cells_then last form n columns [] = last columns
+cells_then last form n columns (p ∷ ps) = found_before (row_found form n columns p).cells (cells_then last form (next_number n p.0) (row_found form n columns p).columns ps)
 
--- cells_end choice before: at the end of a list a column that has a name is missed where the header did not come
-abbrev pub cells_end : Choice → Option ℕ → Result (List Address) AnswerError
-cells_end choice (Some before) = Ok []
+-- cells_end choice columns: at the end of a list a column that has a name is missed where the header did not come
+abbrev pub cells_end : Choice → Option Columns → Result (List Address) AnswerError
+cells_end choice (Some columns) = Ok []
 cells_end (After k) None = Ok []
 cells_end (Named name) None = Err (ending_by.Column NotFound)
 
 -- cells_of form rows: the cells of the rows of a list, without those that have none; or the error of the first row that
 -- ends it
 abbrev pub cells_of : Form → List Piece → Result (List Address) AnswerError
-cells_of form rows = cells_then (cells_end form.choice) form 1 (before_first form.has_header form.choice) rows
+cells_of form rows = cells_then (cells_end form.choice) form 1 (columns_first form.has_header form.choice) rows
 
 -- begun_cells form rows: the cells of the first rows of a list, of which more may come
 abbrev pub begun_cells : Form → List Piece → Result (List Address) AnswerError
-begun_cells form rows = cells_then (λ before. Ok []) form 1 (before_first form.has_header form.choice) rows
+begun_cells form rows = cells_then (λ columns. Ok []) form 1 (columns_first form.has_header form.choice) rows
 
 -- ---- how it ends
 

@@ -7,19 +7,20 @@ use Rattle.h3_lines.specs.Write.{IsLeft, SinkUse}
 use Rattle.h3_lines.specs.declared.run_error.Fault.TheVariants.{Memory, Read, Write}
 use Rattle.h3_lines.specs.declared.run_error.RunError.{RunError}
 use Rattle.h3_lines.specs.declared.run_error.RunError.TheVariants.{Error, Fault}
-use Rattle.h3_lines.specs.Pieces.{Piece, pieces_of, rows_of}
+use Rattle.h3_lines.specs.Pieces.{Piece, pieces_of}
+use Rattle.h3_rows.specs.Row.{list_rows}
 
 -- What is answered to the rows of a list, `whole`, and to the first rows of one of which more may come, `begun`: by
 -- `rows_answer` and `begun_answer` of a form and a function.
 
 -- by_rows quotes whole list: the answer to the rows of a list
 abbrev pub by_rows : Bool → (List Piece → Answer) → List ℕ → Answer
-by_rows quotes whole list = whole (rows_of quotes list)
+by_rows quotes whole list = whole (list_rows quotes list)
 
 -- EndsRowsEarly quotes whole begun ..: how the answering of a list, row by row, ends before the list does; of a row that
--- a read fault cuts, at most 65,536 bytes were read
+-- a read fault cuts, at most 1,114,111 bytes were read
 abbrev pub EndsRowsEarly : Bool → (List Piece → Answer) → (List Piece → Answer) → Option (List ℕ) → Option (List ℕ) → Bool → RunError → SinkUse → Type 0
-EndsRowsEarly quotes whole begun old new has e out = EndsEarly (pieces_of quotes) (λ p. length p.0) 65536 begun (by_rows quotes whole) old new has e out
+EndsRowsEarly quotes whole begun old new has e out = EndsEarly (pieces_of quotes) (λ p. length p.0) 1114111 begun (by_rows quotes whole) old new has e out
 
 -- EndsRows quotes whole begun ..: how the answering of a list, row by row, ends
 --

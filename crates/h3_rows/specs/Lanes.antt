@@ -2,7 +2,7 @@
 use Rattle.std.specs.Prelude.{◌≡◌, ℕ, ◌==◌, ◌≤◌, ◌<◌, Bool, true, not, List, [], ◌∷◌, ◌++◌, ◌+◌, drop, take, get_or, if◌then◌else◌}
 use Rattle.std.specs.List.{list_all}
 use Rattle.std.specs.Int.{trailing_zeros, w64}
-use Rattle.memchr.specs.Find.{is_byte3}
+use Rattle.memchr.specs.Find.{is_byte}
 
 -- the place of the lowest bit that is set, or 16
 abbrev pub first_set : ℕ → ℕ
@@ -18,4 +18,4 @@ pub record StopsAfter (test : ℕ → Bool) (bytes : List ℕ) (at run : ℕ) : 
 pub record IsOneLine (bytes : List ℕ) : Type 0 where
   pub line : List ℕ
   pub split : bytes ≡ line ++ 10 ∷ []
-  pub whole : list_all (λ b. not (is_byte3 10 10 10 b)) line ≡ true
+  pub whole : list_all (λ b. not (is_byte 10 b)) line ≡ true

@@ -1,12 +1,17 @@
 -- Laws of rows with answers.
-use Rattle.std.specs.Prelude.{◌≡◌, ℕ, ◌==◌, ◌⊎◌, Bool, true, false, List, [], ◌∷◌, ◌++◌, length, Option, Some, Result, Ok, Err, ⊤, if◌then◌else◌}
+use Rattle.std.specs.Prelude.{codes, ◌≡◌, ℕ, ◌==◌, ◌⊎◌, Bool, true, false, List, [], ◌∷◌, ◌++◌, length, Option, None, Some, Result, Ok, Err, ⊤, if◌then◌else◌}
 use Rattle.std.specs.List.{flat_map}
 use Rattle.h3_index.specs.declared.error.H3Error.{H3Error}
 use Rattle.h3_lines.specs.Answer.{Answer, refused, written}
+use Rattle.h3_lines.specs.RunError.{row_error_name}
 use Rattle.h3_lines.specs.declared.run_error.AnswerError.{AnswerError}
-use Rattle.h3_lines.specs.Pieces.{Piece, cut, inside_after, is_uncut, rows_of}
-use Rattle.h3_rows.specs.Row.{next_number, return_of, row_body, row_ending}
-use Rattle.h3_rows.specs.RowsAnswer.{Form, State, row_said, row_with, rows_then, rows_with}
+use Rattle.h3_lines.specs.declared.run_error.AnswerError.TheVariants as ending_by
+use Rattle.h3_lines.specs.declared.run_error.RowError.TheVariants as row_error
+use Rattle.h3_lines.specs.declared.run_error.RowFault.{RowFault}
+use Rattle.h3_lines.specs.Pieces.{Piece, cut, inside_after, is_uncut, pieces_of, rows_of}
+use Rattle.h3_rows.specs.Row.{lacking_last, list_rows, next_number, returns_of, row_body, row_ending}
+use Rattle.h3_rows.specs.RowsAnswer.{Form, State, answered_with, header_with, row_said, row_step, row_with, rows_then, unanswered}
+use Rattle.h3_rows.specs.declared.state.Columns.{Columns}
 use Rattle.h3_rows.specs.declared.said.Said.{Said}
 use Rattle.h3_rows.specs.declared.said.Said.TheVariants.{Index, Missing}
 
@@ -17,30 +22,31 @@ abbrev pub numbered : ℕ → List Piece → List (ℕ × Piece)
 numbered n [] = []
 numbered n (p ∷ ps) = (n, p) ∷ numbered (next_number n p.0) ps
 
--- answered_so form line output ending: the row with each of the answers of a function, or with an empty one where it has an
--- error
+-- answered_so form line output ending: the row with each of the answers of a function, or with an empty one and the error's
+-- name where it has an error
 abbrev pub answered_so : Form → List ℕ → List ℕ → Result (Unit {0}) AnswerError → List ℕ
-answered_so form line output (Ok u) = rows_with form.separator line output
-answered_so form line output (Err e) = row_with form.separator line form.empty
+answered_so form line output (Ok u) = answered_with form line output
+answered_so form line output (Err (ending_by.Call e)) = unanswered form line (row_error_name (row_error.Call e))
+answered_so form line output (Err e) = answered_with form line output
 
 -- with_own form answer line said: the row with the answers to what it says of its cell; with an empty one where it says
 -- nothing, and where it is faulty
-abbrev pub with_own : Form → (Option ℕ → Answer) → List ℕ → Result Said H3Error → List ℕ
-with_own form answer line (Err e) = row_with form.separator line form.empty
-with_own form answer line (Ok Missing) = row_with form.separator line form.empty
-with_own form answer line (Ok (Index index)) = answered_so form line (answer index).output (answer index).ending
+abbrev pub with_own : Form → (Option ℕ → Answer) → List ℕ → Result Said RowFault → List ℕ
+with_own form answer line (Err fault) = unanswered form line (row_error_name (row_error.Bad fault))
+with_own form answer line (Ok Missing) = unanswered form line (codes "missing")
+with_own form answer line (Ok (Index index)) = answered_so form line (answer (Some index)).output (answer (Some index)).ending
 
--- own_lines form answer before r: what stands in the output for a row, which has a number: an empty row as it is, and any
--- other with the answers to its own cell, in the field after so many others
-abbrev pub own_lines : Form → (Option ℕ → Answer) → ℕ → ℕ × Piece → List ℕ
-own_lines form answer before r =
-    if length (row_body r.1.0) == 0 then r.1.0 ++ 10 ∷ [] else with_own form answer r.1.0 (row_said form r.0 before (row_body r.1.0))
+-- own_lines form answer columns r: what stands in the output for a row, which has a number: an empty row as it is, and any
+-- other with the answers to its own cell
+abbrev pub own_lines : Form → (Option ℕ → Answer) → Columns → ℕ × Piece → List ℕ
+own_lines form answer columns r =
+    if length (row_body r.1.0) == 0 then r.1.0 ++ 10 ∷ [] else with_own form answer r.1.0 (row_said form r.0 columns (row_body r.1.0))
 
 -- RowsStand: where no row ends the answer, what is written for rows after a header, or without one, is what stands for each
 -- of them by its own cell alone, in order, and nothing else
 abbrev pub RowsStand : Type 0
-RowsStand = (form : Form) (answer : Option ℕ → Answer) (before : ℕ) (s : State) (rows : List Piece) → s.before ≡ Some before → (rows_then (λ t. written []) form answer s rows).ending ≡ Ok tt
-    → (rows_then (λ t. written []) form answer s rows).output ≡ flat_map (own_lines form answer before) (numbered s.number rows)
+RowsStand = (form : Form) (answer : Option ℕ → Answer) (columns : Columns) (s : State) (rows : List Piece) → s.columns ≡ Some columns → (rows_then (λ t. written []) form answer s rows).ending ≡ Ok tt
+    → (rows_then (λ t. written []) form answer s rows).output ≡ flat_map (own_lines form answer columns) (numbered s.number rows)
 
 -- IsWholeOrRefused a: an answer without an error, or the error of a call alone
 abbrev pub IsWholeOrRefused : Answer → Type 0
@@ -50,15 +56,23 @@ IsWholeOrRefused a = (a.ending ≡ Ok tt) ⊎ ((e : H3Error) × (a ≡ refused e
 -- is what stands for each row before the one that ends the answer, by its own cell alone, in order, and nothing else; if the
 -- answer has no error, for each of all rows
 abbrev pub RowsStandUntil : Type 0
-RowsStandUntil = (form : Form) (answer : Option ℕ → Answer) (before : ℕ) (s : State) (rows : List Piece) → ((index : Option ℕ) → IsWholeOrRefused (answer index)) → s.before ≡ Some before → s.pending ≡ []
+RowsStandUntil = (form : Form) (answer : Option ℕ → Answer) (columns : Columns) (s : State) (rows : List Piece) → ((index : Option ℕ) → IsWholeOrRefused (answer index)) → s.columns ≡ Some columns → s.pending ≡ []
     → (done : List Piece) × (more : List Piece) × (rows ≡ done ++ more)
-    × ((rows_then (λ t. written []) form answer s rows).output ≡ flat_map (own_lines form answer before) (numbered s.number done))
+    × ((rows_then (λ t. written []) form answer s rows).output ≡ flat_map (own_lines form answer columns) (numbered s.number done))
     × ((rows_then (λ t. written []) form answer s rows).ending ≡ Ok tt → more ≡ [])
 
--- RowsGiveBack: the rows of a list, each with a line feed, are the list, but for a last line feed that it lacked
+-- HeaderStands: what is written for a header, where it does not end the answer, is the empty rows that are held back, the
+-- header, whole, and the names of the new columns; the rows after it are those of `RowsStand`
+abbrev pub HeaderStands : Type 0
+HeaderStands = (form : Form) (answer : Option ℕ → Answer) (s : State) (p : Piece) → s.columns ≡ None → (length (row_body p.0) == 0) ≡ false → (row_step form answer s p).answer.ending ≡ Ok tt
+    → ((row_step form answer s p).answer.output ≡ s.pending ++ header_with form.separator p.0 form.names)
+    × ((row_step form answer s p).after.pending ≡ []) × ((columns : Columns) × ((row_step form answer s p).after.columns ≡ Some columns))
+
+-- RowsGiveBack: the rows of a list, each with a line feed, are the list, but for the ending that its last row lacked
 abbrev pub RowsGiveBack : Type 0
 RowsGiveBack = (quotes : Bool) (bytes : List ℕ) →
-    let whole : List ℕ = flat_map (λ p. p.0 ++ 10 ∷ []) (rows_of quotes bytes) in (whole ≡ bytes) ⊎ (whole ≡ bytes ++ 10 ∷ [])
+    let ended : List ℕ = bytes ++ lacking_last [] (pieces_of quotes bytes) in
+    let whole : List ℕ = flat_map (λ p. p.0 ++ 10 ∷ []) (list_rows quotes bytes) in (whole ≡ ended) ⊎ (whole ≡ ended ++ 10 ∷ [])
 
 -- ---- a row with its answer
 
@@ -83,7 +97,7 @@ PairsAreKept = (separator : ℕ) (quotes : Bool) (row a b : List ℕ) → (34 ==
 -- with an answer that has no line feed and no quote, are one row of the output
 abbrev pub RowsReadBack : Type 0
 RowsReadBack = (separator : ℕ) (quotes : Bool) (line a rest : List ℕ) → (34 == separator) ≡ false → (10 == separator) ≡ false → is_uncut 10 quotes false line ≡ true → inside_after quotes false line ≡ false → is_uncut 10 quotes false a ≡ true → inside_after quotes false a ≡ false
-    → rows_of quotes (row_with separator line a ++ rest) ≡ (row_body line ++ (separator ∷ (a ++ return_of line)), false) ∷ rows_of quotes rest
+    → rows_of quotes (row_with separator line a ++ rest) ≡ (row_body line ++ (separator ∷ (a ++ returns_of line)), false) ∷ rows_of quotes rest
 
 -- rows and answers of which none has a line feed outside quotes, or a quote that stays open
 abbrev pub AreRows : Bool → List (List ℕ × List ℕ) → Type 0
@@ -98,7 +112,7 @@ all_with separator (r ∷ rs) = row_with separator r.0 r.1 ++ all_with separator
 -- what each of them is, read again
 abbrev pub read_again : ℕ → List (List ℕ × List ℕ) → List Piece
 read_again separator [] = []
-read_again separator (r ∷ rs) = (row_body r.0 ++ (separator ∷ (r.1 ++ return_of r.0)), false) ∷ read_again separator rs
+read_again separator (r ∷ rs) = (row_body r.0 ++ (separator ∷ (r.1 ++ returns_of r.0)), false) ∷ read_again separator rs
 
 -- OutputReadsBack: rows with their answers are, read again, as many rows, each with its answer; taking that away gives the
 -- rows back

@@ -4,7 +4,9 @@ pub mod CellsIn
 pub mod Each
 pub mod Examples
 pub mod Lanes
+pub mod LastRow
 pub mod Laws
+pub mod Line
 pub mod Plain
 pub mod Row
 pub mod RowForm

@@ -1,26 +1,44 @@
 -- Rows, and their fields.
 use Rattle.std.specs.Prelude.{ℕ, zero, suc, ◌+◌, ◌-◌, ◌==◌, nat_le, Bool, true, false, not, ◌&&◌, ◌||◌, List, [], ◌∷◌, ◌++◌, length, take, drop, get_or, Option, None, Some, if◌then◌else◌}
-use Rattle.std.specs.List.{count_by}
-use Rattle.h3_index.specs.Text.{is_blank, trimmed}
-use Rattle.h3_lines.specs.Pieces.{Piece}
+use Rattle.std.specs.List.{count_by, list_all}
+use Rattle.memchr.specs.Find.{is_byte2}
+use Rattle.h3_index.specs.Text.{is_blank, trimmed, without_leading_blanks}
+use Rattle.h3_lines.specs.Pieces.{Piece, cut, pieces_of, rows_of}
 
 -- ---- rows
 
--- ends_in_return line: whether a carriage return is the last byte
-abbrev pub ends_in_return : List ℕ → Bool
-ends_in_return line = get_or line (length line - 1) 0 == 13
+-- are_returns bytes: carriage returns alone
+abbrev pub are_returns : List ℕ → Bool
+are_returns bytes = list_all (λ b. b == 13) bytes
 
--- row_body line: the row itself: without one carriage return at its end
+-- row_body line: the row itself: without the carriage returns at its end
 abbrev pub row_body : List ℕ → List ℕ
-row_body line = if ends_in_return line then take (length line - 1) line else line
+row_body [] = []
+row_body (b ∷ bs) = if are_returns (b ∷ bs) then [] else b ∷ row_body bs
 
--- return_of line: that carriage return, if there is one
-abbrev pub return_of : List ℕ → List ℕ
-return_of line = if ends_in_return line then 13 ∷ [] else []
+-- returns_of line: the carriage returns at its end
+abbrev pub returns_of : List ℕ → List ℕ
+returns_of [] = []
+returns_of (b ∷ bs) = if are_returns (b ∷ bs) then b ∷ bs else returns_of bs
 
--- row_ending line: a row's ending: that carriage return, if there is one, and a line feed
+-- row_ending line: a row's ending: the carriage returns at its end, and a line feed
 abbrev pub row_ending : List ℕ → List ℕ
-row_ending line = return_of line ++ 10 ∷ []
+row_ending line = returns_of line ++ 10 ∷ []
+
+-- lacking returns line: what is put behind a last row without a line feed, where the row before it ended in `returns`: nothing,
+-- if the row is empty or ends in a carriage return
+abbrev pub lacking : List ℕ → List ℕ → List ℕ
+lacking returns line = if (length line == 0) || not (length (returns_of line) == 0) then [] else returns
+
+-- lacking_last returns pieces: the same of the last of these pieces; `returns` are those of the row before the first
+abbrev pub lacking_last : List ℕ → List Piece → List ℕ
+lacking_last returns [] = []
+lacking_last returns (p ∷ []) = lacking returns p.0
+lacking_last returns (p ∷ q ∷ ps) = lacking_last (returns_of p.0) (q ∷ ps)
+
+-- list_rows quotes list: the rows of a list; a last one that has no ending has that of the row before it
+abbrev pub list_rows : Bool → List ℕ → List Piece
+list_rows quotes list = rows_of quotes (list ++ lacking_last [] (pieces_of quotes list))
 
 -- next_number number line: the number of the row after the one with this number: line feeds inside quotes count too
 abbrev pub next_number : ℕ → List ℕ → ℕ
@@ -51,13 +69,31 @@ unquoted bs = if nat_le 2 (length bs) && (get_or bs 0 0 == 34) && (get_or bs (le
 abbrev pub field_text : Bool → List ℕ → List ℕ
 field_text quotes field = if quotes then unquoted (trimmed field) else trimmed field
 
--- quotes_are_sound separator start after inside bytes: each quote that opens has only blanks before it in its field, or a
--- quote right before it
+-- opens_well separator start after inside bytes: each quote that opens has only blanks before it in its field, or a quote
+-- right before it
 --
 -- The three that tell what is before the bytes: whether only blanks are before them in their field, whether a quote is right
 -- before them, and whether they are inside quotes.
-abbrev pub quotes_are_sound : ℕ → Bool → Bool → Bool → List ℕ → Bool
-quotes_are_sound separator start after inside [] = true
-quotes_are_sound separator start after inside (b ∷ bs) =
-    if b == 34 then (if inside || start || after then quotes_are_sound separator false true (not inside) bs else false)
-    else quotes_are_sound separator (not inside && (b == separator || (start && is_blank b))) false inside bs
+abbrev pub opens_well : ℕ → Bool → Bool → Bool → List ℕ → Bool
+opens_well separator start after inside [] = true
+opens_well separator start after inside (b ∷ bs) =
+    if b == 34 then (if inside || start || after then opens_well separator false true (not inside) bs else false)
+    else opens_well separator (not inside && (b == separator || (start && is_blank b))) false inside bs
+
+-- is_padded field: it begins with blanks, and then has a quote
+abbrev pub is_padded : List ℕ → Bool
+is_padded field = is_blank (get_or field 0 0) && (get_or (without_leading_blanks field) 0 0 == 34)
+
+-- is_simple separator field: neither the separator nor a line feed is in it
+abbrev pub is_simple : ℕ → List ℕ → Bool
+is_simple separator field = list_all (λ b. not (is_byte2 separator 10 b)) field
+
+-- is_read_alike separator field: many programs take a quote after blanks for text, so a field that begins so has nothing
+-- that quotes would keep together
+abbrev pub is_read_alike : ℕ → List ℕ → Bool
+is_read_alike separator field = not (is_padded field) || is_simple separator field
+
+-- quotes_are_sound separator row: each quote that opens has only blanks before it in its field, or a quote right before it;
+-- and a field that begins with blanks and then a quote has neither a separator nor a line feed in it
+abbrev pub quotes_are_sound : ℕ → List ℕ → Bool
+quotes_are_sound separator row = opens_well separator true false false row && list_all (λ p. is_read_alike separator p.0) (cut separator true false row)

@@ -1,7 +1,7 @@
 -- What is known of the options by which rows are read.
-use Rattle.std.specs.Prelude.{true, false, Bool, List, [], ℕ, string_bytes, option_map}
+use Rattle.std.specs.Prelude.{true, false, Bool, List, [], ◌++◌, ℕ, string_bytes, option_map}
 use Rattle.h3_requests.specs.declared.rows.RowOptions.{RowOptions}
-use Rattle.h3_rows.specs.RowsAnswer.{Form, choice_of, empty_answer, names_of}
+use Rattle.h3_rows.specs.RowsAnswer.{Form, answer_names, choice_of, empty_answer, error_names}
 
 -- columns_form options name is_pair: the form of the rows; the new column has this name unless another is given, and where
 -- an answer is a pair, a cell and its distance, there are two
@@ -11,9 +11,11 @@ columns_form options name is_pair = record {
   quotes = options.quotes;
   choice = choice_of options.field;
   has_header = options.has_header;
-  name = names_of is_pair options.separator (option_map string_bytes options.name) name;
+  names = answer_names is_pair (option_map string_bytes options.name) name ++ error_names options.shows_errors (option_map string_bytes options.name);
   empty = empty_answer is_pair options.separator;
   keeps_going = options.keeps_going;
+  shows_errors = options.shows_errors;
+  is_ragged = options.is_ragged;
 }
 
 -- form_of options name: the form of the rows, where the new column has this name unless another is given

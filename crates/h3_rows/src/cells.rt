@@ -1,24 +1,28 @@
 //! The cells of the rows of a list.
 
-ghost use Rattle.std.specs.Prelude.{◌≡◌, ◌+◌, ◌*◌, ◌<◌, ◌≤◌, ◌++◌, ◌^◌, ⊤, List, [], length, Ok, Err, IfOk, IfErr, OnOk};
+ghost use Rattle.std.specs.Prelude.{◌≡◌, ◌+◌, ◌*◌, ◌<◌, ◌≤◌, ◌++◌, ◌^◌, ⊤, List, [], length, Ok, Err, IfOk, IfErr, OnOk, vec_capacity};
 ghost use Rattle.h3_index.specs.Cell.{Address};
 ghost use Rattle.h3_lines.specs.Taking.{HaveCells, RefusesCells, cell_list};
 ghost use Rattle.h3_lines.specs.TakingLaws.{have_none, have_then, refuses_after};
 ghost use Rattle.h3_rows.specs.Row.{next_number};
 ghost use Rattle.h3_rows.specs.Cells.{AllRowsRead, RefusesRows, cell_said, cells_end, row_found};
 ghost use Rattle.h3_rows.specs.CellsIn.{cells_in};
+ghost use Rattle.h3_rows.specs.Line.{line_of};
 ghost use Rattle.h3_rows.specs.RowForm.{form_of};
 ghost use Rattle.h3_rows.specs.RowsAnswer.{choice_of, row_said};
 ghost use Rattle.h3_rows.specs.declared.reading.TheConstants.{LONGEST};
 
-use crate::fields::{read_of, row_body};
-use crate::header::chosen_field;
-use crate::reading::{LONGEST, is_malformed, read_row};
+use crate::fields::read_of;
+use crate::header::columns_in;
+use crate::line::row_of;
+use crate::reading::{LONGEST, malformed, read_row};
+use crate::row::Row;
 use crate::said::Said;
-use crate::state::{RowState, first_state};
-use h3_index::{Cell, H3Error};
+use crate::state::{Columns, RowState, first_state};
+use h3_index::Cell;
 use h3_lines::{
-    AnswerError, CellJob, ColumnError, Job, MAX_READS, PAGE, RunError, Taking, drive, row_page,
+    AnswerError, CellJob, ColumnError, Job, MAX_READS, PAGE, RowError, RowFault, RunError, Taking,
+    drive, row_page,
 };
 use h3_requests::{CellField, RowOptions};
 use h3_streams::{CountedReader, Source};
@@ -28,19 +32,18 @@ use std::alloc::Global;
 fn read_cell(
     options: &RowOptions,
     number: u64,
-    before: usize,
+    columns: Columns,
     row: &[u8],
-) -> Result<Option<Cell>, H3Error>
-    ensures { result ≡ cell_said (row_said (form_of options.now []) number before row.now) }
+) -> Result<Option<Cell>, RowError>
+    ensures { result ≡ cell_said (row_said (form_of options.now []) number columns row.now) }
 {
-    match read_row(options, b"", number, before, row) {
+    match read_row(options, b"", number, columns, row) {
         Ok(Said::Missing) => Ok(None),
-        Ok(Said::Index(None)) => Err(H3Error::Failed),
-        Ok(Said::Index(Some(index))) => {
-            let cell = Cell::new(index)?;
-            Ok(Some(cell))
-        }
-        Err(error) => Err(error),
+        Ok(Said::Index(index)) => match Cell::new(index) {
+            Ok(cell) => Ok(Some(cell)),
+            Err(error) => Err(RowError::Call(error)),
+        },
+        Err(fault) => Err(RowError::Bad(fault)),
     }
 }
 
@@ -48,35 +51,34 @@ fn read_cell(
 fn find_cell(
     options: &RowOptions,
     state: RowState,
-    row: &[u8],
+    row: Row<'_>,
     inside: bool,
 ) -> Result<(Option<Cell>, RowState), AnswerError>
-    requires few { state.number + length row.now < 2 ^ 63 }
-    ensures few { IfOk result (λ r. r.1.number ≤ state.number + length row.now + 1) }
+    requires few { state.number + length row.body.now < 2 ^ 63 }
+    ensures few { IfOk result (λ r. r.1.number ≤ state.number + length row.entry.body.now + 1) }
     ensures more { IfOk result (λ r. state.number + 1 ≤ r.1.number) }
-    ensures number { IfOk result (λ r. r.1.number ≡ next_number state.number row.now) }
+    ensures number { IfOk result (λ r. r.1.number ≡ next_number state.number (line_of row.entry)) }
     ensures ok { IfOk result (λ r.
-        row_found (form_of options.now []) state.number state.before (row.now, inside)
-        ≡ record { cells = Ok (cell_list r.0); before = r.1.before }) }
+        row_found (form_of options.now []) state.number state.columns (line_of row.entry, inside)
+        ≡ record { cells = Ok (cell_list r.0); columns = r.1.columns }) }
     ensures err { IfErr result (λ e.
-        (row_found (form_of options.now []) state.number state.before (row.now, inside)).cells
+        (row_found (form_of options.now []) state.number state.columns (line_of row.entry, inside)).cells
         ≡ Err e) }
 {
-    if is_malformed(options, b"", state.number, row, inside) {
-        return Err(AnswerError::At(state.number, H3Error::Failed));
+    if let Some(fault) = malformed(options, b"", state.number, row, inside) {
+        return Err(AnswerError::AtRow(state.number, RowError::Bad(fault)));
     }
-    let body = row_body(row);
-    if body.is_empty() {
+    if row.body.is_empty() {
         return Ok((None, state.passed(row)));
     }
-    match state.before {
-        None => match chosen_field(options, b"", read_of(state.number, body)) {
-            Ok(before) => Ok((None, state.headed(row, before))),
+    match state.columns {
+        None => match columns_in(options, read_of(state.number, row.body)) {
+            Ok(columns) => Ok((None, state.headed(row, columns))),
             Err(error) => Err(AnswerError::Column(error)),
         },
-        Some(before) => match read_cell(options, state.number, before, body) {
+        Some(columns) => match read_cell(options, state.number, columns, row.body) {
             Ok(cell) => Ok((cell, state.passed(row))),
-            Err(error) => Err(AnswerError::At(state.number, error)),
+            Err(error) => Err(AnswerError::AtRow(state.number, error)),
         },
     }
 }
@@ -104,7 +106,8 @@ impl<'f, V: CellJob> Taking for RowCells<'f, V> {
     ghost refused = { λ v rows w e. RefusesCells cells_in (v.options.now, v.state) rows e };
 
     fn refuse_long(&mut self) -> RunError {
-        RunError::Error(AnswerError::At(self.state.number, H3Error::Failed))
+        let error = RowError::Bad(RowFault::TooLong);
+        RunError::Error(AnswerError::AtRow(self.state.number, error))
     }
 
     fn settle(&mut self) -> Result<(), RunError> {
@@ -128,7 +131,7 @@ impl<'f, V: CellJob> Taking for RowCells<'f, V> {
 
 impl<'f, V: CellJob> Job for RowCells<'f, V> {
     fn take(&mut self, row: &[u8], inside: bool) -> Result<(), RunError> {
-        match find_cell(self.options, self.state, row, inside) {
+        match find_cell(self.options, self.state, row_of(row), inside) {
             Ok((None, state)) => {
                 self.state = state;
                 Ok(())
@@ -144,11 +147,11 @@ impl<'f, V: CellJob> Job for RowCells<'f, V> {
 
 /// Ends the rows of a list, all of which are read.
 fn end_rows(options: &RowOptions, state: RowState) -> Result<(), AnswerError>
-    ensures ok { OnOk result (cells_end (choice_of options.now.field) state.before ≡ Ok []) }
+    ensures ok { OnOk result (cells_end (choice_of options.now.field) state.columns ≡ Ok []) }
     ensures err { IfErr result (λ e.
-        cells_end (choice_of options.now.field) state.before ≡ Err e) }
+        cells_end (choice_of options.now.field) state.columns ≡ Err e) }
 {
-    match (state.before, &options.field) {
+    match (state.columns, &options.field) {
         (None, CellField::Column(_)) => Err(AnswerError::Column(ColumnError::NotFound)),
         _ => Ok(()),
     }
@@ -159,10 +162,10 @@ fn take_pages<V: CellJob + Drop, R: Source>(
     job: V,
     options: &RowOptions,
     input: &mut R,
-    page: &mut [u8],
+    page: &mut Vec<u8>,
 ) -> Result<V, RunError>
     requires first { V.count job ≡ 0 }
-    requires page { length page.old ≡ LONGEST + PAGE }
+    requires page { LONGEST + PAGE ≤ vec_capacity page.old }
     ensures taken { IfOk result (λ after. (cells : List Address)
         × AllRowsRead (form_of options.now []) (Ok cells) (R.left input.old) (R.left input.new)
         × V.taken job cells after) }
@@ -176,7 +179,7 @@ fn take_pages<V: CellJob + Drop, R: Source>(
         state: first_state(options),
     };
     let mut reader = CountedReader::new(&mut *input, MAX_READS);
-    let reading = drive(&mut rows, &mut reader, options.quotes, PAGE, page);
+    let reading = drive(&mut rows, &mut reader, options.quotes, LONGEST, PAGE, page);
     // The proof reads what the source is after the reads from this use of it.
     let _ = &*input;
     reading?;
@@ -201,8 +204,8 @@ fn take_pages<V: CellJob + Drop, R: Source>(
 /// The first one that is met, of:
 ///
 /// - `AnswerError::Column` if a column that the options name is not one field of the header.
-/// - `AnswerError::At` with the number of the first row that is malformed or faulty: `Failed`, or
-///   `CellInvalid` if no cell has the index.
+/// - `AnswerError::AtRow` with the number of the first row that is malformed or faulty, or whose index
+///   no cell has.
 /// - `Fault::Read` if a read fails, or the end is not found in 2^40 reads.
 /// - `Fault::Memory` if there is no memory for the page, or the job has none for a cell.
 pub fn take_row_cells<V: CellJob + Drop, R: Source>(

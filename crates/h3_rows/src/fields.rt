@@ -1,12 +1,13 @@
 //! The fields of a row.
 
-ghost use Rattle.std.specs.Prelude.{true, ◌≡◌, ◌==◌, ◌+◌, ◌-◌, ◌<◌, ◌≤◌, ℕ, Bool, false, length, Some, None, MatchOption};
+ghost use Rattle.std.specs.Prelude.{true, not, ◌≡◌, ◌==◌, ◌+◌, ◌-◌, ◌<◌, ◌≤◌, ℕ, Bool, false, length, Some, None, MatchOption};
+ghost use Rattle.std.specs.List.{list_all};
 ghost use Rattle.h3_index.specs.Text.{is_blank, without_leading_blanks, without_trailing_blanks};
-ghost use Rattle.h3_lines.specs.Pieces.{cut};
-ghost use Rattle.h3_rows.specs.Row.{ends_in_return, field_text, piece_at, quotes_are_sound, read_of, row_body, row_ending, unquoted, without_order_mark};
+ghost use Rattle.h3_lines.specs.Pieces.{cut, is_uncut};
+ghost use Rattle.h3_rows.specs.Row.{field_text, is_padded, is_read_alike, opens_well, piece_at, quotes_are_sound, read_of, unquoted, without_order_mark};
 
 use h3_lines::split;
-use memchr::memchr;
+use memchr::{memchr, memchr2};
 
 /// The field of a row after `before` others, cut at the separators outside quotes; `None` if the row
 /// has fewer.
@@ -38,14 +39,54 @@ fn is_blank(byte: u8) -> bool
     byte == b' ' || byte == b'\t' || byte == b'\r'
 }
 
+/// How many fields a row has.
+pub(crate) fn count_fields(separator: u8, quotes: bool, row: &[u8]) -> usize
+    requires { (34 == separator) ≡ false }
+    ensures { result ≡ length (cut separator quotes false row.now) }
+{
+    let mut rest = row;
+    let mut count = 1;
+    while let Ok((_, after)) = split(separator, quotes, false, rest) {
+        rest = after;
+        count += 1;
+    }
+    count
+}
+
+/// How many fields a row has, and its field after `before` others; `None` if it has fewer.
+pub(crate) fn count_and_find(
+    separator: u8,
+    quotes: bool,
+    before: usize,
+    row: &[u8],
+) -> (usize, Option<&[u8]>)
+    requires { (34 == separator) ≡ false }
+    ensures count { result.0 ≡ length (cut separator quotes false row.now) }
+    ensures field { MatchOption result.1
+        (piece_at before (cut separator quotes false row.now) ≡ None)
+        (λ f. piece_at before (cut separator quotes false row.now) ≡ Some f.now) }
+{
+    let mut rest = row;
+    let mut passed = 0;
+    let mut found = None;
+    while let Ok((field, after)) = split(separator, quotes, false, rest) {
+        if passed == before {
+            found = Some(field);
+        }
+        rest = after;
+        passed += 1;
+    }
+    if passed == before {
+        return (passed + 1, Some(rest));
+    }
+    (passed + 1, found)
+}
+
 /// Whether each quote that opens in a row has only blanks before it in its field, or a quote right
 /// before it.
-pub(crate) fn quotes_are_sound(separator: u8, row: &[u8]) -> bool
-    ensures { result ≡ quotes_are_sound separator true false false row.now }
+fn opens_well(separator: u8, row: &[u8]) -> bool
+    ensures { result ≡ opens_well separator true false false row.now }
 {
-    if let None = memchr(b'"', row) {
-        return true;
-    }
     let mut rest = row;
     let mut start = true;
     let mut after = false;
@@ -65,6 +106,71 @@ pub(crate) fn quotes_are_sound(separator: u8, row: &[u8]) -> bool
         rest = more;
     }
     true
+}
+
+/// Whether a field begins with blanks, and then has a quote.
+fn is_padded(field: &[u8]) -> bool
+    ensures { result ≡ is_padded field.now }
+{
+    if field.is_empty() || !is_blank(field[0]) {
+        return false;
+    }
+    let text = without_leading_blanks(field);
+    !text.is_empty() && text[0] == b'"'
+}
+
+/// Whether a field is not cut by programs that take a quote after blanks for text.
+fn is_read_alike(separator: u8, field: &[u8]) -> bool
+    ensures { result ≡ is_read_alike separator field.now }
+{
+    if !is_padded(field) {
+        return true;
+    }
+    match memchr2(separator, b'\n', field) {
+        None => true,
+        Some(_) => false,
+    }
+}
+
+/// Whether each field of a row is not cut by programs that take a quote after blanks for text.
+fn are_read_alike(separator: u8, row: &[u8]) -> bool
+    requires { (34 == separator) ≡ false }
+    ensures { result
+        ≡ list_all (λ p. is_read_alike separator p.0) (cut separator true false row.now) }
+{
+    let mut rest = row;
+    while let Ok((field, after)) = split(separator, true, false, rest) {
+        if !is_read_alike(separator, field) {
+            return false;
+        }
+        rest = after;
+    }
+    is_read_alike(separator, rest)
+}
+
+/// Whether each quote that opens in a row is at the beginning of its field, or after a quote, and each
+/// field of the row is cut as other programs cut it.
+pub(crate) fn quotes_are_sound(separator: u8, row: &[u8]) -> bool
+    requires { (34 == separator) ≡ false }
+    ensures { result ≡ quotes_are_sound separator row.now }
+{
+    if let None = memchr(b'"', row) {
+        return true;
+    }
+    opens_well(separator, row) && are_read_alike(separator, row)
+}
+
+/// Whether a carriage return is outside quotes.
+pub(crate) fn has_return(row: &[u8]) -> bool
+    ensures { result ≡ not (is_uncut 13 true false row.now) }
+{
+    if let None = memchr(b'\r', row) {
+        return false;
+    }
+    match split(b'\r', true, false, row) {
+        Ok(_) => true,
+        Err(_) => false,
+    }
 }
 
 /// The bytes from the first one on that is not a blank.
@@ -134,33 +240,4 @@ pub(crate) fn read_of(number: u64, row: &[u8]) -> &[u8]
         return without_order_mark(row);
     }
     row
-}
-
-/// A row without one carriage return at its end.
-pub(crate) fn row_body(line: &[u8]) -> &[u8]
-    ensures { result.now ≡ row_body line.now }
-{
-    if !line.is_empty() && line[line.len() - 1] == b'\r' {
-        return &line[..line.len() - 1];
-    }
-    line
-}
-
-/// Whether a row is not empty and does not end in a carriage return.
-#[inline(always)]
-pub(crate) fn is_bare(row: &[u8]) -> bool
-    ensures some { result ≡ true → 0 < length row.now }
-    ensures bare { result ≡ true → ends_in_return row.now ≡ false }
-{
-    !row.is_empty() && row[row.len() - 1] != b'\r'
-}
-
-/// The ending of a row: a line feed, with a carriage return before it if the line ends in one.
-pub(crate) fn row_ending(line: &[u8]) -> &'static [u8]
-    ensures { result.now ≡ row_ending line.now }
-{
-    if !line.is_empty() && line[line.len() - 1] == b'\r' {
-        return b"\r\n";
-    }
-    b"\n"
 }

@@ -1,11 +1,13 @@
 //! What answers the cells of rows, each with its row beside it.
 
-ghost use Rattle.std.specs.Prelude.{◌≡◌, ◌+◌, ◌≤◌, ℕ, Option, take, IfOk, IfErr, IfNone, IfSome};
+ghost use Rattle.std.specs.Prelude.{◌≡◌, ◌+◌, ◌≤◌, ℕ, Option, Some, take, IfOk, IfErr, IfNone, IfSome};
 ghost use Rattle.h3_lines.specs.Answer.{Answer, refused};
 ghost use Rattle.h3_lines.specs.Answering.{Puts};
 ghost use Rattle.h3_lines.specs.Write.{sink_use};
 ghost use Rattle.h3_rows.specs.Answering.{BreaksBeside, PutsBeside};
+ghost use Rattle.h3_rows.specs.Line.{line_of};
 
+use crate::row::Row;
 use crate::write::put_rows;
 use h3_index::H3Error;
 use h3_lines::{ANSWER, AnswerLine, BLOCK, RunError};
@@ -20,32 +22,33 @@ pub(crate) struct Workspace {
 
 /// What answers the cell of a row.
 pub(crate) trait RowFunction {
-    /// The answer to an index, or to a word that parses as none.
+    /// The answer to an index. That to none is not asked for.
     ghost answer_of: { Self → Option ℕ → Answer };
 
-    /// Puts a row once for each line of the answer to its cell, after the bytes held back in a block,
-    /// which end at `end`, and returns where they end then; or returns the answer's error, and changes
+    /// Puts a row once for each line of the answer to its cell, with the bytes `after` it, after the
+    /// bytes held back in a block, which end at `end`, and returns where they end then; or returns the answer's error, and changes
     /// nothing of them.
     fn put_beside<W: Sink>(
         &self,
-        index: Option<u64>,
+        index: u64,
         out: &mut W,
         work: &mut Workspace,
         block: &mut [u8; BLOCK],
         end: usize,
         separator: u8,
-        row: &[u8],
+        row: Row<'_>,
+        after: &[u8],
     ) -> Result<Result<usize, H3Error>, RunError>
         requires { end ≤ BLOCK }
         ensures within { IfOk result (λ o. IfOk o (λ last. last ≤ BLOCK)) }
         ensures ok { IfOk result (λ o. IfOk o (λ last.
-            PutsBeside W.taken W.has_failed (answer_of self.now index) separator row.now
+            PutsBeside W.taken W.has_failed (answer_of self.now (Some index)) separator after.now (line_of row.entry)
             (take end block.old) (take last block.new) out.old out.new)) }
-        ensures refused { IfOk result (λ o. IfErr o (λ e. answer_of self.now index ≡ refused e)) }
+        ensures refused { IfOk result (λ o. IfErr o (λ e. answer_of self.now (Some index) ≡ refused e)) }
         ensures kept { IfOk result (λ o. IfErr o (λ e. take end block.new ≡ take end block.old)) }
         ensures left { IfOk result (λ o. IfErr o (λ e. out.new ≡ out.old)) }
         ensures err { IfErr result (λ e.
-            BreaksBeside (answer_of self.now index) separator row.now (take end block.old)
+            BreaksBeside (answer_of self.now (Some index)) separator after.now (line_of row.entry) (take end block.old)
             (sink_use W.taken W.has_failed out.old out.new) e) };
 
     /// Puts the answer to an index into a block from the byte `at` on, if it is put so at once, and
@@ -76,20 +79,21 @@ impl<'f, F: AnswerLine> RowFunction for Short<'f, F> {
     #[inline(always)]
     fn put_beside<W: Sink>(
         &self,
-        index: Option<u64>,
+        index: u64,
         out: &mut W,
         work: &mut Workspace,
         block: &mut [u8; BLOCK],
         end: usize,
         separator: u8,
-        row: &[u8],
+        row: Row<'_>,
+        after: &[u8],
     ) -> Result<Result<usize, H3Error>, RunError> {
         let text = &mut work.text;
-        match self.function.put(index, &mut work.place, text, 0) {
+        match self.function.put(Some(index), &mut work.place, text, 0) {
             Ok(last) => {
                 let lines = &work.text[..last];
-                let after = put_rows(out, block, end, separator, row, lines)?;
-                Ok(Ok(after))
+                let end = put_rows(out, block, end, separator, row, after, lines)?;
+                Ok(Ok(end))
             }
             Err(error) => Ok(Err(error)),
         }

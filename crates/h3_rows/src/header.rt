@@ -1,14 +1,19 @@
 //! Headers, and columns by their name.
 
-ghost use Rattle.std.specs.Prelude.{◌≡◌, ◌==◌, ◌≤◌, ◌+◌, ℕ, List, ◌∷◌, ◌++◌, false, length, option_map, string_bytes, IfSome};
-ghost use Rattle.h3_rows.specs.Answering.{fields_left};
+ghost use Rattle.std.specs.Prelude.{◌≡◌, ◌==◌, ◌≤◌, ◌+◌, ℕ, List, [], ◌∷◌, ◌++◌, false, length, option_map, string_bytes, bytes_eq, IfSome};
+ghost use Rattle.std.specs.List.{list_all};
+ghost use Rattle.h3_rows.specs.Answering.{fields_left, listed};
 ghost use Rattle.h3_lines.specs.Pieces.{cut};
-ghost use Rattle.h3_rows.specs.RowForm.{form_of};
-ghost use Rattle.h3_rows.specs.RowsAnswer.{chosen_in, column_of, pair_names, places_of};
+ghost use Rattle.h3_rows.specs.RowForm.{columns_form, form_of};
+ghost use Rattle.h3_rows.specs.RowsAnswer.{answer_names, chosen_in, column_of, columns_in, error_names, free_columns, is_free, places_of};
 
-use crate::fields::field_text;
+use crate::fields::{count_fields, field_text};
+use crate::state::Columns;
 use h3_lines::{ColumnError, split};
 use h3_requests::{CellField, RowOptions};
+
+/// The name of a new column, in two parts.
+pub(crate) type Name<'n> = (&'n [u8], &'n [u8]);
 
 /// The first of the fields that bytes are cut into, and the bytes after its separator, if it has one.
 fn first_field(separator: u8, quotes: bool, bytes: &[u8]) -> (&[u8], Option<&[u8]>)
@@ -25,22 +30,33 @@ fn first_field(separator: u8, quotes: bool, bytes: &[u8]) -> (&[u8], Option<&[u8
     }
 }
 
+/// Whether a text is a name, which is in two parts.
+fn is_name(text: &[u8], name: Name<'_>) -> bool
+    ensures { result ≡ bytes_eq text.now (name.entry.0.now ++ name.entry.1.now) }
+{
+    let (first, more) = name;
+    if text.len() < first.len() {
+        return false;
+    }
+    &text[..first.len()] == first && &text[first.len()..] == more
+}
+
 /// How many fields are before the only one of a row whose text is a name.
 pub(crate) fn find_column(
     separator: u8,
     quotes: bool,
-    name: &[u8],
+    name: Name<'_>,
     row: &[u8],
 ) -> Result<usize, ColumnError>
     requires { (34 == separator) ≡ false }
-    ensures { result ≡ column_of separator quotes name.now row.now }
+    ensures { result ≡ column_of separator quotes (name.entry.0.now ++ name.entry.1.now) row.now }
 {
     let mut found = None;
     let mut place = 0;
     let mut rest = Some(row);
     while let Some(bytes) = rest {
         let (field, after) = first_field(separator, quotes, bytes);
-        if field_text(quotes, field) == name {
+        if is_name(field_text(quotes, field), name) {
             if found.is_some() {
                 return Err(ColumnError::NotUnique);
             }
@@ -53,39 +69,99 @@ pub(crate) fn find_column(
 }
 
 /// How many fields are before the cell's, by a header.
-pub(crate) fn chosen_field(
-    options: &RowOptions,
-    name: &[u8],
-    row: &[u8],
-) -> Result<usize, ColumnError>
-    ensures { result ≡ chosen_in (form_of options.now name.now)
-        (form_of options.now name.now).choice row.now }
+fn chosen_field(options: &RowOptions, row: &[u8]) -> Result<usize, ColumnError>
+    ensures { result ≡ chosen_in (form_of options.now [])
+        (form_of options.now []).choice row.now }
 {
     match &options.field {
         CellField::Number(number) => Ok(*number as usize - 1),
         CellField::Column(column) => {
-            find_column(options.separator, options.quotes, column.as_bytes(), row)
+            let name = (column.as_bytes(), b"".as_slice());
+            find_column(options.separator, options.quotes, name, row)
         }
     }
 }
 
-/// The name of the new column.
-pub(crate) fn column_name<'n>(options: &'n RowOptions, name: &'n [u8]) -> &'n [u8]
-    ensures { result.now ≡ (form_of options.now name.now).name }
+/// The columns, by a header.
+pub(crate) fn columns_in(options: &RowOptions, row: &[u8]) -> Result<Columns, ColumnError>
+    ensures { result ≡ columns_in (form_of options.now []) row.now }
 {
-    match &options.name {
-        Some(given) => given.as_bytes(),
-        None => name,
+    let before = chosen_field(options, row)?;
+    let width = if options.is_ragged {
+        None
+    } else {
+        Some(count_fields(options.separator, options.quotes, row))
+    };
+    Ok(Columns { before, width })
+}
+
+/// The name of the new column, and that of a second one where an answer is a pair.
+pub(crate) fn answer_names<'n>(
+    options: &'n RowOptions,
+    name: &'n [u8],
+    is_pair: bool,
+) -> (Name<'n>, Option<Name<'n>>)
+    ensures { answer_names is_pair (option_map string_bytes options.now.name) name.now
+        ≡ (result.0.0.now ++ result.0.1.now)
+        ∷ listed (option_map (λ n. n.0.now ++ n.1.now) result.1) }
+{
+    match (&options.name, is_pair) {
+        (None, false) => ((name, b""), None),
+        (Some(given), false) => ((given.as_bytes(), b""), None),
+        (None, true) => ((b"near", b""), Some((b"distance", b""))),
+        (Some(given), true) => {
+            let given = given.as_bytes();
+            ((given, b""), Some((given, b"Distance")))
+        }
     }
 }
 
-/// The names of two new columns: the first one, and the second one in two parts.
-pub(crate) fn pair_names<'n>(options: &'n RowOptions) -> (&'n [u8], &'n [u8], &'n [u8])
-    ensures { pair_names options.now.separator (option_map string_bytes options.now.name)
-        ≡ result.0.now ++ (options.now.separator ∷ (result.1.now ++ result.2.now)) }
+/// The name of the column of errors, if there is one.
+pub(crate) fn error_name(options: &RowOptions) -> Option<Name<'_>>
+    ensures { error_names options.now.shows_errors (option_map string_bytes options.now.name)
+        ≡ listed (option_map (λ n. n.0.now ++ n.1.now) result) }
 {
-    match &options.name {
-        Some(given) => (given.as_bytes(), given.as_bytes(), b"Distance"),
-        None => (b"cell", b"distance", b""),
+    if !options.shows_errors {
+        return None;
     }
+    match &options.name {
+        None => Some((b"error", b"")),
+        Some(given) => Some((given.as_bytes(), b"Error")),
+    }
+}
+
+/// Whether no field of a header has a name as its text.
+fn is_free(options: &RowOptions, name: Name<'_>, row: &[u8]) -> bool
+    ensures { result ≡ is_free (form_of options.now []) row.now (name.entry.0.now ++ name.entry.1.now) }
+{
+    let found = find_column(options.separator, options.quotes, name, row);
+    matches!(found, Err(ColumnError::NotFound))
+}
+
+/// Whether no field of a header has the name of a new column as its text.
+fn are_free(options: &RowOptions, name: &[u8], is_pair: bool, row: &[u8]) -> bool
+    ensures { result ≡ list_all (is_free (columns_form options.now name.now is_pair) row.now)
+        (columns_form options.now name.now is_pair).names }
+{
+    let (first, second) = answer_names(options, name, is_pair);
+    is_free(options, first, row)
+        && second.is_none_or(|second| is_free(options, second, row))
+        && error_name(options).is_none_or(|error| is_free(options, error, row))
+}
+
+/// The columns, by a header to which the names of new ones are added.
+pub(crate) fn free_columns(
+    options: &RowOptions,
+    name: &[u8],
+    is_pair: bool,
+    row: &[u8],
+) -> Result<Columns, ColumnError>
+    ensures { result ≡ free_columns (columns_form options.now name.now is_pair) row.now
+        (columns_in (columns_form options.now name.now is_pair) row.now) }
+{
+    let columns = columns_in(options, row)?;
+    if !are_free(options, name, is_pair, row) {
+        return Err(ColumnError::InUse);
+    }
+    Ok(columns)
 }

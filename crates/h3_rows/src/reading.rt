@@ -1,69 +1,123 @@
 //! What a row says of its cell.
 
-ghost use Rattle.std.specs.Prelude.{◌≡◌, ◌==◌, ◌+◌, ◌≤◌, length};
+ghost use Rattle.std.specs.Prelude.{◌≡◌, ◌==◌, ◌+◌, ◌≤◌, ◌&&◌, ◌||◌, false, length, nat_lt, not, option_map, true};
 ghost use Rattle.std.specs.List.{count_by};
+ghost use Rattle.h3_lines.specs.Pieces.{is_uncut};
+ghost use Rattle.h3_rows.specs.Line.{line_of};
+ghost use Rattle.h3_rows.specs.Row.{quotes_are_sound, read_of, row_body};
 ghost use Rattle.h3_rows.specs.RowForm.{form_of};
-ghost use Rattle.h3_rows.specs.RowsAnswer.{is_malformed, row_said, text_said};
+ghost use Rattle.h3_rows.specs.RowsAnswer.{field_said, malformed, row_said, text_said};
 
-use crate::fields::{field_text, find_field, quotes_are_sound, read_of, row_body};
+use crate::fields::{
+    count_and_find, field_text, find_field, has_return, quotes_are_sound, read_of,
+};
+use crate::row::Row;
 use crate::said::Said;
-use h3_index::{H3Error, is_blank_text, read_index};
+use crate::state::Columns;
+use h3_index::{is_blank_text, read_index};
+use h3_lines::RowFault;
 use h3_requests::RowOptions;
 use memchr::memchr;
 
-/// The bytes that a row may have before its line feed.
-pub(crate) const LONGEST: usize = 65536;
+/// The bytes that a row may have before its line feed, with the carriage returns at its end.
+pub(crate) const LONGEST: usize = 1_114_111;
 
 /// The bytes that a row may have without its ending.
-const LONGEST_ROW: usize = 65535;
+const LONGEST_ROW: usize = 1_048_575;
 
 /// What the text of a field says.
-fn text_said(text: &[u8]) -> Said
+fn text_said(text: &[u8]) -> Result<Said, RowFault>
     ensures { result ≡ text_said text.now }
 {
     match read_index(text) {
-        Ok(index) => Said::Index(Some(index)),
-        Err(_) if is_blank_text(text) => Said::Missing,
-        Err(_) => Said::Index(None),
+        Ok(index) => Ok(Said::Index(index)),
+        Err(_) if is_blank_text(text) => Ok(Said::Missing),
+        Err(_) => Err(RowFault::NotAnIndex),
     }
 }
 
-/// Whether a row is too long, a quote is open at its end, or one is stray.
-pub(crate) fn is_malformed(
+/// Whether a row is too long.
+fn is_too_long(row: Row<'_>) -> bool
+    ensures { result ≡ (nat_lt 1048575 (length (row_body (line_of row.entry)))
+        || nat_lt 1114111 (length (line_of row.entry))) }
+{
+    row.body.len() > LONGEST_ROW || row.body.len() + row.returns > LONGEST
+}
+
+/// Whether quotes count, and a carriage return in a row is outside of them.
+fn has_stray_return(options: &RowOptions, row: Row<'_>) -> bool
+    ensures { result ≡ (options.now.quotes
+        && not (is_uncut 13 true false (row_body (line_of row.entry)))) }
+{
+    options.quotes && has_return(row.body)
+}
+
+/// Whether quotes count, and one in a row is stray.
+fn has_stray_quote(options: &RowOptions, number: u64, row: Row<'_>) -> bool
+    ensures { result ≡ (options.now.quotes && not (quotes_are_sound options.now.separator
+        (read_of number (row_body (line_of row.entry))))) }
+{
+    options.quotes && !quotes_are_sound(options.separator, read_of(number, row.body))
+}
+
+/// Why a row is malformed, if it is.
+pub(crate) fn malformed(
     options: &RowOptions,
     name: &[u8],
     number: u64,
-    row: &[u8],
+    row: Row<'_>,
     inside: bool,
-) -> bool
-    ensures { result ≡ is_malformed (form_of options.now name.now) number (row.now, inside) }
+) -> Option<RowFault>
+    ensures { result
+        ≡ malformed (form_of options.now name.now) number (line_of row.entry, inside) }
 {
-    let body = row_body(row);
-    if body.len() > LONGEST_ROW || inside {
-        return true;
+    if is_too_long(row) {
+        return Some(RowFault::TooLong);
     }
-    options.quotes && !quotes_are_sound(options.separator, read_of(number, body))
+    if has_stray_return(options, row) {
+        return Some(RowFault::CarriageReturn);
+    }
+    if inside {
+        return Some(RowFault::OpenQuote);
+    }
+    if has_stray_quote(options, number, row) {
+        return Some(RowFault::StrayQuote);
+    }
+    None
 }
 
-/// What a row says of its cell, in the field after `before` others.
+/// What a field says, if there is one.
+#[inline(always)]
+fn field_said(quotes: bool, field: Option<&[u8]>) -> Result<Said, RowFault>
+    ensures { result ≡ field_said quotes (option_map (λ f. f.now) field.entry) }
+{
+    match field {
+        Some(field) => text_said(field_text(quotes, field)),
+        None => Err(RowFault::NoSuchField),
+    }
+}
+
+/// What a row says of its cell.
 pub(crate) fn read_row(
     options: &RowOptions,
     name: &[u8],
     number: u64,
-    before: usize,
+    columns: Columns,
     row: &[u8],
-) -> Result<Said, H3Error>
-    ensures { result ≡ row_said (form_of options.now name.now) number before row.now }
+) -> Result<Said, RowFault>
+    ensures { result ≡ row_said (form_of options.now name.now) number columns row.now }
 {
-    match find_field(
-        options.separator,
-        options.quotes,
-        before,
-        read_of(number, row),
-    ) {
-        Some(field) => Ok(text_said(field_text(options.quotes, field))),
-        None => Err(H3Error::Failed),
+    let read = read_of(number, row);
+    let Columns { before, width } = columns;
+    if let Some(width) = width {
+        let (count, field) = count_and_find(options.separator, options.quotes, before, read);
+        if count != width {
+            return Err(RowFault::FieldCount(count as u64, width as u64));
+        }
+        return field_said(options.quotes, field);
     }
+    let field = find_field(options.separator, options.quotes, before, read);
+    field_said(options.quotes, field)
 }
 
 /// How many line feeds are in a row.

@@ -6,6 +6,6 @@ pub enum Said {
     /// Its text is blank.
     Missing,
 
-    /// The index that its text parses as, if it parses as one.
-    Index(Option<u64>),
+    /// The index that its text parses as.
+    Index(u64),
 }

@@ -2,11 +2,24 @@
 
 ghost use Rattle.std.specs.Prelude.{◌≡◌, ◌≤◌, ◌<◌, ◌+◌, ◌^◌, None, Some, length};
 ghost use Rattle.h3_rows.specs.Row.{next_number};
-ghost use Rattle.h3_rows.specs.RowsAnswer.{before_first, choice_of, more_kept, one_more};
+ghost use Rattle.h3_rows.specs.Line.{line_of};
+ghost use Rattle.h3_rows.specs.RowsAnswer.{choice_of, columns_first, more_kept, one_more};
 
 use crate::reading::feeds;
-use h3_index::H3Error;
+use crate::row::Row;
+use h3_lines::RowError;
 use h3_requests::{CellField, RowOptions};
+
+/// Where a row's cell is, and how many fields a row has.
+#[derive(Clone, Copy, Drop)]
+pub struct Columns {
+    /// How many fields are before the cell's.
+    pub before: usize,
+
+    /// The fields that a row has to have: as many as the header. `None` if there is no header, or rows
+    /// may have any number of fields.
+    pub width: Option<usize>,
+}
 
 /// The first error after which a run went on.
 #[derive(Clone, Copy, Drop)]
@@ -15,7 +28,7 @@ pub struct Kept {
     pub number: u64,
 
     /// The row's error.
-    pub error: H3Error,
+    pub error: RowError,
 
     /// How many rows more had an error.
     pub more: u64,
@@ -27,8 +40,8 @@ pub struct RowState {
     /// The number of the next row.
     pub number: u64,
 
-    /// How many fields are before the cell's: `None` while a header is awaited.
-    pub before: Option<usize>,
+    /// The columns: `None` while a header is awaited.
+    pub columns: Option<Columns>,
 
     /// The first error after which the run went on.
     pub kept: Option<Kept>,
@@ -38,16 +51,16 @@ pub struct RowState {
 
 impl RowState {
     /// The state after a row that changes nothing but the number.
-    pub(crate) fn passed(self, row: &[u8]) -> RowState
-        requires { self.number + length row.now < 2 ^ 63 }
-        ensures number { result.number ≡ next_number self.number row.now }
-        ensures few { result.number ≤ self.number + length row.now + 1 }
-        ensures before { result.before ≡ self.before }
+    pub(crate) fn passed(self, row: Row<'_>) -> RowState
+        requires { self.number + length row.body.now < 2 ^ 63 }
+        ensures number { result.number ≡ next_number self.number (line_of row.entry) }
+        ensures few { result.number ≤ self.number + length row.entry.body.now + 1 }
+        ensures columns { result.columns ≡ self.columns }
         ensures kept { result.kept ≡ self.kept }
     {
         RowState {
-            number: self.number + 1 + feeds(row) as u64,
-            before: self.before,
+            number: self.number + 1 + feeds(row.body) as u64,
+            columns: self.columns,
             kept: self.kept,
         }
     }
@@ -58,18 +71,18 @@ impl RowState {
     pub(crate) fn count(&mut self)
         requires { self.old.number < 2 ^ 63 }
         ensures number { self.new.number ≡ self.old.number + 1 }
-        ensures before { self.new.before ≡ self.old.before }
+        ensures columns { self.new.columns ≡ self.old.columns }
         ensures kept { self.new.kept ≡ self.old.kept }
     {
         self.number += 1;
     }
 
     /// The state with an error more.
-    pub(crate) fn with_error(self, row: &[u8], error: H3Error) -> RowState
-        requires { self.number + length row.now < 2 ^ 63 }
-        ensures number { result.number ≡ next_number self.number row.now }
-        ensures few { result.number ≤ self.number + length row.now + 1 }
-        ensures before { result.before ≡ self.before }
+    pub(crate) fn with_error(self, row: Row<'_>, error: RowError) -> RowState
+        requires { self.number + length row.body.now < 2 ^ 63 }
+        ensures number { result.number ≡ next_number self.number (line_of row.entry) }
+        ensures few { result.number ≤ self.number + length row.entry.body.now + 1 }
+        ensures columns { result.columns ≡ self.columns }
         ensures kept { result.kept ≡ Some (one_more self.number error self.kept) }
     {
         let kept = match self.kept {
@@ -85,23 +98,23 @@ impl RowState {
             },
         };
         RowState {
-            number: self.number + 1 + feeds(row) as u64,
-            before: self.before,
+            number: self.number + 1 + feeds(row.body) as u64,
+            columns: self.columns,
             kept: Some(kept),
         }
     }
 
-    /// The state after a header, with so many fields before the cell's.
-    pub(crate) fn headed(self, row: &[u8], before: usize) -> RowState
-        requires { self.number + length row.now < 2 ^ 63 }
-        ensures number { result.number ≡ next_number self.number row.now }
-        ensures few { result.number ≤ self.number + length row.now + 1 }
-        ensures before { result.before ≡ Some before }
+    /// The state after a header, which tells the columns.
+    pub(crate) fn headed(self, row: Row<'_>, columns: Columns) -> RowState
+        requires { self.number + length row.body.now < 2 ^ 63 }
+        ensures number { result.number ≡ next_number self.number (line_of row.entry) }
+        ensures few { result.number ≤ self.number + length row.entry.body.now + 1 }
+        ensures columns { result.columns ≡ Some columns }
         ensures kept { result.kept ≡ self.kept }
     {
         RowState {
-            number: self.number + 1 + feeds(row) as u64,
-            before: Some(before),
+            number: self.number + 1 + feeds(row.body) as u64,
+            columns: Some(columns),
             kept: self.kept,
         }
     }
@@ -110,17 +123,20 @@ impl RowState {
 /// The state at the beginning of a list.
 pub(crate) fn first_state(options: &RowOptions) -> RowState
     ensures number { result.number ≡ 1 }
-    ensures before { result.before
-        ≡ before_first options.now.has_header (choice_of options.now.field) }
+    ensures columns { result.columns
+        ≡ columns_first options.now.has_header (choice_of options.now.field) }
     ensures kept { result.kept ≡ None }
 {
-    let before = match &options.field {
-        CellField::Number(number) if !options.has_header => Some(*number as usize - 1),
+    let columns = match &options.field {
+        CellField::Number(number) if !options.has_header => Some(Columns {
+            before: *number as usize - 1,
+            width: None,
+        }),
         _ => None,
     };
     RowState {
         number: 1,
-        before,
+        columns,
         kept: None,
     }
 }

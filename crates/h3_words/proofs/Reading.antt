@@ -32,7 +32,7 @@ use Rattle.h3_words.proofs.Lexed as lexed
 use Rattle.h3_words.proofs.Lexed.{given_same}
 use Rattle.h3_words.proofs.Leaf.{Passes, Reads, leaf_reads, row_of_option}
 use Rattle.h3_words.specs.Rows.{HasRows, IsCellField, Texts, default_separator, found_texts, named_separator, rows_agree}
-use Rattle.h3_words.specs.declared.options.CommandOption.TheVariants.{Field, Column, Header, Separator, Csv, As, KeepGoing, Table, Region, Zones}
+use Rattle.h3_words.specs.declared.options.CommandOption.TheVariants.{Field, Column, Header, Separator, Csv, As, KeepGoing, Errors, Ragged, Table, Region, Zones}
 use Rattle.h3_requests.specs.declared.rows.CellField.{CellField}
 use Rattle.h3_requests.specs.declared.rows.CellField.TheVariants as field
 use Rattle.h3_requests.specs.declared.rows.RowOptions.{RowOptions}
@@ -178,7 +178,7 @@ abbrev pub Alike : Texts → Texts → Type 0
 Alike f g = (o : CommandOption) → f o ≡ g o
 
 pub agree_alike : (f g : Texts) → Alike f g → rows_agree f ≡ rows_agree g
-agree_alike f g e = rw (e Field, e Column, e Header, e Separator, e Csv, e As, e KeepGoing) refl
+agree_alike f g e = rw (e Field, e Column, e Header, e Separator, e Csv, e As, e KeepGoing, e Errors, e Ragged) refl
 
 pub rows_alike : (f g : Texts) → Alike f g → (rows : Option RowOptions) → HasRows f rows → HasRows g rows
 rows_alike f g e None has = (sym (e Field) ∙ has.0, sym (e Column) ∙ has.1)
@@ -189,6 +189,8 @@ rows_alike f g e (Some rows) has = record {
   quotes = has.quotes ∙ ap is_some (e Csv);
   name = has.name ∙ e As;
   keeps_going = has.keeps_going ∙ ap is_some (e KeepGoing);
+  shows_errors = has.shows_errors ∙ ap is_some (e Errors);
+  is_ragged = has.is_ragged ∙ ap is_some (e Ragged);
 }
   where
     cell : (c : CellField) → IsCellField f c → IsCellField g c

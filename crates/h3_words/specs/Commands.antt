@@ -86,11 +86,11 @@ pub record Call : Type 0 where
 
 -- the options of each command that answers about its list as a whole: how its rows are read
 abbrev pub list_options : List CommandOption
-list_options = option.Field ∷ option.Column ∷ option.Header ∷ option.Separator ∷ option.Csv ∷ []
+list_options = option.Field ∷ option.Column ∷ option.Header ∷ option.Separator ∷ option.Csv ∷ option.Ragged ∷ []
 
 -- the options of each command that answers its list line by line: how its rows are read and written
 abbrev pub line_options : List CommandOption
-line_options = option.Field ∷ option.Column ∷ option.Header ∷ option.Separator ∷ option.Csv ∷ option.As ∷ option.KeepGoing ∷ []
+line_options = option.Field ∷ option.Column ∷ option.Header ∷ option.Separator ∷ option.Csv ∷ option.As ∷ option.KeepGoing ∷ option.Errors ∷ option.Ragged ∷ []
 
 -- call_of command: the word of a `Command`, the values that it has for its options, and its other options
 abbrev pub call_of : Command → Call

@@ -58,6 +58,8 @@ option_entry option.Separator = of_rows (codes "separator") (codes "separator")
 option_entry option.Csv = record (of_rows (codes "csv") (codes "csv")) { is_flag = true }
 option_entry option.As = of_rows (codes "name") (codes "as")
 option_entry option.KeepGoing = record (of_rows (codes "keep-going") (codes "keep-going")) { is_flag = true }
+option_entry option.Errors = record (of_rows (codes "errors") (codes "errors")) { is_flag = true }
+option_entry option.Ragged = record (of_rows (codes "ragged") (codes "ragged")) { is_flag = true }
 
 -- the option's id in `clap`
 abbrev pub id_of : CommandOption → Text

@@ -12,7 +12,7 @@ use Rattle.h3_requests.specs.declared.rows.CellField.TheVariants as field
 use Rattle.h3_requests.specs.declared.rows.RowOptions.{RowOptions}
 use Rattle.h3_words.specs.Options.{IsInRange, id_of}
 use Rattle.h3_words.specs.declared.options.CommandOption.{CommandOption}
-use Rattle.h3_words.specs.declared.options.CommandOption.TheVariants.{Field, Column, Header, Separator, Csv, As, KeepGoing}
+use Rattle.h3_words.specs.declared.options.CommandOption.TheVariants.{Field, Column, Header, Separator, Csv, As, KeepGoing, Errors, Ragged}
 
 -- Texts: the text that each option is given, if it is given
 abbrev pub Texts : Type 0
@@ -57,17 +57,23 @@ abbrev pub needs : Bool → Bool → Bool
 needs first second = not first || second
 
 -- has_company text: each option of rows has what it goes with: `--header` the option `--field`, `--separator`, `--csv` and
--- `--keep-going` one of `--field` and `--column`, which exclude each other, and `--as` a header
+-- `--keep-going` one of `--field` and `--column`, which exclude each other, `--as` and `--ragged` a header, and `--errors` the
+-- option `--keep-going`
 abbrev pub has_company : Texts → Bool
 has_company text =
     not (has text Field && has text Column)
     && (needs (has text Header) (has text Field)
     && (needs (has text Separator || (has text Csv || has text KeepGoing)) (has text Field || has text Column)
-    && needs (has text As) (has text Column || has text Header)))
+    && (needs (has text As || has text Ragged) (has text Column || has text Header)
+    && needs (has text Errors) (has text KeepGoing))))
 
--- names_fit text: `--separator` names a separator, and `--as` the name of a column
+-- cuts_errors text separator: there is a column of the names of errors, which have an underscore (95), and it separates fields
+abbrev pub cuts_errors : Texts → ℕ → Bool
+cuts_errors text separator = has text Errors && separator == 95
+
+-- names_fit text: `--separator` names a separator, which does not cut the names of errors, and `--as` the name of a column
 abbrev pub names_fit : Texts → Bool
-names_fit text = option_map_or (λ c. option_map_or (is_column_name c) (text As) true) (separator_of text) false
+names_fit text = option_map_or (λ c. not (cuts_errors text c) && option_map_or (is_column_name c) (text As) true) (separator_of text) false
 
 -- rows_agree text: each option of rows has what it goes with, and names what it may
 abbrev pub rows_agree : Texts → Bool
@@ -92,6 +98,8 @@ pub record AreRowOptions (text : Texts) (rows : RowOptions) : Type 0 where
   pub quotes : rows.quotes ≡ has text Csv
   pub name : option_map string_bytes rows.name ≡ text As
   pub keeps_going : rows.keeps_going ≡ has text KeepGoing
+  pub shows_errors : rows.shows_errors ≡ has text Errors
+  pub is_ragged : rows.is_ragged ≡ has text Ragged
 
 -- HasRows text rows: the options of rows are exactly what their texts say, and there are none where neither `--field` nor
 -- `--column` is given

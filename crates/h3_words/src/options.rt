@@ -60,6 +60,12 @@ pub enum CommandOption {
 
     /// `--keep-going`: a row with an error has an empty answer, and the run goes on.
     KeepGoing,
+
+    /// `--errors`: one more new column has the names of the rows' errors.
+    Errors,
+
+    /// `--ragged`: rows may have another number of fields than the header.
+    Ragged,
 }
 
 /// A file that a command names by an option: its kind, and its path as it is given.
@@ -212,6 +218,12 @@ macro_rules! options {
             KeepGoing
                 [of_rows!("keep-going", "keep-going", true, "Leave the answer of a bad row empty, and go on")]
                 ("go on after a row with an error");
+            Errors
+                [of_rows!("errors", "errors", true, "With --keep-going: add a column of error names")]
+                ("add a column with the name of each row's error");
+            Ragged
+                [of_rows!("ragged", "ragged", true, "With a header: take rows of any number of fields")]
+                ("take rows of another number of fields than the header");
         }
     };
 }

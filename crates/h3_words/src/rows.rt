@@ -4,7 +4,7 @@ ghost use Rattle.std.specs.Prelude.{◌≡◌, IfOk, IfSome, option_map, string_
 ghost use Rattle.std.specs.List.{list_any};
 ghost use Rattle.clap.specs.Words.{found_of};
 ghost use Rattle.h3_requests.specs.Rows.{is_counted, is_separator};
-ghost use Rattle.h3_words.specs.Rows.{HasCellField, HasRows, found_texts, has_company, is_column_name, is_in_no_name, named_separator, names_fit, rows_agree, separator_of};
+ghost use Rattle.h3_words.specs.Rows.{HasCellField, HasRows, cuts_errors, found_texts, has_company, is_column_name, is_in_no_name, named_separator, names_fit, rows_agree, separator_of};
 ghost use Rattle.h3_words.specs.Values.{IsAccepted};
 ghost use Rattle.h3_words.specs.declared.options.CommandOption.TheVariants.{As, Field};
 
@@ -20,12 +20,18 @@ static OF_ROWS: [(CommandOption, &str); 3] = [
     (KeepGoing, "--keep-going"),
 ];
 
+/// The options that go with a header, as a usage shows them.
+static OF_A_HEADER: [(CommandOption, &str); 2] = [(As, "--as <name>"), (Ragged, "--ragged")];
+
 /// Why a text is no separator.
 const NO_SEPARATOR: &str =
     "a separator is \\t or one ASCII character, and no letter, digit, hyphen, double quote or line end";
 
 /// Why a text is not the name of a column.
 const NO_NAME: &str = "a name has no separator, double quote or line end";
+
+/// Why a separator does not go with `--errors`.
+const NO_ERRORS: &str = "the names of --errors have an underscore";
 
 /// The separator that the text of `--separator` names, if it names one.
 fn named_separator(text: &[u8]) -> Option<u8>
@@ -71,15 +77,26 @@ fn is_column_name(name: &[u8], separator: u8) -> bool
     !has_such_a_byte(name, separator)
 }
 
-/// Whether `--separator` names a separator, and `--as` the name of a column.
+/// Whether there is a column of the names of errors, and this separator cuts them.
+fn cuts_errors(matches: &ArgMatches<'_>, separator: u8) -> bool
+    ensures { result ≡ cuts_errors (found_texts (found_of matches.now)) separator }
+{
+    Errors.is_given(matches) && separator == b'_'
+}
+
+/// Whether `--separator` names a separator, which does not cut the names of errors, and `--as` the
+/// name of a column.
 fn names_fit(matches: &ArgMatches<'_>) -> bool
     ensures { result ≡ names_fit (found_texts (found_of matches.now)) }
 {
     match separator(matches) {
-        Some(byte) => match As.text(matches) {
-            Some(name) => is_column_name(name.as_bytes(), byte),
-            None => true,
-        },
+        Some(byte) => {
+            !cuts_errors(matches, byte)
+                && match As.text(matches) {
+                    Some(name) => is_column_name(name.as_bytes(), byte),
+                    None => true,
+                }
+        }
         None => false,
     }
 }
@@ -95,10 +112,13 @@ fn has_company(matches: &ArgMatches<'_>) -> bool
     let csv = Csv.is_given(matches);
     let name = As.is_given(matches);
     let keep_going = KeepGoing.is_given(matches);
+    let errors = Errors.is_given(matches);
+    let ragged = Ragged.is_given(matches);
     !(field && column)
         && (!header || field)
         && (!(separator || csv || keep_going) || field || column)
-        && (!name || column || header)
+        && (!(name || ragged) || column || header)
+        && (!errors || keep_going)
 }
 
 /// Whether each option of rows has what it goes with, and names what it may.
@@ -124,36 +144,58 @@ fn invalid(
     format!(in alloc; "invalid value '{value}' for '{option}': {reason}")
 }
 
+/// The first of these options that is given, as a usage shows it.
+fn first_given(
+    matches: &ArgMatches<'_>,
+    options: &'static [(CommandOption, &'static str)],
+) -> Option<&'static str> {
+    for (option, shown) in options {
+        if option.is_given(matches) {
+            return Some(*shown);
+        }
+    }
+    None
+}
+
+/// The first option that is given without what it goes with, and that, as a usage shows them.
+fn first_alone(matches: &ArgMatches<'_>) -> Option<(&'static str, &'static str)> {
+    if Header.is_given(matches) && !Field.is_given(matches) {
+        return Some(("--header", "'--field <number>'"));
+    }
+    if !Field.is_given(matches) && !Column.is_given(matches) {
+        if let Some(shown) = first_given(matches, &OF_ROWS) {
+            return Some((shown, "'--field <number>' or '--column <column>'"));
+        }
+    }
+    if !Column.is_given(matches) && !Header.is_given(matches) {
+        if let Some(shown) = first_given(matches, &OF_A_HEADER) {
+            return Some((shown, "'--column <column>' or '--header'"));
+        }
+    }
+    if Errors.is_given(matches) && !KeepGoing.is_given(matches) {
+        return Some(("--errors", "'--keep-going'"));
+    }
+    None
+}
+
 /// What is wrong with the options of rows, where they do not agree: the first rule that is broken.
 fn broken_rule(alloc: Global, matches: &ArgMatches<'_>) -> Result<String, AllocError> {
-    let is_of_rows = Field.is_given(matches) || Column.is_given(matches);
     if Field.is_given(matches) && Column.is_given(matches) {
         return format!(in alloc;
             "the argument '--field <number>' cannot be used with '--column <column>'"
         );
     }
-    if Header.is_given(matches) && !Field.is_given(matches) {
-        return lacking(alloc, "--header", "'--field <number>'");
+    if let Some((option, wanted)) = first_alone(matches) {
+        return lacking(alloc, option, wanted);
     }
-    if !is_of_rows {
-        for (option, shown) in &OF_ROWS {
-            if option.is_given(matches) {
-                return lacking(alloc, shown, "'--field <number>' or '--column <column>'");
-            }
+    let (option, shown, reason) = match separator(matches) {
+        None => (Separator, "--separator <separator>", NO_SEPARATOR),
+        Some(byte) if cuts_errors(matches, byte) => {
+            (Separator, "--separator <separator>", NO_ERRORS)
         }
-    }
-    if As.is_given(matches) && !Column.is_given(matches) && !Header.is_given(matches) {
-        return lacking(alloc, "--as <name>", "'--column <column>' or '--header'");
-    }
-    if separator(matches).is_none() {
-        return invalid(
-            alloc,
-            Separator.text(matches),
-            "--separator <separator>",
-            NO_SEPARATOR,
-        );
-    }
-    invalid(alloc, As.text(matches), "--as <name>", NO_NAME)
+        Some(_) => (As, "--as <name>", NO_NAME),
+    };
+    invalid(alloc, option.text(matches), shown, reason)
 }
 
 /// The text of an invalid command line whose options of rows do not agree, in the form of `clap`'s.
@@ -218,5 +260,7 @@ pub(crate) fn row_options(
         quotes: Csv.is_given(matches),
         name: column_name(alloc, matches)?,
         keeps_going: KeepGoing.is_given(matches),
+        shows_errors: Errors.is_given(matches),
+        is_ragged: Ragged.is_given(matches),
     }))
 }

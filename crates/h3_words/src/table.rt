@@ -19,14 +19,14 @@ pub(crate) struct Entry<'a> {
 // These options, and those of a command that answers about its list as a whole.
 macro_rules! with_list_options {
     ($($own:ident)?) => {
-        &[$($own,)? Field, Column, Header, Separator, Csv]
+        &[$($own,)? Field, Column, Header, Separator, Csv, Ragged]
     };
 }
 
 // These options, and those of a command that answers its list line by line.
 macro_rules! with_line_options {
     ($($own:ident),*) => {
-        &[$($own,)* Field, Column, Header, Separator, Csv, As, KeepGoing]
+        &[$($own,)* Field, Column, Header, Separator, Csv, As, KeepGoing, Errors, Ragged]
     };
 }
 

@@ -362,7 +362,7 @@ static LIST_USAGES: [(&str, &str); 27] = [
 ];
 
 /// Lines that ask for help of a command that reads rows, and what it says of them.
-static ROWS_HELP: [(&str, &str); 24] = [
+static ROWS_HELP: [(&str, &str); 31] = [
     ("h3 cellsToParents --help", "\nRows:\n"),
     ("h3 cellsToParents --help", "--field <number>"),
     ("h3 cellsToParents --help", "--column <column>"),
@@ -406,6 +406,13 @@ static ROWS_HELP: [(&str, &str); 24] = [
     ("h3 uncompactCells --help", "\nRows:\n"),
     ("h3 intersectCells --help", "--field <number>"),
     ("h3 countCellsInZones --help", "--csv "),
+    ("h3 cellsToParents --help", "--errors "),
+    ("h3 cellsToParents --help", "--ragged "),
+    ("h3 cellsToZones --help", "--errors "),
+    ("h3 areCoveredCells --help", "--ragged "),
+    ("h3 gridDisksDistancesUnsafe --help", "--errors "),
+    ("h3 uniteCells --help", "--ragged "),
+    ("h3 countCellsInZones --help", "--ragged "),
 ];
 
 #[test]

@@ -228,6 +228,74 @@ fn reads_names_of_columns(rt: HostRuntime) {
     expect_all(&rt, row, NAMES.len());
 }
 
+/// Lines with the columns of errors and the rows of any number of fields: whether each is asked for.
+static FLAGS: [(&str, bool, bool); 14] = [
+    ("h3 getResolutions --field 1", false, false),
+    ("h3 getResolutions --column a --keep-going", false, false),
+    ("h3 getResolutions --column a --csv --as b", false, false),
+    (
+        "h3 getResolutions --field 1 --keep-going --errors",
+        true,
+        false,
+    ),
+    (
+        "h3 getResolutions --errors --keep-going --column a",
+        true,
+        false,
+    ),
+    (
+        "h3 cellsToZones --zones z --csv --column a --as b --errors --keep-going",
+        true,
+        false,
+    ),
+    ("h3 getResolutions --ragged --column a", false, true),
+    (
+        "h3 cellsToChildren -r 5 --field 2 --header --ragged",
+        false,
+        true,
+    ),
+    (
+        "h3 getResolutions --column a --keep-going --errors --ragged",
+        true,
+        true,
+    ),
+    (
+        "h3 getResolutions --field 1 --separator _ --keep-going",
+        false,
+        false,
+    ),
+    (
+        "h3 getResolutions --csv --separator ; --field 1 --keep-going --errors",
+        true,
+        false,
+    ),
+    ("h3 compactCells --csv --column a", false, false),
+    ("h3 compactCells --csv --column a --ragged", false, true),
+    (
+        "h3 countCellsInZones --ragged --zones z --header --field 3",
+        false,
+        true,
+    ),
+];
+
+/// Whether a line asks for rows with, or without, a column of errors and any number of fields.
+fn has_flags(alloc: Global, line: &str, shows_errors: bool, is_ragged: bool) -> bool {
+    match read(alloc, line) {
+        Ok(words) => match &words.rows {
+            Some(rows) => rows.shows_errors == shows_errors && rows.is_ragged == is_ragged,
+            None => false,
+        },
+        Err(_) => false,
+    }
+}
+
+#[test]
+fn reads_flags(rt: HostRuntime) {
+    for (line, errors, ragged) in &FLAGS {
+        expect(&rt, line, has_flags(rt.alloc(), line, *errors, *ragged));
+    }
+}
+
 /// Lines of commands that answer about their list as a whole.
 static LISTS: [(&str, Expected); 9] = [
     (
@@ -307,7 +375,7 @@ fn reads_no_rows(rt: HostRuntime) {
 }
 
 /// Lines with a number out of range, an option twice, or an option without what it goes with.
-static INVALID: [&str; 29] = [
+static INVALID: [&str; 38] = [
     "h3 getResolutions --field 0",
     "h3 getResolutions --field 65536",
     "h3 getResolutions --field -1",
@@ -337,6 +405,15 @@ static INVALID: [&str; 29] = [
     "h3 getResolutions --header --as a",
     "h3 cellsToParents -r 4 --csv",
     "h3 getResolutions --csv --separator ; --keep-going",
+    "h3 getResolutions --field 1 --keep-going --errors --errors",
+    "h3 getResolutions --column a --ragged --ragged",
+    "h3 getResolutions --errors",
+    "h3 getResolutions --field 1 --errors",
+    "h3 getResolutions --column a --csv --errors",
+    "h3 getResolutions --keep-going --errors",
+    "h3 getResolutions --ragged",
+    "h3 getResolutions --field 1 --ragged",
+    "h3 compactCells --field 1 --csv --ragged",
 ];
 
 #[test]
@@ -346,7 +423,7 @@ fn refuses_options_without_company(rt: HostRuntime) {
 }
 
 /// Lines with an unfit separator or name, a flag with a value, or an option of other commands.
-static UNFIT: [&str; 40] = [
+static UNFIT: [&str; 49] = [
     "h3 getResolutions --field 1 --separator a",
     "h3 getResolutions --field 1 --separator Z",
     "h3 getResolutions --field 1 --separator 0",
@@ -387,6 +464,15 @@ static UNFIT: [&str; 40] = [
     "h3 isValidCell -c 0 --field 1",
     "h3 gridDiskUnsafe -c 0 -k 1 --table t --csv",
     "h3 getRes0Cells --column a",
+    "h3 getResolutions --field 1 --keep-going --errors=1",
+    "h3 getResolutions --column a --ragged=true",
+    "h3 getResolutions --field 1 --keep-going --errors --separator _",
+    "h3 getResolutions --csv --column a --as b --keep-going --errors --separator _",
+    "h3 compactCells --column a --errors",
+    "h3 uniteCells --column a --keep-going --errors",
+    "h3 countCellsInZones --zones z --column a --errors",
+    "h3 isValidCell -c 0 --ragged",
+    "h3 cellToParent -c 0 -r 1 --errors",
 ];
 
 #[test]
@@ -396,7 +482,7 @@ fn refuses_unfit_values(rt: HostRuntime) {
 }
 
 /// Invalid lines, and what is said of each.
-static SAID: [(&str, &str); 13] = [
+static SAID: [(&str, &str); 20] = [
     (
         "h3 getResolutions --field -1",
         "invalid value '-1' for '--field <number>': -1 is not in 1..=65535",
@@ -446,6 +532,34 @@ static SAID: [(&str, &str); 13] = [
         "unexpected argument '--keep-going' found",
     ),
     ("h3 getResolutions --field 1 --csv=1", "--csv"),
+    (
+        "h3 getResolutions --field 1 --errors",
+        "error: the argument '--errors' cannot be used without '--keep-going'\n\nUsage: h3 getResolutions < cells\n",
+    ),
+    (
+        "h3 getResolutions --column a --keep-going --errors --separator _",
+        "invalid value '_' for '--separator <separator>': the names of --errors have an underscore",
+    ),
+    (
+        "h3 getResolutions --errors",
+        "the argument '--errors' cannot be used without '--keep-going'",
+    ),
+    (
+        "h3 getResolutions --keep-going --errors",
+        "the argument '--keep-going' cannot be used without '--field <number>' or '--column <column>'",
+    ),
+    (
+        "h3 compactCells --field 1 --ragged",
+        "error: the argument '--ragged' cannot be used without '--column <column>' or '--header'\n\nUsage: h3 compactCells < cells\n",
+    ),
+    (
+        "h3 getResolutions --ragged",
+        "the argument '--ragged' cannot be used without '--column <column>' or '--header'",
+    ),
+    (
+        "h3 compactCells --column a --errors",
+        "unexpected argument '--errors' found",
+    ),
 ];
 
 #[test]

@@ -1,4 +1,4 @@
-use Rattle.h3_command.proofs.NewColumns.{answers_are_words, rows_stand_once, word_pairs_are_kept, word_pairs_are_uncut, words_are_fields, words_are_kept}
+use Rattle.h3_command.proofs.NewColumns.{answers_are_words, error_names_are_fields, error_names_are_kept, rows_stand_once, word_pairs_are_kept, word_pairs_are_uncut, words_are_fields, words_are_kept}
 use Rattle.h3_command.proofs.laws.answers_are_fields.Goals as goal
 
 pub returns-clause-words : goal.returns-clause-words
@@ -18,3 +18,9 @@ returns-clause-once c = rows_stand_once
 
 pub returns-clause-uncut : goal.returns-clause-uncut
 returns-clause-uncut c = word_pairs_are_uncut
+
+pub returns-clause-errors : goal.returns-clause-errors
+returns-clause-errors c = error_names_are_fields
+
+pub returns-clause-errors_kept : goal.returns-clause-errors_kept
+returns-clause-errors_kept c = error_names_are_kept c.answers_stand_beside.ensures.kept

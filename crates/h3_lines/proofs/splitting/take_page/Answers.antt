@@ -32,3 +32,8 @@ returns-clause-uncut g c =
     let left = left_is_end (take c.args.end c.args.page.now) c.in_ok-left.left.now c.in_ok-left.ensures.ok c.in_ok-left.ensures.uncut in
     let moved : take (length c.in_ok-left.left.now) c.move_to_front.new.page ≡ c.in_ok-left.left.now = c.move_to_front.ensures ∙ rw (length-take-le c.args.end c.args.page.now c.requires.end) at left.1 in
     subst (λ l. Uncut 10 c.args.quotes _ l c.in_ok-left.inside) (sym moved) c.in_ok-left.ensures.uncut
+
+pub returns-clause-within : goal.returns-clause-within
+returns-clause-within g c =
+    let left = left_is_end (take c.args.end c.args.page.now) c.in_ok-left.left.now c.in_ok-left.ensures.ok c.in_ok-left.ensures.uncut in
+    omega (arith, left.0, length-take-le c.args.end c.args.page.now c.requires.end)

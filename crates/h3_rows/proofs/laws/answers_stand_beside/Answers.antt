@@ -1,6 +1,6 @@
 use Rattle.h3_rows.proofs.Kept.{fields_are_kept, pairs_are_kept, rows_are_whole}
 use Rattle.h3_rows.proofs.ReadBack.{output_reads_back, rows_read_back}
-use Rattle.h3_rows.proofs.Stand.{rows_give_back, rows_stand, rows_stand_until}
+use Rattle.h3_rows.proofs.Stand.{header_stands, rows_give_back, rows_stand, rows_stand_until}
 use Rattle.h3_rows.proofs.laws.answers_stand_beside.Goals as goal
 
 pub returns-clause-stand : goal.returns-clause-stand
@@ -8,6 +8,9 @@ returns-clause-stand c = rows_stand
 
 pub returns-clause-until : goal.returns-clause-until
 returns-clause-until c = rows_stand_until
+
+pub returns-clause-header : goal.returns-clause-header
+returns-clause-header c = header_stands
 
 pub returns-clause-give : goal.returns-clause-give
 returns-clause-give c = rows_give_back

@@ -1,20 +1,24 @@
-use Rattle.std.proofs.Common.{arith, length-drop, length-take, ℕ, refl}
-use Rattle.std.proofs.lemmas.List.{take_rest}
-use Rattle.h3_rows.proofs.PlainRows.{ends_row, others_after}
+use Rattle.std.proofs.Common.{arith}
+use Rattle.h3_rows.proofs.PlainRows.{plain_body, plain_row}
 use Rattle.h3_rows.proofs.plain.find_plain.Goals as goal
-use Rattle.h3_rows.proofs.plain.find_plain.Goals.{then-rest-end+in_ok-last, else-rest-end}
+
+pub invariant_of-result : goal.invariant_of-result
+invariant_of-result c =
+    let a = c.args in
+    let r = c.requires in
+    let row = plain_row a.separator a.quotes r.quote r.feed r.carriage a.columns a.bytes.now c.in_ok-rest.rest.now
+    c.in_ok-rest.end
+    c.in_ok-last.last c.in_ok-returns.returns c.in_ok-rest.ensures.passes c.in_ok-last.ensures.ends
+    c.in_ok-last.ensures.after
+    c.in_ok-returns.ensures.ends c.in_ok-returns.ensures.few c.in_ok-rest.ensures.calm c.in_ok-rest.ensures.stops in
+    record { bare = plain_body a.quotes _ row.plain; few = omega (arith, c.in_ok-returns.ensures.few) }
 
 pub returns : goal.returns
 returns c =
     let a = c.args in
-    let rest = c.in_ok-rest.rest.now in
-    let end = c.in_ok-end.end in
-    let quiet = rw c.quote_or_feed.ensures at c.in_ok-end.ensures.passed in
-    elim c.if-rest-end.branch [
-      | then-rest-end+in_ok-last w ↦
-          let more = w.in_ok-last.field-0 in
-          others_after a.separator a.quotes c.requires.quote c.requires.feed a.before a.bytes.now rest _ _ end more c.in_ok-rest.ensures (omega (arith, w.in_ok-last.ensures.within, length-take {A = ℕ}, length-drop {A = ℕ})) (rw w.last-is at c.if-rest-last-ne10.false) (rw w.last-is refl)
-          quiet w.if-rest-end.true (take_rest rest end) (rw w.quote_or_feed-then-rest-end.ensures at w.in_ok-last.ensures.passed)
-      | else-rest-end w ↦
-          ends_row a.separator a.quotes c.requires.quote c.requires.feed a.before a.bytes.now rest _ end c.in_ok-rest.ensures c.in_ok-end.ensures.within (rw w.last-is at c.if-rest-last-ne10.false) (rw w.last-is refl) quiet
-    ]
+    let r = c.requires in
+    plain_row a.separator a.quotes r.quote r.feed r.carriage a.columns a.bytes.now c.in_ok-rest.rest.now
+    c.in_ok-rest.end
+    c.in_ok-last.last c.in_ok-returns.returns c.in_ok-rest.ensures.passes c.in_ok-last.ensures.ends
+    c.in_ok-last.ensures.after
+    c.in_ok-returns.ensures.ends c.in_ok-returns.ensures.few c.in_ok-rest.ensures.calm c.in_ok-rest.ensures.stops

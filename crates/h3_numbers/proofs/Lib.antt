@@ -1,0 +1,7 @@
+mod DigitLaws
+mod FractionLaws
+mod PowerLaws
+mod ShortLaws
+mod TextLaws
+mod TotalLaws
+mod ZeroLaws

@@ -1,0 +1,64 @@
+-- The names of new columns, put one after another.
+use Rattle.std.proofs.Common.{◌≡◌, ℕ, nat_eq, ◌≤◌, ◌&&◌, Bool, true, false, length, take, drop, arith, subst, Ok, List, [], ◌∷◌, ◌++◌, Option, Some, sym, ap, ◌∙◌, refl, append-nil, append_assoc}
+use Rattle.std.proofs.lemmas.Grind.{flat_map-append}
+use Rattle.std.specs.List.{flat_map}
+use Rattle.std.specs.Str.{bytes_eq}
+use Rattle.h3_lines.specs.Answer.{Answer}
+use Rattle.h3_lines.specs.Answering.{Moves}
+use Rattle.h3_rows.specs.Answering.{PutsBeside, PutsCell, listed}
+use Rattle.h3_rows.specs.Line.{line_of}
+use Rattle.h3_rows.specs.Row.{row_body, row_ending}
+use Rattle.h3_rows.specs.RowsAnswer.{Form, answer_said, answered_with, error_field, row_said, rows_with, unanswered}
+use Rattle.h3_rows.specs.declared.said.Said.TheVariants.{Index}
+use Rattle.h3_rows.specs.declared.state.Columns.{Columns}
+use Rattle.h3_rows.specs.declared.row.Row.{Row}
+use Rattle.h3_rows.proofs.Returns.{body_of_row}
+
+-- the names by their parts are those of a form
+pub names_by_parts : (sep : ℕ) (first : List ℕ) (second error : Option (List ℕ)) (answers errors : List (List ℕ)) → answers ≡ first ∷ listed second → errors ≡ listed error
+    → flat_map (λ n. sep ∷ n) (listed (Some first)) ++ (flat_map (λ n. sep ∷ n) (listed second) ++ flat_map (λ n. sep ∷ n) (listed error)) ≡ flat_map (λ n. sep ∷ n) (answers ++ errors)
+names_by_parts sep first second error answers errors a e =
+    let f = λ (n : List ℕ). sep ∷ n in
+    ap (λ l. l ++ (flat_map f (listed second) ++ flat_map f (listed error))) (append-nil (sep ∷ first)) ∙ ap (λ l. (sep ∷ first) ++ l) (sym (flat_map-append f (listed second) (listed error)))
+    ∙ ap (λ l. flat_map f (l ++ listed error)) (sym a) ∙ ap (λ l. flat_map f (answers ++ l)) (sym e)
+
+-- ---- a name in two parts
+
+both : (x y : Bool) → (x && y) ≡ true → (x ≡ true) × (y ≡ true)
+both true y h = (refl, h)
+both false y h = absurd (cc)
+
+pub eq_after : (text first more : List ℕ) → bytes_eq (take (length first) text) first ≡ true → bytes_eq (drop (length first) text) more ≡ bytes_eq text (first ++ more)
+eq_after text [] more h = refl
+eq_after [] (f ∷ fs) more h = absurd (cc h)
+eq_after (t ∷ ts) (f ∷ fs) more h =
+    let (one, rest) = both (nat_eq t f) (bytes_eq (take (length fs) ts) fs) h in
+    rw one (eq_after ts fs more rest)
+
+pub other_after : (text first more : List ℕ) → length first ≤ length text → bytes_eq (take (length first) text) first ≡ false → false ≡ bytes_eq text (first ++ more)
+other_after text [] more fits h = absurd (cc h)
+other_after [] (f ∷ fs) more fits h = refl
+other_after (t ∷ ts) (f ∷ fs) more fits h =
+    let go : (x : Bool) → nat_eq t f ≡ x → false ≡ (x && bytes_eq ts (fs ++ more)) =
+    λ x. elim x as (λ x. nat_eq t f ≡ x → false ≡ (x && bytes_eq ts (fs ++ more))) [
+      | true ↦ λ is. other_after ts fs more (omega (arith, fits)) (rw is at h)
+      | false ↦ λ is. refl
+    ] in
+    go (nat_eq t f) refl
+
+-- ---- a row without an answer, by its parts
+
+pub unanswered_parts : (form : Form) (r : Row) (name : List ℕ) → (r.body.now ++ (form.separator ∷ form.empty)) ++ (error_field form name ++ row_ending (line_of r)) ≡ unanswered form (line_of r) name
+unanswered_parts form r name =
+    append_assoc r.body.now (form.separator ∷ form.empty) (error_field form name ++ row_ending (line_of r)) ∙ ap (λ l. r.body.now ++ (form.separator ∷ l)) (sym (append_assoc form.empty (error_field form name) (row_ending (line_of r))))
+    ∙ ap (λ l. l ++ (form.separator ∷ ((form.empty ++ error_field form name) ++ row_ending (line_of r)))) (sym (body_of_row r.body.now r.returns r.bare))
+
+-- a row with the answers to its cell, which are put beside it
+pub puts_cell : {S : Type 0} (form : Form) (answer : Option ℕ → Answer) (number : ℕ) (columns : Columns) (line held held' after : List ℕ) (index : ℕ) (taken : S → Option (List ℕ)) (failed : S → Bool) (x y : S)
+    → row_said form number columns (row_body line) ≡ Ok (Index index) → after ≡ error_field form [] → PutsBeside taken failed (answer (Some index)) form.separator after line held held' x y
+    → PutsCell taken failed (λ s. answer_said form answer s line (row_said form number columns (row_body line))) line held held' x y
+puts_cell form answer number columns line held held' after index taken failed x y said is puts = record {
+  text = answered_with form line puts.text;
+  is = λ s. rw (said, puts.is) refl;
+  moves = subst (λ l. Moves taken failed (held ++ rows_with form.separator l line puts.text) held' x y) is puts.moves;
+}
