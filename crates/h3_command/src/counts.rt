@@ -41,7 +41,7 @@ impl<'z> CellJob for Tally<'z> {
         CountsMore t.zones t.counts.items t.others cells u.counts.items u.others };
 
     #[inline(always)]
-    fn take(&mut self, cell: Cell, place: Option<usize>) -> Result<(), RunError> {
+    fn take(&mut self, cell: Cell, place: Option<usize>) -> Result<(), Fault> {
         self.place = place.unwrap_or(self.place);
         self.others = count_next(
             &self.zones,

@@ -14,7 +14,7 @@ ghost use Rattle.h3_command.specs.Sizes.{IsSizeOf, SizesMore, sizes_none, sizes_
 
 use crate::listed::take_listed;
 use h3_index::{Cell, H3Error, resolution_from};
-use h3_lines::{CellJob, RunError, write_result};
+use h3_lines::{CellJob, Fault, RunError, write_result};
 use h3_requests::RowOptions;
 use h3_streams::{Sink, Source};
 use h3_tree::children_size;
@@ -40,7 +40,7 @@ impl CellJob for Size {
         SizesMore s.res s.finer s.total cells t.finer t.total };
 
     #[inline(always)]
-    fn take(&mut self, cell: Cell, _place: Option<usize>) -> Result<(), RunError> {
+    fn take(&mut self, cell: Cell, _place: Option<usize>) -> Result<(), Fault> {
         match children_size(cell, i32::from(self.res)) {
             Ok(size) => self.total += u128::from(size),
             Err(_) => self.finer = true,

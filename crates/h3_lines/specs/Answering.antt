@@ -35,8 +35,8 @@ abbrev pub Breaks : List ℕ → SinkUse → RunError → Type 0
 Breaks all sink e = (e ≡ Fault Write) × (0 < length all) × TakesSome sink all
 
 -- a push fails, and a beginning of these bytes is taken; private contracts alone cite it
-abbrev pub FailsPush : List ℕ → SinkUse → RunError → Type 0
-FailsPush all sink e = (e ≡ Fault Write) × (0 < length all) × AppendsPart sink.before sink.after all × (sink.has_failed ≡ true)
+abbrev pub FailsPush : List ℕ → SinkUse → Type 0
+FailsPush all sink = (0 < length all) × AppendsPart sink.before sink.after all × (sink.has_failed ≡ true)
 
 -- from one moment to a later one, of these bytes some are taken, and these are still held back
 pub record Moves {S : Type 0} (taken : S → Option (List ℕ)) (failed : S → Bool) (all held : List ℕ) (s t : S) : Type 0 where

@@ -31,11 +31,11 @@ some_of_part xs ys zs out is p failed =
 more_bytes : (xs ys : List ℕ) → 0 < length xs → 0 < length (xs ++ ys)
 more_bytes xs ys some = omega (arith, length-append xs ys, some)
 
-pub push_more : (xs ys : List ℕ) (sink : SinkUse) (e : RunError) → FailsPush xs sink e → FailsPush (xs ++ ys) sink e
-push_more xs ys sink e (is, some, b, failed) = (is, more_bytes xs ys some, beginning_longer ys b, failed)
+pub push_more : (xs ys : List ℕ) (sink : SinkUse) → FailsPush xs sink → FailsPush (xs ++ ys) sink
+push_more xs ys sink (some, b, failed) = (more_bytes xs ys some, beginning_longer ys b, failed)
 
-pub push_breaks : (bytes : List ℕ) (sink : SinkUse) (e : RunError) → FailsPush bytes sink e → Breaks bytes sink e
-push_breaks bytes sink e (is, some, b, failed) = (is, some, some_of_part bytes [] bytes sink (sym (append-nil bytes)) b failed)
+pub push_breaks : (bytes : List ℕ) (sink : SinkUse) → FailsPush bytes sink → Breaks bytes sink (Fault Write)
+push_breaks bytes sink (some, b, failed) = (refl, some, some_of_part bytes [] bytes sink (sym (append-nil bytes)) b failed)
 
 pub breaks_more : (xs ys : List ℕ) (sink : SinkUse) (e : RunError) → Breaks xs sink e → Breaks (xs ++ ys) sink e
 breaks_more xs ys sink e (is, some, (b, failed)) = (is, more_bytes xs ys some, (beginning_longer ys b, failed))
@@ -93,9 +93,9 @@ module _ {S : Type 0} (taken : S → Option (List ℕ)) (failed : S → Bool) wh
   some_more : (done bytes : List ℕ) → 0 < length bytes → 0 < length (done ++ bytes)
   some_more done bytes some = omega (arith, length-append done bytes, some)
 
-  pub push_then : (all held more : List ℕ) (s t u : S) (e : RunError) → Moves taken failed all held s t → FailsPush (held ++ more) (sink_use taken failed t u) e → FailsPush (all ++ more) (sink_use taken failed s u) e
-  push_then all held more s t u e m (is, some, b, fault) =
-      subst (λ l. FailsPush l (sink_use taken failed s u) e) (sym (regrouped all held more s t m)) (is, some_more m.part (held ++ more) some, part_after s t u m.part (held ++ more) m.grown b, fault)
+  pub push_then : (all held more : List ℕ) (s t u : S) → Moves taken failed all held s t → FailsPush (held ++ more) (sink_use taken failed t u) → FailsPush (all ++ more) (sink_use taken failed s u)
+  push_then all held more s t u m (some, b, fault) =
+      subst (λ l. FailsPush l (sink_use taken failed s u)) (sym (regrouped all held more s t m)) (some_more m.part (held ++ more) some, part_after s t u m.part (held ++ more) m.grown b, fault)
 
   pub breaks_then : (all held more : List ℕ) (s t u : S) (e : RunError) → Moves taken failed all held s t → Breaks (held ++ more) (sink_use taken failed t u) e → Breaks (all ++ more) (sink_use taken failed s u) e
   breaks_then all held more s t u e m (is, some, takes) =

@@ -20,6 +20,7 @@ pub mod RunError
 pub mod ScanLaws
 pub mod Splitting
 pub mod SplittingLaws
+pub mod Stop
 pub mod Taking
 pub mod TakingLaws
 pub mod Write

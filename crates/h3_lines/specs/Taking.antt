@@ -1,5 +1,5 @@
 -- Cells that are taken as the rows, or the lines, of a list are read. Of this file public contracts cite `cell_list` and
--- `cells_before` alone.
+-- `cells_before` alone. The type C is of what is taken for a cell: the cell, or the cell with its name.
 use Rattle.std.specs.Prelude.{◌≡◌, ⊤, ℕ, ◌+◌, List, [], ◌∷◌, ◌++◌, Option, None, Some, Result, Ok, Err}
 use Rattle.h3_index.specs.Cell.{Address}
 use Rattle.h3_index.specs.declared.error.H3Error.{H3Error}
@@ -17,7 +17,7 @@ cell_list None = []
 cell_list (Some cell) = cell ∷ []
 
 -- cells_before cells later: these cells, before the later ones
-abbrev pub cells_before : List Address → Result (List Address) AnswerError → Result (List Address) AnswerError
+abbrev pub cells_before : {C : Type 0} → List C → Result (List C) AnswerError → Result (List C) AnswerError
 cells_before cells (Ok later) = Ok (cells ++ later)
 cells_before cells (Err e) = Err e
 
@@ -25,18 +25,18 @@ cells_before cells (Err e) = Err e
 -- then what is last
 
 -- from the one state to the other these rows are read, which have these cells and no error
-abbrev pub HaveCells : {L N : Type 0} → (L → N → List Piece → Result (List Address) AnswerError) → N → List Piece → List Address → N → Type 0
+abbrev pub HaveCells : {C L N : Type 0} → (L → N → List Piece → Result (List C) AnswerError) → N → List Piece → List C → N → Type 0
 HaveCells {L = L} cells_of v rows cells w = (last : L) (more : List Piece) → cells_of last v (rows ++ more) ≡ cells_before cells (cells_of last w more)
 
 -- a refusal fits cells: their own error, or out of memory
-abbrev pub IsRefusal : Result (List Address) AnswerError → RunError → Type 0
+abbrev pub IsRefusal : {C : Type 0} → Result (List C) AnswerError → RunError → Type 0
 IsRefusal cells (Error e) = cells ≡ Err e
 IsRefusal cells (Fault Memory) = ⊤
 IsRefusal cells (Fault Read) = ⊥
 IsRefusal cells (Fault Write) = ⊥
 
 -- a refusal fits the cells of these rows in this state, whatever is last
-abbrev pub RefusesCells : {L N : Type 0} → (L → N → List Piece → Result (List Address) AnswerError) → N → List Piece → RunError → Type 0
+abbrev pub RefusesCells : {C L N : Type 0} → (L → N → List Piece → Result (List C) AnswerError) → N → List Piece → RunError → Type 0
 RefusesCells {L = L} cells_of v rows e = (last : L) → IsRefusal (cells_of last v rows) e
 
 -- ---- rows that are lines

@@ -7,6 +7,7 @@ ghost use Rattle.h3_lines.specs.Answering.{Answered, EndsBy, Puts, RefusesLines,
 ghost use Rattle.h3_lines.specs.EachLaws.{answered_none, answered_then, refuses_then};
 ghost use Rattle.h3_lines.specs.EachLine.{EndsEach, line_answer};
 ghost use Rattle.h3_lines.specs.Pieces.{Piece};
+ghost use Rattle.h3_lines.specs.Stop.{stopped_at};
 ghost use Rattle.h3_lines.specs.Write.{sink_use};
 ghost use Rattle.h3_lines.specs.declared.line.TheConstants.{BLOCK};
 ghost use Rattle.h3_lines.specs.declared.run_error.AnswerError.TheVariants.{At};
@@ -15,8 +16,9 @@ ghost use Rattle.h3_lines.specs.declared.splitting.TheConstants.{LONGEST_LINE};
 
 use crate::line::{BLOCK, Line};
 use crate::plain::{IndexJob, LINES, take_plain};
-use crate::run_error::{AnswerError, RunError};
+use crate::run_error::{Fault, RunError};
 use crate::splitting::{Job, LONGEST_LINE, MAX_READS, PAGE, Taking, drive, row_page};
+use crate::stop::Stop;
 use crate::write::{make_room, write_held};
 use h3_index::{H3Error, is_blank_text, read_index};
 use h3_streams::{CountedReader, Sink, Source};
@@ -97,17 +99,26 @@ fn index_on(line: &[u8]) -> Result<Option<Option<u64>>, H3Error>
     }
 }
 
-/// Writes what is held back, and returns the error of the line or row with this number, or the fault
-/// of the write.
+/// Writes what is held back, and returns the error of a line, or the fault of the write.
+#[cold]
+pub(crate) fn stop<W: Sink>(out: &mut W, held: &[u8], error: H3Error) -> Stop
+    ensures { (number : ℕ) → EndsBy (record { output = held.now; ending = Err (At number error) })
+        (stopped_at number result) (sink_use W.taken W.has_failed out.old out.new) }
+{
+    match write_held(out, held) {
+        Ok(()) => Stop::Refused(error),
+        Err(_) => Stop::Fault(Fault::Write),
+    }
+}
+
+/// Writes what is held back, and returns the error of the line with this number, or the fault of the
+/// write.
 #[cold]
 pub fn refuse<W: Sink>(out: &mut W, held: &[u8], number: u64, error: H3Error) -> RunError
     ensures { EndsBy (record { output = held.now; ending = Err (At number error) })
         result (sink_use W.taken W.has_failed out.old out.new) }
 {
-    match write_held(out, held) {
-        Ok(()) => RunError::Error(AnswerError::At(number, error)),
-        Err(fault) => fault,
-    }
+    stop(out, held, error).at(number)
 }
 
 /// The answers held back, in a block that is written when it is full, the number of the next line,
@@ -130,11 +141,7 @@ pub(crate) trait Answering {
     ghost answer_of: { Self → Option ℕ → Answer };
 
     /// Puts the answer to the index on the next line. What has no room is written.
-    fn answer<'a, W: Sink>(
-        &self,
-        index: Option<u64>,
-        held: &mut Held<'a, W>,
-    ) -> Result<(), RunError>
+    fn answer<'a, W: Sink>(&self, index: Option<u64>, held: &mut Held<'a, W>) -> Result<(), Stop>
         requires { held.old.number < 2 ^ 63 }
         ensures ok { OnOk result ((line : Piece) →
             line_answer (answer_of self.now) line.0 ≡ answer_of self.now index →
@@ -142,11 +149,12 @@ pub(crate) trait Answering {
             held.new.number (take held.old.end held.old.block) (take held.new.end held.new.block)
             held.old.out.now held.new.out.now (line ∷ [])) }
         ensures counted { OnOk result (held.new.number ≡ held.old.number + 1) }
-        ensures err { IfErr result (λ e. (line : Piece) →
+        ensures err { IfErr result (λ s. (line : Piece) →
             line_answer (answer_of self.now) line.0 ≡ answer_of self.now index →
             (later : List Piece) →
             RefusesLines (answer_of self.now) held.old.number (take held.old.end held.old.block)
-            (line ∷ later) e (sink_use W.taken W.has_failed held.old.out.now held.new.out.now)) }
+            (line ∷ later) (stopped_at held.new.number s)
+            (sink_use W.taken W.has_failed held.old.out.now held.new.out.now)) }
         ensures sink { held.new.out.ghost_name ≡ held.old.out.ghost_name };
 
     /// As `AnswerLine` has it.
@@ -172,11 +180,7 @@ impl<'f, F: AnswerLine> Answering for Short<'f, F> {
     ghost answer_of = { λ f. F.answer_of f.function.now };
 
     #[inline(always)]
-    fn answer<'a, W: Sink>(
-        &self,
-        index: Option<u64>,
-        held: &mut Held<'a, W>,
-    ) -> Result<(), RunError> {
+    fn answer<'a, W: Sink>(&self, index: Option<u64>, held: &mut Held<'a, W>) -> Result<(), Stop> {
         let at = make_room(held.out, &mut held.block, held.end)?;
         match self
             .function
@@ -189,7 +193,7 @@ impl<'f, F: AnswerLine> Answering for Short<'f, F> {
             }
             Err(error) => {
                 let bytes = &held.block[..at];
-                Err(refuse(held.out, bytes, held.number, error))
+                Err(stop(held.out, bytes, error))
             }
         }
     }
@@ -259,8 +263,14 @@ impl<'a, 'f, W: Sink, A: Answering> Taking for Answers<'a, 'f, W, A> {
 }
 
 impl<'a, 'f, W: Sink, A: Answering> IndexJob for Answers<'a, 'f, W, A> {
+    ghost line = { λ v. v.held.number };
+
+    fn line(&self) -> u64 {
+        self.held.number
+    }
+
     #[inline(always)]
-    fn take_index(&mut self, index: u64, place: Option<usize>) -> Result<(), RunError> {
+    fn take_index(&mut self, index: u64, place: Option<usize>) -> Result<(), Stop> {
         let held = &mut self.held;
         held.place = place.unwrap_or(held.place);
         self.function.answer(Some(index), held)
@@ -281,7 +291,10 @@ impl<'a, 'f, W: Sink, A: Answering> Job for Answers<'a, 'f, W, A> {
     fn take(&mut self, line: &[u8], _inside: bool) -> Result<(), RunError> {
         let held = &mut self.held;
         match index_on(line) {
-            Ok(Some(index)) => self.function.answer(index, held),
+            Ok(Some(index)) => match self.function.answer(index, held) {
+                Ok(()) => Ok(()),
+                Err(stop) => Err(stop.at(held.number)),
+            },
             Ok(None) => {
                 held.number += 1;
                 Ok(())

@@ -8,10 +8,11 @@ ghost use Rattle.h3_lines.specs.EachLine.{EndsEach};
 ghost use Rattle.h3_lines.specs.EachLines.{GivesLines};
 ghost use Rattle.h3_lines.specs.Write.{sink_use};
 
-use crate::each::{Answering, Held, answer_pages, refuse};
+use crate::each::{Answering, Held, answer_pages, stop};
 use crate::line::Line;
 use crate::run_error::RunError;
 use crate::splitting::{LONGEST_LINE, PAGE, row_page};
+use crate::stop::Stop;
 use crate::write::put_lines;
 use h3_index::H3Error;
 use h3_streams::{Sink, Source};
@@ -69,11 +70,7 @@ struct Long<'f, F> {
 impl<'f, F: LinesFunction> Answering for Long<'f, F> {
     ghost answer_of = { λ f. F.answer_of f.function.now };
 
-    fn answer<'a, W: Sink>(
-        &self,
-        index: Option<u64>,
-        held: &mut Held<'a, W>,
-    ) -> Result<(), RunError> {
+    fn answer<'a, W: Sink>(&self, index: Option<u64>, held: &mut Held<'a, W>) -> Result<(), Stop> {
         match self.function.lines(index) {
             Ok(items) => {
                 held.end = put_lines(held.out, &mut held.block, held.end, items)?;
@@ -82,7 +79,7 @@ impl<'f, F: LinesFunction> Answering for Long<'f, F> {
             }
             Err(error) => {
                 let bytes = &held.block[..held.end];
-                Err(refuse(held.out, bytes, held.number, error))
+                Err(stop(held.out, bytes, error))
             }
         }
     }

@@ -11,6 +11,7 @@ mod list;
 mod plain;
 mod run_error;
 mod splitting;
+mod stop;
 mod taking;
 mod write;
 

@@ -44,8 +44,8 @@ impl CellJob for Vec<Cell> {
     ghost taken = { λ v cells w. w.items ≡ v.items ++ cells };
 
     #[inline(always)]
-    fn take(&mut self, cell: Cell, _place: Option<usize>) -> Result<(), RunError> {
-        self.push(cell).map_err(|_| RunError::Fault(Fault::Memory))
+    fn take(&mut self, cell: Cell, _place: Option<usize>) -> Result<(), Fault> {
+        self.push(cell).map_err(|_| Fault::Memory)
     }
 
     ghost none_taken = { λ v. sym (append-nil v.items) };

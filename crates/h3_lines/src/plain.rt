@@ -3,9 +3,11 @@
 ghost use Rattle.std.specs.Prelude.{◌≡◌, ◌≤◌, ◌<◌, ◌+◌, ◌^◌, ◌++◌, ◌∷◌, [], Bool, ℕ, List, length, take, IfOk, IfErr, IfSome, IfNone, OnOk};
 ghost use Rattle.h3_lines.specs.Pieces.{Piece, rows_of};
 ghost use Rattle.h3_lines.specs.Splitting.{BeginsLines, BeginsPlain, Goes, ParseAll, ParsesAs};
+ghost use Rattle.h3_lines.specs.Stop.{stopped_at};
 
 use crate::run_error::RunError;
 use crate::splitting::Taking;
+use crate::stop::Stop;
 use h3_index::read_plain;
 
 /// The digits of a plain line: those of a cell's index.
@@ -16,15 +18,22 @@ pub const LINES: usize = 16;
 
 /// What takes lines that parse as an index.
 pub(crate) trait IndexJob: Taking {
+    /// The number of the line at which it stopped.
+    ghost line: { Self → ℕ };
+
+    /// The number of the line at which it stopped.
+    fn line(&self) -> u64
+        ensures { result ≡ line self.now };
+
     /// Takes a line that parses as an index. The place, if there is one, is where it is looked for
     /// first; it may be any.
-    fn take_index(&mut self, index: u64, place: Option<usize>) -> Result<(), RunError>
+    fn take_index(&mut self, index: u64, place: Option<usize>) -> Result<(), Stop>
         requires few { Self.count self.old < 2 ^ 63 }
         ensures ok { OnOk result ((p : Piece) → ParsesAs p.0 index →
             Self.taken self.old (p ∷ []) self.new) }
         ensures counted { OnOk result (Self.count self.new ≤ Self.count self.old + 1) }
-        ensures err { IfErr result (λ e. (p : Piece) → ParsesAs p.0 index →
-            (later : List Piece) → Self.refused self.old (p ∷ later) self.new e) };
+        ensures err { IfErr result (λ s. (p : Piece) → ParsesAs p.0 index → (later : List Piece) →
+            Self.refused self.old (p ∷ later) self.new (stopped_at (line self.new) s)) };
 
     /// Whether the indexes of the next lines are looked up together.
     fn looks_ahead(&self) -> bool;
@@ -92,14 +101,15 @@ impl Places for () {
 /// Has the lines with these indexes taken, in order.
 // Generic over the places: where there are none, no line tests for one.
 #[inline(always)]
-fn take_at<J: IndexJob, P: Places>(job: &mut J, indexes: &[u64], places: &P) -> Result<(), RunError>
+fn take_at<J: IndexJob, P: Places>(job: &mut J, indexes: &[u64], places: &P) -> Result<(), Stop>
     requires few { J.count job.old + length indexes.now < 2 ^ 63 }
     requires within { length indexes.now ≤ 16 }
     ensures ok { OnOk result ((rows : List Piece) → ParseAll rows indexes.now →
         J.taken job.old rows job.new) }
     ensures counted { OnOk result (J.count job.new ≤ J.count job.old + length indexes.now) }
-    ensures err { IfErr result (λ e. (rows : List Piece) → ParseAll rows indexes.now →
-        (later : List Piece) → J.refused job.old (rows ++ later) job.new e) }
+    ensures err { IfErr result (λ s. (rows : List Piece) → ParseAll rows indexes.now →
+        (later : List Piece) →
+        J.refused job.old (rows ++ later) job.new (stopped_at (J.line job.new) s)) }
 {
     for i in 0..indexes.len() {
         job.take_index(indexes[i], places.of_line(i))?;
@@ -109,14 +119,15 @@ fn take_at<J: IndexJob, P: Places>(job: &mut J, indexes: &[u64], places: &P) -> 
 
 /// The same, once they are looked up together.
 #[inline(always)]
-fn take_indexes<J: IndexJob>(job: &mut J, indexes: &[u64]) -> Result<(), RunError>
+fn take_indexes<J: IndexJob>(job: &mut J, indexes: &[u64]) -> Result<(), Stop>
     requires few { J.count job.old + length indexes.now < 2 ^ 63 }
     requires within { length indexes.now ≤ 16 }
     ensures ok { OnOk result ((rows : List Piece) → ParseAll rows indexes.now →
         J.taken job.old rows job.new) }
     ensures counted { OnOk result (J.count job.new ≤ J.count job.old + length indexes.now) }
-    ensures err { IfErr result (λ e. (rows : List Piece) → ParseAll rows indexes.now →
-        (later : List Piece) → J.refused job.old (rows ++ later) job.new e) }
+    ensures err { IfErr result (λ s. (rows : List Piece) → ParseAll rows indexes.now →
+        (later : List Piece) →
+        J.refused job.old (rows ++ later) job.new (stopped_at (J.line job.new) s)) }
 {
     match job.look_ahead(indexes) {
         Some(places) => take_at(job, indexes, &places),
@@ -145,12 +156,14 @@ fn take_together<'b, J: IndexJob>(
     if count == 0 {
         return Ok(None);
     }
-    take_indexes(job, &indexes[..count])?;
-    Ok(Some(after))
+    match take_indexes(job, &indexes[..count]) {
+        Ok(()) => Ok(Some(after)),
+        Err(stop) => Err(stop.at(job.line())),
+    }
 }
 
-/// Has the plain line taken that bytes begin with, or up to 16 that are looked up together, and returns
-/// the bytes after them; `None` if they begin with no plain line.
+/// Has the plain lines taken that bytes begin with, all of them, or up to 16 that are looked up together,
+/// and returns the bytes after them; `None` if they begin with no plain line.
 #[inline(always)]
 pub(crate) fn take_plain<'b, J: IndexJob>(
     job: &mut J,
@@ -169,11 +182,12 @@ pub(crate) fn take_plain<'b, J: IndexJob>(
     if job.looks_ahead() {
         return take_together(job, bytes);
     }
-    match plain_line(bytes) {
-        Some((index, after)) => {
-            job.take_index(index, None)?;
-            Ok(Some(after))
+    let mut left = bytes;
+    while let Some((index, after)) = plain_line(left) {
+        if let Err(stop) = job.take_index(index, None) {
+            return Err(stop.at(job.line()));
         }
-        None => Ok(None),
+        left = after;
     }
+    Ok((left.len() < bytes.len()).then_some(left))
 }

@@ -319,6 +319,16 @@ impl From<StreamFault> for RunError {
     }
 }
 
+impl From<Fault> for RunError {
+    ghost use Rattle.h3_lines.specs.declared.run_error.RunError.TheVariants as refusal;
+
+    ghost from_gives = { λ f r. r ≡ refusal.Fault f };
+
+    fn from(fault: Fault) -> RunError {
+        RunError::Fault(fault)
+    }
+}
+
 impl From<H3Error> for RunError {
     ghost use Rattle.h3_lines.specs.declared.run_error.AnswerError.TheVariants.{Call};
     ghost use Rattle.h3_lines.specs.declared.run_error.RunError.TheVariants as refusal;

@@ -1,22 +1,23 @@
 //! Lists of cells, one a line, of which each cell is taken as it is read.
 
-ghost use Rattle.std.specs.Prelude.{◌≡◌, ◌≤◌, ◌<◌, ◌*◌, ◌+◌, ◌^◌, ◌++◌, ◌∷◌, ⊤, ℕ, List, [], length, Result, Err, IsOk, IfOk, IfErr, OnOk, vec_capacity};
+ghost use Rattle.std.specs.Prelude.{◌≡◌, ◌≤◌, ◌<◌, ◌*◌, ◌+◌, ◌-◌, ◌^◌, ◌++◌, ◌∷◌, ⊤, ℕ, List, [], length, Result, Err, IsOk, IfOk, IfErr, OnOk, vec_capacity};
 ghost use Rattle.h3_index.specs.Cell.{Address};
 ghost use Rattle.h3_index.specs.declared.error.H3Error.{H3Error};
 ghost use Rattle.h3_lines.specs.ListRead.{ListRead, ListRefused, RefusesByLine};
 ghost use Rattle.h3_lines.specs.Reads.{source_use};
+ghost use Rattle.h3_lines.specs.Stop.{stopped_at};
 ghost use Rattle.h3_lines.specs.Taking.{HaveCells, IsRefusal, RefusesCells, cell_list, cells_from, read_before};
 ghost use Rattle.h3_lines.specs.TakingLaws.{have_none, have_then, refuses_after};
 ghost use Rattle.h3_lines.specs.declared.run_error.AnswerError.{AnswerError};
-ghost use Rattle.h3_lines.specs.declared.run_error.AnswerError.TheVariants.{At};
 ghost use Rattle.h3_lines.specs.declared.run_error.Fault.TheVariants.{Memory};
-ghost use Rattle.h3_lines.specs.declared.run_error.RunError.TheVariants as refusal;
 ghost use Rattle.h3_lines.specs.declared.splitting.TheConstants.{LONGEST_LINE};
+ghost use Rattle.h3_lines.specs.declared.stop.Stop.TheVariants.{Refused};
 
 use crate::list::{cell_with, read_line};
 use crate::plain::{IndexJob, LINES, take_plain};
-use crate::run_error::{AnswerError, RunError};
+use crate::run_error::{AnswerError, Fault, RunError};
 use crate::splitting::{Job, LONGEST_LINE, MAX_READS, PAGE, Taking, drive, row_page};
+use crate::stop::Stop;
 use h3_index::{Cell, H3Error};
 use h3_streams::{CountedReader, Source};
 use std::alloc::Global;
@@ -31,11 +32,11 @@ pub trait CellJob {
 
     /// Takes a cell. The place, if there is one, is where it is looked for first; it may be any.
     /// `Fault::Memory` where there is none for it.
-    fn take(&mut self, cell: Cell, place: Option<usize>) -> Result<(), RunError>
+    fn take(&mut self, cell: Cell, place: Option<usize>) -> Result<(), Fault>
         requires few { count self.old < 2 ^ 63 }
         ensures ok { OnOk result (taken self.old (cell ∷ []) self.new) }
         ensures counted { count self.new ≤ count self.old + 1 }
-        ensures err { IfErr result (λ e. e ≡ refusal.Fault Memory) };
+        ensures err { IfErr result (λ f. f ≡ Memory) };
 
     /// Whether it looks for the cells of plain lines together: `look_ahead` is then asked for their
     /// places.
@@ -57,26 +58,25 @@ pub trait CellJob {
         taken u (xs ++ ys) w };
 }
 
-/// Has the cell that the line with this number says taken, if it says one.
+/// Has the cell that a line says taken, if it says one.
 #[inline(always)]
 fn push_parsed<V: CellJob>(
     job: &mut V,
-    number: u64,
     said: Result<Option<Cell>, H3Error>,
     place: Option<usize>,
-) -> Result<(), RunError>
+) -> Result<(), Stop>
     requires few { V.count job.old < 2 ^ 63 }
     ensures ok { OnOk result (IfOk said (λ cell. V.taken job.old (cell_list cell) job.new)) }
     ensures counted { V.count job.new ≤ V.count job.old + 1 }
     ensures said { OnOk result (IsOk said) }
-    ensures faulty { (e : H3Error) → said ≡ Err e → result ≡ Err (refusal.Error (At number e)) }
-    ensures err { IfErr result (λ e. (later : Result (List Address) AnswerError) →
-        IsRefusal (read_before number said later) e) }
+    ensures faulty { (e : H3Error) → said ≡ Err e → result ≡ Err (Refused e) }
+    ensures err { IfErr result (λ s. (number : ℕ) (later : Result (List Address) AnswerError) →
+        IsRefusal (read_before number said later) (stopped_at number s)) }
 {
     match said {
         Ok(None) => Ok(()),
-        Ok(Some(cell)) => job.take(cell, place),
-        Err(error) => Err(RunError::Error(AnswerError::At(number, error))),
+        Ok(Some(cell)) => Ok(job.take(cell, place)?),
+        Err(error) => Err(Stop::Refused(error)),
     }
 }
 
@@ -122,11 +122,17 @@ impl<V: CellJob> Taking for LineCells<V> {
 }
 
 impl<V: CellJob> IndexJob for LineCells<V> {
+    // The line after it is the next.
+    ghost line = { λ v. v.number - 1 };
+
+    fn line(&self) -> u64 {
+        self.number.saturating_sub(1)
+    }
+
     #[inline(always)]
-    fn take_index(&mut self, index: u64, place: Option<usize>) -> Result<(), RunError> {
-        let number = self.number;
+    fn take_index(&mut self, index: u64, place: Option<usize>) -> Result<(), Stop> {
         self.number += 1;
-        push_parsed(&mut self.job, number, cell_with(index), place)
+        push_parsed(&mut self.job, cell_with(index), place)
     }
 
     #[inline(always)]
@@ -144,7 +150,10 @@ impl<V: CellJob> Job for LineCells<V> {
     fn take(&mut self, line: &[u8], _inside: bool) -> Result<(), RunError> {
         let number = self.number;
         self.number += 1;
-        push_parsed(&mut self.job, number, read_line(line), None)
+        match push_parsed(&mut self.job, read_line(line), None) {
+            Ok(()) => Ok(()),
+            Err(stop) => Err(stop.at(number)),
+        }
     }
 
     #[inline(always)]

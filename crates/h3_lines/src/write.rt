@@ -93,13 +93,13 @@ pub(crate) fn make_room<W: Sink>(
     out: &mut W,
     block: &mut [u8; BLOCK],
     end: usize,
-) -> Result<usize, RunError>
+) -> Result<usize, StreamFault>
     requires { end ≤ BLOCK }
     ensures room { IfOk result (λ at. at + ANSWER ≤ BLOCK) }
     ensures ok { IfOk result (λ at.
         Moves W.taken W.has_failed (take end block.old) (take at block.new) out.old out.new) }
-    ensures err { IfErr result (λ e.
-        FailsPush (take end block.old) (sink_use W.taken W.has_failed out.old out.new) e) }
+    ensures err { OnErr result (FailsPush (take end block.old)
+        (sink_use W.taken W.has_failed out.old out.new)) }
 {
     if end <= BLOCK - ANSWER {
         return Ok(end);
@@ -119,7 +119,7 @@ pub(crate) fn put_lines<W: Sink, L: Line + Drop, I: Iterator<Item = L> + Drop>(
     block: &mut [u8; BLOCK],
     end: usize,
     items: I,
-) -> Result<usize, RunError>
+) -> Result<usize, StreamFault>
     requires can { I.can_next items }
     requires ends { IsFinite (I.remaining items) }
     requires within { end ≤ BLOCK }
@@ -127,9 +127,9 @@ pub(crate) fn put_lines<W: Sink, L: Line + Drop, I: Iterator<Item = L> + Drop>(
     ensures ok { IfOk result (λ last. (all : List _) → AlwaysYields I.next_gives (λ x. x) items all →
         Moves W.taken W.has_failed (take end block.old ++ flat_map L.line_of all)
         (take last block.new) out.old out.new) }
-    ensures err { IfErr result (λ e. (all : List _) → AlwaysYields I.next_gives (λ x. x) items all →
+    ensures err { OnErr result ((all : List _) → AlwaysYields I.next_gives (λ x. x) items all →
         FailsPush (take end block.old ++ flat_map L.line_of all)
-        (sink_use W.taken W.has_failed out.old out.new) e) }
+        (sink_use W.taken W.has_failed out.old out.new)) }
 {
     let mut last = end;
     for item in items {

@@ -1,12 +1,28 @@
-use Rattle.std.proofs.lemmas.Result.{err_from_is_err_and}
-use Rattle.h3_lines.proofs.PlainRows.{goes_plain, refused_plain}
+use Rattle.std.proofs.Common.{◌<◌, ◌≤◌, ◌+◌, arith, length, refl}
+use Rattle.h3_lines.proofs.PlainRows.{goes_plain, plain_shorter, refused_plain}
+use Rattle.h3_lines.proofs.TakenRows.{goes_none, goes_refused, goes_then}
 use Rattle.h3_lines.proofs.plain.take_plain.Goals as goal
 
-pub returns-in_ok-take_index-in-Some-clause-some : goal.returns-in_ok-take_index-in-Some-clause-some
-returns-in_ok-take_index-in-Some-clause-some g c q =
-    goes_plain g.J.Taking.taken q c.args.bytes.now c.in-Some.after.now c.in-Some.index c.in-Some.ensures c.in_ok-take_index-in-Some.ensures.ok
+pub loop-index-init : goal.loop-index-init
+loop-index-init g c = record {
+  goes = λ q. goes_none q g.J.Taking.taken c.args.bytes.now (g.met.J.Taking.none_taken _);
+  same = λ _. refl;
+  fewer = omega arith;
+  counted = omega arith;
+}
 
-pub returns-in_err-take_index-in-Some-clause-err : goal.returns-in_err-take_index-in-Some-clause-err
-returns-in_err-take_index-in-Some-clause-err g c =
-    let p = err_from_is_err_and c.from_residual.result c.from_residual.ensures.1 in
-    rw (p.1, p.2) (λ q rest. refused_plain g.J.Taking.refused q c.args.bytes.now c.in-Some.after.now rest c.in-Some.index c.in-Some.ensures c.in_err-take_index-in-Some.ensures.err)
+pub loop-index-preserved : goal.loop-index-preserved
+loop-index-preserved g c =
+    let less : length c.in-Some.after.now < length c.loop-index.left.now = plain_shorter c.loop-index.left.now c.in-Some.after.now c.in-Some.index c.in-Some.ensures in
+    let one : g.J.Taking.count c.take_index.new.self ≤ g.J.Taking.count c.loop-index.job + 1 = c.in_default-take_index.ensures.counted in
+    record {
+      goes = λ q. goes_then q g.J.Taking.taken g.met.J.Taking.taken_then (c.loop-index.invariant.goes q) (goes_plain g.J.Taking.taken q c.loop-index.left.now c.in-Some.after.now c.in-Some.index c.in-Some.ensures c.in_default-take_index.ensures.ok);
+      same = λ all. absurd (omega (arith, all, less, c.loop-index.invariant.fewer));
+      fewer = omega (arith, less, c.loop-index.invariant.fewer);
+      counted = omega (arith, less, one, c.loop-index.invariant.counted);
+    }
+
+pub returns-in-Err-clause-err : goal.returns-in-Err-clause-err
+returns-in-Err-clause-err g c q rest =
+    rw (c.at.ensures, c.line.ensures) (goes_refused q g.J.Taking.taken g.J.Taking.refused g.met.J.Taking.refused_then rest (c.loop-index.invariant.goes q)
+    (refused_plain g.J.Taking.refused q c.loop-index.left.now c.in-Some.after.now rest c.in-Some.index c.in-Some.ensures c.in-Err.ensures.err))

@@ -1,4 +1,4 @@
-use Rattle.std.proofs.Common.{◌≡◌, ◌<◌, ◌≤◌, ◌-◌, ◌∷◌, [], ◌++◌, ℕ, get_or, length, take, set, arith, refl, length-take-le, ap, ◌∙◌, subst, sym}
+use Rattle.std.proofs.Common.{◌≡◌, ◌<◌, ◌≤◌, ◌-◌, ◌∷◌, [], ◌++◌, ℕ, get_or, length, take, set, arith, length-take-le, ap, ◌∙◌, subst, sym}
 use Rattle.std.proofs.lemmas.List.{take_more_set}
 use Rattle.std.proofs.lemmas.Result.{err_from_is_err_and}
 use Rattle.h3_lines.specs.EachLaws.{beginning_longer, moves_none}
@@ -19,7 +19,7 @@ returns-in_err-write_all-clause-err g c =
     let is : take end block ≡ take (end - 1) block ++ get_or block (end - 1) 0 ∷ [] = last_left block end some full in
     let held : 0 < length (take end block) = omega (arith, length-take-le {A = ℕ} end block full, some) in
     let part = subst (AppendsPart (g.W.Sink.taken c.args.out.now) (g.W.Sink.taken c.write_all.new.out)) (sym is) (beginning_longer (get_or block (end - 1) 0 ∷ []) c.in_err-write_all.ensures.part) in
-    rw (p.1, p.2) (refl, held, part, c.in_err-write_all.ensures.err)
+    rw p.1 (held, part, c.in_err-write_all.ensures.err)
 
 pub returns-clause-ok : goal.returns-clause-ok
 returns-clause-ok g c =

@@ -35,14 +35,14 @@ returns-in_err-last-clause-err g c =
     let p = err_from_is_err_and c.from_residual.result c.from_residual.ensures.1 in
     let held = take c.args.end c.args.block.now in
     let out = sink_use g.W.Sink.taken g.W.Sink.has_failed c.args.out.now c.make_room.new.out in
-    rw (p.1, p.2) (λ all e.
+    rw p.1 (λ all e.
     let so_far : Yields g.I.Iterator.next_gives c.into_iter-item-iterator.result c.loop-item.yielded c.loop-item.item-iterator = c.loop-item.yielded_by in
     let split = split_at g.I.Iterator.next_gives e _ c.into_iter-item-iterator.ensures.into_iter_gives _ _ so_far _ _ c.in-Some.ensures.steps in
     let done = flat_map g.L.Line.line_of c.loop-item.yielded in
     let rest = flat_map g.L.Line.line_of (c.in-Some.item ∷ drop (length c.loop-item.yielded + 1) all) in
     let text : flat_map g.L.Line.line_of all ≡ done ++ rest = ap (flat_map g.L.Line.line_of) split ∙ flat_map-append g.L.Line.line_of c.loop-item.yielded (c.in-Some.item ∷ drop (length c.loop-item.yielded + 1) all) in
-    subst (λ l. FailsPush l out c.in_err-last.field-0.0) (append_assoc held done rest ∙ ap (λ l. held ++ l) (sym text))
-    (push_then g.W.Sink.taken g.W.Sink.has_failed (held ++ done) _ rest _ _ _ _ c.loop-item.invariant.moves (push_more _ rest (sink_use g.W.Sink.taken g.W.Sink.has_failed c.loop-item.out c.make_room.new.out) _ c.in_err-last.ensures.err)))
+    subst (λ l. FailsPush l out) (append_assoc held done rest ∙ ap (λ l. held ++ l) (sym text))
+    (push_then g.W.Sink.taken g.W.Sink.has_failed (held ++ done) _ rest _ _ _ c.loop-item.invariant.moves (push_more _ rest (sink_use g.W.Sink.taken g.W.Sink.has_failed c.loop-item.out c.make_room.new.out) c.in_err-last.ensures.err)))
 
 pub returns-clause-ok : goal.returns-clause-ok
 returns-clause-ok g c all e =

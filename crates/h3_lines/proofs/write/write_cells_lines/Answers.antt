@@ -49,11 +49,10 @@ returns-in_err-end g c =
     let own = flat_map g.F.Item.Line.line_of gives.all in
     let later = flat_map text (drop (c.loop-cell.cell-index + 1) cells) in
     let p = err_from_is_err_and c.from_residual.result c.from_residual.ensures.1 in
-    let e = c.in_err-end.field-0.0 in
-    let fails : FailsPush ((done ++ own) ++ later) out e = push_more (done ++ own) later out e (push_then g.W.Sink.taken g.W.Sink.has_failed done _ own _ _ _ e c.loop-cell.invariant.moves (c.in_err-end.ensures.err gives.all gives.yields)) in
+    let fails : FailsPush ((done ++ own) ++ later) out = push_more (done ++ own) later out (push_then g.W.Sink.taken g.W.Sink.has_failed done _ own _ _ _ c.loop-cell.invariant.moves (c.in_err-end.ensures.err gives.all gives.yields)) in
     let whole : (done ++ own) ++ later ≡ flat_map text cells =
     ap (λ l. (done ++ l) ++ later) (sym lines) ∙ sym (about_one text cells c.loop-cell.cell-index c.cell-item.result c.loop-cell-test.true c.cell-item.is) in
-    rw (p.1, p.2) (push_written (flat_map text cells) e out (subst (λ l. FailsPush l out e) whole fails))
+    rw (p.1, p.2) (push_written (flat_map text cells) out (subst (λ l. FailsPush l out) whole fails))
 
 pub returns : goal.returns
 returns g c =

@@ -9,7 +9,7 @@ pub returns-in_err-end : goal.returns-in_err-end
 returns-in_err-end g c all e =
     let out = sink_use g.W.Sink.taken g.W.Sink.has_failed c.args.out.now c.put_lines.new.out in
     let p = err_from_is_err_and c.from_residual.result c.from_residual.ensures.1 in
-    rw (p.1, p.2) (push_written (flat_map g.L.Line.line_of all) _ out (c.in_err-end.ensures.err all e))
+    rw (p.1, p.2) (push_written (flat_map g.L.Line.line_of all) out (c.in_err-end.ensures.err all e))
 
 pub returns : goal.returns
 returns g c all e =

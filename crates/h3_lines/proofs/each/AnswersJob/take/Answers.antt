@@ -1,20 +1,19 @@
 use Rattle.std.proofs.Common.{refl, ap, sym, take, ◌∙◌}
-use Rattle.std.proofs.lemmas.Result.{on_ok_weaker, IfErr-weaker}
 use Rattle.h3_lines.specs.Write.{sink_use}
 use Rattle.h3_lines.proofs.AnsweredLines.{answered_blank, lines_refused}
 use Rattle.h3_lines.proofs.each.AnswersJob.take.Goals as goal
 
-pub returns-in-Ok-Some-clause-ok : goal.returns-in-Ok-Some-clause-ok
-returns-in-Ok-Some-clause-ok g c =
+pub returns-in-Ok-clause-ok : goal.returns-in-Ok-clause-ok
+returns-in-Ok-clause-ok g c =
     let answer = g.A.Answering.answer_of c.args.self.now.function.now in
     let is = rw c.in-Ok-Some.field-0-is at c.in-Ok-Some.ensures answer in
-    on_ok_weaker c.answer.result (λ said. (said (c.args.line.now, c.args._inside) (is ∙ ap answer (sym c.in-Ok-Some.index-is)), refl, c.answer.ensures.sink)) c.answer.ensures.ok
+    (c.in-Ok.ensures.ok (c.args.line.now, c.args._inside) (is ∙ ap answer (sym c.in-Ok-Some.index-is)), refl, c.answer.ensures.sink)
 
-pub returns-in-Ok-Some-clause-err : goal.returns-in-Ok-Some-clause-err
-returns-in-Ok-Some-clause-err g c =
+pub returns-in-Err-answer-clause-err : goal.returns-in-Err-answer-clause-err
+returns-in-Err-answer-clause-err g c later =
     let answer = g.A.Answering.answer_of c.args.self.now.function.now in
     let is = rw c.in-Ok-Some.field-0-is at c.in-Ok-Some.ensures answer in
-    IfErr-weaker c.answer.result _ _ (λ e refuses later. (refuses (c.args.line.now, c.args._inside) (is ∙ ap answer (sym c.in-Ok-Some.index-is)) later, c.answer.ensures.sink)) c.answer.ensures.err
+    rw c.at.ensures (c.in-Err-answer.ensures.err (c.args.line.now, c.args._inside) (is ∙ ap answer (sym c.in-Ok-Some.index-is)) later, c.answer.ensures.sink)
 
 pub returns-in-Ok-None-clause-ok : goal.returns-in-Ok-None-clause-ok
 returns-in-Ok-None-clause-ok g c =

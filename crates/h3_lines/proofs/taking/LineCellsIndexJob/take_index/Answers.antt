@@ -1,10 +1,13 @@
+use Rattle.std.proofs.Common.{◌≡◌, ◌+◌, ◌-◌, arith}
 use Rattle.std.proofs.lemmas.Result.{IfErr-weaker}
 use Rattle.h3_lines.proofs.Listed.{line_taken, ok_both, refuses_said, said_parsed}
 use Rattle.h3_lines.proofs.taking.LineCellsIndexJob.take_index.Goals as goal
 
 pub returns-clause-err : goal.returns-clause-err
 returns-clause-err g c =
-    IfErr-weaker c.push_parsed.result _ _ (λ e refuses p parses later. refuses_said c.args.self.now.number p later c.cell_with.result e (said_parsed p.0 c.args.index c.cell_with.result parses c.cell_with.ensures) refuses) c.push_parsed.ensures.err
+    let number = c.args.self.now.number in
+    let same : number + 1 - 1 ≡ number = omega arith in
+    IfErr-weaker c.push_parsed.result _ _ (λ s refuses p parses later. rw same (refuses_said number p later c.cell_with.result _ (said_parsed p.0 c.args.index c.cell_with.result parses c.cell_with.ensures) (refuses number))) c.push_parsed.ensures.err
 
 pub returns-clause-ok : goal.returns-clause-ok
 returns-clause-ok g c =
