@@ -13,7 +13,7 @@ use Rattle.h3_set.specs.Coverage.{finest, IsCovered}
 use Rattle.h3_set.specs.Laws.{CompactedListsAreCompacted, CompactedListsCoverAlike, CoveragesDecideLists, ListsCompactInParts, ReducedListsAreCompacted, ReducedListsAreReordered}
 use Rattle.h3_regions.specs.Laws.{CoverageAtOneResolution, RegionsAreUnique, UnionsCoverBoth, UnionsInAnyOrder, UnionsInParts, UnionsOfOne}
 use Rattle.h3_regions.proofs.CoverageLaws.{fine_within}
-use Rattle.h3_regions.proofs.ListLaws.{contains_cases}
+use Rattle.h3_regions.proofs.ListLaws.{same_rising}
 use Rattle.h3_regions.proofs.LeftLaws.{finest_at}
 
 -- ---- unions
@@ -88,40 +88,6 @@ module _ (tree : CellsFormTrees) (a b : List Address) (q r : ℕ) (fine : q ≤ 
 pub at_one_resolution : CellsFormTrees → CoverageAtOneResolution
 at_one_resolution tree a b q r aq bq ar br fine h x =
     (carried tree a b q r fine aq br (λ y. (h y).0) x, carried tree b a q r fine bq ar (λ y. (h y).1) x)
-
--- ---- lists with the same cells, in one order
-
-module _ (n : Address → ℕ) where
-  abbrev Rises : List Address → Type 0
-  Rises = AllPairs (λ x y. n x < n y)
-
-  rises_tail : (x : Address) (xs : List Address) → Rises (x ∷ xs) → Rises xs
-  rises_tail x xs h i j d lt lj = h (suc i) (suc j) d (omega (arith, lt)) (omega (arith, lj))
-
-  rises_head : (x y : Address) (xs : List Address) → Rises (x ∷ xs) → Contains xs y → n x < n y
-  rises_head x y xs h m = rw m.2 at (h 0 (suc m.0) y (omega arith) (omega (arith, m.1)))
-
-  tail_in : (x : Address) (xs ys : List Address) → Rises (x ∷ xs) → ((z : Address) → Contains (x ∷ xs) z → Contains (x ∷ ys) z) → (z : Address) → Contains xs z → Contains ys z
-  tail_in x xs ys rises h z m =
-      elim (contains_cases x z ys (h z (suc m.0, omega (arith, m.1), m.2))) [
-        | inl e ↦ absurd (omega (arith, rises_head x z xs rises m, ap n e))
-        | inr n ↦ n
-      ]
-
-  pub same_rising : (a b : List Address) → Rises a → Rises b → ((z : Address) → Contains a z → Contains b z) → ((z : Address) → Contains b z → Contains a z) → a ≡ b
-  same_rising [] [] p q f g = refl
-  same_rising [] (y ∷ b) p q f g = absurd (omega (arith, (g y (0, omega arith, refl)).1))
-  same_rising (x ∷ a) [] p q f g = absurd (omega (arith, (f x (0, omega arith, refl)).1))
-  same_rising (x ∷ a) (y ∷ b) p q f g =
-      let heads : x ≡ y = elim (contains_cases y x b (f x (0, omega arith, refl))) [
-        | inl e ↦ sym e
-        | inr m ↦ elim (contains_cases x y a (g y (0, omega arith, refl))) [ inl e ↦ e | inr n ↦ absurd (omega (arith, rises_head y x b q m, rises_head x y a p n)) ]
-      ] in
-      let q' : Rises (x ∷ b) = subst (λ w. Rises (w ∷ b)) (sym heads) q in
-      let f' : (z : Address) → Contains (x ∷ a) z → Contains (x ∷ b) z = subst (λ w. (z : Address) → Contains (x ∷ a) z → Contains (w ∷ b) z) (sym heads) f in
-      let g' : (z : Address) → Contains (x ∷ b) z → Contains (x ∷ a) z = subst (λ w. (z : Address) → Contains (w ∷ b) z → Contains (x ∷ a) z) (sym heads) g in
-      let tails = same_rising a b (rises_tail x a p) (rises_tail x b q') (tail_in x a b p f') (tail_in x b a q' g') in
-      cc
 
 pub unique : CoveragesDecideLists → ReducedListsAreCompacted → RegionsAreUnique
 unique decide reduced a b r ra rb ar br fine alike =

@@ -5,7 +5,7 @@ use Rattle.std.proofs.Common.{ℕ, zero, suc, ◌++◌, replicate, length-append
 use Rattle.std.proofs.Math.ListN.{length-set}
 use Rattle.std.proofs.Math.Seq.{drop-append_seam, take-append_seam}
 use Rattle.std.proofs.lemmas.Bool.{cases_eq}
-use Rattle.std.proofs.lemmas.List.{length-map, get_or-set_same, get_or-set_other}
+use Rattle.std.proofs.lemmas.List.{get_or-map, length-map, get_or-set_same, get_or-set_other}
 use Rattle.std.proofs.lemmas.List.Elements.{Contains-get_or}
 use Rattle.std.proofs.lemmas.List.Sums.{count_by_more_no, count_by_more_yes, get_or-le-sum_by, sum-map, sum_by-append, sum_by-set}
 use Rattle.std.proofs.lemmas.List.Sorted.{sum_by-IsPermutation}
@@ -16,7 +16,7 @@ use Rattle.h3_set.specs.Laws.{AncestorsAreFound}
 use Rattle.h3_regions.specs.Counting.{AreCounts}
 use Rattle.h3_regions.specs.Laws.{CountsInParts}
 use Rattle.h3_regions.specs.Zones.{StandsAbove}
-use Rattle.h3_regions.proofs.ListLaws.{any_default}
+use Rattle.h3_regions.proofs.ListLaws.{any_default, as_map}
 use Rattle.h3_regions.proofs.RegionLaws.{none_above}
 use Rattle.h3_regions.proofs.TestLaws.{covered_false, covered_true, not_true}
 
@@ -27,21 +27,25 @@ pub record IsCounting (list cells : List Address) (counts : List ℕ) (others k 
   pub none : others ≡ count_by (λ x. not (is_covered list x)) (take k cells)
   pub total : sum counts + others ≡ k
 
-pub as_map : (f : Address → ℕ) (list : List Address) (counts : List ℕ) → length counts ≡ length list → ((i : ℕ) (d : Address) → i < length list → get_or counts i 0 ≡ f (get_or list i d)) → counts ≡ map f list
-as_map f [] [] e h = refl
-as_map f [] (n ∷ counts) e h = absurd (omega (arith, e))
-as_map f (x ∷ list) [] e h = absurd (omega (arith, e))
-as_map f (x ∷ list) (n ∷ counts) e h =
-    let head : n ≡ f x = h 0 x (omega arith) in
-    let rest : counts ≡ map f list = as_map f list counts (omega (arith, e)) (λ i d lt. h (suc i) d (omega (arith, lt))) in
-    cc
+-- counts that are at each place what is counted of the cell there
+pub as_counts : {X : Type 0} (f : X → ℕ) (list : List X) (counts : List ℕ) → length counts ≡ length list → ((i : ℕ) (d : X) → i < length list → get_or counts i 0 ≡ f (get_or list i d)) → counts ≡ map f list
+as_counts f list counts size h =
+    as_map f list counts size (λ i d e lt. any_default counts i e 0 (omega (arith, lt, size)) ∙ h i d lt)
+
+-- one cell more, which passes a test or does not
+module _ (cells : List Address) (k : ℕ) (x : Address) (lt : k < length cells) (is : x ≡ get_or cells k x) where
+  pub counts_more : (p : Address → Bool) → p x ≡ true → count_by p (take (k + 1) cells) ≡ count_by p (take k cells) + 1
+  counts_more p e = count_by_more_yes p cells k x lt (ap p (sym is) ∙ e)
+
+  pub counts_same : (p : Address → Bool) → p x ≡ false → count_by p (take (k + 1) cells) ≡ count_by p (take k cells)
+  counts_same p e = count_by_more_no p cells k x lt (ap p (sym is) ∙ e)
 
 module _ (found : AncestorsAreFound) (list cells : List Address) (counts : List ℕ) (others k : ℕ) (x : Address) (lt : k < length cells) (is : x ≡ get_or cells k x) (inv : IsCounting list cells counts others k) where
   yes : (p : Address → Bool) → p x ≡ true → count_by p (take (k + 1) cells) ≡ count_by p (take k cells) + 1
-  yes p e = count_by_more_yes p cells k x lt (ap p (sym is) ∙ e)
+  yes = counts_more cells k x lt is
 
   no : (p : Address → Bool) → p x ≡ false → count_by p (take (k + 1) cells) ≡ count_by p (take k cells)
-  no p e = count_by_more_no p cells k x lt (ap p (sym is) ∙ e)
+  no = counts_same cells k x lt is
 
   -- the cell at i covers x, and no other does
   pub counted : (i : ℕ) → i < length list → StandsAbove list i x → ((j : ℕ) → j < length list → StandsAbove list j x → Some i ≡ Some j) → IsCounting list cells (set counts i (get_or counts i 0 + 1)) others (k + 1)
@@ -82,11 +86,6 @@ module _ (found : AncestorsAreFound) (list cells : List Address) (counts : List 
 
 -- ---- one cell more
 
-at_map : (f : Address → ℕ) (list : List Address) (i : ℕ) (d : Address) → i < length list → get_or (map f list) i 0 ≡ f (get_or list i d)
-at_map f [] i d lt = absurd (omega (arith, lt))
-at_map f (x ∷ list) zero d lt = refl
-at_map f (x ∷ list) (suc i) d lt = at_map f list i d (omega (arith, lt))
-
 take_all_of : (cells more : List Address) → take (length cells) (cells ++ more) ≡ cells
 take_all_of [] more = refl
 take_all_of (x ∷ cells) more = ap (λ l. x ∷ l) (take_all_of cells more)
@@ -103,7 +102,7 @@ begun : (list cells more : List Address) (counts : List ℕ) (others : ℕ) → 
 begun list cells more counts others h =
     record {
       size = ap length h.each ∙ length-map list (λ zone. count_by (λ x. is_ancestor zone x) cells);
-      each = λ i d lt. rw (take_all_of cells more) (ap (λ l. get_or l i 0) h.each ∙ at_map (λ zone. count_by (λ x. is_ancestor zone x) cells) list i d lt);
+      each = λ i d lt. rw (take_all_of cells more) (ap (λ l. get_or l i 0) h.each ∙ get_or-map (λ zone. count_by (λ x. is_ancestor zone x) cells) list i d 0 lt);
       none = rw (take_all_of cells more) h.none;
       total = h.all;
     }
@@ -112,7 +111,7 @@ ended : (list cells : List Address) (x : Address) (counts : List ℕ) (others : 
 ended list cells x counts others h =
     let whole = all_of_one cells x in
     record {
-      each = as_map (λ a. count_by (λ y. is_ancestor a y) (cells ++ x ∷ [])) list counts h.size (λ i d lt. rw whole at (h.each i d lt));
+      each = as_counts (λ a. count_by (λ y. is_ancestor a y) (cells ++ x ∷ [])) list counts h.size (λ i d lt. rw whole at (h.each i d lt));
       none = rw whole at h.none;
       all = omega (arith, h.total, length-append cells (x ∷ []));
     }
@@ -130,13 +129,13 @@ module _ (found : AncestorsAreFound) (list : List Address) (counts : List ℕ) (
 -- the count of a zone stands at its place
 pub count_at : (list cells : List Address) (counts : List ℕ) (others : ℕ) (z : Address) (m : Contains list z) → AreCounts list cells counts others → get_or counts m.0 0 ≡ count_by (λ x. is_ancestor z x) cells
 count_at list cells counts others z m h =
-    ap (λ l. get_or l m.0 0) h.each ∙ at_map (λ zone. count_by (λ x. is_ancestor zone x) cells) list m.0 z m.1 ∙ ap (λ zone. count_by (λ x. is_ancestor zone x) cells) m.2
+    ap (λ l. get_or l m.0 0) h.each ∙ get_or-map (λ zone. count_by (λ x. is_ancestor zone x) cells) list m.0 z 0 m.1 ∙ ap (λ zone. count_by (λ x. is_ancestor zone x) cells) m.2
 
 zeros : (list : List Address) → replicate {A = ℕ} (length list) 0 ≡ map (λ zone. 0) list
 zeros [] = refl
 zeros (x ∷ list) = ap (λ l. 0 ∷ l) (zeros list)
 
-no_sum : (n : ℕ) → sum (replicate {A = ℕ} n 0) ≡ 0
+pub no_sum : (n : ℕ) → sum (replicate {A = ℕ} n 0) ≡ 0
 no_sum zero = refl
 no_sum (suc n) = no_sum n
 
@@ -172,7 +171,7 @@ sum_of_parts f (part ∷ parts) =
     let one : sum_by (sum_by f) (part ∷ []) ≡ sum_by f part = omega arith in
     omega (arith, first, rest, all, one)
 
-parts_add_up : (p : Address → Bool) (cells : List Address) (parts : List (List Address)) → IsPermutation cells (flat_map (λ part. part) parts) → count_by p cells ≡ sum (map (count_by p) parts)
+pub parts_add_up : (p : Address → Bool) (cells : List Address) (parts : List (List Address)) → IsPermutation cells (flat_map (λ part. part) parts) → count_by p cells ≡ sum (map (count_by p) parts)
 parts_add_up p cells parts same =
     sym (sum_by-IsPermutation (λ x. cond (p x) 1 0) cells (flat_map (λ part. part) parts) same) ∙ sum_of_parts (λ x. cond (p x) 1 0) parts ∙ sym (sum-map (count_by p) parts)
 

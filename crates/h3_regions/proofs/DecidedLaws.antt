@@ -14,41 +14,9 @@ use Rattle.h3_set.specs.Uncompaction.{uncompacted}
 use Rattle.h3_regions.specs.Algebra.{difference, finest_of_both, intersection}
 use Rattle.h3_regions.specs.Region.{IsRegion}
 use Rattle.h3_regions.proofs.CoverageLaws.{fine_within}
-use Rattle.h3_regions.proofs.ListLaws.{all_of, contains_cases, contains_head, contains_tail, from_flat, in_flat}
+use Rattle.h3_regions.proofs.ListLaws.{all_of, from_flat, in_flat, kept, kept_from}
 use Rattle.h3_regions.proofs.LeftLaws.{finest_at}
 use Rattle.h3_regions.proofs.TestLaws.{covered_true, from_covered}
-
--- ---- the members of lists
-
-pub kept_from : (p : Address → Bool) (xs : List Address) (x : Address) → Contains (filter p xs) x → Contains xs x × (p x ≡ true)
-kept_from p [] x m = absurd (omega (arith, m.1))
-kept_from p (y ∷ xs) x m =
-    elim (cases_Bool (p y)) [
-      | inl pass ↦
-          let n : Contains (y ∷ filter p xs) x = rw pass at m in
-          elim (contains_cases y x (filter p xs) n) [
-            | inl e ↦ (subst (Contains (y ∷ xs)) e (contains_head y xs), sym (ap p e) ∙ pass)
-            | inr k ↦ let r = kept_from p xs x k in (contains_tail y x xs r.0, r.1)
-          ]
-      | inr miss ↦
-          let n : Contains (filter p xs) x = rw miss at m in
-          let r = kept_from p xs x n in
-          (contains_tail y x xs r.0, r.1)
-    ]
-
-pub kept : (p : Address → Bool) (xs : List Address) (x : Address) → Contains xs x → p x ≡ true → Contains (filter p xs) x
-kept p [] x m t = absurd (omega (arith, m.1))
-kept p (y ∷ xs) x m t =
-    elim (cases_Bool (p y)) [
-      | inl pass ↦ elim (contains_cases y x xs m) [
-        | inl e ↦ rw pass (subst (Contains (y ∷ filter p xs)) e (contains_head y (filter p xs)))
-        | inr k ↦ rw pass (contains_tail y x (filter p xs) (kept p xs x k t))
-      ]
-      | inr miss ↦ elim (contains_cases y x xs m) [
-        | inl e ↦ let never : true ≡ false = sym t ∙ sym (ap p e) ∙ miss in absurd (cc)
-        | inr k ↦ rw miss (kept p xs x k t)
-      ]
-    ]
 
 -- ---- the cells of one resolution
 

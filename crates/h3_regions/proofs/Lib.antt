@@ -1,4 +1,10 @@
+pub mod AddingLaws
 pub mod AlgebraLaws
+pub mod ApartLaws
+pub mod AreaCountingLaws
+pub mod AreaSumLaws
+pub mod ClashLaws
+pub mod CoarsestLaws
 pub mod CountingLaws
 pub mod CoverageLaws
 pub mod DecidedLaws
@@ -9,8 +15,11 @@ pub mod KeepingLaws
 pub mod LeavingLaws
 pub mod LeftLaws
 pub mod ListLaws
+pub mod ListingLaws
 pub mod NumberLaws
+pub mod OutermostLaws
 pub mod OverlapLaws
+pub mod PermutedLaws
 pub mod RegionLaws
 pub mod RoomLaws
 pub mod SearchLaws
@@ -18,4 +27,5 @@ pub mod SharedLaws
 pub mod SumLaws
 pub mod TableLaws
 pub mod TestLaws
+pub mod WritingLaws
 pub mod ZoneLaws

@@ -17,12 +17,10 @@ use Rattle.h3_set.specs.Compacted.{compacted}
 use Rattle.h3_set.specs.Coverage.{finest, is_ancestor, IsApart}
 use Rattle.h3_set.specs.Laws.{AncestorsAreFound, ApartInAnyOrder, CompactedListsAreCompacted}
 use Rattle.h3_regions.specs.Zones.{by_number, is_member}
-use Rattle.h3_regions.proofs.AlgebraLaws.{same_rising}
 use Rattle.h3_regions.proofs.CoverageLaws.{fine_within}
-use Rattle.h3_regions.proofs.DecidedLaws.{kept, kept_from}
 use Rattle.h3_regions.proofs.IntervalLaws.{inside}
 use Rattle.h3_regions.proofs.LeftLaws.{finest_at}
-use Rattle.h3_regions.proofs.ListLaws.{one_of}
+use Rattle.h3_regions.proofs.ListLaws.{kept, kept_from, one_of, same_rising}
 
 both_true : (p q : Bool) → p ≡ true → q ≡ true → (p && q) ≡ true
 both_true p q e f = rw (e, f) refl

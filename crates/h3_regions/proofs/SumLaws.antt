@@ -43,7 +43,7 @@ either : (b : Bool) → one_if b + one_if (not b) ≡ 1
 either true = refl
 either false = refl
 
-count_alike : (p q : Address → Bool) (cells : List Address) → ((x : Address) → p x ≡ q x) → count_by p cells ≡ count_by q cells
+pub count_alike : (p q : Address → Bool) (cells : List Address) → ((x : Address) → p x ≡ q x) → count_by p cells ≡ count_by q cells
 count_alike p q [] alike = refl
 count_alike p q (x ∷ cells) alike =
     let rest = count_alike p q cells alike in

@@ -22,18 +22,18 @@ pub not_true : (b : Bool) → (b ≢ true) → b ≡ false
 not_true true h = absurd (h refl)
 not_true false h = refl
 
-module _ (p : Address → Bool) (P : Address → Type 0) (decides : (a : Address) → (p a ≡ true) ↔ P a) where
-  any_true : (xs : List Address) (a : Address) → Contains xs a → P a → list_any p xs ≡ true
+module _ {X : Type 0} (p : X → Bool) (P : X → Type 0) (decides : (a : X) → (p a ≡ true) ↔ P a) where
+  any_true : (xs : List X) (a : X) → Contains xs a → P a → list_any p xs ≡ true
   any_true xs a m h = list_any_at p xs m.0 a m.1 (rw m.2 ((decides a).1 h))
 
-  any_false : (xs : List Address) → ((a : Address) → Contains xs a → ¬ P a) → list_any p xs ≡ false
+  any_false : (xs : List X) → ((a : X) → Contains xs a → ¬ P a) → list_any p xs ≡ false
   any_false xs h =
       list_any_none p xs (λ k d lt. not_true (p (get_or xs k d)) (λ t. h (get_or xs k d) (Contains-get_or xs k d lt) ((decides (get_or xs k d)).0 t)))
 
-  any_from : (xs : List Address) → list_any p xs ≡ true → (a : Address) × Contains xs a × P a
+  any_from : (xs : List X) → list_any p xs ≡ true → (a : X) × Contains xs a × P a
   any_from xs t = let w = Any-from_list_any p xs t in (w.1, (w.0, w.2, w.3), (decides w.1).0 w.4)
 
-  none_from : (xs : List Address) → list_any p xs ≡ false → (a : Address) → Contains xs a → ¬ P a
+  none_from : (xs : List X) → list_any p xs ≡ false → (a : X) → Contains xs a → ¬ P a
   none_from xs f a m h = both_ways (list_any p xs) f (any_true xs a m h)
 
 module _ (found : AncestorsAreFound) (cells : List Address) (x : Address) where

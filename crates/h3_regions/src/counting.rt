@@ -13,7 +13,7 @@ use h3_set::laws::coverages_decide_lists;
 use h3_tree::laws::cells_form_trees;
 
 /// Sets all counts to 0.
-fn clear(counts: &mut [u64])
+pub(crate) fn clear(counts: &mut [u64])
     ensures { counts.new ≡ replicate (length counts.old) 0 }
 {
     for count in counts.iter_mut() {

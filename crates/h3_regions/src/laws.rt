@@ -1,6 +1,7 @@
-//! Laws of regions and zones. Each function does nothing; what it ensures is a law that holds
+//! Laws of regions, zones and areas. Each function does nothing; what it ensures is a law that holds
 //! always.
 
+ghost use Rattle.h3_regions.specs.AreaLaws.{AlikeAreas, AreaCountsAddUp, AreaCountsInParts, AreasAreListed, AreasAreTested, AreasInAnyOrder, ClashesAreFound, OneAreaAtMost};
 ghost use Rattle.h3_regions.specs.Laws.{CoverageAtOneResolution, CoveragesDecideDifferences, CoveragesDecideIntersections, CountsAddUp, CountsInParts, NothingCounted, RegionsAreUnique, RegionsCoverAlike, UnionsCoverBoth, UnionsInAnyOrder, UnionsInParts, UnionsOfOne, ZonesAreOne, ZonesByNumber, ZonesInAnyOrder};
 
 use h3_index::laws::cells_are_listed;
@@ -65,4 +66,22 @@ pub fn counts_add_up()
     cells_form_trees();
     cells_form_intervals();
     cells_are_listed();
+}
+
+/// The list of a cell's areas has them and nothing else, in their order, and is the only one. It does
+/// not depend on the order in which the cells of the areas are given, and has one area at most if no
+/// two overlap. Then the counts of all areas and the number of cells in none add up to the number of
+/// cells; and what is counted of the parts of a list, to what is counted of the whole.
+pub fn areas_are_lawful()
+    ensures listed { AreasAreListed }
+    ensures tested { AreasAreTested }
+    ensures in_any_order { AreasInAnyOrder }
+    ensures one { OneAreaAtMost }
+    ensures clashes { ClashesAreFound }
+    ensures parts { AreaCountsInParts }
+    ensures add_up { AreaCountsAddUp }
+    ensures alike { AlikeAreas }
+{
+    cells_form_trees();
+    coverages_decide_lists();
 }

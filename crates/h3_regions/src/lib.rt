@@ -1,8 +1,11 @@
-//! Regions and zones: sets of H3 cells, what two of them share, and which of them other cells lie in.
-//! Nothing here allocates.
+//! Regions, zones and areas: sets of H3 cells, what two of them share, and which of them other cells
+//! lie in. Nothing here allocates.
 #![tactic(auto)]
 
 mod ahead;
+mod apart;
+mod area_counting;
+mod areas;
 mod counting;
 mod difference;
 mod intersection;
@@ -17,6 +20,9 @@ mod zone_table;
 mod zones;
 
 pub use ahead::AHEAD;
+pub use apart::{ApartAreas, RefusedAreas};
+pub use area_counting::{count_in_areas, count_in_overlapping_areas};
+pub use areas::Areas;
 pub use counting::{count, count_indexed, count_next, count_of};
 pub use difference::subtract;
 pub use intersection::intersect;

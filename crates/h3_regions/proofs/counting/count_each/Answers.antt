@@ -1,7 +1,7 @@
 use Rattle.std.proofs.Common.{◌<◌, length, arith}
 use Rattle.std.specs.List.{count_by}
 use Rattle.h3_set.specs.Coverage.{is_ancestor}
-use Rattle.h3_regions.proofs.CountingLaws.{as_map, counted, counting_begins, uncounted, within_all}
+use Rattle.h3_regions.proofs.CountingLaws.{as_counts, counted, counting_begins, uncounted, within_all}
 use Rattle.h3_regions.proofs.LeavingLaws.{take_whole}
 use Rattle.h3_regions.proofs.counting.count_each.Goals as goal
 use Rattle.h3_regions.proofs.counting.count_each.Goals.{in-Some, in-None}
@@ -27,7 +27,7 @@ loop-cell-preserved c =
 pub returns-clause-counts : goal.returns-clause-counts
 returns-clause-counts c =
     let whole = take_whole c.args.cells.now c.loop-cell.cell-index c.loop-cell-test.false in
-    as_map (λ a. count_by (λ x. is_ancestor a x) c.args.cells.now) c.args.zones.now c.loop-cell.counts c.loop-cell.invariant.size (λ i d lt. rw whole at (c.loop-cell.invariant.each i d lt))
+    as_counts (λ a. count_by (λ x. is_ancestor a x) c.args.cells.now) c.args.zones.now c.loop-cell.counts c.loop-cell.invariant.size (λ i d lt. rw whole at (c.loop-cell.invariant.each i d lt))
 
 pub returns-clause-others : goal.returns-clause-others
 returns-clause-others c =

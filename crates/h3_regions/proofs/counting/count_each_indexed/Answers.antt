@@ -1,6 +1,6 @@
 use Rattle.std.specs.List.{count_by}
 use Rattle.h3_set.specs.Coverage.{is_ancestor}
-use Rattle.h3_regions.proofs.CountingLaws.{as_map, counted, uncounted}
+use Rattle.h3_regions.proofs.CountingLaws.{as_counts, counted, uncounted}
 use Rattle.h3_regions.proofs.LeavingLaws.{take_whole}
 use Rattle.h3_regions.proofs.counting.count_each_indexed.Goals as goal
 use Rattle.h3_regions.proofs.counting.count_each_indexed.Goals.{in-Some, in-None}
@@ -17,4 +17,4 @@ loop-cell-preserved c =
 pub returns-clause-counts : goal.returns-clause-counts
 returns-clause-counts c =
     let whole = take_whole c.args.cells.now c.loop-cell.cell-index c.loop-cell-test.false in
-    as_map (λ a. count_by (λ x. is_ancestor a x) c.args.cells.now) c.args.index.now c.loop-cell.counts c.loop-cell.invariant.size (λ i d lt. rw whole at (c.loop-cell.invariant.each i d lt))
+    as_counts (λ a. count_by (λ x. is_ancestor a x) c.args.cells.now) c.args.index.now c.loop-cell.counts c.loop-cell.invariant.size (λ i d lt. rw whole at (c.loop-cell.invariant.each i d lt))

@@ -1,0 +1,6 @@
+use Rattle.std.proofs.Common.{length}
+use Rattle.h3_regions.proofs.AreaCountingLaws.{IsCountingAreas}
+use Rattle.h3_regions.proofs.area_counting.count_in_areas.Given as goal
+
+abbrev pub invariant-loop-cell : goal.invariant-loop-cell
+invariant-loop-cell l = IsCountingAreas l.areas l.cells (length l.fn.counts) l.counts l.none l.cell-index

@@ -1,0 +1,11 @@
+use Rattle.std.proofs.Common.{rules, arith}
+use Rattle.std.proofs.lemmas.List.Sorted.{IsNonDecreasingBy-from_sort_by_key}
+use Rattle.h3_regions.specs.Listed.{pair_number}
+use Rattle.h3_regions.proofs.areas.put_by_number.Goals as goal
+
+pub returns-clause-in_order : goal.returns-clause-in_order
+returns-clause-in_order c =
+    let h =
+    IsNonDecreasingBy-from_sort_by_key pair_number c.sort_unstable_by_key.new.self
+    c.sort_unstable_by_key.ensures.sorted (λ a r q k. search rules) in
+    λ i j d lt lj. h i j d (omega (arith, lt)) lj
