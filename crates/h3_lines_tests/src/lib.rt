@@ -1,6 +1,9 @@
-//! The tests of `h3_lines`: lists that are read, lines that are written, and errors.
+//! The tests of `h3_lines`: lists that are read, lines that are written, and errors; and of the tables of
+//! `h3_rows`.
 #![tactic(auto)]
 
+#[cfg(test)]
+mod areas;
 #[cfg(test)]
 mod expected;
 #[cfg(test)]

@@ -18,7 +18,7 @@ pub no_feeds : (bytes : List ℕ) → ((j : ℕ) → 0 ≤ j → j < length byte
 no_feeds bytes none =
     none_counted bytes (subst (λ l. list_all (λ b. not (is_byte 10 b)) l ≡ true) (take_all (length bytes) bytes (omega arith)) (none_below (is_byte 10) bytes (length bytes) (omega arith) none))
 
-two_hold : (x y : Bool) → (x && y) ≡ true → (x ≡ true) × (y ≡ true)
+pub two_hold : (x y : Bool) → (x && y) ≡ true → (x ≡ true) × (y ≡ true)
 two_hold true y h = (refl, h)
 two_hold false y h = absurd (cc)
 
@@ -41,7 +41,7 @@ not_first (b ∷ bs) h =
     let go : (t : Bool) → (get_or (if t then without_leading_blanks bs else b ∷ bs) 0 0 == 34) ≡ false = λ t. elim t as (λ t. (get_or (if t then without_leading_blanks bs else b ∷ bs) 0 0 == 34) ≡ false) [ true ↦ not_first bs more | false ↦ m ] in
     go (is_blank b)
 
-quiet_alike : (separator : ℕ) (field : List ℕ) → quiet field ≡ true → is_read_alike separator field ≡ true
+pub quiet_alike : (separator : ℕ) (field : List ℕ) → quiet field ≡ true → is_read_alike separator field ≡ true
 quiet_alike separator field h = rw (not_first field h, and_false (is_blank (get_or field 0 0))) refl
 
 all_alike : (separator : ℕ) (ps : List Piece) → list_all (λ p. quiet p.0) ps ≡ true → list_all (λ p. is_read_alike separator p.0) ps ≡ true

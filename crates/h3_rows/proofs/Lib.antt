@@ -1,4 +1,5 @@
 pub mod Alike
+pub mod AreaNames
 pub mod Beside
 pub mod Blanks
 pub mod Blocks
@@ -8,6 +9,7 @@ pub mod Finding
 pub mod Kept
 pub mod LastRow
 pub mod Masks
+pub mod NamesKept
 pub mod Naming
 pub mod Parts
 pub mod PlainAnswers
@@ -17,5 +19,7 @@ pub mod Returns
 pub mod Stand
 pub mod Steps
 pub mod TakenCells
+pub mod TakenNamed
 pub mod Texts
+pub mod WholeFields
 pub mod Written

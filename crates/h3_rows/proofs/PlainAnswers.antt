@@ -9,13 +9,13 @@ use Rattle.std.proofs.lemmas.List.Sums.{AllPass-from_list_all}
 use Rattle.std.specs.Char.{is_digit}
 use Rattle.std.specs.List.{list_all}
 use mathlib.Core.Bool.{beq}
-use Rattle.h3_index.specs.Text.{is_blank, parsed_index, trimmed, without_leading_blanks, without_trailing_blanks}
+use Rattle.h3_index.specs.Text.{is_blank, trimmed, without_leading_blanks, without_trailing_blanks}
 use Rattle.h3_lines.specs.Answer.{Answer, written}
 use Rattle.h3_lines.specs.EachLine.{then_answer}
 use Rattle.h3_lines.specs.Answering.{Answered}
 use Rattle.h3_rows.specs.Answering.{PutsPlain, held_of, state_of}
 use Rattle.h3_rows.specs.Lanes.{IsOneLine}
-use Rattle.h3_rows.specs.Plain.{IsPlainRow}
+use Rattle.h3_rows.specs.Plain.{IsPlainField, IsPlainRow}
 use Rattle.h3_rows.specs.Row.{field_text, next_number, read_of, returns_of, row_body, unquoted}
 use Rattle.h3_rows.specs.RowsAnswer.{Form, Step, answered_with, goes_on, malformed, row_said, row_step, row_with, rows_then, text_said}
 use Rattle.h3_lines.specs.Pieces.{CutsAt, pieces_of}
@@ -25,7 +25,7 @@ use Rattle.h3_rows.specs.declared.state.RowState.{RowState}
 use Rattle.h3_rows.proofs.Beside.{first_with, last_with}
 use Rattle.h3_rows.proofs.Blanks.{other_last}
 use Rattle.h3_lines.specs.PiecesLaws.{cut_at_mark, uncut_none}
-use Rattle.h3_rows.proofs.PlainRows.{feedless_uncut, plain_body, plain_feeds, plain_returnless, plain_sound, plain_uncut}
+use Rattle.h3_rows.proofs.WholeFields.{feedless_uncut, row_bare, row_feeds, row_returnless, row_sound, row_uncut}
 use Rattle.h3_rows.proofs.Returns.{body_of_row, returns_of_row, row_length}
 use Rattle.h3_rows.proofs.Steps.{passed_is}
 use Rattle.h3_rows.proofs.Texts.{text_said_parsed}
@@ -58,9 +58,22 @@ digits_unquoted : (field : List ℕ) → list_all (λ b. is_digit b 16) field �
 digits_unquoted [] h = refl
 digits_unquoted (b ∷ bs) h = rw (is_not 34 b (b == 34) refl refl (digit_first b bs h)) (not_both (nat_le 2 (length (b ∷ bs))) (get_or (b ∷ bs) (length (b ∷ bs) - 1) 0 == 34) _ (b ∷ bs))
 
-digits_text : (quotes : Bool) (field : List ℕ) → list_all (λ b. is_digit b 16) field ≡ true → field_text quotes field ≡ field
+pub digits_text : (quotes : Bool) (field : List ℕ) → list_all (λ b. is_digit b 16) field ≡ true → field_text quotes field ≡ field
 digits_text true field h = ap unquoted (digits_trimmed field h) ∙ digits_unquoted field h
 digits_text false field h = digits_trimmed field h
+
+-- the text between two quotes
+pub quoted_text : (field : List ℕ) → 2 ≤ length field → get_or field 0 0 ≡ 34 → get_or field (length field - 1) 0 ≡ 34
+    → field_text true field ≡ take (length field - 2) (drop 1 field)
+quoted_text [] two first last = absurd (omega (arith, two))
+quoted_text (b ∷ bs) two first last =
+    let whole = b ∷ bs in
+    let long : nat_le 2 (length whole) ≡ true = grind (arith, nat_tests, two) in
+    let opens : (get_or whole 0 0 == 34) ≡ true = ap (λ n. n == 34) first in
+    let closes : (get_or whole (length whole - 1) 0 == 34) ≡ true = ap (λ n. n == 34) last in
+    let front : without_leading_blanks whole ≡ whole = rw first refl in
+    let trims : trimmed whole ≡ whole = ap without_trailing_blanks front ∙ sym (other_last whole (omega arith) (ap is_blank last)) in
+    ap unquoted trims ∙ rw (long, opens, closes) refl
 
 pub some_from_test : (l : List ℕ) (b : Bool) → b ≡ (length l == 0) → b ≡ false → 0 < length l
 some_from_test [] b is h = absurd (cc (is, h))
@@ -78,7 +91,7 @@ module _ (form : Form) (answer : Option ℕ → Answer) (s : RowState) (k : Colu
     line = row ++ replicate n 13
 
     body : row_body line ≡ row
-    body = body_of_row row n (plain_body form.quotes row p.plain)
+    body = body_of_row row n (row_bare row p.whole.on_line)
 
     read : read_of s.number row ≡ row
     read = rw not_first refl
@@ -88,23 +101,23 @@ module _ (form : Form) (answer : Option ℕ → Answer) (s : RowState) (k : Colu
         let short : nat_lt 1048575 (length row) ≡ false = grind (arith, nat_tests) in
         let less : length line ≤ 1114111 = omega (arith, row_length row n, p.few, few) in
         let small : nat_lt 1114111 (length line) ≡ false = grind (arith, nat_tests) in
-        rw (body, read, short, small, plain_returnless form.quotes row p.plain, plain_sound form.separator form.quotes row p.plain) refl
+        rw (body, read, short, small, row_returnless form.quotes row p.whole.on_line, row_sound form.separator form.quotes row p.whole) refl
 
-    said : (index : ℕ) → list_all (λ b. is_digit b 16) field ≡ true → parsed_index field ≡ Some index → row_said form s.number k row ≡ Ok (Index index)
-    said index digits parses = rw (read, p.as_wide, p.field_is) (ap text_said (digits_text form.quotes field digits) ∙ sym (text_said_parsed field index parses))
+    said : (index : ℕ) → IsPlainField form.quotes field index → row_said form s.number k row ≡ Ok (Index index)
+    said index plain = rw (read, p.as_wide, p.field_is) (ap text_said plain.text_is ∙ sym (text_said_parsed plain.text index plain.parses))
 
-    steps : (index : ℕ) (text : List ℕ) → list_all (λ b. is_digit b 16) field ≡ true → parsed_index field ≡ Some index → answer (Some index) ≡ written text
+    steps : (index : ℕ) (text : List ℕ) → IsPlainField form.quotes field index → answer (Some index) ≡ written text
         → row_step form answer (state_of s held) (line, false)
         ≡ goes_on (state_of s held) line (answered_with form line text)
-    steps index text digits parses is =
+    steps index text plain is =
         let filled : (length row == 0) ≡ false = grind (arith, nat_tests) in
-        rw (known, sound, body, filled, said index digits parses, is) refl
+        rw (known, sound, body, filled, said index plain, is) refl
 
     one_row : (text : List ℕ) (l : IsOneLine text) → answered_with form line text
         ≡ row ++ (form.separator ∷ (l.line ++ (replicate n 13 ++ 10 ∷ [])))
     one_row text l =
         let cuts : CutsAt 10 false false text l.line [] = record { begins = feedless_uncut l.line l.whole; split = l.split } in
-        let ends : returns_of line ≡ replicate n 13 = returns_of_row row n (plain_body form.quotes row p.plain) in
+        let ends : returns_of line ≡ replicate n 13 = returns_of_row row n (row_bare row p.whole.on_line) in
         let with : row_with form.separator line (l.line ++ [])
         ≡ row ++ (form.separator ∷ (l.line ++ (replicate n 13 ++ 10 ∷ [])))
         = ap (λ t. row_with form.separator line t) (append-nil l.line) ∙ rw (body, ends) refl in
@@ -115,12 +128,11 @@ module _ (form : Form) (answer : Option ℕ → Answer) (s : RowState) (k : Colu
         ∙ with)
 
   pub puts_plain : (bytes row field held held' text : List ℕ) (n index : ℕ)
-      → IsPlainRow form.separator form.quotes k bytes row n field → list_all (λ b. is_digit b 16) field ≡ true
-      → parsed_index field ≡ Some index
+      → IsPlainRow form.separator form.quotes k bytes row n field → IsPlainField form.quotes field index
       → length row ≤ 32768 → 0 < length row → answer (Some index) ≡ written text → (l : IsOneLine text)
       → held' ≡ (held ++ (row ++ form.separator ∷ [])) ++ (l.line ++ (replicate n 13 ++ 10 ∷ []))
       → PutsPlain form answer s bytes held held' (length row + n) n
-  puts_plain bytes row field held held' text n index p digits parses few some is l put =
+  puts_plain bytes row field held held' text n index p plain few some is l put =
       let line = row ++ replicate n 13 in
       let answered = l.line ++ (replicate n 13 ++ 10 ∷ []) in
       record {
@@ -128,11 +140,11 @@ module _ (form : Form) (answer : Option ℕ → Answer) (s : RowState) (k : Colu
         after = p.after;
         split = p.split;
         size_is = row_length row n;
-        ending = returns_of_row row n (plain_body form.quotes row p.plain);
-        whole = plain_uncut form.quotes row n p.plain;
-        feedless = plain_feeds form.quotes row n p.plain;
+        ending = returns_of_row row n (row_bare row p.whole.on_line);
+        whole = row_uncut form.separator form.quotes row n p.whole;
+        feedless = row_feeds row n p.whole.on_line;
         text = answered_with form line text;
-        is = steps bytes row field held n p some few index text digits parses is;
+        is = steps bytes row field held n p some few index text plain is;
         put = put ∙ append_assoc held (row ++ form.separator ∷ []) answered
             ∙ ap (λ l. held ++ l) (append_assoc row (form.separator ∷ []) answered
             ∙ sym (one_row bytes row field held n p some few text l));

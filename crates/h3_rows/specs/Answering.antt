@@ -9,7 +9,7 @@ use Rattle.h3_lines.specs.declared.run_error.RunError.{RunError}
 use Rattle.h3_lines.specs.Pieces.{Piece, Uncut, cut}
 use Rattle.h3_rows.specs.Row.{returns_of}
 use Rattle.h3_rows.specs.RowForm.{columns_form}
-use Rattle.h3_rows.specs.declared.each.RowJob.{RowJob}
+use Rattle.h3_rows.specs.declared.job.RowJob.{RowJob}
 use Rattle.h3_rows.specs.RowsAnswer.{Form, State, Step, goes_on, row_step, rows_with}
 use Rattle.h3_rows.specs.declared.state.Columns.{Columns}
 use Rattle.h3_rows.specs.declared.state.RowState.{RowState}

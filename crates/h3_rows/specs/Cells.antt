@@ -31,7 +31,8 @@ abbrev pub called : {A : Type 0} → Result A H3Error → Result A RowError
 called (Ok value) = Ok value
 called (Err e) = Err (row_error.Call e)
 
--- cell_said said: the cell of a row, by what it says: none where it is missing, and an error where no cell has its index
+-- cell_said read: the cell of a row by what is read of its field: none where it is missing, and an error where the row is
+-- faulty, or no cell has its index
 abbrev pub cell_said : Result Said RowFault → Result (Option Address) RowError
 cell_said (Err fault) = Err (row_error.Bad fault)
 cell_said (Ok Missing) = Ok None
@@ -47,7 +48,7 @@ pub record Found : Type 0 where
   pub cells : Result (List Address) AnswerError
   pub columns : Option Columns
 
--- header_found columns: a header has no cell; it has the column, or its error ends the list
+-- header_found columns: a header has no cell; it has the columns, or its error ends the list
 abbrev pub header_found : Result Columns ColumnError → Found
 header_found (Ok columns) = record { cells = Ok []; columns = Some columns }
 header_found (Err e) = record { cells = Err (ending_by.Column e); columns = None }

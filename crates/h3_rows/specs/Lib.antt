@@ -1,4 +1,6 @@
 pub mod Answering
+pub mod AreaLaws
+pub mod Areas
 pub mod Cells
 pub mod CellsIn
 pub mod Each
@@ -7,7 +9,10 @@ pub mod Lanes
 pub mod LastRow
 pub mod Laws
 pub mod Line
+pub mod Named
+pub mod NamedIn
 pub mod Plain
 pub mod Row
 pub mod RowForm
 pub mod RowsAnswer
+pub mod TableExamples

@@ -1,9 +1,10 @@
--- Rows without quotes, found by a look at sixteen bytes at once. Private contracts and proofs alone cite this file.
+-- Rows with whole fields alone, found by a look at sixteen bytes at once. Private contracts and proofs alone cite this file.
 use Rattle.std.specs.Prelude.{◌≡◌, ℕ, ◌+◌, ◌<◌, ◌≤◌, ◌==◌, ◌||◌, Bool, true, false, not, List, ◌∷◌, ◌++◌, length, replicate, take, Some, if◌then◌else◌}
+use Rattle.h3_index.specs.Text.{parsed_index}
 use Rattle.std.specs.List.{list_all}
-use Rattle.memchr.specs.Find.{is_byte3}
-use Rattle.h3_lines.specs.Pieces.{cut}
-use Rattle.h3_rows.specs.Row.{piece_at}
+use Rattle.memchr.specs.Find.{is_byte2, is_byte3}
+use Rattle.h3_lines.specs.Pieces.{Uncut, cut, inside_after}
+use Rattle.h3_rows.specs.Row.{field_text, is_read_alike, opens_well, piece_at, quotes_are_sound}
 use Rattle.h3_rows.specs.RowsAnswer.{is_as_wide}
 use Rattle.h3_rows.specs.declared.state.Columns.{Columns}
 
@@ -11,35 +12,63 @@ use Rattle.h3_rows.specs.declared.state.Columns.{Columns}
 abbrev pub quote_or_feed : Bool → ℕ
 quote_or_feed quotes = if quotes then 34 else 10
 
--- no byte is a line feed or a carriage return, and if quotes count none is a quote
-abbrev pub is_plain : Bool → List ℕ → Bool
-is_plain quotes bytes = list_all (λ b. not (is_byte3 10 13 (quote_or_feed quotes) b)) bytes
-
 -- the byte is one of four
 abbrev pub is_byte4 : ℕ → ℕ → ℕ → ℕ → ℕ → Bool
 is_byte4 first second third fourth b = b == first || is_byte3 second third fourth b
 
--- the bytes begin with plain ones, after which some of the fields that are before another are still to pass
+-- no byte is a line feed or a carriage return
+abbrev pub is_one_line : List ℕ → Bool
+is_one_line bytes = list_all (λ b. not (is_byte2 10 13 b)) bytes
+
+-- a field without quotes, or between two quotes that count, without line feeds and carriage returns
+pub record IsWhole (separator : ℕ) (quotes : Bool) (field : List ℕ) : Type 0 where
+  pub uncut : Uncut separator quotes false field false
+  pub on_line : is_one_line field ≡ true
+  pub goes_on : quotes ≡ true → (more : List ℕ) → opens_well separator true false false (field ++ separator ∷ more) ≡ opens_well separator true false false more
+  pub opens : quotes ≡ true → opens_well separator true false false field ≡ true
+  pub alike : quotes ≡ true → is_read_alike separator field ≡ true
+
+-- whole fields, each with the separator after it
+pub record AreWhole (separator : ℕ) (quotes : Bool) (bytes : List ℕ) : Type 0 where
+  pub on_line : is_one_line bytes ≡ true
+  pub outside : inside_after quotes false bytes ≡ false
+  pub sound : quotes ≡ true → (more : List ℕ) → quotes_are_sound separator more ≡ true → quotes_are_sound separator (bytes ++ more) ≡ true
+
+-- whole fields, with the separator between them
+pub record IsWholeRow (separator : ℕ) (quotes : Bool) (bytes : List ℕ) : Type 0 where
+  pub on_line : is_one_line bytes ≡ true
+  pub outside : inside_after quotes false bytes ≡ false
+  pub sound : quotes ≡ true → quotes_are_sound separator bytes ≡ true
+
+-- the bytes begin with whole fields, after which some of the fields that are before another are still to pass
 pub record PassesFields (separator : ℕ) (quotes : Bool) (before left : ℕ) (bytes rest : List ℕ) : Type 0 where
   pub front : List ℕ
   pub split : bytes ≡ front ++ rest
-  pub plain : is_plain quotes front ≡ true
+  pub whole : AreWhole separator quotes front
   pub passed : (more : List ℕ) → piece_at before (cut separator quotes false (front ++ more)) ≡ piece_at left (cut separator quotes false more)
   pub counted : (more : List ℕ) → length (cut separator quotes false (front ++ more)) + left ≡ before + length (cut separator quotes false more)
 
--- from its cell's field on a plain row has so many bytes, and it has as many fields as it should
-pub record EndsPlain (separator : ℕ) (quotes : Bool) (columns : Columns) (rest : List ℕ) (last : ℕ) : Type 0 where
+-- from its cell's field on, which has `end` bytes, a row of whole fields has `last` bytes, and it has as many fields as
+-- it should
+pub record EndsPlain (separator : ℕ) (quotes : Bool) (columns : Columns) (rest : List ℕ) (end last : ℕ) : Type 0 where
   pub within : last < length rest
-  pub plain : is_plain quotes (take last rest) ≡ true
+  pub whole : IsWholeRow separator quotes (take last rest)
+  pub field_is : piece_at 0 (cut separator quotes false (take last rest)) ≡ Some (take end rest)
   pub as_wide : is_as_wide columns.width (columns.before + length (cut separator quotes false (take last rest))) ≡ true
 
--- the bytes begin with a row that is plain and has as many fields as it should, and with at most one carriage return
+-- the text of a field parses as this index
+pub record IsPlainField (quotes : Bool) (field : List ℕ) (index : ℕ) : Type 0 where
+  pub text : List ℕ
+  pub text_is : field_text quotes field ≡ text
+  pub parses : parsed_index text ≡ Some index
+
+-- the bytes begin with a row that has whole fields alone, as many as it should, and with at most one carriage return
 -- and a line feed after it; and this is its field after so many others
 pub record IsPlainRow (separator : ℕ) (quotes : Bool) (columns : Columns) (bytes row : List ℕ) (returns : ℕ)
     (field : List ℕ) : Type 0 where
   pub after : List ℕ
   pub split : bytes ≡ (row ++ replicate returns 13) ++ 10 ∷ after
   pub few : returns ≤ 1
-  pub plain : is_plain quotes row ≡ true
+  pub whole : IsWholeRow separator quotes row
   pub field_is : piece_at columns.before (cut separator quotes false row) ≡ Some field
   pub as_wide : is_as_wide columns.width (length (cut separator quotes false row)) ≡ true

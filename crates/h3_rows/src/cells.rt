@@ -29,7 +29,7 @@ use h3_streams::{CountedReader, Source};
 use std::alloc::Global;
 
 /// The cell of a row, `None` if it is missing.
-fn read_cell(
+pub(crate) fn read_cell(
     options: &RowOptions,
     number: u64,
     columns: Columns,
@@ -138,7 +138,7 @@ impl<'f, V: CellJob> Job for RowCells<'f, V> {
             }
             Ok((Some(cell), state)) => {
                 self.state = state;
-                self.job.take(cell, None)
+                Ok(self.job.take(cell, None)?)
             }
             Err(error) => Err(RunError::Error(error)),
         }

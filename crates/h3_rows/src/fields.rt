@@ -2,7 +2,7 @@
 
 ghost use Rattle.std.specs.Prelude.{true, not, ◌≡◌, ◌==◌, ◌+◌, ◌-◌, ◌<◌, ◌≤◌, ℕ, Bool, false, length, Some, None, MatchOption};
 ghost use Rattle.std.specs.List.{list_all};
-ghost use Rattle.h3_index.specs.Text.{is_blank, without_leading_blanks, without_trailing_blanks};
+ghost use Rattle.h3_index.specs.Text.{is_blank, trimmed, without_leading_blanks, without_trailing_blanks};
 ghost use Rattle.h3_lines.specs.Pieces.{cut, is_uncut};
 ghost use Rattle.h3_rows.specs.Row.{field_text, is_padded, is_read_alike, opens_well, piece_at, quotes_are_sound, read_of, unquoted, without_order_mark};
 
@@ -201,8 +201,15 @@ fn without_trailing_blanks(bytes: &[u8]) -> &[u8]
     rest
 }
 
+/// The bytes without the blanks at both ends.
+pub(crate) fn trimmed(bytes: &[u8]) -> &[u8]
+    ensures { result.now ≡ trimmed bytes.now }
+{
+    without_trailing_blanks(without_leading_blanks(bytes))
+}
+
 /// The bytes without a quote at the beginning and one at the end, if both are there and are two.
-fn unquoted(bytes: &[u8]) -> &[u8]
+pub(crate) fn unquoted(bytes: &[u8]) -> &[u8]
     ensures { result.now ≡ unquoted bytes.now }
 {
     if bytes.len() >= 2 && bytes[0] == b'"' && bytes[bytes.len() - 1] == b'"' {

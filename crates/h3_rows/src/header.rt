@@ -1,11 +1,12 @@
 //! Headers, and columns by their name.
 
-ghost use Rattle.std.specs.Prelude.{◌≡◌, ◌==◌, ◌≤◌, ◌+◌, ℕ, List, [], ◌∷◌, ◌++◌, false, length, option_map, string_bytes, bytes_eq, IfSome};
+ghost use Rattle.std.specs.Prelude.{◌≡◌, ◌==◌, ◌≤◌, ◌+◌, ℕ, List, [], ◌∷◌, ◌++◌, false, length, option_map, string_bytes, bytes_eq, true, IfSome};
 ghost use Rattle.std.specs.List.{list_all};
+ghost use Rattle.h3_requests.specs.Rows.{is_counted};
 ghost use Rattle.h3_rows.specs.Answering.{fields_left, listed};
 ghost use Rattle.h3_lines.specs.Pieces.{cut};
 ghost use Rattle.h3_rows.specs.RowForm.{columns_form, form_of};
-ghost use Rattle.h3_rows.specs.RowsAnswer.{answer_names, chosen_in, column_of, columns_in, error_names, free_columns, is_free, places_of};
+ghost use Rattle.h3_rows.specs.RowsAnswer.{answer_names, choice_of, chosen_in, column_of, columns_in, error_names, free_columns, is_free, places_of};
 
 use crate::fields::{count_fields, field_text};
 use crate::state::Columns;
@@ -68,12 +69,16 @@ pub(crate) fn find_column(
     found.ok_or(ColumnError::NotFound)
 }
 
-/// How many fields are before the cell's, by a header.
-fn chosen_field(options: &RowOptions, row: &[u8]) -> Result<usize, ColumnError>
-    ensures { result ≡ chosen_in (form_of options.now [])
-        (form_of options.now []).choice row.now }
+/// How many fields are before this one, by a header.
+pub(crate) fn chosen_field(
+    options: &RowOptions,
+    field: &CellField,
+    row: &[u8],
+) -> Result<usize, ColumnError>
+    requires { is_counted field.now ≡ true }
+    ensures { result ≡ chosen_in (form_of options.now []) (choice_of field.now) row.now }
 {
-    match &options.field {
+    match field {
         CellField::Number(number) => Ok(*number as usize - 1),
         CellField::Column(column) => {
             let name = (column.as_bytes(), b"".as_slice());
@@ -86,7 +91,7 @@ fn chosen_field(options: &RowOptions, row: &[u8]) -> Result<usize, ColumnError>
 pub(crate) fn columns_in(options: &RowOptions, row: &[u8]) -> Result<Columns, ColumnError>
     ensures { result ≡ columns_in (form_of options.now []) row.now }
 {
-    let before = chosen_field(options, row)?;
+    let before = chosen_field(options, &options.field, row)?;
     let width = if options.is_ragged {
         None
     } else {

@@ -1,5 +1,7 @@
-//! Laws of rows with answers. The function does nothing; what it ensures is laws that hold always.
+//! Laws of rows with answers, and of areas. The functions do nothing; what they ensure is laws that hold
+//! always.
 
+ghost use Rattle.h3_rows.specs.Areas.{CellsHaveAreas, NamesStandOnce};
 ghost use Rattle.h3_rows.specs.Laws.{FieldsAreKept, HeaderStands, OutputReadsBack, PairsAreKept, RowsAreWhole, RowsGiveBack, RowsReadBack, RowsStand, RowsStandUntil};
 
 /// Each row stands in the output whole, in order, with the answers to its own cell alone, up to the row
@@ -17,4 +19,10 @@ pub fn answers_stand_beside()
     ensures pairs { PairsAreKept }
     ensures back { RowsReadBack }
     ensures output { OutputReadsBack }
+{}
+
+/// Each cell of a table is in one of its areas, and no two of these have names of one text.
+pub fn areas_divide_cells()
+    ensures each { CellsHaveAreas }
+    ensures once { NamesStandOnce }
 {}

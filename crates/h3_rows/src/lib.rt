@@ -2,22 +2,33 @@
 //! cell beside it.
 #![tactic(auto)]
 
+mod answer;
+mod areas;
 mod cells;
 mod each;
 mod each_lines;
 mod fields;
 mod function;
 mod header;
+mod job;
 mod lanes;
 pub mod laws;
 mod line;
+mod named;
+mod names;
 mod plain;
+mod put;
 mod reading;
 mod row;
 mod said;
 mod state;
+mod table;
 mod write;
 
+pub use areas::{AreaTable, read_areas};
 pub use cells::take_row_cells;
 pub use each::answer_rows;
 pub use each_lines::answer_rows_lines;
+pub use named::{NamedJob, take_named_cells};
+pub use names::Names;
+pub use table::TableOptions;

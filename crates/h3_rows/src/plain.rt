@@ -1,15 +1,17 @@
-//! Rows without quotes that count, and without carriage returns but for one at their end, with their
-//! field, that are found by a look at sixteen bytes at once.
+//! Rows of whole fields, each without quotes, or between two quotes that count, that are found by a look
+//! at sixteen bytes at once. They have no carriage returns but for one at their end.
 
 ghost use Rattle.std.specs.Prelude.{◌≡◌, ◌==◌, ◌+◌, ◌++◌, ◌∷◌, ◌<◌, ◌≤◌, false, drop, get_or, not, true, length, replicate, take, IfSome};
+ghost use Rattle.std.specs.Char.{is_digit};
 ghost use Rattle.std.specs.List.{list_all};
-ghost use Rattle.h3_rows.specs.Plain.{EndsPlain, IsPlainRow, PassesFields, is_byte4, quote_or_feed};
+ghost use Rattle.h3_rows.specs.Plain.{EndsPlain, IsPlainRow, IsWhole, PassesFields, is_byte4, quote_or_feed};
+ghost use Rattle.h3_rows.specs.Row.{field_text};
 
 use crate::lanes::find_stop;
 use crate::row::Row;
 use crate::state::Columns;
 
-/// The quote if quotes count, and else a line feed: what a plain row does not have.
+/// The quote if quotes count, and else a line feed: what a field without quotes does not have.
 #[inline(always)]
 fn quote_or_feed(quotes: bool) -> u8
     ensures { result ≡ quote_or_feed quotes }
@@ -30,8 +32,43 @@ fn find_end(mark: u8, quotes: bool, bytes: &[u8]) -> Option<usize>
     find_stop(mark, b'\n', b'\r', quote_or_feed(quotes), bytes)
 }
 
-/// The bytes after so many fields and their separators, and where the field that they begin with
-/// ends, if none of what ends a plain row is before it.
+/// Where the field ends that bytes begin with, if it is between two quotes that count, on one line.
+/// `None` may be answered to any other, and where a stop is near to the end of the bytes.
+// A call, so that fields without quotes find all they need in registers.
+#[inline(never)]
+fn find_quoted_end(separator: u8, quotes: bool, bytes: &[u8]) -> Option<usize>
+    requires quote { (34 == separator) ≡ false }
+    ensures within { IfSome result (λ end. end < length bytes.now) }
+    ensures whole { IfSome result (λ end. IsWhole separator quotes (take end bytes.now)) }
+{
+    if !quotes || bytes.is_empty() || bytes[0] != b'"' {
+        return None;
+    }
+    let inner = find_end(b'"', quotes, &bytes[1..])?;
+    if bytes[inner + 1] != b'"' || bytes.len() <= inner + 2 {
+        return None;
+    }
+    Some(inner + 2)
+}
+
+/// Where the field ends that bytes begin with, if the separator or a line end is there, and if it is
+/// whole: without quotes, or between two quotes that count, on one line. `None` may be answered to any
+/// other, and where a stop is near to the end of the bytes.
+#[inline(always)]
+fn find_field_end(separator: u8, quotes: bool, bytes: &[u8]) -> Option<usize>
+    requires quote { (34 == separator) ≡ false }
+    ensures within { IfSome result (λ end. end < length bytes.now) }
+    ensures whole { IfSome result (λ end. IsWhole separator quotes (take end bytes.now)) }
+{
+    let end = find_end(separator, quotes, bytes)?;
+    if bytes[end] == b'"' {
+        return find_quoted_end(separator, quotes, bytes);
+    }
+    Some(end)
+}
+
+/// The bytes after so many whole fields and their separators, and where the field that they begin
+/// with ends, if it is whole too.
 #[inline(always)]
 fn pass_fields(separator: u8, quotes: bool, before: usize, bytes: &[u8]) -> Option<(&[u8], usize)>
     requires quote { (34 == separator) ≡ false }
@@ -40,16 +77,12 @@ fn pass_fields(separator: u8, quotes: bool, before: usize, bytes: &[u8]) -> Opti
     ensures passes { IfSome result (λ p.
         PassesFields separator quotes before 0 bytes.now p.0.now) }
     ensures within { IfSome result (λ p. p.1 < length p.0.now) }
-    ensures calm { IfSome result (λ p.
-        list_all (λ b. not (is_byte4 separator 10 13 (quote_or_feed quotes) b)) (take p.1 p.0.now)
-        ≡ true) }
-    ensures stops { IfSome result (λ p.
-        is_byte4 separator 10 13 (quote_or_feed quotes) (get_or p.0.now p.1 0) ≡ true) }
+    ensures whole { IfSome result (λ p. IsWhole separator quotes (take p.1 p.0.now)) }
 {
     let mut rest = bytes;
     let mut left = before;
     loop {
-        let end = find_end(separator, quotes, rest)?;
+        let end = find_field_end(separator, quotes, rest)?;
         if left == 0 {
             return Some((rest, end));
         }
@@ -75,14 +108,15 @@ fn find_last(
     requires feed { (10 == separator) ≡ false }
     requires carriage { (13 == separator) ≡ false }
     requires within { end < length rest.now }
-    requires passed { list_all
-        (λ b. not (is_byte4 separator 10 13 (quote_or_feed quotes) b)) (take end rest.now) ≡ true }
-    ensures after { IfSome result (λ last. end ≤ last) }
-    ensures ends { IfSome result (λ last. EndsPlain separator quotes columns rest.now last) }
+    requires whole { IsWhole separator quotes (take end rest.now) }
+    ensures { IfSome result (λ last. EndsPlain separator quotes columns rest.now end last) }
 {
     let Some(width) = columns.width else {
-        let more = find_end(b'\n', quotes, &rest[end..])?;
-        return Some(end + more);
+        if rest[end] != separator {
+            return Some(end);
+        }
+        let more = find_end(b'\n', quotes, &rest[end + 1..])?;
+        return Some(end + 1 + more);
     };
     let more = width.checked_sub(columns.before)?.checked_sub(1)?;
     if more == 0 {
@@ -113,9 +147,20 @@ fn count_returns(bytes: &[u8], at: usize) -> Option<usize>
     None
 }
 
+/// The text of a whole field, if it is one of digits: what is between its quotes.
+pub(crate) fn text_between(quotes: bool, field: &[u8]) -> &[u8]
+    ensures { list_all (λ b. is_digit b 16) result.now ≡ true
+        → field_text quotes field.now ≡ result.now }
+{
+    if quotes && field.len() >= 2 && field[0] == b'"' && field[field.len() - 1] == b'"' {
+        return &field[1..field.len() - 1];
+    }
+    field
+}
+
 /// The row that bytes begin with, and its cell's field, if the row ends in them with at most one
-/// carriage return, has as many fields as it should, no other carriage return, and no quote, where
-/// quotes count. `None` may be answered to any other bytes, and where a stop is near to their end.
+/// carriage return, has as many fields as it should, and all of them whole. `None` may be answered to
+/// any other bytes, and where a stop is near to their end.
 #[inline(always)]
 pub(crate) fn find_plain(
     separator: u8,

@@ -1,5 +1,6 @@
 use Rattle.std.proofs.Common.{arith}
-use Rattle.h3_rows.proofs.PlainRows.{plain_body, plain_row}
+use Rattle.h3_rows.proofs.PlainRows.{plain_row}
+use Rattle.h3_rows.proofs.WholeFields.{row_bare}
 use Rattle.h3_rows.proofs.plain.find_plain.Goals as goal
 
 pub invariant_of-result : goal.invariant_of-result
@@ -7,18 +8,14 @@ invariant_of-result c =
     let a = c.args in
     let r = c.requires in
     let row = plain_row a.separator a.quotes r.quote r.feed r.carriage a.columns a.bytes.now c.in_ok-rest.rest.now
-    c.in_ok-rest.end
-    c.in_ok-last.last c.in_ok-returns.returns c.in_ok-rest.ensures.passes c.in_ok-last.ensures.ends
-    c.in_ok-last.ensures.after
-    c.in_ok-returns.ensures.ends c.in_ok-returns.ensures.few c.in_ok-rest.ensures.calm c.in_ok-rest.ensures.stops in
-    record { bare = plain_body a.quotes _ row.plain; few = omega (arith, c.in_ok-returns.ensures.few) }
+    c.in_ok-rest.end c.in_ok-last.last c.in_ok-returns.returns c.in_ok-rest.ensures.passes
+    c.in_ok-last.ensures c.in_ok-returns.ensures.ends c.in_ok-returns.ensures.few in
+    record { bare = row_bare _ row.whole.on_line; few = omega (arith, c.in_ok-returns.ensures.few) }
 
 pub returns : goal.returns
 returns c =
     let a = c.args in
     let r = c.requires in
     plain_row a.separator a.quotes r.quote r.feed r.carriage a.columns a.bytes.now c.in_ok-rest.rest.now
-    c.in_ok-rest.end
-    c.in_ok-last.last c.in_ok-returns.returns c.in_ok-rest.ensures.passes c.in_ok-last.ensures.ends
-    c.in_ok-last.ensures.after
-    c.in_ok-returns.ensures.ends c.in_ok-returns.ensures.few c.in_ok-rest.ensures.calm c.in_ok-rest.ensures.stops
+    c.in_ok-rest.end c.in_ok-last.last c.in_ok-returns.returns c.in_ok-rest.ensures.passes
+    c.in_ok-last.ensures c.in_ok-returns.ensures.ends c.in_ok-returns.ensures.few

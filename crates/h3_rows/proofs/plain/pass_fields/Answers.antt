@@ -17,4 +17,4 @@ loop-end-preserved c =
     rw take_rest (passes_more c.args.separator c.args.quotes c.requires.quote c.requires.feed c.requires.carriage
     c.args.before c.loop-end.left c.args.bytes.now rest (take end rest) (drop (end + 1) rest) some
     c.loop-end.invariant
-    (split_at rest end c.args.separator c.in_ok-end.ensures.within stops) c.in_ok-end.ensures.passed)
+    (split_at rest end c.args.separator c.in_ok-end.ensures.within stops) c.in_ok-end.ensures.whole)
