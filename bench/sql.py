@@ -1,8 +1,8 @@
 #!/usr/bin/python3
-"""Measures the extensions for SQLite and PostgreSQL, and columns of numpy: ratios of the best times of several runs,
-each pair in turn.
+"""Measures the extensions for SQLite and PostgreSQL, columns in Python, and counts over a dask.bag: ratios of the best
+times of several runs, each pair in turn, or the best time of each.
 
-bench/sql.py [sqlite | postgresql | numpy | texts ..]    these alone; all, if none is given"""
+bench/sql.py [sqlite | postgresql | numpy | texts | dask ..]    these alone; all, if none is given"""
 import os
 import sqlite3
 import subprocess
@@ -73,6 +73,47 @@ def measure_sqlite(cells):
     loop += " AND h3_is_covered(cell, cells)"
     name = "SQLite: 100000 lookups in 200 arrays / in 40"
     compare(name, ask(loop.format(500, 200)), ask(loop.format(2500, 40)))
+    measure_lookups(engine)
+
+
+def measure_lookups(engine):
+    """Points looked up in 100,000 zones, in each form that a query has them. What a query takes for no point is left
+    out."""
+    engine.execute(
+        "CREATE TABLE zones AS SELECT value AS cell FROM h3_cell_to_children('8029fffffffffff', 6) LIMIT 1e5"
+    )
+    engine.execute(
+        "CREATE TABLE points AS WITH RECURSIVE n (n) AS (SELECT 0 UNION ALL SELECT n + 1 FROM n WHERE n < 199999)"
+        " SELECT n, h3_child_pos_to_cell(n * 7919 % 5000000, '8029fffffffffff', 8) AS cell FROM n"
+    )
+    engine.execute("CREATE TABLE areas AS SELECT json_group_array(cell) AS cells FROM zones")
+    array = engine.execute("SELECT cells FROM areas").fetchone()[0]
+    listed, of_zones = "json_group_array(cell)", "(SELECT {} FROM zones)"
+    prepared = f"h3_prepare_zones({listed})"
+    kept = "WITH kept AS MATERIALIZED (SELECT {} AS cells FROM {}) "
+    for name, before, zones, tables in (
+        ("a parameter", "", "?2", "points"),
+        ("a subquery", "", of_zones.format(listed), "points"),
+        ("a subquery that prepares it", "", of_zones.format(prepared), "points"),
+        ("a table of the query", kept.format(listed, "zones"), "cells", "points, kept"),
+        ("a table of the query that prepares it", kept.format(prepared, "zones"), "cells", "points, kept"),
+        ("a column of each row", "", "cells", "areas CROSS JOIN points"),
+        (
+            "a column that is prepared",
+            kept.format("h3_prepare_zones(cells)", "areas"),
+            "cells",
+            "kept CROSS JOIN points",
+        ),
+    ):
+        query = f"{before}SELECT count(h3_zone_of(cell, {zones})) FROM {tables} WHERE n < ?1"
+        count = 200_000 if "prepare" in query or "?2" in query else 2_000
+        best = [float("inf")] * 2
+        for _ in range(RUNS):
+            for place, limit in enumerate((0, count)):
+                given = (limit, array) if "?2" in query else (limit,)
+                best[place] = min(best[place], timed(lambda: engine.execute(query, given).fetchone())[0])
+        each = (best[1] - best[0]) / count * 1e6
+        print(f"SQLite: h3_zone_of of {count} points, 100000 zones in {name}: {each:.2f} us a point", flush=True)
 
 
 def measure_postgresql(cells):
@@ -238,6 +279,7 @@ def measure_texts(_):
     text, count = "85283473fffffff", 100_000
     texts = [text] * count
     cells = columns.str_to_int(texts)
+    zones = h3whole.Zones(h3whole.cell_to_children("8029fffffffffff", 6)[:100_000])
 
     def repeated(call):
         return lambda: [call() for _ in range(count)] and None
@@ -268,6 +310,47 @@ def measure_texts(_):
         for function, more in ((columns.str_to_int, ()), (columns.cells_to_parents, (4,))):
             name = f"Python: {function.__name__} of {kind} of {count} texts / str.upper"
             compare(name, lambda: function(column, *more) is None, lambda: upper() is not None)
+    # (of many cells, in no order)
+    places = ((place * 7919) % 5_000_000 for place in range(count))
+    points = [h3whole.child_pos_to_cell("8029fffffffffff", 8, place) for place in places]
+    kinds = {
+        "a list": points,
+        "numpy's <U15": numpy.array(points),
+        "numpy's objects": numpy.array(points, dtype=object),
+    }
+    for kind, column in kinds.items():
+        for function in (columns.str_to_int, zones.of, zones.count):
+            name = f"Python: {function.__qualname__} of {kind} of {count} texts, 100000 zones / str.upper"
+            compare(name, lambda: function(column) is None, lambda: upper() is not None)
+
+
+def measure_dask(_):
+    """240,000 cells of a dask.bag counted in 100,000 zones, in this process and in three others."""
+    import dask.bag
+    import dask.distributed
+
+    import h3whole.int as integers
+    from h3whole.parts import count_cells
+
+    zones = integers.Zones(integers.cell_to_children(0x8029FFFFFFFFFFF, 6)[:100_000])
+    cells = [integers.child_pos_to_cell(0x8029FFFFFFFFFFF, 8, n * 7919 % 5_000_000) for n in range(240_000)]
+    wanted = zones.count(cells)
+
+    def measure(where):
+        for count in (4, 8):
+            best = float("inf")
+            for _ in range(RUNS):
+                bag = dask.bag.from_sequence(cells, npartitions=count)
+                seconds, found = timed(lambda: count_cells(zones, bag))
+                if found != wanted:
+                    sys.exit(f"dask: {found}")
+                best = min(best, seconds)
+            print(f"dask: count_cells of 240000 cells in {count} partitions, {where}: {best * 1000:.0f} ms", flush=True)
+
+    measure("threads")
+    with dask.distributed.LocalCluster(3, threads_per_worker=1, dashboard_address=None, silence_logs=50) as cluster:
+        with dask.distributed.Client(cluster):
+            measure("three processes")
 
 
 def measure_columns(_):
@@ -321,6 +404,7 @@ def main():
             ("numpy", measure_numpy),
             ("numpy", measure_columns),
             ("texts", measure_texts),
+            ("dask", measure_dask),
             ("sqlite", measure_sqlite),
             ("postgresql", measure_postgresql),
         )

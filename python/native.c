@@ -242,36 +242,93 @@ static PyMethodDef of_integers[] = {
 
 /* ---- Columns of texts */
 
-/* read_texts(list, place, address): the indexes of texts and bytes from a place on, each at its place from an address
- * on, up to the first item that is none or is refused, whose place is returned. */
+/* read_texts(list, place, count, address, with_bytes): the indexes of texts, and of bytes if they are asked for, from a
+ * place on, each at its place from an address on, which has room for so many. It ends at the first item that is none or
+ * is refused, or is not there, since another thread may make the list shorter or longer; its place is returned. */
 static PyObject *read_texts(PyObject *self, PyObject *given) {
     PyObject *list;
     Py_ssize_t place, count, length;
     unsigned long long address;
     uint64_t *out;
     char *bytes;
+    int with_bytes;
     (void)self;
-    if (!PyArg_ParseTuple(given, "O!nK", &PyList_Type, &list, &place, &address)) return NULL;
+    if (!PyArg_ParseTuple(given, "O!nnKp", &PyList_Type, &list, &place, &count, &address, &with_bytes)) return NULL;
     out = (uint64_t *)(uintptr_t)address;
-    for (count = PyList_Size(list); place < count; place++) {
+    for (; place < count && place < PyList_Size(list); place++) {
         PyObject *item = PyList_GetItem(list, place);
-        if (take_text(item, out + place)) continue;
-        if (!PyBytes_CheckExact(item) || PyBytes_AsStringAndSize(item, &bytes, &length) < 0) break;
-        if (library.string_to_h3(bytes, (size_t)length, out + place)) break;
+        if (!with_bytes || !PyBytes_CheckExact(item)) {
+            if (!take_text(item, out + place)) break;
+        } else if (PyBytes_AsStringAndSize(item, &bytes, &length) < 0 ||
+                   library.string_to_h3(bytes, (size_t)length, out + place))
+            break;
     }
     return PyLong_FromSsize_t(place);
 }
 
-/* write_texts(address, count): the texts of so many indexes, as a list. */
+enum { NO_TEXT = -1, NOT_ASCII = -2 };
+
+/* Writes characters of four bytes as bytes, and returns how many there are without the zeros at their end: NO_TEXT if
+ * one is beyond Unicode, else NOT_ASCII if one is beyond ASCII. */
+static Py_ssize_t narrow(char *to, const char *from, Py_ssize_t width) {
+    Py_ssize_t length = width, i;
+    uint32_t most = 0;
+    for (i = 0; i < width; i++) {
+        uint32_t character;
+        memcpy(&character, from + sizeof character * (size_t)i, sizeof character);
+        if (character > most) most = character;
+        to[i] = (char)character;
+    }
+    while (length > 0 && to[length - 1] == 0) length--;
+    if (most > 0x7f) return most > 0x10ffff ? NO_TEXT : NOT_ASCII;
+    return length;
+}
+
+/* The same of characters of one byte, which are bytes of any kind. */
+static Py_ssize_t trim(char *to, const char *from, Py_ssize_t width) {
+    Py_ssize_t length = width;
+    memcpy(to, from, (size_t)width);
+    while (length > 0 && to[length - 1] == 0) length--;
+    return length;
+}
+
+/* read_fixed(address, count, width, wide, out, missing): the indexes of numpy's texts, each of so many characters,
+ * which have four bytes or one. It returns the place of the first that is no text, or is refused; with `missing`, what
+ * is refused is 0. */
+static PyObject *read_fixed(PyObject *self, PyObject *given) {
+    unsigned long long address, to;
+    Py_ssize_t count, width, place;
+    int wide, missing;
+    char *text;
+    (void)self;
+    if (!PyArg_ParseTuple(given, "KnnpKp", &address, &count, &width, &wide, &to, &missing)) return NULL;
+    text = PyMem_Malloc((size_t)width + 1);
+    if (!text) return PyErr_NoMemory();
+    for (place = 0; place < count; place++) {
+        const char *from = (const char *)(uintptr_t)address + (size_t)place * (size_t)width * (wide ? 4 : 1);
+        uint64_t *out = (uint64_t *)(uintptr_t)to + place;
+        Py_ssize_t length = (wide ? narrow : trim)(text, from, width);
+        if (length >= 0 && library.string_to_h3(text, (size_t)length, out) == 0) continue;
+        if (!missing || length == NO_TEXT) break;
+        *out = 0;
+    }
+    PyMem_Free(text);
+    return PyLong_FromSsize_t(place);
+}
+
+/* write_texts(address, count, or_none): the texts of so many indexes, as a list; with `or_none`, None for 0. */
 static PyObject *write_texts(PyObject *self, PyObject *given) {
     unsigned long long address;
     Py_ssize_t count, i;
     PyObject *list;
+    int or_none;
     (void)self;
-    if (!PyArg_ParseTuple(given, "Kn", &address, &count)) return NULL;
+    if (!PyArg_ParseTuple(given, "Knp", &address, &count, &or_none)) return NULL;
     list = PyList_New(count);
     for (i = 0; list && i < count; i++) {
-        PyObject *text = give_text(((const uint64_t *)(uintptr_t)address)[i]);
+        uint64_t index = ((const uint64_t *)(uintptr_t)address)[i];
+        PyObject *text = or_none && index == 0 ? Py_None : give_text(index);
+        if (text == Py_None) Py_INCREF(text);
         if (text && PyList_SetItem(list, i, text) == 0) continue;
         Py_DECREF(list);
         return NULL;
@@ -539,6 +596,7 @@ static PyMethodDef methods[] = {
     {"load", load, METH_O, NULL},
     {"replace", replace, METH_VARARGS, NULL},
     {"read_texts", read_texts, METH_VARARGS, NULL},
+    {"read_fixed", read_fixed, METH_VARARGS, NULL},
     {"write_texts", write_texts, METH_VARARGS, NULL},
     {"arrow_schema", arrow_schema, METH_VARARGS, NULL},
     {"arrow_array", arrow_array, METH_VARARGS, NULL},

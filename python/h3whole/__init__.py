@@ -9,6 +9,7 @@ from builtins import int as _int
 from typing import Any, Iterable, List, Optional, SupportsIndex, overload
 
 from . import _fast
+from . import columns as _columns
 from . import errors as _errors
 from . import int as _integers
 from ._arguments import indexes_of as _indexes_of
@@ -699,6 +700,19 @@ class _Texts(CellSet[str]):
     @staticmethod
     def _form_of(index: _int) -> str:
         return int_to_str(index)
+
+    @classmethod
+    def _listed(cls, convert: Any, cells: Any) -> Any:
+        # (a subclass may have another form of its own, and an iterator is taken one by one)
+        if cls._index_of is not _Texts._index_of or type(cells) not in (list, tuple):
+            return super()._listed(convert, cells)
+        return _columns._listed_texts(convert, cells)
+
+    @classmethod
+    def _forms_or_none(cls, zones: Any) -> Any:
+        if cls._form_of is not _Texts._form_of:
+            return super()._forms_or_none(zones)
+        return _columns._texts_or_none(zones)
 
 
 class Region(_Texts, CellRegion[str]):

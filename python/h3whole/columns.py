@@ -31,7 +31,7 @@ from ._memory import View, numpy_room
 from ._memory import room as _room
 from ._memory import room_at
 from ._overlap import overlap_named
-from .errors import H3CellInvalidError, error_of
+from .errors import H3BaseException, H3CellInvalidError, error_of
 from .table import Table
 
 __all__ = [
@@ -1031,24 +1031,56 @@ def grid_disks_unsafe(table: Table, column: _Column, k: SupportsIndex, *, missin
 # ---- texts
 
 
-def _parse(texts: Iterable[Any], missing: bool, integers: "Optional[array[int]]" = None) -> "array[int]":
-    """The indexes of texts; with room for the places of integers, those of integers too."""
-    items = texts if isinstance(texts, list) else list(texts)
-    found, address = _room("Q", len(items)), 0
-    native, place = _fast.native, 0
-    if items:
-        address = found.buffer_info()[0]
-    while place < len(items):
-        if native is not None:
-            place = native.read_texts(items, place, address)
-            if place == len(items):
+def _read_texts(items: List[Any], find: Callable[[Any, int], int], with_bytes: bool) -> "array[int]":
+    """The indexes of a list: plain texts, and bytes if they are asked for, by the extension, and what is left by a
+    function of an item and its place."""
+    found, place = _room("Q", len(items)), 0
+    address = found.buffer_info()[0]
+    while place < len(found):
+        if _fast.native is not None:
+            place = _fast.native.read_texts(items, place, len(found), address, with_bytes)
+            if place == len(found):
                 break
-        number, index = _parse_one(items[place], place, integers)
-        if number and not missing:
-            raise error_of(number, f"{items[place]!r} at place {place}")
-        found[place] = 0 if number else index
+        # (None, if another thread has made the list shorter)
+        found[place] = find((items[place : place + 1] or [None])[0], place)
         place += 1
     return found
+
+
+def _parse(texts: Iterable[Any], missing: bool, integers: "Optional[array[int]]" = None) -> "array[int]":
+    """The indexes of texts; with room for the places of integers, those of integers too."""
+
+    def find(item: Any, place: int) -> int:
+        number, index = _parse_one(item, place, integers)
+        if number and not missing:
+            raise error_of(number, f"{item!r} at place {place}")
+        return 0 if number else index
+
+    return _read_texts(texts if isinstance(texts, list) else list(texts), find, True)
+
+
+def _listed_texts(convert: Callable[[Any], int], texts: Iterable[Any]) -> "array[int]":
+    """The same as `indexes_of` of a list or a tuple of texts, of which plain ones need no conversion of their own."""
+
+    def find(item: Any, place: int) -> int:
+        try:
+            return convert(item)
+        except H3BaseException as error:
+            raise type(error)(f"{error} at place {place}") from None
+
+    return _read_texts(texts if isinstance(texts, list) else list(texts), find, False)
+
+
+def _parse_fixed(column: Any, missing: bool) -> Any:
+    """The indexes of numpy's texts or bytes by the extension, in one dimension; None if it does not read them all."""
+    numpy = sys.modules["numpy"]
+    if _fast.native is None or type(column) is not numpy.ndarray or column.dtype.kind == "O":
+        return None
+    kind = column.dtype.newbyteorder("=")
+    is_wide, flat = kind.kind == "U", numpy.ascontiguousarray(column, dtype=kind)
+    found, width = numpy_room(flat.size, "uint64"), kind.itemsize // (4 if is_wide else 1)
+    place = _fast.native.read_fixed(flat.ctypes.data, flat.size, width, is_wide, found.ctypes.data, missing)
+    return found if place == flat.size else None
 
 
 def _parse_one(text: Any, place: int, integers: "Optional[array[int]]") -> Tuple[int, int]:
@@ -1096,8 +1128,12 @@ def _to_int(column: Any, missing: bool, integers: "Optional[array[int]]" = None)
     if _is_numpy(column):
         if column.dtype.kind not in "OSU":
             raise TypeError(f"a column of texts is wanted, and not one of {column.dtype}")
-        numbers = _parse(column.ravel().tolist(), missing, integers)
-        return sys.modules["numpy"].frombuffer(numbers or b"", dtype="uint64").copy().reshape(column.shape)
+        found = _parse_fixed(column, missing)
+        if found is None:
+            # (its error is the first one)
+            numbers = _parse(column.ravel().tolist(), missing, integers)
+            found = sys.modules["numpy"].frombuffer(numbers or b"", dtype="uint64").copy()
+        return found.reshape(column.shape)
     if isinstance(column, (str, bytes)):
         raise TypeError(f"a column of texts is wanted, and not {column!r}")
     return _parse(column, missing, integers)
@@ -1139,19 +1175,25 @@ def str_to_int(column: Any, *, missing: bool = False) -> Any:
     return _to_int(column, missing, array("q") if is_of_objects else None)
 
 
-def _write(given: _Memory) -> List[str]:
-    """The texts of indexes."""
+def _write(given: _Memory, or_none: bool = False) -> List[Any]:
+    """The texts of indexes; None for 0, if that is asked for."""
     if _fast.native is not None:
-        listed: List[str] = _fast.native.write_texts(given.address, given.count)
+        listed: List[Any] = _fast.native.write_texts(given.address, given.count, or_none)
         return listed
-    found = []
+    found: List[Any] = []
     room = (ctypes.c_char * 17)()
     for index in (_index * given.count).from_address(given.address):
         number = _h3_to_string(index, room, 17)
         if number:
             raise error_of(number)
-        found.append(room.value.decode("ascii"))
+        found.append(None if or_none and not index else room.value.decode("ascii"))
     return found
+
+
+def _texts_or_none(zones: "array[int]") -> List[Any]:
+    """The texts of zones, and None in place of 0."""
+    with _Memory(zones) as given:
+        return _write(given, True)
 
 
 def _arrow_written(numbers: ArrowColumn) -> ArrowColumn:

@@ -11,7 +11,8 @@ once. Any difference is a PartsError."""
 import math
 from array import array
 from functools import partial
-from typing import Any, Callable, Dict, Iterable, Iterator, NamedTuple, Optional, Set, Tuple, TypeVar
+from typing import Any, Callable, Dict, Iterable, Iterator, List, NamedTuple, Optional, Set, Tuple, TypeVar
+from uuid import uuid4
 
 from . import columns
 from .errors import H3BaseException, error_of
@@ -156,7 +157,24 @@ def _numbered(parts: Iterable[Any], sent: Dict[int, Optional[int]]) -> Iterator[
 
 def _call_partition(call: Callable[..., Any], number: int, cells: Iterable[int]) -> Any:
     """Calls a function of parts for a partition of a bag."""
-    return call((number, array("Q", cells)))
+    return call((number, cells if isinstance(cells, array) and cells.typecode == "Q" else array("Q", cells)))
+
+
+def _listed(column: "array[int]") -> List[int]:
+    """The list of a column's integers. It is no function that dask knows: of a call of `list` it would take the column
+    itself."""
+    return column.tolist()
+
+
+def _packed(value: Any) -> Any:
+    """A list of integers in a graph of dask as a call that makes it of a column, since dask looks at each item of a
+    list by itself. Anything else as it is."""
+    if type(value) is not list or not value or not all(type(cell) is int for cell in value):
+        return value
+    try:
+        return _listed, array("Q", value)
+    except OverflowError:
+        return value
 
 
 def _run(
@@ -171,13 +189,16 @@ def _run(
 
 
 def _run_bag(call: Callable[..., Any], bag: Any, sent: Dict[int, Optional[int]]) -> Iterable[Any]:
-    """The same of a dask.bag, which is counted only where its partitions are."""
-    from dask import compute, delayed  # type: ignore[attr-defined]
+    """The same of a dask.bag, which is counted only where its partitions are. The call of a partition is in the bag's
+    own graph, and so runs where the partition is made; what it calls is there once."""
+    from dask import compute  # type: ignore[attr-defined]
 
-    partitions = bag.to_delayed()
-    sent.update(dict.fromkeys(range(len(partitions))))
-    delays = [delayed(_call_partition)(call, *numbered) for numbered in enumerate(partitions)]
-    found: Iterable[Any] = compute(*delays)  # type: ignore[no-untyped-call]
+    count, name = bag.npartitions, f"h3whole-{uuid4().hex}"
+    graph = {key: _packed(value) for key, value in dict(bag.dask).items()}
+    graph[name] = call
+    graph.update({(name, number): (_call_partition, name, number, (bag.name, number)) for number in range(count)})
+    sent.update(dict.fromkeys(range(count)))
+    found: Iterable[Any] = compute(*type(bag)(graph, name, count).to_delayed())  # type: ignore[no-untyped-call]
     return found
 
 

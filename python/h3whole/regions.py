@@ -208,7 +208,7 @@ class CellSet(Generic[_Cell]):
         if isinstance(cells, CellSet):
             return cells._ascending()
         if not _is_column(cells):
-            return indexes_of(cls._index_of, cells)
+            return cls._listed(cls._index_of, cells)
         if columns._is_arrow(cells):
             return columns._cells_of_arrow(cells)
         cells = _as_series(cells)
@@ -225,7 +225,17 @@ class CellSet(Generic[_Cell]):
             return cells
         if not missing or _is_column(cells) or isinstance(cells, (CellSet, str, bytes)):
             return cls._column_of(cells)
-        return array("Q", map(cls._index_or_null, cells))
+        return cls._listed(cls._index_or_null, cells)
+
+    @classmethod
+    def _listed(cls, convert: Callable[[Any], int], cells: Any) -> "array[int]":
+        """The indexes of cells in no column, each by itself."""
+        return indexes_of(convert, cells)
+
+    @classmethod
+    def _forms_or_none(cls, zones: Any) -> List[Any]:
+        """The zones of a list, each None if it is 0."""
+        return [cls._form_of(zone) if zone else None for zone in zones]
 
     @classmethod
     def _index_or_null(cls, cell: Any) -> int:
@@ -733,7 +743,7 @@ class CellZones(CellSet[_Cell]):
         numbers = self._numbers_of(cells, missing, integers)
         found = self._fill(_cells_to_zones, numbers, columns._INDEXES, missing, False)
         if not _is_column(cells):
-            return [self._form_or_none(zone) for zone in found]
+            return self._forms_or_none(found)
         return columns._objects_of(cells, found, integers) if _is_of_objects(cells) else found
 
     def count(self, cells: _Cells[_Cell], *, missing: bool = False) -> "Counts[_Cell]":

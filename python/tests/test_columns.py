@@ -55,6 +55,15 @@ FUNCTIONS = [
 ]
 
 
+def outcome(function, column, missing):
+    """What a call returns, or its error."""
+    try:
+        found = function(column, missing=missing) if function is columns.str_to_int else function(column, missing)
+        return found.tolist(), str(found.dtype), found.shape, found.flags.writeable
+    except Exception as error:
+        return type(error), str(error)
+
+
 class OneByOne(unittest.TestCase):
     def test_results(self):
         given = cells(2000) + INVALID
@@ -231,6 +240,34 @@ class Kinds(unittest.TestCase):
                 listed(columns.uncompact_cells(columns.compact_cells(column), 6)), [f"{c:x}" for c in children]
             )
             self.assertRaises(errors.H3ResDomainError, columns.uncompact_cells, column, 16)
+
+    @unittest.skipIf(numpy is None, "there is no numpy")
+    def test_fixed(self):
+        """Texts and bytes of numpy, of any width and order of bytes, are read as objects are that have them."""
+        given = [f"{cell:x}" for cell in cells(6)]
+        odd = ["", "xyz", f" {given[0]}", given[0].upper(), f"0x{given[0]}", "5", "x\0y", "\u00e9", "\udc80", "1" * 17]
+        for item in [*given[:1], *odd]:
+            texts = numpy.array([*given[:3], item, *given[3:], *odd[:2]])
+            for dtype in ("<U15", ">U15", "<U40", ">U40", "S15", "S40"):
+                try:
+                    column = texts.astype(dtype)
+                except UnicodeEncodeError:
+                    continue
+                shaped = column[:8].reshape(2, 4)
+                for kind in (column, column[:6], column[::-2], shaped, shaped.T, column[:1].reshape(()), column[:0]):
+                    for missing in (True, False):
+                        found, wanted = (outcome(columns.str_to_int, of, missing) for of in (kind, kind.astype(object)))
+                        self.assertEqual(found, wanted, (kind, missing))
+        # (of what is beyond Unicode, numpy makes a text that is none, or an error)
+        beyond = numpy.array(given[:2])
+        beyond.view("u4")[3] = 2**32 - 1
+        for missing in (True, False):
+            wanted = outcome(
+                lambda column, missing: columns.str_to_int(column.astype(object), missing=missing), beyond, missing
+            )
+            self.assertEqual(outcome(columns.str_to_int, beyond, missing), wanted)
+        masked = numpy.ma.masked_array(numpy.array(given), mask=[0, 1, 0, 0, 0, 0])
+        self.assertEqual(columns.str_to_int(masked, missing=True).tolist()[:2], [int(given[0], 16), 0])
 
     def test_children(self):
         """Children are of the kind of the column, and texts of texts."""

@@ -101,9 +101,15 @@ class Native(unittest.TestCase):
         items = [CELL, CELL.encode(), "xyz", "5", None]
         room = array("Q", bytes(8)) * len(items)
         address = room.buffer_info()[0]
-        self.assertEqual([native.read_texts(items, place, address) for place in (0, 2, 3, 5)], [2, 2, 4, 5])
+        self.assertEqual([native.read_texts(items, place, 5, address, True) for place in (0, 2, 3, 5)], [2, 2, 4, 5])
+        self.assertEqual(native.read_texts(items, 0, 5, address, False), 1)
+        # a list that is longer than the room, and one that is shorter
+        self.assertEqual(native.read_texts(items, 0, 1, address, True), 1)
+        self.assertEqual(native.read_texts([CELL], 0, 5, address, True), 1)
+        self.assertEqual(native.read_texts([CELL], 3, 5, address, True), 3)
         self.assertEqual(room.tolist(), [int(CELL, 16), int(CELL, 16), 0, 5, 0])
-        self.assertEqual(native.write_texts(address, 5), [CELL, CELL, "0", "5", "0"])
+        self.assertEqual(native.write_texts(address, 5, False), [CELL, CELL, "0", "5", "0"])
+        self.assertEqual(native.write_texts(address, 5, True), [CELL, CELL, None, "5", None])
         for text in TEXTS:
             wanted = outcome(integers.str_to_int, text)
             found = outcome(columns.str_to_int, [text])
@@ -112,16 +118,43 @@ class Native(unittest.TestCase):
             else:
                 self.assertEqual(found, (wanted[0], f"{wanted[1]} at place 0"))
 
+    def test_fixed(self):
+        """Characters of four bytes and of one, with zeros at their end: the place of what is refused, or is no text."""
+        native, room = _fast.native, array("Q", bytes(32))
+        texts = [CELL, "5", "x\0y", "8009fffffffffff"]
+        wide = array("I", [ord(character) for text in texts for character in text.ljust(15, "\0")])
+        narrow = array("B", list(wide))
+        for items, is_wide in ((wide, True), (narrow, False)):
+
+            def read(missing):
+                return native.read_fixed(items.buffer_info()[0], 4, 15, is_wide, room.buffer_info()[0], missing)
+
+            self.assertEqual((read(False), room[:2].tolist()), (2, [int(CELL, 16), 5]))
+            self.assertEqual((read(True), room.tolist()), (4, [int(CELL, 16), 5, 0, 0x8009FFFFFFFFFFF]))
+        for character, place in ((0x80, 4), (0xD800, 4), (0x10FFFF, 4), (0x110000, 1), (2**32 - 1, 1)):
+            wide[16] = character
+            self.assertEqual(
+                (read(False), native.read_fixed(wide.buffer_info()[0], 4, 15, True, room.buffer_info()[0], True)),
+                (2, place),
+            )
+            self.assertEqual(room[1], 0 if place == 4 else 5)
+        self.assertEqual(native.read_fixed(wide.buffer_info()[0], 2, 0, True, room.buffer_info()[0], True), 2)
+        self.assertEqual(room[:2].tolist(), [0, 0])
+
     @unittest.skipIf(_testcapi is None, "there is no _testcapi")
     def test_memory(self):
         """Each allocation is refused, by itself and with all after it: MemoryError, or what is right."""
-        listed, address = [CELL, "5"], array("Q", [1, 2])
+        listed, address, text = ([CELL, "5"], array("Q", [1, 2]), array("B", CELL.encode()))
         calls = [lambda function=function: function(CELL) for function, kind in self.functions() if kind == "texts"]
         calls += [lambda function=function: function(0x85283473FFFFFFF) for function, kind in self.functions()]
         calls += [lambda: h3whole.cell_to_parent(CELL, 4), lambda: integers.int_to_str(5)]
         # (what is passed on, and needs no ctypes)
         calls += [lambda: integers.is_valid_cell(CELL), lambda: integers.is_valid_cell(cell=CELL)]
-        calls += [lambda: _fast.native.write_texts(address.buffer_info()[0], 2), lambda: columns.str_to_int(listed)]
+        calls += [
+            lambda: _fast.native.write_texts(address.buffer_info()[0], 2, True),
+            lambda: columns.str_to_int(listed),
+        ]
+        calls += [lambda: _fast.native.read_fixed(text.buffer_info()[0], 1, 15, False, address.buffer_info()[0], True)]
         refused = 0
         for call in calls:
             right = outcome(call)

@@ -187,6 +187,14 @@ class Cluster(unittest.TestCase):
         with self.assertRaises(H3DuplicateInputError):
             compact_cells(dask.bag.from_sequence(cells + cells[:1], npartitions=8))
 
+    def test_a_bag_whose_lists_a_function_changes(self):
+        cells = listed(4)
+        bag = dask.bag.from_sequence(cells[1:], npartitions=8)
+        bag = bag.map_partitions(lambda part: part + [cells[0]] * (cells[1] in part))
+        self.assertEqual(compact_cells(bag), columns.compact_cells(array("Q", cells)))
+        empty = dask.bag.from_delayed([dask.delayed(list)(part) for part in (cells, [])])
+        self.assertEqual(compact_cells(empty), columns.compact_cells(array("Q", cells)))
+
     def test_a_worker_that_is_killed(self):
         cells = listed(5)
         before = set(self.client.run(os.getpid).values())

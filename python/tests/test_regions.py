@@ -53,6 +53,18 @@ OTHER = "8009fffffffffff"
 WITHIN = "862834707ffffff"
 
 
+class Text(str):
+    """A text of another type."""
+
+
+def outcome(function, *given):
+    """What a call returns, or its error."""
+    try:
+        return function(*given)
+    except Exception as error:
+        return type(error), str(error)
+
+
 def message(function, *given, **named):
     try:
         function(*given, **named)
@@ -228,6 +240,57 @@ class Kinds(unittest.TestCase):
         self.assertNotEqual(self.region, self.zones)
         self.assertNotEqual(self.region, list(self.region))
         self.assertEqual(self.zones.of(self.region), [OTHER, CHILDREN[4]])
+
+    def test_odd_lists(self):
+        """A list is read at once, and an iterator one by one: both have the same answers, and the same errors."""
+        zones, region = h3whole.Zones(CHILDREN), h3whole.Region(CHILDREN[:3])
+        odd = [WITHIN, OTHER, "", "xyz", f" {WITHIN}\t", WITHIN.upper(), f"0x{WITHIN}", "0", "5", f"{WITHIN}\0", "\0"]
+        odd += [
+            "\u00e9",
+            "\udc80",
+            "8\uff15",
+            "1" * 17,
+            WITHIN[:-1],
+            WITHIN.encode(),
+            None,
+            5,
+            1.5,
+            [WITHIN],
+            Text(WITHIN),
+        ]
+        calls = [zones.of, zones.count, region.covers]
+        for call in [*calls, *(lambda cells, call=call: call(cells, missing=True) for call in calls)]:
+            for item in odd:
+                for listed in ([item], [WITHIN, item, OTHER], [item, item, None, CELL], [CELL] * 3 + [item]):
+                    wanted = outcome(call, iter(listed))
+                    self.assertEqual(outcome(call, listed), wanted, listed)
+                    self.assertEqual(outcome(call, tuple(listed)), wanted, listed)
+        for item in odd:
+            for make in (h3whole.Zones, h3whole.Region):
+                wanted = outcome(make, iter([OTHER, item, CELL]))
+                self.assertEqual(outcome(make, [OTHER, item, CELL]), wanted, item)
+        self.assertEqual(zones.of([]), [])
+
+    def test_own_forms(self):
+        """A subclass with a form of its own, and an iterable that is a list."""
+
+        class Own(h3whole.Zones):
+            @staticmethod
+            def _index_of(cell):
+                return int(cell[1:-1], 16)
+
+            @staticmethod
+            def _form_of(index):
+                return f"<{index:x}>"
+
+        class Backwards(list):
+            def __iter__(self):
+                return reversed(self[:])
+
+        zones = Own([f"<{cell}>" for cell in CHILDREN])
+        self.assertEqual(zones.of([f"<{WITHIN}>", f"<{OTHER}>"]), [f"<{CHILDREN[4]}>", None])
+        self.assertEqual(zones.of(Backwards([f"<{WITHIN}>", f"<{OTHER}>"])), [None, f"<{CHILDREN[4]}>"])
+        self.assertEqual(h3whole.Zones(CHILDREN).of(Backwards([WITHIN, OTHER])), [None, CHILDREN[4]])
 
     def test_arrays(self):
         for typecode in "QqLl":

@@ -522,11 +522,17 @@ static const Function operations[] = {
 
 /* ---- What a connection has: a base cell table, and cells that are prepared */
 
+/* The most values of h3_prepare_zones and h3_prepare_region that a connection keeps. */
+#define MOST_NAMED 1024
+
 /* Cells of a text, prepared, so that others are looked up in them. Who has them holds them. */
 typedef struct {
     h3sql_Kept kept;
     int holders;
     bool is_region;
+    /* of those that have a name: its number, which no other one has, its place, and when it was last used */
+    uint64_t number, used;
+    size_t place, weight;
     char *text;
     size_t length;
     h3sql_List zones;
@@ -560,13 +566,21 @@ typedef struct Connection {
     /* what is prepared, and the one of it that was asked for last */
     h3sql_Cache cache;
     Prepared *last;
+    /* what has a name, and how many uses and names there were */
+    Prepared *named[MOST_NAMED];
+    uint64_t uses, names;
+    /* a number at random, which is in all names: those of another connection have another one */
+    uint64_t chance[2];
     Module modules[SETS];
 } Connection;
 
 static void let_go(void *held) {
     Connection *connection = held;
     h3sql_Kept *old;
+    size_t i;
     if (--connection->holders > 0) return;
+    for (i = 0; i < MOST_NAMED; i++)
+        if (connection->named[i]) drop(connection->named[i]);
     while ((old = h3sql_evict(&connection->cache, 0, NULL))) drop(old);
     sqlite3_free(connection->cache.chains);
     sqlite3_free(connection);
@@ -785,35 +799,99 @@ static Prepared *prepare(sqlite3_context *context, sqlite3_value *value, bool is
         if (made) drop(made);
         made = NULL;
     }
+    if (made) made->weight = cells.list.count + 4 * made->given.count + H3SQL_KEPT_EXTRA;
     release(&cells);
     return made;
 }
 
-/* The prepared cells of the second argument, which the caller holds; NULL where they are refused,
- * and the call has ended. SQLite keeps them where the argument is a constant. Any other text is
- * looked for by its bytes. */
-static Prepared *prepared_of(sqlite3_context *context, sqlite3_value *value, bool is_region) {
+/* A value that stands for what is prepared, so no text is read for each row: h3_prepare_zones and h3_prepare_region
+ * return its bytes. */
+typedef struct {
+    uint64_t chance[2], number, place;
+} Name;
+
+/* What a value names, which the caller holds; NULL if it is none of what is kept, and the call has ended. */
+static Prepared *named_by(sqlite3_context *context, sqlite3_value *value, bool is_region) {
     Connection *connection = sqlite3_user_data(context);
-    Prepared *found = sqlite3_get_auxdata(context, 1);
+    const void *bytes = sqlite3_value_blob(value);
+    bool is_name = bytes && sqlite3_value_bytes(value) == (int)sizeof(Name);
+    Name name = {{0, 0}, 0, MOST_NAMED};
+    Prepared *found = NULL;
+    if (is_name) memcpy(&name, bytes, sizeof name);
+    if (name.place < MOST_NAMED && !memcmp(name.chance, connection->chance, sizeof name.chance))
+        found = connection->named[name.place];
+    if (found && found->number == name.number && found->is_region == is_region) {
+        found->used = ++connection->uses;
+        found->holders++;
+        return found;
+    }
+    put_error(context, E_FAILED,
+              is_name ? sqlite3_mprintf("not a value that h3_prepare_%s keeps", is_region ? "region" : "zones")
+                      : shown(value));
+    return NULL;
+}
+
+/* The place of the name that was used longest ago. */
+static size_t oldest_of(const Connection *connection) {
+    size_t oldest = 0, i;
+    for (i = 1; i < MOST_NAMED; i++) {
+        const Prepared *one = connection->named[i], *best = connection->named[oldest];
+        if (one && (!best || one->used < best->used)) oldest = i;
+    }
+    return oldest;
+}
+
+/* A place for the name of so many cells more: MOST_NAMED if what is kept has to go for it. */
+static size_t free_place(const Connection *connection, size_t cells) {
+    size_t place = MOST_NAMED, kept = 0, i;
+    for (i = 0; i < MOST_NAMED; i++) {
+        if (connection->named[i]) kept += connection->named[i]->weight;
+        else place = i;
+    }
+    return kept == 0 || kept + cells <= H3SQL_KEPT_CELLS ? place : MOST_NAMED;
+}
+
+/* Gives a name; those that were used longest ago lose theirs for it. */
+static void give_name(Connection *connection, Prepared *prepared) {
+    size_t place;
+    while ((place = free_place(connection, prepared->weight)) == MOST_NAMED) {
+        size_t oldest = oldest_of(connection);
+        connection->named[oldest]->number = 0;
+        drop(connection->named[oldest]);
+        connection->named[oldest] = NULL;
+    }
+    prepared->number = ++connection->names;
+    prepared->place = place;
+    prepared->holders++;
+    connection->named[place] = prepared;
+}
+
+/* The prepared cells of an argument, which the caller holds; NULL where they are refused, and the call
+ * has ended. SQLite keeps them where the argument is a constant. Any other text is looked for by its
+ * bytes. */
+static Prepared *prepared_of(sqlite3_context *context, int argument, sqlite3_value *value, bool is_region) {
+    Connection *connection = sqlite3_user_data(context);
+    Prepared *found = sqlite3_get_auxdata(context, argument);
     const char *text;
     if (found) {
         found->holders++;
         return found;
     }
+    if (sqlite3_value_type(value) == SQLITE_BLOB) return named_by(context, value, is_region);
     text = is_text(value) ? (const char *)sqlite3_value_text(value) : NULL;
     if (text) found = find(connection, text, (size_t)sqlite3_value_bytes(value), is_region);
     if (found) found->holders++;
     else found = prepare(context, value, is_region);
     if (!found) return NULL;
     found->holders++;
-    sqlite3_set_auxdata(context, 1, found, drop);
+    sqlite3_set_auxdata(context, argument, found, drop);
     return found;
 }
 
 /* The zone of the cell of the first argument among the cells of the second, and these, prepared, which the caller
  * holds; NULL where there is an error, with which the call ends. */
 static Prepared *look_up(sqlite3_context *context, sqlite3_value **values, bool is_region, H3Index *zone) {
-    Prepared *prepared = prepared_of(context, values[1], is_region);
+    Prepared *prepared = prepared_of(context, 1, values[1], is_region);
     H3Index index;
     H3Error error;
     if (!prepared) return NULL;
@@ -842,6 +920,28 @@ static void zone_of(sqlite3_context *context, int count, sqlite3_value **values)
     drop(zones);
 }
 
+/* Prepares cells, and returns their name. */
+static void put_name(sqlite3_context *context, sqlite3_value *value, bool is_region) {
+    Connection *connection = sqlite3_user_data(context);
+    Prepared *prepared = prepared_of(context, 0, value, is_region);
+    Name name = {{connection->chance[0], connection->chance[1]}, 0, 0};
+    if (!prepared) return;
+    if (!prepared->number) give_name(connection, prepared);
+    prepared->used = ++connection->uses;
+    name.number = prepared->number;
+    name.place = prepared->place;
+    drop(prepared);
+    sqlite3_result_blob(context, &name, sizeof name, SQLITE_TRANSIENT);
+}
+
+static void prepare_region(sqlite3_context *context, int count, sqlite3_value **values) {
+    if (!has_null(count, values)) put_name(context, values[0], true);
+}
+
+static void prepare_zones(sqlite3_context *context, int count, sqlite3_value **values) {
+    if (!has_null(count, values)) put_name(context, values[0], false);
+}
+
 /* The functions of a connection: over its table, which another one may replace, and over what it
  * has prepared. */
 static const struct {
@@ -855,6 +955,8 @@ static const struct {
     {"h3_get_directed_edge_destination", 1, SQLITE_INNOCUOUS, destination},
     {"h3_is_covered", 2, SQLITE_INNOCUOUS | SQLITE_DETERMINISTIC, is_covered},
     {"h3_zone_of", 2, SQLITE_INNOCUOUS | SQLITE_DETERMINISTIC, zone_of},
+    {"h3_prepare_region", 1, SQLITE_INNOCUOUS, prepare_region},
+    {"h3_prepare_zones", 1, SQLITE_INNOCUOUS, prepare_zones},
 };
 
 /* ---- Functions that return sets: tables of one column or two, whose hidden columns are the arguments. A
@@ -1268,6 +1370,7 @@ __attribute__((visibility("default"))) int sqlite3_hwhole_init(sqlite3 *engine, 
     connection = sqlite3_malloc64(sizeof *connection);
     if (!connection) return SQLITE_NOMEM;
     memset(connection, 0, sizeof *connection);
+    sqlite3_randomness(sizeof connection->chance, connection->chance);
     connection->holders = 1;
     code = add_functions(engine);
     if (code == SQLITE_OK) code = add_of_connection(engine, connection);

@@ -37,6 +37,11 @@ static const char *const statements[] = {
     "SELECT h3_cell_to_parent('85283473fffffff'), count(value) FROM h3_cell_to_children('85283473fffffff')",
     "SELECT group_concat(value) FROM h3_cell_to_ancestors('85283473fffffff')",
     "SELECT h3_zone_of('862834707ffffff', '[\"0x85283473FFFFFFF\", 576636674163867647, \" 8007fffffffffff\"]')",
+    "SELECT group_concat(h3_zone_of(value, (SELECT h3_prepare_zones(h3_compact_cells(value))"
+    " FROM h3_cell_to_children('85283473fffffff', 6)))) FROM h3_cell_to_children('85283473fffffff', 6)",
+    "SELECT sum(h3_is_covered(value, h3_prepare_region('[' || value || ']'))), typeof(h3_prepare_zones(value)),"
+    " h3_is_covered(value, h3_prepare_region('[\"862834707ffffff\"]')) FROM"
+    " h3_cell_to_children(599686042433355775, 6)",
 };
 
 /* over the table that a statement reads, which is 1 */
