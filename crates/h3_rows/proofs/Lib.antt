@@ -1,4 +1,5 @@
 pub mod Alike
+pub mod AreaFields
 pub mod AreaNames
 pub mod Beside
 pub mod Blanks

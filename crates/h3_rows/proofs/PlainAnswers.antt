@@ -16,7 +16,7 @@ use Rattle.h3_lines.specs.Answering.{Answered}
 use Rattle.h3_rows.specs.Answering.{PutsPlain, held_of, state_of}
 use Rattle.h3_rows.specs.Lanes.{IsOneLine}
 use Rattle.h3_rows.specs.Plain.{IsPlainField, IsPlainRow}
-use Rattle.h3_rows.specs.Row.{field_text, next_number, read_of, returns_of, row_body, unquoted}
+use Rattle.h3_rows.specs.Row.{field_text, is_empty_row, next_number, read_of, returns_of, row_body, unquoted}
 use Rattle.h3_rows.specs.RowsAnswer.{Form, Step, answered_with, goes_on, malformed, row_said, row_step, row_with, rows_then, text_said}
 use Rattle.h3_lines.specs.Pieces.{CutsAt, pieces_of}
 use Rattle.h3_rows.specs.declared.said.Said.TheVariants.{Index}
@@ -110,7 +110,8 @@ module _ (form : Form) (answer : Option ℕ → Answer) (s : RowState) (k : Colu
         → row_step form answer (state_of s held) (line, false)
         ≡ goes_on (state_of s held) line (answered_with form line text)
     steps index text plain is =
-        let filled : (length row == 0) ≡ false = grind (arith, nat_tests) in
+        let long : (length row == 0) ≡ false = grind (arith, nat_tests) in
+        let filled : is_empty_row s.number row ≡ false = ap (λ l. length l == 0) read ∙ long in
         rw (known, sound, body, filled, said index plain, is) refl
 
     one_row : (text : List ℕ) (l : IsOneLine text) → answered_with form line text

@@ -2,13 +2,13 @@
 use Rattle.std.proofs.Common.{◌≡◌, ℕ, suc, ◌+◌, ◌-◌, ◌<◌, ◌≤◌, ◌==◌, Bool, true, false, List, [], ◌∷◌, ◌++◌, length, take, drop, get_or, replicate, take-append-drop, Some, sym, ap, ◌∙◌, refl, subst, append_assoc, length-append, length-drop, length-take-le, arith}
 use Rattle.std.proofs.Math.Seq.{take-append-add}
 use Rattle.std.proofs.lemmas.Bool.Decides.{nat_tests}
-use Rattle.h3_rows.specs.Plain.{EndsPlain, IsPlainRow, IsWhole, IsWholeRow, PassesFields}
+use Rattle.h3_rows.specs.Plain.{BeginsWhole, EndsPlain, IsPlainRow, IsWhole, IsWholeRow, PassesFields}
 use Rattle.h3_rows.specs.RowsAnswer.{is_as_wide}
 use Rattle.h3_rows.specs.declared.state.Columns.{Columns}
 use Rattle.h3_lines.specs.Pieces.{CutsAt, cut}
 use Rattle.h3_rows.specs.Row.{piece_at}
 use Rattle.h3_rows.proofs.Finding.{cuts_first, field_here, field_last, field_passed}
-use Rattle.h3_rows.proofs.WholeFields.{are_calm, calm_row, whole_append, whole_marked, whole_none, whole_row, whole_then}
+use Rattle.h3_rows.proofs.WholeFields.{whole_append, whole_marked, whole_none, whole_row, whole_then}
 use Rattle.h3_lines.specs.PiecesLaws.{cut_at_end}
 use Rattle.h3_lines.specs.ScanLaws.{split_at}
 
@@ -51,6 +51,42 @@ module _ (separator : ℕ) (quotes : Bool) (quote : (34 == separator) ≡ false)
           q.counted more,
         );
       }
+
+  -- ---- whole fields up to a line end
+
+  pub begins_none : (bytes : List ℕ) → BeginsWhole separator quotes bytes bytes
+  begins_none bytes = record { front = []; split = refl; whole = whole_none separator quotes quote }
+
+  -- a field and its separator more
+  pub begins_more : (bytes rest field after : List ℕ) → BeginsWhole separator quotes bytes rest
+      → rest ≡ field ++ separator ∷ after → IsWhole separator quotes field → BeginsWhole separator quotes bytes after
+  begins_more bytes rest field after b split whole =
+      let mark = separator ∷ [] in
+      record {
+        front = b.front ++ (field ++ mark);
+        split = b.split ∙ ap (λ l. b.front ++ l) (split ∙ sym (append_assoc field mark after))
+            ∙ sym (append_assoc b.front (field ++ mark) after);
+        whole = whole_append separator quotes quote b.front (field ++ mark) b.whole
+            (whole_marked separator quotes quote feed carriage field whole);
+      }
+
+  -- the last field ends the row
+  pub row_ends : (bytes rest : List ℕ) (end : ℕ) → BeginsWhole separator quotes bytes rest
+      → IsWhole separator quotes (take end rest)
+      → IsWholeRow separator quotes (take (length bytes - length rest + end) bytes)
+  row_ends bytes rest end b whole =
+      let long : length bytes ≡ length b.front + length rest = ap length b.split ∙ length-append b.front rest in
+      let place : length bytes - length rest + end ≡ length b.front + end = omega (arith, long) in
+      let row : take (length bytes - length rest + end) bytes ≡ b.front ++ take end rest
+      = ap (λ n. take n bytes) place ∙ ap (take (length b.front + end)) b.split ∙ take-append-add b.front rest end in
+      subst (IsWholeRow separator quotes) (sym row) (whole_then separator quotes quote b.front (take end rest) b.whole
+      (whole_row separator quotes quote (take end rest) whole))
+
+  pub row_within : (bytes rest : List ℕ) (end : ℕ) → BeginsWhole separator quotes bytes rest → end < length rest
+      → length bytes - length rest + end < length bytes
+  row_within bytes rest end b within =
+      let long : length bytes ≡ length b.front + length rest = ap length b.split ∙ length-append b.front rest in
+      omega (arith, long, within)
 
   same_is : (n : ℕ) → (n == n) ≡ true
   same_is n = grind (arith, nat_tests)
@@ -103,13 +139,13 @@ module _ (separator : ℕ) (quotes : Bool) (quote : (34 == separator) ≡ false)
         as_wide = ap (λ l. is_as_wide columns.width (columns.before + length (cut separator quotes false l))) is ∙ ap (λ n. is_as_wide columns.width (columns.before + n)) count ∙ wide;
       }
 
-  -- the row ends after any number of fields without quotes
+  -- the row ends after any number of fields
   pub ends_anywhere : (columns : Columns) (rest : List ℕ) (end more : ℕ) → ((n : ℕ) → is_as_wide columns.width n ≡ true)
       → end < length rest → get_or rest end 0 ≡ separator → more < length (drop (end + 1) rest)
-      → IsWhole separator quotes (take end rest) → are_calm 10 quotes (take more (drop (end + 1) rest)) ≡ true
+      → IsWhole separator quotes (take end rest) → IsWholeRow separator quotes (take more (drop (end + 1) rest))
       → EndsPlain separator quotes columns rest end (end + 1 + more)
-  ends_anywhere columns rest end more wide inside mark within whole calm =
-      ends_with columns rest end more inside mark within whole (calm_row separator quotes quote (take more (drop (end + 1) rest)) calm) (wide _)
+  ends_anywhere columns rest end more wide inside mark within whole row =
+      ends_with columns rest end more inside mark within whole row (wide _)
 
   -- the row ends after its cell's field and as many others as it should have
   pub ends_after : (columns : Columns) (width more : ℕ) (rest : List ℕ) (end : ℕ) (tail : List ℕ) (last : ℕ)

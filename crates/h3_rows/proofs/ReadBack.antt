@@ -13,7 +13,7 @@ both_true true y h = (refl, h)
 both_true false y h = absurd (cc)
 
 -- a beginning of uncut bytes is uncut
-uncut_front : (mark : ℕ) (quotes inside : Bool) (xs ys : List ℕ) → is_uncut mark quotes inside (xs ++ ys) ≡ true → is_uncut mark quotes inside xs ≡ true
+pub uncut_front : (mark : ℕ) (quotes inside : Bool) (xs ys : List ℕ) → is_uncut mark quotes inside (xs ++ ys) ≡ true → is_uncut mark quotes inside xs ≡ true
 uncut_front mark quotes inside [] ys h = refl
 uncut_front mark quotes inside (b ∷ bs) ys h =
     let (other, more) = both ((b == mark) && not inside) (is_uncut mark quotes (turned quotes inside b) (bs ++ ys)) h in
@@ -42,7 +42,7 @@ returns_keep quotes inside (b ∷ bs) h =
     rw calm (returns_keep quotes inside bs more)
 
 -- the body of a row is uncut as the row is
-body_uncut : (quotes : Bool) (line : List ℕ) → Uncut 10 quotes false line false → Uncut 10 quotes false (row_body line) false
+pub body_uncut : (quotes : Bool) (line : List ℕ) → Uncut 10 quotes false line false → Uncut 10 quotes false (row_body line) false
 body_uncut quotes line u =
     let body = row_body line in
     let whole = body_then_returns line in

@@ -5,7 +5,7 @@ use Rattle.std.proofs.lemmas.Bool.Decides.{nat_tests}
 use Rattle.std.proofs.lemmas.List.{length-replicate, take_all, take_more}
 use Rattle.std.proofs.lemmas.List.Folds.{list_all-append}
 use Rattle.h3_lines.specs.PiecesLaws.{and_false}
-use Rattle.h3_rows.specs.Row.{are_returns, returns_of, row_body, row_ending}
+use Rattle.h3_rows.specs.Row.{are_returns, returns_of, row_body}
 
 and_true : (x : Bool) → (x && true) ≡ x
 and_true true = refl
@@ -158,11 +158,3 @@ body_shorter line = omega (arith, ap length (body_then_returns line), length-app
 
 pub row_length : (body : List ℕ) (n : ℕ) → length (body ++ replicate n 13) ≡ length body + n
 row_length body n = length-append body (replicate n 13) ∙ ap (λ k. length body + k) (length-replicate n 13)
-
--- an empty row is its carriage returns
-pub empty_row : (body : List ℕ) (n : ℕ) → length body ≡ 0 → body ++ replicate n 13 ≡ replicate n 13
-empty_row [] n none = refl
-empty_row (x ∷ xs) n none = absurd (omega (arith, none))
-
-pub empty_ending : (body : List ℕ) (n : ℕ) → row_body body ≡ body → length body ≡ 0 → row_ending (body ++ replicate n 13) ≡ (body ++ replicate n 13) ++ 10 ∷ []
-empty_ending body n bare none = ap (λ l. l ++ 10 ∷ []) (returns_of_row body n bare ∙ sym (empty_row body n none))

@@ -15,7 +15,7 @@ use Rattle.h3_lines.specs.declared.run_error.RowFault.{RowFault}
 use Rattle.h3_lines.specs.RunError.{row_error_name}
 use Rattle.h3_rows.specs.Laws.{HeaderStands, IsWholeOrRefused, RowsGiveBack, RowsStand, RowsStandUntil, answered_so, numbered, own_lines, with_own}
 use Rattle.h3_lines.specs.Pieces.{Piece, cut, pieces_of, rows_of, turned, with_first, without_last_nothing}
-use Rattle.h3_rows.specs.Row.{lacking_last, next_number, read_of, row_body}
+use Rattle.h3_rows.specs.Row.{is_empty_row, lacking_last, next_number, read_of, row_body}
 use Rattle.h3_rows.specs.RowsAnswer.{Form, State, Step, answer_said, beside, columns_in, ends, faulty, free_columns, goes_on, header_step, header_with, malformed, row_said, row_step, rows_then, unanswered}
 use Rattle.h3_rows.specs.declared.state.Columns.{Columns}
 use Rattle.h3_rows.specs.declared.said.Said.{Said}
@@ -47,6 +47,8 @@ beside_stands form s line output (Err (ending_by.AtRowAndMore n e more)) good = 
 beside_stands form s line output (Err (ending_by.Column e)) good = absurd (cc)
 beside_stands form s line output (Err (ending_by.Table e)) good = absurd (cc)
 beside_stands form s line output (Err (ending_by.FileAt f n e)) good = absurd (cc)
+beside_stands form s line output (Err (ending_by.FileAtRow f n e)) good = absurd (cc)
+beside_stands form s line output (Err (ending_by.FileColumn f e)) good = absurd (cc)
 beside_stands form s line output (Err (ending_by.File f e)) good = absurd (cc)
 
 said_stands : (form : Form) (answer : Option ℕ → Answer) (s : State) (line : List ℕ) (said : Result Said RowFault) → (answer_said form answer s line said).answer.ending ≡ Ok tt → StepStands (answer_said form answer s line said) s line (with_own form answer line said)
@@ -55,7 +57,7 @@ said_stands form answer s line (Ok Missing) good = record { ending = refl; outpu
 said_stands form answer s line (Ok (Index index)) good = beside_stands form s line (answer (Some index)).output (answer (Some index)).ending good
 
 -- a row after a header
-row_stands : (form : Form) (answer : Option ℕ → Answer) (k : Columns) (s : State) (p : Piece) (m : Option RowFault) (e : Bool) → s.columns ≡ Some k → malformed form s.number p ≡ m → (length (row_body p.0) == 0) ≡ e → (row_step form answer s p).answer.ending ≡ Ok tt
+row_stands : (form : Form) (answer : Option ℕ → Answer) (k : Columns) (s : State) (p : Piece) (m : Option RowFault) (e : Bool) → s.columns ≡ Some k → malformed form s.number p ≡ m → (is_empty_row s.number (row_body p.0)) ≡ e → (row_step form answer s p).answer.ending ≡ Ok tt
     → StepStands (row_step form answer s p) s p.0 (own_lines form answer k (s.number, p))
 row_stands form answer k s p (Some fault) e known bad empty good = absurd (let stops : (ends s (row_error.Bad fault)).answer.ending ≡ Ok tt = rw bad at good in cc)
 row_stands form answer k s p None true known sound empty good =
@@ -79,7 +81,7 @@ rows_stand form answer k s (p ∷ ps) known good =
     let step = row_step form answer s p in
     let later = rows_then (λ t. written []) form answer step.after ps in
     let (first, more) = first_good step.answer.output step.answer.ending later good in
-    let stands = row_stands form answer k s p (malformed form s.number p) (length (row_body p.0) == 0) known refl refl first in
+    let stands = row_stands form answer k s p (malformed form s.number p) (is_empty_row s.number (row_body p.0)) known refl refl first in
     let rest = rows_stand form answer k step.after ps (stands.columns ∙ known) more in
     let joined : (then_answer step.answer.output step.answer.ending later).output ≡ step.answer.output ++ later.output = rw first refl in
     joined ∙ ap (λ l. l ++ later.output) stands.output ∙ ap (λ l. own_lines form answer k (s.number, p) ++ l) (rest ∙ ap (λ n. flat_map (own_lines form answer k) (numbered n ps)) stands.number)
@@ -102,7 +104,7 @@ said_silent form answer s line (Err fault) by refuses none bad = faulty_silent f
 said_silent form answer s line (Ok Missing) by refuses none bad = absurd (cc)
 said_silent form answer s line (Ok (Index index)) by refuses none bad = beside_silent form s line (answer (Some index)) by (refuses (Some index)) none bad
 
-row_silent : (form : Form) (answer : Option ℕ → Answer) (k : Columns) (s : State) (p : Piece) (m : Option RowFault) (e : Bool) (by : AnswerError) → ((index : Option ℕ) → IsWholeOrRefused (answer index)) → s.columns ≡ Some k → s.pending ≡ [] → malformed form s.number p ≡ m → (length (row_body p.0) == 0) ≡ e
+row_silent : (form : Form) (answer : Option ℕ → Answer) (k : Columns) (s : State) (p : Piece) (m : Option RowFault) (e : Bool) (by : AnswerError) → ((index : Option ℕ) → IsWholeOrRefused (answer index)) → s.columns ≡ Some k → s.pending ≡ [] → malformed form s.number p ≡ m → (is_empty_row s.number (row_body p.0)) ≡ e
     → (row_step form answer s p).answer.ending ≡ Err by → (row_step form answer s p).answer.output ≡ []
 row_silent form answer k s p (Some fault) e by refuses known none fails empty bad = rw fails none
 row_silent form answer k s p None true by refuses known none sound empty bad = absurd (let stops : (let r : Result (Unit {0}) AnswerError = Ok tt in r) ≡ Err by = rw (sound, empty, known) at bad in cc)
@@ -121,7 +123,7 @@ rows_stand_until form answer k s (p ∷ ps) refuses known none =
     λ r. elim r as (λ r. step.answer.ending ≡ r
     → (done : List Piece) × (more : List Piece) × (p ∷ ps ≡ done ++ more) × ((then_answer step.answer.output step.answer.ending later).output ≡ flat_map (own_lines form answer k) (numbered s.number done)) × ((then_answer step.answer.output step.answer.ending later).ending ≡ Ok tt → more ≡ [])) [
       | Ok tt ↦ λ good. (
-          let stands = row_stands form answer k s p (malformed form s.number p) (length (row_body p.0) == 0) known refl refl good in
+          let stands = row_stands form answer k s p (malformed form s.number p) (is_empty_row s.number (row_body p.0)) known refl refl good in
           let (done, more, split, output, whole) = rows_stand_until form answer k step.after ps refuses (stands.columns ∙ known) (stands.pending ∙ none) in
           let joined : (then_answer step.answer.output step.answer.ending later).output ≡ step.answer.output ++ later.output = rw good refl in
           let ending : (then_answer step.answer.output step.answer.ending later).ending ≡ later.ending = rw good refl in (
@@ -132,7 +134,7 @@ rows_stand_until form answer k s (p ∷ ps) refuses known none =
             λ all. whole (sym ending ∙ all),
           ))
       | Err e ↦ λ bad. (
-          let silent = row_silent form answer k s p (malformed form s.number p) (length (row_body p.0) == 0) e refuses known none refl refl bad in
+          let silent = row_silent form answer k s p (malformed form s.number p) (is_empty_row s.number (row_body p.0)) e refuses known none refl refl bad in
           ([], p ∷ ps, refl, rw bad silent, λ all. absurd (let stops : (let r : Result (Unit {0}) AnswerError = Err e in r) ≡ Ok tt = rw bad at all in cc)))
     ] in
     go step.answer.ending refl
@@ -145,7 +147,7 @@ named_stands : (form : Form) (s : State) (line : List ℕ) (columns : Result Col
 named_stands form s line (Err e) good = absurd (cc)
 named_stands form s line (Ok c) good = (refl, refl, (c, refl))
 
-header_by : (form : Form) (answer : Option ℕ → Answer) (s : State) (p : Piece) (m : Option RowFault) → malformed form s.number p ≡ m → s.columns ≡ None → (length (row_body p.0) == 0) ≡ false → (row_step form answer s p).answer.ending ≡ Ok tt
+header_by : (form : Form) (answer : Option ℕ → Answer) (s : State) (p : Piece) (m : Option RowFault) → malformed form s.number p ≡ m → s.columns ≡ None → (is_empty_row s.number (row_body p.0)) ≡ false → (row_step form answer s p).answer.ending ≡ Ok tt
     → ((row_step form answer s p).answer.output ≡ s.pending ++ header_with form.separator p.0 form.names) × ((row_step form answer s p).after.pending ≡ []) × ((c : Columns) × ((row_step form answer s p).after.columns ≡ Some c))
 header_by form answer s p (Some fault) bad none filled good = absurd (let stops : (ends s (row_error.Bad fault)).answer.ending ≡ Ok tt = rw bad at good in cc)
 header_by form answer s p None sound none filled good =

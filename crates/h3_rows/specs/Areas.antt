@@ -1,9 +1,10 @@
 -- The areas of a table: its names, and of each cell the number of its name.
-use Rattle.std.specs.Prelude.{◌≡◌, ℕ, ◌-◌, ◌<◌, ◌≤◌, get_or, Bool, List, [], ◌∷◌, ◌++◌, length, take, drop, map, Option, None, Some, unwrap_or, bytes_eq, if◌then◌else◌, refl, All}
+use Rattle.std.specs.Prelude.{◌≡◌, ℕ, ◌-◌, ◌<◌, ◌≤◌, ◌==◌, get_or, Bool, true, false, List, [], ◌∷◌, ◌++◌, length, take, drop, map, Option, None, Some, Ok, unwrap_or, bytes_eq, if◌then◌else◌, refl, All, Contains}
 use Rattle.std.specs.List.{position_from}
 use Rattle.h3_index.specs.Cell.{Address}
 use Rattle.h3_index.specs.Text.{trimmed}
-use Rattle.h3_rows.specs.Named.{Entry}
+use Rattle.h3_lines.specs.Pieces.{inside_after, is_uncut, rows_of}
+use Rattle.h3_rows.specs.Named.{Entry, Table, named_cells}
 use Rattle.h3_rows.specs.Row.{field_text, unquoted}
 
 -- ---- named cells
@@ -98,6 +99,34 @@ StandOnce quotes names = (k : ℕ) (d : List ℕ) → k < length names → place
 -- NamesStandOnce: no two areas of a table have names of one text
 abbrev pub NamesStandOnce : Type 0
 NamesStandOnce = (quotes : Bool) (entries : List Entry) → StandOnce quotes (area_names quotes entries)
+
+-- NumbersAreOfNames: each cell of a table has the number of one of its names
+abbrev pub NumbersAreOfNames : Type 0
+NumbersAreOfNames = (quotes : Bool) (entries : List Entry) → All (λ c. c.1 < length (area_names quotes entries)) (area_cells quotes entries)
+
+-- AreasHaveCells: each area of a table has a cell
+abbrev pub AreasHaveCells : Type 0
+AreasHaveCells = (quotes : Bool) (entries : List Entry) (k : ℕ) → k < length (area_names quotes entries) → (cell : Address) × Contains (area_cells quotes entries) (cell, k)
+
+-- IsOneField separator quotes bytes: the bytes are one field, which a row may end with: outside quotes that count they have
+-- no separator, no line feed and, if quotes count, no carriage return; no such quote is open at their end; and no blanks are
+-- at either end
+pub record IsOneField (separator : ℕ) (quotes : Bool) (bytes : List ℕ) : Type 0 where
+  pub uncut : is_uncut separator quotes false bytes ≡ true
+  pub on_line : is_uncut 10 quotes false bytes ≡ true
+  pub returnless : quotes ≡ true → is_uncut 13 quotes false bytes ≡ true
+  pub closed : inside_after quotes false bytes ≡ false
+  pub trims : trimmed bytes ≡ bytes
+
+-- EntriesAreFields: each name that is read of a table, in a header too, is one field of its form
+abbrev pub EntriesAreFields : Type 0
+EntriesAreFields = (table : Table) (list : List ℕ) (entries : List Entry) → (34 == table.form.separator) ≡ false → named_cells table (rows_of table.form.quotes list) ≡ Ok entries
+    → All (λ e. IsOneField table.form.separator table.form.quotes e.1) entries
+
+-- NamesAreFields: the names of the areas of a table are each one field of its form
+abbrev pub NamesAreFields : Type 0
+NamesAreFields = (table : Table) (list : List ℕ) (entries : List Entry) → (34 == table.form.separator) ≡ false → named_cells table (rows_of table.form.quotes list) ≡ Ok entries
+    → All (IsOneField table.form.separator table.form.quotes) (area_names table.form.quotes entries)
 
 -- ---- names as they come
 

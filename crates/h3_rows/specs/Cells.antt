@@ -1,5 +1,5 @@
 -- The cells of the rows of a list.
-use Rattle.std.specs.Prelude.{◌≡◌, ℕ, ◌^◌, ◌≤◌, ◌==◌, ◌⊎◌, Bool, true, List, [], ◌∷◌, ◌++◌, length, Option, None, Some, Result, Ok, Err, if◌then◌else◌}
+use Rattle.std.specs.Prelude.{◌≡◌, ℕ, ◌^◌, ◌≤◌, ◌⊎◌, Bool, true, List, [], ◌∷◌, ◌++◌, length, Option, None, Some, Result, Ok, Err, if◌then◌else◌}
 use Rattle.std.specs.Io.KnownBytes.{Consumes}
 use Rattle.h3_index.specs.Cell.{Address}
 use Rattle.h3_streams.specs.Stream.{HasLeft}
@@ -18,7 +18,7 @@ use Rattle.h3_lines.specs.declared.run_error.RunError.{RunError}
 use Rattle.h3_lines.specs.declared.run_error.RunError.TheVariants.{Error, Fault}
 use Rattle.h3_lines.specs.Pieces.{Piece, pieces_of, rows_of}
 use Rattle.h3_lines.specs.Taking.{cell_list, cells_before}
-use Rattle.h3_rows.specs.Row.{next_number, read_of, row_body}
+use Rattle.h3_rows.specs.Row.{is_empty_row, next_number, read_of, row_body}
 use Rattle.h3_rows.specs.RowsAnswer.{After, Choice, Form, Named, columns_first, columns_in, malformed, row_said}
 use Rattle.h3_rows.specs.declared.state.Columns.{Columns}
 use Rattle.h3_rows.specs.declared.said.Said.{Said}
@@ -31,8 +31,8 @@ abbrev pub called : {A : Type 0} → Result A H3Error → Result A RowError
 called (Ok value) = Ok value
 called (Err e) = Err (row_error.Call e)
 
--- cell_said read: the cell of a row by what is read of its field: none where it is missing, and an error where the row is
--- faulty, or no cell has its index
+-- cell_said read: the cell of a row by what is read of its field: none if it is missing, and an error if the row is
+-- faulty, or its index is not a valid cell
 abbrev pub cell_said : Result Said RowFault → Result (Option Address) RowError
 cell_said (Err fault) = Err (row_error.Bad fault)
 cell_said (Ok Missing) = Ok None
@@ -61,7 +61,7 @@ filled_found form n line (Some columns) = record { cells = at_row n (cell_said (
 -- found_unless fault form n columns line: what a row has that is malformed for this reason, or is not
 abbrev pub found_unless : Option RowFault → Form → ℕ → Option Columns → List ℕ → Found
 found_unless (Some fault) form n columns line = record { cells = Err (ending_by.AtRow n (row_error.Bad fault)); columns = columns }
-found_unless None form n columns line = if length (row_body line) == 0 then record { cells = Ok []; columns = columns } else filled_found form n line columns
+found_unless None form n columns line = if is_empty_row n (row_body line) then record { cells = Ok []; columns = columns } else filled_found form n line columns
 
 -- row_found form n columns p: what the row with this number has
 abbrev pub row_found : Form → ℕ → Option Columns → Piece → Found
@@ -79,7 +79,7 @@ abbrev pub cells_then : (Option Columns → Result (List Address) AnswerError) �
 cells_then last form n columns [] = last columns
 cells_then last form n columns (p ∷ ps) = found_before (row_found form n columns p).cells (cells_then last form (next_number n p.0) (row_found form n columns p).columns ps)
 
--- cells_end choice columns: at the end of a list a column that has a name is missed where the header did not come
+-- cells_end choice columns: at the end of a list a column that has a name is missed if the header did not come
 abbrev pub cells_end : Choice → Option Columns → Result (List Address) AnswerError
 cells_end choice (Some columns) = Ok []
 cells_end (After k) None = Ok []

@@ -156,6 +156,21 @@ order_mark_of_rows : list_answer (tabs 0) name (239 ∷ 187 ∷ 191 ∷ codes "8
 unfolding parsed_index
 order_mark_of_rows = refl
 
+-- a first row that is a byte order mark alone is an empty row: it is passed over before a header, and else it is written as
+-- it is; a mark in another row is a text
+order_mark_alone : list_answer (column (codes "cell")) name (239 ∷ 187 ∷ 191 ∷ 13 ∷ 10 ∷ codes "cell" ++ 10 ∷ codes "8" ++ 10 ∷ [])
+    ≡ written (239 ∷ 187 ∷ 191 ∷ 13 ∷ 10 ∷ codes "cell,cellToParent" ++ 10 ∷ codes "8,five" ++ 10 ∷ [])
+unfolding parsed_index
+order_mark_alone = refl
+
+order_mark_as_a_row : list_answer (tabs 0) name (239 ∷ 187 ∷ 191 ∷ 10 ∷ codes "8" ++ 10 ∷ []) ≡ written (239 ∷ 187 ∷ 191 ∷ 10 ∷ codes "8" ++ 9 ∷ codes "five" ++ 10 ∷ [])
+unfolding parsed_index
+order_mark_as_a_row = refl
+
+later_order_mark : list_answer (tabs 0) name (10 ∷ 239 ∷ 187 ∷ 191 ∷ 10 ∷ []) ≡ record { output = 10 ∷ []; ending = Err (AtRow 2 (Bad NotAnIndex)) }
+unfolding parsed_index
+later_order_mark = refl
+
 -- ---- answers of two parts
 
 -- a function with two answers, of which each has a cell and a distance

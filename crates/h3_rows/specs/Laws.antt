@@ -1,5 +1,5 @@
 -- Laws of rows with answers.
-use Rattle.std.specs.Prelude.{codes, ◌≡◌, ℕ, ◌==◌, ◌⊎◌, Bool, true, false, List, [], ◌∷◌, ◌++◌, length, Option, None, Some, Result, Ok, Err, ⊤, if◌then◌else◌}
+use Rattle.std.specs.Prelude.{codes, ◌≡◌, ℕ, ◌==◌, ◌⊎◌, Bool, true, false, List, [], ◌∷◌, ◌++◌, Option, None, Some, Result, Ok, Err, ⊤, if◌then◌else◌}
 use Rattle.std.specs.List.{flat_map}
 use Rattle.h3_index.specs.declared.error.H3Error.{H3Error}
 use Rattle.h3_lines.specs.Answer.{Answer, refused, written}
@@ -9,40 +9,40 @@ use Rattle.h3_lines.specs.declared.run_error.AnswerError.TheVariants as ending_b
 use Rattle.h3_lines.specs.declared.run_error.RowError.TheVariants as row_error
 use Rattle.h3_lines.specs.declared.run_error.RowFault.{RowFault}
 use Rattle.h3_lines.specs.Pieces.{Piece, cut, inside_after, is_uncut, pieces_of, rows_of}
-use Rattle.h3_rows.specs.Row.{lacking_last, list_rows, next_number, returns_of, row_body, row_ending}
+use Rattle.h3_rows.specs.Row.{is_empty_row, lacking_last, list_rows, next_number, returns_of, row_body, row_ending}
 use Rattle.h3_rows.specs.RowsAnswer.{Form, State, answered_with, header_with, row_said, row_step, row_with, rows_then, unanswered}
 use Rattle.h3_rows.specs.declared.state.Columns.{Columns}
 use Rattle.h3_rows.specs.declared.said.Said.{Said}
 use Rattle.h3_rows.specs.declared.said.Said.TheVariants.{Index, Missing}
 
--- ---- each row stands in the output
+-- ---- each row is in the output
 
--- numbered n rows: the rows, each with its number, where the first has the number n
+-- numbered n rows: the rows, each with its number; the first has the number n
 abbrev pub numbered : ℕ → List Piece → List (ℕ × Piece)
 numbered n [] = []
 numbered n (p ∷ ps) = (n, p) ∷ numbered (next_number n p.0) ps
 
 -- answered_so form line output ending: the row with each of the answers of a function, or with an empty one and the error's
--- name where it has an error
+-- name if it has an error
 abbrev pub answered_so : Form → List ℕ → List ℕ → Result (Unit {0}) AnswerError → List ℕ
 answered_so form line output (Ok u) = answered_with form line output
 answered_so form line output (Err (ending_by.Call e)) = unanswered form line (row_error_name (row_error.Call e))
 answered_so form line output (Err e) = answered_with form line output
 
--- with_own form answer line said: the row with the answers to what it says of its cell; with an empty one where it says
--- nothing, and where it is faulty
+-- with_own form answer line said: the row with the answers to what it says of its cell; with an empty one if it says
+-- nothing, or is faulty
 abbrev pub with_own : Form → (Option ℕ → Answer) → List ℕ → Result Said RowFault → List ℕ
 with_own form answer line (Err fault) = unanswered form line (row_error_name (row_error.Bad fault))
 with_own form answer line (Ok Missing) = unanswered form line (codes "missing")
 with_own form answer line (Ok (Index index)) = answered_so form line (answer (Some index)).output (answer (Some index)).ending
 
--- own_lines form answer columns r: what stands in the output for a row, which has a number: an empty row as it is, and any
+-- own_lines form answer columns r: what is in the output for a row, which has a number: an empty row as it is, and any
 -- other with the answers to its own cell
 abbrev pub own_lines : Form → (Option ℕ → Answer) → Columns → ℕ × Piece → List ℕ
 own_lines form answer columns r =
-    if length (row_body r.1.0) == 0 then r.1.0 ++ 10 ∷ [] else with_own form answer r.1.0 (row_said form r.0 columns (row_body r.1.0))
+    if is_empty_row r.0 (row_body r.1.0) then r.1.0 ++ 10 ∷ [] else with_own form answer r.1.0 (row_said form r.0 columns (row_body r.1.0))
 
--- RowsStand: where no row ends the answer, what is written for rows after a header, or without one, is what stands for each
+-- RowsStand: if no row ends the answer, what is written for rows after a header, or without one, is `own_lines` of each
 -- of them by its own cell alone, in order, and nothing else
 abbrev pub RowsStand : Type 0
 RowsStand = (form : Form) (answer : Option ℕ → Answer) (columns : Columns) (s : State) (rows : List Piece) → s.columns ≡ Some columns → (rows_then (λ t. written []) form answer s rows).ending ≡ Ok tt
@@ -52,8 +52,8 @@ RowsStand = (form : Form) (answer : Option ℕ → Answer) (columns : Columns) (
 abbrev pub IsWholeOrRefused : Answer → Type 0
 IsWholeOrRefused a = (a.ending ≡ Ok tt) ⊎ ((e : H3Error) × (a ≡ refused e))
 
--- RowsStandUntil: where a function's answers are whole or refused, what is written for rows after a header, or without one,
--- is what stands for each row before the one that ends the answer, by its own cell alone, in order, and nothing else; if the
+-- RowsStandUntil: if a function's answers are whole or refused, what is written for rows after a header, or without one,
+-- is `own_lines` of each row before the one that ends the answer, by its own cell alone, in order, and nothing else; if the
 -- answer has no error, for each of all rows
 abbrev pub RowsStandUntil : Type 0
 RowsStandUntil = (form : Form) (answer : Option ℕ → Answer) (columns : Columns) (s : State) (rows : List Piece) → ((index : Option ℕ) → IsWholeOrRefused (answer index)) → s.columns ≡ Some columns → s.pending ≡ []
@@ -61,10 +61,10 @@ RowsStandUntil = (form : Form) (answer : Option ℕ → Answer) (columns : Colum
     × ((rows_then (λ t. written []) form answer s rows).output ≡ flat_map (own_lines form answer columns) (numbered s.number done))
     × ((rows_then (λ t. written []) form answer s rows).ending ≡ Ok tt → more ≡ [])
 
--- HeaderStands: what is written for a header, where it does not end the answer, is the empty rows that are held back, the
+-- HeaderStands: what is written for a header, if it does not end the answer, is the empty rows that are held back, the
 -- header, whole, and the names of the new columns; the rows after it are those of `RowsStand`
 abbrev pub HeaderStands : Type 0
-HeaderStands = (form : Form) (answer : Option ℕ → Answer) (s : State) (p : Piece) → s.columns ≡ None → (length (row_body p.0) == 0) ≡ false → (row_step form answer s p).answer.ending ≡ Ok tt
+HeaderStands = (form : Form) (answer : Option ℕ → Answer) (s : State) (p : Piece) → s.columns ≡ None → is_empty_row s.number (row_body p.0) ≡ false → (row_step form answer s p).answer.ending ≡ Ok tt
     → ((row_step form answer s p).answer.output ≡ s.pending ++ header_with form.separator p.0 form.names)
     × ((row_step form answer s p).after.pending ≡ []) × ((columns : Columns) × ((row_step form answer s p).after.columns ≡ Some columns))
 

@@ -1,5 +1,5 @@
 -- The rows of a table in which one field has a cell, and another a name.
-use Rattle.std.specs.Prelude.{◌≡◌, ℕ, ◌^◌, ◌≤◌, ◌==◌, ◌⊎◌, Bool, true, List, [], ◌∷◌, ◌++◌, length, Option, None, Some, option_map, Result, Ok, Err, false, if◌then◌else◌}
+use Rattle.std.specs.Prelude.{◌≡◌, ℕ, ◌^◌, ◌≤◌, ◌⊎◌, Bool, true, List, [], ◌∷◌, ◌++◌, length, Option, None, Some, option_map, Result, Ok, Err, false, if◌then◌else◌}
 use Rattle.std.specs.Io.KnownBytes.{Consumes}
 use Rattle.h3_index.specs.Cell.{Address}
 use Rattle.h3_index.specs.Text.{trimmed}
@@ -19,7 +19,7 @@ use Rattle.h3_lines.specs.declared.run_error.RunError.TheVariants.{Error, Fault}
 use Rattle.h3_lines.specs.Pieces.{Piece, cut, pieces_of, rows_of}
 use Rattle.h3_lines.specs.Taking.{cells_before}
 use Rattle.h3_rows.specs.Cells.{cell_said}
-use Rattle.h3_rows.specs.Row.{next_number, piece_at, read_of, row_body}
+use Rattle.h3_rows.specs.Row.{is_empty_row, next_number, piece_at, read_of, row_body}
 use Rattle.h3_rows.specs.RowForm.{form_of}
 use Rattle.h3_rows.specs.RowsAnswer.{After, Choice, Form, Named, choice_of, chosen_in, columns_first, columns_in, malformed, row_said}
 use Rattle.h3_rows.specs.declared.state.Columns.{Columns}
@@ -50,7 +50,7 @@ abbrev pub entry_list : Option Entry → List Entry
 entry_list None = []
 entry_list (Some entry) = entry ∷ []
 
--- without_name error: the error of a row that has no field for the name, where its cell has this error: of the reasons that
+-- without_name error: the error of a row that has no field for the name, if its cell has this error: of the reasons that
 -- a row is faulty for, the number of fields comes first, then a field that it lacks
 abbrev pub without_name : RowError → RowError
 without_name (row_error.Bad (FieldCount count width)) = row_error.Bad (FieldCount count width)
@@ -86,14 +86,13 @@ both_columns (Ok cell) (Ok name) = Ok record { cell = cell; name = name }
 abbrev pub table_columns : Table → List ℕ → Result TableColumns ColumnError
 table_columns table row = both_columns (columns_in table.form row) (chosen_in table.form table.name row)
 
--- with_names choice columns: the columns where the names are in this field; a header is awaited where the field has a name
+-- with_names choice columns: the columns, if the names are in this field; a header is awaited if the field has a name
 abbrev pub with_names : Choice → Option Columns → Option TableColumns
 with_names (After k) None = None
 with_names (After k) (Some columns) = Some record { cell = columns; name = k }
 with_names (Named name) columns = None
 
--- table_first table: the columns at the beginning of a table; a header is awaited where there is one, and where a field has a
--- name
+-- table_first table: the columns at the beginning of a table; a header is awaited if there is one, and if a field has a name
 abbrev pub table_first : Table → Option TableColumns
 table_first table = with_names table.name (columns_first table.form.has_header table.form.choice)
 
@@ -122,7 +121,7 @@ filled_found table n line (Some columns) = record { cells = entries_at n (named_
 -- found_unless fault table n columns line: what a row has that is malformed for this reason, or is not
 abbrev pub found_unless : Option RowFault → Table → ℕ → Option TableColumns → List ℕ → Found
 found_unless (Some fault) table n columns line = record { cells = Err (ending_by.AtRow n (row_error.Bad fault)); columns = columns }
-found_unless None table n columns line = if length (row_body line) == 0 then record { cells = Ok []; columns = columns } else filled_found table n line columns
+found_unless None table n columns line = if is_empty_row n (row_body line) then record { cells = Ok []; columns = columns } else filled_found table n line columns
 
 -- named_found table n columns p: what the row with this number has
 abbrev pub named_found : Table → ℕ → Option TableColumns → Piece → Found
@@ -145,7 +144,7 @@ abbrev pub unless_named : Choice → Result (List Entry) AnswerError → Result 
 unless_named (After k) entries = entries
 unless_named (Named name) entries = Err (ending_by.Column NotFound)
 
--- named_end table columns: at the end of a list a column that has a name is missed where the header did not come
+-- named_end table columns: at the end of a list a column that has a name is missed if the header did not come
 abbrev pub named_end : Table → Option TableColumns → Result (List Entry) AnswerError
 named_end table (Some columns) = Ok []
 named_end table None = unless_named table.form.choice (unless_named table.name (Ok []))

@@ -40,6 +40,12 @@ pub record IsWholeRow (separator : ℕ) (quotes : Bool) (bytes : List ℕ) : Typ
   pub outside : inside_after quotes false bytes ≡ false
   pub sound : quotes ≡ true → quotes_are_sound separator bytes ≡ true
 
+-- the bytes begin with whole fields, each with the separator after it, and these bytes follow
+pub record BeginsWhole (separator : ℕ) (quotes : Bool) (bytes rest : List ℕ) : Type 0 where
+  pub front : List ℕ
+  pub split : bytes ≡ front ++ rest
+  pub whole : AreWhole separator quotes front
+
 -- the bytes begin with whole fields, after which some of the fields that are before another are still to pass
 pub record PassesFields (separator : ℕ) (quotes : Bool) (before left : ℕ) (bytes rest : List ℕ) : Type 0 where
   pub front : List ℕ

@@ -25,7 +25,7 @@ returns_of (b ∷ bs) = if are_returns (b ∷ bs) then b ∷ bs else returns_of 
 abbrev pub row_ending : List ℕ → List ℕ
 row_ending line = returns_of line ++ 10 ∷ []
 
--- lacking returns line: what is put behind a last row without a line feed, where the row before it ended in `returns`: nothing,
+-- lacking returns line: what is put behind a last row without a line feed, if the row before it ended in `returns`: nothing,
 -- if the row is empty or ends in a carriage return
 abbrev pub lacking : List ℕ → List ℕ → List ℕ
 lacking returns line = if (length line == 0) || not (length (returns_of line) == 0) then [] else returns
@@ -53,6 +53,11 @@ without_order_mark bs = if nat_le 3 (length bs) && (get_or bs 0 0 == 239) && (ge
 -- read_of number row: what is read of the row with this number: the first row of a list without its byte order mark
 abbrev pub read_of : ℕ → List ℕ → List ℕ
 read_of number row = if number == 1 then without_order_mark row else row
+
+-- is_empty_row number row: the row with this number, without its ending, is empty: a first row also if it is a byte order mark
+-- alone
+abbrev pub is_empty_row : ℕ → List ℕ → Bool
+is_empty_row number row = length (read_of number row) == 0
 
 -- piece_at k pieces: the piece after k others, if there is one
 abbrev pub piece_at : ℕ → List Piece → Option (List ℕ)

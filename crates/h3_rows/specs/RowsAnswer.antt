@@ -17,7 +17,7 @@ use Rattle.h3_lines.specs.declared.run_error.RowError.TheVariants as row_error
 use Rattle.h3_lines.specs.declared.run_error.RowFault.{RowFault}
 use Rattle.h3_lines.specs.declared.run_error.RowFault.TheVariants.{CarriageReturn, FieldCount, NoSuchField, NotAnIndex, OpenQuote, StrayQuote, TooLong}
 use Rattle.h3_lines.specs.Pieces.{Piece, cut, is_uncut}
-use Rattle.h3_rows.specs.Row.{field_text, list_rows, next_number, piece_at, quotes_are_sound, read_of, row_body, row_ending}
+use Rattle.h3_rows.specs.Row.{field_text, is_empty_row, list_rows, next_number, piece_at, quotes_are_sound, read_of, row_body, row_ending}
 use Rattle.h3_rows.specs.declared.state.Columns.{Columns}
 use Rattle.h3_rows.specs.declared.state.Kept.{Kept}
 use Rattle.h3_rows.specs.declared.said.Said.{Said}
@@ -54,7 +54,7 @@ abbrev pub name_of : Option (List ℕ) → List ℕ → List ℕ
 name_of None name = name
 name_of (Some given) name = given
 
--- answer_names is_pair given name: the name of the new column; where an answer is a pair, a cell and its distance, there are
+-- answer_names is_pair given name: the name of the new column; if an answer is a pair, a cell and its distance, there are
 -- two: `near` and `distance`, or the name that was given, and the same with `Distance` after it
 abbrev pub answer_names : Bool → Option (List ℕ) → List ℕ → List (List ℕ)
 answer_names true None name = codes "near" ∷ codes "distance" ∷ []
@@ -68,7 +68,7 @@ error_names false given = []
 error_names true None = codes "error" ∷ []
 error_names true (Some given) = (given ++ codes "Error") ∷ []
 
--- empty_answer is_pair separator: an answer without a byte; where an answer is a pair, two of these with the separator
+-- empty_answer is_pair separator: an answer without a byte; if an answer is a pair, two of these with the separator
 -- between them
 abbrev pub empty_answer : Bool → ℕ → List ℕ
 empty_answer true separator = separator ∷ []
@@ -81,7 +81,7 @@ abbrev pub index_said : Option ℕ → Result Said RowFault
 index_said None = Err NotAnIndex
 index_said (Some index) = Ok (Index index)
 
--- text_said text: the cell is missing where the text is blank; else its index is what the text parses as
+-- text_said text: the cell is missing if the text is blank; else its index is what the text parses as
 abbrev pub text_said : List ℕ → Result Said RowFault
 text_said text = if length (trimmed text) == 0 then Ok Missing else index_said (parsed_index text)
 
@@ -111,8 +111,8 @@ abbrev pub row_said : Form → ℕ → Columns → List ℕ → Result Said RowF
 row_said form number columns row = fields_said form.quotes columns (cut form.separator form.quotes false (read_of number row))
 
 -- malformed form number p: why a row is no row of the form, if it is none: it has more than 1,048,575 bytes, or more than
--- 1,114,111 with the carriage returns at its end; where quotes count, it has a carriage return outside quotes; a quote is
--- open at its end; where quotes count, one is stray
+-- 1,114,111 with the carriage returns at its end; if quotes count, it has a carriage return outside quotes; a quote is
+-- open at its end; if quotes count, one is stray
 abbrev pub malformed : Form → ℕ → Piece → Option RowFault
 malformed form number p =
     if nat_lt 1048575 (length (row_body p.0)) || nat_lt 1114111 (length p.0) then Some TooLong else
@@ -122,7 +122,7 @@ malformed form number p =
 
 -- ---- headers
 
--- places_of quotes name k fields: the places of the fields whose text is a name, where the first field is at the place k
+-- places_of quotes name k fields: the places of the fields whose text is a name; the first field is at the place k
 abbrev pub places_of : Bool → List ℕ → ℕ → List Piece → List ℕ
 places_of quotes name k [] = []
 places_of quotes name k (p ∷ ps) =
@@ -147,7 +147,7 @@ chosen_in form (Named name) row = column_of form.separator form.quotes name row
 abbrev pub width_in : Form → List ℕ → Option ℕ
 width_in form row = if form.is_ragged then None else Some (length (cut form.separator form.quotes false row))
 
--- with_width width before: the columns where so many fields are before the cell's
+-- with_width width before: the columns, if so many fields are before the cell's
 abbrev pub with_width : Option ℕ → Result ℕ ColumnError → Result Columns ColumnError
 with_width width (Err e) = Err e
 with_width width (Ok before) = Ok record { before = before; width = width }
@@ -175,8 +175,8 @@ pub record State : Type 0 where
   pub pending : List ℕ
   pub kept : Option Kept
 
--- columns_first has_header choice: the columns at the beginning of a list; a header is awaited where there is one, and where
--- the field has a name
+-- columns_first has_header choice: the columns at the beginning of a list; a header is awaited if there is one, and if the
+-- field has a name
 abbrev pub columns_first : Bool → Choice → Option Columns
 columns_first true choice = None
 columns_first false (After k) = Some record { before = k; width = None }
@@ -246,7 +246,7 @@ goes_on s line text = record { answer = written text; after = passed s line }
 abbrev pub ends : State → RowError → Step
 ends s e = record { answer = record { output = s.pending; ending = Err (ending_by.AtRow s.number e) }; after = s }
 
--- faulty form s line e: a row with an error ends the answer; or, where the run goes on, it has an empty answer, and the
+-- faulty form s line e: a row with an error ends the answer; or, if the run goes on, it has an empty answer, and the
 -- error is kept
 abbrev pub faulty : Form → State → List ℕ → RowError → Step
 faulty form s line e =
@@ -266,7 +266,7 @@ answer_said form answer s line (Ok Missing) = goes_on s line (unanswered form li
 answer_said form answer s line (Ok (Index index)) = beside form s line (answer (Some index)).output (answer (Some index)).ending
 
 -- header_step form s line columns: a header is written as it is, with the names of the new columns, after the empty rows
--- before it; where it has no such column nothing is written
+-- before it; if it has no such column nothing is written
 abbrev pub header_step : Form → State → List ℕ → Result Columns ColumnError → Step
 header_step form s line (Err e) = record { answer = record { output = []; ending = Err (ending_by.Column e) }; after = s }
 header_step form s line (Ok columns) = record {
@@ -274,7 +274,7 @@ header_step form s line (Ok columns) = record {
   after = record { number = next_number s.number line; columns = Some columns; pending = []; kept = s.kept };
 }
 
--- filled_step form answer s line columns: the answer to a row that is not empty: it is the header where one is awaited
+-- filled_step form answer s line columns: the answer to a row that is not empty: it is the header while one is awaited
 abbrev pub filled_step : Form → (Option ℕ → Answer) → State → List ℕ → Option Columns → Step
 filled_step form answer s line None = let row = read_of s.number (row_body line) in header_step form s line (free_columns form row (columns_in form row))
 filled_step form answer s line (Some columns) = answer_said form answer s line (row_said form s.number columns (row_body line))
@@ -290,7 +290,7 @@ empty_step s line (Some columns) = goes_on s line (line ++ 10 ∷ [])
 
 -- sound_step form answer s line: the answer to a row that is not malformed
 abbrev pub sound_step : Form → (Option ℕ → Answer) → State → List ℕ → Step
-sound_step form answer s line = if length (row_body line) == 0 then empty_step s line s.columns else filled_step form answer s line s.columns
+sound_step form answer s line = if is_empty_row s.number (row_body line) then empty_step s line s.columns else filled_step form answer s line s.columns
 
 -- step_unless fault form answer s line: the answer to a row that is malformed for this reason, or is not
 abbrev pub step_unless : Option RowFault → Form → (Option ℕ → Answer) → State → List ℕ → Step
@@ -315,7 +315,7 @@ abbrev pub kept_ending : Option Kept → Result (Unit {0}) AnswerError
 kept_ending None = Ok tt
 kept_ending (Some k) = Err (ending_by.AtRowAndMore k.number k.error k.more)
 
--- end_of choice s columns: the answer at the end of a list: the kept errors; where the header did not come, the empty rows
+-- end_of choice s columns: the answer at the end of a list: the kept errors; if the header did not come, the empty rows
 -- alone, or, for a column that has a name, its error
 abbrev pub end_of : Choice → State → Option Columns → Answer
 end_of choice s (Some columns) = record { output = []; ending = kept_ending s.kept }

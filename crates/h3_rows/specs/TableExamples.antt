@@ -172,6 +172,10 @@ marked : names plain_zones (239 ∷ 187 ∷ 191 ∷ codes "a," ++ p) ≡ codes "
 unfolding parsed_index cell_in address_in number_of
 marked = refl
 
+-- a first row that is a byte order mark alone is passed over
+marked_alone : title zones (239 ∷ 187 ∷ 191 ∷ 10 ∷ codes "zone,cell" ++ 10 ∷ []) ≡ Some (codes "zone")
+marked_alone = refl
+
 -- a name that stands in rows without a cell alone is no area
 no_area : names plain_zones (codes "a," ++ 10 ∷ codes "b," ++ p) ≡ codes "b" ∷ []
 unfolding parsed_index cell_in address_in number_of

@@ -13,6 +13,7 @@ ghost use Rattle.h3_rows.specs.Row.{row_body};
 ghost use Rattle.h3_rows.specs.RowForm.{columns_form};
 ghost use Rattle.h3_rows.specs.RowsAnswer.{State, answer_said, error_field, faulty, row_said, row_step};
 
+use crate::fields::read_of;
 use crate::function::{RowFunction, Workspace};
 use crate::job::RowJob;
 use crate::lanes::is_one_line;
@@ -182,13 +183,23 @@ pub(crate) fn put_answer<'f, W: Sink, F: RowFunction>(
     if let Some(fault) = malformed(job.options, job.name, state.number, row, inside) {
         return Err(refuse_row(out, &block[..end], state.number, RowError::Bad(fault)));
     }
-    if row.body.is_empty() {
+    if read_of(state.number, row.body).is_empty() {
         return put_empty(out, block, end, state, row);
     }
     match state.columns {
         None => put_header(out, block, end, job, state, row),
         Some(columns) => put_cell(out, block, end, job, work, state, columns, row),
     }
+}
+
+/// The index of a field that has a plain text between its quotes.
+// A call: inlined, it would make `put_plain` too long to be inlined itself.
+#[inline(never)]
+fn read_quoted_field(quotes: bool, field: &[u8]) -> Option<u64>
+    ensures { IfSome result (λ index. IsPlainField quotes field.now index) }
+{
+    let index = read_plain(text_between(quotes, field))?;
+    Some(index)
 }
 
 /// The index of a field that is a plain text, or has one between its quotes.
@@ -199,8 +210,7 @@ fn read_plain_field(quotes: bool, field: &[u8]) -> Option<u64>
     if let Some(index) = read_plain(field) {
         return Some(index);
     }
-    let index = read_plain(text_between(quotes, field))?;
-    Some(index)
+    read_quoted_field(quotes, field)
 }
 
 /// Puts the row that bytes begin with and the answer to its cell, if it is plain and has room, and

@@ -82,7 +82,7 @@ impl NamedJob for AreaTable {
 /// order of these rows; each cell with the number of its name; and the name in the header of the column
 /// of names.
 ///
-/// Two names are the same if the texts of their fields are: without the blanks at both ends, and, where
+/// Two names are the same if the texts of their fields are: without the blanks at both ends, and, if
 /// quotes count, without a pair of quotes around it. A name is kept without these blanks, with its quotes.
 ///
 /// # Errors
@@ -99,6 +99,7 @@ pub fn read_areas<R: Source>(
         ≡ area_names table.now.rows.quotes entries)
         × (areas.cells.items ≡ area_cells table.now.rows.quotes entries)
         × (option_map (λ t. t.items) areas.title ≡ title_of entries)) }
+    ensures quotes { IfOk result (λ areas. areas.names.quotes ≡ table.now.rows.quotes) }
     ensures sound { IfOk result (λ areas. R.has_failed input.new ≡ R.has_failed input.old) }
     ensures refused { IfErr result (λ e. RefusesNamed (table_of table.now)
         (R.left input.old) (R.left input.new) (R.has_failed input.old) (R.has_failed input.new) e) }

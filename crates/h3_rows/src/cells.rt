@@ -68,11 +68,12 @@ fn find_cell(
     if let Some(fault) = malformed(options, b"", state.number, row, inside) {
         return Err(AnswerError::AtRow(state.number, RowError::Bad(fault)));
     }
-    if row.body.is_empty() {
+    let read = read_of(state.number, row.body);
+    if read.is_empty() {
         return Ok((None, state.passed(row)));
     }
     match state.columns {
-        None => match columns_in(options, read_of(state.number, row.body)) {
+        None => match columns_in(options, read) {
             Ok(columns) => Ok((None, state.headed(row, columns))),
             Err(error) => Err(AnswerError::Column(error)),
         },
@@ -205,7 +206,7 @@ fn take_pages<V: CellJob + Drop, R: Source>(
 ///
 /// - `AnswerError::Column` if a column that the options name is not one field of the header.
 /// - `AnswerError::AtRow` with the number of the first row that is malformed or faulty, or whose index
-///   no cell has.
+///   is not a valid cell.
 /// - `Fault::Read` if a read fails, or the end is not found in 2^40 reads.
 /// - `Fault::Memory` if there is no memory for the page, or the job has none for a cell.
 pub fn take_row_cells<V: CellJob + Drop, R: Source>(

@@ -118,20 +118,18 @@ fn find_named<'r>(
     if let Some(fault) = malformed(&table.rows, b"", number, row, inside) {
         return Err(AnswerError::AtRow(number, RowError::Bad(fault)));
     }
-    if row.body.is_empty() {
+    let read = read_of(number, row.body);
+    if read.is_empty() {
         return Ok((None, state.after(row, state.columns)));
     }
     match state.columns {
-        None => {
-            let read = read_of(number, row.body);
-            match find_columns(table, read) {
-                Ok(columns) => {
-                    let title = find_title(table, columns.name, read);
-                    Ok((title, state.after(row, Some(columns))))
-                }
-                Err(error) => Err(AnswerError::Column(error)),
+        None => match find_columns(table, read) {
+            Ok(columns) => {
+                let title = find_title(table, columns.name, read);
+                Ok((title, state.after(row, Some(columns))))
             }
-        }
+            Err(error) => Err(AnswerError::Column(error)),
+        },
         Some(columns) => match read_named(table, number, columns, row.body) {
             Ok(entry) => Ok((entry, state.after(row, state.columns))),
             Err(error) => Err(AnswerError::AtRow(number, error)),
@@ -308,7 +306,7 @@ fn take_named_pages<V: NamedJob + Drop, R: Source>(
 /// - `AnswerError::Column` if a column that the options name is not one field of the header; the
 ///   cell's is looked for first.
 /// - `AnswerError::AtRow` with the number of the first row that is malformed or faulty, or whose index
-///   no cell has, or that has a cell and no field for the name.
+///   is not a valid cell, or that has a cell and no field for the name.
 /// - `Fault::Read` if a read fails, or the end is not found in 2^40 reads.
 /// - `Fault::Memory` if there is no memory for the page, or the job has none for a cell.
 pub fn take_named_cells<V: NamedJob + Drop, R: Source>(

@@ -4,7 +4,7 @@
 ghost use Rattle.std.specs.Prelude.{◌≡◌, ◌==◌, ◌+◌, ◌++◌, ◌∷◌, ◌<◌, ◌≤◌, false, drop, get_or, not, true, length, replicate, take, IfSome};
 ghost use Rattle.std.specs.Char.{is_digit};
 ghost use Rattle.std.specs.List.{list_all};
-ghost use Rattle.h3_rows.specs.Plain.{EndsPlain, IsPlainRow, IsWhole, PassesFields, is_byte4, quote_or_feed};
+ghost use Rattle.h3_rows.specs.Plain.{EndsPlain, IsPlainRow, IsWhole, IsWholeRow, PassesFields, is_byte4, quote_or_feed};
 ghost use Rattle.h3_rows.specs.Row.{field_text};
 
 use crate::lanes::find_stop;
@@ -33,7 +33,7 @@ fn find_end(mark: u8, quotes: bool, bytes: &[u8]) -> Option<usize>
 }
 
 /// Where the field ends that bytes begin with, if it is between two quotes that count, on one line.
-/// `None` may be answered to any other, and where a stop is near to the end of the bytes.
+/// `None` may be answered to any other, and if a stop is near to the end of the bytes.
 // A call, so that fields without quotes find all they need in registers.
 #[inline(never)]
 fn find_quoted_end(separator: u8, quotes: bool, bytes: &[u8]) -> Option<usize>
@@ -53,7 +53,7 @@ fn find_quoted_end(separator: u8, quotes: bool, bytes: &[u8]) -> Option<usize>
 
 /// Where the field ends that bytes begin with, if the separator or a line end is there, and if it is
 /// whole: without quotes, or between two quotes that count, on one line. `None` may be answered to any
-/// other, and where a stop is near to the end of the bytes.
+/// other, and if a stop is near to the end of the bytes.
 #[inline(always)]
 fn find_field_end(separator: u8, quotes: bool, bytes: &[u8]) -> Option<usize>
     requires quote { (34 == separator) ≡ false }
@@ -94,6 +94,44 @@ fn pass_fields(separator: u8, quotes: bool, before: usize, bytes: &[u8]) -> Opti
     }
 }
 
+/// Where the whole fields that bytes begin with end, up to a line end. `None` may be answered if a stop
+/// is near to the end of the bytes.
+// A call, so that rows without quotes find all they need in registers.
+#[inline(never)]
+fn pass_row(separator: u8, quotes: bool, bytes: &[u8]) -> Option<usize>
+    requires quote { (34 == separator) ≡ false }
+    requires feed { (10 == separator) ≡ false }
+    requires carriage { (13 == separator) ≡ false }
+    ensures within { IfSome result (λ end. end < length bytes.now) }
+    ensures whole { IfSome result (λ end. IsWholeRow separator quotes (take end bytes.now)) }
+{
+    let mut rest = bytes;
+    loop {
+        let end = find_field_end(separator, quotes, rest)?;
+        if rest[end] != separator {
+            return Some(bytes.len() - rest.len() + end);
+        }
+        rest = &rest[end + 1..];
+    }
+}
+
+/// Where the row of whole fields ends that bytes begin with. `None` may be answered to any other bytes,
+/// and if a stop is near to their end.
+#[inline(always)]
+fn find_row_end(separator: u8, quotes: bool, bytes: &[u8]) -> Option<usize>
+    requires quote { (34 == separator) ≡ false }
+    requires feed { (10 == separator) ≡ false }
+    requires carriage { (13 == separator) ≡ false }
+    ensures within { IfSome result (λ end. end < length bytes.now) }
+    ensures whole { IfSome result (λ end. IsWholeRow separator quotes (take end bytes.now)) }
+{
+    let end = find_end(b'\n', quotes, bytes)?;
+    if bytes[end] == b'"' {
+        return pass_row(separator, quotes, bytes);
+    }
+    Some(end)
+}
+
 /// Where a plain row without its ending ends, if it has as many fields as it should. These bytes
 /// begin with its cell's field, which ends at the place `end`.
 #[inline(always)]
@@ -115,7 +153,7 @@ fn find_last(
         if rest[end] != separator {
             return Some(end);
         }
-        let more = find_end(b'\n', quotes, &rest[end + 1..])?;
+        let more = find_row_end(separator, quotes, &rest[end + 1..])?;
         return Some(end + 1 + more);
     };
     let more = width.checked_sub(columns.before)?.checked_sub(1)?;
@@ -160,7 +198,7 @@ pub(crate) fn text_between(quotes: bool, field: &[u8]) -> &[u8]
 
 /// The row that bytes begin with, and its cell's field, if the row ends in them with at most one
 /// carriage return, has as many fields as it should, and all of them whole. `None` may be answered to
-/// any other bytes, and where a stop is near to their end.
+/// any other bytes, and if a stop is near to their end.
 #[inline(always)]
 pub(crate) fn find_plain(
     separator: u8,

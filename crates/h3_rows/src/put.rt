@@ -7,7 +7,7 @@ ghost use Rattle.h3_lines.specs.declared.line.TheConstants.{BLOCK};
 ghost use Rattle.h3_lines.specs.Answering.{Breaks, Moves};
 ghost use Rattle.h3_rows.specs.Answering.{StepEnds, StepsTo, form_of_job, held_of, listed, state_of};
 ghost use Rattle.h3_rows.specs.Line.{line_of};
-ghost use Rattle.h3_rows.specs.Row.{read_of, row_body, row_ending};
+ghost use Rattle.h3_rows.specs.Row.{read_of, row_body};
 ghost use Rattle.h3_rows.specs.RowForm.{columns_form};
 ghost use Rattle.h3_rows.specs.RowsAnswer.{columns_in, empty_answer, empty_step, error_field, free_columns, header_step, header_with, unanswered};
 
@@ -47,6 +47,35 @@ pub(crate) fn hold_ending(block: &mut [u8; BLOCK], at: usize, returns: usize) ->
     end + 1
 }
 
+/// Puts a row as it is into a block from the byte `at` on, and returns where it ends.
+fn hold_line(block: &mut [u8; BLOCK], at: usize, row: Row<'_>) -> usize
+    requires { at + length row.body.now + row.returns + 1 ≤ BLOCK }
+    ensures end { result ≡ at + length row.entry.body.now + row.entry.returns + 1 }
+    ensures held { take result block.new ≡ take at block.old ++ (line_of row.entry ++ 10 ∷ []) }
+{
+    let end = at + row.body.len();
+    block[at..end].copy_from_slice(row.body);
+    hold_ending(block, end, row.returns)
+}
+
+/// Puts a row as it is.
+fn put_line<W: Sink>(
+    out: &mut W,
+    block: &mut [u8; BLOCK],
+    end: usize,
+    row: Row<'_>,
+) -> Result<usize, RunError>
+    requires { end ≤ BLOCK }
+    ensures within { IfOk result (λ last. last ≤ BLOCK) }
+    ensures ok { IfOk result (λ last. Moves W.taken W.has_failed
+        (take end block.old ++ (line_of row.entry ++ 10 ∷ [])) (take last block.new) out.old out.new) }
+    ensures err { IfErr result (λ e. Breaks (take end block.old ++ (line_of row.entry ++ 10 ∷ []))
+        (sink_use W.taken W.has_failed out.old out.new) e) }
+{
+    let after_row = put_bytes(out, block, end, row.body)?;
+    put_ending(out, block, after_row, row)
+}
+
 /// Writes what is held back, and an empty row.
 fn write_empty<W: Sink>(
     out: &mut W,
@@ -56,17 +85,17 @@ fn write_empty<W: Sink>(
 ) -> Result<(), RunError>
     requires within { end ≤ BLOCK }
     ensures ok { OnOk result (Moves W.taken W.has_failed
-        (take end block.old ++ row_ending (line_of row.entry)) [] out.old out.new) }
-    ensures err { IfErr result (λ e. Breaks (take end block.old ++ row_ending (line_of row.entry))
+        (take end block.old ++ (line_of row.entry ++ 10 ∷ [])) [] out.old out.new) }
+    ensures err { IfErr result (λ e. Breaks (take end block.old ++ (line_of row.entry ++ 10 ∷ []))
         (sink_use W.taken W.has_failed out.old out.new) e) }
 {
-    let last = put_ending(out, block, end, row)?;
+    let last = put_line(out, block, end, row)?;
     write_all(out, &block[..last])?;
     Ok(())
 }
 
-/// Puts an empty row, or holds it back where a header is awaited. Returns where the bytes in the
-/// block end, and the state after the row.
+/// Puts an empty row, or holds it back while a header is awaited. Returns where the bytes in the block
+/// end, and the state after the row.
 pub(crate) fn put_empty<W: Sink>(
     out: &mut W,
     block: &mut [u8; BLOCK],
@@ -75,7 +104,6 @@ pub(crate) fn put_empty<W: Sink>(
     row: Row<'_>,
 ) -> Result<(usize, RowState), RunError>
     requires within { end ≤ BLOCK }
-    requires empty { length row.body.now ≡ 0 }
     requires few { state.number + length row.body.now < 2 ^ 63 }
     ensures within { IfOk result (λ r. r.0 ≤ BLOCK) }
     ensures few { IfOk result (λ r. r.1.number ≤ state.number + length row.entry.body.now + 1) }
@@ -89,14 +117,15 @@ pub(crate) fn put_empty<W: Sink>(
         (sink_use W.taken W.has_failed out.old out.new)) }
 {
     if let None = state.columns {
-        if end + row.returns < BLOCK {
-            let last = hold_ending(block, end, row.returns);
+        let size = row.body.len() + row.returns;
+        if size < BLOCK - end {
+            let last = hold_line(block, end, row);
             return Ok((last, state.passed(row)));
         }
         write_empty(out, block, end, row)?;
         return Ok((0, state.passed(row)));
     }
-    let last = put_ending(out, block, end, row)?;
+    let last = put_line(out, block, end, row)?;
     Ok((last, state.passed(row)))
 }
 

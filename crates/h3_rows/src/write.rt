@@ -12,7 +12,7 @@ use h3_lines::{BLOCK, RunError, split, write_all};
 use h3_streams::Sink;
 
 /// Puts bytes after those that are held back in a block up to `end`, and returns where they end now.
-/// Where they do not fit, what is held back is written first, and what is longer than a block is
+/// If they do not fit, what is held back is written first, and what is longer than a block is
 /// written through.
 pub(crate) fn put_bytes<W: Sink>(
     out: &mut W,

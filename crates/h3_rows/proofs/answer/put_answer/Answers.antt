@@ -1,10 +1,10 @@
-use Rattle.std.proofs.Common.{◌≡◌, ◌==◌, ◌∙◌, None, Some, false, length, refl, subst, sym, take, true}
+use Rattle.std.proofs.Common.{◌≡◌, ◌∙◌, None, Some, ap, false, refl, subst, sym, take, true}
 use Rattle.std.proofs.lemmas.Result.{IfErr-weaker, IfOk-weaker}
 use Rattle.h3_lines.specs.Write.{sink_use}
 use Rattle.h3_lines.specs.declared.run_error.RowError.TheVariants.{Bad}
 use Rattle.h3_rows.specs.Answering.{StepEnds, StepsTo, form_of_job, held_of, state_of}
 use Rattle.h3_rows.specs.Line.{line_of}
-use Rattle.h3_rows.specs.Row.{read_of, row_body}
+use Rattle.h3_rows.specs.Row.{is_empty_row, read_of, row_body}
 use Rattle.h3_rows.specs.RowsAnswer.{answer_said, columns_in, empty_step, ends, free_columns, header_step, malformed, row_said, row_step}
 use Rattle.h3_rows.proofs.Returns.{body_of_row}
 use Rattle.h3_rows.proofs.Steps.{refused_ends}
@@ -30,7 +30,8 @@ returns-then-is_empty-clause-ok g c =
     let answer = g.F.RowFunction.answer_of c.args.job.now.function.now in
     let body = body_of_row r.body.now r.returns r.bare in
     let sound : malformed form s.number (line_of r, c.args.inside) ≡ None = sym c.malformed.ensures ∙ c.in_default.is in
-    let empty : (length (row_body (line_of r)) == 0) ≡ true = rw body (sym c.is_empty.ensures ∙ c.if-is_empty.true) in
+    let read : read_of s.number (row_body (line_of r)) ≡ c.read_of.result.now = ap (read_of s.number) body ∙ sym c.read_of.ensures in
+    let empty : is_empty_row s.number (row_body (line_of r)) ≡ true = rw read (sym c.is_empty.ensures ∙ c.if-is_empty.true) in
     let empty_row = empty_step (state_of s held) (line_of r) s.columns in
     let is : row_step form answer (state_of s held) (line_of r, c.args.inside) ≡ empty_row = rw (sound, empty) refl in
     IfOk-weaker c.put_empty.result _ _ (λ q h. subst (λ x. StepsTo g.W.Sink.taken g.W.Sink.has_failed x (state_of q.1 (take q.0 c.put_empty.new.block)) (held_of s.columns held) (held_of q.1.columns (take q.0 c.put_empty.new.block)) c.args.out.now c.put_empty.new.out) (sym is) h) c.put_empty.ensures.ok
@@ -44,7 +45,8 @@ returns-in-None-clause-ok g c =
     let answer = g.F.RowFunction.answer_of c.args.job.now.function.now in
     let body = body_of_row r.body.now r.returns r.bare in
     let sound : malformed form s.number (line_of r, c.args.inside) ≡ None = sym c.malformed.ensures ∙ c.in_default.is in
-    let filled : (length (row_body (line_of r)) == 0) ≡ false = rw body (sym c.is_empty.ensures ∙ c.if-is_empty.false) in
+    let read : read_of s.number (row_body (line_of r)) ≡ c.read_of.result.now = ap (read_of s.number) body ∙ sym c.read_of.ensures in
+    let filled : is_empty_row s.number (row_body (line_of r)) ≡ false = rw read (sym c.is_empty.ensures ∙ c.if-is_empty.false) in
     let header = header_step form (state_of s held) (line_of r) (free_columns form (read_of s.number (row_body (line_of r))) (columns_in form (read_of s.number (row_body (line_of r))))) in
     let is : row_step form answer (state_of s held) (line_of r, c.args.inside) ≡ header = rw (sound, filled, c.in-None.is) refl in
     IfOk-weaker c.put_header.result _ _ (λ q h. subst (λ x. StepsTo g.W.Sink.taken g.W.Sink.has_failed x (state_of q.1 (take q.0 c.put_header.new.block)) (held_of s.columns held) (held_of q.1.columns (take q.0 c.put_header.new.block)) c.args.out.now c.put_header.new.out) (sym is) h) c.put_header.ensures.ok
@@ -58,7 +60,8 @@ returns-in-Some-columns-clause-ok g c =
     let answer = g.F.RowFunction.answer_of c.args.job.now.function.now in
     let body = body_of_row r.body.now r.returns r.bare in
     let sound : malformed form s.number (line_of r, c.args.inside) ≡ None = sym c.malformed.ensures ∙ c.in_default.is in
-    let filled : (length (row_body (line_of r)) == 0) ≡ false = rw body (sym c.is_empty.ensures ∙ c.if-is_empty.false) in
+    let read : read_of s.number (row_body (line_of r)) ≡ c.read_of.result.now = ap (read_of s.number) body ∙ sym c.read_of.ensures in
+    let filled : is_empty_row s.number (row_body (line_of r)) ≡ false = rw read (sym c.is_empty.ensures ∙ c.if-is_empty.false) in
     let cell = answer_said form answer (state_of s held) (line_of r) (row_said form s.number c.in-Some-columns.columns (row_body (line_of r))) in
     let is : row_step form answer (state_of s held) (line_of r, c.args.inside) ≡ cell = rw (sound, filled, c.in-Some-columns.is) refl in
     IfOk-weaker c.put_cell.result _ _ (λ q h. subst (λ x. StepsTo g.W.Sink.taken g.W.Sink.has_failed x (state_of q.1 (take q.0 c.put_cell.new.block)) (held_of s.columns held) (held_of q.1.columns (take q.0 c.put_cell.new.block)) c.args.out.now c.put_cell.new.out) (sym is) h) c.put_cell.ensures.ok
@@ -72,7 +75,8 @@ returns-then-is_empty-clause-err g c =
     let answer = g.F.RowFunction.answer_of c.args.job.now.function.now in
     let body = body_of_row r.body.now r.returns r.bare in
     let sound : malformed form s.number (line_of r, c.args.inside) ≡ None = sym c.malformed.ensures ∙ c.in_default.is in
-    let empty : (length (row_body (line_of r)) == 0) ≡ true = rw body (sym c.is_empty.ensures ∙ c.if-is_empty.true) in
+    let read : read_of s.number (row_body (line_of r)) ≡ c.read_of.result.now = ap (read_of s.number) body ∙ sym c.read_of.ensures in
+    let empty : is_empty_row s.number (row_body (line_of r)) ≡ true = rw read (sym c.is_empty.ensures ∙ c.if-is_empty.true) in
     let empty_row = empty_step (state_of s held) (line_of r) s.columns in
     let is : row_step form answer (state_of s held) (line_of r, c.args.inside) ≡ empty_row = rw (sound, empty) refl in
     IfErr-weaker c.put_empty.result _ _ (λ e h. subst (λ x. StepEnds x (held_of s.columns held) e (sink_use g.W.Sink.taken g.W.Sink.has_failed c.args.out.now c.put_empty.new.out)) (sym is) h) c.put_empty.ensures.err
@@ -86,7 +90,8 @@ returns-in-None-clause-err g c =
     let answer = g.F.RowFunction.answer_of c.args.job.now.function.now in
     let body = body_of_row r.body.now r.returns r.bare in
     let sound : malformed form s.number (line_of r, c.args.inside) ≡ None = sym c.malformed.ensures ∙ c.in_default.is in
-    let filled : (length (row_body (line_of r)) == 0) ≡ false = rw body (sym c.is_empty.ensures ∙ c.if-is_empty.false) in
+    let read : read_of s.number (row_body (line_of r)) ≡ c.read_of.result.now = ap (read_of s.number) body ∙ sym c.read_of.ensures in
+    let filled : is_empty_row s.number (row_body (line_of r)) ≡ false = rw read (sym c.is_empty.ensures ∙ c.if-is_empty.false) in
     let header = header_step form (state_of s held) (line_of r) (free_columns form (read_of s.number (row_body (line_of r))) (columns_in form (read_of s.number (row_body (line_of r))))) in
     let is : row_step form answer (state_of s held) (line_of r, c.args.inside) ≡ header = rw (sound, filled, c.in-None.is) refl in
     IfErr-weaker c.put_header.result _ _ (λ e h. subst (λ x. StepEnds x (held_of s.columns held) e (sink_use g.W.Sink.taken g.W.Sink.has_failed c.args.out.now c.put_header.new.out)) (sym is) h) c.put_header.ensures.err
@@ -100,7 +105,8 @@ returns-in-Some-columns-clause-err g c =
     let answer = g.F.RowFunction.answer_of c.args.job.now.function.now in
     let body = body_of_row r.body.now r.returns r.bare in
     let sound : malformed form s.number (line_of r, c.args.inside) ≡ None = sym c.malformed.ensures ∙ c.in_default.is in
-    let filled : (length (row_body (line_of r)) == 0) ≡ false = rw body (sym c.is_empty.ensures ∙ c.if-is_empty.false) in
+    let read : read_of s.number (row_body (line_of r)) ≡ c.read_of.result.now = ap (read_of s.number) body ∙ sym c.read_of.ensures in
+    let filled : is_empty_row s.number (row_body (line_of r)) ≡ false = rw read (sym c.is_empty.ensures ∙ c.if-is_empty.false) in
     let cell = answer_said form answer (state_of s held) (line_of r) (row_said form s.number c.in-Some-columns.columns (row_body (line_of r))) in
     let is : row_step form answer (state_of s held) (line_of r, c.args.inside) ≡ cell = rw (sound, filled, c.in-Some-columns.is) refl in
     IfErr-weaker c.put_cell.result _ _ (λ e h. subst (λ x. StepEnds x (held_of s.columns held) e (sink_use g.W.Sink.taken g.W.Sink.has_failed c.args.out.now c.put_cell.new.out)) (sym is) h) c.put_cell.ensures.err

@@ -7,10 +7,3 @@ returns-in-Some c = record {
   text_is = digits_text c.args.quotes c.args.field.now c.in-Some.ensures.digits;
   parses = c.in-Some.ensures.parsed;
 }
-
-pub returns : goal.returns
-returns c = record {
-  text = c.text_between.result.now;
-  text_is = c.text_between.ensures c.in_ok-index.ensures.digits;
-  parses = c.in_ok-index.ensures.parsed;
-}

@@ -19,3 +19,6 @@ returns-clause-areas g c =
       p.2.2 ∙ ap (λ l. l ++ numbered c.new.result.quotes names (cells_among p.0)) c.new-2.ensures.items ∙ ap (λ q. numbered q names (cells_among p.0)) c.new.ensures.quotes ∙ ap (λ l. numbered quotes l (cells_among p.0)) c.new.ensures.names ∙ numbers_are_areas quotes [] (cells_among p.0),
       p.2.3,
     )) c.take_named_cells.result c.take_named_cells.ensures.taken
+
+pub returns-clause-quotes : goal.returns-clause-quotes
+returns-clause-quotes g c = if_ok _ _ (λ areas p. p.2.0 ∙ c.new.ensures.quotes) c.take_named_cells.result c.take_named_cells.ensures.taken

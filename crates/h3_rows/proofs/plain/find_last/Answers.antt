@@ -16,7 +16,7 @@ returns-in_default c =
     let r = c.requires in
     ends_anywhere a.separator a.quotes r.quote r.feed r.carriage a.columns a.rest.now a.end c.in_ok-more.more
     (λ n. rw c.in_default.is refl) r.within c.if-rest-end.false (rw take_rest at c.in_ok-more.ensures.within) r.whole
-    (rw take_rest at c.in_ok-more.ensures.passed)
+    (rw take_rest at c.in_ok-more.ensures.whole)
 
 pub returns-then-more-eq0 : goal.returns-then-more-eq0
 returns-then-more-eq0 c =
