@@ -8,6 +8,7 @@ ghost use Rattle.h3_tree.specs.PostOrder.{post_order_key};
 ghost use Rattle.h3_regions.specs.Apart.{AreOuter};
 ghost use Rattle.h3_regions.specs.Areas.{AreAlike, AreApart, areas_of, AreChosen, LiesIn};
 ghost use Rattle.h3_regions.specs.Refusals.{areas_refusal};
+ghost use Rattle.h3_regions.specs.Zones.{IsZones};
 
 use crate::order::{have_cells, is_below, put_pairs_in_order};
 use crate::zones::Zones;
@@ -151,6 +152,7 @@ impl<'a> ApartAreas<'a> {
         ensures chosen { IfOk result (λ areas. AreChosen areas pairs.old) }
         ensures numbers { (k : ℕ) → All (λ p. p.1 < k) pairs.old
             → IfOk result (λ areas. All (λ p. p.1 < k) areas) }
+        ensures fewer { IfOk result (λ areas. length areas ≤ length pairs.old) }
     {
         match order_areas(pairs) {
             Ok(place) => {
@@ -165,6 +167,22 @@ impl<'a> ApartAreas<'a> {
             }
             Err(error) => Err(RefusedAreas { error, pairs }),
         }
+    }
+
+    /// Returns the pairs by which areas are looked up, in post order: those whose cells are below no
+    /// other cell of the same area.
+    pub fn pairs(&self) -> &'a [(Cell, u32)]
+        ensures { result.now ≡ self.now }
+    {
+        self.pairs
+    }
+
+    /// Returns the cells of these pairs, which are zones.
+    pub fn cells(&self) -> &'a [Cell]
+        ensures is { result.now ≡ map (λ p. p.0) self.now }
+        ensures zones { IsZones result.now }
+    {
+        self.cells
     }
 
     /// Returns the number of the area that the cell lies in, as `area_of` does. The search starts at a

@@ -72,6 +72,10 @@ pub fn counts_add_up()
 /// not depend on the order in which the cells of the areas are given, and has one area at most if no
 /// two overlap. Then the counts of all areas and the number of cells in none add up to the number of
 /// cells; and what is counted of the parts of a list, to what is counted of the whole.
+///
+/// The tests `lies_in` and `has_clash` say what they are meant to. Two lists of pairs by which each cell
+/// lies in the same areas have the same counts, and, if no two areas overlap, the same list for each
+/// cell.
 pub fn areas_are_lawful()
     ensures listed { AreasAreListed }
     ensures tested { AreasAreTested }

@@ -3,7 +3,7 @@
 #![tactic(auto)]
 
 use h3_command::run;
-use h3_requests::{Command, RowOptions};
+use h3_requests::{Command, Tables};
 use h3_streams::{Sink, Source};
 use std::alloc::Global;
 
@@ -19,16 +19,16 @@ pub fn run_command<R: Source, T: Source, W: Sink, E: Sink>(
     run::run(alloc, command, input, table, out, err)
 }
 
-/// Runs a command over a list that may have rows, as `run_over` of `h3_command` does, and returns the
-/// exit status.
+/// Runs a command over a list and a file of cells that may have rows, as `run_over` of `h3_command` does,
+/// and returns the exit status.
 pub fn run_over_rows<R: Source, T: Source, W: Sink, E: Sink>(
     alloc: Global,
     command: &Command,
-    rows: &Option<RowOptions>,
+    tables: &Tables,
     input: &mut R,
     table: &mut T,
     out: &mut W,
     err: &mut E,
 ) -> u8 {
-    run::run_over(alloc, command, rows, input, table, out, err)
+    run::run_over(alloc, command, tables, input, table, out, err)
 }
