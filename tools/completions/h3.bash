@@ -19,8 +19,12 @@ _h3_options() {
 }
 _h3_rows() {
     case $1 in
-        compactCells | uncompactCells | uncompactCellsSize | uniteCells | intersectCells | subtractCells | countCellsInZones) echo --field --column --header --separator --csv --ragged ;;
-        areCoveredCells | cellsToZones | areValidCells | areValidDirectedEdges | getResolutions | getBaseCellNumbers | arePentagons | areResClassIII | cellsToParents | cellsToCenterChildren | cellsToLastChildren | cellsToChildren | cellsToChildrenSizes | cellsToChildPositions | gridDisksUnsafe | gridDisksDistancesUnsafe | gridRingsUnsafe | getDirectedEdgeOrigins | getDirectedEdgeDestinations | originsToDirectedEdges) echo --field --column --header --separator --csv --as --keep-going --errors --ragged ;;
+        compactCells | uncompactCells | uncompactCellsSize | uniteCells) echo --field --column --header --separator --csv --ragged ;;
+        intersectCells | subtractCells) echo --region-column --region-field --field --column --header --separator --csv --ragged ;;
+        areCoveredCells) echo --region-column --region-field --field --column --header --separator --csv --as --keep-going --errors --ragged ;;
+        cellsToZones) echo --zone-column --zone-field --field --column --header --separator --csv --as --keep-going --errors --ragged ;;
+        countCellsInZones) echo --zone-column --zone-field --field --column --header --separator --csv --ragged ;;
+        areValidCells | areValidDirectedEdges | getResolutions | getBaseCellNumbers | arePentagons | areResClassIII | cellsToParents | cellsToCenterChildren | cellsToLastChildren | cellsToChildren | cellsToChildrenSizes | cellsToChildPositions | gridDisksUnsafe | gridDisksDistancesUnsafe | gridRingsUnsafe | getDirectedEdgeOrigins | getDirectedEdgeDestinations | originsToDirectedEdges) echo --field --column --header --separator --csv --as --keep-going --errors --ragged ;;
     esac
 }
 # end of what is made (tools/pages)

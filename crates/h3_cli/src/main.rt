@@ -81,7 +81,7 @@ fn awaited_list<'a>(command: &Command) -> Option<&'a str> {
 /// reads no list.
 fn notice<'a>(asked: &Words) -> Option<&'a str> {
     let list = awaited_list(&asked.command)?;
-    match &asked.rows {
+    match &asked.tables.list {
         Some(_) => Some("h3: reading rows from standard input\n"),
         None => Some(list),
     }

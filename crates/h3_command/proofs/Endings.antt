@@ -324,30 +324,33 @@ with_memory memory takes (inl a) = inl a
 with_memory memory takes (inr b) = inr (takes, b)
 
 -- a file that is refused, or not read to its end
-gives_refused : (f : CellFile) (about : List Address → Answer) (bytes : List ℕ) (ending : Result (Unit {0}) RunError) (status : ℕ) (s : Streams) → RefusesFile f bytes s.table ending → IsLeft s.out → (ReadFails s.table bytes → ⊥) → Reports ending status s.err
-    → Gives (unless_refused about (file_cells f bytes)) status s ⊎ RunsOutOfMemory status s
-gives_refused f about bytes (Ok u) status s never left r reports = absurd never
-gives_refused f about bytes (Err (Error e)) status s (is, sound, told) left r reports = inl (subst (λ c. Gives (unless_refused about c) status s) (sym is) (record { output = (nothing _ _ left.0, left.1); report = reports }))
-gives_refused f about bytes (Err (Fault Memory)) status s told left r reports = inr (record { output = left; report = reports })
-gives_refused f about bytes (Err (Fault Read)) status s (fails, told) left r reports = absurd (r fails)
-gives_refused f about bytes (Err (Fault Write)) status s never left r reports = absurd never
+gives_refused : (f : CellFile) (rows : Option Form) (about : List Address → Answer) (bytes : List ℕ) (ending : Result (Unit {0}) RunError)
+    (status : ℕ) (s : Streams) → RefusesFile f rows bytes s.table ending → IsLeft s.out → (ReadFails s.table bytes → ⊥)
+    → Reports ending status s.err → Gives (unless_refused about (file_cells f rows bytes)) status s ⊎ RunsOutOfMemory status s
+gives_refused f rows about bytes (Ok u) status s never left r reports = absurd never
+gives_refused f rows about bytes (Err (Error e)) status s (is, sound, told) left r reports = inl (subst (λ c. Gives (unless_refused about c) status s) (sym is) (record { output = (nothing _ _ left.0, left.1); report = reports }))
+gives_refused f rows about bytes (Err (Fault Memory)) status s told left r reports = inr (record { output = left; report = reports })
+gives_refused f rows about bytes (Err (Fault Read)) status s (fails, told) left r reports = absurd (r fails)
+gives_refused f rows about bytes (Err (Fault Write)) status s never left r reports = absurd never
 
 -- the list is read after a file that has these cells
-read_after : (f : CellFile) (bytes : List ℕ) (cells : List Address) → file_cells f bytes ≡ Ok cells → IsTrue (is_ok (file_cells f bytes))
-read_after f bytes cells is = ap is_ok is
+read_after : (f : CellFile) (rows : Option Form) (bytes : List ℕ) (cells : List Address) → file_cells f rows bytes ≡ Ok cells
+    → IsTrue (is_ok (file_cells f rows bytes))
+read_after f rows bytes cells is = ap is_ok is
 
-list_answers : (f : CellFile) (form : Option Form) (about : List Address → List Address → Answer) (ending : Result (Unit {0}) RunError) (status : ℕ) (s : Streams) → Ends (of_file_and_list f form about) s.input s.table ending s.out → Reports ending status s.err
-    → Answers (of_file_and_list f form about) status s
-list_answers f form about ending status s (bytes, held, inr (refuses, alone, left)) reports =
+list_answers : (f : CellFile) (rows form : Option Form) (about : List Address → List Address → Answer) (ending : Result (Unit {0}) RunError)
+    (status : ℕ) (s : Streams) → Ends (of_file_and_list f rows form about) s.input s.table ending s.out → Reports ending status s.err
+    → Answers (of_file_and_list f rows form about) status s
+list_answers f rows form about ending status s (bytes, held, inr (refuses, alone, left)) reports =
     let (list, known) = some_left s.input.left in
     record {
       list = list;
       file = bytes;
       list_is = known;
       file_is = held;
-      given = λ none. with_memory true refl (gives_refused f (λ cells. about_numbered_list form (about cells) list) bytes ending status s refuses left (none.table_read refl) reports);
+      given = λ none. with_memory true refl (gives_refused f rows (λ cells. about_numbered_list form (about cells) list) bytes ending status s refuses left (none.table_read refl) reports);
     }
-list_answers f form about ending status s (bytes, held, inl (cells, gives, ends)) reports =
+list_answers f rows form about ending status s (bytes, held, inl (cells, gives, ends)) reports =
     let (list, known, given) = gives_numbered_list form (about cells) ending status s ends reports in
     record {
       list = list;
@@ -355,21 +358,22 @@ list_answers f form about ending status s (bytes, held, inl (cells, gives, ends)
       list_is = known;
       file_is = held;
       given = λ none. subst (λ c. Gives (unless_refused (λ cells. about_numbered_list form (about cells) list) c) status s ⊎ (IsTrue true × RunsOutOfMemory status s)) (sym gives.is)
-          (with_memory true refl (given (none.list_read (read_after f bytes cells gives.is)) none.answer_written));
+          (with_memory true refl (given (none.list_read (read_after f rows bytes cells gives.is)) none.answer_written));
     }
 
-lines_answers : (f : CellFile) (form : Option Form) (about : List Address → Option ℕ → Answer) (ending : Result (Unit {0}) RunError) (status : ℕ) (s : Streams) → Ends (of_file_and_lines f form about) s.input s.table ending s.out → Reports ending status s.err
-    → Answers (of_file_and_lines f form about) status s
-lines_answers f form about ending status s (bytes, held, inr (refuses, alone, left)) reports =
+lines_answers : (f : CellFile) (rows form : Option Form) (about : List Address → Option ℕ → Answer) (ending : Result (Unit {0}) RunError)
+    (status : ℕ) (s : Streams) → Ends (of_file_and_lines f rows form about) s.input s.table ending s.out → Reports ending status s.err
+    → Answers (of_file_and_lines f rows form about) status s
+lines_answers f rows form about ending status s (bytes, held, inr (refuses, alone, left)) reports =
     let (list, known) = some_left s.input.left in
     record {
       list = list;
       file = bytes;
       list_is = known;
       file_is = held;
-      given = λ none. with_memory true refl (gives_refused f (λ cells. listed_answer form (about cells) list) bytes ending status s refuses left (none.table_read refl) reports);
+      given = λ none. with_memory true refl (gives_refused f rows (λ cells. listed_answer form (about cells) list) bytes ending status s refuses left (none.table_read refl) reports);
     }
-lines_answers f form about ending status s (bytes, held, inl (cells, gives, ends)) reports =
+lines_answers f rows form about ending status s (bytes, held, inl (cells, gives, ends)) reports =
     let (list, known, given) = gives_lines form (about cells) ending status s ends reports in
     record {
       list = list;
@@ -377,7 +381,7 @@ lines_answers f form about ending status s (bytes, held, inl (cells, gives, ends
       list_is = known;
       file_is = held;
       given = λ none. subst (λ c. Gives (unless_refused (λ cells. listed_answer form (about cells) list) c) status s ⊎ (IsTrue true × RunsOutOfMemory status s)) (sym gives.is)
-          (with_memory true refl (given (none.list_read (read_after f bytes cells gives.is)) none.answer_written));
+          (with_memory true refl (given (none.list_read (read_after f rows bytes cells gives.is)) none.answer_written));
     }
 
 -- a table that is refused, or not read to its end
@@ -443,8 +447,8 @@ answers (of_table about) ending status s (file, held, writes, whole) reports =
       file_is = held;
       given = λ none. with_memory true refl (gives_reading _ file _ s.table ending status s writes (none.table_read refl) none.answer_written reports);
     }
-answers (of_file_and_list f form about) ending status s ends reports = list_answers f form about ending status s ends reports
-answers (of_file_and_lines f form about) ending status s ends reports = lines_answers f form about ending status s ends reports
+answers (of_file_and_list f rows form about) ending status s ends reports = list_answers f rows form about ending status s ends reports
+answers (of_file_and_lines f rows form about) ending status s ends reports = lines_answers f rows form about ending status s ends reports
 answers (of_table_and_lines form about) ending status s ends reports = table_answers form about ending status s ends reports
 
 -- a run ends so, and reports it

@@ -152,21 +152,21 @@ one_query Is about (Ok v) = tt
 one_query Is about (Err e) = tt
 
 pub answers_are_words : AnswersAreWords
-answers_are_words rows command.AreCoveredCells = λ cells index. printed_lines IsWord truth_line (is_covered_cell (compacted cells) index) truth_lines
-answers_are_words rows command.CellsToZones = λ zones index. printed_lines IsWord zone_line (cell_to_zone zones index) zone_lines
-answers_are_words rows (command.GridDiskUnsafe cell k) = one_query (AreAnswerLines IsWord) (λ c link. answer_or_error (walked cell_line) (grid_disk_unsafe link c k)) (cell_given cell)
-answers_are_words rows (command.GridDiskDistancesUnsafe cell k) = one_query (AreAnswerLines IsWord) (λ c link. answer_or_error (walked ring_line) (grid_disk_distances_unsafe link c k)) (cell_given cell)
-answers_are_words rows (command.GridRingUnsafe cell k) = one_query (AreAnswerLines IsWord) (λ c link. answer_or_error (walked cell_line) (grid_ring_unsafe link c k)) (cell_given cell)
-answers_are_words rows (command.AreNeighborCells cell to) = one_query (AreAnswerLines IsWord) (λ cells link. printed truth_line (are_neighbor_cells link cells)) (pair_of (cell_given cell) (cell_given to))
-answers_are_words rows (command.CellsToDirectedEdge cell to) = one_query (AreAnswerLines IsWord) (λ cells link. printed edge_line (cells_to_directed_edge link cells)) (pair_of (cell_given cell) (cell_given to))
-answers_are_words rows (command.GetDirectedEdgeDestination edge) = one_query (AreAnswerLines IsWord) (λ e link. printed cell_line (get_directed_edge_destination link e)) (edge_given edge)
-answers_are_words rows (command.CellsToChildren res) = λ index. printed_lines IsWord cell_lines (for_value (λ h. cell_to_children h res) (index_given index)) lines_of_cells
-answers_are_words rows (command.GridDisksUnsafe k) = λ link index. printed_lines IsWord cell_lines (for_value (λ c. whole_walk (grid_disk_unsafe link c k)) (cell_given index)) lines_of_cells
-answers_are_words rows (command.GridDisksDistancesUnsafe k) = λ link index. printed_lines (IsPairOfWords (between_parts rows)) (flat_map (ring_line_by (between_parts rows))) (for_value (λ c. whole_walk (grid_disk_distances_unsafe link c k)) (cell_given index)) (lines_of_rings (between_parts rows))
-answers_are_words rows (command.GridRingsUnsafe k) = λ link index. printed_lines IsWord cell_lines (for_value (λ c. whole_walk (grid_ring_unsafe link c k)) (cell_given index)) lines_of_cells
-answers_are_words rows command.GetDirectedEdgeDestinations = λ link index. printed_lines IsWord cell_line (destination_of link index) line_of_cell
-answers_are_words rows (command.ForEach function) = lines_for function
-answers_are_words rows other = tt
+answers_are_words tables command.AreCoveredCells = λ cells index. printed_lines IsWord truth_line (is_covered_cell (compacted cells) index) truth_lines
+answers_are_words tables command.CellsToZones = λ zones index. printed_lines IsWord zone_line (cell_to_zone zones index) zone_lines
+answers_are_words tables (command.GridDiskUnsafe cell k) = one_query (AreAnswerLines IsWord) (λ c link. answer_or_error (walked cell_line) (grid_disk_unsafe link c k)) (cell_given cell)
+answers_are_words tables (command.GridDiskDistancesUnsafe cell k) = one_query (AreAnswerLines IsWord) (λ c link. answer_or_error (walked ring_line) (grid_disk_distances_unsafe link c k)) (cell_given cell)
+answers_are_words tables (command.GridRingUnsafe cell k) = one_query (AreAnswerLines IsWord) (λ c link. answer_or_error (walked cell_line) (grid_ring_unsafe link c k)) (cell_given cell)
+answers_are_words tables (command.AreNeighborCells cell to) = one_query (AreAnswerLines IsWord) (λ cells link. printed truth_line (are_neighbor_cells link cells)) (pair_of (cell_given cell) (cell_given to))
+answers_are_words tables (command.CellsToDirectedEdge cell to) = one_query (AreAnswerLines IsWord) (λ cells link. printed edge_line (cells_to_directed_edge link cells)) (pair_of (cell_given cell) (cell_given to))
+answers_are_words tables (command.GetDirectedEdgeDestination edge) = one_query (AreAnswerLines IsWord) (λ e link. printed cell_line (get_directed_edge_destination link e)) (edge_given edge)
+answers_are_words tables (command.CellsToChildren res) = λ index. printed_lines IsWord cell_lines (for_value (λ h. cell_to_children h res) (index_given index)) lines_of_cells
+answers_are_words tables (command.GridDisksUnsafe k) = λ link index. printed_lines IsWord cell_lines (for_value (λ c. whole_walk (grid_disk_unsafe link c k)) (cell_given index)) lines_of_cells
+answers_are_words tables (command.GridDisksDistancesUnsafe k) = λ link index. printed_lines (IsPairOfWords (between_parts tables.list)) (flat_map (ring_line_by (between_parts tables.list))) (for_value (λ c. whole_walk (grid_disk_distances_unsafe link c k)) (cell_given index)) (lines_of_rings (between_parts tables.list))
+answers_are_words tables (command.GridRingsUnsafe k) = λ link index. printed_lines IsWord cell_lines (for_value (λ c. whole_walk (grid_ring_unsafe link c k)) (cell_given index)) lines_of_cells
+answers_are_words tables command.GetDirectedEdgeDestinations = λ link index. printed_lines IsWord cell_line (destination_of link index) line_of_cell
+answers_are_words tables (command.ForEach function) = lines_for function
+answers_are_words tables other = tt
 
 -- ---- fields
 

@@ -31,24 +31,25 @@ use Rattle.h3_requests.specs.declared.command.IndexFunction.{IndexFunction}
 use Rattle.h3_requests.specs.declared.command.IndexFunction.TheVariants as each
 use Rattle.h3_requests.specs.declared.command.Command.{Command}
 use Rattle.h3_requests.specs.declared.command.Command.TheVariants as command
-use Rattle.h3_requests.specs.declared.rows.RowOptions.{RowOptions}
+use Rattle.h3_requests.specs.declared.rows.Tables.{Tables}
 use Rattle.h3_lines.specs.Pieces.{rows_of}
 use Rattle.h3_rows.specs.Cells.{cells_of}
 use Rattle.h3_rows.specs.RowsAnswer.{Form}
-use Rattle.h3_command.specs.Rows.{list_form, listed_answer, pair_form, rows_form}
+use Rattle.h3_command.specs.Rows.{file_form, list_form, listed_answer, pair_form, rows_form}
 
--- Request: what a command reads and writes: an answer that its words alone fix, one about the cells listed on standard input,
--- also with the number of a faulty line, one for each line of it, or one about the links of a base cell table; or one about
--- the cells of a file, and then the cells listed on standard input, or for each line of it; or one about the links of a table,
--- and then for each line of the list. The list may have rows in a form, in place of bare lines.
+-- Request: what a command reads and writes: an answer that its words alone fix, one about the cells listed on
+-- standard input, also with the number of a faulty line, one for each line of it, or one about the links of a base
+-- cell table; or one about the cells of a file, and then the cells listed on standard input, or for each line of it;
+-- or one about the links of a table, and then for each line of the list. The file of cells and the list may have rows
+-- in a form, each in its own, in place of bare lines: the file's form comes first.
 pub data Request : Type 0 where
   plain : Answer → Request
   of_list : Option Form → (List Address → Answer) → Request
   of_numbered_list : Option Form → (List Address → Answer) → Request
   of_lines : Option Form → (Option ℕ → Answer) → Request
   of_table : (Links → Answer) → Request
-  of_file_and_list : CellFile → Option Form → (List Address → List Address → Answer) → Request
-  of_file_and_lines : CellFile → Option Form → (List Address → Option ℕ → Answer) → Request
+  of_file_and_list : CellFile → Option Form → Option Form → (List Address → List Address → Answer) → Request
+  of_file_and_lines : CellFile → Option Form → Option Form → (List Address → Option ℕ → Answer) → Request
   of_table_and_lines : Option Form → (Links → Option ℕ → Answer) → Request
 
 -- with_table about r: the request about a value and a table; where there is an error in place of the value, the answer
@@ -69,55 +70,55 @@ shown (Edges index) = printed edge_lines (origin_to_directed_edges index)
 abbrev pub answer_for : IndexFunction → Option ℕ → Answer
 answer_for function word = answer_or_error (λ h. shown (outcome_of function h)) (index_given word)
 
--- request_of rows command: what a command reads and writes, of which the list has rows, or bare lines: an answer that its words
--- alone fix, one about the cells listed on standard input, or those of rows, the same with the number of a faulty line, one
--- line by line about the indexes listed there, or row by row, one about the links of a table, one about the cells of a file
--- and then about the list, or about each of its lines or rows, or one about the links of a table and then about each line or
--- row of the list
-abbrev pub request_of : Option RowOptions → Command → Request
-request_of rows (command.IsValidCell cell) = plain (answer_for each.IsValidCell cell)
-request_of rows (command.GetResolution cell) = plain (answer_for each.GetResolution cell)
-request_of rows (command.GetBaseCellNumber cell) = plain (answer_for each.GetBaseCellNumber cell)
-request_of rows (command.IsPentagon cell) = plain (answer_for each.IsPentagon cell)
-request_of rows (command.IsResClassIII cell) = plain (answer_for each.IsResClassIII cell)
-request_of rows (command.GetNumCells res) = plain (printed number_line (get_num_cells res))
-request_of rows command.GetRes0Cells = plain (written (cell_lines get_res0_cells))
-request_of rows (command.GetPentagons res) = plain (printed cell_lines (get_pentagons res))
-request_of rows (command.CellToParent cell res) = plain (answer_for (each.CellToParent res) cell)
-request_of rows (command.CellToCenterChild cell res) = plain (answer_for (each.CellToCenterChild res) cell)
-request_of rows (command.CellToLastChild cell res) = plain (answer_for (each.CellToLastChild res) cell)
-request_of rows (command.CellToChildren cell res) = plain (printed cell_lines (for_value (λ h. cell_to_children h res) (index_given cell)))
-request_of rows (command.CellToChildrenSize cell res) = plain (answer_for (each.CellToChildrenSize res) cell)
-request_of rows (command.CellToChildPos cell res) = plain (answer_for (each.CellToChildPos res) cell)
-request_of rows (command.ChildPosToCell position cell res) = plain (printed cell_line (for_value (λ h. child_pos_to_cell position h res) (index_given cell)))
-request_of rows command.CompactCells = of_list (list_form rows) (λ cells. printed cell_lines (compact_cells cells))
-request_of rows (command.UncompactCells res) = of_list (list_form rows) (λ cells. printed cell_lines (uncompact_cells res cells))
-request_of rows (command.UncompactCellsSize res) = of_numbered_list (list_form rows) (λ cells. printed number_line (uncompact_cells_size res cells))
-request_of rows command.UniteCells = of_numbered_list (list_form rows) (λ cells. written (cell_lines (compacted cells)))
-request_of rows command.IntersectCells = of_file_and_list Region (list_form rows) shared_answer
-request_of rows command.SubtractCells = of_file_and_list Region (list_form rows) left_answer
-request_of rows command.AreCoveredCells = of_file_and_lines Region (rows_form rows (codes "isCovered")) covered_answer
-request_of rows command.CellsToZones = of_file_and_lines Zones (rows_form rows (codes "zone")) zone_answer
-request_of rows command.CountCellsInZones = of_file_and_list Zones (list_form rows) counts_answer
-request_of rows (command.GridDiskUnsafe cell k) = with_table (λ c link. answer_or_error (walked cell_line) (grid_disk_unsafe link c k)) (cell_given cell)
-request_of rows (command.GridDiskDistancesUnsafe cell k) = with_table (λ c link. answer_or_error (walked ring_line) (grid_disk_distances_unsafe link c k)) (cell_given cell)
-request_of rows (command.GridRingUnsafe cell k) = with_table (λ c link. answer_or_error (walked cell_line) (grid_ring_unsafe link c k)) (cell_given cell)
-request_of rows (command.AreNeighborCells cell to) = with_table (λ cells link. printed truth_line (are_neighbor_cells link cells)) (pair_of (cell_given cell) (cell_given to))
-request_of rows (command.CellsToDirectedEdge cell to) = with_table (λ cells link. printed edge_line (cells_to_directed_edge link cells)) (pair_of (cell_given cell) (cell_given to))
-request_of rows (command.IsValidDirectedEdge edge) = plain (answer_for each.IsValidDirectedEdge edge)
-request_of rows (command.GetDirectedEdgeOrigin edge) = plain (answer_for each.GetDirectedEdgeOrigin edge)
-request_of rows (command.GetDirectedEdgeDestination edge) = with_table (λ e link. printed cell_line (get_directed_edge_destination link e)) (edge_given edge)
-request_of rows (command.OriginToDirectedEdges cell) = plain (answer_for each.OriginToDirectedEdges cell)
-request_of rows (command.CellsToChildren res) = of_lines (rows_form rows (codes "cellToChildren")) (children_for res)
-request_of rows (command.GridDisksUnsafe k) = of_table_and_lines (rows_form rows (codes "gridDiskUnsafe")) (λ link. disk_for link k)
-request_of rows (command.GridDisksDistancesUnsafe k) = of_table_and_lines (pair_form rows) (λ link. disk_distances_for (between_parts rows) link k)
-request_of rows (command.GridRingsUnsafe k) = of_table_and_lines (rows_form rows (codes "gridRingUnsafe")) (λ link. ring_for link k)
-request_of rows command.GetDirectedEdgeDestinations = of_table_and_lines (rows_form rows (codes "getDirectedEdgeDestination")) destination_answer
-request_of rows (command.ForEach function) = of_lines (rows_form rows (function_name function)) (answer_for function)
+-- request_of tables command: what a command reads and writes, of which the list and the file of cells have rows, or
+-- bare lines: an answer that its words alone fix, one about the cells listed on standard input, or those of rows, the
+-- same with the number of a faulty line, one line by line about the indexes listed there, or row by row, one about
+-- the links of a table, one about the cells of a file and then about the list, or about each of its lines or rows, or
+-- one about the links of a table and then about each line or row of the list
+abbrev pub request_of : Tables → Command → Request
+request_of tables (command.IsValidCell cell) = plain (answer_for each.IsValidCell cell)
+request_of tables (command.GetResolution cell) = plain (answer_for each.GetResolution cell)
+request_of tables (command.GetBaseCellNumber cell) = plain (answer_for each.GetBaseCellNumber cell)
+request_of tables (command.IsPentagon cell) = plain (answer_for each.IsPentagon cell)
+request_of tables (command.IsResClassIII cell) = plain (answer_for each.IsResClassIII cell)
+request_of tables (command.GetNumCells res) = plain (printed number_line (get_num_cells res))
+request_of tables command.GetRes0Cells = plain (written (cell_lines get_res0_cells))
+request_of tables (command.GetPentagons res) = plain (printed cell_lines (get_pentagons res))
+request_of tables (command.CellToParent cell res) = plain (answer_for (each.CellToParent res) cell)
+request_of tables (command.CellToCenterChild cell res) = plain (answer_for (each.CellToCenterChild res) cell)
+request_of tables (command.CellToLastChild cell res) = plain (answer_for (each.CellToLastChild res) cell)
+request_of tables (command.CellToChildren cell res) = plain (printed cell_lines (for_value (λ h. cell_to_children h res) (index_given cell)))
+request_of tables (command.CellToChildrenSize cell res) = plain (answer_for (each.CellToChildrenSize res) cell)
+request_of tables (command.CellToChildPos cell res) = plain (answer_for (each.CellToChildPos res) cell)
+request_of tables (command.ChildPosToCell position cell res) = plain (printed cell_line (for_value (λ h. child_pos_to_cell position h res) (index_given cell)))
+request_of tables command.CompactCells = of_list (list_form tables.list) (λ cells. printed cell_lines (compact_cells cells))
+request_of tables (command.UncompactCells res) = of_list (list_form tables.list) (λ cells. printed cell_lines (uncompact_cells res cells))
+request_of tables (command.UncompactCellsSize res) = of_numbered_list (list_form tables.list) (λ cells. printed number_line (uncompact_cells_size res cells))
+request_of tables command.UniteCells = of_numbered_list (list_form tables.list) (λ cells. written (cell_lines (compacted cells)))
+request_of tables command.IntersectCells = of_file_and_list Region (file_form tables) (list_form tables.list) shared_answer
+request_of tables command.SubtractCells = of_file_and_list Region (file_form tables) (list_form tables.list) left_answer
+request_of tables command.AreCoveredCells = of_file_and_lines Region (file_form tables) (rows_form tables.list (codes "isCovered")) covered_answer
+request_of tables command.CellsToZones = of_file_and_lines Zones (file_form tables) (rows_form tables.list (codes "zone")) zone_answer
+request_of tables command.CountCellsInZones = of_file_and_list Zones (file_form tables) (list_form tables.list) counts_answer
+request_of tables (command.GridDiskUnsafe cell k) = with_table (λ c link. answer_or_error (walked cell_line) (grid_disk_unsafe link c k)) (cell_given cell)
+request_of tables (command.GridDiskDistancesUnsafe cell k) = with_table (λ c link. answer_or_error (walked ring_line) (grid_disk_distances_unsafe link c k)) (cell_given cell)
+request_of tables (command.GridRingUnsafe cell k) = with_table (λ c link. answer_or_error (walked cell_line) (grid_ring_unsafe link c k)) (cell_given cell)
+request_of tables (command.AreNeighborCells cell to) = with_table (λ cells link. printed truth_line (are_neighbor_cells link cells)) (pair_of (cell_given cell) (cell_given to))
+request_of tables (command.CellsToDirectedEdge cell to) = with_table (λ cells link. printed edge_line (cells_to_directed_edge link cells)) (pair_of (cell_given cell) (cell_given to))
+request_of tables (command.IsValidDirectedEdge edge) = plain (answer_for each.IsValidDirectedEdge edge)
+request_of tables (command.GetDirectedEdgeOrigin edge) = plain (answer_for each.GetDirectedEdgeOrigin edge)
+request_of tables (command.GetDirectedEdgeDestination edge) = with_table (λ e link. printed cell_line (get_directed_edge_destination link e)) (edge_given edge)
+request_of tables (command.OriginToDirectedEdges cell) = plain (answer_for each.OriginToDirectedEdges cell)
+request_of tables (command.CellsToChildren res) = of_lines (rows_form tables.list (codes "cellToChildren")) (children_for res)
+request_of tables (command.GridDisksUnsafe k) = of_table_and_lines (rows_form tables.list (codes "gridDiskUnsafe")) (λ link. disk_for link k)
+request_of tables (command.GridDisksDistancesUnsafe k) = of_table_and_lines (pair_form tables.list) (λ link. disk_distances_for (between_parts tables.list) link k)
+request_of tables (command.GridRingsUnsafe k) = of_table_and_lines (rows_form tables.list (codes "gridRingUnsafe")) (λ link. ring_for link k)
+request_of tables command.GetDirectedEdgeDestinations = of_table_and_lines (rows_form tables.list (codes "getDirectedEdgeDestination")) destination_answer
+request_of tables (command.ForEach function) = of_lines (rows_form tables.list (function_name function)) (answer_for function)
 
--- request command: the same of a command whose list has bare lines
+-- request command: the same of a command whose list and file have bare lines
 abbrev pub request : Command → Request
-request c = request_of None c
+request c = request_of (record { list = None; file = None }) c
 
 -- reads_list r: the request reads the list
 abbrev pub reads_list : Request → Bool
@@ -126,8 +127,8 @@ reads_list (of_list form about) = true
 reads_list (of_numbered_list form about) = true
 reads_list (of_lines form about) = true
 reads_list (of_table about) = false
-reads_list (of_file_and_list file form about) = true
-reads_list (of_file_and_lines file form about) = true
+reads_list (of_file_and_list f rows form about) = true
+reads_list (of_file_and_lines f rows form about) = true
 reads_list (of_table_and_lines form about) = true
 
 -- reads_table r: it reads the table, or a file of cells in its place
@@ -137,15 +138,15 @@ reads_table (of_list form about) = false
 reads_table (of_numbered_list form about) = false
 reads_table (of_lines form about) = false
 reads_table (of_table about) = true
-reads_table (of_file_and_list file form about) = true
-reads_table (of_file_and_lines file form about) = true
+reads_table (of_file_and_list f rows form about) = true
+reads_table (of_file_and_lines f rows form about) = true
 reads_table (of_table_and_lines form about) = true
 
 -- the list is read where the bytes of the table, or of the file of cells, are these: not where the file is refused that
 -- comes before it
 abbrev pub reads_list_after : Request → List ℕ → Bool
-reads_list_after (of_file_and_list f form about) file = is_ok (file_cells f file)
-reads_list_after (of_file_and_lines f form about) file = is_ok (file_cells f file)
+reads_list_after (of_file_and_list f rows form about) file = is_ok (file_cells f rows file)
+reads_list_after (of_file_and_lines f rows form about) file = is_ok (file_cells f rows file)
 reads_list_after (of_table_and_lines form about) file = not (is_some (table_fault (records_of file)))
 reads_list_after r file = reads_list r
 
@@ -156,8 +157,8 @@ takes_memory (of_list form about) = true
 takes_memory (of_numbered_list form about) = true
 takes_memory (of_lines form about) = true
 takes_memory (of_table about) = true
-takes_memory (of_file_and_list file form about) = true
-takes_memory (of_file_and_lines file form about) = true
+takes_memory (of_file_and_list f rows form about) = true
+takes_memory (of_file_and_lines f rows form about) = true
 takes_memory (of_table_and_lines form about) = true
 
 -- ---- the answer
@@ -200,8 +201,10 @@ answer_to (of_list form about) list file = about_list form about list
 answer_to (of_numbered_list form about) list file = about_numbered_list form about list
 answer_to (of_lines form about) list file = listed_answer form about list
 answer_to (of_table about) list file = about_table about file
-answer_to (of_file_and_list f form about) list file = unless_refused (λ cells. about_numbered_list form (about cells) list) (file_cells f file)
-answer_to (of_file_and_lines f form about) list file = unless_refused (λ cells. listed_answer form (about cells) list) (file_cells f file)
+answer_to (of_file_and_list f rows form about) list file =
+    unless_refused (λ cells. about_numbered_list form (about cells) list) (file_cells f rows file)
+answer_to (of_file_and_lines f rows form about) list file =
+    unless_refused (λ cells. listed_answer form (about cells) list) (file_cells f rows file)
 answer_to (of_table_and_lines form about) list file = about_table (λ link. listed_answer form (about link) list) file
 
 -- the answer to a command. Examples alone cite it.

@@ -1,8 +1,6 @@
 -- What is made of the cells of a list and those of a file. Private contracts and proofs alone cite this file.
 use Rattle.std.specs.Prelude.{◌≡◌, ℕ, List, Option, IsPermutation}
 use Rattle.h3_index.specs.Cell.{Address}
-use Rattle.h3_lines.specs.declared.run_error.AnswerError.{AnswerError}
-use Rattle.h3_lines.specs.declared.run_error.AnswerError.TheVariants.{At, FileAt}
 use Rattle.h3_lines.specs.declared.run_error.CellFile.{CellFile}
 use Rattle.h3_lines.specs.declared.run_error.CellFile.TheVariants.{Region, Zones}
 use Rattle.h3_lines.specs.declared.run_error.RunError.{RunError}
@@ -10,7 +8,7 @@ use Rattle.h3_lines.specs.declared.run_error.RunError.TheVariants.{Error, Fault}
 use Rattle.h3_lines.specs.Answer.{Answer, cell_lines, printed, truth_line, written}
 use Rattle.h3_regions.specs.Algebra.{difference, intersection}
 use Rattle.h3_regions.specs.Zones.{IsZones}
-use Rattle.h3_command.specs.Files.{is_covered_cell}
+use Rattle.h3_command.specs.Files.{error_of_file, is_covered_cell}
 use Rattle.h3_command.specs.declared.files.Combination.{Combination}
 use Rattle.h3_command.specs.declared.files.Combination.TheVariants.{Left, Shared}
 
@@ -27,11 +25,6 @@ combined_answer kind file cells = written (cell_lines (combined kind file cells)
 abbrev pub AreArranged : CellFile → List Address → List Address → Type 0
 AreArranged Region listed cells = cells ≡ listed
 AreArranged Zones listed cells = IsPermutation listed cells × IsZones cells
-
--- the error of a list, as that of a file
-abbrev pub error_of_file : CellFile → AnswerError → AnswerError
-error_of_file file (At line e) = FileAt file line e
-error_of_file file e = e
 
 -- the refusal of a list, told as that of a file
 abbrev pub in_file : CellFile → RunError → RunError

@@ -14,9 +14,12 @@ use Rattle.h3_lines.specs.Answer.{Answer, cell_lines, count_line, printed, truth
 use Rattle.h3_lines.specs.List.{listed_cells}
 use Rattle.h3_lines.specs.Numbered.{faulty_line}
 use Rattle.h3_lines.specs.declared.run_error.AnswerError.{AnswerError}
-use Rattle.h3_lines.specs.declared.run_error.AnswerError.TheVariants.{File, FileAt}
+use Rattle.h3_lines.specs.Pieces.{rows_of}
+use Rattle.h3_lines.specs.declared.run_error.AnswerError.TheVariants.{At, AtRow, Column, File, FileAt, FileAtRow, FileColumn}
 use Rattle.h3_lines.specs.declared.run_error.CellFile.{CellFile}
 use Rattle.h3_lines.specs.declared.run_error.CellFile.TheVariants.{Region, Zones}
+use Rattle.h3_rows.specs.Cells.{cells_of}
+use Rattle.h3_rows.specs.RowsAnswer.{Form}
 use Rattle.h3_command.specs.Required.{cell_given}
 
 -- ---- how a file is judged
@@ -36,10 +39,28 @@ abbrev pub judged_cells : CellFile → ℕ → Result (List Address) H3Error →
 judged_cells file line (Ok cells) = unless_error file (file_error file cells) cells
 judged_cells file line (Err e) = Err (FileAt file line e)
 
--- file_cells file bytes: the cells in the bytes of a file, or why it is refused: for its first faulty line, and else for its
--- cells as a whole
-abbrev pub file_cells : CellFile → List ℕ → Result (List Address) AnswerError
-file_cells file bytes = judged_cells file (faulty_line bytes) (listed_cells bytes)
+-- error_of_file file e: the error of a list, as that of a file: it tells the file's kind too
+abbrev pub error_of_file : CellFile → AnswerError → AnswerError
+error_of_file file (At line e) = FileAt file line e
+error_of_file file (AtRow row e) = FileAtRow file row e
+error_of_file file (Column e) = FileColumn file e
+error_of_file file e = e
+
+-- judged_rows file cells: the cells of rows, where they have no error as a whole; the error of a row, or of the
+-- columns of the header, is that of the file
+abbrev pub judged_rows : CellFile → Result (List Address) AnswerError → Result (List Address) AnswerError
+judged_rows file (Ok cells) = unless_error file (file_error file cells) cells
+judged_rows file (Err e) = Err (error_of_file file e)
+
+-- cells_of_table form bytes: the cells of the rows in the bytes of a table, or the error of the first row that ends it
+abbrev pub cells_of_table : Form → List ℕ → Result (List Address) AnswerError
+cells_of_table form bytes = cells_of form (rows_of form.quotes bytes)
+
+-- file_cells file form bytes: the cells in the bytes of a file, or why it is refused: for its first faulty line, and
+-- else for its cells as a whole; or, if the file has rows in a form, those of its rows, and the same of these
+abbrev pub file_cells : CellFile → Option Form → List ℕ → Result (List Address) AnswerError
+file_cells file None bytes = judged_cells file (faulty_line bytes) (listed_cells bytes)
+file_cells file (Some form) bytes = judged_rows file (cells_of_table form bytes)
 
 -- unless_refused about cells: the answer about the cells of a file, or of rows; where these are refused, that error and no
 -- output

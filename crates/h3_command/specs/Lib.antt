@@ -4,6 +4,7 @@ pub mod CountLines
 pub mod Counts
 pub mod EdgeExamples
 pub mod Examples
+pub mod FileExamples
 pub mod FileQuery
 pub mod Files
 pub mod Listed

@@ -12,6 +12,7 @@ use Rattle.h3_requests.specs.Rows.{is_separator}
 use Rattle.h3_requests.specs.declared.command.Command.{Command}
 use Rattle.h3_requests.specs.declared.command.Command.TheVariants as command
 use Rattle.h3_requests.specs.declared.rows.RowOptions.{RowOptions}
+use Rattle.h3_requests.specs.declared.rows.Tables.{Tables}
 use Rattle.h3_rows.specs.Laws.{IsWholeOrRefused}
 use Rattle.h3_lines.specs.Pieces.{cut, inside_after, is_uncut}
 use Rattle.h3_rows.specs.RowsAnswer.{row_with, rows_with}
@@ -46,8 +47,8 @@ AnswersBy Is (of_list form about) = ⊤
 AnswersBy Is (of_numbered_list form about) = ⊤
 AnswersBy Is (of_lines form about) = (index : Option ℕ) → Is (about index)
 AnswersBy Is (of_table about) = ⊤
-AnswersBy Is (of_file_and_list f form about) = ⊤
-AnswersBy Is (of_file_and_lines f form about) = (cells : List Address) (index : Option ℕ) → Is (about cells index)
+AnswersBy Is (of_file_and_list f rows form about) = ⊤
+AnswersBy Is (of_file_and_lines f rows form about) = (cells : List Address) (index : Option ℕ) → Is (about cells index)
 AnswersBy Is (of_table_and_lines form about) = (link : Links) (index : Option ℕ) → Is (about link index)
 
 -- IsAnswerLine rows command: what each line of a command's answer to an index is: a word, or a cell and its distance
@@ -60,9 +61,11 @@ IsAnswerLine rows c = IsWord
 abbrev pub AreAnswerLines : (List ℕ → Type 0) → Answer → Type 0
 AreAnswerLines Is a = AreLinesOf Is a.output × IsWholeOrRefused a
 
--- AnswersAreWords: whatever the command and the options of its rows, each answer to an index is such lines, or an error
+-- AnswersAreWords: whatever the command and the options of its tables, each answer to an index is such lines, or an
+-- error
 abbrev pub AnswersAreWords : Type 0
-AnswersAreWords = (rows : Option RowOptions) (c : Command) → AnswersBy (AreAnswerLines (IsAnswerLine rows c)) (request_of rows c)
+AnswersAreWords = (tables : Tables) (c : Command)
+    → AnswersBy (AreAnswerLines (IsAnswerLine tables.list c)) (request_of tables c)
 
 -- ---- beside their rows
 

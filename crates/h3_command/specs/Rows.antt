@@ -4,6 +4,7 @@ use Rattle.std.specs.Prelude.{ℕ, List, [], Option, None, Some, option_map}
 use Rattle.h3_lines.specs.Answer.{Answer}
 use Rattle.h3_lines.specs.EachLine.{list_answer}
 use Rattle.h3_requests.specs.declared.rows.RowOptions.{RowOptions}
+use Rattle.h3_requests.specs.declared.rows.Tables.{Tables}
 use Rattle.h3_rows.specs.RowForm.{form_of, pair_form_of}
 use Rattle.h3_rows.specs.RowsAnswer.{Form}
 use Rattle.h3_rows.specs.RowsAnswer.{list_answer as row_answers}
@@ -19,6 +20,10 @@ pair_form rows = option_map pair_form_of rows
 -- list_form rows: the form of a list's rows, if it has rows, of which the cells alone are read: no column is added
 abbrev pub list_form : Option RowOptions → Option Form
 list_form rows = rows_form rows []
+
+-- file_form tables: the form of the rows of a file of cells, if it has rows, of which the cells alone are read
+abbrev pub file_form : Tables → Option Form
+file_form tables = list_form tables.file
 
 -- listed_answer form about list: the answer to the list in these bytes, line by line, or row by row in a form
 abbrev pub listed_answer : Option Form → (Option ℕ → Answer) → List ℕ → Answer

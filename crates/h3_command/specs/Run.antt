@@ -1,5 +1,5 @@
 -- What a run does with its streams.
-use Rattle.std.specs.Prelude.{◌≡◌, ⊤, ℕ, ◌≤◌, ◌^◌, ◌⊎◌, true, false, List, length, Option, None, Some, Result, Ok, Err, IsTrue}
+use Rattle.std.specs.Prelude.{◌≡◌, ⊤, ℕ, ◌≤◌, ◌^◌, ◌⊎◌, true, false, List, ◌++◌, length, Option, None, Some, Result, Ok, Err, IsTrue}
 use Rattle.h3_index.specs.Cell.{Address}
 use Rattle.h3_streams.specs.Stream.{HasLeft}
 use Rattle.h3_index.specs.declared.error.H3Error.{H3Error}
@@ -20,9 +20,9 @@ use Rattle.h3_lines.specs.List.{listed_cells}
 use Rattle.h3_lines.specs.Reads.{IsListWithinReads, IsReadToEnd, IsWithinReads, NoReadFails, SourceUse, StopsWithin}
 use Rattle.h3_lines.specs.RunError.{ending_of}
 use Rattle.h3_rows.specs.Each.{EndsRows}
-use Rattle.h3_rows.specs.Cells.{AllRowsRead, RefusesRows}
+use Rattle.h3_rows.specs.Cells.{AllRowsRead, RefusesRows, RowsReadTo}
 use Rattle.h3_rows.specs.RowsAnswer.{Form, begun_answer, rows_answer}
-use Rattle.h3_command.specs.Files.{file_cells}
+use Rattle.h3_command.specs.Files.{cells_of_table, file_cells}
 use Rattle.h3_command.specs.Answer.{Request, about_list, about_numbered_list, about_table, answer_to, reads_list_after, reads_table, takes_memory}
 use Rattle.h3_command.specs.Answer.Request.{plain, of_file_and_lines, of_file_and_list, of_lines, of_list, of_numbered_list, of_table, of_table_and_lines}
 
@@ -129,36 +129,65 @@ EndsLines None about input ending out = EndsEach about input.left input.left_aft
 EndsLines (Some form) about input ending out =
     EndsRows form.quotes (rows_answer form about) (begun_answer form about) input.left input.left_after input.had_failed input.has_failed ending out
 
--- IsFileReadSoFar e bytes file: how far a file of cells with this error is read: to its end for one of the file as a whole,
--- and else at most a page further than bytes in which no line is known to be faulty
-abbrev pub IsFileReadSoFar : AnswerError → List ℕ → SourceUse → Type 0
-IsFileReadSoFar (File f e) bytes file = IsWithinReads (2 ^ 40) 65536 bytes × IsReadToEnd file
-IsFileReadSoFar e bytes file = IsListWithinReads (2 ^ 40) 65536 bytes × StopsWithin 65536 file
+-- IsTableReadTo form n bytes file: a part of these bytes of a table of cells is read, and then at most n bytes more;
+-- the rows that end in the part have no error
+pub record IsTableReadTo (form : Form) (most : ℕ) (bytes : List ℕ) (file : SourceUse) : Type 0 where
+  pub stop : RowsReadTo form most file.left file.left_after
+  pub of : stop.part ++ stop.last ++ stop.rest ≡ bytes
 
--- RefusesFile f bytes file ending: the bytes of a file of cells are refused, as a whole and then read to their end, or for
--- a faulty line, or there is no memory, and then read at most a page further than bytes in which no line is known to be
--- faulty; or a read fails, and they are read no further than these
-abbrev pub RefusesFile : CellFile → List ℕ → SourceUse → Result (Unit {0}) RunError → Type 0
-RefusesFile f bytes file (Ok u) = ⊥
-RefusesFile f bytes file (Err (Fault Memory)) = NoReadFails file × StopsWithin 65536 file
-RefusesFile f bytes file (Err (Fault Read)) = ReadFails file bytes × StopsWithin 0 file
-RefusesFile f bytes file (Err (Fault Write)) = ⊥
-RefusesFile f bytes file (Err (Error e)) = (file_cells f bytes ≡ Err e) × NoReadFails file × IsFileReadSoFar e bytes file
+-- IsFileReadTo form n bytes file: at most n bytes of a file of cells are read after those in which no line is known
+-- to be faulty; or, if it has rows in a form, after rows that have no error
+abbrev pub IsFileReadTo : Option Form → ℕ → List ℕ → SourceUse → Type 0
+IsFileReadTo None most bytes file = StopsWithin most file
+IsFileReadTo (Some form) most bytes file = IsTableReadTo form most bytes file
 
--- GivesFile f bytes file cells: the bytes of a file of cells are read to their end, and have these cells
-pub record GivesFile (f : CellFile) (bytes : List ℕ) (file : SourceUse) (cells : List Address) : Type 0 where
-  pub is : file_cells f bytes ≡ Ok cells
+-- IsFileReadWhole bytes file: the file of cells is read to its end, in reads that may be made
+abbrev pub IsFileReadWhole : List ℕ → SourceUse → Type 0
+IsFileReadWhole bytes file = IsWithinReads (2 ^ 40) 65536 bytes × IsReadToEnd file
+
+-- IsTableReadSoFar form cells bytes file: how far a table of cells is read that is refused: to its end if its
+-- rows have no error, since it is then refused as a whole; and else to its end, or at most a page further than rows
+-- that have no error
+abbrev pub IsTableReadSoFar : Form → Result (List Address) AnswerError → List ℕ → SourceUse → Type 0
+IsTableReadSoFar form (Ok cells) bytes file = IsFileReadWhole bytes file
+IsTableReadSoFar form (Err e) bytes file = IsFileReadWhole bytes file ⊎ IsTableReadTo form 65536 bytes file
+
+-- IsFileReadSoFar form e bytes file: how far a file of cells with this error is read: to its end for one of the file
+-- as a whole, and else at most a page further than bytes in which no line is known to be faulty; or, if it has rows
+-- in a form, as `IsTableReadSoFar` says of their cells
+abbrev pub IsFileReadSoFar : Option Form → AnswerError → List ℕ → SourceUse → Type 0
+IsFileReadSoFar None (File f e) bytes file = IsFileReadWhole bytes file
+IsFileReadSoFar None e bytes file = IsListWithinReads (2 ^ 40) 65536 bytes × StopsWithin 65536 file
+IsFileReadSoFar (Some form) e bytes file = IsTableReadSoFar form (cells_of_table form bytes) bytes file
+
+-- RefusesFile f form bytes file ending: the bytes of a file of cells, which may have rows in a form, are refused, as
+-- a whole and then read to their end, or for a faulty line or row, or there is no memory, and then read as
+-- `IsFileReadSoFar` and `IsFileReadTo` say; or a read fails, and they are read no further than those without a fault
+abbrev pub RefusesFile : CellFile → Option Form → List ℕ → SourceUse → Result (Unit {0}) RunError → Type 0
+RefusesFile f form bytes file (Ok u) = ⊥
+RefusesFile f form bytes file (Err (Fault Memory)) = NoReadFails file × IsFileReadTo form 65536 bytes file
+RefusesFile f form bytes file (Err (Fault Read)) = ReadFails file bytes × IsFileReadTo form 0 bytes file
+RefusesFile f form bytes file (Err (Fault Write)) = ⊥
+RefusesFile f form bytes file (Err (Error e)) =
+    (file_cells f form bytes ≡ Err e) × NoReadFails file × IsFileReadSoFar form e bytes file
+
+-- GivesFile f form bytes file cells: the bytes of a file of cells are read to their end, and have these cells
+pub record GivesFile (f : CellFile) (form : Option Form) (bytes : List ℕ) (file : SourceUse) (cells : List Address)
+    : Type 0 where
+  pub is : file_cells f form bytes ≡ Ok cells
   pub within : IsWithinReads (2 ^ 40) 65536 bytes
   pub sound : NoReadFails file
   pub whole : IsReadToEnd file
 
--- EndsOverFile f then_ends input file ending out: there are bytes of a file of cells, those left where known, which are read
--- first: `then_ends` says of their cells what follows; or they are refused, and standard input is left alone and nothing is
--- written
-abbrev pub EndsOverFile : CellFile → (List Address → Type 0) → SourceUse → SourceUse → Result (Unit {0}) RunError → SinkUse → Type 0
-EndsOverFile f then_ends input file ending out =
+-- EndsOverFile f form then_ends input file ending out: there are bytes of a file of cells, those left where known,
+-- which are read first: `then_ends` says of their cells what follows; or they are refused, and standard input is left
+-- alone and nothing is written
+abbrev pub EndsOverFile : CellFile → Option Form → (List Address → Type 0) → SourceUse → SourceUse
+    → Result (Unit {0}) RunError → SinkUse → Type 0
+EndsOverFile f form then_ends input file ending out =
     (bytes : List ℕ) × HasLeft file.left bytes
-    × (((cells : List Address) × GivesFile f bytes file cells × then_ends cells) ⊎ (RefusesFile f bytes file ending × IsLeftAlone input × IsLeft out))
+    × (((cells : List Address) × GivesFile f form bytes file cells × then_ends cells)
+    ⊎ (RefusesFile f form bytes file ending × IsLeftAlone input × IsLeft out))
 
 -- GivesTable bytes table link: the bytes of a table are read to their end, have no fault, and hold these links
 pub record GivesTable (bytes : List ℕ) (table : SourceUse) (link : Links) : Type 0 where
@@ -192,10 +221,10 @@ Ends (of_list form about) input table ending out = EndsList form about input end
 Ends (of_numbered_list form about) input table ending out = EndsNumberedList form about input ending out
 Ends (of_lines form about) input table ending out = EndsLines form about input ending out
 Ends (of_table about) input table ending out = WritesOfTable about table ending out
-Ends (of_file_and_list f form about) input file ending out =
-    EndsOverFile f (λ cells. EndsNumberedList form (about cells) input ending out) input file ending out
-Ends (of_file_and_lines f form about) input file ending out =
-    EndsOverFile f (λ cells. EndsLines form (about cells) input ending out) input file ending out
+Ends (of_file_and_list f rows form about) input file ending out =
+    EndsOverFile f rows (λ cells. EndsNumberedList form (about cells) input ending out) input file ending out
+Ends (of_file_and_lines f rows form about) input file ending out =
+    EndsOverFile f rows (λ cells. EndsLines form (about cells) input ending out) input file ending out
 Ends (of_table_and_lines form about) input table ending out =
     EndsOverTable (λ link. EndsLines form (about link) input ending out) input table ending out
 

@@ -9,6 +9,7 @@ ghost use Rattle.h3_lines.specs.Write.{sink_use};
 ghost use Rattle.h3_lines.specs.declared.run_error.CellFile.TheVariants as kind_of_file;
 ghost use Rattle.h3_command.specs.Combination.{AreArranged};
 ghost use Rattle.h3_command.specs.FileQuery.{EndsOver, file_of};
+ghost use Rattle.h3_command.specs.Rows.{file_form};
 ghost use Rattle.h3_command.specs.Run.{EndsOverFile};
 
 use crate::counts::answer_counts;
@@ -17,7 +18,7 @@ use crate::listed::answer_whole_numbered;
 use h3_index::Cell;
 use h3_lines::{CellFile, RunError};
 use h3_regions::laws::zones_are_lawful;
-use h3_requests::RowOptions;
+use h3_requests::{RowOptions, Tables};
 use h3_streams::{Sink, Source};
 use std::alloc::Global;
 
@@ -78,26 +79,26 @@ fn answer_query<R: Source, W: Sink>(
     }
 }
 
-/// Reads a file of cells, and then writes the answer about them and the cells listed on the input, or
-/// those of its rows.
-// Inlined, its blocks would take their place on the stack while `perform_over_both` runs another command.
+/// Reads a file of cells, bare or of rows, and then writes the answer about them and the cells listed on
+/// the input, or those of its rows.
+// Inlined, its blocks would take their place on the stack while `run_file_then_list` runs another command.
 #[inline(never)]
 pub(crate) fn answer_over_file<R: Source, T: Source, W: Sink>(
     alloc: Global,
     query: FileQuery,
-    rows: &Option<RowOptions>,
+    tables: &Tables,
     input: &mut R,
     file: &mut T,
     out: &mut W,
 ) -> Result<(), RunError>
-    ensures { EndsOverFile (file_of query)
-        (λ cells. EndsOver query rows.now cells
+    ensures { EndsOverFile (file_of query) (file_form tables.now)
+        (λ cells. EndsOver query tables.now.list cells
         (source_use R.left R.has_failed input.old input.new) result
         (sink_use W.taken W.has_failed out.old out.new))
         (source_use R.left R.has_failed input.old input.new)
         (source_use T.left T.has_failed file.old file.new) result
         (sink_use W.taken W.has_failed out.old out.new) }
 {
-    let mut cells = read_file(alloc, file_of(query), file)?;
-    answer_query(alloc, query, rows, &mut cells, input, out)
+    let mut cells = read_file(alloc, file_of(query), &tables.file, file)?;
+    answer_query(alloc, query, &tables.list, &mut cells, input, out)
 }

@@ -1,8 +1,10 @@
 //! Files of cells, that of a region or of zones, and what is answered over the cells of one.
 //!
-//! For a file of either kind: its first faulty line is `AnswerError::FileAt`, zones of which two
-//! overlap are `AnswerError::File` with `DuplicateInput`, and `Fault::Read` and `Fault::Memory` are
-//! as of `read_numbered_cells`.
+//! A file is bare, a cell on each line, or has rows, of which one field has the cell. For a file of
+//! either kind: its first faulty line is `AnswerError::FileAt`, and its first row with an error
+//! `AnswerError::FileAtRow`; a column that is not one field of its header is `AnswerError::FileColumn`;
+//! zones of which two overlap are `AnswerError::File` with `DuplicateInput`; and `Fault::Read` and
+//! `Fault::Memory` are as of `read_numbered_cells` and `take_row_cells`.
 
 ghost use Rattle.std.specs.Prelude.{◌≡◌, ◌<◌, ◌↔◌, ℕ, List, length, None, Err, IfOk, IfErr, IfSome, IsPermutation, OnOk, codes};
 ghost use Rattle.std.specs.Result.{result_err};
@@ -18,18 +20,17 @@ ghost use Rattle.h3_lines.specs.Reads.{source_use};
 ghost use Rattle.h3_lines.specs.Write.{Writes, sink_use};
 ghost use Rattle.h3_lines.specs.declared.run_error.Fault.TheVariants.{Memory};
 ghost use Rattle.h3_lines.specs.declared.run_error.RunError.TheVariants as refusal;
-ghost use Rattle.h3_command.specs.Combination.{AreArranged, combined, combined_answer, error_of_file, region_answer, in_file};
-ghost use Rattle.h3_command.specs.Files.{cell_to_zone, covered_answer, file_error, is_covered_cell, zone_answer};
-ghost use Rattle.h3_command.specs.Rows.{rows_form};
+ghost use Rattle.h3_command.specs.Combination.{AreArranged, combined, combined_answer, region_answer, in_file};
+ghost use Rattle.h3_command.specs.Files.{cell_to_zone, covered_answer, error_of_file, file_error, is_covered_cell, zone_answer};
+ghost use Rattle.h3_command.specs.Rows.{list_form, rows_form};
 ghost use Rattle.h3_command.specs.Run.{EndsLines, GivesFile, RefusesFile};
 
-use crate::listed::ListFunction;
+use crate::listed::{ListFunction, read_numbered};
 use crate::required::cell_given;
 use crate::rows::answer_listed;
 use h3_index::{Cell, H3Error};
 use h3_lines::{
-    AnswerError, AnswerLine, BLOCK, CellFile, Fault, LINES, RunError, put_result,
-    read_numbered_cells, write_lines,
+    AnswerError, AnswerLine, BLOCK, CellFile, Fault, LINES, RunError, put_result, write_lines,
 };
 use h3_regions::laws::{coverages_decide_combinations, zones_are_lawful};
 use h3_regions::{
@@ -45,6 +46,8 @@ fn error_of_file(file: CellFile, error: AnswerError) -> AnswerError
 {
     match error {
         AnswerError::At(line, error) => AnswerError::FileAt(file, line, error),
+        AnswerError::AtRow(row, error) => AnswerError::FileAtRow(file, row, error),
+        AnswerError::Column(error) => AnswerError::FileColumn(file, error),
         other => other,
     }
 }
@@ -71,20 +74,23 @@ fn arrange(kind: CellFile, cells: &mut [Cell]) -> Result<(), H3Error>
     }
 }
 
-/// Reads a file of cells, and judges and arranges them as a whole.
+/// Reads a file of cells, bare or of rows, and judges and arranges them as a whole.
 pub(crate) fn read_file<T: Source>(
     alloc: Global,
     kind: CellFile,
+    rows: &Option<RowOptions>,
     file: &mut T,
 ) -> Result<Vec<Cell>, RunError>
     ensures cells { IfOk result (λ cells. (bytes : List ℕ) × HasLeft (T.left file.old) bytes ×
         (listed : List Address) ×
-        GivesFile kind bytes (source_use T.left T.has_failed file.old file.new) listed ×
+        GivesFile kind (list_form rows.now) bytes
+        (source_use T.left T.has_failed file.old file.new) listed ×
         AreArranged kind listed cells.items) }
     ensures refused { IfErr result (λ e. (bytes : List ℕ) × HasLeft (T.left file.old) bytes ×
-        RefusesFile kind bytes (source_use T.left T.has_failed file.old file.new) (Err e)) }
+        RefusesFile kind (list_form rows.now) bytes
+        (source_use T.left T.has_failed file.old file.new) (Err e)) }
 {
-    match read_numbered_cells(alloc, file) {
+    match read_numbered(alloc, rows, file) {
         Ok(cells) => {
             let mut cells = cells;
             match arrange(kind, &mut cells) {

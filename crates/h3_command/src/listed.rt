@@ -39,7 +39,7 @@ pub(crate) fn take_listed<V: CellJob + Drop, R: Source>(
 
 /// Reads the cells of a list: those on its lines, or those of its rows. An error of either is
 /// reported with its line.
-fn read_numbered<R: Source>(
+pub(crate) fn read_numbered<R: Source>(
     alloc: Global,
     rows: &Option<RowOptions>,
     input: &mut R,

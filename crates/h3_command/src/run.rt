@@ -3,7 +3,7 @@
 ghost use Rattle.std.specs.Prelude.{◌≡◌, false, true};
 ghost use Rattle.h3_lines.specs.Reads.{source_use};
 ghost use Rattle.h3_lines.specs.Write.{sink_use};
-ghost use Rattle.h3_rows.specs.Laws.{FieldsAreKept, OutputReadsBack, RowsAreWhole, RowsGiveBack, RowsStand, RowsStandUntil};
+ghost use Rattle.h3_rows.specs.Laws.{FieldsAreKept, HeaderStands, OutputReadsBack, RowsAreWhole, RowsGiveBack, RowsStand, RowsStandUntil};
 ghost use Rattle.h3_command.specs.Answer.{reads_list, reads_table, request, request_of};
 ghost use Rattle.h3_command.specs.Files.{CountsPrintedAddUp};
 ghost use Rattle.h3_command.specs.NewColumns.{AnswersAreWords, ErrorNamesAreFields, ErrorNamesAreKept, RowsStandOnce, WordPairsAreKept, WordPairsAreUncut, WordsAreFields, WordsAreKept};
@@ -27,33 +27,34 @@ use crate::work::{Work, work_of};
 use h3_lines::{RunError, report};
 use h3_regions::laws::counts_add_up;
 use h3_requests::Command::*;
-use h3_requests::{Command, RowOptions};
+use h3_requests::{Command, Tables};
 use h3_rows::laws::answers_stand_beside;
 use h3_streams::{Sink, Source};
 use std::alloc::Global;
 
 /// Does what a command asks that reads a file or a table and then a list, up to the line on standard
 /// error.
-fn perform_over_both<R: Source, T: Source, W: Sink>(
+fn run_file_then_list<R: Source, T: Source, W: Sink>(
     alloc: Global,
     command: &Command,
-    rows: &Option<RowOptions>,
+    tables: &Tables,
     input: &mut R,
     table: &mut T,
     out: &mut W,
 ) -> Result<(), RunError>
-    requires list { reads_list (request_of rows.now command.now) ≡ true }
-    requires table { reads_table (request_of rows.now command.now) ≡ true }
-    ensures { Ends (request_of rows.now command.now) (source_use R.left R.has_failed input.old input.new)
+    requires list { reads_list (request_of tables.now command.now) ≡ true }
+    requires table { reads_table (request_of tables.now command.now) ≡ true }
+    ensures { Ends (request_of tables.now command.now) (source_use R.left R.has_failed input.old input.new)
         (source_use T.left T.has_failed table.old table.new) result
         (sink_use W.taken W.has_failed out.old out.new) }
 {
+    let rows = &tables.list;
     match *command {
-        IntersectCells => answer_over_file(alloc, Combined(Shared), rows, input, table, out),
-        SubtractCells => answer_over_file(alloc, Combined(Left), rows, input, table, out),
-        AreCoveredCells => answer_over_file(alloc, Covered, rows, input, table, out),
-        CellsToZones => answer_over_file(alloc, Zones, rows, input, table, out),
-        CountCellsInZones => answer_over_file(alloc, Counts, rows, input, table, out),
+        IntersectCells => answer_over_file(alloc, Combined(Shared), tables, input, table, out),
+        SubtractCells => answer_over_file(alloc, Combined(Left), tables, input, table, out),
+        AreCoveredCells => answer_over_file(alloc, Covered, tables, input, table, out),
+        CellsToZones => answer_over_file(alloc, Zones, tables, input, table, out),
+        CountCellsInZones => answer_over_file(alloc, Counts, tables, input, table, out),
         GridDisksUnsafe { k } => answer_over_table(alloc, Disk { k }, rows, input, table, out),
         GridDisksDistancesUnsafe { k } => {
             answer_over_table(alloc, DiskDistances { k }, rows, input, table, out)
@@ -70,17 +71,18 @@ fn perform_over_both<R: Source, T: Source, W: Sink>(
 fn perform_over_list<R: Source, T: Source, W: Sink>(
     alloc: Global,
     command: &Command,
-    rows: &Option<RowOptions>,
+    tables: &Tables,
     input: &mut R,
     table: &mut T,
     out: &mut W,
 ) -> Result<(), RunError>
-    requires { reads_list (request_of rows.now command.now) ≡ true }
-    ensures ends { Ends (request_of rows.now command.now) (source_use R.left R.has_failed input.old input.new)
+    requires { reads_list (request_of tables.now command.now) ≡ true }
+    ensures ends { Ends (request_of tables.now command.now) (source_use R.left R.has_failed input.old input.new)
         (source_use T.left T.has_failed table.old table.new) result
         (sink_use W.taken W.has_failed out.old out.new) }
-    ensures table_kept { reads_table (request_of rows.now command.now) ≡ false → table.new ≡ table.old }
+    ensures table_kept { reads_table (request_of tables.now command.now) ≡ false → table.new ≡ table.old }
 {
+    let rows = &tables.list;
     match *command {
         ForEach(function) => answer_function(alloc, rows, function, input, out),
         CellsToChildren { res } => cells_to_children(alloc, res, rows, input, out),
@@ -88,7 +90,7 @@ fn perform_over_list<R: Source, T: Source, W: Sink>(
         UncompactCells { res } => answer_whole(alloc, UncompactList { res }, rows, input, out),
         UncompactCellsSize { res } => uncompact_cells_size(alloc, res, rows, input, out),
         UniteCells => answer_whole_numbered(alloc, UniteList, rows, input, out),
-        _ => perform_over_both(alloc, command, rows, input, table, out),
+        _ => run_file_then_list(alloc, command, tables, input, table, out),
     }
 }
 
@@ -96,39 +98,40 @@ fn perform_over_list<R: Source, T: Source, W: Sink>(
 fn perform<R: Source, T: Source, W: Sink>(
     alloc: Global,
     command: &Command,
-    rows: &Option<RowOptions>,
+    tables: &Tables,
     input: &mut R,
     table: &mut T,
     out: &mut W,
 ) -> Result<(), RunError>
-    ensures ends { Ends (request_of rows.now command.now) (source_use R.left R.has_failed input.old input.new)
+    ensures ends { Ends (request_of tables.now command.now) (source_use R.left R.has_failed input.old input.new)
         (source_use T.left T.has_failed table.old table.new) result
         (sink_use W.taken W.has_failed out.old out.new) }
-    ensures input_kept { reads_list (request_of rows.now command.now) ≡ false → input.new ≡ input.old }
-    ensures table_kept { reads_table (request_of rows.now command.now) ≡ false → table.new ≡ table.old }
+    ensures input_kept { reads_list (request_of tables.now command.now) ≡ false → input.new ≡ input.old }
+    ensures table_kept { reads_table (request_of tables.now command.now) ≡ false → table.new ≡ table.old }
 {
     match work_of(command) {
         Work::Index(function, index) => write_answer_for(function, index, out),
         Work::Words(query) => write_words_answer(query, out),
         Work::Table(query) => over_table(alloc, query, table, out),
-        Work::List => perform_over_list(alloc, command, rows, input, table, out),
+        Work::List => perform_over_list(alloc, command, tables, input, table, out),
     }
 }
 
-/// Runs a command, as `run` does, over a list that has rows, if it is said how they are read and
-/// written. A command that answers line by line then writes each row with the answer to its own cell
-/// beside it. One that answers about its list as a whole takes the cells of the rows as the list.
+/// Runs a command, as `run` does, over a list and a file of cells that have rows, if `tables` says how
+/// these are read and written. A command that answers line by line then writes each row of the list
+/// with the answer to its own cell beside it. One that answers about its list as a whole takes the cells
+/// of the rows as the list. Of the rows of a file the cells are taken.
 pub fn run_over<R: Source, T: Source, W: Sink, E: Sink>(
     alloc: Global,
     command: &Command,
-    rows: &Option<RowOptions>,
+    tables: &Tables,
     input: &mut R,
     table: &mut T,
     out: &mut W,
     err: &mut E,
 ) -> u8
     // What it writes where nothing fails, and how else it may end.
-    ensures runs { Runs (request_of rows.now command.now) result (record {
+    ensures runs { Runs (request_of tables.now command.now) result (record {
       input = source_use R.left R.has_failed input.old input.new;
       table = source_use T.left T.has_failed table.old table.new;
       out = sink_use W.taken W.has_failed out.old out.new;
@@ -136,8 +139,8 @@ pub fn run_over<R: Source, T: Source, W: Sink, E: Sink>(
     }) }
 
     // What is left alone: a source that the command does not read, and `err` where the status is 0.
-    ensures input_kept { reads_list (request_of rows.now command.now) ≡ false → input.new ≡ input.old }
-    ensures table_kept { reads_table (request_of rows.now command.now) ≡ false → table.new ≡ table.old }
+    ensures input_kept { reads_list (request_of tables.now command.now) ≡ false → input.new ≡ input.old }
+    ensures table_kept { reads_table (request_of tables.now command.now) ≡ false → table.new ≡ table.old }
     ensures err_kept { result ≡ 0 → err.new ≡ err.old }
 
     // A law, whatever the command: what is printed of the counts of zones adds up to the list.
@@ -145,9 +148,11 @@ pub fn run_over<R: Source, T: Source, W: Sink, E: Sink>(
 
     // Laws, whatever the rows: each stands in the output with the answers to its own cell, up to the row
     // that ends the answer, and the rows are the list again, as are the fields of a row without the new
-    // one. Read again, the output has these rows and no others.
+    // one. A header stands whole before the new names. Read again, the output has these rows and no
+    // others.
     ensures stand { RowsStand }
     ensures until { RowsStandUntil }
+    ensures header { HeaderStands }
     ensures give { RowsGiveBack }
     ensures whole { RowsAreWhole }
     ensures back { OutputReadsBack }
@@ -168,7 +173,7 @@ pub fn run_over<R: Source, T: Source, W: Sink, E: Sink>(
     counts_add_up();
     answers_stand_beside();
     answers_are_fields();
-    let ending = perform(alloc, command, rows, input, table, out);
+    let ending = perform(alloc, command, tables, input, table, out);
     report(err, ending)
 }
 
@@ -211,5 +216,9 @@ pub fn run<R: Source, T: Source, W: Sink, E: Sink>(
     // A law, whatever the command: what is printed of the counts of zones adds up to the list.
     ensures counts { CountsPrintedAddUp }
 {
-    run_over(alloc, command, &None, input, table, out, err)
+    let tables = Tables {
+        list: None,
+        file: None,
+    };
+    run_over(alloc, command, &tables, input, table, out, err)
 }

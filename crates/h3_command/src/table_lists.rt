@@ -119,7 +119,7 @@ fn answer_lines<R: Source, W: Sink>(
 
 /// Reads a table, and then writes what is answered over its links to each line of a list, or beside
 /// each row.
-// Inlined, its blocks would take their place on the stack while `perform_over_both` runs another command.
+// Inlined, its blocks would take their place on the stack while `run_file_then_list` runs another command.
 #[inline(never)]
 pub(crate) fn answer_over_table<R: Source, T: Source, W: Sink>(
     alloc: Global,

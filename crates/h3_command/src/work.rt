@@ -1,7 +1,6 @@
 //! The work of a command, by what fixes its answer: words alone, a base cell table, or a list.
 
-ghost use Rattle.std.specs.Prelude.{Option};
-ghost use Rattle.h3_requests.specs.declared.rows.RowOptions.{RowOptions};
+ghost use Rattle.h3_requests.specs.declared.rows.Tables.{Tables};
 ghost use Rattle.h3_command.specs.Answer.{request_of};
 ghost use Rattle.h3_command.specs.Work.{IsWork};
 
@@ -48,7 +47,7 @@ macro_rules! work_of_command {
 
 /// The work of a command.
 pub(crate) fn work_of(command: &Command) -> Work
-    ensures { (rows : Option RowOptions) → IsWork result (request_of rows command.now) }
+    ensures { (tables : Tables) → IsWork result (request_of tables command.now) }
 {
     index_functions!(work_of_command! command {
         GetNumCells { res } => Work::Words(WordsQuery::NumCells { res }),

@@ -2,8 +2,8 @@
 
 use crate::expected::expect_row;
 use h3_fakes::{Faults, FaultySink, FaultySource, NO_FAULT, pulls_to_end};
-use h3_requests::Command;
-use h3_runs::run_command;
+use h3_requests::{Command, Tables};
+use h3_runs::{run_command, run_over_rows};
 use std::alloc::Global;
 
 /// A command, its file, its list, its output, and its line of an H3 error, or nothing where it is
@@ -66,12 +66,28 @@ pub const WELL: Failing = Failing {
 
 /// Runs a command over a file and a list, of which a pull takes at most `most` bytes.
 pub fn over(alloc: Global, row: &FileRow, most: usize, failing: Failing) -> Outcome {
+    over_tables(alloc, row, None, most, failing)
+}
+
+/// As `over`, where the file and the list may have rows that are read so.
+pub fn over_tables(
+    alloc: Global,
+    row: &FileRow,
+    tables: Option<&Tables>,
+    most: usize,
+    failing: Failing,
+) -> Outcome {
     let (command, file, list, _, _) = row;
     let mut input = FaultySource::new(list.as_bytes(), most, failing.list);
     let mut table = FaultySource::new(file.as_bytes(), most, failing.file);
     let mut out = FaultySink::new(64, failing.out);
     let mut err = FaultySink::new(64, NO_FAULT);
-    let status = run_command(alloc, command, &mut input, &mut table, &mut out, &mut err);
+    let status = match tables {
+        None => run_command(alloc, command, &mut input, &mut table, &mut out, &mut err),
+        Some(tables) => run_over_rows(
+            alloc, command, tables, &mut input, &mut table, &mut out, &mut err,
+        ),
+    };
     Outcome {
         status,
         out,
@@ -82,7 +98,7 @@ pub fn over(alloc: Global, row: &FileRow, most: usize, failing: Failing) -> Outc
 }
 
 /// The bytes of a pull.
-static PIECES: [usize; 3] = [1, 16, 65536];
+pub static PIECES: [usize; 3] = [1, 16, 65536];
 
 /// A cell, its children, and cells of some resolutions below them.
 pub const CELL: &str = "8428347ffffffff\n";
@@ -285,7 +301,7 @@ fn lines_of(text: &str) -> u64 {
 /// The flushes of an answer to a list that is read so. The commands that answer line by line flush
 /// for each page that has an answer: no 16 bytes have two. Others flush at the end, and none where
 /// they are refused.
-fn flushes(row: &FileRow, most: usize) -> u64 {
+pub fn flushes(row: &FileRow, most: usize) -> u64 {
     let (command, _, _, output, line) = row;
     match command {
         Command::AreCoveredCells | Command::CellsToZones if most > 16 => {

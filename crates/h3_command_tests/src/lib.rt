@@ -28,6 +28,8 @@ mod runs;
 #[cfg(test)]
 mod table_files;
 #[cfg(test)]
+mod tables_of_cells;
+#[cfg(test)]
 mod walks;
 #[cfg(test)]
 mod writers;

@@ -12,7 +12,7 @@ use Rattle.h3_lines.specs.Answer.{before, cell_line, refused, ring_line, walked}
 use Rattle.h3_lines.specs.List.{lines_of, listed_cells, said_by}
 use Rattle.h3_lines.specs.RunError.{refusal_line, refusal_status, row_error_name}
 use Rattle.h3_lines.specs.declared.run_error.CellFile.TheVariants.{Region, Zones}
-use Rattle.h3_lines.specs.declared.run_error.AnswerError.TheVariants.{AtRow, AtRowAndMore, Column, File, FileAt, Table}
+use Rattle.h3_lines.specs.declared.run_error.AnswerError.TheVariants.{AtRow, AtRowAndMore, Column, File, FileAt, FileAtRow, FileColumn, Table}
 use Rattle.h3_lines.specs.declared.run_error.ColumnError.TheVariants.{NotFound, NotUnique, InUse}
 use Rattle.h3_lines.specs.declared.run_error.Fault.TheVariants.{Memory, Read, Write}
 use Rattle.h3_lines.specs.declared.run_error.RowError.TheVariants as of_row
@@ -65,6 +65,15 @@ errors_of_files : map refusal_line (map Error (FileAt Region 12 CellInvalid ∷ 
 unfolding digits
 errors_of_files = refl
 
+errors_of_tables_of_cells : map refusal_line (map Error (
+    FileAtRow Zones 12 (of_row.Bad NoSuchField) ∷ FileAtRow Region 12 (of_row.Call CellInvalid)
+    ∷ FileColumn Zones NotFound ∷ FileColumn Region NotUnique ∷ []))
+    ≡ map line (
+    codes "zones: line 12: error 1: E_FAILED: no such field" ∷ codes "region: line 12: error 5: E_CELL_INVALID"
+    ∷ codes "zones: column: not found" ∷ codes "region: column: not unique" ∷ [])
+unfolding digits
+errors_of_tables_of_cells = refl
+
 errors_of_rows : map refusal_line (map Error (AtRow 12 (of_row.Call CellInvalid) ∷ AtRowAndMore 12 (of_row.Call CellInvalid) 6 ∷ AtRow 2 (of_row.Bad NotAnIndex) ∷ AtRowAndMore 2 (of_row.Bad NotAnIndex) 0 ∷ AtRowAndMore 2 (of_row.Bad NotAnIndex) 6 ∷ []))
     ≡ map line (codes "line 12: error 5: E_CELL_INVALID" ∷ codes "line 12: error 5: E_CELL_INVALID and 6 more" ∷ codes "line 2: error 1: E_FAILED: not an index" ∷ codes "line 2: error 1: E_FAILED: not an index" ∷ codes "line 2: error 1: E_FAILED: not an index, and 6 more" ∷ [])
 unfolding digits
@@ -84,6 +93,12 @@ errors_of_columns = refl
 
 statuses_of_rows : map refusal_status (map Error (AtRow 2 (of_row.Bad TooLong) ∷ AtRowAndMore 12 (of_row.Call CellInvalid) 6 ∷ Column NotFound ∷ Column NotUnique ∷ Column InUse ∷ [])) ≡ 1 ∷ 1 ∷ 3 ∷ 3 ∷ 3 ∷ []
 statuses_of_rows = refl
+
+statuses_of_tables_of_cells : map refusal_status (map Error (
+    FileAtRow Zones 2 (of_row.Bad TooLong) ∷ FileAtRow Region 12 (of_row.Call CellInvalid)
+    ∷ FileColumn Zones NotFound ∷ FileColumn Region NotUnique ∷ []))
+    ≡ 1 ∷ 1 ∷ 3 ∷ 3 ∷ []
+statuses_of_tables_of_cells = refl
 
 statuses : map refusal_status (map Error (Table in_table.Missing ∷ Table in_table.Read ∷ FileAt Zones 3 Failed ∷ File Zones DuplicateInput ∷ []) ++ map Fault (Memory ∷ Read ∷ Write ∷ []))
     ≡ 3 ∷ 4 ∷ 1 ∷ 1 ∷ 1 ∷ 4 ∷ 4 ∷ []

@@ -8,7 +8,7 @@ use Rattle.h3_directions.specs.declared.direction.Direction.{Direction}
 use Rattle.h3_directions.specs.declared.error.TableError.{TableError}
 use Rattle.h3_directions.specs.declared.error.TableError.TheVariants as in_table
 use Rattle.h3_lines.specs.declared.run_error.AnswerError.{AnswerError}
-use Rattle.h3_lines.specs.declared.run_error.AnswerError.TheVariants.{Call, At, AtRow, AtRowAndMore, Column, Table, FileAt, File}
+use Rattle.h3_lines.specs.declared.run_error.AnswerError.TheVariants.{Call, At, AtRow, AtRowAndMore, Column, Table, FileAt, FileAtRow, FileColumn, File}
 use Rattle.h3_lines.specs.declared.run_error.CellFile.{CellFile}
 use Rattle.h3_lines.specs.declared.run_error.CellFile.TheVariants.{Region, Zones}
 use Rattle.h3_lines.specs.declared.run_error.ColumnError.{ColumnError}
@@ -103,7 +103,7 @@ abbrev pub file_word : CellFile → List ℕ
 file_word Region = codes "region"
 file_word Zones = codes "zones"
 
--- the line of an error of a file of cells, as `region: line 12: error 5: E_CELL_INVALID`
+-- the line of an error of a file of cells, as `region: line 12: error 5: E_CELL_INVALID`, or `zones: column: not found`
 abbrev pub file_line : CellFile → List ℕ → List ℕ
 file_line file line = file_word file ++ codes ": " ++ line
 
@@ -116,6 +116,8 @@ answer_error_line (AtRowAndMore row e more) = row_line row e more
 answer_error_line (Column e) = column_line e
 answer_error_line (Table e) = table_line e
 answer_error_line (FileAt file line e) = file_line file (error_line_at line e)
+answer_error_line (FileAtRow file row e) = file_line file (row_line row e 0)
+answer_error_line (FileColumn file e) = file_line file (column_line e)
 answer_error_line (File file e) = file_line file (error_line e)
 
 -- fault_line f: that of a fault
@@ -130,7 +132,7 @@ refusal_line (Error e) = answer_error_line e
 refusal_line (Fault f) = fault_line f
 
 -- answer_error_status e: the exit status of an answer's error: 1 for an H3 error, 3 for a header whose columns do not
--- serve, and 3 for an error of a base cell table that is neither out of memory nor a read that failed
+-- serve, the list's or a file's, and 3 for an error of a base cell table that is neither out of memory nor a read that failed
 abbrev pub answer_error_status : AnswerError → ℕ
 answer_error_status (Call e) = 1
 answer_error_status (At line e) = 1
@@ -141,6 +143,8 @@ answer_error_status (Table in_table.Read) = 4
 answer_error_status (Table in_table.Memory) = 1
 answer_error_status (Table e) = 3
 answer_error_status (FileAt file line e) = 1
+answer_error_status (FileAtRow file row e) = 1
+answer_error_status (FileColumn file e) = 3
 answer_error_status (File file e) = 1
 
 -- fault_status f: that of a fault: 4 for one of a stream, and 1 for out of memory, which is an H3 error

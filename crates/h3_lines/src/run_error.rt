@@ -56,7 +56,8 @@ impl ColumnError {
 
     /// The line on standard error.
     fn line(&self) -> ArrayString<LINE_ROOM>
-        ensures { result.bytes ≡ column_line self.now }
+        ensures line { result.bytes ≡ column_line self.now }
+        ensures short { length result.bytes ≤ 64 }
     {
         match self {
             ColumnError::NotFound => fixed_text("column: not found\n"),
@@ -195,6 +196,12 @@ pub enum AnswerError {
     /// A line of a file of cells is faulty. The first line is 1, and blank lines count.
     FileAt(CellFile, u64, H3Error),
 
+    /// A row of a file of cells has an error. The number of a row is that of its first line.
+    FileAtRow(CellFile, u64, RowError),
+
+    /// The columns of the header of a file of cells do not serve.
+    FileColumn(CellFile, ColumnError),
+
     /// A file of cells gave an H3 error as a whole.
     File(CellFile, H3Error),
 }
@@ -239,6 +246,8 @@ impl AnswerError {
             AnswerError::FileAt(file, line, error) => {
                 file_line(*file, error_line_at(*line, *error))
             }
+            AnswerError::FileAtRow(file, row, error) => file_line(*file, row_line(*row, *error, 0)),
+            AnswerError::FileColumn(file, error) => file_line(*file, error.line()),
             AnswerError::File(file, error) => file_line(*file, error_line(*error)),
         }
     }
@@ -250,10 +259,12 @@ impl AnswerError {
         match self {
             AnswerError::Table(TableError::Memory) => 1,
             AnswerError::Table(TableError::Read) => 4,
-            AnswerError::Table(_) | AnswerError::Column(_) => 3,
+            AnswerError::Table(_) => 3,
+            AnswerError::Column(_) | AnswerError::FileColumn(_, _) => 3,
             AnswerError::Call(_) | AnswerError::At(_, _) => 1,
             AnswerError::AtRow(_, _) | AnswerError::AtRowAndMore(_, _, _) => 1,
-            AnswerError::FileAt(_, _, _) | AnswerError::File(_, _) => 1,
+            AnswerError::FileAt(_, _, _) | AnswerError::FileAtRow(_, _, _) => 1,
+            AnswerError::File(_, _) => 1,
         }
     }
 }
@@ -396,7 +407,8 @@ fn error_line_at(number: u64, error: H3Error) -> ArrayString<LINE_ROOM>
 
 /// The line of an error at a row, and of how many more followed.
 fn row_line(row: u64, error: RowError, more: u64) -> ArrayString<LINE_ROOM>
-    ensures { result.bytes ≡ row_line row error more }
+    ensures line { result.bytes ≡ row_line row error more }
+    ensures short { more ≡ 0 → length result.bytes ≤ 128 }
 {
     let mut decimal = Buffer::new();
     let mut line = ArrayString::new();
@@ -424,7 +436,7 @@ fn field_count_reason(row: u64, header: u64) -> ArrayString<LINE_ROOM>
 
 /// The line of an error of a file of cells: the file's word before the line of the error.
 fn file_line(file: CellFile, error: ArrayString<LINE_ROOM>) -> ArrayString<LINE_ROOM>
-    requires { length error.bytes ≤ 64 }
+    requires { length error.bytes ≤ 128 }
     ensures { result.bytes ≡ file_line file error.bytes }
 {
     let mut line = ArrayString::new();

@@ -149,7 +149,7 @@ const P: u64 = 0x85283473fffffff;
 const Q: u64 = 0x85283477fffffff;
 
 /// Tables, and their areas.
-static TABLES: [Table; 9] = [
+static TABLES: [Table; 10] = [
     (
         Columns::Headed,
         "zone,cell\nnorth,85283473fffffff\n\"south, old\",85283477fffffff\nnorth,85283473fffffff\nnone,\n",
@@ -193,6 +193,14 @@ static TABLES: [Table; 9] = [
         Columns::Headed,
         "\n\u{feff}x, \"zone\" ,cell\n1,a,85283473fffffff\n",
         "\"zone\"",
+        &["a"],
+        &[(P, 0)],
+    ),
+    // alone in the first row it leaves that empty
+    (
+        Columns::Headed,
+        "\u{feff}\nzone,cell\na,85283473fffffff\n",
+        "zone",
         &["a"],
         &[(P, 0)],
     ),

@@ -5,7 +5,7 @@ use h3_index::H3Error;
 use h3_lines::{AnswerError, CellFile, ColumnError, Fault, RowError, RowFault, RunError};
 
 /// Refusals of each variant.
-static REFUSALS: [RunError; 31] = [
+static REFUSALS: [RunError; 38] = [
     RunError::Error(AnswerError::Call(H3Error::Failed)),
     RunError::Error(AnswerError::Call(H3Error::MemoryAlloc)),
     RunError::Error(AnswerError::At(1, H3Error::Failed)),
@@ -34,6 +34,13 @@ static REFUSALS: [RunError; 31] = [
     RunError::Error(AnswerError::FileAt(CellFile::Zones, 1, H3Error::Failed)),
     RunError::Error(AnswerError::FileAt(CellFile::Zones, 2, H3Error::Failed)),
     RunError::Error(AnswerError::FileAt(CellFile::Zones, 2, H3Error::CellInvalid)),
+    RunError::Error(AnswerError::FileAtRow(CellFile::Region, 1, RowError::Call(H3Error::Failed))),
+    RunError::Error(AnswerError::FileAtRow(CellFile::Zones, 1, RowError::Call(H3Error::Failed))),
+    RunError::Error(AnswerError::FileAtRow(CellFile::Zones, 2, RowError::Call(H3Error::Failed))),
+    RunError::Error(AnswerError::FileAtRow(CellFile::Zones, 2, RowError::Bad(RowFault::TooLong))),
+    RunError::Error(AnswerError::FileColumn(CellFile::Region, ColumnError::NotFound)),
+    RunError::Error(AnswerError::FileColumn(CellFile::Zones, ColumnError::NotFound)),
+    RunError::Error(AnswerError::FileColumn(CellFile::Zones, ColumnError::NotUnique)),
     RunError::Error(AnswerError::File(CellFile::Region, H3Error::DuplicateInput)),
     RunError::Error(AnswerError::File(CellFile::Zones, H3Error::DuplicateInput)),
     RunError::Error(AnswerError::File(CellFile::Zones, H3Error::Failed)),

@@ -1,15 +1,16 @@
 //! Runs commands over streams in fixed arrays, and prints the status of each and what it wrote: a
 //! list of 49 cells that compact to one, one of mixed resolutions, a disk over a table in format 1,
 //! an edge over one in format 2, the resolution of each cell of a list, a list of cells that
-//! overlap, united, the five commands over that list and a file of cells, and of a cell that is
-//! listed its children, its disk, and of an edge the cell that it leads to.
+//! overlap, united, the five commands over that list and a file of cells, of a cell that is listed its
+//! children, its disk, and of an edge the cell that it leads to, and the zones of that list over a table
+//! of cells.
 //! `tests/command/memory` refuses each allocation of it in turn.
 #![tactic(auto)]
 
 use arrayvec::ArrayVec;
-use h3_command::run::run;
+use h3_command::run::run_over;
 use h3_fakes::{bases_file, table_file};
-use h3_requests::{Command, IndexFunction};
+use h3_requests::{CellField, Command, IndexFunction, RowOptions, Tables};
 use h3_streams::Streamed;
 use h3_table::vectors::TestTable;
 use itoa::Buffer;
@@ -50,6 +51,23 @@ const EDGE: &str = "115283473fffffff\n";
 /// A child of 8428347ffffffff, and a cell apart from it: a region, and zones.
 const APART: &str = "85283463fffffff\n8009fffffffffff\n";
 
+/// The same as a table, in whose second field the cells are.
+const ROWS: &str = "a,85283463fffffff\n\"b, c\",8009fffffffffff\n";
+
+/// How the rows of that table are read.
+fn row_options() -> RowOptions {
+    RowOptions {
+        field: CellField::Number(2),
+        has_header: false,
+        separator: b',',
+        quotes: true,
+        name: None,
+        keeps_going: false,
+        shows_errors: false,
+        is_ragged: false,
+    }
+}
+
 /// Prints how many bytes these are, after a name, and then the bytes.
 fn print_bytes<W: Write>(name: &str, bytes: &[u8], to: &mut W) -> io::Result<()> {
     let mut number = Buffer::new();
@@ -64,6 +82,7 @@ fn print_bytes<W: Write>(name: &str, bytes: &[u8], to: &mut W) -> io::Result<()>
 fn print_run<W: Write>(
     alloc: Global,
     command: &Command,
+    tables: &Tables,
     reads: (&str, &str),
     to: &mut W,
 ) -> io::Result<()> {
@@ -72,7 +91,9 @@ fn print_run<W: Write>(
     let mut table = Streamed::new(file.as_bytes());
     let mut out = Streamed::new(ArrayVec::<u8, 256>::new());
     let mut err = Streamed::new(ArrayVec::<u8, 64>::new());
-    let status = run(alloc, command, &mut input, &mut table, &mut out, &mut err);
+    let status = run_over(
+        alloc, command, tables, &mut input, &mut table, &mut out, &mut err,
+    );
     let mut number = Buffer::new();
     to.write_all(b"status ")?;
     to.write_all(number.format(status).as_bytes())?;
@@ -105,8 +126,23 @@ fn main(rt: HostRuntime) -> io::Result<()> {
         (Command::GetDirectedEdgeDestinations, (EDGE, file.as_str())),
     ];
     let mut stdout = rt.stdout();
+    let bare = Tables {
+        list: None,
+        file: None,
+    };
     for (command, reads) in &runs {
-        print_run(rt.alloc(), command, *reads, &mut stdout)?;
+        print_run(rt.alloc(), command, &bare, *reads, &mut stdout)?;
     }
-    Ok(())
+    let tables = Tables {
+        list: None,
+        file: Some(row_options()),
+    };
+    let reads = (OVERLAPPING, ROWS);
+    print_run(
+        rt.alloc(),
+        &Command::CellsToZones,
+        &tables,
+        reads,
+        &mut stdout,
+    )
 }

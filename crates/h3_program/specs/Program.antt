@@ -73,7 +73,7 @@ version_line = codes "h3 1.3.0" ++ 10 ∷ []
 -- line goes to standard error, with status 2; out of memory is an error line; where no command is run, nothing is opened
 -- or read
 abbrev pub Follows : {R F : Type 0} → Files F → Result Words ArgsError → ℕ → Change R → Change F → Streams → Type 0
-Follows files (Ok words) status input file s = RunsCommand files words.file (request_of words.rows words.command) status input file s
+Follows files (Ok words) status input file s = RunsCommand files words.file (request_of words.tables words.command) status input file s
 Follows files (Err (Help text)) status input file s =
     ((ending : Result (Unit {0}) RunError) × Writes (written (string_bytes text)) ending s.out × Reports ending status s.err)
     × IsUntouched input × IsUntouched file

@@ -48,7 +48,7 @@ fn run_command<R: Source, F: OpenFile, W: Sink, E: Sink>(
       opens = F.opens;
       fails_to_open = F.fails_to_open;
       as_source = source_use F.left F.has_failed;
-    }) words.now.file (request_of words.now.rows words.now.command) result
+    }) words.now.file (request_of words.now.tables words.now.command) result
         (record { old = input.old; new = input.new })
         (record { old = file.old; new = file.new }) (record {
           input = source_use R.left R.has_failed input.old input.new;
@@ -58,9 +58,9 @@ fn run_command<R: Source, F: OpenFile, W: Sink, E: Sink>(
         }) }
 {
     match &words.file {
-        None => run_over(alloc, &words.command, &words.rows, input, file, out, err),
+        None => run_over(alloc, &words.command, &words.tables, input, file, out, err),
         Some(named) => match file.open(named.path()) {
-            Ok(()) => run_over(alloc, &words.command, &words.rows, input, file, out, err),
+            Ok(()) => run_over(alloc, &words.command, &words.tables, input, file, out, err),
             Err(_) => {
                 let _ = write_all(err, open_line(named).as_bytes());
                 CANNOT_OPEN

@@ -44,9 +44,9 @@ fn over(
     let mut input = FaultySource::new(sources.1.as_bytes(), most, faults.1);
     let mut out = FaultySink::new(64, NO_FAULT);
     let mut err = FaultySink::new(64, NO_FAULT);
-    let (command, rows) = (&words.command, &words.rows);
+    let (command, tables) = (&words.command, &words.tables);
     let status = run_over_rows(
-        alloc, command, rows, &mut input, &mut table, &mut out, &mut err,
+        alloc, command, tables, &mut input, &mut table, &mut out, &mut err,
     );
     Some(Outcome {
         status,

@@ -45,6 +45,17 @@ pub struct RowOptions {
     ghost separates: { is_separator separator ≡ true },
 }
 
+/// How the tables of a command are read: its list, if that has rows, and its file of cells.
+#[derive(Debug, Drop)]
+pub struct Tables {
+    /// How the rows of the list are read and written; `None` if the list is bare.
+    pub list: Option<RowOptions>,
+
+    /// How the rows of the file of a region or of zones are read, by the field, the header, the separator
+    /// and the quotes of these options; `None` if the file is bare.
+    pub file: Option<RowOptions>,
+}
+
 /// Whether a byte may separate fields: one of ASCII that is not in an answer, and ends no row and
 /// no quote.
 pub fn is_separator(byte: u8) -> bool

@@ -31,11 +31,12 @@ use Rattle.h3_requests.specs.declared.command.Command.{Command}
 use Rattle.h3_words.proofs.Lexed as lexed
 use Rattle.h3_words.proofs.Lexed.{given_same}
 use Rattle.h3_words.proofs.Leaf.{Passes, Reads, leaf_reads, row_of_option}
-use Rattle.h3_words.specs.Rows.{HasRows, IsCellField, Texts, default_separator, found_texts, named_separator, rows_agree}
-use Rattle.h3_words.specs.declared.options.CommandOption.TheVariants.{Field, Column, Header, Separator, Csv, As, KeepGoing, Errors, Ragged, Table, Region, Zones}
+use Rattle.h3_words.specs.Rows.{HasFileRows, HasRows, HasTables, IsFieldBy, IsFileField, Texts, default_separator, found_texts, named_separator, rows_agree, separator_of}
+use Rattle.h3_words.specs.declared.options.CommandOption.TheVariants.{Field, Column, Header, Separator, Csv, As, KeepGoing, Errors, Ragged, RegionColumn, RegionField, ZoneColumn, ZoneField, Table, Region, Zones}
 use Rattle.h3_requests.specs.declared.rows.CellField.{CellField}
 use Rattle.h3_requests.specs.declared.rows.CellField.TheVariants as field
 use Rattle.h3_requests.specs.declared.rows.RowOptions.{RowOptions}
+use Rattle.h3_requests.specs.declared.rows.Tables.{Tables}
 use Rattle.std.specs.Option.{option_map_or}
 use Rattle.h3_words.proofs.Named.{alone_is_free, alone_is_simple, alone_rows, same_fault, whole_fault}
 use Rattle.h3_words.proofs.Names.{word_named}
@@ -163,12 +164,12 @@ pub asks_for : (k : Command) (ws : List Text) (found : Found) → command_of ws 
     → (asked : Words) → entry_of asked.command ≡ entry_of k
     → ((text : CommandOption → Option Text) → AreFound k text found → HasValues text asked.command)
     → ((text : CommandOption → Option Text) → AreFound k text found → HasFile text k asked.file)
-    → ((text : CommandOption → Option Text) → AreFound k text found → HasRows text asked.rows) → AsksFor ws asked
+    → ((text : CommandOption → Option Text) → AreFound k text found → HasTables text asked.tables) → AsksFor ws asked
 asks_for k ws found named are asked is has names rows_are = record {
   command = (names_word k ws named).0 ∙ ap (λ (e : Entry). Some e.word) (sym is);
   values = has (λ o. given o (drop 2 ws)) are;
   file = file_alike (λ o. given o (drop 2 ws)) k asked.command asked.file (sym is) (names (λ o. given o (drop 2 ws)) are);
-  rows = rows_are (λ o. given o (drop 2 ws)) are;
+  tables = rows_are (λ o. given o (drop 2 ws)) are;
 }
 
 -- ---- the options of rows
@@ -178,35 +179,63 @@ abbrev pub Alike : Texts → Texts → Type 0
 Alike f g = (o : CommandOption) → f o ≡ g o
 
 pub agree_alike : (f g : Texts) → Alike f g → rows_agree f ≡ rows_agree g
-agree_alike f g e = rw (e Field, e Column, e Header, e Separator, e Csv, e As, e KeepGoing, e Errors, e Ragged) refl
+agree_alike f g e = rw (e Field, e Column, e Header, e Separator, e Csv, e As, e KeepGoing, e Errors, e Ragged, e RegionColumn, e RegionField, e ZoneColumn, e ZoneField) refl
+
+field_alike : (f g : Texts) (by_number by_name : CommandOption) → Alike f g → (c : CellField) → IsFieldBy f by_number by_name c → IsFieldBy g by_number by_name c
+field_alike f g by_number by_name e (field.Number n) is = (is.0, sym (e by_number) ∙ is.1, is.2, is.3)
+field_alike f g by_number by_name e (field.Column name) is = sym (e by_name) ∙ is
+
+separator_alike : (f g : Texts) → Alike f g → separator_of f ≡ separator_of g
+separator_alike f g e = ap₂ (λ s c. option_map_or named_separator s (Some (default_separator (is_some c)))) (e Separator) (e Csv)
 
 pub rows_alike : (f g : Texts) → Alike f g → (rows : Option RowOptions) → HasRows f rows → HasRows g rows
 rows_alike f g e None has = (sym (e Field) ∙ has.0, sym (e Column) ∙ has.1)
 rows_alike f g e (Some rows) has = record {
-  field = cell (rows.field) has.field;
+  field = field_alike f g Field Column e rows.field has.field;
   header = has.header ∙ ap₂ (λ a b. is_some a || is_some b) (e Column) (e Header);
-  separator = has.separator ∙ ap₂ (λ s c. option_map_or named_separator s (Some (default_separator (is_some c)))) (e Separator) (e Csv);
+  separator = has.separator ∙ separator_alike f g e;
   quotes = has.quotes ∙ ap is_some (e Csv);
   name = has.name ∙ e As;
   keeps_going = has.keeps_going ∙ ap is_some (e KeepGoing);
   shows_errors = has.shows_errors ∙ ap is_some (e Errors);
   is_ragged = has.is_ragged ∙ ap is_some (e Ragged);
 }
-  where
-    cell : (c : CellField) → IsCellField f c → IsCellField g c
-    cell (field.Number n) is = (is.0, sym (e Field) ∙ is.1, is.2, is.3)
-    cell (field.Column name) is = sym (e Column) ∙ is
+
+pub file_rows_alike : (f g : Texts) → Alike f g → (rows : Option RowOptions) → HasFileRows f rows → HasFileRows g rows
+file_rows_alike f g e None has = (
+  (sym (e RegionField) ∙ has.0.0, sym (e RegionColumn) ∙ has.0.1),
+  (sym (e ZoneField) ∙ has.1.0, sym (e ZoneColumn) ∙ has.1.1),
+)
+file_rows_alike f g e (Some rows) has = record {
+  field = elim has.field as (λ _. IsFileField g rows.field) [
+    | inl is ↦ inl (field_alike f g RegionField RegionColumn e rows.field is)
+    | inr is ↦ inr (field_alike f g ZoneField ZoneColumn e rows.field is)
+  ];
+  header = has.header ∙ ap₂ (λ a b. is_some a || is_some b) (e RegionColumn) (e ZoneColumn);
+  separator = has.separator ∙ separator_alike f g e;
+  quotes = has.quotes ∙ ap is_some (e Csv);
+  name = has.name;
+  keeps_going = has.keeps_going;
+  shows_errors = has.shows_errors;
+  is_ragged = has.is_ragged;
+}
 
 -- the options of rows agree in what a parse found as they do in what the words give
 pub agree_found : (k : Command) (text : CommandOption → Option Text) (found : Found) → AreFound k text found → rows_agree (found_texts found) ≡ rows_agree text
 agree_found k text found are = agree_alike (found_texts found) text (λ o. (are o).same)
 
 -- options of rows that are what a parse found are what each text says that it found
-pub rows_are : (k : Command) (found : Found) (rows : Option RowOptions) → rows_agree (found_texts found) ≡ true
-    → (rows_agree (found_texts found) ≡ true → IsAccepted Field (found_texts found Field) → HasRows (found_texts found) rows)
-    → (text : CommandOption → Option Text) → AreFound k text found → HasRows text rows
-rows_are k found rows agree has text are = rows_alike (found_texts found) text (λ o. (are o).same) rows
-    (has agree (subst (IsAccepted Field) (sym (are Field).same) (are Field).accepted))
+pub rows_are : (k : Command) (found : Found) (tables : Tables) → rows_agree (found_texts found) ≡ true
+    → (rows_agree (found_texts found) ≡ true → IsAccepted Field (found_texts found Field)
+    → IsAccepted RegionField (found_texts found RegionField) → IsAccepted ZoneField (found_texts found ZoneField)
+    → HasTables (found_texts found) tables)
+    → (text : CommandOption → Option Text) → AreFound k text found → HasTables text tables
+rows_are k found tables agree has text are =
+    let alike : Alike (found_texts found) text = λ o. (are o).same in
+    let accepted : (o : CommandOption) → IsAccepted o (found_texts found o) =
+    λ o. subst (IsAccepted o) (sym (are o).same) (are o).accepted in
+    let both = has agree (accepted Field) (accepted RegionField) (accepted ZoneField) in
+    (rows_alike (found_texts found) text alike tables.list both.0, file_rows_alike (found_texts found) text alike tables.file both.1)
 
 -- what is reported of the parse is a refusal of the words
 pub refused : (ws : List Text) (f : ArgsError) → IsFaultOf (fault_of app ws) f → IsRefusalOf ws f

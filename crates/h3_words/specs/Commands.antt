@@ -92,6 +92,14 @@ list_options = option.Field ∷ option.Column ∷ option.Header ∷ option.Separ
 abbrev pub line_options : List CommandOption
 line_options = option.Field ∷ option.Column ∷ option.Header ∷ option.Separator ∷ option.Csv ∷ option.As ∷ option.KeepGoing ∷ option.Errors ∷ option.Ragged ∷ []
 
+-- the options of each command about a region: its file, and how the rows of that are read if it is a table
+abbrev pub region_options : List CommandOption
+region_options = option.Region ∷ option.RegionColumn ∷ option.RegionField ∷ []
+
+-- the same of zones
+abbrev pub zone_options : List CommandOption
+zone_options = option.Zones ∷ option.ZoneColumn ∷ option.ZoneField ∷ []
+
 -- call_of command: the word of a `Command`, the values that it has for its options, and its other options
 abbrev pub call_of : Command → Call
 call_of (command.IsValidCell cell) = record { word = codes "isValidCell"; values = Index option.Cell cell ∷ []; others = [] }
@@ -113,11 +121,11 @@ call_of command.CompactCells = record { word = codes "compactCells"; values = []
 call_of (command.UncompactCells res) = record { word = codes "uncompactCells"; values = Number option.Resolution res ∷ []; others = list_options }
 call_of (command.UncompactCellsSize res) = record { word = codes "uncompactCellsSize"; values = Number option.Resolution res ∷ []; others = list_options }
 call_of command.UniteCells = record { word = codes "uniteCells"; values = []; others = list_options }
-call_of command.IntersectCells = record { word = codes "intersectCells"; values = []; others = option.Region ∷ list_options }
-call_of command.SubtractCells = record { word = codes "subtractCells"; values = []; others = option.Region ∷ list_options }
-call_of command.AreCoveredCells = record { word = codes "areCoveredCells"; values = []; others = option.Region ∷ line_options }
-call_of command.CellsToZones = record { word = codes "cellsToZones"; values = []; others = option.Zones ∷ line_options }
-call_of command.CountCellsInZones = record { word = codes "countCellsInZones"; values = []; others = option.Zones ∷ list_options }
+call_of command.IntersectCells = record { word = codes "intersectCells"; values = []; others = region_options ++ list_options }
+call_of command.SubtractCells = record { word = codes "subtractCells"; values = []; others = region_options ++ list_options }
+call_of command.AreCoveredCells = record { word = codes "areCoveredCells"; values = []; others = region_options ++ line_options }
+call_of command.CellsToZones = record { word = codes "cellsToZones"; values = []; others = zone_options ++ line_options }
+call_of command.CountCellsInZones = record { word = codes "countCellsInZones"; values = []; others = zone_options ++ list_options }
 call_of (command.GridDiskUnsafe cell k) = record { word = codes "gridDiskUnsafe"; values = Index option.Cell cell ∷ Number option.Radius k ∷ []; others = option.Table ∷ [] }
 call_of (command.GridDiskDistancesUnsafe cell k) = record { word = codes "gridDiskDistancesUnsafe"; values = Index option.Cell cell ∷ Number option.Radius k ∷ []; others = option.Table ∷ [] }
 call_of (command.GridRingUnsafe cell k) = record { word = codes "gridRingUnsafe"; values = Index option.Cell cell ∷ Number option.Radius k ∷ []; others = option.Table ∷ [] }

@@ -40,6 +40,10 @@ abbrev of_rows : Text → Text → OptionEntry
 of_rows id name =
     record { id = id; short = None; long = Some name; least = pos 0; most = None; is_required = false; is_flag = false }
 
+-- an option of rows that is the number of a field, counted from 1
+abbrev number_of_field : Text → Text → OptionEntry
+number_of_field id name = record (of_rows id name) { least = pos 1; most = Some (pos 65535) }
+
 -- option_entry o: the names of an option, the numbers that its value may be, and whether it is required and a flag
 abbrev pub option_entry : CommandOption → OptionEntry
 option_entry option.Cell = required (codes "cell") (Some 99) (Some (codes "cell")) None
@@ -51,7 +55,7 @@ option_entry option.Edge = required (codes "edge") None (Some (codes "edge")) No
 option_entry option.Table = required (codes "table") None (Some (codes "table")) None
 option_entry option.Region = required (codes "region") None (Some (codes "region")) None
 option_entry option.Zones = required (codes "zones") None (Some (codes "zones")) None
-option_entry option.Field = record (of_rows (codes "number") (codes "field")) { least = pos 1; most = Some (pos 65535) }
+option_entry option.Field = number_of_field (codes "number") (codes "field")
 option_entry option.Column = of_rows (codes "column") (codes "column")
 option_entry option.Header = record (of_rows (codes "header") (codes "header")) { is_flag = true }
 option_entry option.Separator = of_rows (codes "separator") (codes "separator")
@@ -60,6 +64,10 @@ option_entry option.As = of_rows (codes "name") (codes "as")
 option_entry option.KeepGoing = record (of_rows (codes "keep-going") (codes "keep-going")) { is_flag = true }
 option_entry option.Errors = record (of_rows (codes "errors") (codes "errors")) { is_flag = true }
 option_entry option.Ragged = record (of_rows (codes "ragged") (codes "ragged")) { is_flag = true }
+option_entry option.RegionColumn = of_rows (codes "region-column") (codes "region-column")
+option_entry option.RegionField = number_of_field (codes "region-field") (codes "region-field")
+option_entry option.ZoneColumn = of_rows (codes "zone-column") (codes "zone-column")
+option_entry option.ZoneField = number_of_field (codes "zone-field") (codes "zone-field")
 
 -- the option's id in `clap`
 abbrev pub id_of : CommandOption → Text

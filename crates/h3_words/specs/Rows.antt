@@ -1,5 +1,6 @@
--- What the options of rows ask for: how the rows of a list are read, and written with the answers to their cells.
-use Rattle.std.specs.Prelude.{◌≡◌, ◌==◌, ◌&&◌, ◌||◌, ℕ, Bool, true, false, not, [], ◌∷◌, Option, Some, None, is_some, option_map, pos, string_bytes, if◌then◌else◌}
+-- What the options of rows ask for: how the rows of a list are read, and written with the answers to their cells, and how
+-- those of a file of cells are read.
+use Rattle.std.specs.Prelude.{◌≡◌, ◌==◌, ◌&&◌, ◌||◌, ◌⊎◌, ℕ, Bool, true, false, not, [], ◌∷◌, Option, Some, None, is_some, option_map, pos, string_bytes, if◌then◌else◌}
 use Rattle.std.specs.List.{list_any}
 use Rattle.std.specs.Option.{option_map_or}
 use Rattle.std.specs.Str.{bytes_eq}
@@ -10,9 +11,10 @@ use Rattle.h3_requests.specs.Rows.{is_separator}
 use Rattle.h3_requests.specs.declared.rows.CellField.{CellField}
 use Rattle.h3_requests.specs.declared.rows.CellField.TheVariants as field
 use Rattle.h3_requests.specs.declared.rows.RowOptions.{RowOptions}
+use Rattle.h3_requests.specs.declared.rows.Tables.{Tables}
 use Rattle.h3_words.specs.Options.{IsInRange, id_of}
 use Rattle.h3_words.specs.declared.options.CommandOption.{CommandOption}
-use Rattle.h3_words.specs.declared.options.CommandOption.TheVariants.{Field, Column, Header, Separator, Csv, As, KeepGoing, Errors, Ragged}
+use Rattle.h3_words.specs.declared.options.CommandOption.TheVariants.{Field, Column, Header, Separator, Csv, As, KeepGoing, Errors, Ragged, RegionColumn, RegionField, ZoneColumn, ZoneField}
 
 -- Texts: the text that each option is given, if it is given
 abbrev pub Texts : Type 0
@@ -56,16 +58,32 @@ is_column_name separator name = not (list_any (λ b. is_in_no_name separator b) 
 abbrev pub needs : Bool → Bool → Bool
 needs first second = not first || second
 
--- has_company text: each option of rows has what it goes with: `--header` the option `--field`, `--separator`, `--csv` and
--- `--keep-going` one of `--field` and `--column`, which exclude each other, `--as` and `--ragged` a header, and `--errors` the
--- option `--keep-going`
+-- list_has_rows text: the list has rows: `--field` or `--column` is given
+abbrev pub list_has_rows : Texts → Bool
+list_has_rows text = has text Field || has text Column
+
+-- file_has_rows text: the file of cells has rows: the number or the name of their field is given
+abbrev pub file_has_rows : Texts → Bool
+file_has_rows text = (has text RegionField || has text RegionColumn) || (has text ZoneField || has text ZoneColumn)
+
+-- names_fields_once text: of a field the number is given or the name, not both
+abbrev pub names_fields_once : Texts → Bool
+names_fields_once text =
+    not (has text Field && has text Column)
+    && (not (has text RegionField && has text RegionColumn) && not (has text ZoneField && has text ZoneColumn))
+
+-- cuts_rows text: `--separator` and `--csv`, which say how rows are cut, go with a list or a file that has rows
+abbrev pub cuts_rows : Texts → Bool
+cuts_rows text = needs (has text Separator || has text Csv) (list_has_rows text || file_has_rows text)
+
+-- has_company text: each option of the list's rows has what it goes with: `--header` the option `--field`, `--keep-going` rows,
+-- `--as` and `--ragged` a header, and `--errors` the option `--keep-going`
 abbrev pub has_company : Texts → Bool
 has_company text =
-    not (has text Field && has text Column)
-    && (needs (has text Header) (has text Field)
-    && (needs (has text Separator || (has text Csv || has text KeepGoing)) (has text Field || has text Column)
+    needs (has text Header) (has text Field)
+    && (needs (has text KeepGoing) (list_has_rows text)
     && (needs (has text As || has text Ragged) (has text Column || has text Header)
-    && needs (has text Errors) (has text KeepGoing))))
+    && needs (has text Errors) (has text KeepGoing)))
 
 -- cuts_errors text separator: there is a column of the names of errors, which have an underscore (95), and it separates fields
 abbrev pub cuts_errors : Texts → ℕ → Bool
@@ -75,20 +93,25 @@ cuts_errors text separator = has text Errors && separator == 95
 abbrev pub names_fit : Texts → Bool
 names_fit text = option_map_or (λ c. not (cuts_errors text c) && option_map_or (is_column_name c) (text As) true) (separator_of text) false
 
--- rows_agree text: each option of rows has what it goes with, and names what it may
+-- rows_agree text: no field is named twice, each option of rows has what it goes with, and names what it may
 abbrev pub rows_agree : Texts → Bool
-rows_agree text = has_company text && names_fit text
+rows_agree text = names_fields_once text && (cuts_rows text && (has_company text && names_fit text))
+
+-- IsFieldBy text by_number by_name field: the field is that of the option of its number, from 1 to 65535, or that of the
+-- option of its name
+abbrev pub IsFieldBy : Texts → CommandOption → CommandOption → CellField → Type 0
+IsFieldBy text by_number by_name (field.Number n) =
+    (t : Text) × (text by_number ≡ Some t) × IsInRange by_number t × (pos n ≡ signed_digits_value 10 t)
+IsFieldBy text by_number by_name (field.Column name) = text by_name ≡ Some (string_bytes name)
+
+-- the field is that of one of these options, or neither is given. Private contracts and proofs alone cite it.
+abbrev pub HasFieldBy : Texts → CommandOption → CommandOption → Option CellField → Type 0
+HasFieldBy text by_number by_name None = (text by_number ≡ None) × (text by_name ≡ None)
+HasFieldBy text by_number by_name (Some cell) = IsFieldBy text by_number by_name cell
 
 -- IsCellField text field: the field is that of `--field`, a number from 1 to 65535, or that of `--column`
 abbrev pub IsCellField : Texts → CellField → Type 0
-IsCellField text (field.Number n) =
-    (t : Text) × (text Field ≡ Some t) × IsInRange Field t × (pos n ≡ signed_digits_value 10 t)
-IsCellField text (field.Column name) = text Column ≡ Some (string_bytes name)
-
--- the field is that of `--field` or `--column`, or neither is given. Private contracts and proofs alone cite it.
-abbrev pub HasCellField : Texts → Option CellField → Type 0
-HasCellField text None = (text Field ≡ None) × (text Column ≡ None)
-HasCellField text (Some cell) = IsCellField text cell
+IsCellField text field = IsFieldBy text Field Column field
 
 -- AreRowOptions text rows: the options of rows are what their texts say
 pub record AreRowOptions (text : Texts) (rows : RowOptions) : Type 0 where
@@ -106,6 +129,43 @@ pub record AreRowOptions (text : Texts) (rows : RowOptions) : Type 0 where
 abbrev pub HasRows : Texts → Option RowOptions → Type 0
 HasRows text None = (text Field ≡ None) × (text Column ≡ None)
 HasRows text (Some rows) = AreRowOptions text rows
+
+-- IsFileField text field: the field of a file with its cells: that of the options of the region's, or of those of the
+-- zones'. A command has one kind of file, and the options of that kind alone.
+abbrev pub IsFileField : Texts → CellField → Type 0
+IsFileField text field = IsFieldBy text RegionField RegionColumn field ⊎ IsFieldBy text ZoneField ZoneColumn field
+
+-- the field is that of the file, or none of its options is given. Private contracts and proofs alone cite it.
+abbrev pub HasFileField : Texts → Option CellField → Type 0
+HasFileField text None =
+    ((text RegionField ≡ None) × (text RegionColumn ≡ None)) × ((text ZoneField ≡ None) × (text ZoneColumn ≡ None))
+HasFileField text (Some cell) = IsFileField text cell
+
+-- has_file_column text: the name of the file's field is given, which its header has
+abbrev pub has_file_column : Texts → Bool
+has_file_column text = has text RegionColumn || has text ZoneColumn
+
+-- AreFileOptions text rows: how the rows of a file are read: by its field, with a header if that has a name, cut as the list
+pub record AreFileOptions (text : Texts) (rows : RowOptions) : Type 0 where
+  pub field : IsFileField text rows.field
+  pub header : rows.has_header ≡ has_file_column text
+  pub separator : Some rows.separator ≡ separator_of text
+  pub quotes : rows.quotes ≡ has text Csv
+  pub name : rows.name ≡ None
+  pub keeps_going : rows.keeps_going ≡ false
+  pub shows_errors : rows.shows_errors ≡ false
+  pub is_ragged : rows.is_ragged ≡ false
+
+-- HasFileRows text rows: the rows of a file are read exactly as their texts say, and there are none where neither the number
+-- nor the name of their field is given
+abbrev pub HasFileRows : Texts → Option RowOptions → Type 0
+HasFileRows text None =
+    ((text RegionField ≡ None) × (text RegionColumn ≡ None)) × ((text ZoneField ≡ None) × (text ZoneColumn ≡ None))
+HasFileRows text (Some rows) = AreFileOptions text rows
+
+-- HasTables text tables: the list and the file have rows exactly as their texts say
+abbrev pub HasTables : Texts → Tables → Type 0
+HasTables text tables = HasRows text tables.list × HasFileRows text tables.file
 
 -- the texts that a parse found. Private contracts and proofs alone cite it.
 abbrev pub found_texts : Found → Texts

@@ -7,7 +7,7 @@ use Rattle.h3_index.specs.Text.{parsed_index}
 use Rattle.h3_words.specs.Options.{IsInRange, id_of, is_required, option_of_file, parser_done, path_of}
 use Rattle.h3_words.specs.Commands.{Index, Number, Value, has_option, option_of, options_of, values_of_command, word_of}
 use Rattle.h3_words.specs.Given.{given}
-use Rattle.h3_words.specs.Rows.{HasRows}
+use Rattle.h3_words.specs.Rows.{HasTables}
 use Rattle.h3_words.specs.declared.options.CommandFile.{CommandFile}
 use Rattle.h3_words.specs.declared.options.CommandOption.{CommandOption}
 use Rattle.h3_words.specs.declared.options.CommandOption.TheVariants.{Table, Region, Zones}
@@ -78,9 +78,9 @@ AreFound k text found = (o : CommandOption) → IsFound k text found o
 -- AsksFor words asked: the words name the command, and give its values, its path and its options of rows
 --
 -- the word after the program's name is the command's name, and the words after it give the command's values, the file
--- that it names, if it names one, and how its rows are read and written, if it is to read rows
+-- that it names, if it names one, and how the rows of its list and of its file are read and written, if these have rows
 pub record AsksFor (words : List Text) (asked : Words) : Type 0 where
   pub command : slice_get words 1 ≡ Some (word_of asked.command)
   pub values : HasValues (λ o. given o (drop 2 words)) asked.command
   pub file : HasFile (λ o. given o (drop 2 words)) asked.command asked.file
-  pub rows : HasRows (λ o. given o (drop 2 words)) asked.rows
+  pub tables : HasTables (λ o. given o (drop 2 words)) asked.tables

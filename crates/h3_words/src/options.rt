@@ -66,6 +66,20 @@ pub enum CommandOption {
 
     /// `--ragged`: rows may have another number of fields than the header.
     Ragged,
+
+    /// `--region-column`: the file of the region is a table; the name of its field with the cells in its
+    /// header.
+    RegionColumn,
+
+    /// `--region-field`: the same; the number of that field, counted from 1.
+    RegionField,
+
+    /// `--zone-column`: the file of the zones is a table; the name of its field with the cells in its
+    /// header.
+    ZoneColumn,
+
+    /// `--zone-field`: the same; the number of that field, counted from 1.
+    ZoneField,
 }
 
 /// A file that a command names by an option: its kind, and its path as it is given.
@@ -157,6 +171,17 @@ macro_rules! of_rows {
     };
 }
 
+// An option of rows that is the number of a field: its id, its long name, and what help says of it.
+macro_rules! number_of_field {
+    ($id:literal, $long:literal, $about:literal) => {
+        OptionEntry {
+            least: 1,
+            most: Some(u16::MAX as i64),
+            ..of_rows!($id, $long, false, $about)
+        }
+    };
+}
+
 // The table of all options: `options!(m! ARGS)` expands to `m! { ARGS ROWS }`. A row has:
 // - the option's name;
 // - its entry;
@@ -188,26 +213,22 @@ macro_rules! options {
                 [required!("table", None, Some("table"), None, "The base cell table: a file that h3-table makes")]
                 ("FILE", "the table of base cells", "file:_files");
             Region
-                [required!("region", None, Some("region"), None, "The region: a file of one cell a line, no header")]
+                [required!("region", None, Some("region"), None, "The region: a file of one cell a line, or a table")]
                 ("FILE", "the cells of the region", "file:_files");
             Zones
-                [required!("zones", None, Some("zones"), None, "The zones: a file of one cell a line, no header")]
+                [required!("zones", None, Some("zones"), None, "The zones: a file of one cell a line, or a table")]
                 ("FILE", "the cells that are the zones", "file:_files");
             Field
-                [OptionEntry {
-                        least: 1,
-                        most: Some(u16::MAX as i64),
-                        ..of_rows!("number", "field", false, "Read rows; the number of the cell's field")
-                    }]
+                [number_of_field!("number", "field", "Read rows; the number of the cell's field")]
                 ("N", "the number of the field with the cell", "number:");
             Column
-                [of_rows!("column", "column", false, "Read rows under a header; the cell's column")]
+                [of_rows!("column", "column", false, "Rows under a header; the cell's column")]
                 ("NAME", "the name of the column with the cell", "name:");
             Header
                 [of_rows!("header", "header", true, "With --field: the first row is a header")]
                 ("the first row is a header");
             Separator
-                [of_rows!("separator", "separator", false, "The byte between fields [tab; with --csv: comma]")]
+                [of_rows!("separator", "separator", false, "Between fields [tab; with --csv: comma]")]
                 ("BYTE", "the byte between fields", "byte:");
             Csv
                 [of_rows!("csv", "csv", true, "Fields may be quoted, as in CSV")]
@@ -216,14 +237,26 @@ macro_rules! options {
                 [of_rows!("name", "as", false, "With a header: the name of the new column")]
                 ("NAME", "the name of the new column", "name:");
             KeepGoing
-                [of_rows!("keep-going", "keep-going", true, "Leave the answer of a bad row empty, and go on")]
+                [of_rows!("keep-going", "keep-going", true, "Leave a bad row's answer empty, and go on")]
                 ("go on after a row with an error");
             Errors
-                [of_rows!("errors", "errors", true, "With --keep-going: add a column of error names")]
+                [of_rows!("errors", "errors", true, "With --keep-going: add names of errors")]
                 ("add a column with the name of each row's error");
             Ragged
-                [of_rows!("ragged", "ragged", true, "With a header: take rows of any number of fields")]
+                [of_rows!("ragged", "ragged", true, "With a header: rows of any field count")]
                 ("take rows of another number of fields than the header");
+            RegionColumn
+                [of_rows!("region-column", "region-column", false, "A table with a header; the cell's column")]
+                ("NAME", "the name of the column with the cells of the region", "name:");
+            RegionField
+                [number_of_field!("region-field", "region-field", "A table; the number of the cell's field")]
+                ("N", "the number of the field with the cells of the region", "number:");
+            ZoneColumn
+                [of_rows!("zone-column", "zone-column", false, "A table with a header; the cell's column")]
+                ("NAME", "the name of the column with the zones", "name:");
+            ZoneField
+                [number_of_field!("zone-field", "zone-field", "A table; the number of the cell's field")]
+                ("N", "the number of the field with the zones", "number:");
         }
     };
 }

@@ -1,23 +1,41 @@
 //! The options of rows: what a parse found for them.
 
-ghost use Rattle.std.specs.Prelude.{◌≡◌, IfOk, IfSome, option_map, string_bytes, true};
+ghost use Rattle.std.specs.Prelude.{◌≡◌, IfOk, IfSome, Some, option_map, pos, string_bytes, true};
 ghost use Rattle.std.specs.List.{list_any};
 ghost use Rattle.clap.specs.Words.{found_of};
 ghost use Rattle.h3_requests.specs.Rows.{is_counted, is_separator};
-ghost use Rattle.h3_words.specs.Rows.{HasCellField, HasRows, cuts_errors, found_texts, has_company, is_column_name, is_in_no_name, named_separator, names_fit, rows_agree, separator_of};
+ghost use Rattle.h3_words.specs.Options.{number_from, number_up_to};
+ghost use Rattle.h3_words.specs.Rows.{HasFieldBy, HasFileField, HasFileRows, HasRows, HasTables, cuts_errors, cuts_rows, file_has_rows, found_texts, has_company, is_column_name, is_in_no_name, list_has_rows, named_separator, names_fields_once, names_fit, rows_agree, separator_of};
 ghost use Rattle.h3_words.specs.Values.{IsAccepted};
-ghost use Rattle.h3_words.specs.declared.options.CommandOption.TheVariants.{As, Field};
+ghost use Rattle.h3_words.specs.declared.options.CommandOption.TheVariants.{As, Field, RegionField, ZoneField};
 
 use crate::options::CommandOption::{self, *};
 use clap::ArgMatches;
-use h3_requests::{CellField, RowOptions, is_separator};
+use h3_requests::{CellField, RowOptions, Tables, is_separator};
 use std::alloc::{AllocError, Global};
 
-/// The options that go with either of `--field` and `--column`, as a usage shows them.
-static OF_ROWS: [(CommandOption, &str); 3] = [
+/// The options that go with any rows, of the list or of the file, as a usage shows them.
+static OF_ROWS: [(CommandOption, &str); 2] = [
     (Separator, "--separator <separator>"),
     (Csv, "--csv"),
-    (KeepGoing, "--keep-going"),
+];
+
+/// The options of the number and of the name of a field, of which one may be given, as a usage shows
+/// them.
+static OF_A_FIELD: [(CommandOption, CommandOption, &str, &str); 3] = [
+    (Field, Column, "--field <number>", "--column <column>"),
+    (
+        RegionField,
+        RegionColumn,
+        "--region-field <region-field>",
+        "--region-column <region-column>",
+    ),
+    (
+        ZoneField,
+        ZoneColumn,
+        "--zone-field <zone-field>",
+        "--zone-column <zone-column>",
+    ),
 ];
 
 /// The options that go with a header, as a usage shows them.
@@ -101,31 +119,63 @@ fn names_fit(matches: &ArgMatches<'_>) -> bool
     }
 }
 
-/// Whether each option of rows has what it goes with.
+/// Whether the list has rows.
+fn list_has_rows(matches: &ArgMatches<'_>) -> bool
+    ensures { result ≡ list_has_rows (found_texts (found_of matches.now)) }
+{
+    Field.is_given(matches) || Column.is_given(matches)
+}
+
+/// Whether the file of cells has rows.
+fn file_has_rows(matches: &ArgMatches<'_>) -> bool
+    ensures { result ≡ file_has_rows (found_texts (found_of matches.now)) }
+{
+    let region = RegionField.is_given(matches) || RegionColumn.is_given(matches);
+    region || ZoneField.is_given(matches) || ZoneColumn.is_given(matches)
+}
+
+/// Whether no field is named by its number and by its name.
+fn names_fields_once(matches: &ArgMatches<'_>) -> bool
+    ensures { result ≡ names_fields_once (found_texts (found_of matches.now)) }
+{
+    let list = Field.is_given(matches) && Column.is_given(matches);
+    let region = RegionField.is_given(matches) && RegionColumn.is_given(matches);
+    let zones = ZoneField.is_given(matches) && ZoneColumn.is_given(matches);
+    !list && !region && !zones
+}
+
+/// Whether what says how rows are cut goes with rows, of the list or of the file.
+fn cuts_rows(matches: &ArgMatches<'_>) -> bool
+    ensures { result ≡ cuts_rows (found_texts (found_of matches.now)) }
+{
+    let separator = Separator.is_given(matches);
+    let csv = Csv.is_given(matches);
+    !(separator || csv) || list_has_rows(matches) || file_has_rows(matches)
+}
+
+/// Whether each option of the list's rows has what it goes with.
 fn has_company(matches: &ArgMatches<'_>) -> bool
     ensures { result ≡ has_company (found_texts (found_of matches.now)) }
 {
     let field = Field.is_given(matches);
     let column = Column.is_given(matches);
     let header = Header.is_given(matches);
-    let separator = Separator.is_given(matches);
-    let csv = Csv.is_given(matches);
     let name = As.is_given(matches);
     let keep_going = KeepGoing.is_given(matches);
     let errors = Errors.is_given(matches);
     let ragged = Ragged.is_given(matches);
-    !(field && column)
-        && (!header || field)
-        && (!(separator || csv || keep_going) || field || column)
+    (!header || field)
+        && (!keep_going || field || column)
         && (!(name || ragged) || column || header)
         && (!errors || keep_going)
 }
 
-/// Whether each option of rows has what it goes with, and names what it may.
+/// Whether no field is named twice, and each option of rows has what it goes with, and names what it
+/// may.
 pub(crate) fn rows_agree(matches: &ArgMatches<'_>) -> bool
     ensures { result ≡ rows_agree (found_texts (found_of matches.now)) }
 {
-    has_company(matches) && names_fit(matches)
+    names_fields_once(matches) && cuts_rows(matches) && has_company(matches) && names_fit(matches)
 }
 
 /// That an option lacks what it goes with.
@@ -157,14 +207,29 @@ fn first_given(
     None
 }
 
+/// The options of the number and of the name of a field that are both given, as a usage shows them.
+fn first_field_twice(matches: &ArgMatches<'_>) -> Option<(&'static str, &'static str)> {
+    for (number, column, shown, other) in &OF_A_FIELD {
+        if number.is_given(matches) && column.is_given(matches) {
+            return Some((*shown, *other));
+        }
+    }
+    None
+}
+
 /// The first option that is given without what it goes with, and that, as a usage shows them.
 fn first_alone(matches: &ArgMatches<'_>) -> Option<(&'static str, &'static str)> {
     if Header.is_given(matches) && !Field.is_given(matches) {
         return Some(("--header", "'--field <number>'"));
     }
-    if !Field.is_given(matches) && !Column.is_given(matches) {
-        if let Some(shown) = first_given(matches, &OF_ROWS) {
-            return Some((shown, "'--field <number>' or '--column <column>'"));
+    if !list_has_rows(matches) {
+        if !file_has_rows(matches) {
+            if let Some(shown) = first_given(matches, &OF_ROWS) {
+                return Some((shown, "'--field <number>' or '--column <column>'"));
+            }
+        }
+        if KeepGoing.is_given(matches) {
+            return Some(("--keep-going", "'--field <number>' or '--column <column>'"));
         }
     }
     if !Column.is_given(matches) && !Header.is_given(matches) {
@@ -180,10 +245,8 @@ fn first_alone(matches: &ArgMatches<'_>) -> Option<(&'static str, &'static str)>
 
 /// What is wrong with the options of rows, where they do not agree: the first rule that is broken.
 fn broken_rule(alloc: Global, matches: &ArgMatches<'_>) -> Result<String, AllocError> {
-    if Field.is_given(matches) && Column.is_given(matches) {
-        return format!(in alloc;
-            "the argument '--field <number>' cannot be used with '--column <column>'"
-        );
+    if let Some((number, column)) = first_field_twice(matches) {
+        return format!(in alloc; "the argument '{number}' cannot be used with '{column}'");
     }
     if let Some((option, wanted)) = first_alone(matches) {
         return lacking(alloc, option, wanted);
@@ -208,21 +271,44 @@ pub(crate) fn rows_fault(
     format!(in alloc; "error: {broken}\n\nUsage: {usage}\n\nFor more information, try '--help'.\n")
 }
 
-/// The field that has the cell, if one is asked for.
+/// The field that has the cells, by the option of its number or that of its name, if one is given.
 ///
-/// [`AllocError`] where there is no memory for its name.
-fn cell_field(alloc: Global, matches: &ArgMatches<'_>) -> Result<Option<CellField>, AllocError>
+/// [`AllocError`] if there is no memory for its name.
+fn field_by(
+    alloc: Global,
+    number: CommandOption,
+    column: CommandOption,
+    matches: &ArgMatches<'_>,
+) -> Result<Option<CellField>, AllocError>
+    requires least { number_from number ≡ pos 1 }
+    requires most { number_up_to number ≡ Some (pos 65535) }
     ensures counted { IfOk result (λ field. IfSome field (λ field. is_counted field ≡ true)) }
     ensures read { IfOk result (λ field.
-        IsAccepted Field (found_texts (found_of matches.now) Field)
-        → HasCellField (found_texts (found_of matches.now)) field) }
+        IsAccepted number (found_texts (found_of matches.now) number)
+        → HasFieldBy (found_texts (found_of matches.now)) number column field) }
 {
-    if Field.is_given(matches) {
-        return Ok(Some(CellField::Number(Field.number(matches) as u16)));
+    if number.is_given(matches) {
+        return Ok(Some(CellField::Number(number.number(matches) as u16)));
     }
-    match Column.text(matches) {
+    match column.text(matches) {
         Some(name) => Ok(Some(CellField::Column(String::from_str(alloc, name)?))),
         None => Ok(None),
+    }
+}
+
+/// The field of the file that has its cells, if the file has rows.
+///
+/// [`AllocError`] if there is no memory for its name.
+fn file_field(alloc: Global, matches: &ArgMatches<'_>) -> Result<Option<CellField>, AllocError>
+    ensures counted { IfOk result (λ field. IfSome field (λ field. is_counted field ≡ true)) }
+    ensures read { IfOk result (λ field.
+        IsAccepted RegionField (found_texts (found_of matches.now) RegionField)
+        → IsAccepted ZoneField (found_texts (found_of matches.now) ZoneField)
+        → HasFileField (found_texts (found_of matches.now)) field) }
+{
+    match field_by(alloc, RegionField, RegionColumn, matches)? {
+        Some(field) => Ok(Some(field)),
+        None => field_by(alloc, ZoneField, ZoneColumn, matches),
     }
 }
 
@@ -239,18 +325,15 @@ fn column_name(alloc: Global, matches: &ArgMatches<'_>) -> Result<Option<String>
     }
 }
 
-/// How rows are read and written, if they are to be read; for options that agree.
+/// How the rows of the list are read and written, if it has rows; for options that agree.
 ///
 /// [`AllocError`] where there is no memory for a name.
-pub(crate) fn row_options(
-    alloc: Global,
-    matches: &ArgMatches<'_>,
-) -> Result<Option<RowOptions>, AllocError>
+fn row_options(alloc: Global, matches: &ArgMatches<'_>) -> Result<Option<RowOptions>, AllocError>
     ensures { IfOk result (λ rows. rows_agree (found_texts (found_of matches.now)) ≡ true
         → IsAccepted Field (found_texts (found_of matches.now) Field)
         → HasRows (found_texts (found_of matches.now)) rows) }
 {
-    let Some(field) = cell_field(alloc, matches)? else {
+    let Some(field) = field_by(alloc, Field, Column, matches)? else {
         return Ok(None);
     };
     Ok(Some(RowOptions {
@@ -263,4 +346,46 @@ pub(crate) fn row_options(
         shows_errors: Errors.is_given(matches),
         is_ragged: Ragged.is_given(matches),
     }))
+}
+
+/// How the rows of the file are read, if it has rows; for options that agree.
+///
+/// [`AllocError`] if there is no memory for a name.
+fn file_options(alloc: Global, matches: &ArgMatches<'_>) -> Result<Option<RowOptions>, AllocError>
+    ensures { IfOk result (λ rows. rows_agree (found_texts (found_of matches.now)) ≡ true
+        → IsAccepted RegionField (found_texts (found_of matches.now) RegionField)
+        → IsAccepted ZoneField (found_texts (found_of matches.now) ZoneField)
+        → HasFileRows (found_texts (found_of matches.now)) rows) }
+{
+    let Some(field) = file_field(alloc, matches)? else {
+        return Ok(None);
+    };
+    let has_quotes = Csv.is_given(matches);
+    let byte = separator(matches);
+    Ok(Some(RowOptions {
+        field,
+        has_header: RegionColumn.is_given(matches) || ZoneColumn.is_given(matches),
+        separator: byte.unwrap_or(b'\t'),
+        quotes: has_quotes,
+        name: None,
+        keeps_going: false,
+        shows_errors: false,
+        is_ragged: false,
+    }))
+}
+
+/// How the rows of the list and those of the file are read, if these have rows; for options that agree.
+///
+/// [`AllocError`] if there is no memory for a name.
+pub(crate) fn tables(alloc: Global, matches: &ArgMatches<'_>) -> Result<Tables, AllocError>
+    ensures { IfOk result (λ tables. rows_agree (found_texts (found_of matches.now)) ≡ true
+        → IsAccepted Field (found_texts (found_of matches.now) Field)
+        → IsAccepted RegionField (found_texts (found_of matches.now) RegionField)
+        → IsAccepted ZoneField (found_texts (found_of matches.now) ZoneField)
+        → HasTables (found_texts (found_of matches.now)) tables) }
+{
+    Ok(Tables {
+        list: row_options(alloc, matches)?,
+        file: file_options(alloc, matches)?,
+    })
 }

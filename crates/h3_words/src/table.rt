@@ -18,8 +18,8 @@ pub(crate) struct Entry<'a> {
 
 // These options, and those of a command that answers about its list as a whole.
 macro_rules! with_list_options {
-    ($($own:ident)?) => {
-        &[$($own,)? Field, Column, Header, Separator, Csv, Ragged]
+    ($($own:ident),*) => {
+        &[$($own,)* Field, Column, Header, Separator, Csv, Ragged]
     };
 }
 
@@ -379,7 +379,7 @@ macro_rules! commands {
                     usage: Some("h3 uniteCells < cells"),
                 };
             (IntersectCells)
-                { word: "intersectCells", options: with_list_options!(Region) }
+                { word: "intersectCells", options: with_list_options!(Region, RegionColumn, RegionField) }
                 [lists "intersectCells              Intersection of the cells and a region, compacted"]
                 {
                     about: "Intersection of the cells on standard input and a region, compacted",
@@ -387,7 +387,7 @@ macro_rules! commands {
                     usage: Some("h3 intersectCells --region <region> < cells"),
                 };
             (SubtractCells)
-                { word: "subtractCells", options: with_list_options!(Region) }
+                { word: "subtractCells", options: with_list_options!(Region, RegionColumn, RegionField) }
                 [lists "subtractCells               The cells minus a region, compacted"]
                 {
                     about: "The cells on standard input minus a region, compacted",
@@ -395,7 +395,7 @@ macro_rules! commands {
                     usage: Some("h3 subtractCells --region <region> < cells"),
                 };
             (AreCoveredCells)
-                { word: "areCoveredCells", options: with_line_options!(Region) }
+                { word: "areCoveredCells", options: with_line_options!(Region, RegionColumn, RegionField) }
                 [lists "areCoveredCells             Whether a region covers each cell"]
                 {
                     about: "Whether a region covers each cell listed on standard input",
@@ -409,7 +409,7 @@ macro_rules! commands {
                     usage: Some("h3 areCoveredCells --region <region> < cells"),
                 };
             (CellsToZones)
-                { word: "cellsToZones", options: with_line_options!(Zones) }
+                { word: "cellsToZones", options: with_line_options!(Zones, ZoneColumn, ZoneField) }
                 [lists "cellsToZones                The zone of each cell"]
                 {
                     about: "The zone of each cell listed on standard input, or 0 if it has none",
@@ -422,7 +422,7 @@ macro_rules! commands {
                     usage: Some("h3 cellsToZones --zones <zones> < cells"),
                 };
             (CountCellsInZones)
-                { word: "countCellsInZones", options: with_list_options!(Zones) }
+                { word: "countCellsInZones", options: with_list_options!(Zones, ZoneColumn, ZoneField) }
                 [lists "countCellsInZones           Count the cells in each zone"]
                 {
                     about: "Count the cells on standard input in each zone, and those in none",

@@ -6,21 +6,21 @@ ghost use Rattle.h3_words.specs.Call.{IsPlainCall};
 ghost use Rattle.h3_words.specs.Commands.{app, command_of, entry_of, values_of_command};
 ghost use Rattle.h3_words.specs.Faults.{IsFaultOf, IsRefusalOf, IsReportedAs};
 ghost use Rattle.h3_words.specs.Given.{given};
-ghost use Rattle.h3_words.specs.Rows.{HasRows, found_texts, rows_agree};
+ghost use Rattle.h3_words.specs.Rows.{HasTables, found_texts, rows_agree};
 ghost use Rattle.h3_words.specs.Values.{AreFound, AreRead, AsksFor, HasFile, IsAccepted};
 ghost use Rattle.h3_words.specs.Version.{asks_version};
 ghost use Rattle.h3_words.specs.declared.options.CommandOption.{CommandOption};
-ghost use Rattle.h3_words.specs.declared.options.CommandOption.TheVariants.{Field};
+ghost use Rattle.h3_words.specs.declared.options.CommandOption.TheVariants.{Field, RegionField, ZoneField};
 ghost use Rattle.h3_words.specs.declared.words.ArgsError.TheVariants.{Memory, Version};
 
 use crate::commands::{command_line, file, filled, named_by};
 use crate::help::list_usage;
 use crate::options::{CommandFile, OPTIONS};
-use crate::rows::{row_options, rows_agree, rows_fault};
+use crate::rows::{rows_agree, rows_fault, tables};
 use crate::table::COMMANDS;
 use clap::ArgMatches;
 use clap::error::ErrorKind;
-use h3_requests::{Command, RowOptions};
+use h3_requests::{Command, Tables};
 use std::alloc::{AllocError, Global};
 
 /// What the words of a command line parse as.
@@ -32,8 +32,8 @@ pub struct Words {
     /// The file that the command names, where it has an option for one.
     pub file: Option<CommandFile>,
 
-    /// How the rows of the list are read and written; `None` where the list is bare.
-    pub rows: Option<RowOptions>,
+    /// How the rows of the list and of the file are read and written, if these have rows.
+    pub tables: Tables,
 }
 
 /// Why there is no command to run.
@@ -177,14 +177,16 @@ fn words_of(alloc: Global, command: Command, inner: &ArgMatches<'_>) -> Result<W
         AreRead command (found_of inner.now) (values_of_command words.command)) }
     ensures file { IfOk result (λ words. (text : CommandOption → Option Text) →
         AreFound command text (found_of inner.now) → HasFile text command words.file) }
-    ensures rows { IfOk result (λ words. rows_agree (found_texts (found_of inner.now)) ≡ true
+    ensures tables { IfOk result (λ words. rows_agree (found_texts (found_of inner.now)) ≡ true
         → IsAccepted Field (found_texts (found_of inner.now) Field)
-        → HasRows (found_texts (found_of inner.now)) words.rows) }
+        → IsAccepted RegionField (found_texts (found_of inner.now) RegionField)
+        → IsAccepted ZoneField (found_texts (found_of inner.now) ZoneField)
+        → HasTables (found_texts (found_of inner.now)) words.tables) }
 {
     Ok(Words {
         command: filled(command, inner),
         file: file(alloc, command, inner)?,
-        rows: row_options(alloc, inner)?,
+        tables: tables(alloc, inner)?,
     })
 }
 

@@ -348,27 +348,27 @@ static OPTION_TEXTS: [(&str, &str, &str); 22] = [
     (
         "h3 intersectCells -h",
         "--region <region>",
-        "The region: a file of one cell a line, no header",
+        "The region: a file of one cell a line, or a table",
     ),
     (
         "h3 subtractCells -h",
         "--region <region>",
-        "The region: a file of one cell a line, no header",
+        "The region: a file of one cell a line, or a table",
     ),
     (
         "h3 areCoveredCells -h",
         "--region <region>",
-        "The region: a file of one cell a line, no header",
+        "The region: a file of one cell a line, or a table",
     ),
     (
         "h3 cellsToZones -h",
         "--zones <zones>",
-        "The zones: a file of one cell a line, no header",
+        "The zones: a file of one cell a line, or a table",
     ),
     (
         "h3 countCellsInZones -h",
         "--zones <zones>",
-        "The zones: a file of one cell a line, no header",
+        "The zones: a file of one cell a line, or a table",
     ),
     (
         "h3 gridDiskUnsafe -h",

@@ -49,7 +49,7 @@ fn are_those(rows: &RowOptions, expected: &Expected) -> bool {
 /// Whether a line asks for a command on rows, with these options.
 fn asks_for_rows(alloc: Global, line: &str, expected: &Expected) -> bool {
     match read(alloc, line) {
-        Ok(words) => match &words.rows {
+        Ok(words) => match &words.tables.list {
             Some(rows) => are_those(rows, expected),
             None => false,
         },
@@ -281,7 +281,7 @@ static FLAGS: [(&str, bool, bool); 14] = [
 /// Whether a line asks for rows with, or without, a column of errors and any number of fields.
 fn has_flags(alloc: Global, line: &str, shows_errors: bool, is_ragged: bool) -> bool {
     match read(alloc, line) {
-        Ok(words) => match &words.rows {
+        Ok(words) => match &words.tables.list {
             Some(rows) => rows.shows_errors == shows_errors && rows.is_ragged == is_ragged,
             None => false,
         },
@@ -342,6 +342,84 @@ fn reads_rows_of_lists(rt: HostRuntime) {
     expect_all(&rt, row, LISTS.len());
 }
 
+/// Whether a line asks for a command over a file with rows, read by these options, and over a bare list.
+fn asks_for_a_file_table(alloc: Global, line: &str, expected: &Expected) -> bool {
+    match read(alloc, line) {
+        Ok(words) => match (&words.tables.file, &words.tables.list) {
+            (Some(rows), None) => are_those(rows, expected)
+                && !rows.shows_errors
+                && !rows.is_ragged,
+            _ => false,
+        },
+        Err(_) => false,
+    }
+}
+
+/// Lines of commands over a file that has rows, and a bare list.
+static FILES: [(&str, Expected); 6] = [
+    (
+        "h3 cellsToZones --zones z --zone-column cell",
+        (Field::Column("cell"), true, b'\t', false, None, false),
+    ),
+    (
+        "h3 countCellsInZones --csv --zone-field 2 --zones z",
+        (Field::Number(2), false, b',', true, None, false),
+    ),
+    (
+        "h3 areCoveredCells --region r --region-column=cell --separator ;",
+        (Field::Column("cell"), true, b';', false, None, false),
+    ),
+    (
+        "h3 intersectCells --region-field 65535 --region r",
+        (Field::Number(65535), false, b'\t', false, None, false),
+    ),
+    (
+        "h3 subtractCells --region r --region-column a --csv --separator \\t",
+        (Field::Column("a"), true, b'\t', true, None, false),
+    ),
+    (
+        "h3 cellsToZones --zones z --zone-field 1",
+        (Field::Number(1), false, b'\t', false, None, false),
+    ),
+];
+
+#[test]
+fn reads_files_with_rows(rt: HostRuntime) {
+    for (line, expected) in &FILES {
+        expect(&rt, line, asks_for_a_file_table(rt.alloc(), line, expected));
+    }
+}
+
+/// Whether a line asks for a command over a list and a file that both have rows, of which the options of the
+/// one alone are not those of the other.
+fn asks_for_two_tables(alloc: Global, line: &str, list: &Expected, file: &Expected) -> bool {
+    match read(alloc, line) {
+        Ok(words) => match (&words.tables.list, &words.tables.file) {
+            (Some(rows), Some(cells)) => {
+                are_those(rows, list)
+                    && are_those(cells, file)
+                    && !cells.shows_errors
+                    && !cells.is_ragged
+            }
+            _ => false,
+        },
+        Err(_) => false,
+    }
+}
+
+#[test]
+fn reads_two_tables(rt: HostRuntime) {
+    let line =
+        "h3 cellsToZones --zones z --zone-column cell --csv --field 3 --header --as z --keep-going --errors --ragged";
+    let list = (Field::Number(3), true, b',', true, Some("z"), true);
+    let file = (Field::Column("cell"), true, b',', true, None, false);
+    expect(
+        &rt,
+        line,
+        asks_for_two_tables(rt.alloc(), line, &list, &file),
+    );
+}
+
 /// Lines of commands on a bare list, or on none.
 static BARE: [&str; 13] = [
     "h3 compactCells",
@@ -362,7 +440,7 @@ static BARE: [&str; 13] = [
 /// Whether a line asks for a command without rows.
 fn asks_for_no_rows(alloc: Global, line: &str) -> bool {
     match read(alloc, line) {
-        Ok(words) => words.rows.is_none(),
+        Ok(words) => words.tables.list.is_none() && words.tables.file.is_none(),
         Err(_) => false,
     }
 }
@@ -375,7 +453,7 @@ fn reads_no_rows(rt: HostRuntime) {
 }
 
 /// Lines with a number out of range, an option twice, or an option without what it goes with.
-static INVALID: [&str; 38] = [
+static INVALID: [&str; 49] = [
     "h3 getResolutions --field 0",
     "h3 getResolutions --field 65536",
     "h3 getResolutions --field -1",
@@ -414,6 +492,17 @@ static INVALID: [&str; 38] = [
     "h3 getResolutions --ragged",
     "h3 getResolutions --field 1 --ragged",
     "h3 compactCells --field 1 --csv --ragged",
+    "h3 cellsToZones --zones z --zone-field 1 --zone-column a",
+    "h3 areCoveredCells --region r --region-column a --region-field 1",
+    "h3 cellsToZones --zones z --zone-field 0",
+    "h3 cellsToZones --zones z --zone-field 65536",
+    "h3 subtractCells --region r --region-field -1",
+    "h3 cellsToZones --zones z --zone-column a --zone-column b",
+    "h3 cellsToZones --zones z --zone-column a --header",
+    "h3 cellsToZones --zones z --zone-column a --as b",
+    "h3 cellsToZones --zones z --zone-column a --ragged",
+    "h3 cellsToZones --zones z --zone-column a --keep-going",
+    "h3 cellsToZones --zone-column a",
 ];
 
 #[test]
@@ -423,7 +512,12 @@ fn refuses_options_without_company(rt: HostRuntime) {
 }
 
 /// Lines with an unfit separator or name, a flag with a value, or an option of other commands.
-static UNFIT: [&str; 49] = [
+static UNFIT: [&str; 54] = [
+    "h3 cellsToZones --zones z --region-column a",
+    "h3 intersectCells --region r --zone-field 1",
+    "h3 compactCells --zone-column a",
+    "h3 cellsToZones --zones z --zone-column a --separator ab",
+    "h3 cellsToZones --zones z --zone-column",
     "h3 getResolutions --field 1 --separator a",
     "h3 getResolutions --field 1 --separator Z",
     "h3 getResolutions --field 1 --separator 0",

@@ -26,7 +26,7 @@ returns-clause-read c =
     let are = met c.args.command _ ws _ found c.requires.named c.in_ok-parser.ensures c.in-Ok.ensures.kinds c.in-Ok.ensures.matches c.in-Some.ensures.rows in
     let read = c.in_ok-words_of.ensures in
     asks_for c.args.command ws found c.requires.named are _ read.named (has_values _ found _ read.values) read.file
-    (rows_are _ found _ (sym c.rows_agree.ensures ∙ c.if-not-rows_agree.false) read.rows)
+    (rows_are _ found _ (sym c.rows_agree.ensures ∙ c.if-not-rows_agree.false) read.tables)
 
 pub returns-clause-agreed : goal.returns-clause-agreed
 returns-clause-agreed c =
