@@ -16,9 +16,9 @@
  * (an `int64_t *out` or the like: to one). It is never null, also if the length is 0. What a function writes to
  * overlaps nothing else that it is passed. If an array is too short for what is to be written, the error is
  * E_MEMORY_BOUNDS. No function keeps what it is passed. compactCells, uncompactCells, uniteCells, intersectCells,
- * subtractCells, zones, findOverlap and readTable alone take memory, by malloc, and free it before they return:
+ * subtractCells, zones, areas, findOverlap and readTable alone take memory, by malloc, and free it before they return:
  * E_MEMORY_ALLOC, or H3W_TABLE_MEMORY, if they get none. readTable uses up to 64 KiB of stack. For 512 cells or more,
- * cellsToZones, areCoveredCells and countCellsInZones use up to 18 KiB.
+ * cellsToZones, areCoveredCells and countCellsInZones use up to 18 KiB, and cellsToZonesPlaces up to 19 KiB.
  *
  * Threads. Each function may be called from any number of threads at once: the library has no variable that
  * changes. Two calls at once may read the same memory, and must not write to the same. Memory must stay as it is during
@@ -344,7 +344,7 @@ H3Error h3w_zones(const H3Index *cells, size_t n, H3Index *zones, size_t room);
  * @return E_SUCCESS; E_MEMORY_ALLOC: no memory; E_CELL_INVALID: an index is not a valid cell */
 H3Error h3w_findOverlap(const H3Index *cells, size_t n, size_t *at, size_t *earlier);
 
-/* The `zoneCount` zones of each function below are all that h3w_zones has written for as many cells, or a copy of it.
+/* The `zoneCount` zones of each function below are all that h3w_zones, or h3w_areas, has written, or a copy of it.
  * With any others the behavior is undefined: memory outside of the arrays may be read or written. As of other arrays,
  * the pointer is not null if there are no zones. A copy is one that this program has made: of zones from a file, call
  * h3w_zones again. None of the functions takes memory. */
@@ -406,6 +406,41 @@ H3Error h3w_areCoveredCellsInTable(const H3Index *zones, size_t zoneCount, const
 H3Error h3w_countCellsInZonesInTable(const H3Index *zones, size_t zoneCount, const H3Index *cells, size_t n,
                                      const uint32_t *table, size_t tableRoom, int64_t *counts, size_t room,
                                      int64_t *others, size_t *at);
+
+/* ---- Numbers beside zones: the place of a cell's zone in the caller's own list of zones, by which an array of names
+ * is read; or the number of the area in which a cell lies. An area has any cells, which may repeat and overlap; no two
+ * areas overlap. */
+
+/** Prepares the areas of n cells: puts the cells as zones into the first places of `zones`, in the order in which
+ * others are looked up, and the number of each one's area at the same place of `numbers`. Cells that are below another
+ * of the same area are left out. For zones each of which is an area of its own, pass 0, 1, 2, .. as `areas`: then
+ * `numbers` has the place of each zone in `cells`. It takes 24 bytes of memory for each of the n cells.
+ * @param areas the number of the area that each cell is one of; any numbers
+ * @param areaCount, room, numbersRoom the lengths of `areas`, `zones` and `numbers`
+ * @param count receives how many zones there are, at most n
+ * @return E_SUCCESS; E_MEMORY_BOUNDS: one of these three is below n; E_MEMORY_ALLOC: no memory; E_CELL_INVALID: an
+ * index is not a valid cell; E_DUPLICATE_INPUT: two areas overlap: a cell of one is a cell of the other, or an ancestor
+ * or a descendant of one */
+H3Error h3w_areas(const H3Index *cells, size_t n, const uint32_t *areas, size_t areaCount, H3Index *zones, size_t room,
+                  uint32_t *numbers, size_t numbersRoom, size_t *count);
+
+/** Finds the number beside the zone of each of n cells. `places` has a number for each zone, any numbers: those that
+ * h3w_areas has written, or others. The zones are those of h3w_areas or h3w_zones, as above.
+ * @param placeCount the length of `places`
+ * @param out receives the numbers; -1 for a cell that has no zone, or where there is an error
+ * @param at, room as those of the columns below
+ * @return E_SUCCESS; E_MEMORY_BOUNDS: `placeCount` is below zoneCount, or room for fewer than n; nothing is written,
+ * `*at` neither; E_CELL_INVALID: an index is not a valid cell */
+H3Error h3w_cellsToZonesPlaces(const H3Index *zones, size_t zoneCount, const uint32_t *places, size_t placeCount,
+                               const H3Index *cells, size_t n, int64_t *out, size_t room, size_t *at);
+
+/* The same by a table that the call writes, and in one that h3w_zonesTable has written. */
+H3Error h3w_cellsToZonesPlacesByTable(const H3Index *zones, size_t zoneCount, const uint32_t *places, size_t placeCount,
+                                      const H3Index *cells, size_t n, uint32_t *table, size_t tableRoom, int64_t *out,
+                                      size_t room, size_t *at);
+H3Error h3w_cellsToZonesPlacesInTable(const H3Index *zones, size_t zoneCount, const uint32_t *places, size_t placeCount,
+                                      const H3Index *cells, size_t n, const uint32_t *table, size_t tableRoom,
+                                      int64_t *out, size_t room, size_t *at);
 
 /* ---- Columns: one call for n indexes. They are named as the plural commands of h3.
  *

@@ -23,7 +23,7 @@
 static H3Index given[N], given_zones[N], *cells, *others, *zones, *out;
 static int64_t *sizes;
 static int *numbers;
-static uint32_t *table;
+static uint32_t *table, *beside;
 static char given_file[FILE_ROOM], *file, *text;
 static size_t file_length;
 static H3wTable links;
@@ -149,6 +149,7 @@ static void over_lists(void) {
     lists(h3w_subtractCells(cells, N, others, N, out, ROOM, &count));
     lists(h3w_uncompactCells(cells, N, out, ROOM, 9));
     lists(h3w_zones(cells, N, out, ROOM));
+    lists(h3w_areas(cells, N, table, N, out, ROOM, beside, N, &count));
     lists(h3w_findOverlap(cells, N, &at, &earlier));
     lists(compactCells(cells, out, N));
     lists(uncompactCells(cells, N, out, ROOM, 9));
@@ -161,6 +162,9 @@ static void over_zones(void) {
     ends(h3w_cellsToZones(zones, N, cells, N, out, ROOM, &at), N);
     ends(h3w_cellsToZonesByTable(zones, N, cells, N, table, N, out, ROOM, &at), N);
     ends(h3w_cellsToZonesInTable(zones, N, cells, N, table, N, out, ROOM, &at), N);
+    ends(h3w_cellsToZonesPlaces(zones, N, beside, N, cells, N, sizes, N, &at), N);
+    ends(h3w_cellsToZonesPlacesByTable(zones, N, beside, N, cells, N, table, N, sizes, N, &at), N);
+    ends(h3w_cellsToZonesPlacesInTable(zones, N, beside, N, cells, N, table, N, sizes, N, &at), N);
     ends(h3w_areCoveredCells(zones, N, cells, N, numbers, N, &at), N);
     ends(h3w_areCoveredCellsByTable(zones, N, cells, N, table, N, numbers, N, &at), N);
     ends(h3w_areCoveredCellsInTable(zones, N, cells, N, table, N, numbers, N, &at), N);
@@ -188,6 +192,7 @@ int main(void) {
     sizes = (int64_t *)guarded(N * sizeof *sizes);
     numbers = (int *)guarded(N * sizeof *numbers);
     table = (uint32_t *)guarded(N * sizeof *table);
+    beside = (uint32_t *)guarded(N * sizeof *beside);
     file = (char *)guarded(FILE_ROOM);
     text = (char *)guarded(FILE_ROOM) + FILE_ROOM - TEXT;
     fill();

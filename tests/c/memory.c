@@ -68,6 +68,13 @@ static H3Error prepared(size_t *count) {
     return error;
 }
 
+static H3Error areas(size_t *count) {
+    static uint32_t places[343], numbers[343];
+    size_t i;
+    for (i = 0; i < 343; i++) places[i] = (uint32_t)i;
+    return h3w_areas(cells, 343, places, 343, out, 343, numbers, 343, count);
+}
+
 /* no two overlap, so both places are the number of cells */
 static H3Error found(size_t *count) {
     size_t earlier = KEPT;
@@ -143,6 +150,7 @@ static void expect_lookups(void) {
     static int64_t counts[343];
     static uint32_t table[686];
     static H3Index zones[343];
+    static uint32_t numbers[343];
     int64_t others = KEPT;
     size_t at = 0;
     CHECK(h3w_zones(cells, 343, out, 343) == E_SUCCESS && held == 0);
@@ -163,6 +171,12 @@ static void expect_lookups(void) {
           zones[342] == cells[342]);
     CHECK(h3w_countCellsInZonesInTable(out, 343, cells, 343, table, 686, counts, 343, &others, &at) == E_SUCCESS &&
           others == 0 && counts[0] == 1 && counts[342] == 1);
+    numbers[342] = 7;
+    CHECK(h3w_cellsToZonesPlaces(out, 343, numbers, 343, out, 343, counts, 343, &at) == E_SUCCESS && counts[342] == 7);
+    CHECK(h3w_cellsToZonesPlacesByTable(out, 343, numbers, 343, out, 343, table, 686, counts, 343, &at) == E_SUCCESS &&
+          counts[342] == 7);
+    CHECK(h3w_cellsToZonesPlacesInTable(out, 343, numbers, 343, out, 343, table, 686, counts, 343, &at) == E_SUCCESS &&
+          counts[342] == 7);
     CHECK(made == 0);
 }
 
@@ -190,6 +204,7 @@ int main(void) {
     expect(merged, 1);
     expect(subtracted, 60);
     expect(prepared, 343);
+    expect(areas, 343);
     expect(found, 343);
     expect_lookups();
     expect_order();

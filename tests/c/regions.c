@@ -317,6 +317,102 @@ static void prepare(const List *list) {
     CHECK(memcmp(copy, zones, list->n * sizeof *copy) == 0);
 }
 
+/* ---- areas: numbers beside zones */
+
+/* A number for each cell: that of the coarsest cell above it, of so many names; of one cell, rarely, any. */
+static void give_names(const List *list, uint32_t *areas, size_t names) {
+    size_t i, j;
+    for (i = 0; i < list->n; i++) {
+        size_t coarse = i;
+        for (j = 0; j < list->n; j++)
+            if (is_above(list->cells[j], list->cells[coarse])) coarse = j;
+        areas[i] = (uint32_t)(list->cells[coarse] % 1000003 % names) * 3;
+    }
+    if (list->n && below(3) == 0) areas[below(list->n)] = 0;
+}
+
+static int areas_overlap(const List *list, const uint32_t *areas) {
+    size_t i, j;
+    for (i = 0; i < list->n; i++)
+        for (j = 0; j < list->n; j++)
+            if (areas[i] != areas[j] && is_above(list->cells[i], list->cells[j])) return 1;
+    return 0;
+}
+
+/* The number of the area in which a cell lies, or -1. */
+static int64_t area_of(const List *list, const uint32_t *areas, H3Index cell) {
+    size_t i = 0;
+    while (i < list->n && !is_above(list->cells[i], cell)) i++;
+    return i < list->n ? (int64_t)areas[i] : -1;
+}
+
+/* The numbers beside the zones of all cells, in random order: without a table, by one, in one, and in what is none. */
+static void look_up_areas(const List *list, const uint32_t *areas, const H3Index *zones, const uint32_t *numbers,
+                          size_t n) {
+    static H3Index column[CELLS];
+    static int64_t wanted[CELLS], out[CELLS + 1];
+    static uint32_t table[4 * LIST];
+    size_t at = 77, i, how, size = below(4 * LIST + 1);
+    for (i = 0; i < CELLS; i++) column[i] = cells[below(CELLS)], wanted[i] = area_of(list, areas, column[i]);
+    for (how = 0; how < 4; how++) {
+        for (i = 0; i <= CELLS; i++) out[i] = 77;
+        if (how == 0) CHECK(!h3w_cellsToZonesPlaces(zones, n, numbers, n, column, CELLS, out, CELLS, &at));
+        else if (how == 1)
+            CHECK(
+                !h3w_cellsToZonesPlacesByTable(zones, n, numbers, n, column, CELLS, table, size, out, CELLS + 1, &at));
+        else CHECK(!h3w_cellsToZonesPlacesInTable(zones, n, numbers, n, column, CELLS, table, size, out, CELLS, &at));
+        CHECK(at == CELLS && !memcmp(out, wanted, sizeof wanted) && out[CELLS] == 77);
+        for (i = 0; how == 2 && i < 4 * LIST; i++) table[i] = (uint32_t)below(LIST);
+    }
+    CHECK(h3w_cellsToZonesPlaces(zones, n, numbers, n, column, CELLS, out, CELLS - 1, &at) == E_MEMORY_BOUNDS);
+    if (n) CHECK(h3w_cellsToZonesPlaces(zones, n, numbers, n - 1, column, 2, out, 2, &at) == E_MEMORY_BOUNDS);
+    column[1] = KEPT;
+    CHECK(h3w_cellsToZonesPlaces(zones, n, numbers, n, column, 2, out, 2, &at) == E_CELL_INVALID && at == 1);
+    CHECK(out[0] == wanted[0] && out[1] == -1);
+}
+
+/* The areas of a list, prepared into just enough room; nothing is written with an error. */
+static void prepare_areas(const List *list, size_t names) {
+    static H3Index zones[LIST + 1];
+    static uint32_t areas[LIST + 1], numbers[LIST + 1];
+    static List outer;
+    size_t count = 77, i;
+    give_names(list, areas, names);
+    for (i = 0; i <= LIST; i++) zones[i] = KEPT, numbers[i] = 78;
+    if (areas_overlap(list, areas)) {
+        CHECK(h3w_areas(list->cells, list->n, areas, list->n, zones, LIST, numbers, LIST, &count) == E_DUPLICATE_INPUT);
+        CHECK(count == 77 && zones[0] == KEPT && numbers[0] == 78);
+        return;
+    }
+    if (list->n) {
+        CHECK(h3w_areas(list->cells, list->n, areas, list->n - 1, zones, LIST, numbers, LIST, &count) ==
+              E_MEMORY_BOUNDS);
+        CHECK(h3w_areas(list->cells, list->n, areas, LIST, zones, list->n - 1, numbers, LIST, &count) ==
+              E_MEMORY_BOUNDS);
+        CHECK(h3w_areas(list->cells, list->n, areas, LIST, zones, LIST, numbers, list->n - 1, &count) ==
+              E_MEMORY_BOUNDS);
+        CHECK(count == 77 && zones[0] == KEPT && numbers[0] == 78);
+    }
+    CHECK(h3w_areas(list->cells, list->n, areas, list->n, zones, list->n, numbers, list->n, &count) == E_SUCCESS);
+    coarsest(list, &outer);
+    CHECK(count == outer.n && zones[count] == KEPT && numbers[count] == 78);
+    look_up_areas(list, areas, zones, numbers, count);
+}
+
+/* Each zone as an area of its own: the place in the list. */
+static void prepare_places(const List *list) {
+    static H3Index zones[LIST + 1];
+    static uint32_t places[LIST + 1], numbers[LIST + 1];
+    size_t count = 77, i;
+    H3Error error = overlaps(list) ? E_DUPLICATE_INPUT : E_SUCCESS;
+    for (i = 0; i <= LIST; i++) places[i] = (uint32_t)i;
+    CHECK(h3w_areas(list->cells, list->n, places, list->n, zones, LIST, numbers, LIST, &count) == error);
+    if (error) return;
+    CHECK(count == list->n);
+    for (i = 0; i < count; i++) CHECK(zones[i] == list->cells[numbers[i]]);
+    look_up_areas(list, places, zones, numbers, count);
+}
+
 int main(void) {
     static List first, second, zones;
     int i;
@@ -327,8 +423,12 @@ int main(void) {
         regions(&first, &second);
         prepare(&first);
         find(&first);
+        prepare_areas(&first, below(6) + 1);
+        prepare_places(&first);
         coarsest(&first, &zones);
         prepare(&zones);
+        prepare_areas(&zones, below(6) + 1);
+        prepare_places(&zones);
         find(&zones);
     }
     return counts();

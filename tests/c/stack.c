@@ -46,6 +46,14 @@ static void *zones_of(void *none) {
     return none;
 }
 
+static void *placed(void *none) {
+    static uint32_t places[ZONES];
+    static int64_t found[CELLS];
+    size_t at;
+    h3w_cellsToZonesPlaces(zones, ZONES, places, ZONES, cells, CELLS, found, CELLS, &at);
+    return none;
+}
+
 static void *covered(void *none) {
     size_t at;
     h3w_areCoveredCells(zones, ZONES, cells, CELLS, truths, CELLS, &at);
@@ -69,7 +77,8 @@ int main(void) {
     static const struct {
         void *(*call)(void *);
         size_t most;
-    } calls[] = {{zones_of, 18 << 10}, {covered, 18 << 10}, {counted, 18 << 10}, {read_table, 64 << 10}};
+    } calls[] = {
+        {zones_of, 18 << 10}, {placed, 19 << 10}, {covered, 18 << 10}, {counted, 18 << 10}, {read_table, 64 << 10}};
     size_t own = used(nothing), i;
     H3Index chosen[ZONES];
     file_size = write_table(file, PLAIN, 1);

@@ -160,7 +160,7 @@ none_there hs some = elim (none_or (cells_in hs)) [
 
 -- ---- what is written for zones
 
-read-indexes : NumbersAreRead → (zones : List Address) → All IsCell zones → cells_in (indexes zones) ≡ Some zones
+pub read-indexes : NumbersAreRead → (zones : List Address) → All IsCell zones → cells_in (indexes zones) ≡ Some zones
 unfolding cells_in
 read-indexes reads [] valid = refl
 read-indexes reads (z ∷ zones) valid =

@@ -1,3 +1,4 @@
+pub mod Areas
 pub mod Column
 pub mod Descendants
 pub mod DiskExamples

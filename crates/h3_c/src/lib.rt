@@ -2,6 +2,7 @@
 //! `h3w_`. `include/h3whole.h` declares them, and says what a caller has to keep to.
 #![tactic(auto)]
 
+mod areas;
 mod column;
 mod descendants;
 mod disks;

@@ -72,7 +72,7 @@ pub extern "C" fn h3w_zonesTable(zones: &[Cell], table: &mut [u32])
 
 /// The most places of the table by which a long list is looked up if the caller provides none: 16 KiB
 /// on the stack.
-const TABLE: usize = 4096;
+pub(crate) const TABLE: usize = 4096;
 
 /// The fewest cells of a long list.
 const LONG: usize = 512;
@@ -96,20 +96,20 @@ fn ascends(cells: &[u64]) -> bool
 
 /// Whether to look a list up by a table, which takes a pass over the zones to write: it has 512 cells or
 /// more, a fourth as many as zones, and does not ascend.
-fn is_long(cells: &[u64], zones: &[Cell]) -> bool {
+pub(crate) fn is_long(cells: &[u64], zones: &[Cell]) -> bool {
     cells.len() >= LONG && cells.len() >= zones.len() / 4 && !ascends(cells)
 }
 
 /// Zones in which cells are looked up, alone or with a table.
 #[derive(Drop)]
-enum Lookup<'a> {
+pub(crate) enum Lookup<'a> {
     Near(Zones<'a>),
     InTable(TabledZones<'a>),
 }
 
 impl<'a> Lookup<'a> {
     /// Zones with a table, which is written here.
-    fn by_table(zones: &Zones<'a>, table: &'a mut [u32]) -> Lookup<'a>
+    pub(crate) fn by_table(zones: &Zones<'a>, table: &'a mut [u32]) -> Lookup<'a>
         ensures { zones_in result ≡ zones.now }
     {
         write_table(zones, table);
@@ -118,7 +118,7 @@ impl<'a> Lookup<'a> {
 
     /// The zones.
     #[inline(always)]
-    fn zones(&self) -> Zones<'a>
+    pub(crate) fn zones(&self) -> Zones<'a>
         ensures { result ≡ zones_in self.now }
     {
         match self {
@@ -138,7 +138,7 @@ impl<'a> Lookup<'a> {
     /// Where the next indexes are looked for, as `Zones::look_ahead` has it; `None` if they are looked
     /// for from the last place, as `are_near` says.
     #[inline(always)]
-    fn look_ahead(&self, indexes: &[u64], place: usize) -> Option<[usize; AHEAD]> {
+    pub(crate) fn look_ahead(&self, indexes: &[u64], place: usize) -> Option<[usize; AHEAD]> {
         if self.zones().are_near(indexes, place) {
             return None;
         }
